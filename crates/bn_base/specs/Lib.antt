@@ -1,0 +1,4 @@
+pub mod EndMarks
+pub mod Faults
+pub mod Ranges
+pub mod Registers
