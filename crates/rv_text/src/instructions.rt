@@ -4,16 +4,14 @@ ghost use Rattle.rv_decode.specs.Seen.{seen};
 ghost use Rattle.rv_text.specs.Instructions.{is_relative, is_load_reserved, first_operand, register_operand, immediate_operands, atomic_operands, operands, instruction_text};
 ghost use Rattle.rv_text.specs.Texts.{BeginsWith};
 
-use std::alloc::AllocError;
-
-use rv_decode::{Format, Instr, Name};
-
 use crate::names::{mnemonic, ordering};
 use crate::operands::{
     write_first, write_memory, write_number, write_offset, write_register, write_target,
     write_upper,
 };
 use crate::text::Text;
+use rv_decode::{Format, Instr, Name};
+use std::alloc::AllocError;
 
 /// Whether the immediate of format I is an offset from rs1: for `jalr` and the loads.
 fn is_relative(name: Name) -> bool

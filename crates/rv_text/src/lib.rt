@@ -9,6 +9,8 @@ mod instructions;
 mod names;
 mod operands;
 mod rows;
+#[cfg(test)]
+mod tests;
 mod text;
 
 pub use instructions::write_instr;

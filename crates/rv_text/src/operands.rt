@@ -3,10 +3,9 @@ ghost use Rattle.std.specs.Prelude.{◌≡◌, ◌++◌, ◌<◌, OnOk};
 ghost use Rattle.rv_text.specs.Instructions.{first_operand, register_operand, number_operand, offset_operand, memory_operand, target_operand, upper_operand};
 ghost use Rattle.rv_text.specs.Texts.{BeginsWith};
 
-use std::alloc::AllocError;
-
 use crate::names::register_name;
 use crate::text::Text;
+use std::alloc::AllocError;
 
 /// The first operand, a register.
 #[tactic(auto, unfolding(crate::specs::Instructions::first_operand))]

@@ -4,14 +4,12 @@ ghost use Rattle.rv_decode.specs.Seen.{seen};
 ghost use Rattle.rv_text.specs.Rows.{point_text, shown_word, shown_instruction, text_or_illegal, word_text, code_text, register_text, access_text, fault_text, effects_text, row_text};
 ghost use Rattle.rv_text.specs.Texts.{BeginsWith};
 
-use std::alloc::AllocError;
-
-use bn_base::{Addr, Fault, HartId, Ic, Register, Row};
-use rv_decode::{Instr, decode};
-
 use crate::instructions::write_instr_parts;
 use crate::names::register_name;
 use crate::text::Text;
+use bn_base::{Addr, Fault, HartId, Ic, Register, Row};
+use rv_decode::{Instr, decode};
+use std::alloc::AllocError;
 
 /// The hart, its count and the pc.
 #[tactic(auto, unfolding(crate::specs::Rows::point_text))]
@@ -59,12 +57,7 @@ fn write_text(pc: Addr, instr: Option<Instr>, text: &mut Text) -> Result<(), All
 
 /// A word and its text.
 #[tactic(auto, unfolding(crate::specs::Rows::word_text))]
-fn write_word(
-    pc: Addr,
-    word: u32,
-    instr: Option<Instr>,
-    text: &mut Text,
-) -> Result<(), AllocError>
+fn write_word(pc: Addr, word: u32, instr: Option<Instr>, text: &mut Text) -> Result<(), AllocError>
     ensures ok { OnOk result (text.new ≡ text.old ++ word_text pc word (option_map seen instr)) }
     ensures begins { BeginsWith text.old text.new }
 {
@@ -104,11 +97,7 @@ fn write_register(reg: Option<(Register, u32)>, text: &mut Text) -> Result<(), A
 
 /// An access by its kind: the address and the whole word.
 #[tactic(auto, unfolding(crate::specs::Rows::access_text))]
-fn write_access(
-    kind: &str,
-    access: Option<(Addr, u32)>,
-    text: &mut Text,
-) -> Result<(), AllocError>
+fn write_access(kind: &str, access: Option<(Addr, u32)>, text: &mut Text) -> Result<(), AllocError>
     ensures ok { OnOk result (text.new ≡ text.old ++ access_text kind.now access) }
     ensures begins { BeginsWith text.old text.new }
 {
