@@ -1,0 +1,27 @@
+-- What several reads or writes in turn do, and what one read does.
+use Rattle.std.proofs.Common.{◌≡◌, ◌+◌, ◌≤◌, ℕ, List, ◌++◌, length, take, drop, Option, Some, None, append_assoc, ap, ◌∙◌, sym, arith, length-drop}
+use Rattle.std.proofs.lemmas.List.{length-take-le, take_at, drop-drop, take-append-drop}
+use Rattle.std.specs.Io.KnownBytes.{Appends, Consumes}
+
+-- one addition after another
+pub appends_both : (a b c : Option (List ℕ)) (x y : List ℕ) → Appends a b x → Appends b c y → Appends a c (x ++ y)
+appends_both None b c x y p q = tt
+appends_both (Some a) None c x y p q = absurd p
+appends_both (Some a) (Some b) None x y p q = absurd q
+appends_both (Some a) (Some b) (Some c) x y p q = q ∙ (ap (λ m. m ++ y) p ∙ append_assoc a x y)
+
+-- one loss of front bytes after another
+pub consumes_both : (a b c : Option (List ℕ)) (x y : List ℕ) → Consumes a b x → Consumes b c y → Consumes a c (x ++ y)
+consumes_both None b c x y p q = tt
+consumes_both (Some a) None c x y p q = absurd p
+consumes_both (Some a) (Some b) None x y p q = absurd q
+consumes_both (Some a) (Some b) (Some c) x y p q = p ∙ (ap (λ m. x ++ m) q ∙ sym (append_assoc x y c))
+
+-- a read's piece, and what is left after it, are what was left before
+pub source_gives : (bytes buffer piece : List ℕ) (at n m : ℕ) → at + n ≤ length bytes → m ≡ n → piece ≡ take m (drop at bytes)
+    → drop at bytes ≡ take n (piece ++ drop n buffer) ++ drop (at + n) bytes
+source_gives bytes buffer piece at n m h same e =
+    let first : piece ≡ take n (drop at bytes) = cc in
+    let size : length piece ≡ n = ap length first ∙ length-take-le n (drop at bytes) (omega (arith, length-drop at bytes)) in
+    sym (ap (λ x. x ++ drop (at + n) bytes) (take_at piece (drop n buffer) n size ∙ first)
+      ∙ (ap (λ x. take n (drop at bytes) ++ x) (sym (drop-drop n at bytes)) ∙ take-append-drop n (drop at bytes)))

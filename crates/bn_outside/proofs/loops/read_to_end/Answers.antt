@@ -1,0 +1,8 @@
+use Rattle.bn_outside.proofs.Pieces.{consumes_both}
+use Rattle.bn_outside.proofs.loops.read_to_end.Goals as goal
+
+pub returns-then-count-limit-clause-part : goal.returns-then-count-limit-clause-part
+returns-then-count-limit-clause-part g c = (_, consumes_both _ _ _ _ _ c.pieces.invariant.gone c.in_ok-count.ensures.moved.0)
+
+pub returns-in_err-extend_from_slice-clause-part : goal.returns-in_err-extend_from_slice-clause-part
+returns-in_err-extend_from_slice-clause-part g c = (_, consumes_both _ _ _ _ _ c.pieces.invariant.gone c.in_ok-count.ensures.moved.0)
