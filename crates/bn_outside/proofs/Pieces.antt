@@ -1,7 +1,8 @@
 -- What several reads or writes in turn do, and what one read does.
-use Rattle.std.proofs.Common.{◌≡◌, ◌+◌, ◌≤◌, ℕ, List, ◌++◌, length, take, drop, Option, Some, None, append_assoc, ap, ◌∙◌, sym, arith, length-drop}
+use Rattle.std.proofs.Common.{◌≡◌, ◌+◌, ◌≤◌, ◌<◌, ℕ, List, [], ◌∷◌, ◌++◌, append-nil, length, take, drop, Option, Some, None, append_assoc, ap, ◌∙◌, sym, arith, length-drop}
 use Rattle.std.proofs.lemmas.List.{length-take-le, take_at, drop-drop, take-append-drop}
 use Rattle.std.specs.Io.KnownBytes.{Appends, Consumes}
+use Rattle.bn_outside.specs.Streams.{ConsumesAll, EndsExactly}
 
 -- one addition after another
 pub appends_both : (a b c : Option (List ℕ)) (x y : List ℕ) → Appends a b x → Appends b c y → Appends a c (x ++ y)
@@ -16,6 +17,19 @@ consumes_both None b c x y p q = tt
 consumes_both (Some a) None c x y p q = absurd p
 consumes_both (Some a) (Some b) None x y p q = absurd q
 consumes_both (Some a) (Some b) (Some c) x y p q = p ∙ (ap (λ m. x ++ m) q ∙ sym (append_assoc x y c))
+
+-- a read that finds no byte left, after others that took these
+pub consumes_all : (a b c : Option (List ℕ)) (x buffer : List ℕ) (n : ℕ) → Consumes a b x → Consumes b c (take n buffer) → EndsExactly b n buffer → n ≡ 0 → 0 < length buffer → ConsumesAll a c x
+consumes_all None b c x buffer n p q e zero room = tt
+consumes_all (Some a) None c x buffer n p q e zero room = absurd p
+consumes_all (Some a) (Some b) None x buffer n p q e zero room = absurd q
+consumes_all (Some a) (Some b) (Some c) x buffer n p q e zero room =
+    let none : b ≡ [] = (e room).0 zero in
+    (sym (append-nil x) ∙ (ap (λ m. x ++ m) (sym none) ∙ sym p), ap Some (rest _ _ (sym q ∙ none)))
+  where
+    rest : (y z : List ℕ) → y ++ z ≡ [] → z ≡ []
+    rest [] z h = h
+    rest (y ∷ ys) z h = cc
 
 -- a read's piece, and what is left after it, are what was left before
 pub source_gives : (bytes buffer piece : List ℕ) (at n m : ℕ) → at + n ≤ length bytes → m ≡ n → piece ≡ take m (drop at bytes)

@@ -7,6 +7,11 @@ abbrev pub EndsExactly : Option (List ℕ) → ℕ → List ℕ → Type 0
 EndsExactly None n buffer = ⊤
 EndsExactly (Some left) n buffer = 0 < length buffer → (n ≡ 0) ↔ (left ≡ [])
 
+-- these are all the bytes that were left, and none is left now
+abbrev pub ConsumesAll : Option (List ℕ) → Option (List ℕ) → List ℕ → Type 0
+ConsumesAll None new bytes = ⊤
+ConsumesAll (Some left) new bytes = (bytes ≡ left) × (new ≡ Some [])
+
 -- some bytes at the front of what was left are gone
 abbrev pub ConsumesPart : Option (List ℕ) → Option (List ℕ) → Type 0
 ConsumesPart old new = (bytes : List ℕ) × Consumes old new bytes

@@ -1,8 +1,8 @@
 // The loops over a sink and a source. Each turn takes at least one byte.
 ghost use Rattle.std.specs.Prelude.{◌≡◌, ◌≤◌, ◌<◌, ℕ, List, IfOk, IfSome, OnOk, OnErr, Err, vec_len, length};
-ghost use Rattle.std.specs.Io.KnownBytes.{Appends, Consumes, IsAtEnd};
+ghost use Rattle.std.specs.Io.KnownBytes.{Appends};
 ghost use Rattle.bn_outside.specs.Counts.{Rose};
-ghost use Rattle.bn_outside.specs.Streams.{AppendsPart, AppendsShort, ConsumesPart};
+ghost use Rattle.bn_outside.specs.Streams.{AppendsPart, AppendsShort, ConsumesAll, ConsumesPart};
 ghost use Rattle.bn_outside.specs.declared.loops.ReadError.TheVariants as read_error;
 
 use crate::{Failed, Sink, Source};
@@ -70,8 +70,7 @@ pub fn read_to_end<I: Source>(
     limit: usize,
 ) -> Result<Vec<u8>, ReadError>
     ensures bound { IfOk result (λ bytes. vec_len bytes ≤ limit) }
-    ensures all { IfOk result (λ bytes. Consumes (I.left source.old) (I.left source.new) bytes.items) }
-    ensures end { OnOk result (IsAtEnd (I.left source.new)) }
+    ensures all { IfOk result (λ bytes. ConsumesAll (I.left source.old) (I.left source.new) bytes.items) }
     ensures long { result ≡ Err ReadError.TooLong → IfSome (I.left source.old) (λ left. limit < length left) }
     ensures part { ConsumesPart (I.left source.old) (I.left source.new) }
     ensures later { I.faults source.old ≤ I.faults source.new }

@@ -1,6 +1,5 @@
 // A sink in memory.
 ghost use Rattle.std.specs.Prelude.{◌≡◌, ◌≤◌, ◌<◌, [], ◌++◌, take, min, Some, IfOk, IfErr, IsErr, OnErr, length};
-ghost use Rattle.std.specs.Io.KnownBytes.{WriteAppends};
 ghost use Rattle.bn_outside.specs.Counts.{Rose, counted};
 ghost use Rattle.bn_outside.specs.Calls.{NextFails, after_call};
 
@@ -67,7 +66,8 @@ impl Sink for MemorySink {
     fn write(&mut self, piece: &[u8]) -> Result<usize, Failed>
         ensures bound { IfOk result (λ n. n ≤ length piece.now) }
         ensures some { IfOk result (λ n. 0 < length piece.now → 0 < n) }
-        ensures taken { WriteAppends (Some self.old.written) (Some self.new.written) result piece.now }
+        ensures taken { IfOk result (λ n. self.new.written ≡ self.old.written ++ take n piece.now) }
+        ensures kept { OnErr result (self.new.written ≡ self.old.written) }
         ensures later { self.old.faults ≤ self.new.faults }
         ensures cause { OnErr result (Rose self.old.faults self.new.faults) }
 

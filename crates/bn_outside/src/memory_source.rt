@@ -1,6 +1,5 @@
 // A source in memory.
 ghost use Rattle.std.specs.Prelude.{◌≡◌, ◌≤◌, ◌<◌, ◌↔◌, ◌++◌, take, drop, min, Some, IfOk, IsErr, OnErr, length};
-ghost use Rattle.std.specs.Io.KnownBytes.{ReadConsumes};
 ghost use Rattle.bn_outside.specs.Counts.{Rose, counted};
 ghost use Rattle.bn_outside.specs.Calls.{NextFails, after_call};
 ghost use Rattle.bn_outside.specs.Streams.{EndsExactly};
@@ -68,8 +67,9 @@ impl Source for MemorySource {
 
     fn read(&mut self, buffer: &mut [u8]) -> Result<usize, Failed>
         ensures bound { IfOk result (λ n. n ≤ length buffer.new) }
-        ensures moved { ReadConsumes (Some self.old.left) (Some self.new.left) result buffer.new }
+        ensures moved { IfOk result (λ n. self.old.left ≡ take n buffer.new ++ self.new.left) }
         ensures end { IfOk result (λ n. EndsExactly (Some self.old.left) n buffer.new) }
+        ensures kept { OnErr result (self.new.left ≡ self.old.left) }
         ensures later { self.old.faults ≤ self.new.faults }
         ensures cause { OnErr result (Rose self.old.faults self.new.faults) }
 

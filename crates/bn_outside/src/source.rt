@@ -1,6 +1,6 @@
 // A source of bytes.
-ghost use Rattle.std.specs.Prelude.{◌≤◌, ℕ, List, Option, IfOk, OnErr, length};
-ghost use Rattle.std.specs.Io.KnownBytes.{ReadConsumes};
+ghost use Rattle.std.specs.Prelude.{◌≤◌, ℕ, List, Option, IfOk, OnErr, length, take};
+ghost use Rattle.std.specs.Io.KnownBytes.{Consumes, Keeps};
 ghost use Rattle.bn_outside.specs.Counts.{Rose};
 ghost use Rattle.bn_outside.specs.Streams.{EndsExactly};
 
@@ -21,8 +21,9 @@ pub trait Source {
     /// the rest of the buffer, nor of the whole buffer after a failure.
     fn read(&mut self, buffer: &mut [u8]) -> Result<usize, Failed>
         ensures bound { IfOk result (λ n. n ≤ length buffer.new) }
-        ensures moved { ReadConsumes (left self.old) (left self.new) result buffer.new }
+        ensures moved { IfOk result (λ n. Consumes (left self.old) (left self.new) (take n buffer.new)) }
         ensures end { IfOk result (λ n. EndsExactly (left self.old) n buffer.new) }
+        ensures kept { OnErr result (Keeps (left self.old) (left self.new)) }
         ensures later { faults self.old ≤ faults self.new }
         ensures cause { OnErr result (Rose (faults self.old) (faults self.new)) };
 }
