@@ -1,7 +1,7 @@
 -- What several reads or writes in turn do, and what one read does.
-use Rattle.std.proofs.Common.{◌≡◌, ◌+◌, ◌≤◌, ◌<◌, ℕ, List, [], ◌∷◌, ◌++◌, append-nil, length, take, drop, Option, Some, None, append_assoc, ap, ◌∙◌, sym, arith, length-drop}
+use Rattle.std.proofs.Common.{◌≡◌, ◌+◌, ◌≤◌, ◌<◌, ℕ, List, [], ◌∷◌, ◌++◌, append-nil, length, take, drop, Option, Some, None, append_assoc, ap, ◌∙◌, sym, arith, length-append, length-drop}
 use Rattle.std.proofs.lemmas.List.{length-take-le, take_at, drop-drop, take-append-drop}
-use Rattle.std.specs.Io.KnownBytes.{Appends, Consumes}
+use Rattle.std.specs.Io.KnownBytes.{Appends, Consumes, IsAtEnd}
 use Rattle.bn_outside.specs.Streams.{ConsumesAll, EndsExactly}
 
 -- one addition after another
@@ -38,4 +38,13 @@ source_gives bytes buffer piece at n m h same e =
     let first : piece ≡ take n (drop at bytes) = cc in
     let size : length piece ≡ n = ap length first ∙ length-take-le n (drop at bytes) (omega (arith, length-drop at bytes)) in
     sym (ap (λ x. x ++ drop (at + n) bytes) (take_at piece (drop n buffer) n size ∙ first)
-      ∙ (ap (λ x. take n (drop at bytes) ++ x) (sym (drop-drop n at bytes)) ∙ take-append-drop n (drop at bytes)))
+    ∙ (ap (λ x. take n (drop at bytes) ++ x) (sym (drop-drop n at bytes)) ∙ take-append-drop n (drop at bytes)))
+
+-- a read that answers 0 only at the end answers it exactly there, since no byte of none can be moved
+pub ends_exactly : (old new : Option (List ℕ)) (n : ℕ) (buffer : List ℕ) → n ≤ length buffer → Consumes old new (take n buffer) → (n ≡ 0 → 0 < length buffer → IsAtEnd new) → EndsExactly old n buffer
+ends_exactly None new n buffer bound p e = tt
+ends_exactly (Some left) None n buffer bound p e = absurd p
+ends_exactly (Some left) (Some rest) n buffer bound p e = λ room. (
+  λ zero. p ∙ (ap (λ m. m ++ rest) (ap (λ k. take k buffer) zero) ∙ e zero room),
+  λ none. omega (arith, length-take-le n buffer bound, ap length (sym none ∙ p), length-append (take n buffer) rest),
+)

@@ -28,3 +28,6 @@ use thiserror::Error;
 #[derive(Clone, Copy, Debug, Drop, PartialEq, Eq, Error)]
 #[error("the read or write failed")]
 pub struct Failed;
+
+#[cfg(test)]
+mod tests;

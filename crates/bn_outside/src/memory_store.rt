@@ -107,10 +107,7 @@ impl Store for MemoryStore {
             self.longs = self.longs.saturating_add(1);
             return Err(LoadError::TooLong);
         }
-        match bytes.to_vec(alloc) {
-            Ok(copy) => Ok(copy),
-            Err(_) => Err(LoadError::OutOfMemory),
-        }
+        Ok(bytes.to_vec(alloc)?)
     }
 
     fn save(&mut self, name: &str, bytes: &[u8]) -> Result<(), SaveError>
@@ -132,9 +129,7 @@ impl Store for MemoryStore {
             self.faults = self.faults.saturating_add(1);
             return Err(SaveError::Failed);
         }
-        match self.put(name, bytes) {
-            Ok(()) => Ok(()),
-            Err(_) => Err(SaveError::OutOfMemory),
-        }
+        self.put(name, bytes)?;
+        Ok(())
     }
 }

@@ -2,8 +2,10 @@
 ghost use Rattle.std.specs.Prelude.{◌≡◌, ◌≤◌, ℕ, Option, IfOk, IfSome, OnOk, Some, vec_len};
 ghost use Rattle.bn_outside.specs.Counts.{Counts, NoneFell, LoadCause, SaveCause};
 ghost use Rattle.bn_outside.specs.Files.{Files, LoadTells, SameElsewhere, WhereTold};
+ghost use Rattle.bn_outside.specs.declared.store.LoadError.TheVariants as load;
+ghost use Rattle.bn_outside.specs.declared.store.SaveError.TheVariants as save;
 
-use std::alloc::Global;
+use std::alloc::{AllocError, Global};
 use thiserror::Error;
 
 /// Why a load gave no bytes.
@@ -32,6 +34,22 @@ pub enum SaveError {
     /// The store had no memory for the bytes.
     #[error("out of memory")]
     OutOfMemory,
+}
+
+impl From<AllocError> for LoadError {
+    ghost from_gives = { λ _ error. error ≡ load.OutOfMemory };
+
+    fn from(_: AllocError) -> LoadError {
+        LoadError::OutOfMemory
+    }
+}
+
+impl From<AllocError> for SaveError {
+    ghost from_gives = { λ _ error. error ≡ save.OutOfMemory };
+
+    fn from(_: AllocError) -> SaveError {
+        SaveError::OutOfMemory
+    }
 }
 
 /// Files by their names.

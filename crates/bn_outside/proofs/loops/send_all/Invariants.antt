@@ -6,7 +6,7 @@ abbrev pub invariant-loop-sent : goal.invariant-loop-sent
 invariant-loop-sent g l = record {
   within : l.sent ≤ length l.text;
   gained : Appends (g.K.Sink.written l.fn.sink) (g.K.Sink.written l.sink) (take l.sent l.text);
-  later : g.K.Sink.faults l.fn.sink ≤ g.K.Sink.faults l.sink
+  later : g.K.Sink.faults l.fn.sink ≤ g.K.Sink.faults l.sink;
 }
 
 abbrev pub decreases-loop-sent : goal.decreases-loop-sent
