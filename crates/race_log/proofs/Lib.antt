@@ -1,0 +1,4 @@
+pub mod BoolFacts
+pub mod Agree
+pub mod Chains
+pub mod EdgeLaws
