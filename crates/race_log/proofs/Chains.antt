@@ -3,8 +3,11 @@ use Rattle.std.proofs.Common.{◌≡◌, ℕ, zero, suc, ◌+◌, ◌<◌, Bool,
 use Rattle.race_log.specs.Netzer.{Chain, Either}
 use Rattle.race_log.specs.Netzer.Chain.{one, more}
 use Rattle.race_log.specs.Tests.{leads}
-use Rattle.race_log.specs.Merges.{Rises}
 use Rattle.race_log.proofs.BoolFacts.{and_left, and_right, both, or_split, or_first, or_second, known}
+
+-- each step leads to a higher number
+abbrev pub Rises : (ℕ → ℕ → Type 0) → Type 0
+Rises Step = (m n : ℕ) → Step m n → m < n
 
 pub chain_rises : {Step : ℕ → ℕ → Type 0} {m n : ℕ} → Rises Step → Chain Step m n → m < n
 chain_rises up (one s) = up _ _ s

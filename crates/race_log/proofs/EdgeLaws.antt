@@ -3,10 +3,9 @@ use Rattle.std.proofs.Common.{◌≡◌, ℕ, Bool, true, false, not, ◌&&◌, 
 use Rattle.race_log.specs.Points.{Point, IsConflict, IsSameHart}
 use Rattle.race_log.specs.Netzer.{AtPlaces, ProgramOrder, Conflict, Either, Chain, Before, IsEdge, OtherThan}
 use Rattle.race_log.specs.Tests.{either, any_below, conflict, program_order, before, edge}
-use Rattle.race_log.specs.Merges.{Rises}
 use Rattle.race_log.proofs.BoolFacts.{and_left, and_right, both, or_split, or_first, or_second, known, not_true, true_not, some_below, below_some}
 use Rattle.race_log.proofs.Agree.{order_is, is_order, clash_is, is_clash}
-use Rattle.race_log.proofs.Chains.{chain_rises, chain_map, leads_chain, chain_leads, steps_rise, pair_needed, conflict_led}
+use Rattle.race_log.proofs.Chains.{Rises, chain_rises, chain_map, leads_chain, chain_leads, steps_rise, pair_needed, conflict_led}
 
 pub places_rise : (Related : Point → Point → Type 0) (run : List Point) → Rises (AtPlaces Related run)
 places_rise Related run m n a = a.earlier

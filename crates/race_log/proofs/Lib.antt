@@ -2,3 +2,5 @@ pub mod BoolFacts
 pub mod Agree
 pub mod Chains
 pub mod EdgeLaws
+pub mod MergeLaws
+pub mod GoesOn

@@ -1,6 +1,7 @@
 -- Merges of the harts' lists of points, and what it means that they respect recorded pairs.
 use Rattle.std.specs.Prelude.{◌≡◌, ℕ, zero, suc, ◌<◌, Bool, true, false, ◌&&◌, List, [], ◌∷◌, ◌++◌, ◌==◌, slice_get, Option, Some, None, length, cond, filter, IsTrue}
 use Rattle.race_log.specs.Points.{Point}
+use Rattle.race_log.specs.Netzer.{IsEdge}
 
 -- whether there is a point, and it is the hart's
 abbrev pub is_of_hart : ℕ → Option Point → Bool
@@ -53,10 +54,6 @@ IsNext kept run order hart m = (rest : List ℕ) × (own_part run order hart ++ 
 abbrev pub Respects : (ℕ → ℕ → Type 0) → List ℕ → Type 0
 Respects Pair order = (m n : ℕ) → Pair m n → StandsIn order n → Precedes order m n
 
--- the pairs are of kept places
-abbrev pub JoinsKept : (ℕ → Bool) → (ℕ → ℕ → Type 0) → Type 0
-JoinsKept kept Pair = (m n : ℕ) → Pair m n → IsTrue (kept m) × IsTrue (kept n)
-
--- the first of each pair has the lower place
-abbrev pub Rises : (ℕ → ℕ → Type 0) → Type 0
-Rises Pair = (m n : ℕ) → Pair m n → m < n
+-- the pairs are edges between kept places
+abbrev pub AreKeptEdges : (ℕ → Bool) → List Point → (ℕ → ℕ → Bool) → Type 0
+AreKeptEdges kept run pairs = (m n : ℕ) → IsTrue (pairs m n) → IsEdge run m n × IsTrue (kept m) × IsTrue (kept n)

@@ -1,7 +1,8 @@
-ghost use Rattle.std.specs.Prelude.{◌↔◌, ℕ, List, IsTrue};
+ghost use Rattle.std.specs.Prelude.{◌≡◌, ◌<◌, ◌≤◌, ◌⊎◌, ◌↔◌, ℕ, Bool, List, IsTrue, length};
 ghost use Rattle.race_log.specs.Points.{Point, IsConflict, IsSameHart};
-ghost use Rattle.race_log.specs.Netzer.{ProgramOrder, Conflict, Before, IsEdge};
+ghost use Rattle.race_log.specs.Netzer.{ProgramOrder, Conflict, Either, Chain, Before, IsEdge, Chosen, OtherThan, EndingAfter};
 ghost use Rattle.race_log.specs.Tests.{is_conflict, program_order, conflict, before, edge};
+ghost use Rattle.race_log.specs.Merges.{IsMerge, IsMergeBegun, IsNext, StandsIn, Precedes, Respects, AreKeptEdges, all_kept};
 
 /// The tests say what the definitions say.
 pub fn tests_decide()
@@ -10,4 +11,55 @@ pub fn tests_decide()
     ensures conflict { (run : List Point) (m n : ℕ) → IsTrue (conflict run m n) ↔ Conflict run m n }
     ensures before { (run : List Point) (m n : ℕ) → IsTrue (before run m n) ↔ Before run m n }
     ensures edge { (run : List Point) (m n : ℕ) → IsTrue (edge run m n) ↔ IsEdge run m n }
+{}
+
+/// No edge follows from program order and the other edges.
+pub fn no_edge_follows()
+    ensures { (run : List Point) (m n : ℕ) → IsEdge run m n →
+        Chain (Either (ProgramOrder run) (OtherThan m n (IsEdge run))) m n → ⊥ }
+{}
+
+/// Every set of conflicting pairs, each in recorded order, whose chains with program order order all conflicts
+/// has each edge.
+pub fn edges_are_needed()
+    ensures { (run : List Point) (pairs : ℕ → ℕ → Bool) →
+        ((m n : ℕ) → Chosen pairs m n → Conflict run m n) →
+        ((m n : ℕ) → Conflict run m n → Chain (Either (ProgramOrder run) (Chosen pairs)) m n) →
+        (m n : ℕ) → IsEdge run m n → Chosen pairs m n }
+{}
+
+/// A chain of program order and edges leads from each point to each later one that conflicts with it, and already
+/// the edges that end after the earlier of the two suffice for it.
+pub fn edges_order_conflicts()
+    ensures all { (run : List Point) (m n : ℕ) → Conflict run m n →
+        Chain (Either (ProgramOrder run) (IsEdge run)) m n }
+    ensures late { (run : List Point) (m n : ℕ) → Conflict run m n →
+        Chain (Either (ProgramOrder run) (EndingAfter m (IsEdge run))) m n }
+{}
+
+/// In every merge of the harts' lists that respects the edges, conflicting points stand in recorded order.
+pub fn merges_keep_conflicts()
+    ensures { (run : List Point) (order : List ℕ) → IsMerge all_kept run order → Respects (IsEdge run) order →
+        (m n : ℕ) → Conflict run m n → Precedes order m n }
+{}
+
+/// In every merge of the harts' lists of kept points that respects recorded edges between kept points, those with all
+/// edges that end after some place among them, conflicting kept points from that place on stand in recorded order.
+///
+/// Here the recorded edges are those of a log's suffix, and the kept points are those of the suffix and the edges'
+/// sources. A chain that orders two kept points may lead through points that aren't kept.
+pub fn late_edges_suffice()
+    ensures { (kept : ℕ → Bool) (run : List Point) (edges : ℕ → ℕ → Bool) (order : List ℕ) →
+        AreKeptEdges kept run edges → IsMerge kept run order → Respects (Chosen edges) order →
+        (first : ℕ) → ((m n : ℕ) → EndingAfter first (IsEdge run) m n → Chosen edges m n) →
+        (m n : ℕ) → first ≤ m → Conflict run m n → IsTrue (kept m) → IsTrue (kept n) → Precedes order m n }
+{}
+
+/// Wherever a merge of beginnings of the harts' lists of kept points isn't whole, some hart can go on: its next point
+/// has all sources of recorded edges into it in the merge already.
+pub fn some_hart_goes_on()
+    ensures { (kept : ℕ → Bool) (run : List Point) (edges : ℕ → ℕ → Bool) (order : List ℕ) →
+        AreKeptEdges kept run edges → IsMergeBegun kept run order →
+        IsMerge kept run order ⊎ ((hart m : ℕ) × IsNext kept run order hart m ×
+            ((k : ℕ) → Chosen edges k m → StandsIn order k)) }
 {}

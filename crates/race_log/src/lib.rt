@@ -3,4 +3,6 @@
 
 mod laws;
 
-pub use laws::tests_decide;
+pub use laws::{
+    edges_are_needed, edges_order_conflicts, late_edges_suffice, merges_keep_conflicts, no_edge_follows, some_hart_goes_on, tests_decide,
+};
