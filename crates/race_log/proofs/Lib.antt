@@ -4,3 +4,4 @@ pub mod Chains
 pub mod EdgeLaws
 pub mod MergeLaws
 pub mod GoesOn
+pub mod CountLaws

@@ -1,6 +1,8 @@
-ghost use Rattle.std.specs.Prelude.{◌≡◌, ◌<◌, ◌≤◌, ◌⊎◌, ◌↔◌, ℕ, Bool, List, IsTrue, length};
+ghost use Rattle.std.specs.Prelude.{◌≡◌, ◌<◌, ◌≤◌, ◌⊎◌, ◌↔◌, ℕ, Bool, List, IsTrue, slice_get, Some};
 ghost use Rattle.race_log.specs.Points.{Point, IsConflict, IsSameHart};
 ghost use Rattle.race_log.specs.Netzer.{ProgramOrder, Conflict, Either, Chain, Before, IsEdge, Chosen, OtherThan, EndingAfter};
+ghost use Rattle.race_log.specs.ByCount.{IsInOrder, Leads, IsEdgeBetween, IsTimesOf};
+ghost use Rattle.race_log.specs.Holds.{TimesOf};
 ghost use Rattle.race_log.specs.Tests.{is_conflict, program_order, conflict, before, edge};
 ghost use Rattle.race_log.specs.Merges.{IsMerge, IsMergeBegun, IsNext, StandsIn, Precedes, Respects, AreKeptEdges, all_kept};
 
@@ -62,4 +64,21 @@ pub fn some_hart_goes_on()
         AreKeptEdges kept run edges → IsMergeBegun kept run order →
         IsMerge kept run order ⊎ ((hart m : ℕ) × IsNext kept run order hart m ×
             ((k : ℕ) → Chosen edges k m → StandsIn order k)) }
+{}
+
+/// Chains and edges over places are those over instructions by hart and count, where also instructions between a hart's
+/// points, which access nothing, count as third ones.
+pub fn places_stand_for_counts()
+    ensures before { (run : List Point) → IsInOrder run → (m n : ℕ) (p q : Point) →
+        slice_get run m ≡ Some p → slice_get run n ≡ Some q →
+        Before run m n ↔ Leads run p.hart p.count q.hart q.count }
+    ensures edge { (run : List Point) → IsInOrder run → (m n : ℕ) (p q : Point) →
+        slice_get run m ≡ Some p → slice_get run n ≡ Some q →
+        IsEdge run m n ↔ IsEdgeBetween run p q }
+{}
+
+/// The counts that hold a place's point and those before it cover the instructions that are its point's or before it.
+pub fn times_cover_instructions()
+    ensures { (run : List Point) → IsInOrder run → (n : ℕ) (q : Point) (counts : ℕ → ℕ) →
+        slice_get run n ≡ Some q → TimesOf run n counts → IsTimesOf run q counts }
 {}

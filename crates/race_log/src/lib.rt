@@ -4,5 +4,5 @@
 mod laws;
 
 pub use laws::{
-    edges_are_needed, edges_order_conflicts, late_edges_suffice, merges_keep_conflicts, no_edge_follows, some_hart_goes_on, tests_decide,
+    edges_are_needed, edges_order_conflicts, late_edges_suffice, merges_keep_conflicts, no_edge_follows, places_stand_for_counts, some_hart_goes_on, tests_decide, times_cover_instructions,
 };
