@@ -5,3 +5,4 @@ pub mod EdgeLaws
 pub mod MergeLaws
 pub mod GoesOn
 pub mod CountLaws
+pub mod Listed

@@ -1,9 +1,9 @@
-ghost use Rattle.std.specs.Prelude.{◌≡◌, ◌<◌, ◌≤◌, ◌⊎◌, ◌↔◌, ℕ, Bool, List, IsTrue, slice_get, Some};
+ghost use Rattle.std.specs.Prelude.{◌≡◌, ◌<◌, ◌≤◌, ◌⊎◌, ◌↔◌, ℕ, Bool, List, IsTrue, slice_get, Some, Contains, AllPairs};
 ghost use Rattle.race_log.specs.Points.{Point, IsConflict, IsSameHart};
 ghost use Rattle.race_log.specs.Netzer.{ProgramOrder, Conflict, Either, Chain, Before, IsEdge, Chosen, OtherThan, EndingAfter};
 ghost use Rattle.race_log.specs.ByCount.{IsInOrder, Leads, IsEdgeBetween, IsTimesOf};
 ghost use Rattle.race_log.specs.Holds.{TimesOf};
-ghost use Rattle.race_log.specs.Tests.{is_conflict, program_order, conflict, before, edge};
+ghost use Rattle.race_log.specs.Tests.{is_conflict, program_order, conflict, before, edge, edges_into};
 ghost use Rattle.race_log.specs.Merges.{IsMerge, IsMergeBegun, IsNext, StandsIn, Precedes, Respects, AreKeptEdges, all_kept};
 
 /// The tests say what the definitions say.
@@ -13,6 +13,13 @@ pub fn tests_decide()
     ensures conflict { (run : List Point) (m n : ℕ) → IsTrue (conflict run m n) ↔ Conflict run m n }
     ensures before { (run : List Point) (m n : ℕ) → IsTrue (before run m n) ↔ Before run m n }
     ensures edge { (run : List Point) (m n : ℕ) → IsTrue (edge run m n) ↔ IsEdge run m n }
+{}
+
+/// The list of the places that the edges into a place come from has each of them, and no other place, and the latest
+/// comes first.
+pub fn listed_edges_are_all()
+    ensures all { (run : List Point) (m n : ℕ) → Contains (edges_into run n) m ↔ IsEdge run m n }
+    ensures falling { (run : List Point) (n : ℕ) → AllPairs (λ a b. b < a) (edges_into run n) }
 {}
 
 /// No edge follows from program order and the other edges.
