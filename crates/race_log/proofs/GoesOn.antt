@@ -1,8 +1,9 @@
 -- A merge that isn't whole can be gone on with.
-use Rattle.std.proofs.Common.{◌≡◌, ◌≢◌, ℕ, zero, suc, ◌+◌, ◌-◌, ◌<◌, ◌≤◌, Bool, true, false, ◌&&◌, ◌⊎◌, ◌==◌, refl, inl, inr, arith, sym, ap, ap₂, ◌∙◌, List, [], ◌∷◌, ◌++◌, length, slice_get, Option, Some, None, filter, IsTrue}
+use Rattle.std.proofs.Common.{◌≡◌, ◌≢◌, ℕ, zero, suc, ◌+◌, ◌-◌, ◌<◌, ◌≤◌, Bool, true, false, ◌&&◌, ◌⊎◌, ◌==◌, refl, inl, inr, arith, sym, ap, ap₂, ◌∙◌, List, [], ◌∷◌, ◌++◌, length, slice_get, Option, Some, None, filter, IsTrue, append_assoc, append-nil, subst}
 use Rattle.race_log.specs.Points.{Point}
-use Rattle.race_log.specs.Merges.{is_of_hart, count_up, place, StandsIn, own_list, own_part, IsMerge, IsMergeBegun, IsNext, AreKeptEdges}
-use Rattle.race_log.proofs.BoolFacts.{and_left, and_right, both, known}
+use Rattle.race_log.specs.Netzer.{Chosen}
+use Rattle.race_log.specs.Merges.{is_of_hart, count_up, place, StandsIn, Precedes, Respects, own_list, own_part, IsMerge, IsMergeBegun, IsNext, AreKeptEdges}
+use Rattle.race_log.proofs.BoolFacts.{and_left, and_right, both, known, same_number}
 use Rattle.race_log.proofs.Agree.{same_test}
 use Rattle.race_log.proofs.MergeLaws.{filter_in, filter_out, place_at, place_past, stands_to_filter, stands_from_filter, is_in, of_hart_at}
 
@@ -197,3 +198,104 @@ goes_on kept run edges order joins begun = elim (first_or kept run order begun (
           let up = j.0.conflicts.earlier in
           found.4 k (omega arith) (omega arith) j.1)
 ]
+
+place_in : (xs ys : List ℕ) (b : ℕ) → StandsIn xs b → place (xs ++ ys) b ≡ place xs b
+place_in [] ys b s = absurd (omega (arith, s))
+place_in (x ∷ xs) ys b s = elim (known (x == b)) [
+  | inl t ↦ place_at x b (xs ++ ys) t ∙ sym (place_at x b xs t)
+  | inr t ↦
+      let e = place_past x b xs t in
+      place_past x b (xs ++ ys) t ∙ (ap suc (place_in xs ys b (omega (arith, s, e))) ∙ sym e)
+]
+
+-- what stands in the list with m put at its end stands in the list, or is m
+stands_more : (xs : List ℕ) (m b : ℕ) → StandsIn (xs ++ m ∷ []) b → StandsIn xs b ⊎ (m ≡ b)
+stands_more [] m b s = elim (known (m == b)) [
+  | inl t ↦ inr (same_number m b t)
+  | inr t ↦ (let e = place_past m b [] t in absurd (omega (arith, s, e)))
+]
+stands_more (x ∷ xs) m b s = elim (known (x == b)) [
+  | inl t ↦ (let e = place_at x b xs t in inl (omega (arith, e)))
+  | inr t ↦
+      let e = place_past x b (xs ++ m ∷ []) t in
+      elim (stands_more xs m b (omega (arith, s, e))) [
+        | inl r ↦ (let f = place_past x b xs t in inl (omega (arith, r, f)))
+        | inr is ↦ inr is
+      ]
+]
+
+-- m's place is at the end, or it stood in the list before
+place_end : (xs : List ℕ) (m : ℕ) → (StandsIn xs m → ⊥) → place (xs ++ m ∷ []) m ≡ length xs
+place_end [] m none = place_at m m [] (same_test m m refl)
+place_end (x ∷ xs) m none = elim (known (x == m)) [
+  | inl t ↦ absurd (none (let e = place_at x m xs t in omega (arith, e)))
+  | inr t ↦
+      let e = place_past x m xs t in
+      place_past x m (xs ++ m ∷ []) t ∙ ap suc (place_end xs m (λ s. none (omega (arith, s, e))))
+]
+
+-- a number of a filtered list passes
+in_filtered : (test : ℕ → Bool) (xs front back : List ℕ) (m : ℕ) → front ++ m ∷ back ≡ filter test xs → test m ≡ true
+in_filtered test [] [] back m e = cc
+in_filtered test [] (f ∷ front) back m e = cc
+in_filtered test (x ∷ xs) [] back m e = elim (known (test x)) [
+  | inl t ↦ (let is : m ≡ x = head (e ∙ filter_in test x xs t) in rw is t)
+  | inr t ↦ in_filtered test xs [] back m (e ∙ filter_out test x xs t)
+]
+  where
+    head : {a b : ℕ} {xs ys : List ℕ} → a ∷ xs ≡ b ∷ ys → a ≡ b
+    head e = cc
+in_filtered test (x ∷ xs) (f ∷ front) back m e = elim (known (test x)) [
+  | inl t ↦ in_filtered test xs front back m (tail (e ∙ filter_in test x xs t))
+  | inr t ↦ in_filtered test xs (f ∷ front) back m (e ∙ filter_out test x xs t)
+]
+  where
+    tail : {a b : ℕ} {xs ys : List ℕ} → a ∷ xs ≡ b ∷ ys → xs ≡ ys
+    tail e = cc
+
+one_hart : (hart other : ℕ) (p : Option Point) → is_of_hart hart p ≡ true → is_of_hart other p ≡ true → hart ≡ other
+one_hart hart other None a b = cc
+one_hart hart other (Some p) a b = sym (same_number p.hart hart a) ∙ same_number p.hart other b
+
+-- what comes next may be done next
+pub goes_next : (kept : ℕ → Bool) (run : List Point) (edges : ℕ → ℕ → Bool) (order : List ℕ) → IsMergeBegun kept run order
+    → Respects (Chosen edges) order → (hart m : ℕ) → IsNext kept run order hart m → ((k : ℕ) → Chosen edges k m → StandsIn order k)
+    → IsMergeBegun kept run (order ++ m ∷ []) × Respects (Chosen edges) (order ++ m ∷ [])
+goes_next kept run edges order begun respects hart m next sources = (
+  λ other. elim (known (is_of_hart other (slice_get run m))) [
+    | inl t ↦ own other t (one_hart hart other (slice_get run m) of_hart t)
+    | inr t ↦
+        let b = begun other in
+        let part : own_part run (order ++ m ∷ []) other ≡ own_part run order other =
+            filter-append (λ k. is_of_hart other (slice_get run k)) order (m ∷ [])
+            ∙ (ap (λ xs. own_part run order other ++ xs) (filter_out (λ k. is_of_hart other (slice_get run k)) m [] t) ∙ append-nil (own_part run order other)) in
+        (b.0, rw part b.1)
+  ],
+  λ a b pair s. elim (stands_or order b) [
+    | inl old ↦
+        let low = respects a b pair old in
+        let e = place_in order (m ∷ []) b old in
+        let f = place_in order (m ∷ []) a (omega (arith, low, old)) in
+        omega (arith, low, e, f)
+    | inr new ↦ elim (stands_more order m b s) [
+      | inl old ↦ absurd (new old)
+      | inr is ↦
+          let source = sources a (rw is pair) in
+          let e : place (order ++ m ∷ []) b ≡ length order = rw (← is) (place_end order m (λ t. new (rw is at t))) in
+          let f = place_in order (m ∷ []) a source in
+          omega (arith, source, e, f)
+    ]
+  ],
+)
+  where
+    of_hart : is_of_hart hart (slice_get run m) ≡ true
+    of_hart = and_left (is_of_hart hart (slice_get run m)) (kept m)
+        (in_filtered (λ k. is_of_hart hart (slice_get run k) && kept k) (count_up 0 (length run)) (own_part run order hart) next.0 m next.1)
+
+    own : (other : ℕ) → is_of_hart other (slice_get run m) ≡ true → hart ≡ other → (rest : List ℕ) × (own_part run (order ++ m ∷ []) other ++ rest ≡ own_list kept run other)
+    own other t is =
+        let part : own_part run (order ++ m ∷ []) other ≡ own_part run order other ++ m ∷ [] =
+            filter-append (λ k. is_of_hart other (slice_get run k)) order (m ∷ [])
+            ∙ ap (λ xs. own_part run order other ++ xs) (filter_in (λ k. is_of_hart other (slice_get run k)) m [] t) in
+        let n : IsNext kept run order other m = subst (λ h. IsNext kept run order h m) is next in
+        (n.0, rw part (append_assoc (own_part run order other) (m ∷ []) n.0 ∙ n.1))

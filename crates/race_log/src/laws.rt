@@ -1,4 +1,4 @@
-ghost use Rattle.std.specs.Prelude.{◌≡◌, ◌<◌, ◌≤◌, ◌⊎◌, ◌↔◌, ℕ, Bool, List, IsTrue, slice_get, Some, Contains, AllPairs};
+ghost use Rattle.std.specs.Prelude.{◌≡◌, ◌<◌, ◌≤◌, ◌⊎◌, ◌↔◌, ◌∷◌, ◌++◌, [], ℕ, Bool, List, IsTrue, slice_get, Some, Contains, AllPairs};
 ghost use Rattle.race_log.specs.Points.{Point, IsConflict, IsSameHart};
 ghost use Rattle.race_log.specs.Netzer.{ProgramOrder, Conflict, Either, Chain, Before, IsEdge, Chosen, OtherThan, EndingAfter};
 ghost use Rattle.race_log.specs.ByCount.{IsInOrder, Leads, IsEdgeBetween, IsTimesOf};
@@ -65,12 +65,17 @@ pub fn late_edges_suffice()
 {}
 
 /// Wherever a merge of beginnings of the harts' lists of kept points isn't whole, some hart can go on: its next point
-/// has all sources of recorded edges into it in the merge already.
+/// has all sources of recorded edges into it in the merge already. A merge that respects the edges still does with such
+/// a point at its end.
 pub fn some_hart_goes_on()
-    ensures { (kept : ℕ → Bool) (run : List Point) (edges : ℕ → ℕ → Bool) (order : List ℕ) →
+    ensures some { (kept : ℕ → Bool) (run : List Point) (edges : ℕ → ℕ → Bool) (order : List ℕ) →
         AreKeptEdges kept run edges → IsMergeBegun kept run order →
         IsMerge kept run order ⊎ ((hart m : ℕ) × IsNext kept run order hart m ×
             ((k : ℕ) → Chosen edges k m → StandsIn order k)) }
+    ensures next { (kept : ℕ → Bool) (run : List Point) (edges : ℕ → ℕ → Bool) (order : List ℕ) →
+        IsMergeBegun kept run order → Respects (Chosen edges) order →
+        (hart m : ℕ) → IsNext kept run order hart m → ((k : ℕ) → Chosen edges k m → StandsIn order k) →
+        IsMergeBegun kept run (order ++ m ∷ []) × Respects (Chosen edges) (order ++ m ∷ []) }
 {}
 
 /// Chains and edges over places are those over instructions by hart and count, where also instructions between a hart's
