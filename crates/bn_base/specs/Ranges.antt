@@ -1,0 +1,87 @@
+-- The ranges of the settings.
+use Rattle.std.specs.Prelude.{ℕ, ◌+◌, ◌%◌, ◌^◌, ◌==◌, ◌≡◌, ◌≤◌, Bool, true, false, ◌&&◌, nat_le, List, [], ◌∷◌, codes, if◌then◌else◌, Option, Some, None, Result, Ok, Err, IsTrue}
+use Rattle.std.specs.Int.{is_power_of_two}
+use Rattle.bn_base.specs.declared.settings.RawSettings.{RawSettings}
+use Rattle.bn_base.specs.declared.settings.BadSetting.{BadSetting}
+
+-- from low to high
+abbrev pub is_between : ℕ → ℕ → ℕ → Bool
+is_between low high value = nat_le low value && nat_le value high
+
+-- a power of two from 1 to high
+abbrev pub is_small_power : ℕ → ℕ → Bool
+is_small_power high value = is_between 1 high value && is_power_of_two value
+
+-- a multiple of 4,096 from 65,536 to 2 ^ 26
+abbrev pub is_memory_size : ℕ → Bool
+is_memory_size value = is_between 65536 (2 ^ 26) value && (value % 4096 == 0)
+
+-- the settings one after another, each with whether it is in range
+abbrev pub tested : RawSettings → List (ℕ × Bool)
+tested s =
+    (s.harts, is_between 1 8 s.harts)
+    ∷ (s.interval, is_between 1 10000000 s.interval)
+    ∷ (s.limit, is_between 1 (2 ^ 40) s.limit)
+    ∷ (s.log_size, is_between 16384 (2 ^ 28) s.log_size)
+    ∷ (s.memory, is_memory_size s.memory)
+    ∷ (s.sets, is_small_power 1024 s.sets)
+    ∷ (s.ways, is_between 1 16 s.ways)
+    ∷ (s.line, is_small_power 16 s.line)
+    ∷ []
+
+-- what is bad of a setting and those after it
+abbrev pub bad_or : Bool → BadSetting → Option BadSetting → Option BadSetting
+bad_or true bad later = later
+bad_or false bad later = Some bad
+
+-- the first that is out of range, where the list begins with the setting of that place
+abbrev pub first_bad_from : ℕ → List (ℕ × Bool) → Option BadSetting
+first_bad_from field [] = None
+first_bad_from field (test ∷ rest) = bad_or test.1 (record { field = field; value = test.0 }) (first_bad_from (field + 1) rest)
+
+-- the first setting that is out of range, by its place counted from 1
+abbrev pub first_bad : RawSettings → Option BadSetting
+first_bad s = first_bad_from 1 (tested s)
+
+-- the settings, or what is bad of them
+abbrev pub checked_by : Option BadSetting → RawSettings → Result RawSettings BadSetting
+checked_by None s = Ok s
+checked_by (Some bad) s = Err bad
+
+abbrev pub checked : RawSettings → Result RawSettings BadSetting
+checked s = checked_by (first_bad s) s
+
+-- the name of a setting by its place
+unfoldable pub setting_name : ℕ → List ℕ
+setting_name field =
+    if field == 1 then codes "harts" else
+    if field == 2 then codes "interval" else
+    if field == 3 then codes "limit" else
+    if field == 4 then codes "log-size" else
+    if field == 5 then codes "memory" else
+    if field == 6 then codes "sets" else
+    if field == 7 then codes "ways" else
+    if field == 8 then codes "line" else
+    codes "-"
+
+-- settings that are in range
+pub record IsSetting (s : RawSettings) : Type 0 where
+  pub harts_low : 1 ≤ s.harts
+  pub harts_high : s.harts ≤ 8
+  pub interval_low : 1 ≤ s.interval
+  pub interval_high : s.interval ≤ 10000000
+  pub limit_low : 1 ≤ s.limit
+  pub limit_high : s.limit ≤ 2 ^ 40
+  pub log_size_low : 16384 ≤ s.log_size
+  pub log_size_high : s.log_size ≤ 2 ^ 28
+  pub memory_low : 65536 ≤ s.memory
+  pub memory_high : s.memory ≤ 2 ^ 26
+  pub memory_pages : s.memory % 4096 ≡ 0
+  pub sets_low : 1 ≤ s.sets
+  pub sets_high : s.sets ≤ 1024
+  pub sets_power : IsTrue (is_power_of_two s.sets)
+  pub ways_low : 1 ≤ s.ways
+  pub ways_high : s.ways ≤ 16
+  pub line_low : 1 ≤ s.line
+  pub line_high : s.line ≤ 16
+  pub line_power : IsTrue (is_power_of_two s.line)

@@ -1,0 +1,76 @@
+// How an interval ends.
+ghost use Rattle.std.specs.Prelude.{◌≡◌, ◌+◌, ℕ};
+ghost use Rattle.bn_base.specs.EndMarks.{reason_word};
+ghost use Rattle.bn_base.specs.Faults.{fault_number};
+
+use crate::Ic;
+use crate::fault::Fault;
+
+/// The end of a checkpoint interval: the number of instructions that the hart has done there,
+/// the code of the reason, and the reason's value.
+#[derive(Clone, Copy, Debug, PartialEq, Eq, Drop)]
+pub struct EndMark {
+    pub ic: Ic,
+    pub reason: u8,
+    pub value: u32,
+}
+
+/// The interval has its full length. The value is 0, and the hart goes on.
+pub const LENGTH: u8 = 1;
+
+/// A system call that goes on. The value is its result.
+pub const CALL: u8 = 2;
+
+/// The hart's exit. The value is its a0.
+pub const EXIT: u8 = 3;
+
+/// The exit of all harts. The value is the a0 of the hart that called it.
+pub const GROUP: u8 = 4;
+
+/// The run was ended by another hart. The value is 0.
+pub const STOPPED: u8 = 5;
+
+/// The hart has done as many instructions as it may. The value is 0.
+pub const LIMIT: u8 = 7;
+
+/// A fault has the code 16 plus its number. The value is the fault's.
+pub const FAULT: u8 = 16;
+
+impl EndMark {
+    /// The mark of a fault.
+    pub fn of_fault(ic: Ic, fault: Fault, value: u32) -> EndMark
+        ensures { result ≡ record { ic = ic; reason = FAULT + fault_number fault; value = value } }
+    {
+        EndMark {
+            ic,
+            reason: FAULT + fault.number(),
+            value,
+        }
+    }
+
+    /// The word for its reason: `length`, `call`, `exit`, `group`, `stopped`, `limit` or the
+    /// fault's name, and `-` for any other code.
+    #[tactic(auto, unfolding(crate::specs::EndMarks::reason_word, crate::specs::Faults::fault_name))]
+    pub fn word(&self) -> &'static str
+        ensures { result.now ≡ reason_word self.now.reason }
+    {
+        match self.reason {
+            1 => "length",
+            2 => "call",
+            3 => "exit",
+            4 => "group",
+            5 => "stopped",
+            7 => "limit",
+            17 => Fault::Illegal.name(),
+            18 => Fault::Breakpoint.name(),
+            19 => Fault::FetchOutside.name(),
+            20 => Fault::TargetMisaligned.name(),
+            21 => Fault::LoadOutside.name(),
+            22 => Fault::LoadMisaligned.name(),
+            23 => Fault::StoreOutside.name(),
+            24 => Fault::StoreMisaligned.name(),
+            25 => Fault::StoreReadOnly.name(),
+            _ => "-",
+        }
+    }
+}
