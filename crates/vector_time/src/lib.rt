@@ -3,4 +3,4 @@
 
 mod times;
 
-pub use times::{HARTS, HartId, Ic, Times};
+pub use times::{HARTS, Times};

@@ -1,11 +1,7 @@
 ghost use Rattle.std.specs.Prelude.{◌≡◌, ◌<◌, ◌↔◌, ◌==◌, ℕ, IsTrue, length, max, if◌then◌else◌};
 ghost use Rattle.vector_time.specs.declared.times.TheConstants.{HARTS};
 
-/// A hart's number.
-pub type HartId = u8;
-
-/// How many instructions a hart has done.
-pub type Ic = u64;
+use bn_base::{HartId, Ic};
 
 /// How many harts there can be.
 pub const HARTS: usize = 8;
