@@ -6,3 +6,4 @@ pub mod MergeLaws
 pub mod GoesOn
 pub mod CountLaws
 pub mod Listed
+pub mod WordLemmas
