@@ -7,3 +7,4 @@ pub mod GoesOn
 pub mod CountLaws
 pub mod Listed
 pub mod WordLemmas
+pub mod Rounds

@@ -6,6 +6,7 @@ mod examples;
 mod kept;
 mod laws;
 mod mode;
+mod search;
 mod words;
 
 pub use edges::Edges;

@@ -27,6 +27,16 @@ impl KeptWords {
         }
     }
 
+    /// What is kept of the word.
+    pub fn get(&self, word: Addr) -> &[Kept]
+        ensures { result.now ≡ kept_in self.now word }
+    {
+        match self.words.get(&word) {
+            Some(kept) => kept,
+            None => &[],
+        }
+    }
+
     /// Makes room for one access more of each of `count` words from `first`. What is kept stays, and so does room.
     pub fn make_room(&mut self, first: Addr, count: u32) -> Result<(), AllocError>
         requires { first + 4 * count ≤ 2 ^ 32 }
