@@ -8,3 +8,8 @@ pub mod CountLaws
 pub mod Listed
 pub mod WordLemmas
 pub mod Rounds
+pub mod RangeLemmas
+pub mod Next
+pub mod HoldsLemmas
+pub mod AfterLemmas
+pub mod Wire
