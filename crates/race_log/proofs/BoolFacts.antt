@@ -1,5 +1,5 @@
 -- Lemmas on tests.
-use Rattle.std.proofs.Common.{◌≡◌, ℕ, zero, suc, ◌<◌, Bool, true, false, not, ◌&&◌, ◌||◌, ◌⊎◌, ◌==◌, refl, inl, inr, arith}
+use Rattle.std.proofs.Common.{◌≡◌, ◌≢◌, ℕ, zero, suc, ◌<◌, Bool, true, false, not, ◌&&◌, ◌||◌, ◌⊎◌, ◌==◌, refl, inl, inr, arith}
 use Rattle.race_log.specs.Tests.{any_below}
 
 pub and_left : (a b : Bool) → (a && b) ≡ true → a ≡ true
@@ -56,3 +56,6 @@ below_some test (suc n) k h t = elim (known (n == k)) [
 
 pub same_number : (a b : ℕ) → (a == b) ≡ true → a ≡ b
 same_number a b h = grind arith
+
+pub other_number : (a b : ℕ) → (a == b) ≡ false → a ≢ b
+other_number a b h e = elim (known (a == b)) [ inl t ↦ cc | inr f ↦ (let t : (a == b) ≡ true = grind arith in cc) ]

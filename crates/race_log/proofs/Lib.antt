@@ -13,3 +13,6 @@ pub mod Next
 pub mod HoldsLemmas
 pub mod AfterLemmas
 pub mod Wire
+pub mod Latest
+pub mod Sources
+pub mod Picks
