@@ -16,3 +16,4 @@ pub mod Wire
 pub mod Latest
 pub mod Sources
 pub mod Picks
+pub mod KeptLemmas

@@ -1,3 +1,4 @@
+use Rattle.race_log.proofs.KeptLemmas.{same_word, other_word, fewer_suffice}
 use Rattle.race_log.proofs.Picks.{picks, first_few}
 use Rattle.race_log.proofs.RangeLemmas.{one_kind, range_words, in_range}
 use Rattle.race_log.proofs.AfterLemmas.{own_new, own_old, times_old}

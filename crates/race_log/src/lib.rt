@@ -7,6 +7,7 @@ mod kept;
 mod laws;
 mod mode;
 mod search;
+mod shadow;
 mod words;
 
 pub use edges::Edges;
@@ -15,6 +16,7 @@ pub use examples::{
     relay_implies_a_conflict, store_follows_two_readers,
 };
 pub use mode::Mode;
+pub use shadow::Shadow;
 pub use laws::{
     edges_are_needed, edges_order_conflicts, late_edges_suffice, listed_edges_are_all, merges_keep_conflicts,
     no_edge_follows, places_stand_for_counts, some_hart_goes_on, tests_decide, times_cover_instructions,
