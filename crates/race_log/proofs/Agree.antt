@@ -11,7 +11,7 @@ pub same_test : (a c : ℕ) → a ≡ c → (a == c) ≡ true
 same_test a c e = grind arith
 
 -- another fact of the element
-any_map : {X : Type 0} {P Q : X → Type 0} (xs : List X) → ((x : X) → P x → Q x) → Any P xs → Any Q xs
+pub any_map : {X : Type 0} {P Q : X → Type 0} (xs : List X) → ((x : X) → P x → Q x) → Any P xs → Any Q xs
 any_map xs f a = (a.0, a.1, a.2, a.3, f a.1 a.4)
 
 pub touches_is : (word : ℕ) (p : Point) → touches word p ≡ true → Touches word p

@@ -17,3 +17,4 @@ pub mod Latest
 pub mod Sources
 pub mod Picks
 pub mod KeptLemmas
+pub mod Steps

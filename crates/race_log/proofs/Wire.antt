@@ -1,3 +1,4 @@
+use Rattle.race_log.proofs.Steps.{stands_after, found_edges, new_times, stands_same}
 use Rattle.race_log.proofs.KeptLemmas.{same_word, other_word, fewer_suffice}
 use Rattle.race_log.proofs.Picks.{picks, first_few}
 use Rattle.race_log.proofs.RangeLemmas.{one_kind, range_words, in_range}
