@@ -12,9 +12,10 @@ pub mod RangeLemmas
 pub mod Next
 pub mod HoldsLemmas
 pub mod AfterLemmas
-pub mod Wire
 pub mod Latest
 pub mod Sources
 pub mod Picks
 pub mod KeptLemmas
 pub mod Steps
+pub mod NewLemmas
+pub mod AccessLemmas
