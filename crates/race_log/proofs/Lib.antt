@@ -19,3 +19,4 @@ pub mod KeptLemmas
 pub mod Steps
 pub mod NewLemmas
 pub mod AccessLemmas
+pub mod Known

@@ -1,32 +1,28 @@
 -- The numbers that pass a test, the greatest first.
 use Rattle.std.proofs.Common.{◌≡◌, ℕ, zero, suc, ◌+◌, ◌<◌, ◌≤◌, Bool, true, false, ◌⊎◌, ◌==◌, refl, inl, inr, arith, sym, ◌∙◌, List, [], ◌∷◌, length, slice_index_or, Contains, AllPairs, All}
 use Rattle.race_log.specs.Tests.{greatest_first}
+use Rattle.race_log.specs.Kept.{In}
 use Rattle.race_log.proofs.BoolFacts.{known}
-
--- x is among the numbers
-abbrev pub Has : List ℕ → ℕ → Type 0
-Has [] x = ⊥
-Has (y ∷ ys) x = (y ≡ x) ⊎ Has ys x
 
 -- numbers below the bound, each below the one before it
 abbrev pub Falling : ℕ → List ℕ → Type 0
 Falling bound [] = Unit {0}
 Falling bound (j ∷ js) = (j < bound) × Falling j js
 
-pub has_contains : (xs : List ℕ) (x : ℕ) → Has xs x → Contains xs x
-has_contains [] x h = absurd h
-has_contains (y ∷ ys) x (inl e) = (0, omega arith, e)
-has_contains (y ∷ ys) x (inr h) = let r = has_contains ys x h in (suc r.0, (let low = r.1 in omega arith), r.2)
+pub in_contains : {X : Type 0} (xs : List X) (x : X) → In xs x → Contains xs x
+in_contains [] x h = absurd h
+in_contains (y ∷ ys) x (inl e) = (0, omega arith, e)
+in_contains (y ∷ ys) x (inr h) = let r = in_contains ys x h in (suc r.0, (let low = r.1 in omega arith), r.2)
 
-pub contains_has : (xs : List ℕ) (x : ℕ) → Contains xs x → Has xs x
-contains_has xs x c = go xs c.0 c.1 c.2
+pub contains_in : {X : Type 0} (xs : List X) (x : X) → Contains xs x → In xs x
+contains_in {X = X} xs x c = go xs c.0 c.1 c.2
   where
-    go : (xs : List ℕ) (k : ℕ) → k < length xs → slice_index_or xs k x ≡ x → Has xs x
+    go : (xs : List X) (k : ℕ) → k < length xs → slice_index_or xs k x ≡ x → In xs x
     go [] k low e = absurd (omega arith)
     go (y ∷ ys) zero low e = inl e
     go (y ∷ ys) (suc k) low e = inr (go ys k (omega arith) e)
 
-pub has_below : (bound : ℕ) (js : List ℕ) (k : ℕ) → Falling bound js → Has js k → k < bound
+pub has_below : (bound : ℕ) (js : List ℕ) (k : ℕ) → Falling bound js → In js k → k < bound
 has_below bound [] k f h = absurd h
 has_below bound (j ∷ js) k f (inl e) = let low = f.0 in omega arith
 has_below bound (j ∷ js) k f (inr h) = let low = f.0 in let r = has_below j js k f.1 h in omega arith
@@ -41,7 +37,7 @@ falling_pairs bound (j ∷ js) f zero zero d low fits = absurd (omega arith)
 falling_pairs bound (j ∷ js) f zero (suc k) d low fits =
     has_below j js (slice_index_or js k d) f.1 (item js k d (omega arith))
   where
-    item : (xs : List ℕ) (k d : ℕ) → k < length xs → Has xs (slice_index_or xs k d)
+    item : (xs : List ℕ) (k d : ℕ) → k < length xs → In xs (slice_index_or xs k d)
     item [] k d low = absurd (omega arith)
     item (x ∷ xs) zero d low = inl refl
     item (x ∷ xs) (suc k) d low = inr (item xs k d (omega arith))
@@ -56,7 +52,7 @@ listed_falls test (suc n) = elim (known (test n)) [
   | inr f ↦ rw f (falling_up n (suc n) (greatest_first test n) (omega arith) (listed_falls test n))
 ]
 
-pub listed_passes : (test : ℕ → Bool) (n k : ℕ) → Has (greatest_first test n) k → test k ≡ true
+pub listed_passes : (test : ℕ → Bool) (n k : ℕ) → In (greatest_first test n) k → test k ≡ true
 unfolding greatest_first
 listed_passes test zero k h = absurd h
 listed_passes test (suc n) k h = elim (known (test n)) [
@@ -64,7 +60,7 @@ listed_passes test (suc n) k h = elim (known (test n)) [
   | inr f ↦ listed_passes test n k (rw f at h)
 ]
 
-pub passes_listed : (test : ℕ → Bool) (n k : ℕ) → k < n → test k ≡ true → Has (greatest_first test n) k
+pub passes_listed : (test : ℕ → Bool) (n k : ℕ) → k < n → test k ≡ true → In (greatest_first test n) k
 unfolding greatest_first
 passes_listed test zero k low t = absurd (omega arith)
 passes_listed test (suc n) k low t = elim (split n k low) [
@@ -79,8 +75,8 @@ passes_listed test (suc n) k low t = elim (split n k low) [
     split n k low = grind arith
 
 -- a falling list of all numbers that pass
-pub falling_is : (test : ℕ → Bool) (n : ℕ) (js : List ℕ) → Falling n js → ((e : ℕ) → Has js e → test e ≡ true)
-    → ((e : ℕ) → e < n → test e ≡ true → Has js e) → js ≡ greatest_first test n
+pub falling_is : (test : ℕ → Bool) (n : ℕ) (js : List ℕ) → Falling n js → ((e : ℕ) → In js e → test e ≡ true)
+    → ((e : ℕ) → e < n → test e ≡ true → In js e) → js ≡ greatest_first test n
 unfolding greatest_first
 falling_is test zero [] f are all = refl
 falling_is test zero (j ∷ js) f are all = let low = f.0 in absurd (omega arith)

@@ -11,7 +11,7 @@ use Rattle.race_log.specs.Search.{is_source, latest, merged, sources, counts_aft
 use Rattle.race_log.proofs.BoolFacts.{and_left, and_right, both, known, not_true, same_number}
 use Rattle.race_log.proofs.Agree.{same_test}
 use Rattle.race_log.proofs.EdgeLaws.{one_point}
-use Rattle.race_log.proofs.Listed.{Has, Falling}
+use Rattle.race_log.proofs.Listed.{Falling}
 use Rattle.race_log.proofs.CountLaws.{pair_at, less_or, before_up}
 use Rattle.race_log.proofs.RangeLemmas.{IsOfOneKind}
 use Rattle.race_log.proofs.HoldsLemmas.{holds_map, holds_merge}
@@ -28,8 +28,8 @@ module _ (run : List Point) (b : Point) (writes : Bool) (kind : IsOfOneKind b wr
   pub record Picked (bound rounds : ℕ) (counts : ℕ → ℕ) : Type 0 where
     pub places : List ℕ
     pub falling : Falling bound places
-    pub edges : (e : ℕ) → Has places e → NewEdge run b writes kind ks live harts ready e
-    pub whole : (e : ℕ) → e < bound → NewEdge run b writes kind ks live harts ready e → Has places e
+    pub edges : (e : ℕ) → In places e → NewEdge run b writes kind ks live harts ready e
+    pub whole : (e : ℕ) → e < bound → NewEdge run b writes kind ks live harts ready e → In places e
     pub found : sources b.hart writes rounds counts ks ≡ map (λ e. name_of (slice_get run e)) places
     pub known_after : Holds run (NewBefore run b writes kind ks live harts ready) (counts_after b.hart writes rounds counts ks)
 

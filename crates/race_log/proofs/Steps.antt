@@ -118,7 +118,7 @@ module _ (run : List Point) (hart count turn first n : ℕ) (mode : Mode) (live 
       let below_own : p.count < next_count old hart = rw same at below in
       omega arith
 
-  now_in_order : IsInOrder (after run b)
+  pub now_in_order : IsInOrder (after run (access_point hart count turn first n mode))
   now_in_order = record {
     turns = all_pairs_push (λ p q. p.turn < q.turn) run b stands.in_order.turns (λ k d low. let past = stands.past k d low in omega arith);
     counts = all_pairs_push (λ p q. p.hart ≡ q.hart → p.count < q.count) run b stands.in_order.counts

@@ -1,5 +1,5 @@
 -- Netzer's rule over instructions by hart and count, those among them that access nothing too.
-use Rattle.std.specs.Prelude.{◌≡◌, ℕ, ◌<◌, ◌⊎◌, ◌↔◌, List, slice_get, Some, AllPairs}
+use Rattle.std.specs.Prelude.{◌≡◌, ℕ, ◌<◌, ◌≤◌, ◌⊎◌, ◌↔◌, List, slice_get, Some, AllPairs}
 use Rattle.race_log.specs.Points.{Point, IsConflict}
 
 -- turns ascend along the run, and counts along each hart's points
@@ -39,3 +39,10 @@ IsUpTo run hart count p = ((hart ≡ p.hart) × (count ≡ p.count)) ⊎ Leads r
 -- for each hart the number of its instructions that are p's or before it
 abbrev pub IsTimesOf : List Point → Point → (ℕ → ℕ) → Type 0
 IsTimesOf run p counts = (hart count : ℕ) → (count < counts hart) ↔ IsUpTo run hart count p
+
+-- p is the latest point of the hart in the run
+pub record IsLatestPoint (run : List Point) (hart : ℕ) (p : Point) : Type 0 where
+  pub place : ℕ
+  pub at : slice_get run place ≡ Some p
+  pub hart_is : p.hart ≡ hart
+  pub no_later : (m : ℕ) (q : Point) → slice_get run m ≡ Some q → q.hart ≡ hart → m ≤ place

@@ -9,9 +9,9 @@ use vector_time::Times;
 #[derive(Clone, Copy)]
 pub struct Kept {
     pub turn: u64,
-    pub hart: HartId,
     pub ic: Ic,
-    pub mode: Mode,
     pub times: Times,
+    pub hart: HartId,
+    pub mode: Mode,
     ghost in_range: { hart < HARTS },
 }

@@ -1,4 +1,4 @@
-ghost use Rattle.std.specs.Prelude.{◌≡◌, ◌+◌, ◌*◌, ◌<◌, ◌≤◌, ◌^◌, ◌%◌, ◌==◌, ℕ, Bool, List, [], All, IfOk, OnOk, OnErr, IsTrue, Some, None, length, vec_len, if◌then◌else◌, ◌≢◌};
+ghost use Rattle.std.specs.Prelude.{◌≡◌, ◌+◌, ◌*◌, ◌<◌, ◌≤◌, ◌^◌, ◌%◌, ◌==◌, ◌↔◌, ℕ, Bool, List, [], All, Contains, IfOk, OnOk, OnErr, IsTrue, Some, None, length, vec_len, if◌then◌else◌, ◌≢◌};
 ghost use Rattle.std.specs.Option.{ForSome};
 ghost use Rattle.vector_time.specs.declared.times.TheConstants.{HARTS};
 ghost use Rattle.race_log.specs.Words.{HasRoom};
@@ -30,7 +30,7 @@ impl Shadow {
     ghost use Rattle.vector_time.specs.Times.{count_of};
     ghost use Rattle.race_log.specs.Points.{Point};
     ghost use Rattle.race_log.specs.Tests.{sources_into};
-    ghost use Rattle.race_log.specs.ByCount.{IsTimesOf};
+    ghost use Rattle.race_log.specs.ByCount.{IsPointAt, IsEdgeBetween, IsLatestPoint, IsTimesOf};
     ghost use Rattle.race_log.specs.Kept.{access_point, after};
     ghost use Rattle.race_log.specs.Stands.{Stands, KnowsSame, harts_of, next_turn, next_count, times_of, reserved_range};
 
@@ -89,9 +89,15 @@ impl Shadow {
         requires reserved { reserved_range self.old ≡ Some (first, count) }
         requires turns { next_turn self.old ≤ turn }
         requires counts { next_count self.old hart ≤ ic }
+        // The points that the edges into this one come from are answered, each once, and the latest first.
         ensures edges { (run : List Point) (live : ℕ → Bool) → IsTrue (live hart) → Stands run live self.old →
             result ≡ sources_into (after run (access_point hart ic turn first count mode)) (length run) }
+        ensures exact { (run : List Point) (live : ℕ → Bool) → IsTrue (live hart) → Stands run live self.old →
+            let b = access_point hart ic turn first count mode in
+            (h i : ℕ) → Contains result (h, i) ↔ ((p : Point) × IsPointAt run h i p × IsEdgeBetween (after run b) p b) }
         ensures few { length result < harts_of self.old }
+
+        // The shadow then stands for the run with this point, and the hart's times are those of this point.
         ensures stands { (run : List Point) (live : ℕ → Bool) → IsTrue (live hart) → Stands run live self.old →
             Stands (after run (access_point hart ic turn first count mode)) live self.new }
         ensures times { (run : List Point) (live : ℕ → Bool) → IsTrue (live hart) → Stands run live self.old →
@@ -126,12 +132,19 @@ impl Shadow {
         edges
     }
 
-    /// For each hart, how many of its instructions the given hart knows of: those that are, or are before, a point of
-    /// the given hart.
+    /// For each hart, how many of its instructions are the given hart's latest point or before it; none of any hart, as
+    /// long as the given hart has no point.
     pub fn times(&self, hart: HartId) -> &Times
         requires { hart < harts_of self.now }
-        ensures { (h : ℕ) → count_of result.now h ≡ times_of self.now hart h }
+        ensures value { (h : ℕ) → count_of result.now h ≡ times_of self.now hart h }
+        ensures latest { (run : List Point) (live : ℕ → Bool) → Stands run live self.now →
+            (p : Point) → IsLatestPoint run hart p → IsTimesOf run p (count_of result.now) }
+        ensures none { (run : List Point) (live : ℕ → Bool) → Stands run live self.now →
+            All (λ p. p.hart ≢ hart) run → (h : ℕ) → count_of result.now h ≡ 0 }
     {
         &self.times[hart as usize]
     }
 }
+
+#[cfg(test)]
+mod tests;

@@ -1,12 +1,15 @@
-use Rattle.std.proofs.Common.{◌≡◌, ◌≢◌, ◌+◌, ◌*◌, ◌-◌, ◌<◌, ◌∙◌, ℕ, Bool, List, IsTrue, Some, None, arith, refl, sym, ap, length, vec_len, slice_get, slice_set, if◌then◌else◌}
+use Rattle.std.proofs.Common.{◌≡◌, ◌≢◌, ◌+◌, ◌*◌, ◌-◌, ◌<◌, ◌∙◌, ℕ, Bool, List, IsTrue, Some, None, arith, refl, sym, ap, length, vec_len, slice_get, slice_set, if◌then◌else◌, Contains, ◌↔◌, subst}
 use Rattle.std.proofs.lemmas.Option.{slice_get_read}
 use Rattle.vector_time.specs.Times.{count_of}
-use Rattle.race_log.specs.Kept.{is_write}
+use Rattle.race_log.specs.Kept.{is_write, access_point, after}
+use Rattle.race_log.specs.Points.{Point}
+use Rattle.race_log.specs.ByCount.{IsPointAt, IsEdgeBetween}
 use Rattle.race_log.specs.Search.{gathered, sources, counts_after}
 use Rattle.race_log.specs.Words.{kept_in}
 use Rattle.race_log.specs.Stands.{times_of, counts_at, next_count}
 use Rattle.race_log.proofs.AccessLemmas.{read_times, set_times, counts_set}
-use Rattle.race_log.proofs.Steps.{found_edges, stands_after, new_times, counts_here, counts_there}
+use Rattle.race_log.proofs.Known.{listed_exactly}
+use Rattle.race_log.proofs.Steps.{now_in_order, found_edges, stands_after, new_times, counts_here, counts_there}
 use Rattle.race_log.proofs.shadow.Shadow.access.Goals as goal
 
 pub returns-clause-edges : goal.returns-clause-edges
@@ -18,6 +21,14 @@ returns-clause-edges c = λ run live lives stands.
     ∙ (ap (λ counts. sources c.args.hart (is_write c.args.mode) (c.args.self.now.harts - 1) counts kept) (sym known)
     ∙ found_edges run c.args.hart c.args.ic c.args.turn c.args.first c.args.count c.args.mode live c.args.self.now stands
     c.requires.hart c.requires.counts c.requires.turns lives))
+
+pub returns-clause-exact : goal.returns-clause-exact
+returns-clause-exact c = λ run live lives stands h i.
+    let b = access_point c.args.hart c.args.ic c.args.turn c.args.first c.args.count c.args.mode in
+    let is = returns-clause-edges c run live lives stands in
+    subst (λ xs. Contains xs (h, i) ↔ ((p : Point) × IsPointAt run h i p × IsEdgeBetween (after run b) p b)) (sym is)
+    (listed_exactly run b (now_in_order run c.args.hart c.args.ic c.args.turn c.args.first c.args.count c.args.mode live c.args.self.now stands
+    c.requires.hart c.requires.counts c.requires.turns lives) h i)
 
 pub returns-clause-times : goal.returns-clause-times
 returns-clause-times c = λ run live lives stands h i.
