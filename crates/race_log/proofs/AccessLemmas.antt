@@ -26,9 +26,9 @@ pub set_times : (s : Shadow) (hart count first n : ℕ) (mode : Mode) (t next : 
     ≡ (if h == hart then count + 1 else counts_after hart (is_write mode) (harts_of s - 1) (times_of s hart) (gathered (kept_of s) first n) h)
 set_times s hart count first n mode t next is found writes kind counts set h =
     let same : counts_after hart writes (s.harts - 1) (count_of t) (gathered (kept_of s) first n) h
-        ≡ counts_after hart (is_write mode) (harts_of s - 1) (times_of s hart) (gathered (kept_of s) first n) h =
-        ap (λ w. counts_after hart w (s.harts - 1) (count_of t) (gathered (kept_of s) first n) h) kind
-        ∙ ap (λ f. counts_after hart (is_write mode) (s.harts - 1) f (gathered (kept_of s) first n) h) (sym is) in
+    ≡ counts_after hart (is_write mode) (harts_of s - 1) (times_of s hart) (gathered (kept_of s) first n) h =
+    ap (λ w. counts_after hart w (s.harts - 1) (count_of t) (gathered (kept_of s) first n) h) kind
+    ∙ ap (λ f. counts_after hart (is_write mode) (s.harts - 1) f (gathered (kept_of s) first n) h) (sym is) in
     set h ∙ ap (λ x. if h == hart then count + 1 else x) (counts h ∙ same)
 
 here : {X : Type 0} (x y : X) (h g : ℕ) → h ≡ g → (if h == g then x else y) ≡ x

@@ -36,7 +36,7 @@ pub conflict_is : (p q : Point) → is_conflict p q ≡ true → IsConflict p q
 conflict_is p q h =
     let apart = and_left (not (p.hart == q.hart)) (list_any (λ x. list_any (clashes x) q.accesses) p.accesses) h in
     let x = Any-from_list_any (λ (x : Access). list_any (clashes x) q.accesses) p.accesses
-        (and_right (not (p.hart == q.hart)) (list_any (λ x. list_any (clashes x) q.accesses) p.accesses) h) in
+    (and_right (not (p.hart == q.hart)) (list_any (λ x. list_any (clashes x) q.accesses) p.accesses) h) in
     let y = Any-from_list_any (clashes x.1) q.accesses x.4 in
     let same = same_number x.1.word y.1.word (and_left (x.1.word == y.1.word) (x.1.writes || y.1.writes) y.4) in
     record {
@@ -62,9 +62,19 @@ is_conflict_at p q c = both (not (p.hart == q.hart)) (list_any (λ x. list_any (
   where
     meet : (a : Any (λ (x : Access). Unit {0}) p.accesses) (d : Any (λ (x : Access). Unit {0}) q.accesses) → a.1.word ≡ d.1.word
         → (a.1.writes || d.1.writes) ≡ true → list_any (λ x. list_any (clashes x) q.accesses) p.accesses ≡ true
-    meet a d e t = list_any-from_Any (λ (x : Access). list_any (clashes x) q.accesses) p.accesses (a.0, a.1, a.2, a.3,
-        list_any-from_Any (clashes a.1) q.accesses (d.0, d.1, d.2, d.3,
-        both (a.1.word == d.1.word) (a.1.writes || d.1.writes) (same_test a.1.word d.1.word e) t))
+    meet a d e t = list_any-from_Any (λ (x : Access). list_any (clashes x) q.accesses) p.accesses (
+      a.0,
+      a.1,
+      a.2,
+      a.3,
+      list_any-from_Any (clashes a.1) q.accesses (
+        d.0,
+        d.1,
+        d.2,
+        d.3,
+        both (a.1.word == d.1.word) (a.1.writes || d.1.writes) (same_test a.1.word d.1.word e) t,
+      ),
+    )
 
 -- a test that decides a relation of points decides it of the points at two places
 pub record Decides (test : Point → Point → Bool) (Related : Point → Point → Type 0) : Type 0 where

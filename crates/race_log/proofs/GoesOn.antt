@@ -76,7 +76,7 @@ front_is a m (f ∷ front) back (x ∷ xs) rest up all none e =
     let tail : xs ++ rest ≡ front ++ m ∷ back = cc in
     let low : x < suc f = omega arith in
     let r = front_is (suc f) m front back xs rest up.1 (all_past x (suc f) front xs low up.1 all.1)
-        (λ s. none (later x m xs s)) tail in
+    (λ s. none (later x m xs s)) tail in
     (r.0, ap₂ (λ y ys. y ∷ ys) is r.1)
   where
     later : (x m : ℕ) (xs : List ℕ) → StandsIn xs m → StandsIn (x ∷ xs) m
@@ -126,7 +126,7 @@ module _ (kept : ℕ → Bool) (run : List Point) (order : List ℕ) (begun : Is
       elim (known (is_of_hart hart (slice_get run a) && kept a)) [
         | inl t ↦ rw t (
           stands_to_filter (λ k. is_of_hart hart (slice_get run k)) a (and_left (is_of_hart hart (slice_get run a)) (kept a) t) order
-          (past a (omega arith) (omega arith) (and_right (is_of_hart hart (slice_get run a)) (kept a) t)),
+              (past a (omega arith) (omega arith) (and_right (is_of_hart hart (slice_get run a)) (kept a) t)),
           rest,
         )
         | inr t ↦ rw t rest
@@ -142,12 +142,12 @@ module _ (kept : ℕ → Bool) (run : List Point) (order : List ℕ) (begun : Is
       let front = filter test (count_up 0 m) in
       let back = filter test (count_up (suc m) (length run - suc m)) in
       let parts : own_list kept run p.0.hart ≡ front ++ m ∷ back =
-          ap (filter test) (count_at m low) ∙ (filter-append test (count_up 0 m) (m ∷ count_up (suc m) (length run - suc m))
-          ∙ ap (λ xs. front ++ xs) (filter_in test m (count_up (suc m) (length run - suc m)) pass)) in
+      ap (filter test) (count_at m low) ∙ (filter-append test (count_up 0 m) (m ∷ count_up (suc m) (length run - suc m))
+      ∙ ap (λ xs. front ++ xs) (filter_in test m (count_up (suc m) (length run - suc m)) pass)) in
       let b = begun p.0.hart in
       let r = front_is 0 m front back (own_part run order p.0.hart) b.0 (filter_ascends test m 0)
-          (own_stand p.0.hart m 0 (omega arith) past)
-          (λ s. none (stands_from_filter (λ j. is_of_hart p.0.hart (slice_get run j)) m own order s)) (b.1 ∙ parts) in
+      (own_stand p.0.hart m 0 (omega arith) past)
+      (λ s. none (stands_from_filter (λ j. is_of_hart p.0.hart (slice_get run j)) m own order s)) (b.1 ∙ parts) in
       (p.0.hart, (r.0, r.1 ∙ sym parts))
     where
       count_at : (m : ℕ) → m < length run → count_up 0 (length run) ≡ count_up 0 m ++ m ∷ count_up (suc m) (length run - suc m)
@@ -193,10 +193,15 @@ goes_on kept run edges order joins begun = elim (first_or kept run order begun (
       (own_stand kept run order begun hart (length run) 0 (omega arith) past) b.1)
   | inr found ↦
       let n = next_is kept run order begun found.0 found.1 found.2 found.3 found.4 in
-      inr (n.0, found.0, n.1, λ k e.
-          let j = joins k found.0 e in
-          let up = j.0.conflicts.earlier in
-          found.4 k (omega arith) (omega arith) j.1)
+      inr (
+        n.0,
+        found.0,
+        n.1,
+        λ k e.
+            let j = joins k found.0 e in
+            let up = j.0.conflicts.earlier in
+            found.4 k (omega arith) (omega arith) j.1,
+      )
 ]
 
 place_in : (xs ys : List ℕ) (b : ℕ) → StandsIn xs b → place (xs ++ ys) b ≡ place xs b
@@ -267,8 +272,8 @@ goes_next kept run edges order begun respects hart m next sources = (
     | inr t ↦
         let b = begun other in
         let part : own_part run (order ++ m ∷ []) other ≡ own_part run order other =
-            filter-append (λ k. is_of_hart other (slice_get run k)) order (m ∷ [])
-            ∙ (ap (λ xs. own_part run order other ++ xs) (filter_out (λ k. is_of_hart other (slice_get run k)) m [] t) ∙ append-nil (own_part run order other)) in
+        filter-append (λ k. is_of_hart other (slice_get run k)) order (m ∷ [])
+        ∙ (ap (λ xs. own_part run order other ++ xs) (filter_out (λ k. is_of_hart other (slice_get run k)) m [] t) ∙ append-nil (own_part run order other)) in
         (b.0, rw part b.1)
   ],
   λ a b pair s. elim (stands_or order b) [
@@ -295,7 +300,7 @@ goes_next kept run edges order begun respects hart m next sources = (
     own : (other : ℕ) → is_of_hart other (slice_get run m) ≡ true → hart ≡ other → (rest : List ℕ) × (own_part run (order ++ m ∷ []) other ++ rest ≡ own_list kept run other)
     own other t is =
         let part : own_part run (order ++ m ∷ []) other ≡ own_part run order other ++ m ∷ [] =
-            filter-append (λ k. is_of_hart other (slice_get run k)) order (m ∷ [])
-            ∙ ap (λ xs. own_part run order other ++ xs) (filter_in (λ k. is_of_hart other (slice_get run k)) m [] t) in
+        filter-append (λ k. is_of_hart other (slice_get run k)) order (m ∷ [])
+        ∙ ap (λ xs. own_part run order other ++ xs) (filter_in (λ k. is_of_hart other (slice_get run k)) m [] t) in
         let n : IsNext kept run order other m = subst (λ h. IsNext kept run order h m) is next in
         (n.0, rw part (append_assoc (own_part run order other) (m ∷ []) n.0 ∙ n.1))

@@ -39,8 +39,7 @@ module _ (run : List Point) (b : Point) (up : IsInOrder (after run b)) where
       let low = edge_j.conflicts.earlier in
       let p = edge_j.conflicts.first in
       let at : slice_get (after run b) j ≡ Some p = edge_j.conflicts.first_at in
-      let name : (p.hart, p.count) ≡ (h, i) = sym (ap name_of at) ∙ e in
-      (
+      let name : (p.hart, p.count) ≡ (h, i) = sym (ap name_of at) ∙ e in (
         p,
         record { place = j; at = sym (get_old run b j low) ∙ at; hart_is = ap (λ x. x.0) name; count_is = ap (λ x. x.1) name },
         edge_between (after run b) up j (length run) p b at (get_new run b) edge_j,
@@ -52,7 +51,7 @@ module _ (run : List Point) (b : Point) (up : IsInOrder (after run b)) where
       let at_p = old_at run b at.place p at.at in
       let edge_m = between_edge (after run b) up at.place (length run) p b at_p (get_new run b) between in
       let has = passes_listed (λ m. edge (after run b) m (length run)) (length run) at.place edge_m.conflicts.earlier
-          (is_edge (after run b) at.place (length run) edge_m) in
+      (is_edge (after run b) at.place (length run) edge_m) in
       let name : name_of (slice_get (after run b) at.place) ≡ (h, i) = ap name_of at_p ∙ (λ k. (at.hart_is k, at.count_is k)) in
       subst (In (sources_into (after run b) (length run))) name
       (map_in (λ m. name_of (slice_get (after run b) m)) (edges_into (after run b) (length run)) at.place has)
@@ -62,7 +61,7 @@ module _ (run : List Point) (b : Point) (up : IsInOrder (after run b)) where
   listed_exactly h i = (
     λ c.
         let r = in_map (λ m. name_of (slice_get (after run b) m)) (edges_into (after run b) (length run)) (h, i)
-            (contains_in (sources_into (after run b) (length run)) (h, i) c) in
+        (contains_in (sources_into (after run b) (length run)) (h, i) c) in
         listed_edge h i r.0 r.1 r.2,
     λ q. in_contains (sources_into (after run b) (length run)) (h, i) (edge_listed h i q.0 q.1 q.2),
   )

@@ -1,10 +1,10 @@
 -- Merges of the harts' lists.
 use Rattle.std.proofs.Common.{◌≡◌, ℕ, zero, suc, ◌+◌, ◌<◌, ◌≤◌, Bool, true, false, ◌&&◌, ◌⊎◌, ◌==◌, refl, inl, inr, arith, sym, ap, ◌∙◌, List, [], ◌∷◌, length, slice_get, Some, filter}
-use Rattle.race_log.specs.Points.{Point, IsConflict, IsSameHart}
-use Rattle.race_log.specs.Netzer.{Chain, Either, ProgramOrder, Conflict, IsEdge, Chosen, EndingAfter}
+use Rattle.race_log.specs.Points.{Point, MeetAt, IsConflict, IsSameHart}
+use Rattle.race_log.specs.Netzer.{AtPlaces, Chain, Either, ProgramOrder, Conflict, IsEdge, Chosen, EndingAfter}
 use Rattle.race_log.specs.Netzer.Chain.{one, more}
 use Rattle.race_log.specs.Merges.{is_of_hart, count_up, place, StandsIn, Precedes, own_list, own_part, IsMerge, Respects}
-use Rattle.race_log.proofs.BoolFacts.{both, known}
+use Rattle.race_log.proofs.BoolFacts.{both, known, same_number, other_number}
 use Rattle.race_log.proofs.Agree.{same_test}
 use Rattle.race_log.proofs.Chains.{chain_rises, chain_map}
 use Rattle.race_log.proofs.EdgeLaws.{places_rise, one_point, edges_lead}
@@ -239,3 +239,31 @@ module _ (kept : ℕ → Bool) (run : List Point) (Pair : ℕ → ℕ → Type 0
       finish q k (inl a) (inr d) = let e = ap (place order) a in omega arith
       finish q k (inr p) (inl d) = let f = order_stands kept run order is q n k kept_n p in let e = ap (place order) d in omega arith
       finish q k (inr p) (inr d) = let f = order_stands kept run order is q n k kept_n p in omega arith
+
+  -- kept points that access a word which one of them writes stand in recorded order, be they of one hart or of two
+  pub words_stand : (first : ℕ) → ((a c : ℕ) → EndingAfter first (IsEdge run) a c → Pair a c) → (word m n : ℕ) → first ≤ m
+      → AtPlaces (MeetAt word) run m n → kept m ≡ true → kept n ≡ true → Precedes order m n
+  words_stand first all word m n low a kept_m kept_n = elim (known (a.first.hart == a.second.hart)) [
+    | inl same ↦ order_stands kept run order is m n kept_m kept_n (record {
+      earlier = a.earlier;
+      first = a.first;
+      second = a.second;
+      first_at = a.first_at;
+      second_at = a.second_at;
+      related = same_number a.first.hart a.second.hart same;
+    })
+    | inr other ↦ conflicts_stand first all m n low (record {
+      earlier = a.earlier;
+      first = a.first;
+      second = a.second;
+      first_at = a.first_at;
+      second_at = a.second_at;
+      related = record {
+        apart = other_number a.first.hart a.second.hart other;
+        word = word;
+        first = a.related.first;
+        second = a.related.second;
+        written = a.related.written;
+      };
+    }) kept_m kept_n
+  ]

@@ -38,10 +38,10 @@ module _ (run : List Point) (b : Point) (writes : Bool) (kind : IsOfOneKind b wr
       → latest b.hart writes counts None ks ≡ None → Picked bound rounds counts
   finished S bound rounds counts holds told none =
       let all_in : (k : ℕ) → Candidate run b writes ks k → Clashes run b writes kind ks live harts ready k → S k =
-          λ k c clash. elim (source_or run b writes kind ks live harts ready S counts k c holds clash) [
-            | inl t ↦ absurd (let f = (none_is b.hart writes counts None ks none).1 c.access c.among in cc)
-            | inr s ↦ s
-          ] in
+      λ k c clash. elim (source_or run b writes kind ks live harts ready S counts k c holds clash) [
+        | inl t ↦ absurd (let f = (none_is b.hart writes counts None ks none).1 c.access c.among in cc)
+        | inr s ↦ s
+      ] in
       record {
         places = [];
         falling = tt;
@@ -100,7 +100,7 @@ module _ (run : List Point) (b : Point) (writes : Bool) (kind : IsOfOneKind b wr
           no_later j i w v at_k at_o order = elim (less_or i j) [
             | inl t ↦
                 let less = pair_at (λ p q. p.hart ≡ q.hart → p.count < q.count) run i j at_o.point at_k.point ready.in_order.counts t at_o.at at_k.at
-                    (sym at_o.hart ∙ (same ∙ at_k.hart)) in
+                (sym at_o.hart ∙ (same ∙ at_k.hart)) in
                 let e = at_k.count in let f = at_o.count in omega arith
             | inr g ↦
                 let is : i ≡ j = omega arith in
@@ -152,10 +152,10 @@ module _ (run : List Point) (b : Point) (writes : Bool) (kind : IsOfOneKind b wr
           one_more k f source e l at rest =
               let t = taken run b writes kind ks live harts ready S counts at.1 at.0 k holds at.2 at.3 source in
               let no_later : (q : ℕ) → Candidate run b writes ks q → Clashes run b writes kind ks live harts ready q → S q ⊎ (q ≤ at.0) =
-                  λ q c clash. elim (source_or run b writes kind ks live harts ready S counts q c holds clash) [
-                    | inl is ↦ inr (turn_order run b writes kind ks live harts ready at.1 c.word at.0 q k c.access at.2 c.kept (l.most c.access c.among is))
-                    | inr s ↦ inl s
-                  ] in
+              λ q c clash. elim (source_or run b writes kind ks live harts ready S counts q c holds clash) [
+                | inl is ↦ inr (turn_order run b writes kind ks live harts ready at.1 c.word at.0 q k c.access at.2 c.kept (l.most c.access c.among is))
+                | inr s ↦ inl s
+              ] in
               let edge_j = edge_from run b writes kind ks live harts ready S bound at.0 told no_later t.0 t.1 in
               let j_low : at.0 < bound = below k f at source t in
               let next_told : Told run b writes kind ks live harts ready (λ m. S m ⊎ UpTo run m at.0) at.0 = record {

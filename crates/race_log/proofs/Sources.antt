@@ -90,6 +90,7 @@ module _ (run : List Point) (b : Point) (writes : Bool) (kind : IsOfOneKind b wr
           conflict_new run b j at.point at.at (kind.conflict at.point w (other_number at.point.hart b.hart e) in_b at.touched wrote),
         )
       ]
+
   -- the set that the counts stand for, after the sources from the bound on
   pub record Told (S : ℕ → Type 0) (bound : ℕ) : Type 0 where
     pub down : (m k : ℕ) → S k → Before run m k → S m
@@ -174,7 +175,7 @@ module _ (run : List Point) (b : Point) (writes : Bool) (kind : IsOfOneKind b wr
       let apart = and_left (not (k.hart == b.hart)) (is_write k.mode || writes) first in
       let wrote = and_right (not (k.hart == b.hart)) (is_write k.mode || writes) first in (
         conflict_new run b j at.point at.at (kind.conflict at.point w
-        (λ e. not_true (k.hart == b.hart) apart (same_test k.hart b.hart (at.hart ∙ e))) in_b at.touched (rw at.written at wrote)),
+            (λ e. not_true (k.hart == b.hart) apart (same_test k.hart b.hart (at.hart ∙ e))) in_b at.touched (rw at.written at wrote)),
         λ s. let covered = holds.covered j at.point at.at s in
             not_true (nat_lt k.ic (counts k.hart)) fresh (rw (at.hart, at.count) (lt-ltb at.point.count (counts at.point.hart) covered)),
       )

@@ -196,8 +196,8 @@ module _ (run : List Point) (hart count turn first n : ℕ) (mode : Mode) (live 
             let times_k = subst (TimesOf (after run b) (length run)) (sym (same_counts is_times)) next_times in
             let here = same_word run live b (is_write mode) kind now_in_order w k (kept_of old w) in_b is_turn is_hart is_count (ap is_write is_mode) times_k (stands.kept w) in
             let shape : kept_of new w ≡ filter (stays hart (is_write mode)) (kept_of old w) ++ k ∷ [] =
-                subst (λ v. kept_of new v ≡ kept_after k (kept_of old v)) (sym r.2) (keeps.inside r.0 r.1)
-                ∙ ap₂ (λ h m. filter (stays h (is_write m)) (kept_of old w) ++ k ∷ []) is_hart is_mode in
+            subst (λ v. kept_of new v ≡ kept_after k (kept_of old v)) (sym r.2) (keeps.inside r.0 r.1)
+            ∙ ap₂ (λ h m. filter (stays h (is_write m)) (kept_of old w) ++ k ∷ []) is_hart is_mode in
             subst (Suffices (after run b) live w) (sym shape) here
         | inr out ↦
             let same = keeps.outside w (λ i low e. clear (touches w b) (subst (λ v. touches v b ≡ true) (sym e) (in_range first n i (is_write mode) low)) out) in

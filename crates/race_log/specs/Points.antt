@@ -22,6 +22,12 @@ Touches word p = Any (λ x. x.word ≡ word) p.accesses
 abbrev pub Writes : ℕ → Point → Type 0
 Writes word p = Any (λ x. (x.word ≡ word) × (x.writes ≡ true)) p.accesses
 
+-- both points access the word, and one of them writes it
+pub record MeetAt (word : ℕ) (p q : Point) : Type 0 where
+  pub first : Touches word p
+  pub second : Touches word q
+  pub written : Writes word p ⊎ Writes word q
+
 -- two points of different harts share a word, and one of them writes it
 pub record IsConflict (p q : Point) : Type 0 where
   pub apart : p.hart ≢ q.hart

@@ -1,8 +1,10 @@
-ghost use Rattle.std.specs.Prelude.{◌≡◌, ◌<◌, ◌≤◌, ◌⊎◌, ◌↔◌, ◌∷◌, ◌++◌, [], ℕ, Bool, List, IsTrue, slice_get, Some, Contains, AllPairs};
-ghost use Rattle.race_log.specs.Points.{Point, IsConflict, IsSameHart};
-ghost use Rattle.race_log.specs.Netzer.{ProgramOrder, Conflict, Either, Chain, Before, IsEdge, Chosen, OtherThan, EndingAfter};
+ghost use Rattle.std.specs.Prelude.{◌≡◌, ◌<◌, ◌≤◌, ◌⊎◌, ◌↔◌, ◌∷◌, ◌++◌, [], ℕ, Bool, List, IsTrue, slice_get, Some, Contains, AllPairs, filter, not};
+ghost use Rattle.race_log.specs.Points.{Point, MeetAt, IsConflict, IsSameHart};
+ghost use Rattle.race_log.specs.Netzer.{AtPlaces, ProgramOrder, Conflict, Either, Chain, Before, IsEdge, Chosen, OtherThan, EndingAfter};
 ghost use Rattle.race_log.specs.ByCount.{IsInOrder, Leads, IsEdgeBetween, IsTimesOf};
 ghost use Rattle.race_log.specs.Holds.{TimesOf};
+ghost use Rattle.race_log.specs.Kept.{In, KeptAt, AllKnow, Suffices};
+ghost use Rattle.race_log.specs.declared.kept.Kept.{Kept};
 ghost use Rattle.race_log.specs.Tests.{is_conflict, program_order, conflict, before, edge, edges_into};
 ghost use Rattle.race_log.specs.Merges.{IsMerge, IsMergeBegun, IsNext, StandsIn, Precedes, Respects, AreKeptEdges, all_kept};
 
@@ -46,10 +48,13 @@ pub fn edges_order_conflicts()
         Chain (Either (ProgramOrder run) (EndingAfter m (IsEdge run))) m n }
 {}
 
-/// In every merge of the harts' lists that respects the edges, conflicting points stand in recorded order.
+/// In every merge of the harts' lists that respects the edges, conflicting points stand in recorded order. So each
+/// word's writes stand as recorded, and each of its reads between the same writes.
 pub fn merges_keep_conflicts()
-    ensures { (run : List Point) (order : List ℕ) → IsMerge all_kept run order → Respects (IsEdge run) order →
+    ensures conflicts { (run : List Point) (order : List ℕ) → IsMerge all_kept run order → Respects (IsEdge run) order →
         (m n : ℕ) → Conflict run m n → Precedes order m n }
+    ensures words { (run : List Point) (order : List ℕ) → IsMerge all_kept run order → Respects (IsEdge run) order →
+        (word m n : ℕ) → AtPlaces (MeetAt word) run m n → Precedes order m n }
 {}
 
 /// In every merge of the harts' lists of kept points that respects recorded edges between kept points, those with all
@@ -58,10 +63,15 @@ pub fn merges_keep_conflicts()
 /// Here the recorded edges are those of a log's suffix, and the kept points are those of the suffix and the edges'
 /// sources. A chain that orders two kept points may lead through points that aren't kept.
 pub fn late_edges_suffice()
-    ensures { (kept : ℕ → Bool) (run : List Point) (edges : ℕ → ℕ → Bool) (order : List ℕ) →
+    ensures conflicts { (kept : ℕ → Bool) (run : List Point) (edges : ℕ → ℕ → Bool) (order : List ℕ) →
         AreKeptEdges kept run edges → IsMerge kept run order → Respects (Chosen edges) order →
         (first : ℕ) → ((m n : ℕ) → EndingAfter first (IsEdge run) m n → Chosen edges m n) →
         (m n : ℕ) → first ≤ m → Conflict run m n → IsTrue (kept m) → IsTrue (kept n) → Precedes order m n }
+    ensures words { (kept : ℕ → Bool) (run : List Point) (edges : ℕ → ℕ → Bool) (order : List ℕ) →
+        AreKeptEdges kept run edges → IsMerge kept run order → Respects (Chosen edges) order →
+        (first : ℕ) → ((m n : ℕ) → EndingAfter first (IsEdge run) m n → Chosen edges m n) →
+        (word m n : ℕ) → first ≤ m → AtPlaces (MeetAt word) run m n → IsTrue (kept m) → IsTrue (kept n) →
+        Precedes order m n }
 {}
 
 /// Wherever a merge of beginnings of the harts' lists of kept points isn't whole, some hart can go on: its next point
@@ -71,7 +81,7 @@ pub fn some_hart_goes_on()
     ensures some { (kept : ℕ → Bool) (run : List Point) (edges : ℕ → ℕ → Bool) (order : List ℕ) →
         AreKeptEdges kept run edges → IsMergeBegun kept run order →
         IsMerge kept run order ⊎ ((hart m : ℕ) × IsNext kept run order hart m ×
-            ((k : ℕ) → Chosen edges k m → StandsIn order k)) }
+        ((k : ℕ) → Chosen edges k m → StandsIn order k)) }
     ensures next { (kept : ℕ → Bool) (run : List Point) (edges : ℕ → ℕ → Bool) (order : List ℕ) →
         IsMergeBegun kept run order → Respects (Chosen edges) order →
         (hart m : ℕ) → IsNext kept run order hart m → ((k : ℕ) → Chosen edges k m → StandsIn order k) →
@@ -93,4 +103,12 @@ pub fn places_stand_for_counts()
 pub fn times_cover_instructions()
     ensures { (run : List Point) → IsInOrder run → (n : ℕ) (q : Point) (counts : ℕ → ℕ) →
         slice_get run n ≡ Some q → TimesOf run n counts → IsTimesOf run q counts }
+{}
+
+/// Kept accesses that each live hart knows of may go, and harts may end: what is left still suffices for the live ones.
+pub fn known_accesses_may_go()
+    ensures { (run : List Point) (live still : ℕ → Bool) (word : ℕ) (kept : List Kept) (goes : Kept → Bool) →
+        ((hart : ℕ) → IsTrue (still hart) → IsTrue (live hart)) →
+        ((k : Kept) (m : ℕ) → In kept k → KeptAt run word m k → IsTrue (goes k) → AllKnow run still m) →
+        Suffices run live word kept → Suffices run still word (filter (λ k. not (goes k)) kept) }
 {}

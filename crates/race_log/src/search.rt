@@ -21,12 +21,22 @@ fn is_newer(best: &Option<Kept>, turn: u64) -> bool
 }
 
 // The latest source among what is kept of a word, or `best` where none is later.
-fn latest_of(best: Option<Kept>, times: &Times, hart: HartId, writes: bool, kept: &[Kept]) -> Option<Kept>
+fn latest_of(
+    best: Option<Kept>,
+    times: &Times,
+    hart: HartId,
+    writes: bool,
+    kept: &[Kept],
+) -> Option<Kept>
     ensures { result ≡ latest hart writes (count_of times.now) best kept.now }
 {
     let mut best = best;
     for k in kept {
-        if k.hart != hart && (k.mode.is_write() || writes) && !times.covers(k.hart, k.ic) && is_newer(&best, k.turn) {
+        if k.hart != hart
+            && (k.mode.is_write() || writes)
+            && !times.covers(k.hart, k.ic)
+            && is_newer(&best, k.turn)
+        {
             best = Some(*k);
         }
     }

@@ -39,6 +39,7 @@ impl Shadow {
         ensures harts { IfOk result (λ s. harts_of s ≡ settings.now.harts) }
         ensures turn { IfOk result (λ s. next_turn s ≡ 0) }
         ensures counts { IfOk result (λ s. (h : ℕ) → next_count s h ≡ 0) }
+        ensures reserved { IfOk result (λ s. reserved_range s ≡ None) }
         ensures stands { IfOk result (λ s. (live : ℕ → Bool) → Stands [] live s) }
     {
         let harts = settings.harts();
@@ -113,7 +114,15 @@ impl Shadow {
     {
         let mut times = self.times[hart as usize];
         let most = self.harts as usize - 1;
-        let edges = find_sources(&self.words, &mut times, hart, mode.is_write(), first, count, most);
+        let edges = find_sources(
+            &self.words,
+            &mut times,
+            hart,
+            mode.is_write(),
+            first,
+            count,
+            most,
+        );
         times.set(hart, ic + 1);
         self.times[hart as usize] = times;
         self.last_turn = Some(turn);

@@ -10,9 +10,9 @@ loop-round-preserved c =
     let kept = gathered (kept_in c.args.words.now) c.args.first c.args.count in
     let p = c.push.ensures in
     let s = sources_step c.args.hart c.args.writes (count_of c.loop-round.times) kept c.args.most c.loop-round.round c.in-Some.k
-        (count_of c.merge.new.self) c.loop-round-test.true (sym c.in-Some.ensures) c.merge.ensures in
+    (count_of c.merge.new.self) c.loop-round-test.true (sym c.in-Some.ensures) c.merge.ensures in
     let t = counts_step c.args.hart c.args.writes (count_of c.loop-round.times) kept c.args.most c.loop-round.round c.in-Some.k
-        (count_of c.merge.new.self) c.loop-round-test.true (sym c.in-Some.ensures) c.merge.ensures in
+    (count_of c.merge.new.self) c.loop-round-test.true (sym c.in-Some.ensures) c.merge.ensures in
     record {
       few = omega (arith, c.loop-round.invariant.few, simp length-append at (ap length p));
       found = rw (p, append_assoc) (ap (λ xs. c.loop-round.edges ++ xs) (sym s) ∙ c.loop-round.invariant.found);
@@ -37,12 +37,12 @@ pub returns-in-None-clause-sources : goal.returns-in-None-clause-sources
 returns-in-None-clause-sources c =
     let kept = gathered (kept_in c.args.words.now) c.args.first c.args.count in
     let s = rw (sources_done c.args.hart c.args.writes (count_of c.loop-round.times) kept (c.args.most - c.loop-round.round) (sym c.in-None.ensures))
-        at c.loop-round.invariant.found in
+    at c.loop-round.invariant.found in
     sym (append-nil c.loop-round.edges) ∙ s
 
 pub returns-in-None-clause-counts : goal.returns-in-None-clause-counts
 returns-in-None-clause-counts c =
     let kept = gathered (kept_in c.args.words.now) c.args.first c.args.count in
     let s = rw (counts_done c.args.hart c.args.writes (count_of c.loop-round.times) kept (c.args.most - c.loop-round.round) (sym c.in-None.ensures))
-        at c.loop-round.invariant.counts in
+    at c.loop-round.invariant.counts in
     λ h. ap (λ (f : ℕ → ℕ). f h) s

@@ -34,7 +34,7 @@ pub returns-clause-times : goal.returns-clause-times
 returns-clause-times c = λ run live lives stands h i.
     let known = read_times c.args.self.now c.args.hart c.index.result.now c.requires.hart c.index.ensures in
     let set = set_times c.args.self.now c.args.hart c.args.ic c.args.first c.args.count c.args.mode c.index.result.now c.set.new.self known
-        c.find_sources-edges.new.times c.is_write.result c.is_write.ensures c.find_sources-edges.ensures.counts c.set.ensures in
+    c.find_sources-edges.new.times c.is_write.result c.is_write.ensures c.find_sources-edges.ensures.counts c.set.ensures in
     new_times run c.args.hart c.args.ic c.args.turn c.args.first c.args.count c.args.mode live c.args.self.now stands
     c.requires.hart c.requires.counts c.requires.turns lives (counts_at (slice_get (slice_set c.args.self.now.times.items c.args.hart c.set.new.self) c.args.hart))
     (λ g. counts_here c.args.self.now.times.items c.args.hart c.set.new.self (omega (arith, c.requires.hart, c.args.self.now.each_hart, c.args.self.now.times.ok)) g ∙ set g) h i
@@ -43,7 +43,7 @@ pub returns-clause-stands : goal.returns-clause-stands
 returns-clause-stands c = λ run live lives stands.
     let known = read_times c.args.self.now c.args.hart c.index.result.now c.requires.hart c.index.ensures in
     let set = set_times c.args.self.now c.args.hart c.args.ic c.args.first c.args.count c.args.mode c.index.result.now c.set.new.self known
-        c.find_sources-edges.new.times c.is_write.result c.is_write.ensures c.find_sources-edges.ensures.counts c.set.ensures in
+    c.find_sources-edges.new.times c.is_write.result c.is_write.ensures c.find_sources-edges.ensures.counts c.set.ensures in
     stands_after run c.args.hart c.args.ic c.args.turn c.args.first c.args.count c.args.mode live c.args.self.now stands
     c.requires.hart c.requires.counts c.requires.turns lives (count_of c.set.new.self) set _
     (record { turn = c.args.turn; hart = c.args.hart; ic = c.args.ic; mode = c.args.mode; times = c.set.new.self; in_range = _ })
