@@ -1,5 +1,5 @@
 -- The times in one access of a shadow.
-use Rattle.std.proofs.Common.{◌≡◌, ◌≢◌, ℕ, ◌+◌, ◌-◌, ◌<◌, Bool, true, false, ◌==◌, ◌⊎◌, refl, inl, inr, arith, sym, ap, ◌∙◌, List, length, slice_get, slice_set, slice_index_or, Some, None, vec_len, if◌then◌else◌}
+use Rattle.std.proofs.Common.{◌≡◌, ℕ, ◌+◌, ◌-◌, ◌<◌, Bool, true, false, ◌==◌, refl, inl, inr, arith, sym, ap, ◌∙◌, slice_get, slice_set, slice_index_or, if◌then◌else◌}
 use Rattle.std.proofs.lemmas.Option.{slice_get_read}
 use Rattle.vector_time.specs.declared.times.Times.{Times}
 use Rattle.vector_time.specs.Times.{count_of}
@@ -9,7 +9,6 @@ use Rattle.race_log.specs.Kept.{is_write}
 use Rattle.race_log.specs.Search.{gathered, counts_after}
 use Rattle.race_log.specs.Stands.{harts_of, times_of, next_count, kept_of, counts_at}
 use Rattle.race_log.proofs.BoolFacts.{known, same_number, other_number}
-use Rattle.race_log.proofs.Rounds.{same_counts}
 use Rattle.race_log.proofs.Steps.{counts_here, counts_there}
 
 -- what is read of the times is the hart's

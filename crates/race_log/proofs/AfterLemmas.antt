@@ -1,5 +1,5 @@
 -- What the times say after one more point.
-use Rattle.std.proofs.Common.{◌≡◌, ◌≢◌, ℕ, suc, ◌+◌, ◌<◌, Bool, true, false, ◌⊎◌, ◌==◌, refl, inl, inr, arith, sym, ap, ◌∙◌, List, length, slice_get, Option, Some, None, subst, add-one, if◌then◌else◌}
+use Rattle.std.proofs.Common.{◌≡◌, ◌≢◌, ℕ, ◌+◌, ◌<◌, true, false, ◌==◌, refl, inl, inr, arith, sym, ap, ◌∙◌, List, length, slice_get, Option, Some, None, subst, add-one, if◌then◌else◌}
 use Rattle.race_log.specs.Points.{Point}
 use Rattle.race_log.specs.Netzer.{Before}
 use Rattle.race_log.specs.Netzer.Chain.{one}
@@ -8,7 +8,6 @@ use Rattle.race_log.specs.ByCount.{IsInOrder}
 use Rattle.race_log.specs.Holds.{UpTo, OwnUpTo, Holds, TimesOf}
 use Rattle.race_log.specs.Kept.{after}
 use Rattle.race_log.proofs.BoolFacts.{known, same_number}
-use Rattle.race_log.proofs.Agree.{same_test}
 use Rattle.race_log.proofs.Chains.{chain_rises}
 use Rattle.race_log.proofs.EdgeLaws.{all_rise}
 use Rattle.race_log.proofs.MergeLaws.{is_in, of_hart_at}

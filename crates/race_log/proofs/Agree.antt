@@ -1,5 +1,5 @@
 -- The tests on points, and what they decide.
-use Rattle.std.proofs.Common.{◌≡◌, ◌≢◌, ℕ, ◌<◌, Bool, true, false, not, ◌&&◌, ◌||◌, ◌⊎◌, ◌==◌, refl, inl, inr, arith, sym, ap, ◌∙◌, List, [], ◌∷◌, slice_get, Option, Some, None, nat_lt, lt-ltb, ltb-true}
+use Rattle.std.proofs.Common.{◌≡◌, ◌≢◌, ℕ, Bool, true, not, ◌&&◌, ◌||◌, ◌==◌, refl, inl, inr, arith, sym, ◌∙◌, List, slice_get, Option, Some, None, nat_lt, lt-ltb, ltb-true}
 use Rattle.std.specs.List.{list_any, Any}
 use Rattle.std.proofs.lemmas.List.Folds.{Any-from_list_any, list_any-from_Any}
 use Rattle.race_log.specs.Points.{Point, Access, IsConflict, IsSameHart, Touches, Writes}

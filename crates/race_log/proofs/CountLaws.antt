@@ -1,16 +1,15 @@
 -- Chains over instructions by hart and count, and chains over places.
-use Rattle.std.proofs.Common.{◌≡◌, ℕ, zero, suc, ◌<◌, ◌≤◌, Bool, true, false, ◌⊎◌, ◌==◌, refl, inl, inr, arith, sym, ap, ◌∙◌, List, length, slice_get, Option, Some, None, subst, subst₂, AllPairs, slice_index_or}
+use Rattle.std.proofs.Common.{◌≡◌, ℕ, ◌<◌, ◌≤◌, ◌⊎◌, refl, inl, inr, arith, sym, ap, ◌∙◌, List, slice_get, Some, subst, subst₂, AllPairs}
 use Rattle.std.proofs.lemmas.Option.{get_or_from_slice_get}
-use Rattle.race_log.specs.Points.{Point, IsConflict, IsSameHart}
-use Rattle.race_log.specs.Netzer.{AtPlaces, ProgramOrder, Conflict, Either, Chain, Before, IsEdge}
+use Rattle.race_log.specs.Points.{Point, IsConflict}
+use Rattle.race_log.specs.Netzer.{ProgramOrder, Conflict, Either, Before, IsEdge}
 use Rattle.race_log.specs.Netzer.Chain.{one, more}
 use Rattle.race_log.specs.ByCount.{IsInOrder, IsPointAt, Step, Leads, IsEdgeBetween, IsUpTo, IsTimesOf}
 use Rattle.race_log.specs.ByCount.Step.{onward, across}
 use Rattle.race_log.specs.ByCount.Leads.{by_one, by_more}
-use Rattle.race_log.specs.Holds.{UpTo, Holds, TimesOf}
-use Rattle.race_log.proofs.BoolFacts.{known}
-use Rattle.race_log.proofs.Chains.{chain_join, chain_rises}
-use Rattle.race_log.proofs.EdgeLaws.{one_point, orders_apart, all_rise}
+use Rattle.race_log.specs.Holds.{UpTo, TimesOf}
+use Rattle.race_log.proofs.Chains.{chain_join}
+use Rattle.race_log.proofs.EdgeLaws.{one_point, orders_apart}
 use Rattle.race_log.proofs.MergeLaws.{is_in}
 
 -- a relation of all pairs of a run's points, at two of them

@@ -1,5 +1,5 @@
 -- The laws of a run's edges.
-use Rattle.std.proofs.Common.{◌≡◌, ℕ, Bool, true, false, not, ◌&&◌, ◌||◌, ◌⊎◌, refl, inl, inr, sym, ◌∙◌, ap, List, slice_get, Some}
+use Rattle.std.proofs.Common.{◌≡◌, ℕ, true, false, not, ◌&&◌, ◌⊎◌, refl, inl, inr, sym, ◌∙◌, ap, List, slice_get, Some}
 use Rattle.race_log.specs.Points.{Point, IsConflict, IsSameHart}
 use Rattle.race_log.specs.Netzer.{AtPlaces, ProgramOrder, Conflict, Either, Chain, Before, IsEdge, OtherThan}
 use Rattle.race_log.specs.Tests.{either, any_below, conflict, program_order, before, edge}

@@ -1,5 +1,5 @@
 -- What is kept of a word after one more point.
-use Rattle.std.proofs.Common.{◌≡◌, ◌≢◌, ℕ, Bool, true, false, not, ◌&&◌, ◌||◌, ◌⊎◌, ◌==◌, refl, inl, inr, sym, ap, ◌∙◌, List, [], ◌∷◌, ◌++◌, length, filter, slice_get, Some, subst}
+use Rattle.std.proofs.Common.{◌≡◌, ℕ, Bool, true, false, not, ◌&&◌, ◌||◌, ◌⊎◌, ◌==◌, refl, inl, inr, sym, ap, ◌∙◌, List, [], ◌∷◌, ◌++◌, length, filter, subst}
 use Rattle.vector_time.specs.Times.{count_of}
 use Rattle.race_log.specs.Points.{Point}
 use Rattle.race_log.specs.Netzer.{Before}
@@ -7,9 +7,9 @@ use Rattle.race_log.specs.Tests.{touches, writes_word}
 use Rattle.race_log.specs.ByCount.{IsInOrder}
 use Rattle.race_log.specs.Holds.{UpTo, TimesOf}
 use Rattle.race_log.specs.declared.kept.Kept.{Kept}
-use Rattle.race_log.specs.Kept.{is_write, after, In, KeptAt, AllKnow, KeptSince, Suffices, stays}
+use Rattle.race_log.specs.Kept.{is_write, after, In, KeptAt, AllKnow, Suffices, stays}
 use Rattle.race_log.proofs.BoolFacts.{or_second, known, same_number, other_number}
-use Rattle.race_log.proofs.Agree.{touches_is, is_touches, writes_is, any_map}
+use Rattle.race_log.proofs.Agree.{is_touches, writes_is, any_map}
 use Rattle.race_log.proofs.MergeLaws.{is_in, of_hart_at}
 use Rattle.race_log.proofs.RangeLemmas.{IsOfOneKind}
 use Rattle.race_log.proofs.Next.{get_old, old_at, get_new, in_after, up_new, step_last, order_own, conflict_new}

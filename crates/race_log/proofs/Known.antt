@@ -1,21 +1,20 @@
 -- What a shadow's answers and times mean by hart and count.
-use Rattle.std.proofs.Common.{◌≡◌, ◌≢◌, ℕ, zero, suc, ◌<◌, ◌≤◌, Bool, true, ◌⊎◌, ◌↔◌, refl, inl, inr, arith, sym, ap, ◌∙◌, List, [], ◌∷◌, length, slice_get, slice_index_or, Option, Some, None, map, subst, All, Contains}
+use Rattle.std.proofs.Common.{◌≡◌, ◌≢◌, ℕ, ◌<◌, Bool, true, ◌↔◌, refl, inl, inr, arith, sym, ap, ◌∙◌, List, [], ◌∷◌, length, slice_get, Option, Some, None, map, subst, All, Contains}
 use Rattle.race_log.specs.declared.shadow.Shadow.{Shadow}
 use Rattle.race_log.specs.Points.{Point}
-use Rattle.race_log.specs.Netzer.{Before}
 use Rattle.race_log.specs.Netzer.Chain.{one}
 use Rattle.race_log.specs.Tests.{edge, edges_into, sources_into, name_of}
 use Rattle.race_log.specs.Merges.{is_of_hart}
 use Rattle.race_log.specs.ByCount.{IsInOrder, IsPointAt, IsEdgeBetween, IsLatestPoint, IsTimesOf}
-use Rattle.race_log.specs.Holds.{UpTo, OwnUpTo, Holds, TimesOf}
+use Rattle.race_log.specs.Holds.{UpTo, OwnUpTo}
 use Rattle.race_log.specs.Kept.{after, In}
 use Rattle.race_log.specs.Stands.{Stands, harts_of, times_of}
 use Rattle.race_log.proofs.BoolFacts.{same_number}
-use Rattle.race_log.proofs.EdgeLaws.{edge_is, is_edge, one_point}
+use Rattle.race_log.proofs.EdgeLaws.{edge_is, is_edge}
 use Rattle.race_log.proofs.MergeLaws.{is_in, of_hart_at}
 use Rattle.race_log.proofs.CountLaws.{less_or, ordered, before_up, edge_between, between_edge, times_of as times_are}
 use Rattle.race_log.proofs.Listed.{in_contains, contains_in, listed_passes, passes_listed}
-use Rattle.race_log.proofs.Next.{get_old, old_at, get_new, in_after}
+use Rattle.race_log.proofs.Next.{get_old, old_at, get_new}
 use Rattle.race_log.proofs.HoldsLemmas.{holds_map}
 use Rattle.race_log.proofs.Steps.{all_at}
 

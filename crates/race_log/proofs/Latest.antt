@@ -1,5 +1,5 @@
 -- The latest source among kept accesses, and how many harts still have one.
-use Rattle.std.proofs.Common.{◌≡◌, ℕ, zero, suc, ◌<◌, ◌≤◌, Bool, true, false, not, ◌&&◌, ◌||◌, ◌⊎◌, ◌==◌, refl, inl, inr, arith, sym, ◌∙◌, List, [], ◌∷◌, Option, Some, None, cond, nat_lt}
+use Rattle.std.proofs.Common.{◌≡◌, ℕ, zero, suc, ◌<◌, ◌≤◌, Bool, true, false, ◌&&◌, ◌⊎◌, ◌==◌, refl, inl, inr, arith, sym, ◌∙◌, List, [], ◌∷◌, Option, Some, None, cond, nat_lt}
 use Rattle.std.specs.List.{list_any}
 use Rattle.race_log.specs.Search.{is_source, latest, newer}
 use Rattle.race_log.specs.declared.kept.Kept.{Kept}

@@ -1,13 +1,13 @@
 -- Merges of the harts' lists.
-use Rattle.std.proofs.Common.{◌≡◌, ℕ, zero, suc, ◌+◌, ◌<◌, ◌≤◌, Bool, true, false, ◌&&◌, ◌⊎◌, ◌==◌, refl, inl, inr, arith, sym, ap, ◌∙◌, List, [], ◌∷◌, length, slice_get, Some, filter}
-use Rattle.race_log.specs.Points.{Point, MeetAt, IsConflict, IsSameHart}
-use Rattle.race_log.specs.Netzer.{AtPlaces, Chain, Either, ProgramOrder, Conflict, IsEdge, Chosen, EndingAfter}
+use Rattle.std.proofs.Common.{◌≡◌, ℕ, zero, suc, ◌+◌, ◌<◌, ◌≤◌, Bool, true, false, ◌&&◌, ◌⊎◌, ◌==◌, refl, inl, inr, arith, ap, ◌∙◌, List, [], ◌∷◌, length, slice_get, Some, filter}
+use Rattle.race_log.specs.Points.{Point, MeetAt}
+use Rattle.race_log.specs.Netzer.{AtPlaces, Chain, Either, ProgramOrder, Conflict, IsEdge, EndingAfter}
 use Rattle.race_log.specs.Netzer.Chain.{one, more}
-use Rattle.race_log.specs.Merges.{is_of_hart, count_up, place, StandsIn, Precedes, own_list, own_part, IsMerge, Respects}
+use Rattle.race_log.specs.Merges.{is_of_hart, count_up, place, StandsIn, Precedes, IsMerge, Respects}
 use Rattle.race_log.proofs.BoolFacts.{both, known, same_number, other_number}
 use Rattle.race_log.proofs.Agree.{same_test}
-use Rattle.race_log.proofs.Chains.{chain_rises, chain_map}
-use Rattle.race_log.proofs.EdgeLaws.{places_rise, one_point, edges_lead}
+use Rattle.race_log.proofs.Chains.{chain_map}
+use Rattle.race_log.proofs.EdgeLaws.{one_point, edges_lead}
 
 pub place_at : (x m : ℕ) (xs : List ℕ) → (x == m) ≡ true → place (x ∷ xs) m ≡ 0
 place_at x m xs e = rw e

@@ -1,11 +1,10 @@
 -- A shadow that knows of no point.
-use Rattle.std.proofs.Common.{◌≡◌, ℕ, zero, suc, ◌+◌, ◌<◌, Bool, true, ◌⊎◌, refl, inl, arith, List, [], ◌∷◌, ◌++◌, slice_get, Option, Some, None, subst, All, AllPairs}
+use Rattle.std.proofs.Common.{◌≡◌, ℕ, zero, suc, Bool, refl, inl, arith, List, [], ◌∷◌, ◌++◌, slice_get, Some, subst}
 use Rattle.vector_time.specs.declared.times.Times.{Times}
 use Rattle.vector_time.specs.Times.{count_of}
-use Rattle.race_log.specs.declared.kept.Kept.{Kept}
 use Rattle.race_log.specs.declared.shadow.Shadow.{Shadow}
 use Rattle.race_log.specs.Points.{Point}
-use Rattle.race_log.specs.Kept.{In, Suffices}
+use Rattle.race_log.specs.Kept.{Suffices}
 use Rattle.race_log.specs.Stands.{Stands, times_of, kept_of, counts_at}
 
 no_point : (m : ℕ) (p : Point) → slice_get [] m ≡ Some p → ⊥

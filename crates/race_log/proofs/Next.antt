@@ -1,5 +1,5 @@
 -- A run and one more point.
-use Rattle.std.proofs.Common.{◌≡◌, ◌≢◌, ℕ, zero, suc, ◌<◌, Bool, true, ◌⊎◌, ◌==◌, refl, inl, inr, arith, sym, ap, ◌∙◌, List, [], ◌∷◌, length, slice_get, Option, Some, None, subst, subst₂}
+use Rattle.std.proofs.Common.{◌≡◌, ℕ, zero, suc, ◌<◌, true, ◌⊎◌, refl, inl, inr, arith, sym, ap, ◌∙◌, List, [], ◌∷◌, length, slice_get, Option, Some, None, subst}
 use Rattle.race_log.specs.Points.{Point, IsConflict, IsSameHart}
 use Rattle.race_log.specs.Netzer.{AtPlaces, ProgramOrder, Conflict, Either, Before}
 use Rattle.race_log.specs.Netzer.Chain.{one, more}

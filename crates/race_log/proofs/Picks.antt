@@ -1,18 +1,17 @@
 -- The rounds find the sources of all edges into a new point.
-use Rattle.std.proofs.Common.{◌≡◌, ℕ, zero, suc, ◌-◌, ◌<◌, ◌≤◌, Bool, true, false, not, ◌&&◌, ◌||◌, ◌⊎◌, ◌==◌, refl, inl, inr, arith, sym, ap, ap₂, ◌∙◌, List, [], ◌∷◌, length, slice_get, Option, Some, None, nat_lt, lt-ltb, ltb-true, map}
+use Rattle.std.proofs.Common.{◌≡◌, ℕ, zero, suc, ◌-◌, ◌<◌, ◌≤◌, Bool, true, not, ◌&&◌, ◌||◌, ◌⊎◌, ◌==◌, refl, inl, inr, arith, sym, ap, ap₂, ◌∙◌, List, [], ◌∷◌, slice_get, Option, Some, None, nat_lt, lt-ltb, map}
 use Rattle.vector_time.specs.Times.{count_of}
 use Rattle.race_log.specs.Points.{Point}
-use Rattle.race_log.specs.Netzer.{Before, Conflict, IsEdge}
 use Rattle.race_log.specs.Tests.{touches, name_of}
-use Rattle.race_log.specs.Holds.{UpTo, OwnUpTo, Holds}
+use Rattle.race_log.specs.Holds.{UpTo, Holds}
 use Rattle.race_log.specs.declared.kept.Kept.{Kept}
-use Rattle.race_log.specs.Kept.{is_write, after, In, KeptAt}
+use Rattle.race_log.specs.Kept.{is_write, In, KeptAt}
 use Rattle.race_log.specs.Search.{is_source, latest, merged, sources, counts_after}
 use Rattle.race_log.proofs.BoolFacts.{and_left, and_right, both, known, not_true, same_number}
 use Rattle.race_log.proofs.Agree.{same_test}
 use Rattle.race_log.proofs.EdgeLaws.{one_point}
 use Rattle.race_log.proofs.Listed.{Falling}
-use Rattle.race_log.proofs.CountLaws.{pair_at, less_or, before_up}
+use Rattle.race_log.proofs.CountLaws.{pair_at, less_or}
 use Rattle.race_log.proofs.RangeLemmas.{IsOfOneKind}
 use Rattle.race_log.proofs.HoldsLemmas.{holds_map, holds_merge}
 use Rattle.race_log.proofs.Latest.{IsLatest, latest_is, none_is, passing, passing_less, passing_but, has_source, source_found, found_source}

@@ -1,6 +1,6 @@
 -- A point that reads or writes all words of a range.
-use Rattle.std.proofs.Common.{◌≡◌, ◌≢◌, ℕ, zero, suc, ◌+◌, ◌*◌, ◌<◌, Bool, true, false, ◌||◌, ◌⊎◌, ◌==◌, refl, inl, inr, arith, sym, ap, ◌∙◌, List, [], ◌∷◌, length, slice_index_or}
-use Rattle.std.specs.List.{list_any, Any}
+use Rattle.std.proofs.Common.{◌≡◌, ◌≢◌, ℕ, zero, suc, ◌+◌, ◌*◌, ◌<◌, Bool, true, false, ◌||◌, ◌==◌, inl, inr, arith, sym, ap, ◌∙◌, length, slice_index_or}
+use Rattle.std.specs.List.{list_any}
 use Rattle.race_log.specs.declared.mode.Mode.{Mode}
 use Rattle.race_log.specs.Points.{Point, Access, IsConflict, Touches, Writes}
 use Rattle.race_log.specs.Tests.{touches, writes_word}

@@ -1,7 +1,7 @@
 -- Kept accesses of a new point's words, and when they are sources of edges into it.
-use Rattle.std.proofs.Common.{◌≡◌, ◌≢◌, ℕ, ◌<◌, ◌≤◌, Bool, true, false, not, ◌&&◌, ◌||◌, ◌⊎◌, ◌==◌, refl, inl, inr, arith, sym, ap, ◌∙◌, List, length, slice_get, Option, Some, None, nat_lt, lt-ltb, ltb-true}
+use Rattle.std.proofs.Common.{◌≡◌, ◌≢◌, ℕ, ◌<◌, ◌≤◌, Bool, true, not, ◌&&◌, ◌||◌, ◌⊎◌, ◌==◌, refl, inl, inr, arith, sym, ap, ◌∙◌, List, length, slice_get, Some, nat_lt, lt-ltb, ltb-true}
 use Rattle.vector_time.specs.Times.{count_of}
-use Rattle.race_log.specs.Points.{Point, IsConflict}
+use Rattle.race_log.specs.Points.{Point}
 use Rattle.race_log.specs.Netzer.{Before, Conflict, IsEdge}
 use Rattle.race_log.specs.Netzer.Chain.{one}
 use Rattle.race_log.specs.Tests.{touches, writes_word, name_of}
@@ -13,12 +13,11 @@ use Rattle.race_log.specs.Kept.{is_write, after, In, KeptAt, Suffices}
 use Rattle.race_log.specs.Search.{is_source}
 use Rattle.race_log.proofs.BoolFacts.{and_left, and_right, both, or_split, or_first, or_second, known, not_true, true_not, same_number, other_number}
 use Rattle.race_log.proofs.Agree.{same_test}
-use Rattle.race_log.proofs.Chains.{chain_rises, chain_join}
+use Rattle.race_log.proofs.Chains.{chain_rises}
 use Rattle.race_log.proofs.EdgeLaws.{all_rise, orders_apart, one_point}
 use Rattle.race_log.proofs.MergeLaws.{of_hart_at}
-use Rattle.race_log.proofs.CountLaws.{pair_at, less_or, up_before, before_up}
+use Rattle.race_log.proofs.CountLaws.{pair_at, less_or, before_up}
 use Rattle.race_log.proofs.RangeLemmas.{IsOfOneKind}
-use Rattle.race_log.proofs.AfterLemmas.{own_in}
 use Rattle.race_log.proofs.Next.{before_old, before_new, last_step, step_last, own_order, order_own, new_conflict, conflict_new}
 
 pub up_join : (run : List Point) {m k n : ℕ} → UpTo run m k → UpTo run k n → UpTo run m n

@@ -1,5 +1,5 @@
 -- One access of a shadow.
-use Rattle.std.proofs.Common.{◌≡◌, ◌≢◌, ℕ, zero, suc, ◌+◌, ◌*◌, ◌-◌, ◌<◌, ◌≤◌, Bool, true, false, ◌⊎◌, ◌==◌, refl, inl, inr, arith, sym, ap, ap₂, ◌∙◌, List, [], ◌∷◌, ◌++◌, length, slice_get, slice_set, slice_index_or, Option, Some, None, filter, map, subst, All, AllPairs, if◌then◌else◌}
+use Rattle.std.proofs.Common.{◌≡◌, ◌≢◌, ℕ, zero, suc, ◌+◌, ◌*◌, ◌-◌, ◌<◌, ◌≤◌, Bool, true, false, ◌⊎◌, ◌==◌, refl, inl, inr, arith, sym, ap, ap₂, ◌∙◌, List, [], ◌∷◌, ◌++◌, length, slice_get, slice_set, slice_index_or, Some, filter, map, subst, All, if◌then◌else◌}
 use Rattle.std.proofs.lemmas.Option.{get_or_from_slice_get, slice_get-get_or}
 use Rattle.std.proofs.lemmas.List.Quantifiers.{all_pairs_push}
 use Rattle.std.proofs.lemmas.List.Elements.{All-push}
@@ -9,22 +9,21 @@ use Rattle.race_log.specs.declared.mode.Mode.{Mode}
 use Rattle.race_log.specs.declared.kept.Kept.{Kept}
 use Rattle.race_log.specs.declared.shadow.Shadow.{Shadow}
 use Rattle.race_log.specs.Points.{Point}
-use Rattle.race_log.specs.Netzer.{IsEdge}
 use Rattle.race_log.specs.Tests.{touches, edge, edges_into, sources_into, name_of}
 use Rattle.race_log.specs.ByCount.{IsInOrder, IsTimesOf}
-use Rattle.race_log.specs.Holds.{UpTo, OwnUpTo, Holds, TimesOf}
-use Rattle.race_log.specs.Kept.{is_write, accesses_from, access_point, after, In, Suffices, stays, kept_after}
+use Rattle.race_log.specs.Holds.{OwnUpTo, Holds, TimesOf}
+use Rattle.race_log.specs.Kept.{is_write, access_point, after, In, Suffices, stays, kept_after}
 use Rattle.race_log.specs.Search.{gathered, sources, counts_after}
 use Rattle.race_log.specs.Words.{KeepsAccess}
 use Rattle.race_log.specs.Stands.{Stands, KnowsSame, harts_of, next_turn, next_count, times_of, kept_of, counts_at}
 use Rattle.race_log.proofs.BoolFacts.{known}
 use Rattle.race_log.proofs.EdgeLaws.{edge_is, is_edge}
 use Rattle.race_log.proofs.MergeLaws.{is_in, of_hart_at}
-use Rattle.race_log.proofs.CountLaws.{times_of as times_are, less_or}
+use Rattle.race_log.proofs.CountLaws.{times_of as times_are}
 use Rattle.race_log.proofs.Listed.{Falling, falling_is}
 use Rattle.race_log.proofs.Rounds.{same_counts}
 use Rattle.race_log.proofs.RangeLemmas.{IsOfOneKind, one_kind, range_words, in_range}
-use Rattle.race_log.proofs.Next.{get_old, get_new, in_after}
+use Rattle.race_log.proofs.Next.{get_old, get_new}
 use Rattle.race_log.proofs.AfterLemmas.{own_old, times_new, own_new}
 use Rattle.race_log.proofs.Sources.{Ready, start_told}
 use Rattle.race_log.proofs.Picks.{Picked, picks, first_few}

@@ -1,5 +1,5 @@
 -- Accesses kept of the words of a range.
-use Rattle.std.proofs.Common.{◌≡◌, ◌≢◌, ℕ, ◌+◌, ◌*◌, ◌<◌, ◌≤◌, Bool, true, false, ◌==◌, ◌⊎◌, refl, inl, inr, arith, ap, ◌∙◌, List, if◌then◌else◌}
+use Rattle.std.proofs.Common.{◌≡◌, ◌≢◌, ℕ, ◌+◌, ◌*◌, ◌<◌, true, ◌==◌, ◌⊎◌, refl, inl, inr, arith, ap, ◌∙◌, List, if◌then◌else◌}
 use Rattle.race_log.specs.declared.kept.Kept.{Kept}
 use Rattle.race_log.specs.Kept.{kept_after}
 use Rattle.race_log.specs.Words.{KeepsAccess}

@@ -1,5 +1,5 @@
 -- The points of a run: what they access, and when two of them conflict.
-use Rattle.std.specs.Prelude.{◌≡◌, ◌≢◌, ℕ, ◌<◌, Bool, true, ◌⊎◌, List, slice_get, Some}
+use Rattle.std.specs.Prelude.{◌≡◌, ◌≢◌, ℕ, Bool, true, ◌⊎◌, List}
 use Rattle.std.specs.List.{Any}
 
 -- an aligned word, by its byte address, that a point reads or writes

@@ -1,9 +1,7 @@
 -- Kept accesses by word.
 use Rattle.std.specs.Prelude.{◌≡◌, ◌≢◌, ℕ, ◌+◌, ◌*◌, ◌<◌, Bool, false, List, [], nat_lt, nat_eq, Option, Some, None, Vec, vec_len, vec_capacity, IsTrue}
 use Rattle.std.specs.Global.{Global}
-use Rattle.std.specs.declared.hash.FoldHasher.{FoldHasher}
-use Rattle.std.specs.declared.hash.BuildHasherDefault.{BuildHasherDefault}
-use Rattle.std.specs.HashMap.{get, HashMap}
+use Rattle.std.specs.HashMap.{get}
 use Rattle.race_log.specs.declared.kept.Kept.{Kept}
 use Rattle.race_log.specs.declared.words.KeptWords.{KeptWords}
 use Rattle.race_log.specs.Kept.{kept_after}

@@ -1,4 +1,4 @@
-use Rattle.std.proofs.Common.{◌≡◌, ◌+◌, ◌*◌, ◌-◌, ◌∙◌, ap, sym, None}
+use Rattle.std.proofs.Common.{◌+◌, ◌*◌, ◌-◌, ◌∙◌, ap, sym}
 use Rattle.vector_time.specs.Times.{count_of}
 use Rattle.race_log.specs.Search.{gathered, latest}
 use Rattle.race_log.specs.Words.{kept_in}

@@ -1,12 +1,11 @@
-use Rattle.std.proofs.Common.{◌≡◌, ◌≢◌, ◌+◌, ◌*◌, ◌-◌, ◌<◌, ◌∙◌, ℕ, Bool, List, IsTrue, Some, None, arith, refl, sym, ap, length, vec_len, slice_get, slice_set, if◌then◌else◌, Contains, ◌↔◌, subst}
-use Rattle.std.proofs.lemmas.Option.{slice_get_read}
+use Rattle.std.proofs.Common.{◌-◌, ◌∙◌, arith, refl, sym, ap, slice_get, slice_set, Contains, ◌↔◌, subst}
 use Rattle.vector_time.specs.Times.{count_of}
 use Rattle.race_log.specs.Kept.{is_write, access_point, after}
 use Rattle.race_log.specs.Points.{Point}
 use Rattle.race_log.specs.ByCount.{IsPointAt, IsEdgeBetween}
-use Rattle.race_log.specs.Search.{gathered, sources, counts_after}
+use Rattle.race_log.specs.Search.{gathered, sources}
 use Rattle.race_log.specs.Words.{kept_in}
-use Rattle.race_log.specs.Stands.{times_of, counts_at, next_count}
+use Rattle.race_log.specs.Stands.{counts_at}
 use Rattle.race_log.proofs.AccessLemmas.{read_times, set_times, counts_set}
 use Rattle.race_log.proofs.Known.{listed_exactly}
 use Rattle.race_log.proofs.Steps.{now_in_order, found_edges, stands_after, new_times, counts_here, counts_there}

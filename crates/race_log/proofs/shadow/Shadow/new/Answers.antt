@@ -1,4 +1,4 @@
-use Rattle.std.proofs.Common.{◌≡◌, ◌+◌, ℕ, arith, subst, sym, vec_len}
+use Rattle.std.proofs.Common.{arith, subst, sym}
 use Rattle.race_log.proofs.NewLemmas.{AllZero, zero_none, zero_more, zero_at, stands_none}
 use Rattle.race_log.proofs.shadow.Shadow.new.Goals as goal
 

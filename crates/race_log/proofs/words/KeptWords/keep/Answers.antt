@@ -1,5 +1,5 @@
-use Rattle.std.proofs.Common.{◌≡◌, ◌≢◌, ◌+◌, ◌*◌, ◌<◌, ◌≤◌, ℕ, IsTrue, arith, subst, sym}
-use Rattle.race_log.specs.Words.{kept_in, has_room}
+use Rattle.std.proofs.Common.{◌+◌, ◌*◌, IsTrue, arith, subst, sym}
+use Rattle.race_log.specs.Words.{kept_in}
 use Rattle.race_log.proofs.WordLemmas.{keeps_more}
 use Rattle.race_log.proofs.words.KeptWords.keep.Goals as goal
 

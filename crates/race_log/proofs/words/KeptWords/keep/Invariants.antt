@@ -1,4 +1,4 @@
-use Rattle.std.proofs.Common.{◌≡◌, ℕ, ◌+◌, ◌*◌, ◌<◌, ◌≤◌, IsTrue}
+use Rattle.std.proofs.Common.{ℕ, ◌+◌, ◌*◌, ◌<◌, ◌≤◌, IsTrue}
 use Rattle.race_log.specs.Words.{kept_in, has_room, KeepsAccess}
 use Rattle.race_log.proofs.words.KeptWords.keep.Given as goal
 
