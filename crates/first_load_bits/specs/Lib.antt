@@ -1,4 +1,7 @@
+pub mod Cached
 pub mod Events
 pub mod History
 pub mod Lines
+pub mod Sets
+pub mod Stands
 pub mod Warm

@@ -1,7 +1,11 @@
 // First-load bits: which words a hart still knows.
 #![tactic(auto)]
 
+pub mod cache;
 pub mod laws;
 pub mod line;
+pub mod warm;
 
+pub use cache::Cache;
 pub use line::Line;
+pub use warm::Warm;
