@@ -134,3 +134,17 @@ from_warm g a es w h =
 
 pub warm_is : (g : Geometry) (a : ℕ) (es : List Event) → 0 < g.ways → (IsTrue (warm g a es) ↔ IsWarm g a es)
 warm_is g a es w = (is_warm g a es w, from_warm g a es w)
+
+-- ---- only a touch of a word warms it
+
+pub warm_before_touch : (g : Geometry) (a b : ℕ) (es : List Event) → word_of b ≢ word_of a → warm g a (Touch b ∷ es) ≡ true → warm g a es ≡ true
+warm_before_touch g a b es n h = let other = ne_eqb (word_of b) (word_of a) n in elim (cases_Bool (held g (line_of g a) (Touch b ∷ es))) [
+  | inl t ↦ sym (warm_touch_held g a b es other t) ∙ h
+  | inr f ↦ absurd (false≢true (sym (warm_touch_lost g a b es other f) ∙ h))
+]
+
+pub warm_before_drop : (g : Geometry) (a b : ℕ) (es : List Event) → warm g a (Drop b ∷ es) ≡ true → (line_of g b ≢ line_of g a) × (warm g a es ≡ true)
+warm_before_drop g a b es h = elim (eqb_tells (line_of g b) (line_of g a)) [
+  | inl p ↦ absurd (false≢true (sym (warm_drop_own g a b es p.0) ∙ h))
+  | inr p ↦ (p.1, sym (warm_drop_other g a b es p.0) ∙ h)
+]

@@ -5,3 +5,4 @@ pub mod Lines
 pub mod Sets
 pub mod Stands
 pub mod Warm
+pub mod Worked

@@ -1,9 +1,11 @@
-// First-load bits: which words a hart still knows.
+//! First-load bits: which words a hart still knows.
 #![tactic(auto)]
 
 pub mod cache;
 pub mod laws;
 pub mod line;
+#[cfg(test)]
+mod tests;
 pub mod warm;
 
 pub use cache::Cache;

@@ -1,6 +1,6 @@
 use Rattle.first_load_bits.proofs.Bits.{bits_law}
 use Rattle.first_load_bits.proofs.Order.{lines_law, length-lines}
-use Rattle.first_load_bits.proofs.laws.lists_give_the_history.Goals as goal
+use Rattle.first_load_bits.proofs.laws.lists_say_the_history.Goals as goal
 
 pub returns-clause-order : goal.returns-clause-order
 returns-clause-order c = lines_law
