@@ -32,21 +32,26 @@ pub fn only_a_touch_warms()
 {
 }
 
-/// The answers of small histories.
+/// Small histories, with the answers of their touches and the lists that they lead to.
 pub fn worked_examples()
-    // The one line is lost to the next word.
+    // The one line is lost to the next word. An address of any byte names the word.
     ensures lost { answers smallest [] (Touch 0 ∷ Touch 4 ∷ Touch 0 ∷ []) ≡ false ∷ false ∷ false ∷ [] }
-    ensures kept { answers smallest [] (Touch 0 ∷ Touch 0 ∷ Touch 3 ∷ []) ≡ false ∷ true ∷ true ∷ [] }
+    ensures byte { answers smallest [] (Touch 0 ∷ Touch 0 ∷ Touch 3 ∷ []) ≡ false ∷ true ∷ true ∷ [] }
 
-    // A write of another hart to the next word drops the whole line.
+    // A drop that names the next word drops the whole line, and spares the next line.
     ensures dropped { answers small [] (Touch 0x20000 ∷ Drop 0x20004 ∷ Touch 0x20000 ∷ []) ≡ false ∷ false ∷ [] }
     ensures spared { answers small [] (Touch 0x20000 ∷ Drop 0x20010 ∷ Touch 0x20000 ∷ []) ≡ false ∷ true ∷ [] }
 
-    // A clear clears the bits and keeps the lines in their order: the line at 0 is the next to be lost.
-    ensures cleared { answers small [] (Touch 0 ∷ Touch 0x20 ∷ Clear ∷ Touch 0x20 ∷ Touch 0x40 ∷ Touch 0x20 ∷ Touch 0 ∷ []) ≡ false ∷ false ∷ false ∷ false ∷ true ∷ false ∷ [] }
+    // A word is touched for itself alone, and after a clear it is cold once.
+    ensures neighbour { answers small [] (Touch 0x20000 ∷ Touch 0x20004 ∷ Touch 0x20004 ∷ []) ≡ false ∷ false ∷ true ∷ [] }
+    ensures cleared { answers small [] (Touch 0x20000 ∷ Clear ∷ Touch 0x20000 ∷ Touch 0x20000 ∷ []) ≡ false ∷ false ∷ true ∷ [] }
 
-    // Of three lines of one set the one touched longest ago is lost, and lines of the other set count for nothing.
+    // Of three lines of one set the one touched longest ago is lost. Lines of the other set count for nothing.
     ensures oldest { answers small [] (Touch 0 ∷ Touch 0x20 ∷ Touch 0 ∷ Touch 0x40 ∷ Touch 0 ∷ Touch 0x20 ∷ []) ≡ false ∷ false ∷ true ∷ false ∷ true ∷ false ∷ [] }
     ensures other_set { answers small [] (Touch 0 ∷ Touch 0x10 ∷ Touch 0x30 ∷ Touch 0x50 ∷ Touch 0 ∷ []) ≡ false ∷ false ∷ false ∷ false ∷ true ∷ [] }
+
+    // A touch puts its line in front, and a clear keeps the lines in their order.
+    ensures front { lines small 0 (Touch 4 ∷ Touch 0x28 ∷ Touch 0 ∷ []) ≡ record { number = 0; bits = 3 } ∷ record { number = 2; bits = 4 } ∷ [] }
+    ensures order { lines small 0 (Clear ∷ Touch 0x28 ∷ Touch 0 ∷ []) ≡ record { number = 2; bits = 0 } ∷ record { number = 0; bits = 0 } ∷ [] }
 {
 }

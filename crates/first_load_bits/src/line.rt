@@ -1,4 +1,4 @@
-// The lines that a set lists.
+//! The lines that a set lists, the one touched latest first.
 ghost use Rattle.std.specs.Prelude.{◌≡◌, ℕ, All, ◌<◌, ◌≤◌, ◌^◌, ◌∷◌, take, map, bit_or, vec_len, vec_capacity, if◌then◌else◌, ◌==◌};
 ghost use Rattle.std.specs.Int.{bit_at};
 ghost use Rattle.first_load_bits.specs.Lines.{bits_of, all_but, cleared};
@@ -6,12 +6,12 @@ ghost use Rattle.first_load_bits.specs.Sets.{lists_of, HasRoom};
 
 use crate::warm::Warm;
 
-/// A line that a set lists.
+/// A line that a set lists: it has a number and bits, and no contents of memory.
 #[derive(Clone, Copy, Debug, PartialEq, Eq, Drop)]
 pub struct Line {
-    /// Its number: an address in it, divided by the bytes of a line.
+    /// Its number: an address in it, divided by the number of bytes in a line.
     pub number: u32,
-    /// One bit for each of its words, the lowest bit for the first word.
+    /// One bit for each of its words, at most 16, the lowest bit for the first word.
     pub bits: u16,
 }
 
@@ -27,8 +27,8 @@ fn bits_of(lines: &[Line], number: u32) -> u16
     0
 }
 
-// Takes a line out.
-pub(crate) fn drop_line(lines: &mut Vec<Line>, number: u32)
+// Takes a line out of a list.
+pub(crate) fn take_out(lines: &mut Vec<Line>, number: u32)
     ensures lines { lines.new.items ≡ all_but number lines.old.items }
     ensures length { vec_len lines.new ≤ vec_len lines.old }
     ensures capacity { vec_capacity lines.new ≡ vec_capacity lines.old }
@@ -47,7 +47,7 @@ pub(crate) fn touch_line(lines: &mut Vec<Line>, ways: usize, number: u32, place:
     ensures capacity { ways ≤ vec_capacity lines.new }
 {
     let bits = bits_of(lines, number);
-    drop_line(lines, number);
+    take_out(lines, number);
     lines.truncate(ways - 1);
     let line = Line {
         number,

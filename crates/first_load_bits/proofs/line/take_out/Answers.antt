@@ -1,7 +1,7 @@
 use Rattle.std.proofs.Common.{rules, ◌∙◌, not, ◌==◌}
 use Rattle.std.proofs.lemmas.Fn.{filter_same}
 use Rattle.first_load_bits.proofs.LineLists.{filter_is_all_but}
-use Rattle.first_load_bits.proofs.line.drop_line.Goals as goal
+use Rattle.first_load_bits.proofs.line.take_out.Goals as goal
 
 pub returns-clause-lines : goal.returns-clause-lines
 returns-clause-lines c =
