@@ -1,10 +1,10 @@
 -- The bits that the lists of a cache have set are those of the warm words.
-use Rattle.std.proofs.Common.{◌≡◌, ◌≢◌, ℕ, zero, suc, ◌+◌, ◌*◌, ◌/◌, ◌%◌, ◌^◌, ◌<◌, ◌≤◌, max, Bool, true, false, ◌==◌, List, [], ◌∷◌, take, map, bit_or, Option, Some, None, is_some, refl, sym, ◌∙◌, ap, arith, subst, inl, inr}
+use Rattle.std.proofs.Common.{◌≡◌, ◌≢◌, ℕ, zero, suc, ◌+◌, ◌*◌, ◌/◌, ◌%◌, ◌^◌, ◌<◌, true, false, ◌==◌, List, [], ◌∷◌, take, map, bit_or, Option, Some, None, is_some, refl, sym, ◌∙◌, ap, arith, inl, inr}
 use Rattle.std.proofs.Math.Nat.{div-div-eq-div-mul, div-add-mod'}
 use Rattle.std.specs.Int.{bit_at}
 use Rattle.std.proofs.lemmas.Nat.Bits.{bit_at_or, bit_at-pow_same, bit_at-pow_other, bit_at-lt, bit_at-zero}
 use Rattle.std.proofs.lemmas.Bool.{false≢true, eq-eqb, ne_eqb, cases_Bool}
-use Rattle.std.proofs.lemmas.Bool.Decides.{eqb_tells, nat_tests}
+use Rattle.std.proofs.lemmas.Bool.Decides.{eqb_tells}
 use Rattle.first_load_bits.specs.declared.line.Line.{Line}
 use Rattle.first_load_bits.specs.Events.{Geometry, Event, word_of, line_of, set_of}
 use Rattle.first_load_bits.specs.Events.{Touch, Drop, Clear}
@@ -102,6 +102,7 @@ touched_word g a b xs w e = first g.ways w
   where
     here : bits_of (line_of g a) (touched_line g b xs ∷ all_but (line_of g b) xs) ≡ bit_or (bits_of (line_of g b) xs) (2 ^ place_of g b)
     here = bits_here (line_of g a) (touched_line g b xs) (all_but (line_of g b) xs) (line_of_word g b a e)
+
     first : (n : ℕ) → 0 < n → is_set g a (take n (touched_line g b xs ∷ all_but (line_of g b) xs)) ≡ true
     first zero h = absurd (omega arith)
     first (suc n) h =
@@ -114,6 +115,7 @@ touched_beside g a b xs w n e = first g.ways w
   where
     differ : place_of g a ≢ place_of g b
     differ f = n (place_tells g b a e (sym f))
+
     first : (n : ℕ) → 0 < n → is_set g a (take n (touched_line g b xs ∷ all_but (line_of g b) xs)) ≡ is_set g a xs
     first zero h = absurd (omega arith)
     first (suc n) h =
@@ -137,19 +139,19 @@ bits_law g a (Touch b ∷ es) w = let l = line_of g a in let k = line_of g b in 
     | inr p ↦ touched_beside g a b (lines g s es) w p.1 e ∙ (bits_law g a es w ∙ sym (warm_touch_held g a b es p.0 (ap is_some (later_touch_own g l b es (eq-eqb k l e)))))
   ]
   | near t e r f ↦
-    let now : is_some (in_front l (touched g b (lines g s es))) ≡ held g l (Touch b ∷ es) = ap (λ x. is_some (in_front l x)) (sym (lines_touch g s b es r)) ∙ ap is_some (lines_law g l (Touch b ∷ es) w) in
-    let other : (word_of b == word_of a) ≡ false = ne_eqb (word_of b) (word_of a) (λ q. e (line_of_word g b a q)) in
-    ap (is_set g a) (lines_touch g s b es r) ∙ elim (cases_Bool (held g l (Touch b ∷ es))) [
-    | inl h ↦ touched_stays g a b (lines g s es) t e (now ∙ h) ∙ (bits_law g a es w ∙ sym (warm_touch_held g a b es other h))
-    | inr h ↦ goes g a (touched g b (lines g s es)) (now ∙ h) ∙ sym (warm_touch_lost g a b es other h)
-    ]
+      let now : is_some (in_front l (touched g b (lines g s es))) ≡ held g l (Touch b ∷ es) = ap (λ x. is_some (in_front l x)) (sym (lines_touch g s b es r)) ∙ ap is_some (lines_law g l (Touch b ∷ es) w) in
+      let other : (word_of b == word_of a) ≡ false = ne_eqb (word_of b) (word_of a) (λ q. e (line_of_word g b a q)) in
+      ap (is_set g a) (lines_touch g s b es r) ∙ elim (cases_Bool (held g l (Touch b ∷ es))) [
+        | inl h ↦ touched_stays g a b (lines g s es) t e (now ∙ h) ∙ (bits_law g a es w ∙ sym (warm_touch_held g a b es other h))
+        | inr h ↦ goes g a (touched g b (lines g s es)) (now ∙ h) ∙ sym (warm_touch_lost g a b es other h)
+      ]
   | far t e r f ↦
-    let other : (word_of b == word_of a) ≡ false = ne_eqb (word_of b) (word_of a) (λ q. e (line_of_word g b a q)) in
-    let now : is_some (in_front l (lines g s es)) ≡ held g l (Touch b ∷ es) = ap is_some (lines_law g l es w ∙ sym (later_touch_far g l b es t r)) in
-    ap (is_set g a) (lines_touch_far g s b es r) ∙ elim (cases_Bool (held g l (Touch b ∷ es))) [
-    | inl h ↦ bits_law g a es w ∙ sym (warm_touch_held g a b es other h)
-    | inr h ↦ goes g a (lines g s es) (now ∙ h) ∙ sym (warm_touch_lost g a b es other h)
-    ]
+      let other : (word_of b == word_of a) ≡ false = ne_eqb (word_of b) (word_of a) (λ q. e (line_of_word g b a q)) in
+      let now : is_some (in_front l (lines g s es)) ≡ held g l (Touch b ∷ es) = ap is_some (lines_law g l es w ∙ sym (later_touch_far g l b es t r)) in
+      ap (is_set g a) (lines_touch_far g s b es r) ∙ elim (cases_Bool (held g l (Touch b ∷ es))) [
+        | inl h ↦ bits_law g a es w ∙ sym (warm_touch_held g a b es other h)
+        | inr h ↦ goes g a (lines g s es) (now ∙ h) ∙ sym (warm_touch_lost g a b es other h)
+      ]
 ]
 bits_law g a (Drop b ∷ es) w = let l = line_of g a in let k = line_of g b in let s = set_of g l in elim (tells g l k) [
   | own e ↦ ap (is_set g a) (lines_drop g s b es (eq-eqb (set_of g k) s (ap (set_of g) e))) ∙ (none_set g a (all_but k (lines g s es)) (ap (λ x. bits_of l (all_but x (lines g s es))) e ∙ bits_of_gone l (lines g s es)) ∙ sym (warm_drop_own g a b es (eq-eqb k l e)))

@@ -1,12 +1,11 @@
 -- The test for listed lines says what the history says.
-use Rattle.std.proofs.Common.{◌≡◌, ◌≢◌, ◌↔◌, ℕ, zero, suc, ◌+◌, ◌<◌, ◌≤◌, Bool, true, false, IsTrue, ◌==◌, nat_lt, List, [], ◌∷◌, ◌++◌, length, drop, All, Option, Some, None, is_some, refl, sym, ◌∙◌, ap, arith, subst, inl, inr}
-use Rattle.std.proofs.lemmas.Bool.{false≢true, eq-eqb, ne_eqb, ltb-true, lt-ltb, cases_Bool, cases_lt}
-use Rattle.std.proofs.lemmas.Bool.Decides.{nat_tests}
+use Rattle.std.proofs.Common.{◌≡◌, ◌↔◌, ℕ, zero, suc, ◌<◌, ◌≤◌, true, false, IsTrue, ◌==◌, nat_lt, List, [], ◌∷◌, ◌++◌, length, drop, All, Option, Some, None, is_some, refl, sym, ◌∙◌, ap, arith, subst, inl, inr}
+use Rattle.std.proofs.lemmas.Bool.{false≢true, eq-eqb, ltb-true, lt-ltb, cases_Bool, cases_lt}
 use Rattle.std.proofs.lemmas.List.Elements.{All-nil, All-cons, All-head, All-tail}
 use Rattle.first_load_bits.specs.Events.{Geometry, Event, line_of, set_of, IsTouchOf, IsDropOf}
 use Rattle.first_load_bits.specs.Events.{Touch, Drop, Clear}
 use Rattle.first_load_bits.specs.Warm.{except, fewer, with_first, without, later_lines, listed}
-use Rattle.first_load_bits.specs.History.{IsSinceTouch, IsListed, HasOthers}
+use Rattle.first_load_bits.specs.History.{IsSinceTouch, IsListed}
 use Rattle.first_load_bits.proofs.Numbers.{length-except}
 use Rattle.first_load_bits.proofs.Others.{tells, own, near, far, others, touch_near, touch_far, drop_near, drop_far, touch_more, HasOthers-from_length, length_from_HasOthers}
 
@@ -86,33 +85,33 @@ gathered : (g : Geometry) (l : ℕ) → 0 < g.ways → (es : List Event) (ls : L
 gathered g l w [] ls h = absurd cc
 gathered g l w (Touch a ∷ es) ls h = let k = line_of g a in elim (tells g l k) [
   | own e ↦
-    let none : [] ≡ ls = let p : ◌≡◌ {A = Option (List ℕ)} (Some []) (Some ls) = sym (later_touch_own g l a es (eq-eqb k l e)) ∙ h in cc in
-    record {
-      since = [];
-      touched = record { addr = a; before = es; parts = refl; touch = e; last = All-nil (λ x. ¬ IsTouchOf g l x) };
-      undropped = All-nil (λ x. ¬ IsDropOf g l x);
-      all = sym none;
-      room = λ n m. subst (λ (x : List Event). length (others g l x) < g.ways) (sym (drop_nil n)) w;
-    }
+      let none : [] ≡ ls = let p : ◌≡◌ {A = Option (List ℕ)} (Some []) (Some ls) = sym (later_touch_own g l a es (eq-eqb k l e)) ∙ h in cc in
+      record {
+        since = [];
+        touched = record { addr = a; before = es; parts = refl; touch = e; last = All-nil (λ x. ¬ IsTouchOf g l x) };
+        undropped = All-nil (λ x. ¬ IsDropOf g l x);
+        all = sym none;
+        room = λ n m. subst (λ (x : List Event). length (others g l x) < g.ways) (sym (drop_nil n)) w;
+      }
   | near t e r f ↦
-    let p = fewer_some g.ways (with_first k (later_lines g l es)) ls (sym (later_touch_near g l a es t r) ∙ h) in
-    let q = with_first_some k (later_lines g l es) ls p.0 in
-    let i = gathered g l w es q.0 q.1 in
-    more g l (Touch a) es q.0 ls e (λ x. x) i (q.2 ∙ (ap (λ x. k ∷ except k x) i.all ∙ sym (touch_near g l a i.since t r))) p.1
+      let p = fewer_some g.ways (with_first k (later_lines g l es)) ls (sym (later_touch_near g l a es t r) ∙ h) in
+      let q = with_first_some k (later_lines g l es) ls p.0 in
+      let i = gathered g l w es q.0 q.1 in
+      more g l (Touch a) es q.0 ls e (λ x. x) i (q.2 ∙ (ap (λ x. k ∷ except k x) i.all ∙ sym (touch_near g l a i.since t r))) p.1
   | far t e r f ↦
-    let i = gathered g l w es ls (sym (later_touch_far g l a es t r) ∙ h) in
-    more g l (Touch a) es ls ls e (λ x. x) i (i.all ∙ sym (touch_far g l a i.since t r)) (now g l es ls i)
+      let i = gathered g l w es ls (sym (later_touch_far g l a es t r) ∙ h) in
+      more g l (Touch a) es ls ls e (λ x. x) i (i.all ∙ sym (touch_far g l a i.since t r)) (now g l es ls i)
 ]
 gathered g l w (Drop a ∷ es) ls h = let k = line_of g a in elim (tells g l k) [
   | own e ↦ absurd (let p : ◌≡◌ {A = Option (List ℕ)} None (Some ls) = sym (later_drop_own g l a es (eq-eqb k l e)) ∙ h in cc)
   | near t e r f ↦
-    let q = without_some k (later_lines g l es) ls (sym (later_drop_near g l a es t r) ∙ h) in
-    let i = gathered g l w es q.0 q.1 in
-    let fits : length ls < g.ways = subst (λ (x : List ℕ). length x < g.ways) (sym q.2) (omega (arith, length-except k q.0, now g l es q.0 i)) in
-    more g l (Drop a) es q.0 ls (λ x. x) e i (q.2 ∙ (ap (except k) i.all ∙ sym (drop_near g l a i.since t r))) fits
+      let q = without_some k (later_lines g l es) ls (sym (later_drop_near g l a es t r) ∙ h) in
+      let i = gathered g l w es q.0 q.1 in
+      let fits : length ls < g.ways = subst (λ (x : List ℕ). length x < g.ways) (sym q.2) (omega (arith, length-except k q.0, now g l es q.0 i)) in
+      more g l (Drop a) es q.0 ls (λ x. x) e i (q.2 ∙ (ap (except k) i.all ∙ sym (drop_near g l a i.since t r))) fits
   | far t e r f ↦
-    let i = gathered g l w es ls (sym (later_drop_far g l a es t r) ∙ h) in
-    more g l (Drop a) es ls ls (λ x. x) e i (i.all ∙ sym (drop_far g l a i.since t r)) (now g l es ls i)
+      let i = gathered g l w es ls (sym (later_drop_far g l a es t r) ∙ h) in
+      more g l (Drop a) es ls ls (λ x. x) e i (i.all ∙ sym (drop_far g l a i.since t r)) (now g l es ls i)
 ]
 gathered g l w (Clear ∷ es) ls h = let i = gathered g l w es ls h in more g l Clear es ls ls (λ x. x) (λ x. x) i i.all (now g l es ls i)
 
@@ -140,19 +139,19 @@ later_lines_since g l a before (Touch b ∷ since) e t d room =
     let rest = later_lines_since g l a before since e (All-tail (λ x. ¬ IsTouchOf g l x) (Touch b) since t) (All-tail (λ x. ¬ IsDropOf g l x) (Touch b) since d) (λ n m. room (suc n) (omega arith)) in
     let k = line_of g b in
     elim (tells g l k) [
-    | own f ↦ absurd (All-head (λ x. ¬ IsTouchOf g l x) (Touch b) since t f)
-    | near s f r q ↦
-      let few : length (k ∷ except k (others g l since)) < g.ways = subst (λ (x : List ℕ). length x < g.ways) (touch_near g l b since s r) (room 0 (omega arith)) in
-      later_touch_near g l b (since ++ Touch a ∷ before) s r ∙ (ap (λ x. fewer g.ways (with_first k x)) rest ∙ (fewer_fits g.ways (k ∷ except k (others g l since)) few ∙ ap Some (sym (touch_near g l b since s r))))
-    | far s f r q ↦ later_touch_far g l b (since ++ Touch a ∷ before) s r ∙ (rest ∙ ap Some (sym (touch_far g l b since s r)))
+      | own f ↦ absurd (All-head (λ x. ¬ IsTouchOf g l x) (Touch b) since t f)
+      | near s f r q ↦
+          let few : length (k ∷ except k (others g l since)) < g.ways = subst (λ (x : List ℕ). length x < g.ways) (touch_near g l b since s r) (room 0 (omega arith)) in
+          later_touch_near g l b (since ++ Touch a ∷ before) s r ∙ (ap (λ x. fewer g.ways (with_first k x)) rest ∙ (fewer_fits g.ways (k ∷ except k (others g l since)) few ∙ ap Some (sym (touch_near g l b since s r))))
+      | far s f r q ↦ later_touch_far g l b (since ++ Touch a ∷ before) s r ∙ (rest ∙ ap Some (sym (touch_far g l b since s r)))
     ]
 later_lines_since g l a before (Drop b ∷ since) e t d room =
     let rest = later_lines_since g l a before since e (All-tail (λ x. ¬ IsTouchOf g l x) (Drop b) since t) (All-tail (λ x. ¬ IsDropOf g l x) (Drop b) since d) (λ n m. room (suc n) (omega arith)) in
     let k = line_of g b in
     elim (tells g l k) [
-    | own f ↦ absurd (All-head (λ x. ¬ IsDropOf g l x) (Drop b) since d f)
-    | near s f r q ↦ later_drop_near g l b (since ++ Touch a ∷ before) s r ∙ (ap (without k) rest ∙ ap Some (sym (drop_near g l b since s r)))
-    | far s f r q ↦ later_drop_far g l b (since ++ Touch a ∷ before) s r ∙ (rest ∙ ap Some (sym (drop_far g l b since s r)))
+      | own f ↦ absurd (All-head (λ x. ¬ IsDropOf g l x) (Drop b) since d f)
+      | near s f r q ↦ later_drop_near g l b (since ++ Touch a ∷ before) s r ∙ (ap (without k) rest ∙ ap Some (sym (drop_near g l b since s r)))
+      | far s f r q ↦ later_drop_far g l b (since ++ Touch a ∷ before) s r ∙ (rest ∙ ap Some (sym (drop_far g l b since s r)))
     ]
 later_lines_since g l a before (Clear ∷ since) e t d room =
     later_lines_since g l a before since e (All-tail (λ x. ¬ IsTouchOf g l x) Clear since t) (All-tail (λ x. ¬ IsDropOf g l x) Clear since d) (λ n m. room (suc n) (omega arith))

@@ -1,12 +1,12 @@
 -- The lists of a cache list the listed lines, in the order of their last touches.
-use Rattle.std.proofs.Common.{◌≡◌, ◌≢◌, ℕ, zero, suc, ◌+◌, ◌<◌, ◌≤◌, Bool, true, false, ◌==◌, nat_lt, List, [], ◌∷◌, length, length-take, take, map, Option, Some, None, is_some, refl, sym, ◌∙◌, ap, arith, subst, inl, inr}
+use Rattle.std.proofs.Common.{◌≡◌, ◌≢◌, ℕ, zero, suc, ◌<◌, ◌≤◌, true, false, ◌==◌, nat_lt, List, [], ◌∷◌, length, length-take, take, map, Option, Some, None, refl, sym, ◌∙◌, ap, arith, inl, inr}
 use Rattle.std.proofs.lemmas.List.{length-map}
-use Rattle.std.proofs.lemmas.Bool.{false≢true, eq-eqb, ne_eqb, cases_Bool}
+use Rattle.std.proofs.lemmas.Bool.{eq-eqb, ne_eqb, cases_Bool}
 use Rattle.std.proofs.lemmas.Bool.Decides.{eqb_tells, nat_tests}
 use Rattle.first_load_bits.specs.declared.line.Line.{Line}
 use Rattle.first_load_bits.specs.Events.{Geometry, Event, line_of, set_of}
 use Rattle.first_load_bits.specs.Events.{Touch, Drop, Clear}
-use Rattle.first_load_bits.specs.Warm.{except, fewer, with_first, without, later_lines}
+use Rattle.first_load_bits.specs.Warm.{fewer, with_first, without, later_lines}
 use Rattle.first_load_bits.specs.Lines.{all_but, touched_line, touched, cleared, lines, behind, in_front}
 use Rattle.first_load_bits.proofs.Others.{tells, own, near, far}
 use Rattle.first_load_bits.proofs.Numbers.{except_here, except_there}

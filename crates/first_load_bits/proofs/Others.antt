@@ -1,5 +1,5 @@
 -- The other lines of a set that some events touched and didn't drop, as a list and as they are said to be.
-use Rattle.std.proofs.Common.{◌≡◌, ◌≢◌, ◌⊎◌, ◌↔◌, ℕ, zero, suc, ◌+◌, ◌<◌, ◌≤◌, Bool, true, false, not, ◌&&◌, ◌||◌, ◌==◌, List, [], ◌∷◌, ◌++◌, length, length-take-le, take, drop, All, AllPairs, refl, sym, ◌∙◌, ap, arith, subst, inl, inr}
+use Rattle.std.proofs.Common.{◌≡◌, ◌≢◌, ℕ, ◌≤◌, Bool, true, false, not, ◌&&◌, ◌||◌, ◌==◌, List, [], ◌∷◌, ◌++◌, length, length-take-le, take, All, refl, sym, ◌∙◌, ap, arith, subst, inl, inr}
 use Rattle.std.proofs.lemmas.Bool.{false≢true, eq-eqb, ne_eqb, eqb-true, and_parts, and_from}
 use Rattle.std.proofs.lemmas.Bool.Decides.{eqb_tells, nat_tests}
 use Rattle.std.proofs.lemmas.List.Elements.{All-nil, All-cons, All-head, All-tail}
@@ -22,14 +22,14 @@ others g l [] = []
 others g l (Touch a ∷ es) =
     let k = line_of g a in
     elim (k == l) [
-    | true ↦ others g l es
-    | false ↦ elim (set_of g k == set_of g l) [ true ↦ k ∷ except k (others g l es) | false ↦ others g l es ]
+      | true ↦ others g l es
+      | false ↦ elim (set_of g k == set_of g l) [ true ↦ k ∷ except k (others g l es) | false ↦ others g l es ]
     ]
 others g l (Drop a ∷ es) =
     let k = line_of g a in
     elim (k == l) [
-    | true ↦ others g l es
-    | false ↦ elim (set_of g k == set_of g l) [ true ↦ except k (others g l es) | false ↦ others g l es ]
+      | true ↦ others g l es
+      | false ↦ elim (set_of g k == set_of g l) [ true ↦ except k (others g l es) | false ↦ others g l es ]
     ]
 others g l (Clear ∷ es) = others g l es
 

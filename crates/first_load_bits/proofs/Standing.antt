@@ -1,5 +1,5 @@
 -- What a cache stands for after an event that changes one of its sets, or all.
-use Rattle.std.proofs.Common.{◌≡◌, ◌≢◌, ℕ, zero, suc, ◌+◌, ◌<◌, ◌≤◌, ◌%◌, Bool, true, false, ◌==◌, List, [], ◌∷◌, length, get_or, set, map, Option, Some, None, option_map, Vec, Global, vec_len, ◌↔◌, if◌then◌else◌, refl, sym, ◌∙◌, ap, arith, inl, inr}
+use Rattle.std.proofs.Common.{◌≡◌, ◌≢◌, ℕ, zero, suc, ◌+◌, ◌<◌, Bool, true, false, List, [], ◌∷◌, length, get_or, set, map, Some, option_map, Vec, Global, ◌↔◌, if◌then◌else◌, refl, sym, ◌∙◌, ap, arith, inl, inr}
 use Rattle.std.proofs.lemmas.Bool.{eq-eqb, ne_eqb, cases_eq}
 use Rattle.std.proofs.lemmas.List.{map-set, get_or-map, length-map}
 use Rattle.std.proofs.lemmas.Option.{slice_get-map, slice_get_within, get_or_from_slice_get}
@@ -8,10 +8,9 @@ use Rattle.first_load_bits.specs.declared.line.Line.{Line}
 use Rattle.first_load_bits.specs.Events.{Geometry, Event, line_of, set_of}
 use Rattle.first_load_bits.specs.Events.{Touch, Drop, Clear}
 use Rattle.first_load_bits.specs.declared.warm.Warm.{Warm}
-use Rattle.first_load_bits.specs.declared.warm.Warm.TheVariants as Warm
 use Rattle.first_load_bits.specs.Warm.{warm}
 use Rattle.first_load_bits.specs.Lines.{lines, touched, all_but, cleared, is_set}
-use Rattle.first_load_bits.specs.Stands.{Contents, StandsFor, steps_of}
+use Rattle.first_load_bits.specs.Stands.{StandsFor}
 use Rattle.first_load_bits.specs.Sets.{lists_of}
 use Rattle.first_load_bits.proofs.Bits.{bits_law}
 use Rattle.first_load_bits.proofs.Order.{lines_touch, lines_touch_far, lines_drop, lines_drop_far}

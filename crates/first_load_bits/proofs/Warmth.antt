@@ -1,15 +1,14 @@
 -- The test for warm words says what the history says.
-use Rattle.std.proofs.Common.{◌≡◌, ◌≢◌, ◌↔◌, ℕ, zero, suc, ◌+◌, ◌*◌, ◌/◌, ◌<◌, ◌≤◌, Bool, true, false, IsTrue, ◌==◌, List, [], ◌∷◌, ◌++◌, length, drop, All, Option, Some, None, is_some, refl, sym, ◌∙◌, ap, arith, subst, inl, inr}
+use Rattle.std.proofs.Common.{◌≡◌, ◌≢◌, ◌↔◌, ℕ, zero, suc, ◌/◌, ◌<◌, ◌≤◌, true, false, IsTrue, ◌==◌, List, [], ◌∷◌, ◌++◌, length, drop, All, Option, Some, None, is_some, refl, sym, ◌∙◌, ap, arith, subst, inl, inr}
 use Rattle.std.proofs.Math.Nat.{div-div-eq-div-mul}
-use Rattle.std.proofs.lemmas.Bool.{cases_Bool, false≢true, eq-eqb, ne_eqb, eqb-true}
-use Rattle.std.proofs.lemmas.Bool.Decides.{eqb_tells, nat_tests}
+use Rattle.std.proofs.lemmas.Bool.{cases_Bool, false≢true, eq-eqb, ne_eqb}
+use Rattle.std.proofs.lemmas.Bool.Decides.{eqb_tells}
 use Rattle.std.proofs.lemmas.List.Elements.{All-nil, All-cons, All-head, All-tail}
-use Rattle.first_load_bits.specs.Events.{Geometry, Event, word_of, line_of, set_of, IsTouchOf, IsDropOf}
+use Rattle.first_load_bits.specs.Events.{Geometry, Event, word_of, line_of, set_of}
 use Rattle.first_load_bits.specs.Events.{Touch, Drop, Clear}
 use Rattle.first_load_bits.specs.Warm.{held, warm, later_lines, without}
 use Rattle.first_load_bits.specs.History.{IsHeld, IsWarm}
 use Rattle.first_load_bits.proofs.Listed.{listed_is, later_touch_own, later_drop_own, later_drop_near, later_drop_far}
-use Rattle.first_load_bits.proofs.Others.{tells, own, near, far}
 
 -- one word lies in one line
 pub line_of_word : (g : Geometry) (a b : ℕ) → word_of a ≡ word_of b → line_of g a ≡ line_of g b
@@ -103,9 +102,9 @@ is_warm g a (Touch b ∷ es) w h = let l = line_of g a in elim (eqb_tells (word_
 is_warm g a (Drop b ∷ es) w h = let l = line_of g a in elim (eqb_tells (line_of g b) l) [
   | inl p ↦ absurd (false≢true (sym (warm_drop_own g a b es p.0) ∙ h))
   | inr p ↦
-    let i = is_warm g a es w (sym (warm_drop_other g a b es p.0) ∙ h) in
-    let t : held g l es ≡ true = (listed_is g l es w).1 (i.held 0 (omega arith)) in
-    warm_more g a (Drop b) es (drop_unclear b) (is_held g l (Drop b ∷ es) w (held_drop_other g l b es p.0 ∙ t)) i
+      let i = is_warm g a es w (sym (warm_drop_other g a b es p.0) ∙ h) in
+      let t : held g l es ≡ true = (listed_is g l es w).1 (i.held 0 (omega arith)) in
+      warm_more g a (Drop b) es (drop_unclear b) (is_held g l (Drop b ∷ es) w (held_drop_other g l b es p.0 ∙ t)) i
 ]
 is_warm g a (Clear ∷ es) w h = absurd (false≢true h)
 
@@ -117,13 +116,13 @@ warm_since g a b before [] w e u h = warm_touch_own g a b before (eq-eqb (word_o
 warm_since g a b before (Touch x ∷ since) w e u h = elim (eqb_tells (word_of x) (word_of a)) [
   | inl p ↦ warm_touch_own g a x (since ++ Touch b ∷ before) p.0
   | inr p ↦
-    let t : held g (line_of g a) (Touch x ∷ (since ++ Touch b ∷ before)) ≡ true = (listed_is g (line_of g a) (Touch x ∷ (since ++ Touch b ∷ before)) w).1 (h 0 (omega arith)) in
-    warm_touch_held g a x (since ++ Touch b ∷ before) p.0 t ∙ warm_since g a b before since w e (All-tail (λ y. y ≢ Clear) (Touch x) since u) (λ n m. h (suc n) (omega arith))
+      let t : held g (line_of g a) (Touch x ∷ (since ++ Touch b ∷ before)) ≡ true = (listed_is g (line_of g a) (Touch x ∷ (since ++ Touch b ∷ before)) w).1 (h 0 (omega arith)) in
+      warm_touch_held g a x (since ++ Touch b ∷ before) p.0 t ∙ warm_since g a b before since w e (All-tail (λ y. y ≢ Clear) (Touch x) since u) (λ n m. h (suc n) (omega arith))
 ]
 warm_since g a b before (Drop x ∷ since) w e u h = elim (eqb_tells (line_of g x) (line_of g a)) [
   | inl p ↦
-    let t : held g (line_of g a) (Drop x ∷ (since ++ Touch b ∷ before)) ≡ true = (listed_is g (line_of g a) (Drop x ∷ (since ++ Touch b ∷ before)) w).1 (h 0 (omega arith)) in
-    absurd (false≢true (sym (held_drop_own g (line_of g a) x (since ++ Touch b ∷ before) p.1) ∙ t))
+      let t : held g (line_of g a) (Drop x ∷ (since ++ Touch b ∷ before)) ≡ true = (listed_is g (line_of g a) (Drop x ∷ (since ++ Touch b ∷ before)) w).1 (h 0 (omega arith)) in
+      absurd (false≢true (sym (held_drop_own g (line_of g a) x (since ++ Touch b ∷ before) p.1) ∙ t))
   | inr p ↦ warm_drop_other g a x (since ++ Touch b ∷ before) p.0 ∙ warm_since g a b before since w e (All-tail (λ y. y ≢ Clear) (Drop x) since u) (λ n m. h (suc n) (omega arith))
 ]
 warm_since g a b before (Clear ∷ since) w e u h = absurd (All-head (λ y. y ≢ Clear) Clear since u refl)

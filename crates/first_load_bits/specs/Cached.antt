@@ -1,5 +1,5 @@
 -- How the fields of a cache are seen, and what is true of them.
-use Rattle.std.specs.Prelude.{ℕ, ◌<◌, ◌≤◌, All, vec_len}
+use Rattle.std.specs.Prelude.{◌<◌, ◌≤◌, All, vec_len}
 use Rattle.first_load_bits.specs.declared.cache.Cache.TheInside.{Inside}
 use Rattle.first_load_bits.specs.Sets.{lists_of, HasRoom}
 use Rattle.first_load_bits.specs.Stands.{Contents}

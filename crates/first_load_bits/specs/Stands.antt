@@ -1,5 +1,5 @@
 -- What a cache keeps, and the histories that it stands for.
-use Rattle.std.specs.Prelude.{ℕ, ◌+◌, ◌<◌, ◌≡◌, List, [], ◌∷◌, slice_get, Option, Some}
+use Rattle.std.specs.Prelude.{ℕ, ◌+◌, ◌<◌, ◌≡◌, List, [], ◌∷◌, slice_get, Some}
 use Rattle.bn_base.specs.declared.settings.RawSettings.{RawSettings}
 use Rattle.first_load_bits.specs.declared.line.Line.{Line}
 use Rattle.first_load_bits.specs.Events.{Geometry, Event}

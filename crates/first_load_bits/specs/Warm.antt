@@ -30,14 +30,14 @@ later_lines g l [] = None
 later_lines g l (Touch a ∷ es) =
     let k = line_of g a in
     elim (k == l) [
-    | true ↦ Some []
-    | false ↦ elim (set_of g k == set_of g l) [ true ↦ fewer g.ways (with_first k (later_lines g l es)) | false ↦ later_lines g l es ]
+      | true ↦ Some []
+      | false ↦ elim (set_of g k == set_of g l) [ true ↦ fewer g.ways (with_first k (later_lines g l es)) | false ↦ later_lines g l es ]
     ]
 later_lines g l (Drop a ∷ es) =
     let k = line_of g a in
     elim (k == l) [
-    | true ↦ None
-    | false ↦ elim (set_of g k == set_of g l) [ true ↦ without k (later_lines g l es) | false ↦ later_lines g l es ]
+      | true ↦ None
+      | false ↦ elim (set_of g k == set_of g l) [ true ↦ without k (later_lines g l es) | false ↦ later_lines g l es ]
     ]
 later_lines g l (Clear ∷ es) = later_lines g l es
 
@@ -54,8 +54,8 @@ abbrev pub warm : Geometry → ℕ → List Event → Bool
 warm g a [] = false
 warm g a (Touch b ∷ es) =
     elim (word_of b == word_of a) [
-    | true ↦ true
-    | false ↦ elim (held g (line_of g a) (Touch b ∷ es)) [ true ↦ warm g a es | false ↦ false ]
+      | true ↦ true
+      | false ↦ elim (held g (line_of g a) (Touch b ∷ es)) [ true ↦ warm g a es | false ↦ false ]
     ]
 warm g a (Drop b ∷ es) = elim (line_of g b == line_of g a) [ true ↦ false | false ↦ warm g a es ]
 warm g a (Clear ∷ es) = false

@@ -1,5 +1,5 @@
 -- Small histories, and the answers of their touches.
-use Rattle.std.specs.Prelude.{ℕ, Bool, List, [], ◌∷◌}
+use Rattle.std.specs.Prelude.{Bool, List, [], ◌∷◌}
 use Rattle.first_load_bits.specs.Events.{Geometry, Event}
 use Rattle.first_load_bits.specs.Events.{Touch, Drop, Clear}
 use Rattle.first_load_bits.specs.Warm.{warm}

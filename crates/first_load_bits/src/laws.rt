@@ -11,8 +11,7 @@ pub fn tests_say_the_history()
     ensures listed { (g : Geometry) (l : ℕ) (es : List Event) → 0 < g.ways → (IsTrue (listed g l es) ↔ IsListed g l es) }
     ensures held { (g : Geometry) (l : ℕ) (es : List Event) → 0 < g.ways → (IsTrue (held g l es) ↔ IsHeld g l es) }
     ensures warm { (g : Geometry) (a : ℕ) (es : List Event) → 0 < g.ways → (IsTrue (warm g a es) ↔ IsWarm g a es) }
-{
-}
+{}
 
 /// The lists that the rules of a cache give say the same. A line is listed exactly where it stands in its set's list,
 /// behind the lines that were touched later; no list is longer than `ways`; and a word is warm exactly where its bit is
@@ -21,16 +20,14 @@ pub fn lists_say_the_history()
     ensures order { (g : Geometry) (l : ℕ) (es : List Event) → 0 < g.ways → in_front l (lines g (set_of g l) es) ≡ later_lines g l es }
     ensures few { (g : Geometry) (k : ℕ) (es : List Event) → length (lines g k es) ≤ g.ways }
     ensures warm { (g : Geometry) (a : ℕ) (es : List Event) → 0 < g.ways → is_set g a (lines g (set_of g (line_of g a)) es) ≡ warm g a es }
-{
-}
+{}
 
 /// No event warms a word but a touch of that word, and no word of a dropped line is warm, nor any word after a clear.
 pub fn only_a_touch_warms()
     ensures touch { (g : Geometry) (a b : ℕ) (es : List Event) → word_of b ≢ word_of a → IsTrue (warm g a (Touch b ∷ es)) → IsTrue (warm g a es) }
     ensures drop { (g : Geometry) (a b : ℕ) (es : List Event) → IsTrue (warm g a (Drop b ∷ es)) → (line_of g b ≢ line_of g a) × IsTrue (warm g a es) }
     ensures clear { (g : Geometry) (a : ℕ) (es : List Event) → ¬ IsTrue (warm g a (Clear ∷ es)) }
-{
-}
+{}
 
 /// Small histories, with the answers of their touches and the lists that they lead to.
 pub fn worked_examples()
@@ -53,5 +50,4 @@ pub fn worked_examples()
     // A touch puts its line in front, and a clear keeps the lines in their order.
     ensures front { lines small 0 (Touch 4 ∷ Touch 0x28 ∷ Touch 0 ∷ []) ≡ record { number = 0; bits = 3 } ∷ record { number = 2; bits = 4 } ∷ [] }
     ensures order { lines small 0 (Clear ∷ Touch 0x28 ∷ Touch 0 ∷ []) ≡ record { number = 2; bits = 0 } ∷ record { number = 0; bits = 0 } ∷ [] }
-{
-}
+{}

@@ -57,7 +57,11 @@ pub(crate) fn touch_line(lines: &mut Vec<Line>, ways: usize, number: u32, place:
         Ok(()) => (),
         Err(_) => unreachable!(),
     }
-    if (bits >> place) % 2 == 1 { Warm::Warm } else { Warm::Cold }
+    if (bits >> place) % 2 == 1 {
+        Warm::Warm
+    } else {
+        Warm::Cold
+    }
 }
 
 // Clears the bits of all lines.

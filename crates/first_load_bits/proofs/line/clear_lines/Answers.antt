@@ -11,4 +11,4 @@ returns-clause-lines c =
     let whole : length new ≡ c.args.lines.now.len = omega arith in
     take_at new _ _ whole
     ∙ cleared_lines old new same (λ k d l. let m : k < c.loop-line.line-index = omega (arith, ap length c.deref_mut-line-items.ensures.value) in
-        c.loop-line.invariant.done k d m ∙ ap (λ xs. cleared (get_or xs k d)) c.deref_mut-line-items.ensures.value)
+    c.loop-line.invariant.done k d m ∙ ap (λ xs. cleared (get_or xs k d)) c.deref_mut-line-items.ensures.value)

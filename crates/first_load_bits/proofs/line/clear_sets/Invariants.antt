@@ -1,6 +1,5 @@
-use Rattle.std.proofs.Common.{◌≡◌, ◌<◌, ◌≤◌, ℕ, Vec, Global, vec_len, vec_capacity, get_or, map}
+use Rattle.std.proofs.Common.{◌≡◌, ◌<◌, ◌≤◌, ℕ, Vec, Global, get_or}
 use Rattle.first_load_bits.specs.declared.line.Line.{Line}
-use Rattle.first_load_bits.specs.Lines.{cleared}
 use Rattle.first_load_bits.proofs.LineLists.{IsClearedVec}
 use Rattle.first_load_bits.proofs.line.clear_sets.Given as goal
 

@@ -1,4 +1,4 @@
-use Rattle.std.proofs.Common.{◌≡◌, ◌∙◌, List, ap, map, sym, subst, length}
+use Rattle.std.proofs.Common.{◌≡◌, ◌∙◌, ap, map, sym, subst, length}
 use Rattle.std.proofs.lemmas.List.{with_items_is}
 use Rattle.std.proofs.lemmas.List.Elements.{All-same}
 use Rattle.first_load_bits.specs.Lines.{cleared}
@@ -26,5 +26,5 @@ returns-clause-stands c = λ es h.
     let whole : length c.clear_sets.new.sets ≡ c.self.inside.sets.len = c.clear_sets.auto.sets ∙ c.deref_mut.ensures.len in
     let items = with_items_is c.self.inside.sets c.clear_sets.new.sets whole in
     clear_stands (contents c.self.inside).geometry c.self.inside.steps (lists_of c.self.inside.sets.items) _ es
-      (ap lists_of items ∙ (c.clear_sets.ensures.lists ∙ ap (λ vs. map (map cleared) (lists_of vs)) c.deref_mut.ensures.value))
-      (subst (λ (x : Contents). StandsFor x es) (sym c.self.view_is) h)
+    (ap lists_of items ∙ (c.clear_sets.ensures.lists ∙ ap (λ vs. map (map cleared) (lists_of vs)) c.deref_mut.ensures.value))
+    (subst (λ (x : Contents). StandsFor x es) (sym c.self.view_is) h)

@@ -13,4 +13,4 @@ returns-clause-stands c = λ es h.
     let same : set ≡ set_of g number = ap (λ n. number % n) c.len.ensures in
     let below : set < g.sets = omega (arith, c.self.invariant.sets_low) in
     drop_stands g c.self.inside.steps c.args.addr set c.self.inside.sets.items c.index_mut.result.now c.take_out.new.lines es
-      same below c.index_mut.ensures.value c.take_out.ensures.lines (subst (λ (x : Contents). StandsFor x es) (sym c.self.view_is) h)
+    same below c.index_mut.ensures.value c.take_out.ensures.lines (subst (λ (x : Contents). StandsFor x es) (sym c.self.view_is) h)

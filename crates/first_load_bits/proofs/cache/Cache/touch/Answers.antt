@@ -1,8 +1,7 @@
-use Rattle.std.proofs.Common.{◌≡◌, ◌<◌, ◌%◌, ◌↔◌, ◌∙◌, List, ap, sym, subst, arith, if◌then◌else◌}
+use Rattle.std.proofs.Common.{◌≡◌, ◌<◌, ◌%◌, ◌∙◌, ap, sym, subst, arith, if◌then◌else◌}
 use Rattle.first_load_bits.specs.declared.warm.Warm.TheVariants as Answer
-use Rattle.first_load_bits.specs.Events.{Geometry, Event, Touch, line_of, set_of}
+use Rattle.first_load_bits.specs.Events.{Geometry, line_of, set_of}
 use Rattle.first_load_bits.specs.Stands.{Contents, StandsFor}
-use Rattle.first_load_bits.specs.History.{IsWarm}
 use Rattle.first_load_bits.specs.Warm.{warm}
 use Rattle.first_load_bits.specs.Cached.{contents}
 use Rattle.first_load_bits.proofs.Standing.{touch_stands, bit_tells, answer_says}
@@ -34,4 +33,4 @@ returns-clause-stands c = λ es h.
     let same : set ≡ set_of g number = ap (λ n. number % n) c.len.ensures in
     let below : set < g.sets = omega (arith, c.self.invariant.sets_low) in
     touch_stands g c.self.inside.steps c.args.addr set c.self.inside.sets.items c.index_mut.result.now c.touch_line.new.lines es
-      same below c.index_mut.ensures.value c.touch_line.ensures.lines (subst (λ (x : Contents). StandsFor x es) (sym c.self.view_is) h)
+    same below c.index_mut.ensures.value c.touch_line.ensures.lines (subst (λ (x : Contents). StandsFor x es) (sym c.self.view_is) h)
