@@ -1,10 +1,10 @@
--- Which words are warm, by the history of a cache. A history is the list of its events, the latest first: `drop n es`
--- is the history es as it was n events ago.
+-- Which words are warm, by the history of a cache. A history is the list of its events, the latest first. A moment is
+-- named by the number n of events since: `drop n es` is the history es as it was then.
 use Rattle.std.specs.Prelude.{ℕ, ◌≡◌, ◌≢◌, ◌≤◌, List, ◌∷◌, ◌++◌, length, drop, All, AllPairs}
 use Rattle.first_load_bits.specs.Events.{Geometry, Event, word_of, line_of, set_of, IsTouchOf, IsDropOf}
 use Rattle.first_load_bits.specs.Events.{Touch, Clear}
 
--- the last touch of line l, and the events since
+-- the history has a last touch of line l, and these events since
 pub record IsSinceTouch (g : Geometry) (l : ℕ) (since es : List Event) : Type 0 where
   pub addr : ℕ
   pub before : List Event

@@ -38,7 +38,7 @@ lines g k (Touch a ∷ es) = elim (set_of g (line_of g a) == k) [ true ↦ touch
 lines g k (Drop a ∷ es) = elim (set_of g (line_of g a) == k) [ true ↦ all_but (line_of g a) (lines g k es) | false ↦ lines g k es ]
 lines g k (Clear ∷ es) = map cleared (lines g k es)
 
--- whether the bit of the word at address a is set in such a list
+-- whether the list has the bit of the word at address a set
 abbrev pub is_set : Geometry → ℕ → List Line → Bool
 is_set g a xs = bit_at (bits_of (line_of g a) xs) (place_of g a) == 1
 

@@ -1,4 +1,4 @@
--- Which words are warm, as a test that computes. Events are given latest first.
+-- Which words are warm, as a test that computes. Events are given latest first, as everywhere.
 use Rattle.std.specs.Prelude.{ℕ, ◌==◌, nat_lt, Bool, true, false, List, [], ◌∷◌, length, Option, Some, None, is_some}
 use Rattle.first_load_bits.specs.Events.{Geometry, Event, word_of, line_of, set_of}
 use Rattle.first_load_bits.specs.Events.{Touch, Drop, Clear}

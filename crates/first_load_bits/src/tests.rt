@@ -30,6 +30,23 @@ fn cache(rt: &HostRuntime, sets: u64, ways: u64, line: u64) -> Result<Cache, Fai
 }
 
 #[test]
+fn a_line_that_is_lost_or_dropped_is_cold(rt: HostRuntime) -> Result<(), Fail> {
+    let mut lost = cache(&rt, 1, 1, 1)?;
+    assert_eq!(rt; lost.touch(0), Warm::Cold);
+    assert_eq!(rt; lost.touch(4), Warm::Cold);
+    assert_eq!(rt; lost.touch(0), Warm::Cold);
+
+    let mut dropped = cache(&rt, 64, 4, 4)?;
+    assert_eq!(rt; dropped.touch(0x20000), Warm::Cold);
+    assert_eq!(rt; dropped.touch(0x20000), Warm::Warm);
+    dropped.drop_line(0x20004);
+    assert_eq!(rt; dropped.touch(0x20000), Warm::Cold);
+    dropped.clear_bits();
+    assert_eq!(rt; dropped.touch(0x20000), Warm::Cold);
+    Ok(())
+}
+
+#[test]
 fn answers_are_those_of_the_history(rt: HostRuntime) -> Result<(), Fail> {
     let mut narrow = cache(&rt, 1, 3, 1)?;
     let mut square = cache(&rt, 2, 2, 4)?;
