@@ -1,1 +1,2 @@
+mod Lookup
 mod Tested

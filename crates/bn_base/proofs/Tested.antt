@@ -1,6 +1,6 @@
 -- Settings whose tests all hold are in range.
-use Rattle.std.proofs.Common.{rules, arith, ◌≡◌, ◌≤◌, ◌+◌, ◌%◌, ◌^◌, ◌==◌, ℕ, Bool, true, false, ◌&&◌, nat_le, IsTrue, refl}
-use Rattle.std.specs.Prelude.{Option, Some, None}
+use Rattle.std.proofs.Common.{arith, ◌≡◌, ◌≤◌, ◌%◌, ◌^◌, ℕ, Bool, true, false, IsTrue, refl}
+use Rattle.std.specs.Prelude.{Option, None}
 use Rattle.std.specs.Int.{is_power_of_two}
 use Rattle.bn_base.specs.declared.settings.RawSettings.{RawSettings}
 use Rattle.bn_base.specs.declared.settings.BadSetting.{BadSetting}

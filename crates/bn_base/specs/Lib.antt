@@ -1,4 +1,5 @@
 pub mod EndMarks
 pub mod Faults
 pub mod Ranges
+pub mod Programs
 pub mod Registers

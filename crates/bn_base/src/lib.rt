@@ -4,25 +4,25 @@
 
 pub mod end_mark;
 pub mod fault;
-//pub mod image;
+pub mod image;
 pub mod list;
 pub mod register;
 pub mod registers;
 pub mod row;
-//pub mod segment;
+pub mod segment;
 pub mod settings;
 pub mod state;
-//#[cfg(test)]
-//mod tests;
+#[cfg(test)]
+mod tests;
 
 pub use end_mark::EndMark;
 pub use fault::Fault;
-//pub use image::Image;
+pub use image::Image;
 pub use list::List;
 pub use register::Register;
 pub use registers::Registers;
 pub use row::Row;
-//pub use segment::Segment;
+pub use segment::Segment;
 pub use settings::{BadSetting, RawSettings, Settings};
 pub use state::HartState;
 

@@ -1,4 +1,4 @@
-use Rattle.std.proofs.Common.{◌≡◌, ◌∙◌, arith, drop, take, length, length-drop, ap}
+use Rattle.std.proofs.Common.{◌∙◌, arith, drop, length-drop, ap}
 use Rattle.std.proofs.lemmas.List.{take_all}
 use Rattle.bn_base.proofs.registers.Registers.others.Goals as goal
 

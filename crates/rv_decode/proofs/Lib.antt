@@ -1,0 +1,4 @@
+pub mod Fields
+pub mod Whole
+pub mod Apart
+pub mod Decoded

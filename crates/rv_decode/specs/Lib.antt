@@ -1,0 +1,4 @@
+pub mod Table
+pub mod Fields
+pub mod Seen
+pub mod Encode
