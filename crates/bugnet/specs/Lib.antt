@@ -1,0 +1,9 @@
+pub mod SmallElf
+pub mod Rows
+pub mod Replayed
+pub mod LogFile
+pub mod Refusals
+pub mod Texts
+pub mod Commands
+pub mod Outside
+pub mod Headline
