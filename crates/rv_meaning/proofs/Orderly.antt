@@ -1,20 +1,20 @@
 -- What a hart asks passes the program's tests, and comes within the budget.
-use Rattle.std.proofs.Common.{◌≡◌, ℕ, zero, suc, ◌+◌, ◌*◌, ◌/◌, ◌%◌, ◌<◌, ◌≤◌, ◌^◌, ◌⊎◌, inl, inr, Bool, true, false, refl, sym, ◌∙◌, ap, subst, arith}
+use Rattle.std.proofs.Common.{◌≡◌, ℕ, zero, suc, ◌+◌, ◌*◌, ◌/◌, ◌%◌, ◌<◌, ◌≤◌, ◌^◌, ◌⊎◌, inl, inr, Bool, true, false, refl, sym, subst, arith}
 use Rattle.std.specs.Prelude.{◌==◌, ◌&&◌, not, nat_lt, nat_le, if◌then◌else◌, Option, Some, None}
 use Rattle.bn_base.specs.Programs.{Program, code_at, may_load, may_store}
 use Rattle.bn_base.specs.declared.state.HartState.{HartState}
 use Rattle.bn_base.specs.declared.fault.Fault.TheVariants.{LoadOutside, LoadMisaligned, StoreOutside, StoreMisaligned, StoreReadOnly, TargetMisaligned}
 use Rattle.rv_decode.specs.Table.{Instruction, decoded}
 use Rattle.rv_decode.specs.declared.name.Name.{Name}
-use Rattle.rv_decode.specs.declared.name.Name.TheVariants.{Lui, Auipc, Jal, Jalr, Beq, Bne, Blt, Bge, Bltu, Bgeu, Lb, Lh, Lw, Lbu, Lhu, Sb, Sh, Sw, Addi, Slti, Sltiu, Xori, Ori, Andi, Slli, Srli, Srai, Add, Sll, Slt, Sltu, Xor, Srl, Or, And, Sub, Sra, Mul, Mulh, Mulhsu, Mulhu, Div, Divu, Rem, Remu, Fence, Ecall, Ebreak, LrW, ScW, AmoswapW, AmoaddW, AmoxorW, AmoandW, AmoorW, AmominW, AmomaxW, AmominuW, AmomaxuW}
+use Rattle.rv_decode.specs.declared.name.Name.TheVariants.{Jal, Jalr, Beq, Bne, Blt, Bge, Bltu, Bgeu, Lb, Lh, Lw, Lbu, Lhu, Sb, Sh, Sw, Ecall, Ebreak, LrW, ScW, AmoswapW, AmoaddW, AmoxorW, AmoandW, AmoorW, AmominW, AmomaxW, AmominuW, AmomaxuW}
 use Rattle.rv_meaning.specs.Words.{less}
-use Rattle.rv_meaning.specs.Execute.{Step, Quiet, Asks, ask_of, step, fetched, executed, meaning, jump, branch, load_or, store_or, amo, count_up, src1, src2, near, there}
+use Rattle.rv_meaning.specs.Execute.{Step, Quiet, Asks, ask_of, step, fetched, executed, meaning, branch, load_or, store_or, amo, count_up, src1, src2, near, there}
 use Rattle.rv_meaning.specs.Orderly.{passes, is_counted, orderly, is_cut}
 use Rattle.rv_meaning.specs.declared.asks.Ask.{Ask}
 use Rattle.rv_meaning.specs.declared.asks.Want.{Want}
-use Rattle.rv_meaning.specs.declared.asks.Want.TheVariants.{Load, Store, LoadReserved, StoreConditional, Amo, System, Cut, Faulted}
-use Rattle.rv_meaning.specs.declared.asks.AmoOp.{AmoOp}
-use Rattle.rv_meaning.specs.declared.asks.AmoOp.TheVariants as ops
+use Rattle.rv_meaning.specs.declared.asks.Want.TheVariants.{Load, Store, LoadReserved, StoreConditional, Amo, Cut, Faulted}
+use Rattle.rv_meaning.specs.declared.amo.AmoOp.{AmoOp}
+use Rattle.rv_meaning.specs.declared.amo.AmoOp.TheVariants as ops
 
 -- an ask of an instruction: no cut, and it passes the tests
 abbrev pub IsAsked : Program → Want → Type 0
@@ -208,12 +208,12 @@ both false b p q = p
 found_orderly : (i : Program) (from n : ℕ) (a : Ask) → Found i from n a → orderly i from n a ≡ true
 found_orderly i from n a (inl f) =
     both (is_counted from n a.want a.state.ic) (passes i a.want)
-        (subst (λ (w : Want). is_counted from n w a.state.ic ≡ true) (sym f.0) (eq_test a.state.ic (from + n) f.1))
-        (subst (λ (w : Want). passes i w ≡ true) (sym f.0) refl)
+    (subst (λ (w : Want). is_counted from n w a.state.ic ≡ true) (sym f.0) (eq_test a.state.ic (from + n) f.1))
+    (subst (λ (w : Want). passes i w ≡ true) (sym f.0) refl)
 found_orderly i from n a (inr f) =
     both (is_counted from n a.want a.state.ic) (passes i a.want)
-        (subst (λ (c : Bool). (if c then a.state.ic == from + n else nat_le from a.state.ic && nat_lt a.state.ic (from + n)) ≡ true) (sym f.0.0) (range_test from a.state.ic (from + n) f.1 f.2))
-        f.0.1
+    (subst (λ (c : Bool). (if c then a.state.ic == from + n else nat_le from a.state.ic && nat_lt a.state.ic (from + n)) ≡ true) (sym f.0.0) (range_test from a.state.ic (from + n) f.1 f.2))
+    f.0.1
 
 -- what a hart asks is orderly for its count and budget
 pub ask_orderly : (i : Program) (n : ℕ) (s : HartState) → s.ic + n < 2 ^ 64 → orderly i s.ic n (ask_of i n s) ≡ true

@@ -1,9 +1,9 @@
 -- What the accesses to memory give and leave. The sections are those of the RISC-V unprivileged specification,
 -- version 20191213.
-use Rattle.std.specs.Prelude.{ℕ, ◌-◌, ◌*◌, ◌/◌, ◌%◌, ◌^◌, ◌==◌, min, max, Bool, true, false, if◌then◌else◌, bit_and, bit_or, bit_xor}
+use Rattle.std.specs.Prelude.{ℕ, ◌*◌, ◌/◌, ◌%◌, ◌^◌, ◌==◌, min, max, Bool, true, false, if◌then◌else◌, bit_and, bit_or, bit_xor}
 use Rattle.rv_meaning.specs.Words.{add, less, sign_extend, with_bytes}
-use Rattle.rv_meaning.specs.declared.asks.AmoOp.{AmoOp}
-use Rattle.rv_meaning.specs.declared.asks.AmoOp.TheVariants as ops
+use Rattle.rv_meaning.specs.declared.amo.AmoOp.{AmoOp}
+use Rattle.rv_meaning.specs.declared.amo.AmoOp.TheVariants as ops
 
 -- a number of k bits in 32 bits: sign-extended or zero-extended
 abbrev pub extended : Bool → ℕ → ℕ → ℕ

@@ -13,10 +13,10 @@ use Rattle.rv_meaning.specs.Access.{loaded_value}
 use Rattle.rv_meaning.specs.declared.asks.Ask.{Ask}
 use Rattle.rv_meaning.specs.declared.asks.Want.{Want}
 use Rattle.rv_meaning.specs.declared.asks.Want.TheVariants.{Load, Store, LoadReserved, StoreConditional, Amo, System, Cut, Faulted}
-use Rattle.rv_meaning.specs.declared.asks.AmoOp.{AmoOp}
-use Rattle.rv_meaning.specs.declared.asks.AmoOp.TheVariants as ops
+use Rattle.rv_meaning.specs.declared.amo.AmoOp.{AmoOp}
+use Rattle.rv_meaning.specs.declared.amo.AmoOp.TheVariants as ops
 use Rattle.rv_meaning.specs.declared.asks.Reply.{Reply}
-use Rattle.rv_meaning.specs.declared.asks.Reply.TheVariants.{Word, Stored, ScOk, ScFailed, Answer, Went, Over}
+use Rattle.rv_meaning.specs.declared.asks.Reply.TheVariants.{Word, Stored, ScOk, ScFailed, Answer, Over}
 
 -- what the next instruction of a hart is: quiet, with the state after it, or an ask, which leaves the state as it is
 pub data Step : Type 0 where

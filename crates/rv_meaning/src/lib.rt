@@ -2,14 +2,19 @@
 #![tactic(auto)]
 
 mod access;
+mod amo;
 mod asks;
 mod interpreter;
+mod laws;
 mod moves;
 mod questions;
 mod replies;
 mod steps;
 mod words;
 
-pub use asks::{AmoOp, Ask, Reply, Want};
+pub use access::{loaded_value, stored_word};
+pub use amo::AmoOp;
+pub use asks::{Ask, Reply, Want};
 pub use interpreter::quiet_run;
+pub use laws::{each_ask_is_orderly, each_instruction_is_counted_or_asks};
 pub use replies::absorb;

@@ -5,7 +5,8 @@ ghost use Rattle.rv_meaning.specs.Execute.{meaning, jump, branch, load_or, store
 ghost use Rattle.rv_meaning.specs.Told.{asked};
 ghost use Rattle.rv_meaning.specs.declared.asks.Want.TheVariants.{Load, Store, LoadReserved, StoreConditional, Amo, System, Faulted};
 
-use crate::asks::{AmoOp, Want};
+use crate::amo::AmoOp;
+use crate::asks::Want;
 use crate::words::less;
 use bn_base::{Addr, Fault, HartState, Image, Register};
 use rv_decode::{Instr, Name};
