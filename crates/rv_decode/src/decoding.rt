@@ -30,10 +30,10 @@ fn signed_21(n: u32) -> i32
     requires { n < 2 ^ 21 }
     ensures { result ≡ signed 21 n }
 {
-    if n < 1048576 {
+    if n < 0x0010_0000 {
         n as i32
     } else {
-        n as i32 - 2097152
+        n as i32 - 0x0020_0000
     }
 }
 
@@ -71,7 +71,7 @@ fn jump_bits(word: u32) -> u32
     ensures value { result ≡ field 31 1 word * 2 ^ 20 + field 12 8 word * 2 ^ 12 + field 20 1 word * 2 ^ 11 + field 21 10 word * 2 }
     ensures bound { result < 2 ^ 21 }
 {
-    (word >> 31) % 2 * 1048576
+    (word >> 31) % 2 * 0x0010_0000
         + (word >> 12) % 256 * 4096
         + (word >> 20) % 2 * 2048
         + (word >> 21) % 1024 * 2
@@ -86,7 +86,7 @@ fn upper(name: Name, word: u32) -> Instr
         rd: rd(word),
         rs1: 0,
         rs2: 0,
-        imm: ((word >> 12) % 1048576 * 4096).cast_signed(),
+        imm: ((word >> 12) % 0x0010_0000 * 4096).cast_signed(),
         aq: false,
         rl: false,
     }

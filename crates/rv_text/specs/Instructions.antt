@@ -1,5 +1,5 @@
 -- The text of an instruction.
-use Rattle.std.specs.Prelude.{ℕ, ◌+◌, ◌/◌, ◌%◌, ◌^◌, Bool, true, false, ℤ, List, [], ◌∷◌, ◌++◌, codes, decimal}
+use Rattle.std.specs.Prelude.{ℕ, ◌+◌, ◌/◌, ◌%◌, ◌^◌, Bool, true, false, ℤ, List, [], ◌++◌, codes}
 use Rattle.std.specs.Fmt.{signed_decimal, digits}
 use Rattle.std.specs.Int.{w32, to_be_bytes, cast_unsigned}
 use Rattle.hex.specs.Hex.{encode_lower}

@@ -1,5 +1,5 @@
 -- The line of a row.
-use Rattle.std.specs.Prelude.{ℕ, Bool, true, false, List, [], ◌∷◌, ◌++◌, codes, decimal, Option, Some, None}
+use Rattle.std.specs.Prelude.{ℕ, Bool, true, false, List, [], ◌++◌, codes, decimal, Option, Some, None}
 use Rattle.bn_base.specs.declared.fault.Fault.{Fault}
 use Rattle.bn_base.specs.declared.fault.Fault.TheVariants.{Illegal, FetchOutside}
 use Rattle.bn_base.specs.declared.row.Row.{Row}
