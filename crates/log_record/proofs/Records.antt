@@ -1,17 +1,16 @@
 -- What is read is the record whose bytes are at the front.
-use Rattle.std.proofs.Common.{◌≡◌, ℕ, zero, suc, ◌^◌, ◌<◌, ◌≤◌, ◌+◌, ◌-◌, Bool, true, false, cond, eqb, List, [], ◌∷◌, ◌++◌, length, length-append, length-drop, take, drop, Result, refl, sym, ap, ap₂, subst, ◌∙◌, append_assoc, arith}
+use Rattle.std.proofs.Common.{◌≡◌, ℕ, zero, suc, ◌^◌, ◌<◌, ◌≤◌, ◌+◌, Bool, true, false, eqb, List, [], ◌∷◌, ◌++◌, length, length-append, length-drop, drop, refl, sym, ap, ap₂, subst, ◌∙◌, append_assoc, arith}
 use Rattle.std.specs.Prelude.{Option, Some, None, slice_index, IsTrue}
 use Rattle.std.specs.List.{flat_map, AllByRecursion}
 use Rattle.std.proofs.lemmas.Bool.{ne_eqb}
 use Rattle.std.proofs.lemmas.List.{drop-drop, append_cancel_left}
-use Rattle.bn_base.specs.declared.end_mark.EndMark.{EndMark}
 use Rattle.le_numbers.specs.Numbers.{number_at, number_bytes, AreBytes}
-use Rattle.le_numbers.proofs.Fields.{drop-number_at, number_at-small, ReadsBack, reads_back}
+use Rattle.le_numbers.proofs.Fields.{drop-number_at, number_at-small, reads_back}
 use Rattle.log_record.specs.declared.record.Record.{Record}
 use Rattle.log_record.specs.declared.record.Record.TheVariants.{Header, FirstLoad, ScOk, ScFailed, Edge, End}
-use Rattle.log_record.specs.Spelling.{size_of, tag_of, bytes_of, is_marked, AreRegisters, FitsFields, Fits, BeginsWith}
+use Rattle.log_record.specs.Spelling.{size_of, tag_of, bytes_of, is_marked, FitsFields, Fits, BeginsWith}
 use Rattle.log_record.specs.Reading.{words_at, header_in, first_load_in, edge_in, end_in, record_in}
-use Rattle.log_record.proofs.Sizes.{length-words, size_of-tag_of}
+use Rattle.log_record.proofs.Sizes.{size_of-tag_of}
 use Rattle.log_record.proofs.Words.{drop-words_at, length-words_at, words_at-small, words_at-written}
 
 -- a byte, and the bytes behind it
@@ -149,7 +148,7 @@ record_stands n bytes are size within = by_tag (slice_index bytes 0) n bytes are
 
 -- ---- what is written is read
 
-tag_again : (r : Record) (rest : List ℕ) → slice_index (bytes_of r ++ rest) 0 ≡ tag_of r
+pub tag_again : (r : Record) (rest : List ℕ) → slice_index (bytes_of r ++ rest) 0 ≡ tag_of r
 tag_again (Header h n ic pc x) rest = refl
 tag_again (FirstLoad h skip value) rest = refl
 tag_again (ScOk h) rest = refl

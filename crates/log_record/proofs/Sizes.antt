@@ -1,6 +1,6 @@
 -- How many bytes records have.
-use Rattle.std.proofs.Common.{◌≡◌, ℕ, ◌+◌, ◌*◌, List, [], ◌∷◌, ◌++◌, length, drop, length-append, length-drop, arith, ap, ◌∙◌, refl}
-use Rattle.std.specs.Prelude.{Option, Some}
+use Rattle.std.proofs.Common.{◌≡◌, ℕ, ◌+◌, ◌*◌, List, [], ◌∷◌, ◌++◌, length, drop, length-append, arith, ap, ◌∙◌, refl}
+use Rattle.std.specs.Prelude.{Some}
 use Rattle.std.specs.List.{flat_map}
 use Rattle.bn_base.specs.declared.end_mark.EndMark.{EndMark}
 use Rattle.le_numbers.specs.Numbers.{number_bytes}

@@ -5,7 +5,7 @@ use Rattle.std.specs.Prelude.{slice_index}
 use Rattle.log_record.specs.Spelling.{AreRegisters}
 use Rattle.std.proofs.lemmas.List.{append-nil}
 use Rattle.le_numbers.specs.Numbers.{number_at, number_bytes, AreBytes}
-use Rattle.le_numbers.proofs.Fields.{drop-number_at, number_at-small, ReadsBack, reads_back}
+use Rattle.le_numbers.proofs.Fields.{drop-number_at, number_at-small, reads_back}
 use Rattle.log_record.specs.Reading.{words_at}
 
 -- bytes go on with the bytes of the words that are read there

@@ -1,6 +1,5 @@
 -- The record that the fields at the front of some bytes make, where there are bytes enough.
 use Rattle.std.specs.Prelude.{ℕ, zero, suc, ◌+◌, ◌==◌, List, [], ◌∷◌, slice_index, if◌then◌else◌}
-use Rattle.bn_base.specs.declared.end_mark.EndMark.{EndMark}
 use Rattle.le_numbers.specs.Numbers.{number_at}
 use Rattle.log_record.specs.declared.record.Record.{Record}
 use Rattle.log_record.specs.declared.record.Record.TheVariants.{Header, FirstLoad, ScOk, ScFailed, Edge, End}

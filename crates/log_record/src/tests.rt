@@ -1,19 +1,22 @@
+ghost use Rattle.std.specs.Prelude.{◌<◌, IsTrue, length};
+ghost use Rattle.log_record.specs.Spelling.{is_marked};
+
 use crate::{Record, read, size, write};
 use bn_base::{EndMark, Registers};
+use std::process::Abort;
 use std::test::*;
 
-fn end(reason: u8, value: u32) -> Record {
-    Record::End {
-        hart: 0,
-        mark: EndMark {
-            ic: 3,
-            reason,
-            value,
-        },
-    }
+// A record is written as these bytes, and read from them, but not from fewer.
+fn check(rt: &impl Abort, entry: Record, bytes: &[u8])
+    requires marked { IsTrue (is_marked entry) }
+    requires some { 0 < length bytes.now }
+{
+    assert_eq!(rt; write(&entry).as_slice(), bytes);
+    assert_eq!(rt; read(bytes), Some((entry, bytes.len())));
+    assert_eq!(rt; read(&bytes[..bytes.len() - 1]), None);
+    assert_eq!(rt; size(bytes[0]), Some(bytes.len()));
 }
 
-// Each kind of record but the Header, beside its bytes.
 #[test]
 fn records_have_these_bytes(rt: HostRuntime) {
     let first_load = Record::FirstLoad {
@@ -21,58 +24,53 @@ fn records_have_these_bytes(rt: HostRuntime) {
         skip: 0x0403_0201,
         value: 0xdead_beef,
     };
+    check(&rt, first_load, &[2, 7, 1, 2, 3, 4, 0xef, 0xbe, 0xad, 0xde]);
+    check(&rt, Record::ScOk { hart: 5 }, &[3, 5]);
+    check(&rt, Record::ScFailed { hart: 6 }, &[4, 6]);
     let edge = Record::Edge {
         hart: 1,
         ic: 0x0706_0504_0302_0100,
         from: 2,
         from_ic: 0x1716_1514_1312_1110,
     };
-    let cases: [(Record, &[u8]); 5] = [
-        (first_load, &[2, 7, 1, 2, 3, 4, 0xef, 0xbe, 0xad, 0xde]),
-        (Record::ScOk { hart: 5 }, &[3, 5]),
-        (Record::ScFailed { hart: 6 }, &[4, 6]),
-        (
-            edge,
-            &[
-                5, 1, 0, 1, 2, 3, 4, 5, 6, 7, 2, 16, 17, 18, 19, 20, 21, 22, 23,
-            ],
-        ),
-        (end(3, 5), &[6, 0, 3, 0, 0, 0, 0, 0, 0, 0, 3, 5, 0, 0, 0]),
+    let bytes = [
+        5, 1, 0, 1, 2, 3, 4, 5, 6, 7, 2, 16, 17, 18, 19, 20, 21, 22, 23,
     ];
-    for (entry, bytes) in cases {
-        assert_eq!(rt; read(bytes), Some((entry, bytes.len())));
-        assert_eq!(rt; size(bytes[0]), Some(bytes.len()));
-        assert_eq!(rt; read(&bytes[..bytes.len() - 1]), None);
-    }
-    assert_eq!(rt; write(&first_load).as_slice(), cases[0].1);
-    assert_eq!(rt; write(&edge).as_slice(), cases[3].1);
+    check(&rt, edge, &bytes);
+    let mark = EndMark {
+        ic: 3,
+        reason: 3,
+        value: 5,
+    };
+    let end = Record::End { hart: 0, mark };
+    check(&rt, end, &[6, 0, 3, 0, 0, 0, 0, 0, 0, 0, 3, 5, 0, 0, 0]);
 }
 
 // A Header has the number of the interval, the count, the pc and x1 to x31; x0 has no bytes.
 #[test]
 fn headers_leave_x0_out(rt: HostRuntime) {
     let mut contents = [0; 32];
-    for number in 1..32 {
-        contents[number] = 0x0100 + number as u32;
-    }
+    contents[1] = 0x0102;
+    contents[31] = 0x0304;
     let header = Record::Header {
         hart: 3,
-        interval: 1,
-        ic: 2,
+        interval: 5,
+        ic: 6,
         pc: 0x0001_0054,
         x: Registers::new(contents),
     };
-    let bytes = write(&header);
-    let bytes = bytes.as_slice();
-    assert_eq!(rt; bytes.len(), 146);
-    let front: &[u8] = &[
-        1, 3, 1, 0, 0, 0, 0, 0, 0, 0, 2, 0, 0, 0, 0, 0, 0, 0, 0x54, 0, 1, 0,
-    ];
-    assert_eq!(rt; &bytes[..22], front);
-    assert_eq!(rt; &bytes[22..30], [1, 1, 0, 0, 2, 1, 0, 0].as_slice());
-    assert_eq!(rt; &bytes[142..], [31, 1, 0, 0].as_slice());
-    assert_eq!(rt; read(bytes), Some((header, 146)));
-    assert_eq!(rt; read(&bytes[..145]), None);
+    let mut bytes = [0; 146];
+    bytes[0] = 1;
+    bytes[1] = 3;
+    bytes[2] = 5;
+    bytes[10] = 6;
+    bytes[18] = 0x54;
+    bytes[20] = 1;
+    bytes[22] = 2;
+    bytes[23] = 1;
+    bytes[142] = 4;
+    bytes[143] = 3;
+    check(&rt, header, &bytes);
 }
 
 // Which reasons are known, and which of them may have a value other than 0.

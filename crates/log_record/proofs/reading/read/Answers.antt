@@ -1,8 +1,7 @@
-use Rattle.std.proofs.Common.{◌≡◌, ℕ, true, false, ap, sym, ◌∙◌, arith}
-use Rattle.std.specs.Prelude.{Option, Some, None, slice_index}
-use Rattle.log_record.specs.declared.record.Record.{Record}
-use Rattle.log_record.specs.Spelling.{size_of, is_marked, Fits}
-use Rattle.log_record.proofs.Records.{record_stands, stands_size, read_none, read_only, read_found, unmarked}
+use Rattle.std.proofs.Common.{◌≡◌, true, false, ap, sym, ◌∙◌, arith}
+use Rattle.std.specs.Prelude.{Some, slice_index}
+use Rattle.log_record.specs.Spelling.{size_of, is_marked}
+use Rattle.log_record.proofs.Records.{read_none, read_only, read_found, unmarked}
 use Rattle.log_record.proofs.reading.read.Goals as goal
 
 pub returns-then-bytes-size-clause-only : goal.returns-then-bytes-size-clause-only

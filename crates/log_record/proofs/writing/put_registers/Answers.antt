@@ -1,4 +1,4 @@
-use Rattle.std.proofs.Common.{◌≡◌, ◌++◌, ◌∙◌, List, ℕ, ◌<◌, ◌^◌, arith, drop, take, length, length-drop, ap, sym, subst}
+use Rattle.std.proofs.Common.{◌≡◌, ◌++◌, ◌∙◌, List, ℕ, ◌<◌, ◌^◌, arith, drop, take, length, length-drop, ap, subst}
 use Rattle.std.specs.List.{flat_map, AllByRecursion}
 use Rattle.std.proofs.lemmas.List.{take_all}
 use Rattle.le_numbers.specs.Numbers.{number_bytes}
