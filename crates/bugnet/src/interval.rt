@@ -7,6 +7,7 @@ ghost use Rattle.bugnet.specs.Rows.{start_state, word_at, later, built, turn_ask
 ghost use Rattle.bugnet.specs.Replayed.{LogSuffices, same_mark, length_mark, fault_mark, asked, rows_and};
 
 use bn_base::{EndMark, Fault, HartState, Image, Register, Registers, Row, end_mark};
+use le_numbers::laws::written_numbers_are_read;
 use rv_decode::decode;
 use rv_meaning::{Ask, Want, each_instruction_is_counted_or_asks, quiet_run};
 
@@ -202,4 +203,5 @@ pub fn headline()
     ensures { Headline }
 {
     each_instruction_is_counted_or_asks();
+    written_numbers_are_read();
 }

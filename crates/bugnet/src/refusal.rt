@@ -62,24 +62,30 @@ fn push_digest(alloc: Global, text: &mut Text, digest: &[u8; 32]) -> Result<(), 
     Ok(())
 }
 
-fn push_differs(
+fn push_digests(
     alloc: Global,
     text: &mut Text,
+    what: &str,
     kept: &[u8; 32],
     found: &[u8; 32],
 ) -> Result<(), AllocError>
-    ensures { OnOk result (text.new ≡ text.old ++ (codes "program differs: " ++ digest_text kept.now ++ codes " " ++ digest_text found.now)) }
+    ensures { OnOk result (text.new ≡ text.old ++ (what.now ++ digest_text kept.now ++ codes " " ++ digest_text found.now)) }
 {
-    text.push_str("program differs: ")?;
+    text.push_str(what)?;
     push_digest(alloc, text, kept)?;
     text.push_str(" ")?;
     push_digest(alloc, text, found)
 }
 
-fn push_marks(text: &mut Text, said: &EndMark, found: &EndMark) -> Result<(), AllocError>
-    ensures { OnOk result (text.new ≡ text.old ++ (codes "replay: EndDiffers 0 " ++ mark_text said.now ++ codes " " ++ mark_text found.now)) }
+fn push_marks(
+    text: &mut Text,
+    what: &str,
+    said: &EndMark,
+    found: &EndMark,
+) -> Result<(), AllocError>
+    ensures { OnOk result (text.new ≡ text.old ++ (what.now ++ mark_text said.now ++ codes " " ++ mark_text found.now)) }
 {
-    text.push_str("replay: EndDiffers 0 ")?;
+    text.push_str(what)?;
     push_mark(text, said)?;
     text.push_str(" ")?;
     push_mark(text, found)
@@ -123,10 +129,21 @@ impl Refusal {
             }
             Refusal::Missing { place } => push_named(text, "missing: ", name_at(words, *place)),
             Refusal::TooLong { place } => push_named(text, "too long: ", name_at(words, *place)),
-            Refusal::ProgramDiffers { kept, found } => push_differs(alloc, text, kept, found),
+            Refusal::ProgramDiffers { kept, found } => push_digests(
+                alloc,
+                text,
+                "program differs: ",
+                kept,
+                found,
+            ),
             Refusal::OutOfMemory => text.push_str("out of memory"),
             Refusal::WriteFailed => text.push_str("write failed"),
-            Refusal::EndDiffers { said, found } => push_marks(text, said, found),
+            Refusal::EndDiffers { said, found } => push_marks(
+                text,
+                "replay: EndDiffers 0 ",
+                said,
+                found,
+            ),
             Refusal::NotBuilt => text.push_str("not built yet"),
         }
     }

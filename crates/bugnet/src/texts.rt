@@ -1,5 +1,5 @@
 // The lines around the rows of an interval, and the line of a recording.
-ghost use Rattle.std.specs.Prelude.{◌≡◌, ◌++◌, OnOk, codes};
+ghost use Rattle.std.specs.Prelude.{◌≡◌, ◌++◌, OnOk, codes, decimal};
 ghost use Rattle.rv_text.specs.Rows.{row_text};
 ghost use Rattle.bugnet.specs.Refusals.{mark_text};
 ghost use Rattle.bugnet.specs.Texts.{begin_text, end_text, summary_text};
@@ -39,12 +39,24 @@ pub fn push_end(text: &mut Text, mark: &EndMark) -> Result<(), AllocError>
     text.push_str("\n")
 }
 
+// Appends a number between two words.
+fn push_between(text: &mut Text, before: &str, number: u64, after: &str) -> Result<(), AllocError>
+    ensures { OnOk result (text.new ≡ text.old ++ (before.now ++ decimal number ++ after.now)) }
+{
+    text.push_str(before)?;
+    text.push_decimal(number)?;
+    text.push_str(after)
+}
+
 /// Appends the line of a recording of one turn and so many instructions.
 #[tactic(auto, unfolding(crate::specs::Texts::summary_text))]
 pub fn push_summary(text: &mut Text, instructions: u64) -> Result<(), AllocError>
     ensures { OnOk result (text.new ≡ text.old ++ summary_text instructions) }
 {
-    text.push_str("bugnet: turns 1 instructions ")?;
-    text.push_decimal(instructions)?;
-    text.push_str(" dropped 0 kept 161 end done\n")
+    push_between(
+        text,
+        "bugnet: turns 1 instructions ",
+        instructions,
+        " dropped 0 kept 161 end done\n",
+    )
 }

@@ -1,0 +1,3 @@
+mod Words
+mod Recorded
+mod Suffices
