@@ -1,5 +1,5 @@
 -- A store's map, by its entries and by the map that keeps them.
-use Rattle.std.proofs.Common.{◌≡◌, ◌≢◌, ℕ, List, [], ◌∷◌, ◌∙◌, ap, sym, cond, Bool, true, false, refl, Option, Some, None}
+use Rattle.std.proofs.Common.{◌≡◌, ◌≢◌, ℕ, List, [], ◌∷◌, ◌∙◌, ap, sym, cond, Bool, true, false, refl, Option, Some}
 use Rattle.std.specs.Prelude.{Vec, String, string_bytes, option_map, string_cmp}
 use Rattle.std.specs.Map.{lookup}
 use Rattle.std.specs.Str.{bytes_eq}

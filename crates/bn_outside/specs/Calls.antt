@@ -8,6 +8,10 @@ pub record Calls : Type 0 where
   pub failing : List ℕ
   pub made : ℕ
 
+-- before the first call
+abbrev pub fresh_calls : List ℕ → Calls
+fresh_calls failing = record { failing = failing; made = 0 }
+
 -- the number of the next call: the first one is 1, and the last count is the number of all from there on
 abbrev pub next_call : Calls → ℕ
 next_call calls = counted calls.made

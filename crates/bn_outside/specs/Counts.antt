@@ -23,6 +23,10 @@ pub record Counts : Type 0 where
   pub longs : ℕ
   pub faults : ℕ
 
+-- before the first refusal
+abbrev pub zero_counts : Counts
+zero_counts = record { misses = 0; longs = 0; faults = 0 }
+
 -- no count of a store fell
 pub record NoneFell (before after : Counts) : Type 0 where
   pub misses : before.misses ≤ after.misses

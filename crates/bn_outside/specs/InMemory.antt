@@ -1,9 +1,9 @@
 -- What callers see of a store, a source and a sink in memory.
-use Rattle.std.specs.Prelude.{ℕ, List, Result, Ok, Err, String, Vec, map, string_bytes}
+use Rattle.std.specs.Prelude.{ℕ, List, [], Result, Ok, Err, String, Vec, map, string_bytes}
 use Rattle.std.specs.Map.{lookup}
 use Rattle.std.specs.Str.{bytes_eq}
-use Rattle.bn_outside.specs.Calls.{Calls}
-use Rattle.bn_outside.specs.Counts.{Counts, counted}
+use Rattle.bn_outside.specs.Calls.{Calls, fresh_calls}
+use Rattle.bn_outside.specs.Counts.{Counts, counted, zero_counts}
 use Rattle.bn_outside.specs.Files.{Files}
 use Rattle.bn_outside.specs.declared.store.LoadError.{LoadError}
 use Rattle.bn_outside.specs.declared.store.LoadError.TheVariants as load
@@ -29,6 +29,18 @@ pub record StoreState : Type 0 where
   pub entries : List (List ℕ × List ℕ)
   pub calls : Calls
   pub counts : Counts
+
+-- a source of these bytes before its first call
+abbrev pub source_over : List ℕ → ℕ → List ℕ → SourceState
+source_over bytes most failing = record { left = bytes; most = most; calls = fresh_calls failing; faults = 0 }
+
+-- a sink before its first call
+abbrev pub empty_sink : ℕ → List ℕ → SinkState
+empty_sink most failing = record { written = []; most = most; calls = fresh_calls failing; faults = 0 }
+
+-- a store with no file before its first call
+abbrev pub empty_store : List ℕ → StoreState
+empty_store failing = record { entries = []; calls = fresh_calls failing; counts = zero_counts }
 
 -- the names and bytes that a map keeps
 abbrev pub entries_of : {A B : Type 0} → List (String A × Vec ℕ B) → List (List ℕ × List ℕ)

@@ -1,6 +1,6 @@
 // Which calls of an object in memory are to fail.
 ghost use Rattle.std.specs.Prelude.{◌≡◌, ◌↔◌, IsTrue};
-ghost use Rattle.bn_outside.specs.Calls.{NextFails, after_call};
+ghost use Rattle.bn_outside.specs.Calls.{NextFails, after_call, fresh_calls};
 
 use std::marker::Model;
 
@@ -22,7 +22,7 @@ impl Model for FailingCalls {
 
 impl FailingCalls {
     pub fn new(numbers: Vec<u64>) -> Self
-        ensures { result ≡ record { failing = numbers.items; made = 0 } }
+        ensures { result ≡ fresh_calls numbers.items }
     {
         FailingCalls { numbers, made: 0 }
     }

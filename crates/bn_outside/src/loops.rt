@@ -62,19 +62,22 @@ pub fn send_all<K: Sink>(sink: &mut K, text: &[u8]) -> Result<(), Failed>
 
 /// Reads all bytes that a source has left, where they are at most `limit`.
 ///
-/// It stops at the first byte past the limit. `Failed` comes only where a read failed. After a
-/// refusal some of the bytes that were left are gone.
+/// It stops once more than `limit` bytes have come. `Failed` comes only where a read failed. After
+/// a refusal some of the bytes that were left are gone.
 pub fn read_to_end<I: Source>(
     alloc: Global,
     source: &mut I,
     limit: usize,
 ) -> Result<Vec<u8>, ReadError>
     ensures bound { IfOk result (λ bytes. vec_len bytes ≤ limit) }
-    ensures all { IfOk result (λ bytes. ConsumesAll (I.left source.old) (I.left source.new) bytes.items) }
-    ensures long { result ≡ Err ReadError.TooLong → IfSome (I.left source.old) (λ left. limit < length left) }
+    ensures all { IfOk result (λ bytes.
+        ConsumesAll (I.left source.old) (I.left source.new) bytes.items) }
+    ensures long { result ≡ Err ReadError.TooLong →
+        IfSome (I.left source.old) (λ left. limit < length left) }
     ensures part { ConsumesPart (I.left source.old) (I.left source.new) }
     ensures later { I.faults source.old ≤ I.faults source.new }
-    ensures cause { result ≡ Err ReadError.Failed → Rose (I.faults source.old) (I.faults source.new) }
+    ensures cause { result ≡ Err ReadError.Failed →
+        Rose (I.faults source.old) (I.faults source.new) }
 {
     let mut bytes = Vec::new(alloc);
     let mut piece = [0u8; PIECE];

@@ -1,15 +1,16 @@
 // A sink in memory.
-ghost use Rattle.std.specs.Prelude.{◌≡◌, ◌≤◌, ◌<◌, [], ◌++◌, take, min, Some, IfOk, IfErr, IsErr, OnErr, length};
+ghost use Rattle.std.specs.Prelude.{◌≡◌, ◌≤◌, ◌<◌, ◌++◌, take, min, Some, IfOk, IsErr, OnErr, length};
 ghost use Rattle.bn_outside.specs.Counts.{Rose, counted};
 ghost use Rattle.bn_outside.specs.Calls.{NextFails, after_call};
+ghost use Rattle.bn_outside.specs.InMemory.{empty_sink};
 
 use crate::calls::FailingCalls;
 use crate::{Failed, Sink};
 use std::alloc::Global;
 use std::marker::Model;
 
-/// A sink that keeps what it is given. The writes whose numbers it was given fail; the first write
-/// has the number 1. A write also fails where memory is wanting.
+/// A sink that keeps what it is given. The writes whose numbers are listed fail; the first write has
+/// the number 1. Beside them a write fails for want of memory alone.
 #[derive(Drop)]
 pub struct MemorySink {
     written: Vec<u8>,
@@ -24,7 +25,12 @@ impl Model for MemorySink {
 
     ghost Value = { SinkState };
 
-    ghost view = { λ s. record { written = s.written.items; most = s.most; calls = s.calls; faults = s.faults } };
+    ghost view = { λ s. record {
+      written = s.written.items;
+      most = s.most;
+      calls = s.calls;
+      faults = s.faults;
+    } };
 
     ghost invariant = { λ s. 0 < s.most };
 }
@@ -32,7 +38,7 @@ impl Model for MemorySink {
 impl MemorySink {
     /// An empty sink that takes the whole of each piece.
     pub fn new(alloc: Global, failing: Vec<u64>) -> Self
-        ensures { result ≡ record { written = []; most = usize.MAX; calls = record { failing = failing.items; made = 0 }; faults = 0 } }
+        ensures { result ≡ empty_sink usize.MAX failing.items }
     {
         MemorySink::in_pieces(alloc, usize::MAX, failing)
     }
@@ -40,7 +46,7 @@ impl MemorySink {
     /// An empty sink that takes at most `most` bytes of each piece.
     pub fn in_pieces(alloc: Global, most: usize, failing: Vec<u64>) -> Self
         requires { 0 < most }
-        ensures { result ≡ record { written = []; most = most; calls = record { failing = failing.items; made = 0 }; faults = 0 } }
+        ensures { result ≡ empty_sink most failing.items }
     {
         MemorySink {
             written: Vec::new(alloc),
@@ -71,13 +77,19 @@ impl Sink for MemorySink {
         ensures later { self.old.faults ≤ self.new.faults }
         ensures cause { OnErr result (Rose self.old.faults self.new.faults) }
 
-        // A listed call fails, and another one only for want of memory.
+        // A listed call fails, and one that does not fail takes all that it may.
         ensures listed { NextFails self.old.calls → IsErr result }
         ensures count { IfOk result (λ n. n ≡ min self.old.most (length piece.now)) }
 
         // All else stays.
-        ensures ok { IfOk result (λ n. self.new ≡ record self.old { written = self.old.written ++ take n piece.now; calls = after_call self.old.calls }) }
-        ensures err { OnErr result (self.new ≡ record self.old { calls = after_call self.old.calls; faults = counted self.old.faults }) }
+        ensures ok { IfOk result (λ n. self.new ≡ record self.old {
+          written = self.old.written ++ take n piece.now;
+          calls = after_call self.old.calls;
+        }) }
+        ensures err { OnErr result (self.new ≡ record self.old {
+          calls = after_call self.old.calls;
+          faults = counted self.old.faults;
+        }) }
     {
         if self.calls.next_fails() {
             self.faults = self.faults.saturating_add(1);

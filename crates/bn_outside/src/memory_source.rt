@@ -2,13 +2,14 @@
 ghost use Rattle.std.specs.Prelude.{◌≡◌, ◌≤◌, ◌<◌, ◌↔◌, ◌++◌, take, drop, min, Some, IfOk, IsErr, OnErr, length};
 ghost use Rattle.bn_outside.specs.Counts.{Rose, counted};
 ghost use Rattle.bn_outside.specs.Calls.{NextFails, after_call};
+ghost use Rattle.bn_outside.specs.InMemory.{source_over};
 ghost use Rattle.bn_outside.specs.Streams.{EndsExactly};
 
 use crate::calls::FailingCalls;
 use crate::{Failed, Source};
 use std::marker::Model;
 
-/// A source over bytes in memory. Exactly the reads whose numbers it was given fail; the first read
+/// A source over bytes in memory. Exactly the reads whose numbers are listed fail; the first read
 /// has the number 1.
 #[derive(Drop)]
 pub struct MemorySource {
@@ -25,7 +26,12 @@ impl Model for MemorySource {
 
     ghost Value = { SourceState };
 
-    ghost view = { λ s. record { left = drop s.at s.bytes.items; most = s.most; calls = s.calls; faults = s.faults } };
+    ghost view = { λ s. record {
+      left = drop s.at s.bytes.items;
+      most = s.most;
+      calls = s.calls;
+      faults = s.faults;
+    } };
 
     ghost invariant = { λ s. (s.at ≤ length s.bytes.items) × (0 < s.most) };
 }
@@ -33,7 +39,7 @@ impl Model for MemorySource {
 impl MemorySource {
     /// A source of these bytes, each read of which gives as many as the buffer has room for.
     pub fn new(bytes: Vec<u8>, failing: Vec<u64>) -> Self
-        ensures { result ≡ record { left = bytes.items; most = usize.MAX; calls = record { failing = failing.items; made = 0 }; faults = 0 } }
+        ensures { result ≡ source_over bytes.items usize.MAX failing.items }
     {
         MemorySource::in_pieces(bytes, usize::MAX, failing)
     }
@@ -41,7 +47,7 @@ impl MemorySource {
     /// A source of these bytes, each read of which gives at most `most`.
     pub fn in_pieces(bytes: Vec<u8>, most: usize, failing: Vec<u64>) -> Self
         requires { 0 < most }
-        ensures { result ≡ record { left = bytes.items; most = most; calls = record { failing = failing.items; made = 0 }; faults = 0 } }
+        ensures { result ≡ source_over bytes.items most failing.items }
     {
         MemorySource {
             bytes,
@@ -73,15 +79,22 @@ impl Source for MemorySource {
         ensures later { self.old.faults ≤ self.new.faults }
         ensures cause { OnErr result (Rose self.old.faults self.new.faults) }
 
-        // Exactly the listed calls fail.
+        // Exactly the listed calls fail, and the others give all that they may.
         ensures listed { IsErr result ↔ NextFails self.old.calls }
-        ensures count { IfOk result (λ n. n ≡ min self.old.most (min (length buffer.old) (length self.old.left))) }
+        ensures count { IfOk result (λ n.
+            n ≡ min self.old.most (min (length buffer.old) (length self.old.left))) }
 
         // All else stays, the rest of the buffer too.
         ensures rest { IfOk result (λ n. buffer.new ≡ take n self.old.left ++ drop n buffer.old) }
-        ensures buffer { OnErr result (buffer.new ≡ buffer.old) }
-        ensures ok { IfOk result (λ n. self.new ≡ record self.old { left = drop n self.old.left; calls = after_call self.old.calls }) }
-        ensures err { OnErr result (self.new ≡ record self.old { calls = after_call self.old.calls; faults = counted self.old.faults }) }
+        ensures untouched { OnErr result (buffer.new ≡ buffer.old) }
+        ensures ok { IfOk result (λ n. self.new ≡ record self.old {
+          left = drop n self.old.left;
+          calls = after_call self.old.calls;
+        }) }
+        ensures err { OnErr result (self.new ≡ record self.old {
+          calls = after_call self.old.calls;
+          faults = counted self.old.faults;
+        }) }
     {
         if self.calls.next_fails() {
             self.faults = self.faults.saturating_add(1);

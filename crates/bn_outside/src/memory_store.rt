@@ -1,9 +1,9 @@
 // A store in memory.
-ghost use Rattle.std.specs.Prelude.{◌≡◌, ◌≤◌, ◌↔◌, ◌⊎◌, [], MatchOption, Some, None, Err, IfOk, OnOk, OnErr, vec_len};
+ghost use Rattle.std.specs.Prelude.{◌≡◌, ◌≤◌, ◌↔◌, Some, Err, IfOk, OnOk, OnErr, option_map, vec_len};
 ghost use Rattle.bn_outside.specs.Counts.{NoneFell, LoadCause, SaveCause};
 ghost use Rattle.bn_outside.specs.Calls.{NextFails, after_call};
 ghost use Rattle.bn_outside.specs.Files.{LoadTells, SameElsewhere};
-ghost use Rattle.bn_outside.specs.InMemory.{files_in, counts_after_load, counts_after_save};
+ghost use Rattle.bn_outside.specs.InMemory.{empty_store, files_in, counts_after_load, counts_after_save};
 
 use crate::calls::FailingCalls;
 use crate::{LoadError, SaveError, Store};
@@ -11,8 +11,8 @@ use std::alloc::{AllocError, Global};
 use std::collections::BTreeMap;
 use std::marker::Model;
 
-/// A store of files in memory. Exactly the loads and saves whose numbers it was given fail; they
-/// are counted together, and the first one has the number 1.
+/// A store of files in memory. Exactly the loads and saves whose numbers are listed fail; they are
+/// counted together, and the first one has the number 1.
 #[derive(Drop)]
 pub struct MemoryStore {
     alloc: Global,
@@ -38,11 +38,7 @@ impl Model for MemoryStore {
 impl MemoryStore {
     /// A store with no file.
     pub fn new(alloc: Global, failing: Vec<u64>) -> Self
-        ensures { result ≡ record {
-          entries = [];
-          calls = record { failing = failing.items; made = 0 };
-          counts = record { misses = 0; longs = 0; faults = 0 };
-        } }
+        ensures { result ≡ empty_store failing.items }
     {
         MemoryStore {
             alloc,
@@ -54,11 +50,12 @@ impl MemoryStore {
         }
     }
 
-    /// Gives a name these bytes. This is no call that is counted or that fails by its number, and
-    /// without memory all stays as it was.
+    /// Gives `name` these bytes, in place of what it had. This is none of the counted calls. For want
+    /// of memory all stays as it was.
     pub fn put(&mut self, name: &str, bytes: &[u8]) -> Result<(), AllocError>
         ensures ok { OnOk result (files_in self.new.entries name.now ≡ Some bytes.now) }
-        ensures others { SameElsewhere name.now (files_in self.old.entries) (files_in self.new.entries) }
+        ensures others { SameElsewhere name.now
+            (files_in self.old.entries) (files_in self.new.entries) }
         ensures rest { self.new ≡ record self.old { entries = self.new.entries } }
         ensures err { OnErr result (self.new ≡ self.old) }
     {
@@ -68,9 +65,9 @@ impl MemoryStore {
         Ok(())
     }
 
-    /// The bytes of a name, where it is there.
+    /// The bytes of `name`, where it is there. This is none of the counted calls.
     pub fn bytes(&self, name: &str) -> Option<&[u8]>
-        ensures { MatchOption result (files_in self.now.entries name.now ≡ None) (λ bytes. files_in self.now.entries name.now ≡ Some bytes.now) }
+        ensures { files_in self.now.entries name.now ≡ option_map (λ bytes. bytes.now) result }
     {
         match self.files.get(name) {
             Some(bytes) => Some(bytes.as_slice()),
@@ -93,7 +90,10 @@ impl Store for MemoryStore {
 
         // Exactly the listed calls fail.
         ensures listed { (result ≡ Err LoadError.Failed) ↔ NextFails self.old.calls }
-        ensures rest { self.new ≡ record self.old { calls = after_call self.old.calls; counts = counts_after_load result self.old.counts } }
+        ensures rest { self.new ≡ record self.old {
+          calls = after_call self.old.calls;
+          counts = counts_after_load result self.old.counts;
+        } }
     {
         if self.calls.next_fails() {
             self.faults = self.faults.saturating_add(1);
@@ -112,7 +112,8 @@ impl Store for MemoryStore {
 
     fn save(&mut self, name: &str, bytes: &[u8]) -> Result<(), SaveError>
         ensures saved { OnOk result (files_in self.new.entries name.now ≡ Some bytes.now) }
-        ensures others { SameElsewhere name.now (files_in self.old.entries) (files_in self.new.entries) }
+        ensures others { SameElsewhere name.now
+            (files_in self.old.entries) (files_in self.new.entries) }
         ensures later { NoneFell self.old.counts self.new.counts }
         ensures cause { SaveCause self.old.counts self.new.counts result }
 

@@ -1,4 +1,4 @@
-use Rattle.std.proofs.Common.{rules, arith, ◌<◌, length}
+use Rattle.std.proofs.Common.{rules, arith}
 use Rattle.bn_outside.proofs.Pieces.{consumes_all, consumes_both}
 use Rattle.bn_outside.proofs.loops.read_to_end.Goals as goal
 

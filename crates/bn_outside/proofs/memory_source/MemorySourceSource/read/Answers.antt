@@ -1,5 +1,4 @@
-use Rattle.std.proofs.Common.{◌≡◌, ◌+◌, ◌≤◌, length, arith, length-append, length-drop, ap, sym, ◌∙◌, drop}
-use Rattle.std.proofs.lemmas.List.{drop_all}
+use Rattle.std.proofs.Common.{arith, ap, sym, ◌∙◌}
 use Rattle.bn_outside.proofs.Pieces.{source_gives}
 use Rattle.bn_outside.proofs.memory_source.MemorySourceSource.read.Goals as goal
 

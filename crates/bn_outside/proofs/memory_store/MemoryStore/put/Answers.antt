@@ -1,4 +1,4 @@
-use Rattle.std.proofs.Common.{ap, ◌∙◌, refl}
+use Rattle.std.proofs.Common.{ap, ◌∙◌}
 use Rattle.bn_outside.specs.InMemory.{files_in}
 use Rattle.bn_outside.proofs.Entries.{put_there, put_elsewhere}
 use Rattle.bn_outside.proofs.memory_store.MemoryStore.put.Goals as goal
