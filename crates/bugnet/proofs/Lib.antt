@@ -1,3 +1,4 @@
 mod Words
+mod Loads
 mod Recorded
 mod Suffices

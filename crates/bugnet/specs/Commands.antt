@@ -89,8 +89,11 @@ file_or (Some bytes) words place limit go = if nat_lt limit (length bytes) then 
 unfoldable pub with_file : Files → List (String Global) → ℕ → ℕ → (List ℕ → Told) → Told
 with_file files words place limit go = file_or (files (name_at words place)) words place limit go
 
+abbrev pub replay_log : List (String Global) → Files → List ℕ → Told
+replay_log words files log = with_file files words 3 67108864 (λ elf. replay_of words log elf)
+
 abbrev pub replay_told : List (String Global) → Files → Told
-replay_told words files = with_file files words 2 268500992 (λ log. with_file files words 3 67108864 (λ elf. replay_of words log elf))
+replay_told words files = with_file files words 2 268500992 (λ log. replay_log words files log)
 
 abbrev pub record_told : List (String Global) → Files → Told
 record_told words files = with_file files words 4 67108864 (λ elf. record_of words elf)

@@ -6,4 +6,5 @@ pub mod Refusals
 pub mod Texts
 pub mod Commands
 pub mod Outside
+pub mod Printed
 pub mod Headline

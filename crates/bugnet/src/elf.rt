@@ -1,5 +1,5 @@
 // The small program file.
-ghost use Rattle.std.specs.Prelude.{◌≡◌, ◌+◌, ◌*◌, ◌<◌, ◌≤◌, ◌^◌, ◌++◌, length, IfOk, OnOk, vec_len};
+ghost use Rattle.std.specs.Prelude.{◌≡◌, ◌+◌, ◌*◌, ◌<◌, ◌≤◌, ◌^◌, ◌++◌, length, IfOk, IfSome, OnOk, vec_len};
 ghost use Rattle.std.specs.Option.{option_map};
 ghost use Rattle.std.specs.List.{flat_map};
 ghost use Rattle.le_numbers.specs.Numbers.{number_bytes};
@@ -61,7 +61,8 @@ fn read_words(alloc: Global, bytes: &[u8], at: usize, count: usize) -> Result<Ve
 
 // These words, where their file is these bytes.
 fn words_of(alloc: Global, bytes: &[u8], words: Vec<u32>) -> Result<Option<Vec<u32>>, AllocError>
-    ensures found { IfOk result (λ found. option_map (λ words. words.items) found ≡ words_of bytes.now words.items) }
+    ensures value { IfOk result (λ found. option_map (λ words. words.items) found ≡ words_of bytes.now words.items) }
+    ensures count { IfOk result (λ found. IfSome found (λ words. vec_len words ≤ 65536)) }
 {
     if words.len() < 1 {
         return Ok(None);
@@ -79,7 +80,8 @@ fn words_of(alloc: Global, bytes: &[u8], words: Vec<u32>) -> Result<Option<Vec<u
 
 /// The code words of a program file, where it is a small one.
 pub fn words_in(alloc: Global, bytes: &[u8]) -> Result<Option<Vec<u32>>, AllocError>
-    ensures { IfOk result (λ found. option_map (λ words. words.items) found ≡ words_in bytes.now) }
+    ensures value { IfOk result (λ found. option_map (λ words. words.items) found ≡ words_in bytes.now) }
+    ensures count { IfOk result (λ found. IfSome found (λ words. vec_len words ≤ 65536)) }
 {
     if bytes.len() < 84 {
         return Ok(None);

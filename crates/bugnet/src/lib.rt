@@ -6,9 +6,12 @@
 #![tactic(auto)]
 
 mod answer;
+mod commands;
 mod elf;
 mod interval;
+mod loading;
 mod log;
+mod printing;
 mod refusal;
 mod texts;
 
