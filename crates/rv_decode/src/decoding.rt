@@ -60,7 +60,9 @@ fn rs2(word: u32) -> u8
 
 /// The offset of a branch: bits 31, 7, 30 to 25 and 11 to 8, then a 0.
 fn branch_bits(word: u32) -> u32
-    ensures value { result ≡ field 31 1 word * 2 ^ 12 + field 7 1 word * 2 ^ 11 + field 25 6 word * 2 ^ 5 + field 8 4 word * 2 }
+    ensures value { result ≡
+        field 31 1 word * 2 ^ 12 + field 7 1 word * 2 ^ 11 + field 25 6 word * 2 ^ 5
+        + field 8 4 word * 2 }
     ensures bound { result < 2 ^ 13 }
 {
     (word >> 31) % 2 * 4096 + (word >> 7) % 2 * 2048 + (word >> 25) % 64 * 32 + (word >> 8) % 16 * 2
@@ -68,7 +70,9 @@ fn branch_bits(word: u32) -> u32
 
 /// The offset of a jump: bits 31, 19 to 12, 20 and 30 to 21, then a 0.
 fn jump_bits(word: u32) -> u32
-    ensures value { result ≡ field 31 1 word * 2 ^ 20 + field 12 8 word * 2 ^ 12 + field 20 1 word * 2 ^ 11 + field 21 10 word * 2 }
+    ensures value { result ≡
+        field 31 1 word * 2 ^ 20 + field 12 8 word * 2 ^ 12 + field 20 1 word * 2 ^ 11
+        + field 21 10 word * 2 }
     ensures bound { result < 2 ^ 21 }
 {
     (word >> 31) % 2 * 0x0010_0000

@@ -129,12 +129,14 @@ fn laid(format: Format, instr: &Instr) -> u32
     }
 }
 
-/// The word of an instruction, given that some word spells it. Every instruction but a fence has one
-/// word; a fence, of which only the name is kept, gives `0ff0000f`, which is `fence iorw, iorw`.
+/// The word of an instruction, given that some word spells it. Every instruction but a fence has
+/// one word; a fence, of which only the name is kept, gives `0ff0000f`, which is
+/// `fence iorw, iorw` (section 2.7 of the RISC-V unprivileged specification).
 pub fn encode(instr: &Instr) -> u32
     requires { IsSpelled (seen instr.now) }
     ensures again { decoded result ≡ Some (seen instr.now) }
-    ensures only { (w : ℕ) → w < 2 ^ 32 → decoded w ≡ Some (seen instr.now) → instr.now.name ≢ Fence → result ≡ w }
+    ensures only { (w : ℕ) → w < 2 ^ 32 →
+        decoded w ≡ Some (seen instr.now) → instr.now.name ≢ Fence → result ≡ w }
     ensures fence { instr.now.name ≡ Fence → result ≡ 0x0ff0000f }
 {
     fixed_of(instr.name) + laid(instr.name.format(), instr)

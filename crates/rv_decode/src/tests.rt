@@ -66,8 +66,8 @@ fn words_have_the_assemblers_fields_and_come_back(rt: HostRuntime) {
 
 #[test]
 fn other_words_are_no_instruction(rt: HostRuntime) {
-    // All zeros, all ones, a shift by 32, lr.w with an rs2, ld, sd, fence.i, mret, csrrw, amoadd.d, an
-    // unused funct7, an unused funct3.
+    // All zeros, all ones, a shift by 32, lr.w with an rs2, ld, sd, fence.i, mret, csrrw, amoadd.d,
+    // an unused funct7, an unused funct3.
     for word in [
         0x00000000, 0xffffffff, 0x02051513, 0x1015252f, 0x00003003, 0x00003023, 0x0000100f,
         0x30200073, 0xc0001073, 0x0000302f, 0x04000033, 0x00002063,

@@ -32,7 +32,8 @@ fn is_load_reserved(name: Name) -> bool
 
 /// After rd, the operands of format I.
 fn write_immediate(instr: &Instr, text: &mut Text) -> Result<(), AllocError>
-    ensures ok { OnOk result (text.new ≡ text.old ++ immediate_operands (is_relative instr.now.name) (seen instr.now)) }
+    ensures ok { OnOk result (text.new ≡
+        text.old ++ immediate_operands (is_relative instr.now.name) (seen instr.now)) }
     ensures begins { BeginsWith text.old text.new }
 {
     if is_relative(instr.name) {
@@ -44,7 +45,8 @@ fn write_immediate(instr: &Instr, text: &mut Text) -> Result<(), AllocError>
 
 /// After rd, the operands of an atomic instruction.
 fn write_atomic(instr: &Instr, text: &mut Text) -> Result<(), AllocError>
-    ensures ok { OnOk result (text.new ≡ text.old ++ atomic_operands (is_load_reserved instr.now.name) (seen instr.now)) }
+    ensures ok { OnOk result (text.new ≡
+        text.old ++ atomic_operands (is_load_reserved instr.now.name) (seen instr.now)) }
     ensures begins { BeginsWith text.old text.new }
 {
     if is_load_reserved(instr.name) {
@@ -57,7 +59,8 @@ fn write_atomic(instr: &Instr, text: &mut Text) -> Result<(), AllocError>
 /// The first two operands, both registers.
 fn write_registers(first: u8, second: u8, text: &mut Text) -> Result<(), AllocError>
     requires { (first < 32) × (second < 32) }
-    ensures ok { OnOk result (text.new ≡ text.old ++ (first_operand first ++ register_operand second)) }
+    ensures ok { OnOk result (text.new ≡
+        text.old ++ (first_operand first ++ register_operand second)) }
     ensures begins { BeginsWith text.old text.new }
 {
     write_first(first, text)?;

@@ -1,8 +1,8 @@
 //! The texts of instructions and rows.
 //!
-//! [`write_instr`] appends an instruction as an assembler would take it, with the registers by their
-//! names in the calling convention and no pseudo-instruction; [`write_row`] appends one line for what
-//! an instruction did. Both append to a [`Text`].
+//! [`write_instr`] appends an instruction as an assembler would take it, with the registers by
+//! their names in the calling convention and no pseudo-instruction; [`write_row`] appends one line
+//! for what an instruction did. Both append to a [`Text`].
 #![tactic(auto)]
 
 mod instructions;

@@ -69,7 +69,8 @@ fn write_word(pc: Addr, word: u32, instr: Option<Instr>, text: &mut Text) -> Res
 
 /// The code of a row: the word and its text.
 fn write_code(row: &Row, text: &mut Text) -> Result<(), AllocError>
-    ensures ok { OnOk result (text.new ≡ text.old ++ code_text row.now.pc row.now.fault (shown_word row.now.fault row.now.word)) }
+    ensures ok { OnOk result (text.new ≡ text.old
+        ++ code_text row.now.pc row.now.fault (shown_word row.now.fault row.now.word)) }
     ensures begins { BeginsWith text.old text.new }
 {
     match shown_word(row.fault, row.word) {
