@@ -1,4 +1,5 @@
 mod Words
+mod Prints
 mod Loads
 mod Recorded
 mod Suffices

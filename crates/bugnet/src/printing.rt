@@ -6,7 +6,8 @@ ghost use Rattle.bn_outside.specs.Streams.{AppendsPart};
 ghost use Rattle.rv_text.specs.Rows.{row_text};
 ghost use Rattle.bugnet.specs.Refusals.{line_of, status_of};
 ghost use Rattle.bugnet.specs.Texts.{rows_text, begin_text, end_text};
-ghost use Rattle.bugnet.specs.Replayed.{rows_and};
+ghost use Rattle.bugnet.specs.Rows.{built};
+ghost use Rattle.bugnet.specs.Replayed.{asked, rows_and};
 ghost use Rattle.bugnet.specs.Printed.{rows_in, end_of_interval, interval_text};
 ghost use Rattle.bugnet.specs.Outside.{replay_in, Wrote, Sent, ToldRefusal};
 
@@ -14,8 +15,9 @@ use crate::answer::Reading;
 use crate::interval::{Outcome, asked, length_mark, next_of, row_of};
 use crate::refusal::Refusal;
 use crate::texts::{push_begin, push_end};
-use bn_base::Row;
+use bn_base::{HartState, Row};
 use bn_outside::{Sink, send_all};
+use rv_meaning::Want;
 use rv_text::{Text, write_row};
 use std::alloc::Global;
 
@@ -60,4 +62,51 @@ fn send_row<O: Sink>(text: &mut Text, row: &Option<Row>, out: &mut O) -> Result<
             send(out, text)
         }
     }
+}
+
+// Sends the row of an ask before the end of the interval, where it is done.
+fn send_last<O: Sink>(
+    text: &mut Text,
+    reading: &Reading,
+    state: &HartState,
+    want: &Want,
+    out: &mut O,
+) -> Result<Outcome, Refusal>
+    ensures sent { let r = asked reading.now.image reading.now.kept.mark state.now (built reading.now.image state.now want.now) in
+        Sent (O.written out.old) (O.written out.new) (O.faults out.old) (O.faults out.new) (rows_text r.rows) (λ outcome. outcome ≡ r.outcome) result }
+    ensures later { O.faults out.old ≤ O.faults out.new }
+{
+    let (row, outcome) = asked(&reading.image, &reading.kept.mark, state, want);
+    match send_row(text, &row, out) {
+        Ok(()) => Ok(outcome),
+        Err(refusal) => Err(refusal),
+    }
+}
+
+// Sends the rows of an interval, one by one.
+fn send_rows<O: Sink>(
+    alloc: Global,
+    reading: &Reading,
+    out: &mut O,
+) -> Result<Outcome, Refusal>
+    ensures sent { let r = replay_in reading.now in
+        Sent (O.written out.old) (O.written out.new) (O.faults out.old) (O.faults out.new) (rows_text r.rows) (λ outcome. outcome ≡ r.outcome) result }
+    ensures later { O.faults out.old ≤ O.faults out.new }
+{
+    let mut text = Text::new(alloc);
+    let mut state = reading.kept.start;
+    for place in 0..reading.kept.mark.ic {
+        let _left = reading.kept.mark.ic - place;
+        match next_of(&reading.image, &state) {
+            Ok(after) => {
+                let row = Some(row_of(&reading.image, &state, &after));
+                match send_row(&mut text, &row, out) {
+                    Ok(()) => state = after,
+                    Err(refusal) => return Err(refusal),
+                }
+            }
+            Err(want) => return send_last(&mut text, reading, &state, &want, out),
+        }
+    }
+    Ok(Outcome::EndDiffers(length_mark(&state)))
 }
