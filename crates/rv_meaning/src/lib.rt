@@ -16,5 +16,5 @@ pub use access::{loaded_value, stored_word};
 pub use amo::AmoOp;
 pub use asks::{Ask, Reply, Want};
 pub use interpreter::quiet_run;
-pub use laws::{each_ask_is_orderly, each_instruction_is_counted_or_asks};
+pub use laws::{each_ask_is_orderly, each_instruction_is_counted_or_asks, registers_stay_words};
 pub use replies::absorb;
