@@ -9,7 +9,15 @@ use Rattle.bn_outside.specs.Streams.{AppendsPart}
 use Rattle.bn_base.specs.declared.row.Row.{Row}
 use Rattle.rv_text.specs.Rows.{row_text}
 use Rattle.bugnet.specs.Texts.{rows_text}
-use Rattle.bugnet.specs.Replayed.{Replayed, with_row}
+use Rattle.bugnet.specs.Printed.{end_of_interval}
+use Rattle.bn_base.specs.Programs.{Program}
+use Rattle.bn_base.specs.declared.state.HartState.{HartState}
+use Rattle.bn_base.specs.declared.end_mark.EndMark.{EndMark}
+use Rattle.rv_meaning.specs.declared.asks.Want.{Want}
+use Rattle.rv_meaning.specs.Execute.{Quiet, Asks, step}
+use Rattle.bugnet.specs.Rows.{row_of, built}
+use Rattle.bugnet.specs.Replayed.{Replayed, with_row, replayed, asked, ends_without_row, length_mark}
+use Rattle.bugnet.proofs.Suffices.{replayed-quiet, replayed-asks}
 use Rattle.bugnet.specs.Outside.{Sent, SendStops, Wrote}
 use Rattle.bugnet.specs.declared.interval.Outcome.{Outcome}
 use Rattle.bugnet.specs.declared.refusal.Refusal.{Refusal}
@@ -111,3 +119,36 @@ so_far-stopped whole rest row old now next before after last r s h stops =
     let same : rows_text (row ∷ []) ++ rows_text rest.rows ≡ rows_text (with_row row rest).rows = ap (λ (t : List ℕ). t ++ rows_text rest.rows) (append-nil (row_text row)) in
     let there = subst (λ (t : List ℕ). AppendsPart now next t) same more in
     (subst (λ (t : List ℕ). AppendsPart old next t) (sym s.rows) (part-behind old now next s.sent (rows_text (with_row row rest).rows) s.appended there), stops-later before after last r s.later stops)
+
+-- a quiet instruction before the end gives one row
+pub replayed-more : (i : Program) (mark : EndMark) (s t : HartState) (n left : ℕ) (row : Row) → n ≡ suc left → step i s ≡ Quiet t → row ≡ row_of i s t
+    → replayed i mark s n ≡ with_row row (replayed i mark t left)
+replayed-more i mark s t n left row e quiet is =
+    ap (λ (k : ℕ). replayed i mark s k) e ∙ replayed-quiet i mark s t left quiet ∙ ap (λ (r : Row). with_row r (replayed i mark t left)) (sym is)
+
+-- an ask before the end ends the replay
+pub replayed-last : (i : Program) (mark : EndMark) (s : HartState) (w : Want) (n left : ℕ) → n ≡ suc left → step i s ≡ Asks w
+    → replayed i mark s n ≡ asked i mark s (built i s w)
+replayed-last i mark s w n left e asks = ap (λ (k : ℕ). replayed i mark s k) e ∙ replayed-asks i mark s w left asks
+
+pub replayed-end : (i : Program) (mark : EndMark) (s : HartState) (n : ℕ) → n ≡ 0 → replayed i mark s n ≡ ends_without_row (length_mark s)
+replayed-end i mark s n e = ap (λ (k : ℕ). replayed i mark s k) e
+
+-- two texts one after the other
+pub sent-both : {A B : Type 0} (old now next : Option (List ℕ)) (before after last : ℕ) (s t : List ℕ) (P : B → Type 0) (value : A) (result : Result B Refusal)
+    → Appends old now s → before ≤ after → Sent now next after last t P result → Sent old next before last (s ++ t) P result
+sent-both old now next before after last s t P value (Ok b) h fell k = (appends-both old now next s t h k.0, k.1)
+sent-both old now next before after last s t P value (Err r) h fell k = (part-behind old now next s t h k.0, stops-later before after last r fell k.1)
+
+-- a text that wasn't sent whole, before another
+pub sent-stopped : (old now : Option (List ℕ)) (before after : ℕ) (s t : List ℕ) (r : Refusal)
+    → AppendsPart old now s × SendStops before after r → AppendsPart old now (s ++ t) × SendStops before after r
+sent-stopped old now before after s t r h = (part-longer old now s t h.0, h.1)
+
+-- the line after the rows wasn't sent whole
+pub sent-last : (old now next : Option (List ℕ)) (before after last : ℕ) (s : List ℕ) (mark : EndMark) (whole outcome : Outcome) (r : Refusal)
+    → Appends old now s → outcome ≡ whole → before ≤ after → AppendsPart now next (end_of_interval mark outcome) × SendStops after last r
+    → AppendsPart old next (s ++ end_of_interval mark whole) × SendStops before last r
+sent-last old now next before after last s mark whole outcome r h same fell k =
+    let there = subst (λ (o : Outcome). AppendsPart now next (end_of_interval mark o)) same k.0 in
+    (part-behind old now next s (end_of_interval mark whole) h there, stops-later before after last r fell k.1)

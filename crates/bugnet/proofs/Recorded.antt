@@ -1,5 +1,5 @@
 -- The log file that a recording saves is read back, and its replay gives the run's rows.
-use Rattle.std.proofs.Common.{◌≡◌, ℕ, zero, suc, ◌+◌, ◌-◌, ◌*◌, ◌^◌, ◌≤◌, ◌<◌, nat_lt, min, List, [], ◌∷◌, ◌++◌, length, take, drop, Some, None, ap, ◌∙◌, sym, refl, cond, Bool, true, false, ◌==◌, arith, subst, append_assoc, length-append}
+use Rattle.std.proofs.Common.{◌≡◌, ℕ, zero, suc, ◌+◌, ◌-◌, ◌*◌, ◌^◌, ◌≤◌, ◌<◌, nat_lt, min, List, [], ◌∷◌, ◌++◌, length, take, drop, Some, None, ap, ◌∙◌, sym, refl, cond, Bool, true, false, ◌==◌, ◌&&◌, arith, subst, append_assoc, length-append}
 use Rattle.std.proofs.lemmas.Bool.Decides.{nat_tests}
 use Rattle.std.proofs.lemmas.List.{drop_at, take_at}
 use Rattle.std.proofs.lemmas.Slice.Eq.{bytes_eq-Decides}
@@ -10,7 +10,9 @@ use Rattle.sha2.specs.Sha256.{sha256}
 use Rattle.sha2.proofs.Facts256.{length-sha256}
 use Rattle.bn_base.specs.Programs.{Program}
 use Rattle.bn_base.specs.declared.end_mark.EndMark.{EndMark}
-use Rattle.rv_meaning.specs.Execute.{count_up}
+use Rattle.bn_base.specs.declared.state.HartState.{HartState}
+use Rattle.rv_meaning.specs.Execute.{count_up, ask_of}
+use Rattle.rv_meaning.specs.WordStates.{AreWords}
 use Rattle.le_numbers.specs.Numbers.{number_at, number_bytes}
 use Rattle.log_record.specs.Reading.{words_at}
 use Rattle.bugnet.specs.SmallElf.{words_in, program_of}
@@ -68,7 +70,7 @@ laid s d a b h e f s_is d_is a_is b_is h_is =
     let parts : whole ≡ front ++ (h ++ (e ++ f)) = append_assoc front (h ++ e) f ∙ ap (λ (t : List ℕ). front ++ t) (append_assoc h e f) in
     let rest = h ++ (e ++ f) in
     let after_s : whole ≡ s ++ (d ++ (a ++ (b ++ rest))) =
-        parts ∙ append_assoc (s ++ d ++ a) b rest ∙ append_assoc (s ++ d) a (b ++ rest) ∙ append_assoc s d (a ++ (b ++ rest)) in
+    parts ∙ append_assoc (s ++ d ++ a) b rest ∙ append_assoc (s ++ d) a (b ++ rest) ∙ append_assoc s d (a ++ (b ++ rest)) in
     let fh = front ++ h in
     let fh_is : length fh ≡ 238 = simp length-append (omega (arith, front_is, h_is)) in
     let after_h : whole ≡ fh ++ (e ++ f) = parts ∙ sym (append_assoc front h (e ++ f)) in
@@ -157,14 +159,34 @@ counted_low n h = omega arith
 counted_most : (n : ℕ) → n < 0 + 100000 → count_up n ≤ 100000
 counted_most n h = omega arith
 
-pub headline : Counted → ReadBack → Headline
+-- the registers of a hart stay words
+abbrev pub StayWords : Type 0
+StayWords = (i : Program) (budget : ℕ) (s : HartState) → AreWords s.x → AreWords (ask_of i budget s).state.x
+
+-- each of these is a word
+all_words : List ℕ → Bool
+all_words [] = true
+all_words (x ∷ xs) = nat_lt x (2 ^ 32) && all_words xs
+
+words_each : (xs : List ℕ) → all_words xs ≡ true → AreWords xs
+unfolding all_words
+words_each [] h r = omega arith
+words_each (x ∷ xs) h zero = grind (arith, nat_tests)
+words_each (x ∷ xs) h (suc r) = words_each xs (grind arith) r
+
+start_words : AreWords start_state.x
+unfolding all_words
+start_words = words_each start_state.x refl
+
+pub headline : Counted → StayWords → ReadBack → Headline
 unfolding replay_of ended
-headline law back words elf code program exit fits =
+headline law stay back words elf code program exit =
+    let fits : (exit_mark (run_ask code).state).value < 2 ^ 32 = stay (program_of code) 100000 start_state start_words 10 in
     let i = program_of code in
     let kept = kept_of elf code in
     let early : (run_ask code).state.ic < 0 + 100000 = turn_before law i 100000 start_state exit in
     let suffices : replayed i kept.mark start_state kept.mark.ic ≡ record { rows = rows_of i start_state 100000; outcome = Done } =
-        log_suffices law i start_state 100000 kept.mark.ic exit (counted_one (run_ask code).state.ic early) (counted_low (run_ask code).state.ic early) in
+    log_suffices law i start_state 100000 kept.mark.ic exit (counted_one (run_ask code).state.ic early) (counted_low (run_ask code).state.ic early) in
     let same : bytes_eq (sha256 elf) (sha256 elf) ≡ true = (bytes_eq-Decides (sha256 elf) (sha256 elf)).1 refl in
     ap (replay_kept words elf) (log_in-log_bytes back (sha256 elf) kept.mark.ic kept.mark.value (length-sha256 elf) (counted_most (run_ask code).state.ic early) fits)
     ∙ ap (λ (b : Bool). replay_same b words kept elf) same

@@ -1,5 +1,5 @@
 -- The headline: the log that a recording saves gives the recorded run's rows.
-use Rattle.std.specs.Prelude.{◌≡◌, ◌<◌, ◌^◌, ℕ, List, [], ◌++◌, Some, None}
+use Rattle.std.specs.Prelude.{◌≡◌, ℕ, List, [], ◌++◌, Some, None}
 use Rattle.std.specs.declared.string.String.{String}
 use Rattle.std.specs.declared.alloc.Global.{Global}
 use Rattle.sha2.specs.Sha256.{sha256}
@@ -37,5 +37,4 @@ abbrev pub Headline : Type 0
 Headline = (words : List (String Global)) (elf code : List ℕ)
     → words_in elf ≡ Some code
     → IsExit (run_ask code).want
-    → (exit_mark (run_ask code).state).value < 2 ^ 32
     → replay_of words (file_of_run elf code) elf ≡ run_text code

@@ -7,4 +7,5 @@ pub mod Texts
 pub mod Commands
 pub mod Outside
 pub mod Printed
+pub mod Run
 pub mod Headline

@@ -82,12 +82,7 @@ fn replay_kept(
 
 /// The replay of a log file with a program file.
 #[tactic(auto, unfolding(crate::specs::Commands::replay_of))]
-pub fn replay_of(
-    alloc: Global,
-    words: &[String],
-    log: &[u8],
-    elf: &[u8],
-) -> Result<Answer, Refusal>
+pub fn replay_of(alloc: Global, words: &[String], log: &[u8], elf: &[u8]) -> Result<Answer, Refusal>
     ensures gives { Gives words.now (replay_of words.now log.now elf.now) result }
     ensures own { IsOwn result }
 {
@@ -110,7 +105,14 @@ fn recorded(
         Want::System { .. } => {
             let mark = exit_mark(state);
             let start = start_state();
-            let log = write_log(alloc, &Kept { digest, start, mark })?;
+            let log = write_log(
+                alloc,
+                &Kept {
+                    digest,
+                    start,
+                    mark,
+                },
+            )?;
             Ok(Answer::Recorded(Recording {
                 log,
                 instructions: mark.ic,

@@ -9,7 +9,7 @@ ghost use Rattle.bugnet.specs.Replayed.{LogSuffices, same_mark, length_mark, fau
 use bn_base::{EndMark, Fault, HartState, Image, Register, Registers, Row, end_mark};
 use le_numbers::laws::written_numbers_are_read;
 use rv_decode::decode;
-use rv_meaning::{Ask, Want, each_instruction_is_counted_or_asks, quiet_run};
+use rv_meaning::{Ask, Want, each_instruction_is_counted_or_asks, quiet_run, registers_stay_words};
 
 /// How the replay of an interval ends.
 #[derive(Clone, Copy, Debug, PartialEq, Eq, Drop)]
@@ -203,5 +203,6 @@ pub fn headline()
     ensures { Headline }
 {
     each_instruction_is_counted_or_asks();
+    registers_stay_words();
     written_numbers_are_read();
 }

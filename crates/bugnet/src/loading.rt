@@ -58,11 +58,7 @@ fn replay_with<S: Store>(
 }
 
 // Loads the log and the program, and replays.
-fn replay_files<S: Store>(
-    alloc: Global,
-    words: &[String],
-    store: &mut S,
-) -> Result<Answer, Refusal>
+fn replay_files<S: Store>(alloc: Global, words: &[String], store: &mut S) -> Result<Answer, Refusal>
     ensures told { WithFiles (S.files store.old) (λ files. Gives words.now (replay_told words.now files) result) }
     ensures same { S.files store.new ≡ S.files store.old }
     ensures later { NoneFell (S.counts store.old) (S.counts store.new) }
@@ -75,11 +71,7 @@ fn replay_files<S: Store>(
 }
 
 // Loads the program and records.
-fn record_file<S: Store>(
-    alloc: Global,
-    words: &[String],
-    store: &mut S,
-) -> Result<Answer, Refusal>
+fn record_file<S: Store>(alloc: Global, words: &[String], store: &mut S) -> Result<Answer, Refusal>
     ensures told { WithFiles (S.files store.old) (λ files. Gives words.now (record_told words.now files) result) }
     ensures same { S.files store.new ≡ S.files store.old }
     ensures later { NoneFell (S.counts store.old) (S.counts store.new) }

@@ -15,7 +15,7 @@ use crate::answer::Reading;
 use crate::interval::{Outcome, asked, length_mark, next_of, row_of};
 use crate::refusal::Refusal;
 use crate::texts::{push_begin, push_end};
-use bn_base::{HartState, Row};
+use bn_base::{EndMark, HartState, Row};
 use bn_outside::{Sink, send_all};
 use rv_meaning::Want;
 use rv_text::{Text, write_row};
@@ -84,11 +84,7 @@ fn send_last<O: Sink>(
 }
 
 // Sends the rows of an interval, one by one.
-fn send_rows<O: Sink>(
-    alloc: Global,
-    reading: &Reading,
-    out: &mut O,
-) -> Result<Outcome, Refusal>
+fn send_rows<O: Sink>(alloc: Global, reading: &Reading, out: &mut O) -> Result<Outcome, Refusal>
     ensures sent { let r = replay_in reading.now in
         Sent (O.written out.old) (O.written out.new) (O.faults out.old) (O.faults out.new) (rows_text r.rows) (λ outcome. outcome ≡ r.outcome) result }
     ensures later { O.faults out.old ≤ O.faults out.new }
@@ -109,4 +105,65 @@ fn send_rows<O: Sink>(
         }
     }
     Ok(Outcome::EndDiffers(length_mark(&state)))
+}
+
+// Sends the line before the rows.
+fn send_begin<O: Sink>(alloc: Global, out: &mut O) -> Result<(), Refusal>
+    ensures sent { Sent (O.written out.old) (O.written out.new) (O.faults out.old) (O.faults out.new) begin_text (λ _. Unit {0}) result }
+    ensures later { O.faults out.old ≤ O.faults out.new }
+{
+    let mut text = Text::new(alloc);
+    push_begin(&mut text)?;
+    send(out, &text)
+}
+
+// Sends the line after the rows, where the end was reached.
+fn send_end<O: Sink>(
+    alloc: Global,
+    mark: &EndMark,
+    outcome: &Outcome,
+    out: &mut O,
+) -> Result<(), Refusal>
+    ensures sent { Sent (O.written out.old) (O.written out.new) (O.faults out.old) (O.faults out.new) (end_of_interval mark.now outcome.now) (λ _. Unit {0}) result }
+    ensures later { O.faults out.old ≤ O.faults out.new }
+{
+    match outcome {
+        Outcome::Done => {
+            let mut text = Text::new(alloc);
+            push_end(&mut text, mark)?;
+            send(out, &text)
+        }
+        Outcome::EndDiffers(_) => Ok(()),
+    }
+}
+
+// Sends the rows and the line after them.
+fn send_rest<O: Sink>(alloc: Global, reading: &Reading, out: &mut O) -> Result<Outcome, Refusal>
+    ensures sent { let r = replay_in reading.now in
+        Sent (O.written out.old) (O.written out.new) (O.faults out.old) (O.faults out.new) (rows_text r.rows ++ end_of_interval reading.now.kept.mark r.outcome) (λ outcome. outcome ≡ r.outcome) result }
+    ensures later { O.faults out.old ≤ O.faults out.new }
+{
+    match send_rows(alloc, reading, out) {
+        Err(refusal) => Err(refusal),
+        Ok(outcome) => match send_end(alloc, &reading.kept.mark, &outcome, out) {
+            Ok(()) => Ok(outcome),
+            Err(refusal) => Err(refusal),
+        },
+    }
+}
+
+/// Sends all that the replay of an interval prints, and answers how it ends.
+pub fn send_interval<O: Sink>(
+    alloc: Global,
+    reading: &Reading,
+    out: &mut O,
+) -> Result<Outcome, Refusal>
+    ensures sent { let r = replay_in reading.now in
+        Sent (O.written out.old) (O.written out.new) (O.faults out.old) (O.faults out.new) (interval_text reading.now.kept.mark r) (λ outcome. outcome ≡ r.outcome) result }
+    ensures later { O.faults out.old ≤ O.faults out.new }
+{
+    match send_begin(alloc, out) {
+        Err(refusal) => Err(refusal),
+        Ok(()) => send_rest(alloc, reading, out),
+    }
 }
