@@ -1,4 +1,5 @@
 mod Words
+mod Tells
 mod Prints
 mod Loads
 mod Recorded

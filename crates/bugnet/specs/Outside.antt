@@ -108,3 +108,13 @@ KeptFiles (Some bytes) log book old new = KeptBoth bytes log book old new
 abbrev pub MayChange : Option (List ℕ) → List ℕ → List ℕ → Files → Files → Type 0
 MayChange None log book old new = SameFiles old new
 MayChange (Some bytes) log book old new = SameBut log book old new
+
+-- why saving stopped: the store failed, or memory was wanting
+abbrev pub SaveRefusal : Counts → Counts → Refusal → Type 0
+SaveRefusal before now (why.StoreFailed place) = Rose before.faults now.faults
+SaveRefusal before now why.OutOfMemory = Unit {0}
+SaveRefusal before now refusal = ⊥
+
+abbrev pub SaveStops : {A : Type 0} → Counts → Counts → Result A Refusal → Type 0
+SaveStops before now (Ok value) = Unit {0}
+SaveStops before now (Err refusal) = SaveRefusal before now refusal

@@ -12,10 +12,12 @@ mod interval;
 mod loading;
 mod log;
 mod printing;
+mod program;
 mod refusal;
 mod texts;
 
 pub use answer::{Answer, Reading, Recording};
 pub use interval::{Outcome, headline, log_suffices};
 pub use log::Kept;
+pub use program::run;
 pub use refusal::Refusal;

@@ -21,8 +21,8 @@ use rv_meaning::Want;
 use rv_text::{Text, write_row};
 use std::alloc::Global;
 
-// Sends a text.
-fn send<K: Sink>(sink: &mut K, text: &Text) -> Result<(), Refusal>
+/// Sends a text.
+pub fn send<K: Sink>(sink: &mut K, text: &Text) -> Result<(), Refusal>
     ensures sent { Sent (K.written sink.old) (K.written sink.new) (K.faults sink.old) (K.faults sink.new) text.now (λ _. Unit {0}) result }
     ensures later { K.faults sink.old ≤ K.faults sink.new }
 {
@@ -34,7 +34,8 @@ fn send<K: Sink>(sink: &mut K, text: &Text) -> Result<(), Refusal>
 
 /// Tells a refusal on err, and answers its status; 9 where its line finds no memory.
 pub fn refuse<X: Sink>(alloc: Global, words: &[String], refusal: &Refusal, err: &mut X) -> u8
-    ensures { ToldRefusal words.now refusal.now result (X.written err.old) (X.written err.new) (X.faults err.old) (X.faults err.new) }
+    ensures told { ToldRefusal words.now refusal.now result (X.written err.old) (X.written err.new) (X.faults err.old) (X.faults err.new) }
+    ensures later { X.faults err.old ≤ X.faults err.new }
 {
     let mut line = Text::new(alloc);
     match refusal.push_line(alloc, words, &mut line) {
