@@ -19,7 +19,7 @@ unfolding with_file
 gives-stopped None words place limit r go h = tt
 gives-stopped (Some files) words place limit r go h = h (go files)
 
-within : (there : Option (List ℕ)) (words : List (String Global)) (place : ℕ) (bytes : List ℕ) (limit : ℕ) (go : List ℕ → Told)
+pub within : (there : Option (List ℕ)) (words : List (String Global)) (place : ℕ) (bytes : List ℕ) (limit : ℕ) (go : List ℕ → Told)
     → there ≡ Some bytes → length bytes ≤ limit → file_or there words place limit go ≡ go bytes
 within there words place bytes limit go e h =
     let test : nat_lt limit (length bytes) ≡ false = grind (arith, nat_tests) in

@@ -192,3 +192,13 @@ headline law stay back words elf code program exit =
     ∙ ap (λ (b : Bool). replay_same b words kept elf) same
     ∙ ap (replay_words words kept) program
     ∙ ap (printed words kept) suffices
+
+-- the log file of a recording has 285 bytes
+pub size_of_file : (elf code : List ℕ) → length (file_of_run elf code) ≡ 285
+size_of_file elf code =
+    let kept = kept_of elf code in
+    let l = log_laid (sha256 elf) kept.mark.ic kept.mark.value (length-sha256 elf) in
+    sized (length (file_of_run elf code)) (length (end_bytes kept.mark)) _ l.size (end_size kept.mark.ic kept.mark.value) (length-sha256 (signed_part (sha256 elf) 0 (header_bytes start_state ++ end_bytes kept.mark)))
+  where
+    sized : (n e f : ℕ) → n ≡ 238 + e + f → e ≡ 15 → f ≡ 32 → n ≡ 285
+    sized n e f h a b = omega (arith, h, a, b)

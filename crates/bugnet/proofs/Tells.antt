@@ -1,5 +1,5 @@
 -- What a whole call of the program does, from what its parts do.
-use Rattle.std.proofs.Common.{◌≡◌, ◌≢◌, ℕ, suc, List, [], ◌∷◌, ◌++◌, length, take, Option, Some, None, ◌∙◌, ap, subst, sym, refl, arith, inl, inr, ◌⊎◌, append_assoc, Global, String}
+use Rattle.std.proofs.Common.{◌≡◌, ◌≢◌, ◌≤◌, ℕ, suc, Bool, cond, List, [], ◌∷◌, ◌++◌, length, take, Option, Some, None, ◌∙◌, ap, subst, sym, refl, arith, inl, inr, ◌⊎◌, append_assoc, Global, String}
 use Rattle.std.specs.Prelude.{Result, Ok, Err}
 use Rattle.std.specs.Io.KnownBytes.{Appends}
 use Rattle.std.proofs.lemmas.List.{append-nil, take_all}
@@ -11,7 +11,11 @@ use Rattle.bugnet.specs.Refusals.{name_at, status_of, line_of, IsOutside}
 use Rattle.bugnet.specs.Texts.{begin_text, end_text, rows_text}
 use Rattle.bugnet.specs.Printed.{end_of_interval, interval_text}
 use Rattle.bugnet.specs.Replayed.{Replayed}
-use Rattle.bugnet.specs.Commands.{Told, refused, ended, printed}
+use Rattle.std.specs.Str.{bytes_eq}
+use Rattle.bugnet.specs.Commands.{Told, refused, ended, printed, replay_told, replay_log, replay_of, is_record, record_names, answer_told, with_file}
+use Rattle.bugnet.specs.Headline.{Headline, ReplaysRun, PrintsRun, run_text, file_of_run}
+use Rattle.bugnet.proofs.Loads.{within}
+use Rattle.bugnet.proofs.Recorded.{size_of_file}
 use Rattle.bugnet.specs.Outside.{Wrote, SendStops, ToldRefusal, WithFiles, Gives, told_of, SameFiles, SameBut, KeptBoth, KeptFiles, replay_in}
 use Rattle.bugnet.specs.Run.{IsFree, Done, Stopped, Tells, own_err, own_out, IsFreeRefusal}
 use Rattle.bugnet.specs.declared.answer.Answer.{Answer}
@@ -266,3 +270,43 @@ kept-both (Some first) (Some middle) (Some last) bytes log book a b c d = record
   book_there = c;
   others = λ name not_log not_book. d name not_book ∙ b name not_log;
 }
+
+-- ---- the headline
+
+free-status : (words : List (String Global)) (r : Refusal) (status : ℕ) (err_old err_new : Option (List ℕ)) (before now : ℕ)
+    → IsFreeRefusal r → ToldRefusal words r status err_old err_new before now → IsFree status
+free-status words (StoreFailed place) status err_old err_new before now o (inl h) = inl h.0
+free-status words OutOfMemory status err_old err_new before now o (inl h) = inr (inl h.0)
+free-status words WriteFailed status err_old err_new before now o (inl h) = inr (inr h.0)
+free-status words WordsRefused status err_old err_new before now o (inl h) = absurd o
+free-status words (SameName place) status err_old err_new before now o (inl h) = absurd o
+free-status words (Missing place) status err_old err_new before now o (inl h) = absurd o
+free-status words (TooLong place) status err_old err_new before now o (inl h) = absurd o
+free-status words (ProgramDiffers kept found) status err_old err_new before now o (inl h) = absurd o
+free-status words (EndDiffers said found) status err_old err_new before now o (inl h) = absurd o
+free-status words NotBuilt status err_old err_new before now o (inl h) = absurd o
+free-status words r status err_old err_new before now o (inr h) = inr (inl h.0)
+
+-- the answer to a replay of a recording is the run's text
+run-answer : Headline → (words : List (String Global)) (files : Files) (elf code : List ℕ) → ReplaysRun words files elf code → answer_told words files ≡ run_text code
+unfolding answer_told with_file
+run-answer law words files elf code r =
+    let log = file_of_run elf code in
+    let short : length log ≤ 268500992 = subst (λ (n : ℕ). n ≤ 268500992) (sym (size_of_file elf code)) (omega arith) in
+    ap (λ (b : Bool). cond b (replay_told words files) (cond (is_record words) (record_names (bytes_eq (name_at words 5) (name_at words 6)) words files) (refused words WordsRefused))) r.command
+    ∙ within (files (name_at words 2)) words 2 log 268500992 (λ bytes. replay_log words files bytes) r.log short
+    ∙ within (files (name_at words 3)) words 3 elf 67108864 (λ bytes. replay_of words log bytes) r.program r.small
+    ∙ law words elf code r.code_is r.exits
+
+prints-done : (words : List (String Global)) (code : List ℕ) (status : ℕ) (out_old out_new err_old err_new : Option (List ℕ)) (before now : ℕ)
+    → Tells words (run_text code) status out_old out_new err_old err_new before now → IsFree status ⊎ ((status ≡ 0) × Appends out_old out_new (run_text code).out)
+prints-done words code status out_old out_new err_old err_new before now (inl d) = inr (d.status_is, d.out)
+prints-done words code status out_old out_new err_old err_new before now (inr s) = inl (free-status words s.refusal status s.err_mid err_new s.faults_mid now s.free s.line)
+
+pub prints-run : Headline → (known : Option Files) (words : List (String Global)) (status : ℕ) (out_old out_new err_old err_new : Option (List ℕ)) (before now : ℕ)
+    → WithFiles known (λ files. Tells words (answer_told words files) status out_old out_new err_old err_new before now)
+    → WithFiles known (λ files. PrintsRun words files status out_old out_new)
+prints-run law None words status out_old out_new err_old err_new before now h = tt
+prints-run law (Some files) words status out_old out_new err_old err_new before now h = λ elf code r.
+    prints-done words code status out_old out_new err_old err_new before now
+    (subst (λ (t : Told). Tells words t status out_old out_new err_old err_new before now) (run-answer law words files elf code r) h)

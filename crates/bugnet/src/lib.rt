@@ -14,6 +14,8 @@ mod log;
 mod printing;
 mod program;
 mod refusal;
+#[cfg(test)]
+mod tests;
 mod texts;
 
 pub use answer::{Answer, Reading, Recording};

@@ -6,10 +6,11 @@ ghost use Rattle.bugnet.specs.Refusals.{name_at};
 ghost use Rattle.bugnet.specs.Commands.{answer_told};
 ghost use Rattle.bugnet.specs.Outside.{told_of, WithFiles, KeptBoth, KeptFiles, SameBut, SaveStops};
 ghost use Rattle.bugnet.specs.Run.{IsFree, Tells};
+ghost use Rattle.bugnet.specs.Headline.{PrintsRun};
 ghost use Rattle.bugnet.specs.declared.answer.Answer.TheVariants.{Recorded, Interval};
 
 use crate::answer::{Answer, Reading, Recording};
-use crate::interval::Outcome;
+use crate::interval::{Outcome, headline};
 use crate::loading::answer_to;
 use crate::printing::{refuse, send, send_interval};
 use crate::refusal::{Refusal, name_at};
@@ -143,7 +144,10 @@ pub fn run<S: Store, I: Source, O: Sink, X: Sink>(
     // Where the store tells its files, they and the words say the status and the texts.
     ensures told { WithFiles (S.files store.old) (λ files. Tells words.now (answer_told words.now files) result (O.written out.old) (O.written out.new) (X.written err.old) (X.written err.new) (X.faults err.old) (X.faults err.new)) }
 
-    // Then what was to be saved is saved, and whatever happens nothing else changes.
+    // The log that a recording saved gives the recorded run: replaying it prints that run's rows.
+    ensures headline { WithFiles (S.files store.old) (λ files. PrintsRun words.now files result (O.written out.old) (O.written out.new)) }
+
+    // What was to be saved is saved, and whatever happens nothing else changes.
     ensures kept { WithFiles (S.files store.old) (λ files. IsFree result ⊎ WhereTold (S.files store.old) (S.files store.new) (KeptFiles (answer_told words.now files).saved (name_at words.now 5) (name_at words.now 6))) }
     ensures others { WhereTold (S.files store.old) (S.files store.new) (SameBut (name_at words.now 5) (name_at words.now 6)) }
 
@@ -154,6 +158,7 @@ pub fn run<S: Store, I: Source, O: Sink, X: Sink>(
     ensures write { result ≡ 13 → Rose (O.faults out.old) (O.faults out.new) ⊎ Rose (X.faults err.old) (X.faults err.new) }
     ensures input { input.new ≡ input.old }
 {
+    headline();
     match answer_to(alloc, words, store) {
         Err(refusal) => refuse(alloc, words, &refusal, err),
         Ok(answer) => act(alloc, words, &answer, store, out, err),
