@@ -1,0 +1,6 @@
+mod Words
+mod Tells
+mod Prints
+mod Loads
+mod Recorded
+mod Suffices

@@ -1,0 +1,11 @@
+pub mod SmallElf
+pub mod Rows
+pub mod Replayed
+pub mod LogFile
+pub mod Refusals
+pub mod Texts
+pub mod Commands
+pub mod Outside
+pub mod Printed
+pub mod Run
+pub mod Headline

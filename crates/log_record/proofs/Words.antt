@@ -1,0 +1,65 @@
+-- Words one after another: read where they are written, and written where they are read.
+use Rattle.std.proofs.Common.{◌≡◌, ℕ, zero, suc, ◌+◌, ◌-◌, ◌*◌, ◌^◌, ◌<◌, ◌≤◌, List, [], ◌∷◌, ◌++◌, length, drop, refl, sym, ap, ap₂, ◌∙◌, append_assoc, arith}
+use Rattle.std.specs.List.{flat_map, AllByRecursion}
+use Rattle.std.specs.Prelude.{slice_index}
+use Rattle.log_record.specs.Spelling.{AreRegisters}
+use Rattle.std.proofs.lemmas.List.{append-nil}
+use Rattle.le_numbers.specs.Numbers.{number_at, number_bytes, AreBytes}
+use Rattle.le_numbers.proofs.Fields.{drop-number_at, number_at-small, reads_back}
+use Rattle.log_record.specs.Reading.{words_at}
+
+-- bytes go on with the bytes of the words that are read there
+pub drop-words_at : (count at next : ℕ) (bytes : List ℕ) → AreBytes bytes → next ≤ length bytes → at + 4 * count ≡ next
+    → drop at bytes ≡ flat_map (number_bytes 4) (words_at count at bytes) ++ drop next bytes
+unfolding words_at
+drop-words_at zero at next bytes are within e = ap (λ (k : ℕ). drop k bytes) (omega arith)
+drop-words_at (suc count) at next bytes are within e =
+    let first = drop-number_at 4 at (at + 4) bytes are (omega arith) refl in
+    let others = drop-words_at count (at + 4) next bytes are within (omega arith) in
+    first ∙ ap (λ (t : List ℕ). number_bytes 4 (number_at 4 at bytes) ++ t) others
+    ∙ sym (append_assoc (number_bytes 4 (number_at 4 at bytes)) (flat_map (number_bytes 4) (words_at count (at + 4) bytes)) (drop next bytes))
+
+pub length-words_at : (count at : ℕ) (bytes : List ℕ) → length (words_at count at bytes) ≡ count
+unfolding words_at
+length-words_at zero at bytes = refl
+length-words_at (suc count) at bytes = ap suc (length-words_at count (at + 4) bytes)
+
+pub words_at-small : (count at : ℕ) (bytes : List ℕ) → AreBytes bytes → AllByRecursion (λ w. w < 2 ^ 32) (words_at count at bytes)
+unfolding words_at
+words_at-small zero at bytes are = tt
+words_at-small (suc count) at bytes are = (number_at-small 4 at bytes are, words_at-small count (at + 4) bytes are)
+
+-- words are read where their bytes stand
+pub words_at-written : (words : List ℕ) (at : ℕ) (bytes rest : List ℕ) → AllByRecursion (λ w. w < 2 ^ 32) words → drop at bytes ≡ flat_map (number_bytes 4) words ++ rest
+    → words_at (length words) at bytes ≡ words
+unfolding words_at
+words_at-written [] at bytes rest small there = refl
+words_at-written (w ∷ words) at bytes rest small there =
+    let back = reads_back 4 at (at + 4) bytes w (flat_map (number_bytes 4) words ++ rest) small.0 refl (there ∙ append_assoc (number_bytes 4 w) (flat_map (number_bytes 4) words) rest) in
+    ap₂ (λ (x : ℕ) (xs : List ℕ). x ∷ xs) back.number (words_at-written words (at + 4) bytes rest small.1 back.behind)
+
+-- a loop that has read the words in front reads one more
+pub words_at-more : (front : List ℕ) (count i at next : ℕ) (bytes total : List ℕ) → i < count → at + 4 ≡ next → front ++ words_at (count - i) at bytes ≡ total
+    → (front ++ number_at 4 at bytes ∷ []) ++ words_at (count - (i + 1)) next bytes ≡ total
+unfolding words_at
+words_at-more front count i at next bytes total lt e so_far =
+    let k : count - i ≡ suc (count - (i + 1)) = omega arith in
+    append_assoc front (number_at 4 at bytes ∷ []) (words_at (count - (i + 1)) next bytes)
+    ∙ ap (λ (j : ℕ). front ++ number_at 4 at bytes ∷ words_at (count - (i + 1)) j bytes) (sym e)
+    ∙ ap (λ (j : ℕ). front ++ words_at j at bytes) (sym k) ∙ so_far
+
+-- and has read all of them in the end
+pub words_at-done : (front : List ℕ) (left at : ℕ) (bytes total : List ℕ) → left ≡ 0 → front ++ words_at left at bytes ≡ total → front ≡ total
+unfolding words_at
+words_at-done front left at bytes total e so_far =
+    let none : words_at left at bytes ≡ [] = ap (λ (k : ℕ). words_at k at bytes) e in
+    sym (append-nil front) ∙ ap (λ (t : List ℕ). front ++ t) (sym none) ∙ so_far
+
+pub all_small : (words : List ℕ) → ((i : ℕ) → slice_index words i < 2 ^ 32) → AllByRecursion (λ w. w < 2 ^ 32) words
+all_small [] small = tt
+all_small (w ∷ words) small = (small 0, all_small words (λ i. small (suc i)))
+
+-- 32 words of which the first is 0
+pub are_registers : (x : List ℕ) → length x ≡ 32 → slice_index x 0 ≡ 0 → AllByRecursion (λ w. w < 2 ^ 32) (drop 1 x) → AreRegisters x
+are_registers [] count first small = absurd (omega arith)
+are_registers (w ∷ words) count first small = record { others = words; zero_first = ap (λ (v : ℕ). v ∷ words) first; count = omega arith; are_words = small }

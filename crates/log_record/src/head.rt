@@ -1,0 +1,10 @@
+// What stands before the records of a log.
+use bn_base::Settings;
+
+/// The settings of the recording, and the SHA-256 digest (FIPS 180-4) of the recorded program's
+/// ELF file.
+#[derive(Clone, Copy, Debug, PartialEq, Eq, Drop)]
+pub struct Head {
+    pub settings: Settings,
+    pub digest: [u8; 32],
+}

@@ -1,0 +1,17 @@
+// The records of a log, and their bytes.
+#![tactic(auto)]
+
+pub mod bytes;
+pub mod head;
+pub mod laws;
+pub mod reading;
+pub mod record;
+#[cfg(test)]
+mod tests;
+pub mod writing;
+
+pub use bytes::Bytes;
+pub use head::Head;
+pub use reading::{read, size};
+pub use record::Record;
+pub use writing::write;

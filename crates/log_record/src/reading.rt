@@ -1,0 +1,162 @@
+// Reading a record.
+ghost use Rattle.std.specs.Prelude.{◌≡◌, ◌≤◌, ◌++◌, ◌∷◌, List, ℕ, Some, length, slice_index, IfSome};
+ghost use Rattle.log_record.specs.declared.record.Record.{Record};
+ghost use Rattle.log_record.specs.Spelling.{size_of, bytes_of, has_value, has_no_value, is_mark, is_marked, Fits, BeginsWith};
+ghost use Rattle.log_record.specs.Reading.{words_at, header_in, first_load_in, edge_in, end_in, record_in};
+
+use crate::record::Record;
+use bn_base::end_mark::{CALL, EXIT, FAULT, GROUP, LENGTH, LIMIT, STOPPED};
+use bn_base::{EndMark, Fault, Registers};
+use le_numbers::{read_u32, read_u64};
+
+/// How many bytes a record has that begins with this byte, its tag; `None` where none begins so.
+pub fn size(tag: u8) -> Option<usize>
+    ensures { result ≡ size_of tag }
+{
+    match tag {
+        1 => Some(146),
+        2 => Some(10),
+        3 => Some(2),
+        4 => Some(2),
+        5 => Some(19),
+        6 => Some(15),
+        _ => None,
+    }
+}
+
+fn has_value(reason: u8) -> bool
+    ensures { result ≡ has_value reason }
+{
+    match reason {
+        CALL | EXIT | GROUP => true,
+        18 => false,
+        _ => FAULT < reason && reason <= 25,
+    }
+}
+
+fn has_no_value(reason: u8) -> bool
+    ensures { result ≡ has_no_value reason }
+{
+    match reason {
+        LENGTH | STOPPED | LIMIT => true,
+        _ => reason == 18,
+    }
+}
+
+fn is_mark(mark: &EndMark) -> bool
+    ensures { result ≡ is_mark mark.now }
+{
+    has_value(mark.reason) || (has_no_value(mark.reason) && mark.value == 0)
+}
+
+fn is_marked(entry: &Record) -> bool
+    ensures { result ≡ is_marked entry.now }
+{
+    match entry {
+        Record::End { mark, .. } => is_mark(mark),
+        _ => true,
+    }
+}
+
+fn registers_in(bytes: &[u8]) -> Registers
+    requires { 146 ≤ length bytes.now }
+    ensures { result ≡ 0 ∷ words_at 31 22 bytes.now }
+{
+    let mut contents = [0; 32];
+    for number in 1..32 {
+        contents[number] = read_u32(bytes, 18 + 4 * number);
+    }
+    Registers::new(contents)
+}
+
+#[tactic(auto, unfolding(crate::specs::Reading::header_in))]
+fn header_in(bytes: &[u8]) -> Record
+    requires { 146 ≤ length bytes.now }
+    ensures { result ≡ header_in bytes.now }
+{
+    Record::Header {
+        hart: bytes[1],
+        interval: read_u64(bytes, 2),
+        ic: read_u64(bytes, 10),
+        pc: read_u32(bytes, 18),
+        x: registers_in(bytes),
+    }
+}
+
+#[tactic(auto, unfolding(crate::specs::Reading::first_load_in))]
+fn first_load_in(bytes: &[u8]) -> Record
+    requires { 10 ≤ length bytes.now }
+    ensures { result ≡ first_load_in bytes.now }
+{
+    Record::FirstLoad {
+        hart: bytes[1],
+        skip: read_u32(bytes, 2),
+        value: read_u32(bytes, 6),
+    }
+}
+
+#[tactic(auto, unfolding(crate::specs::Reading::edge_in))]
+fn edge_in(bytes: &[u8]) -> Record
+    requires { 19 ≤ length bytes.now }
+    ensures { result ≡ edge_in bytes.now }
+{
+    Record::Edge {
+        hart: bytes[1],
+        ic: read_u64(bytes, 2),
+        from: bytes[10],
+        from_ic: read_u64(bytes, 11),
+    }
+}
+
+#[tactic(auto, unfolding(crate::specs::Reading::end_in))]
+fn end_in(bytes: &[u8]) -> Record
+    requires { 15 ≤ length bytes.now }
+    ensures { result ≡ end_in bytes.now }
+{
+    Record::End {
+        hart: bytes[1],
+        mark: EndMark {
+            ic: read_u64(bytes, 2),
+            reason: bytes[10],
+            value: read_u32(bytes, 11),
+        },
+    }
+}
+
+// The record that the fields make, whatever an End's mark.
+#[tactic(auto, unfolding(crate::specs::Reading::record_in))]
+fn record_in(bytes: &[u8], size: usize) -> Record
+    requires size { size_of (slice_index bytes.now 0) ≡ Some size }
+    requires enough { size ≤ length bytes.now }
+    ensures { result ≡ record_in bytes.now }
+{
+    match bytes[0] {
+        1 => header_in(bytes),
+        2 => first_load_in(bytes),
+        3 => Record::ScOk { hart: bytes[1] },
+        4 => Record::ScFailed { hart: bytes[1] },
+        5 => edge_in(bytes),
+        _ => end_in(bytes),
+    }
+}
+
+/// The record at the front of some bytes, and how many bytes it has. Others may follow it. `None`
+/// comes exactly where no record's bytes are at the front.
+pub fn read(bytes: &[u8]) -> Option<(Record, usize)>
+    // What is read stands there.
+    ensures found { IfSome result (λ x. BeginsWith bytes.now x.0 x.1) }
+    // What stands there is read, whatever follows it.
+    ensures only { (r : Record) (rest : List ℕ) → Fits r → bytes.now ≡ bytes_of r ++ rest → result ≡ Some (r, length (bytes_of r)) }
+{
+    let tag = *bytes.first()?;
+    let size = size(tag)?;
+    if bytes.len() < size {
+        return None;
+    }
+    let entry = record_in(bytes, size);
+    if is_marked(&entry) {
+        Some((entry, size))
+    } else {
+        None
+    }
+}

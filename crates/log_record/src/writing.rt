@@ -1,0 +1,91 @@
+// The bytes of a record.
+ghost use Rattle.std.specs.Prelude.{◌≡◌, ◌++◌, ◌∷◌, [], ◌≤◌, ◌<◌, ◌^◌, ◌+◌, drop, length, IsTrue};
+ghost use Rattle.std.specs.List.{flat_map, AllByRecursion};
+ghost use Rattle.le_numbers.specs.Numbers.{number_bytes};
+ghost use Rattle.log_record.specs.Spelling.{bytes_of, is_marked, AreRegisters, Fits};
+
+use crate::bytes::Bytes;
+use crate::record::Record;
+use bn_base::{HartId, Registers};
+
+fn begin(tag: u8, hart: HartId) -> Bytes
+    ensures { result ≡ tag ∷ hart ∷ [] }
+{
+    let mut bytes = Bytes::new();
+    bytes.put(tag);
+    bytes.put(hart);
+    bytes
+}
+
+// The registers but x0, which is always 0.
+fn put_registers(bytes: &mut Bytes, x: &Registers)
+    requires { length bytes.old ≤ 22 }
+    ensures appended { bytes.new ≡ bytes.old ++ flat_map (number_bytes 4) (drop 1 x.now) }
+    ensures are { AreRegisters x.now }
+{
+    let contents = x.contents();
+    put_words(bytes, &contents[1..]);
+}
+
+fn put_words(bytes: &mut Bytes, words: &[u32])
+    requires length { length bytes.old ≤ 22 }
+    requires count { length words.now ≤ 31 }
+    ensures appended { bytes.new ≡ bytes.old ++ flat_map (number_bytes 4) words.now }
+    ensures are { AllByRecursion (λ w. w < 2 ^ 32) words.now }
+{
+    for word in words {
+        bytes.put_u32(*word);
+    }
+}
+
+/// The bytes of a record: the tag, the hart and the fields in their order, each number with its
+/// least significant byte first. The mark of an End is one that an interval can have.
+pub fn write(entry: &Record) -> Bytes
+    requires { IsTrue (is_marked entry.now) }
+    ensures bytes { result ≡ bytes_of entry.now }
+    ensures fits { Fits entry.now }
+{
+    match entry {
+        Record::Header {
+            hart,
+            interval,
+            ic,
+            pc,
+            x,
+        } => {
+            let mut bytes = begin(1, *hart);
+            bytes.put_u64(*interval);
+            bytes.put_u64(*ic);
+            bytes.put_u32(*pc);
+            put_registers(&mut bytes, x);
+            bytes
+        }
+        Record::FirstLoad { hart, skip, value } => {
+            let mut bytes = begin(2, *hart);
+            bytes.put_u32(*skip);
+            bytes.put_u32(*value);
+            bytes
+        }
+        Record::ScOk { hart } => begin(3, *hart),
+        Record::ScFailed { hart } => begin(4, *hart),
+        Record::Edge {
+            hart,
+            ic,
+            from,
+            from_ic,
+        } => {
+            let mut bytes = begin(5, *hart);
+            bytes.put_u64(*ic);
+            bytes.put(*from);
+            bytes.put_u64(*from_ic);
+            bytes
+        }
+        Record::End { hart, mark } => {
+            let mut bytes = begin(6, *hart);
+            bytes.put_u64(mark.ic);
+            bytes.put(mark.reason);
+            bytes.put_u32(mark.value);
+            bytes
+        }
+    }
+}

@@ -1,0 +1,3 @@
+pub mod OneStep
+pub mod Orderly
+pub mod WordsKept

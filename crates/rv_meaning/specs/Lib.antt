@@ -1,0 +1,6 @@
+pub mod Words
+pub mod Access
+pub mod Execute
+pub mod Orderly
+pub mod Told
+pub mod WordStates

@@ -1,0 +1,56 @@
+//! The quiet instructions of a hart, up to what it asks.
+ghost use Rattle.std.specs.Prelude.{◌≡◌, ◌<◌, ◌≤◌, ◌+◌, ◌-◌, ◌^◌, IsTrue};
+ghost use Rattle.rv_meaning.specs.Execute.{ask_of};
+ghost use Rattle.rv_meaning.specs.Orderly.{orderly};
+
+use crate::asks::{Ask, Want};
+use crate::questions::ask;
+use crate::steps::quiet;
+use bn_base::{Fault, HartState, Image};
+use rv_decode::decode;
+
+// Does the quiet instructions in place, and gives what the hart asks then.
+fn run(image: &Image, state: &mut HartState, budget: u64) -> Want
+    ensures { record { state = state.new; want = result } ≡ ask_of image.now budget state.old }
+{
+    for _ in 0..budget {
+        match image.code(state.pc) {
+            None => {
+                return Want::Faulted {
+                    kind: Fault::FetchOutside,
+                    value: state.pc,
+                };
+            }
+            Some(word) => match decode(word) {
+                None => {
+                    return Want::Faulted {
+                        kind: Fault::Illegal,
+                        value: word,
+                    };
+                }
+                Some(instr) => {
+                    if !quiet(instr, state) {
+                        return ask(instr, image, state);
+                    }
+                }
+            },
+        }
+    }
+    Want::Cut
+}
+
+/// Does a hart's quiet instructions, at most `budget` of them, and gives what it asks then.
+///
+/// Quiet are all instructions that don't fault, but loads, stores, atomic instructions and ECALL.
+/// After as many as the budget the hart asks for a cut. A count at 2^64 - 1 stays there.
+pub fn quiet_run(image: &Image, state: HartState, budget: u64) -> Ask
+    ensures value { result ≡ ask_of image.now budget state }
+    ensures count { result.state.ic ≤ state.ic + budget }
+
+    // What the hart asks passes the program's tests, and comes within the budget.
+    ensures orderly { state.ic + budget < 2 ^ 64 → IsTrue (orderly image.now state.ic budget result) }
+{
+    let mut state = state;
+    let want = run(image, &mut state, budget);
+    Ask { state, want }
+}

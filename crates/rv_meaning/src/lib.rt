@@ -1,0 +1,20 @@
+//! The meaning of the instructions of RV32IMA.
+#![tactic(auto)]
+
+mod access;
+mod amo;
+mod asks;
+mod interpreter;
+mod laws;
+mod moves;
+mod questions;
+mod replies;
+mod steps;
+mod words;
+
+pub use access::{loaded_value, stored_word};
+pub use amo::AmoOp;
+pub use asks::{Ask, Reply, Want};
+pub use interpreter::quiet_run;
+pub use laws::{each_ask_is_orderly, each_instruction_is_counted_or_asks, registers_stay_words};
+pub use replies::absorb;
