@@ -1,0 +1,41 @@
+//! Records runs and replays their logs, over the files of the system and the standard streams.
+//!
+//! All that the program does is `bugnet::run`. Here it gets its words, and the real store, source
+//! and sinks. No text waits in a buffer: a write that fails does so in the command that made it, the
+//! two outputs keep their order, and what a command prints is seen before the next one is read.
+#![tactic(auto)]
+
+mod file_store;
+mod streams;
+#[cfg(test)]
+mod tests;
+mod words;
+
+use bn_outside::send_all;
+use file_store::FileStore;
+use std::process::ExitCode;
+use streams::{Reading, Writing};
+use words::words_of;
+
+// The status for want of memory.
+const OUT_OF_MEMORY: u8 = 9;
+
+fn main(rt: HostRuntime) -> ExitCode {
+    let mut err = Writing::new(rt.stderr());
+    let Ok(words) = words_of(&rt) else {
+        let _ = send_all(&mut err, b"bugnet: out of memory\n");
+        return ExitCode::from(OUT_OF_MEMORY);
+    };
+    let mut store = FileStore::new(&rt);
+    let mut input = Reading::new(rt.stdin());
+    let mut out = Writing::new(rt.stdout());
+    let status = bugnet::run(
+        rt.alloc(),
+        &words,
+        &mut store,
+        &mut input,
+        &mut out,
+        &mut err,
+    );
+    ExitCode::from(status)
+}

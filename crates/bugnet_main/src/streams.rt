@@ -1,0 +1,71 @@
+// A source over a reader, and a sink over a writer.
+ghost use Rattle.std.specs.Prelude.{◌≡◌};
+
+use bn_outside::{Failed, Sink, Source};
+use std::io::{Read, Write};
+
+/// A source of what a reader gives. Each read is one read of it.
+#[derive(Drop)]
+pub struct Reading<R> {
+    inner: R,
+    faults: u64,
+}
+
+impl<R: Read> Reading<R> {
+    pub fn new(inner: R) -> Self
+        ensures inner { result.inner ≡ inner }
+        ensures faults { result.faults ≡ 0 }
+    {
+        Reading { inner, faults: 0 }
+    }
+}
+
+impl<R: Read> Source for Reading<R> {
+    ghost left = { λ s. R.remaining s.inner };
+
+    ghost faults = { λ s. s.faults };
+
+    #[tactic(auto, using(crate::proofs::AtEnd::ends_exactly))]
+    fn read(&mut self, buffer: &mut [u8]) -> Result<usize, Failed> {
+        match self.inner.read(buffer) {
+            Ok(count) => Ok(count),
+            Err(_) => {
+                self.faults = self.faults.saturating_add(1);
+                Err(Failed)
+            }
+        }
+    }
+}
+
+/// A sink that gives all to a writer. Each write is one write of it, and nothing waits.
+#[derive(Drop)]
+pub struct Writing<W> {
+    inner: W,
+    faults: u64,
+}
+
+impl<W: Write> Writing<W> {
+    pub fn new(inner: W) -> Self
+        ensures inner { result.inner ≡ inner }
+        ensures faults { result.faults ≡ 0 }
+    {
+        Writing { inner, faults: 0 }
+    }
+}
+
+impl<W: Write> Sink for Writing<W> {
+    ghost written = { λ s. W.contents s.inner };
+
+    ghost faults = { λ s. s.faults };
+
+    // A writer that takes nothing of a piece has failed.
+    fn write(&mut self, piece: &[u8]) -> Result<usize, Failed> {
+        match self.inner.write(piece) {
+            Ok(count) if count > 0 || piece.is_empty() => Ok(count),
+            _ => {
+                self.faults = self.faults.saturating_add(1);
+                Err(Failed)
+            }
+        }
+    }
+}

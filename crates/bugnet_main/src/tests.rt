@@ -1,0 +1,120 @@
+// What no clause says: what real files hold, and that each adapter's calls succeed.
+use crate::file_store::FileStore;
+use crate::streams::{Reading, Writing};
+use crate::words::words_of;
+use bn_outside::{Failed, LoadError, SaveError, Source, Store, read_to_end, send_all};
+use std::env::{Env, FillError};
+use std::test::Fail;
+use std::{env, fs, process};
+
+// A load through the bound, which tells of the bytes that they are these.
+fn loads<S: Store>(
+    rt: &HostRuntime,
+    store: &mut S,
+    name: &str,
+    limit: usize,
+    bytes: &[u8],
+) -> bool {
+    match store.load(rt.alloc(), name, limit) {
+        Ok(found) => found.as_slice() == bytes,
+        Err(_) => false,
+    }
+}
+
+// Why a load through the bound gives no bytes.
+fn refusal<S: Store>(
+    rt: &HostRuntime,
+    store: &mut S,
+    name: &str,
+    limit: usize,
+) -> Option<LoadError> {
+    store.load(rt.alloc(), name, limit).err()
+}
+
+#[test]
+fn files_are_saved_whole_and_loaded_within_the_limit(rt: HostRuntime) -> Result<(), Fail> {
+    let folder = env::temp_dir(&rt)?;
+    let folder = folder.as_str();
+    let id = process::id(rt.process());
+    let name = format!(in rt.alloc(); "{folder}/bugnet_main_test_{id}")?;
+    let name = name.as_str();
+    let mut store = FileStore::new(&rt);
+    assert_eq!(rt; store.save(name, b"a longer text"), Ok(()));
+    assert_eq!(rt; store.save(name, b"text"), Ok(()));
+    assert!(rt; loads(&rt, &mut store, name, 4, b"text"));
+    assert_eq!(rt; refusal(&rt, &mut store, name, 3), Some(LoadError::TooLong));
+    fs::remove_file(&rt, name)?;
+    assert_eq!(rt; refusal(&rt, &mut store, name, 4), Some(LoadError::Missing));
+    assert_eq!(rt;
+        refusal(&rt, &mut store, folder, 4),
+        Some(LoadError::Failed)
+    );
+    assert_eq!(rt; store.save(folder, b"text"), Err(SaveError::Failed));
+    Ok(())
+}
+
+#[test]
+fn a_source_gives_what_its_reader_gives(rt: HostRuntime) -> Result<(), Fail> {
+    let alloc = rt.alloc();
+    let mut source = Reading::new(b"text".as_slice());
+    assert_eq!(rt; source.read(&mut [0]), Ok(1));
+    assert_eq!(rt;
+        read_to_end(alloc, &mut source, 3)?.as_slice(),
+        b"ext".as_slice()
+    );
+    // A folder can be opened, and not read.
+    let folder = env::temp_dir(&rt)?;
+    let mut source = Reading::new(fs::open(&rt, folder.as_str())?);
+    assert_eq!(rt; source.read(&mut [0]), Err(Failed));
+    Ok(())
+}
+
+#[test]
+fn a_sink_fails_where_its_writer_takes_nothing(rt: HostRuntime) -> Result<(), Fail> {
+    let mut room = [0; 6];
+    let mut sink = Writing::new(room.as_mut_slice());
+    assert_eq!(rt; send_all(&mut sink, b"text"), Ok(()));
+    assert_eq!(rt; send_all(&mut sink, b"text"), Err(Failed));
+    drop(sink);
+    assert_eq!(rt; room, *b"textte");
+    Ok(())
+}
+
+// A command line of two words.
+#[derive(Drop)]
+struct Line {
+    second: &'static [u8],
+}
+
+impl Env for Line {
+    fn arg(&self, i: usize, buf: &mut [u8]) -> Result<usize, FillError> {
+        let word = match i {
+            0 => b"bugnet".as_slice(),
+            1 => self.second,
+            _ => return Err(FillError::NotPresent),
+        };
+        if word.len() > buf.len() {
+            return Err(FillError::TooLong);
+        }
+        buf[..word.len()].copy_from_slice(word);
+        Ok(word.len())
+    }
+
+    fn var(&self, _name: &str, _buf: &mut [u8]) -> Result<usize, FillError> {
+        Err(FillError::NotPresent)
+    }
+
+    fn var_at(&self, _i: usize, _buf: &mut [u8]) -> Result<usize, FillError> {
+        Err(FillError::NotPresent)
+    }
+}
+
+#[test]
+fn a_line_with_a_word_that_is_not_utf8_has_no_words(rt: HostRuntime) -> Result<(), Fail> {
+    let words = words_of(&(Line { second: b"replay" }, rt.alloc()))?;
+    assert_eq!(rt; words.len(), 2);
+    assert!(rt; words.get(1).is_some_and(|word| word.as_str() == "replay"));
+    let words = words_of(&(Line { second: b"\xff" }, rt.alloc()))?;
+    assert_eq!(rt; words.len(), 0);
+    Ok(())
+}
