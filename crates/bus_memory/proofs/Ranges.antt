@@ -1,8 +1,8 @@
 -- Pages in a row.
-use Rattle.std.proofs.Common.{arith, ◌≡◌, ◌≤◌, ◌<◌, ◌+◌, ◌-◌, ◌*◌, ◌/◌, ◌%◌, ◌||◌, ◌&&◌, ℕ, Bool, true, false, List, length, get_or, set, refl, sym, ap, ◌∙◌, ◌⊎◌, inl, inr, nat_le, nat_lt, max, min}
+use Rattle.std.proofs.Common.{arith, ◌≡◌, ◌≤◌, ◌<◌, ◌+◌, ◌-◌, ◌*◌, ◌/◌, ◌%◌, ◌||◌, ◌&&◌, ℕ, Bool, true, false, List, length, get_or, set, sym, ap, ◌∙◌, ◌⊎◌, inl, inr, nat_le, nat_lt}
 use Rattle.std.proofs.lemmas.List.{get_or-set_same, get_or-set_other}
-use Rattle.std.proofs.lemmas.Bool.{cases_eq, cases_lt}
-use Rattle.bus_memory.specs.Contents.{Frame, Contents, no_frame, contents_of, shares_page, has_page, HasPages}
+use Rattle.std.proofs.lemmas.Bool.{cases_eq}
+use Rattle.bus_memory.specs.Contents.{Frame, no_frame, contents_of, HasPages}
 use Rattle.bus_memory.specs.Frames.{HaveWords, AreMade}
 use Rattle.bus_memory.proofs.Laws.{made_at}
 

@@ -1,7 +1,7 @@
-use Rattle.std.proofs.Common.{rules, arith, ◌≡◌, ◌∙◌, ℕ, refl, sym, ap, true, false, length, slice_index_or, slice_set}
+use Rattle.std.proofs.Common.{arith, ◌≡◌, ◌∙◌, sym, ap, true, false, slice_index_or}
 use Rattle.std.proofs.lemmas.Bool.{false≢true}
 use Rattle.std.proofs.lemmas.List.{get_or_default}
-use Rattle.bus_memory.specs.Contents.{Frame, Contents, no_frame, contents_of}
+use Rattle.bus_memory.specs.Contents.{Frame, Contents, no_frame}
 use Rattle.bus_memory.proofs.Laws.{set_same, made_at}
 use Rattle.bus_memory.proofs.Ranges.{have_more}
 use Rattle.bus_memory.proofs.range.find_memory.Goals as goal

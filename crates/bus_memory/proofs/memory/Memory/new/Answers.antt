@@ -1,4 +1,4 @@
-use Rattle.std.proofs.Common.{arith, ◌≡◌, ◌*◌, ◌/◌, length}
+use Rattle.std.proofs.Common.{arith, ◌≡◌, ◌/◌}
 use Rattle.bus_memory.proofs.Laws.{length_words}
 use Rattle.bus_memory.proofs.Touched.{first_words_held, first_pages_made}
 use Rattle.bus_memory.proofs.memory.Memory.new.Goals as goal

@@ -1,7 +1,6 @@
-use Rattle.std.proofs.Common.{rules, arith, ◌≡◌, ◌≤◌, ◌+◌, ◌*◌, ◌∙◌, sym, ap, subst, true, false, length, List}
+use Rattle.std.proofs.Common.{arith, ◌≤◌, ◌+◌, ◌*◌, sym, subst, length}
 use Rattle.std.proofs.lemmas.Bool.{false≢true}
-use Rattle.bus_memory.specs.Contents.{Frame, Contents, contents_of, HasPages}
-use Rattle.bus_memory.specs.Frames.{AreMade}
+use Rattle.bus_memory.specs.Contents.{Contents, contents_of, HasPages}
 use Rattle.bus_memory.proofs.Laws.{length_words}
 use Rattle.bus_memory.proofs.Ranges.{made_from_words}
 use Rattle.bus_memory.proofs.memory.Memory.room.Goals as goal
