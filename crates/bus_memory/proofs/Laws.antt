@@ -4,7 +4,8 @@ use Rattle.std.proofs.Math.ListN.{get_or-map}
 use Rattle.std.proofs.lemmas.List.{ext_get_or, get_or_default, get_or_past, get_or-set_same, get_or-set_other, length-set, length-map}
 use Rattle.std.proofs.lemmas.List.FromFn.{length-map-range_with_len, get_or-map-range_with_len}
 use Rattle.std.proofs.lemmas.Bool.{cases_eq, cases_lt, false≢true, eq-eqb, ne_eqb}
-use Rattle.bus_memory.specs.Contents.{Frame, Contents, no_frame, word_of, contents_of, Holds, updated, has_page}
+use Rattle.bus_memory.specs.Contents.{Contents, Holds, updated, has_page}
+use Rattle.bus_memory.specs.Frames.{Frame, no_frame, word_of, contents_of}
 
 pub length_words : (fs : List Frame) → length (contents_of fs).words ≡ 1024 * length fs
 unfolding contents_of

@@ -4,8 +4,8 @@ use Rattle.std.specs.List.{list_any}
 use Rattle.std.specs.Prelude.{Option, None}
 use Rattle.std.proofs.lemmas.Bool.{cases_lt}
 use Rattle.bn_base.specs.Programs.{Program, Part, AreApart, end_of, is_in, part_or, part_at, first_in, first_at}
-use Rattle.bus_memory.specs.Contents.{Frame, no_frame, contents_of, Holds, has_page, shares_page, is_touched}
-use Rattle.bus_memory.specs.Frames.{IsFirst}
+use Rattle.bus_memory.specs.Contents.{Holds, has_page, shares_page, is_touched}
+use Rattle.bus_memory.specs.Frames.{Frame, no_frame, contents_of, IsFirst}
 use Rattle.bus_memory.proofs.Laws.{length_words, word_at, made_at, no_page_at}
 
 neither : (x y : Bool) → (x || y) ≡ false → (x ≡ false) × (y ≡ false)

@@ -1,28 +1,12 @@
 -- Memory as a map from addresses to words, in pages of 1,024 words.
-use Rattle.std.specs.Prelude.{ℕ, ◌+◌, ◌*◌, ◌/◌, ◌%◌, ◌==◌, ◌≡◌, ◌<◌, max, min, nat_lt, Bool, true, false, cond, List, [], length, map, get_or}
-use Rattle.std.specs.List.{list_any, range_with_len}
+use Rattle.std.specs.Prelude.{ℕ, ◌+◌, ◌*◌, ◌/◌, ◌%◌, ◌==◌, ◌≡◌, ◌<◌, max, min, nat_lt, Bool, true, false, cond, List, length, get_or}
+use Rattle.std.specs.List.{list_any}
 use Rattle.bn_base.specs.Programs.{Program, end_of}
-
--- a page: its words, of which those that it lacks are 0, and whether it is made
-pub record Frame : Type 0 where
-  pub words : List ℕ
-  pub made : Bool
-
-abbrev pub no_frame : Frame
-no_frame = record { words = []; made = false }
 
 -- memory: its words from address 0 on, and of each page whether it is made
 pub record Contents : Type 0 where
   pub words : List ℕ
   pub made : List Bool
-
--- the word of a number, counted through the pages
-abbrev pub word_of : List Frame → ℕ → ℕ
-word_of fs k = get_or (get_or fs (k / 1024) no_frame).words (k % 1024) 0
-
--- what pages hold, one after another
-unfoldable pub contents_of : List Frame → Contents
-contents_of fs = record { words = map (word_of fs) (range_with_len 0 (1024 * length fs)); made = map (λ f. f.made) fs }
 
 -- the words stand for a map from addresses: each aligned address has the map's word
 pub record Holds (words : List ℕ) (m : ℕ → ℕ) : Type 0 where
@@ -32,7 +16,7 @@ pub record Holds (words : List ℕ) (m : ℕ → ℕ) : Type 0 where
 abbrev pub updated : ℕ → ℕ → (ℕ → ℕ) → ℕ → ℕ
 updated a v m b = cond (b == a) v (m b)
 
--- whether the page of an address is made
+-- whether the page of an address is made; past the last page none is
 abbrev pub has_page : Contents → ℕ → Bool
 has_page c a = get_or c.made (a / 4096) false
 

@@ -1,7 +1,25 @@
--- What this crate's own functions say of pages.
-use Rattle.std.specs.Prelude.{ℕ, ◌+◌, ◌*◌, ◌≡◌, ◌≤◌, ◌<◌, true, List, length, get_or}
+-- How pages keep the words of memory.
+use Rattle.std.specs.Prelude.{ℕ, ◌+◌, ◌*◌, ◌/◌, ◌%◌, ◌≡◌, ◌≤◌, ◌<◌, Bool, true, false, List, [], length, map, get_or}
+use Rattle.std.specs.List.{range_with_len}
 use Rattle.bn_base.specs.Programs.{Program, first_at}
-use Rattle.bus_memory.specs.Contents.{Frame, no_frame, is_touched}
+use Rattle.bus_memory.specs.Contents.{Contents, is_touched}
+
+-- a page: its words, of which those that it lacks are 0, and whether it is made
+pub record Frame : Type 0 where
+  pub words : List ℕ
+  pub made : Bool
+
+-- the page where there is none
+abbrev pub no_frame : Frame
+no_frame = record { words = []; made = false }
+
+-- the word of a number, counted through the pages
+abbrev pub word_of : List Frame → ℕ → ℕ
+word_of fs k = get_or (get_or fs (k / 1024) no_frame).words (k % 1024) 0
+
+-- what pages hold, one after another
+unfoldable pub contents_of : List Frame → Contents
+contents_of fs = record { words = map (word_of fs) (range_with_len 0 (1024 * length fs)); made = map (λ f. f.made) fs }
 
 -- a page as it stands before the run: made where a segment touches it, with the program's first words
 pub record IsFirst (i : Program) (page : ℕ) (f : Frame) : Type 0 where

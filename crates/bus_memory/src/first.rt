@@ -4,7 +4,7 @@ ghost use Rattle.bn_base.specs.Programs.{first_at};
 ghost use Rattle.bus_memory.specs.Contents.{is_touched};
 ghost use Rattle.bus_memory.specs.Frames.{IsFirst};
 
-use crate::page::{PAGE_WORDS, Page};
+use crate::page::{PAGE_BYTES, PAGE_WORDS, Page};
 use bn_base::Image;
 use std::alloc::{AllocError, Global};
 
@@ -24,9 +24,9 @@ fn is_touched(image: &Image, number: u32) -> bool
     requires { number < 2 ^ 20 }
     ensures { result ≡ is_touched image.now number }
 {
-    let low = 4096 * number as u64;
+    let low = PAGE_BYTES as u64 * number as u64;
     image.segments().iter().any(|segment| {
-        (segment.first() as u64).max(low) < segment.end().min(low + 4096)
+        (segment.first() as u64).max(low) < segment.end().min(low + PAGE_BYTES as u64)
     })
 }
 
@@ -36,9 +36,9 @@ fn first_words(alloc: Global, image: &Image, number: u32) -> Result<Vec<u32>, Al
     ensures len { IfOk result (λ v. vec_len v ≡ 1024) }
     ensures words { IfOk result (λ v. (k : ℕ) → k < 1024 → slice_index v.items k ≡ first_at image.now (4096 * number + 4 * k)) }
 {
-    let mut words = Vec::with_capacity(alloc, PAGE_WORDS)?;
-    for place in 0..1024u32 {
-        words.push(image.first(4096 * number + 4 * place))?;
+    let mut words = Vec::with_capacity(alloc, PAGE_WORDS as usize)?;
+    for place in 0..PAGE_WORDS {
+        words.push(image.first(PAGE_BYTES * number + 4 * place))?;
     }
     Ok(words)
 }

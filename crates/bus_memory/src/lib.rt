@@ -1,9 +1,10 @@
-// The memory that all harts share, as the bus keeps it.
+// The memory that all harts share: a map from addresses to words that begins as the program's
+// first memory, kept in pages.
 #![tactic(auto)]
 
 mod first;
 pub mod memory;
-pub mod page;
+mod page;
 mod range;
 #[cfg(test)]
 mod tests;

@@ -4,14 +4,11 @@ ghost use Rattle.bn_base.specs.Programs.{first_at};
 ghost use Rattle.bus_memory.specs.Contents.{Holds, updated, has_page, HasPages, shares_page, is_touched};
 
 use crate::first::first_page;
-use crate::page::Page;
+use crate::page::{PAGE_BYTES, PAGE_WORDS, Page};
 use crate::range::{find_memory, make};
 use bn_base::{Addr, Image};
 use std::alloc::{AllocError, Global};
 use std::marker::Model;
-
-/// How many bytes a page has.
-const PAGE_BYTES: u32 = 4096;
 
 /// The words of memory by address.
 ///
@@ -24,7 +21,8 @@ pub struct Memory {
 }
 
 impl Model for Memory {
-    ghost use Rattle.bus_memory.specs.Contents.{Contents, contents_of};
+    ghost use Rattle.bus_memory.specs.Contents.{Contents};
+    ghost use Rattle.bus_memory.specs.Frames.{contents_of};
 
     ghost Value = { Contents };
 
@@ -42,7 +40,7 @@ fn page_of(addr: Addr) -> usize
 fn place_of(addr: Addr) -> usize
     ensures { result ≡ addr / 4 % 1024 }
 {
-    (addr / 4 % 1024) as usize
+    (addr / 4 % PAGE_WORDS) as usize
 }
 
 impl Memory {
@@ -52,6 +50,7 @@ impl Memory {
         ensures size { IfOk result (λ m. 4 * length m.words ≡ image.now.memory) }
         ensures pages { IfOk result (λ m. (a : ℕ) → has_page m a ≡ is_touched image.now (a / 4096)) }
     {
+        // No segment ends past the memory, so no page past it is touched.
         let _segments = image.segments();
         let count = image.memory() / PAGE_BYTES;
         let mut pages = Vec::with_capacity(alloc, count as usize)?;
@@ -107,7 +106,7 @@ impl Memory {
             return Ok(());
         }
         let first = page_of(addr);
-        let end = ((addr as u64 + 4 * count as u64 + 4095) / 4096) as usize;
+        let end = ((addr as u64 + 4 * count as u64 + 4095) / PAGE_BYTES as u64) as usize;
         find_memory(self.pages.as_mut_slice(), first, end)?;
         make(self.pages.as_mut_slice(), first, end);
         Ok(())

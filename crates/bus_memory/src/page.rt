@@ -5,19 +5,22 @@ use std::alloc::{AllocError, Global};
 use std::marker::Model;
 
 /// How many words a page has.
-pub(crate) const PAGE_WORDS: usize = 1024;
+pub(crate) const PAGE_WORDS: u32 = 1024;
 
-/// A page of 1,024 words. It holds them, or none, which stand for zeros. It is made before it is
-/// written; one that is made holds them.
+/// How many bytes a page has.
+pub(crate) const PAGE_BYTES: u32 = 4096;
+
+/// A page of 1,024 words. It holds them, or none, which stand for zeros. One that is made holds
+/// them, and may be written.
 #[derive(Debug, Drop)]
-pub struct Page {
+pub(crate) struct Page {
     words: Vec<u32>,
     made: bool,
 }
 
 impl Model for Page {
     ghost use Rattle.std.specs.Prelude.{◌≡◌, ◌<◌, true, length};
-    ghost use Rattle.bus_memory.specs.Contents.{Frame};
+    ghost use Rattle.bus_memory.specs.Frames.{Frame};
 
     ghost Value = { Frame };
 
@@ -45,6 +48,7 @@ impl Page {
         Page { words, made: true }
     }
 
+    /// Whether it is made.
     pub(crate) fn is_made(&self) -> bool
         ensures value { result ≡ self.now.made }
         ensures words { result ≡ true → length self.now.words ≡ 1024 }
@@ -78,7 +82,7 @@ impl Page {
     {
         if self.words.is_empty() {
             let alloc = *self.words.allocator();
-            self.words = vec![in alloc; 0; PAGE_WORDS]?;
+            self.words = vec![in alloc; 0; PAGE_WORDS as usize]?;
         }
         Ok(())
     }

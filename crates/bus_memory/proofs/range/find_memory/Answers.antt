@@ -1,7 +1,8 @@
 use Rattle.std.proofs.Common.{arith, ◌≡◌, ◌∙◌, sym, ap, true, false, slice_index_or}
 use Rattle.std.proofs.lemmas.Bool.{false≢true}
 use Rattle.std.proofs.lemmas.List.{get_or_default}
-use Rattle.bus_memory.specs.Contents.{Frame, Contents, no_frame}
+use Rattle.bus_memory.specs.Contents.{Contents}
+use Rattle.bus_memory.specs.Frames.{Frame, no_frame}
 use Rattle.bus_memory.proofs.Laws.{set_same, made_at}
 use Rattle.bus_memory.proofs.Ranges.{have_more}
 use Rattle.bus_memory.proofs.range.find_memory.Goals as goal

@@ -1,5 +1,5 @@
 use Rattle.std.proofs.Common.{rules, arith, ◌≡◌, length, ap, sym, ◌∙◌, eqb-true}
-use Rattle.bus_memory.specs.Contents.{Frame}
+use Rattle.bus_memory.specs.Frames.{Frame}
 use Rattle.bus_memory.proofs.Zeros.{same_zeros}
 use Rattle.bus_memory.proofs.page.Page.find_memory.Goals as goal
 
