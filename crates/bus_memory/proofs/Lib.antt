@@ -1,0 +1,4 @@
+mod Zeros
+mod Laws
+mod Ranges
+mod Touched

@@ -1,0 +1,12 @@
+// The memory that all harts share: a map from addresses to words that begins as the program's
+// first memory, kept in pages.
+#![tactic(auto)]
+
+mod first;
+pub mod memory;
+mod page;
+mod range;
+#[cfg(test)]
+mod tests;
+
+pub use memory::Memory;

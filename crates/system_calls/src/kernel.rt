@@ -1,0 +1,15 @@
+// What a system call depends on besides its arguments.
+use bn_base::Addr;
+
+/// The part of the machine's state that system calls depend on.
+#[derive(Clone, Copy, Debug, PartialEq, Eq, Drop)]
+pub struct Kernel {
+    /// The present break, where the heap ends.
+    pub brk: Addr,
+    /// How many bytes of the input are left.
+    pub input_left: u64,
+    /// How many bytes the first output stream holds.
+    pub out_len: u64,
+    /// How many bytes the second output stream holds.
+    pub err_len: u64,
+}
