@@ -1,0 +1,11 @@
+// Numbers in bytes, the least significant byte first, as files of this project and of ELF have them.
+#![tactic(auto)]
+
+pub mod laws;
+pub mod reading;
+#[cfg(test)]
+mod tests;
+pub mod writing;
+
+pub use reading::{read_u16, read_u32, read_u64};
+pub use writing::{push_u16, push_u32, push_u64, write_u32, write_u64};
