@@ -57,9 +57,9 @@ pub Ascending-by_address : (hs : List ProgramHeader) → Ascending (by_address h
 Ascending-by_address [] = tt
 Ascending-by_address (h ∷ hs) = Ascending-before_higher h (by_address hs) (Ascending-by_address hs)
 
--- whether a segment touches an aligned word
-abbrev touches : ℕ → ProgramHeader → Bool
-touches w h = nat_le (first_word h) w && nat_lt w (word_after h)
+-- whether a segment touches an aligned word, by the word's number
+abbrev covers : ℕ → ProgramHeader → Bool
+covers w h = nat_le (first_word h) w && nat_lt w (word_after h)
 
 in_one : (a b c d w : ℕ) → (leb a w && ltb w b) ≡ true → (ltb a d && ltb c b) ≡ false → (leb c w && ltb w d) ≡ false
 in_one a b c d w e f = grind arith
@@ -68,31 +68,31 @@ in_both : (a b c d w : ℕ) → (leb a w && ltb w b) ≡ true → (leb c w && lt
 in_both a b c d w e f = grind arith
 
 -- where a segment touches a word and shares none with those of a list, none of these touches it
-count_none : (h : ProgramHeader) (w : ℕ) (hs : List ProgramHeader) → touches w h ≡ true → find (share h) hs ≡ None → count_by (touches w) hs ≡ 0
+count_none : (h : ProgramHeader) (w : ℕ) (hs : List ProgramHeader) → covers w h ≡ true → find (share h) hs ≡ None → count_by (covers w) hs ≡ 0
 count_none h w [] t e = refl
 count_none h w (g ∷ gs) t e =
     let apart = cond_none (share h g) g (find (share h) gs) e in
     let out = in_one (first_word h) (word_after h) (first_word g) (word_after g) w t apart.0 in
-    sum_by-cons (λ x. cond (touches w x) 1 0) g gs ∙ ap (λ b. cond b 1 0 + count_by (touches w) gs) out ∙ ap (λ n. 0 + n) (count_none h w gs t apart.1)
+    sum_by-cons (λ x. cond (covers w x) 1 0) g gs ∙ ap (λ b. cond b 1 0 + count_by (covers w) gs) out ∙ ap (λ n. 0 + n) (count_none h w gs t apart.1)
 
 -- no word is touched twice
 abbrev pub OnceTouched : List ProgramHeader → Type 0
-OnceTouched hs = (w : ℕ) → count_by (touches w) hs ≤ 1
+OnceTouched hs = (w : ℕ) → count_by (covers w) hs ≤ 1
 
 pub once_from_touching : (hs : List ProgramHeader) → touching hs ≡ None → OnceTouched hs
 once_from_touching [] e w = omega arith
 once_from_touching (h ∷ hs) e w =
-    let apart = or_none (find (share h) hs) (λ g. (h, g)) (touching hs) e in choice apart.0 (once_from_touching hs apart.1 w) (touches w h) refl
+    let apart = or_none (find (share h) hs) (λ g. (h, g)) (touching hs) e in choice apart.0 (once_from_touching hs apart.1 w) (covers w h) refl
   where
-    choice : find (share h) hs ≡ None → count_by (touches w) hs ≤ 1 → (b : Bool) → touches w h ≡ b → count_by (touches w) (h ∷ hs) ≤ 1
+    choice : find (share h) hs ≡ None → count_by (covers w) hs ≤ 1 → (b : Bool) → covers w h ≡ b → count_by (covers w) (h ∷ hs) ≤ 1
     choice none later true t =
-        let e = sum_by-cons (λ x. cond (touches w x) 1 0) h hs ∙ ap (λ b. cond b 1 0 + count_by (touches w) hs) t in
+        let e = sum_by-cons (λ x. cond (covers w x) 1 0) h hs ∙ ap (λ b. cond b 1 0 + count_by (covers w) hs) t in
         omega (arith, e, count_none h w hs t none)
     choice none later false t =
-        let e = sum_by-cons (λ x. cond (touches w x) 1 0) h hs ∙ ap (λ b. cond b 1 0 + count_by (touches w) hs) t in omega (arith, e, later)
+        let e = sum_by-cons (λ x. cond (covers w x) 1 0) h hs ∙ ap (λ b. cond b 1 0 + count_by (covers w) hs) t in omega (arith, e, later)
 
 pub once_from_permutation : (hs gs : List ProgramHeader) → IsPermutation hs gs → OnceTouched hs → OnceTouched gs
-once_from_permutation hs gs moved once w = omega (arith, sum_by-IsPermutation (λ x. cond (touches w x) 1 0) hs gs moved, once w)
+once_from_permutation hs gs moved once w = omega (arith, sum_by-IsPermutation (λ x. cond (covers w x) 1 0) hs gs moved, once w)
 
 -- each header of a list is a segment
 abbrev pub AreSegments : List ProgramHeader → Type 0
@@ -111,11 +111,11 @@ AreInOrder (h ∷ hs) = All (λ g. word_after h ≤ first_word g) hs × AreInOrd
 between : (a b w : ℕ) → a ≤ w → w < b → (leb a w && ltb w b) ≡ true
 between a b w low high = grind arith
 
-twice : (h : ProgramHeader) (hs : List ProgramHeader) (k : ℕ) (d : ProgramHeader) (w : ℕ) → k < length hs → touches w h ≡ true → touches w (get_or hs k d) ≡ true → 2 ≤ count_by (touches w) (h ∷ hs)
+twice : (h : ProgramHeader) (hs : List ProgramHeader) (k : ℕ) (d : ProgramHeader) (w : ℕ) → k < length hs → covers w h ≡ true → covers w (get_or hs k d) ≡ true → 2 ≤ count_by (covers w) (h ∷ hs)
 twice h hs k d w lt t u =
-    let e = sum_by-cons (λ x. cond (touches w x) 1 0) h hs ∙ ap (λ b. cond b 1 0 + count_by (touches w) hs) t in
-    let f = get_or-le-sum_by (λ x. cond (touches w x) 1 0) hs k d lt in
-    let g : cond (touches w (get_or hs k d)) 1 0 ≡ 1 = ap {B = ℕ} (λ b. cond b 1 0) u in omega (arith, e, f, g)
+    let e = sum_by-cons (λ x. cond (covers w x) 1 0) h hs ∙ ap (λ b. cond b 1 0 + count_by (covers w) hs) t in
+    let f = get_or-le-sum_by (λ x. cond (covers w x) 1 0) hs k d lt in
+    let g : cond (covers w (get_or hs k d)) 1 0 ≡ 1 = ap {B = ℕ} (λ b. cond b 1 0) u in omega (arith, e, f, g)
 
 ends_before : (h : ProgramHeader) (hs : List ProgramHeader) → AreSegments (h ∷ hs) → Above h.vaddr hs → OnceTouched (h ∷ hs) → All (λ g. word_after h ≤ first_word g) hs
 ends_before h hs are above once k d lt = choice (cases_lt (first_word (get_or hs k d)) (word_after h))
@@ -133,11 +133,11 @@ ends_before h hs are above once k d lt = choice (cases_lt (first_word (get_or hs
 pub in_order : (hs : List ProgramHeader) → AreSegments hs → Ascending hs → OnceTouched hs → AreInOrder hs
 in_order [] are up once = tt
 in_order (h ∷ hs) are up once =
-    let later : OnceTouched hs = λ w. omega (arith, sum_by-cons (λ x. cond (touches w x) 1 0) h hs, once w) in
+    let later : OnceTouched hs = λ w. omega (arith, sum_by-cons (λ x. cond (covers w x) 1 0) h hs, once w) in
     (ends_before h hs are up.0 once, in_order hs (All-tail (λ g. is_segment g ≡ true) h hs are) up.1 later)
 
 -- members of a list by cases
-Contains-cons_cases : (h : ProgramHeader) (hs : List ProgramHeader) (x : ProgramHeader) → Contains (h ∷ hs) x → (h ≡ x) ⊎ Contains hs x
+pub Contains-cons_cases : {X : Type 0} (h : X) (hs : List X) (x : X) → Contains (h ∷ hs) x → (h ≡ x) ⊎ Contains hs x
 Contains-cons_cases h hs x (zero, lt, e) = inl e
 Contains-cons_cases h hs x (suc k, lt, e) = inr (k, omega (arith, lt), e)
 

@@ -4,14 +4,14 @@ use Rattle.std.specs.Prelude.{All, option_map, is_none}
 use Rattle.std.specs.Option.{option_or}
 use Rattle.std.proofs.lemmas.List.Elements.{All-nil, All-cons}
 use Rattle.bn_base.specs.declared.settings.RawSettings.{RawSettings}
-use Rattle.bn_base.specs.Programs.{code_at}
+use Rattle.bn_base.specs.Programs.{Program, code_at}
 use Rattle.elf_loader.specs.declared.error.ElfError.{ElfError}
-use Rattle.elf_loader.specs.declared.error.ElfError.TheVariants.{EntryOutside, Truncated, Outside, SegmentsTouch, NoSegment}
+use Rattle.elf_loader.specs.declared.error.ElfError.TheVariants.{NotStatic, EntryOutside, Truncated, Outside, SegmentsTouch, NoSegment}
 use Rattle.elf_loader.specs.declared.program_header.ProgramHeader.{ProgramHeader}
 use Rattle.std.specs.List.{list_any}
 use Rattle.elf_loader.specs.Headers.{table, e_entry}
 use Rattle.elf_loader.specs.Segments.{file_end, segments}
-use Rattle.elf_loader.specs.Loaded.{is_cut_off, is_outside, touching, when, is_interpreter, header_refusal, segment_refusal, program_of, refusal, image_of}
+use Rattle.elf_loader.specs.Loaded.{is_cut_off, is_outside, touching, when, unless, is_interpreter, header_refusal, segment_refusal, program_of, refusal, image_of}
 
 -- a choice of two is none where both are
 pub cond_none : {X : Type 0} (b : Bool) (x : X) (r : Option X) → cond b (Some x) r ≡ None → (b ≡ false) × (r ≡ None)
@@ -21,6 +21,10 @@ cond_none false x r e = (refl, e)
 pub or_none : {X Y : Type 0} (o : Option X) (f : X → Y) (r : Option Y) → option_or (option_map f o) r ≡ None → (o ≡ None) × (r ≡ None)
 or_none None f r e = (refl, e)
 or_none (Some x) f r e = absurd cc
+
+pub or_both : {X : Type 0} (o r : Option X) → option_or o r ≡ None → (o ≡ None) × (r ≡ None)
+or_both None r e = (refl, e)
+or_both (Some x) r e = absurd cc
 
 -- where none is found each fails the test
 pub all_fail : (p : ProgramHeader → Bool) (hs : List ProgramHeader) → find p hs ≡ None → All (λ h. p h ≡ false) hs
@@ -94,3 +98,21 @@ pub loaded : (bytes : List ℕ) (s : RawSettings) (headers hs : List ProgramHead
     → is_none (code_at (program_of bytes s) (e_entry bytes)) ≡ false → image_of bytes s ≡ Ok (program_of bytes s)
 unfolding image_of
 loaded bytes s headers hs m r f n = rw (refusal_then bytes s headers hs m r, f, n) refl
+
+-- a file that is loaded is refused for nothing, and gives its program
+pub record IsLoaded (bytes : List ℕ) (s : RawSettings) (p : Program) : Type 0 where
+  pub taken : segment_refusal (length bytes) s.memory (segments bytes) ≡ None
+  pub program : p ≡ program_of bytes s
+
+unless_ok : (r : Option ElfError) (q p : Program) → unless r q ≡ Ok p → (r ≡ None) × (p ≡ q)
+unless_ok None q p e = (refl, cc)
+unless_ok (Some x) q p e = absurd cc
+
+pub is_loaded : (bytes : List ℕ) (s : RawSettings) (p : Program) → image_of bytes s ≡ Ok p → IsLoaded bytes s p
+unfolding image_of refusal
+is_loaded bytes s p e =
+    let whole = unless_ok _ _ p e in
+    let after_header = or_both (header_refusal bytes) _ whole.0 in
+    let after_table = or_both (when (list_any is_interpreter (table bytes)) NotStatic) _ after_header.1 in
+    let after_segments = or_both (segment_refusal (length bytes) s.memory (segments bytes)) _ after_table.1 in
+    record { taken = after_segments.0; program = whole.1 }

@@ -42,6 +42,10 @@ first_word h = h.vaddr / 4
 abbrev pub word_after : ProgramHeader → ℕ
 word_after h = first_word h + words_touched h.vaddr h.memsz
 
+-- whether a segment touches the aligned word that an address is in
+abbrev pub touches : ProgramHeader → ℕ → Bool
+touches h addr = nat_le (first_word h) (addr / 4) && nat_lt (addr / 4) (word_after h)
+
 -- whether two segments share an aligned word
 abbrev pub share : ProgramHeader → ProgramHeader → Bool
 share g h = nat_lt (first_word g) (word_after h) && nat_lt (first_word h) (word_after g)

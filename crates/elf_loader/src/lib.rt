@@ -4,6 +4,7 @@
 mod checks;
 mod error;
 mod flags;
+pub mod laws;
 mod loading;
 mod program_header;
 #[cfg(test)]
@@ -11,4 +12,3 @@ mod tests;
 
 pub use error::ElfError;
 pub use loading::load;
-pub use program_header::ProgramHeader;
