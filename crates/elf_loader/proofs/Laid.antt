@@ -50,7 +50,7 @@ apart_in_order bytes low high [] le order above below = le
 apart_in_order bytes low high (h ∷ hs) le order above below =
     let end : 4 * word_after h ≤ high = All-head (λ h. 4 * word_after h ≤ high) h hs below in
     let after : All (λ g. 4 * first_word h + 4 * words_touched h.vaddr h.memsz ≤ 4 * first_word g) hs =
-        All-weaker (λ g. word_after h ≤ first_word g) (λ g. 4 * first_word h + 4 * words_touched h.vaddr h.memsz ≤ 4 * first_word g) (λ g e. omega (arith, e)) hs order.0 in
+    All-weaker (λ g. word_after h ≤ first_word g) (λ g. 4 * first_word h + 4 * words_touched h.vaddr h.memsz ≤ 4 * first_word g) (λ g e. omega (arith, e)) hs order.0 in
     (All-head (λ h. low ≤ 4 * first_word h) h hs above, apart_in_order bytes (end_of (part_of bytes h)) high hs (omega arith) order.1 after (All-tail (λ h. 4 * word_after h ≤ high) h hs below))
 
 word_low : (size memory : ℕ) (h : ProgramHeader) → IsTaken size memory h → 4096 ≤ 4 * first_word h

@@ -41,6 +41,7 @@ touches-bytes h addr is = (to, from)
     to : touches h addr ≡ true → (byte : ℕ) × (h.vaddr ≤ byte) × (byte < memory_end h) × (byte / 4 ≡ addr / 4)
     to t = let ends = within (first_word h) (word_after h) (addr / 4) t in
         byte_from h.vaddr h.memsz addr (size_positive h is) ends.0 (omega (arith, ends.1, word_after-some h is))
+
     from : (byte : ℕ) × (h.vaddr ≤ byte) × (byte < memory_end h) × (byte / 4 ≡ addr / 4) → touches h addr ≡ true
     from (byte, low, high, e) = let ends = byte_to h.vaddr h.memsz addr byte (size_positive h is) low high e in
         between (first_word h) (word_after h) (addr / 4) ends.0 (omega (arith, ends.1, word_after-some h is))
@@ -64,6 +65,7 @@ share-words g h is_g is_h = (to, from)
     to : share g h ≡ true → (addr : ℕ) × (touches g addr ≡ true) × (touches h addr ≡ true)
     to e = let m = meet_from (first_word g) (word_after g) (first_word h) (word_after h) (has_words g is_g) (has_words h is_h) e in
         (4 * m.0, rw whole_word (between _ _ m.0 m.1 m.2), rw whole_word (between _ _ m.0 m.3 m.4))
+
     from : (addr : ℕ) × (touches g addr ≡ true) × (touches h addr ≡ true) → share g h ≡ true
     from (addr, tg, th) =
         let in_g = within (first_word g) (word_after g) (addr / 4) tg in
@@ -120,7 +122,7 @@ pub holds_segment : (bytes : List ℕ) (s : RawSettings) (p : Program) (h : Prog
 holds_segment bytes s p h addr is e has t =
     let l = laid bytes s p is e in
     let part : Contains p.parts (part_of bytes h) =
-        subst (λ (ps : List Part). Contains ps (part_of bytes h)) (sym l.parts) (Contains-map (part_of bytes) _ h (Contains-permutation _ _ h (IsPermutation-by_address (segments bytes)) has)) in
+    subst (λ (ps : List Part). Contains ps (part_of bytes h)) (sym l.parts) (Contains-map (part_of bytes) _ h (Contains-permutation _ _ h (IsPermutation-by_address (segments bytes)) has)) in
     let inside : is_in (part_of bytes h) addr ≡ true = is_in-touches (first_word h) (words_touched h.vaddr h.memsz) addr ∙ t in
     let here : part_at p.parts addr ≡ Some (part_of bytes h) = found 4096 p.memory p.parts (part_of bytes h) addr l.apart part inside in
     let ends = within (first_word h) (word_after h) (addr / 4) t in
@@ -130,8 +132,8 @@ holds_segment bytes s p h addr is e has t =
     record {
       first = ap (λ o. first_in o addr) here ∙ word_in-part bytes h addr ends.0;
       code = ap (λ o. elim (addr % 4 == 0) as (λ _. Option ℕ) [ true ↦ code_in o addr | false ↦ None ]) here
-        ∙ code_here (addr % 4 == 0) (has_flag h.flags 1) (part_of bytes h) addr (word_of bytes h addr) refl
-        (λ aligned. word_in-part bytes h addr ends.0 ∙ ap (word_of bytes h) (whole_at addr aligned));
+          ∙ code_here (addr % 4 == 0) (has_flag h.flags 1) (part_of bytes h) addr (word_of bytes h addr) refl
+          (λ aligned. word_in-part bytes h addr ends.0 ∙ ap (word_of bytes h) (whole_at addr aligned));
       store = ap (λ o. may_load p addr && is_writable o) here ∙ ap (λ b. b && has_flag h.flags 2) mapped;
     }
 
@@ -140,9 +142,9 @@ holds_nothing bytes s p addr is e out =
     let l = laid bytes s p is e in
     let sorted : All (λ h. touches h addr ≡ false) (by_address (segments bytes)) = All-permutation (λ h. touches h addr ≡ false) _ _ (IsPermutation-by_address (segments bytes)) out in
     let outside : All (λ q. is_in q addr ≡ false) p.parts =
-        subst (All (λ (q : Part). is_in q addr ≡ false)) (sym l.parts)
-        (All-map (λ (q : Part). is_in q addr ≡ false) (part_of bytes) (by_address (segments bytes))
-        (λ k d lt. is_in-touches _ _ addr ∙ sorted k d lt)) in
+    subst (All (λ (q : Part). is_in q addr ≡ false)) (sym l.parts)
+    (All-map (λ (q : Part). is_in q addr ≡ false) (part_of bytes) (by_address (segments bytes))
+    (λ k d lt. is_in-touches _ _ addr ∙ sorted k d lt)) in
     let none : part_at p.parts addr ≡ None = missing p.parts addr outside in
     record {
       first = ap (λ o. first_in o addr) none;
@@ -155,8 +157,8 @@ highest-before_higher h [] = refl
 highest-before_higher h (g ∷ gs) =
     let later : highest (before_higher h gs) ≡ max (memory_end h) (highest gs) = highest-before_higher h gs in
     elim (leb h.vaddr g.vaddr) as (λ b. highest (cond b (h ∷ g ∷ gs) (g ∷ before_higher h gs)) ≡ max (memory_end h) (max (memory_end g) (highest gs))) [
-      true ↦ refl
-    | false ↦ omega (arith, later)
+      | true ↦ refl
+      | false ↦ omega (arith, later)
     ]
 
 highest-by_address : (hs : List ProgramHeader) → highest (by_address hs) ≡ highest hs
@@ -177,5 +179,5 @@ heap_after bytes s p is e =
     let l = laid bytes s p is e in
     let all : AreSegments (by_address (segments bytes)) = All-permutation (λ h. is_segment h ≡ true) _ _ (IsPermutation-by_address (segments bytes)) (AreSegments-segments bytes) in
     let end : highest_end p.parts ≡ 4 * ((highest (segments bytes) + 3) / 4) =
-        ap highest_end l.parts ∙ highest_end-parts bytes (by_address (segments bytes)) all ∙ ap (λ n. 4 * ((n + 3) / 4)) (highest-by_address (segments bytes)) in
+    ap highest_end l.parts ∙ highest_end-parts bytes (by_address (segments bytes)) all ∙ ap (λ n. 4 * ((n + 3) / 4)) (highest-by_address (segments bytes)) in
     ap (λ n. (n + 4095) / 4096 * 4096) end ∙ pages (highest (segments bytes))

@@ -18,8 +18,8 @@ IsPermutation-before_higher : (h : ProgramHeader) (hs : List ProgramHeader) → 
 IsPermutation-before_higher h [] = IsPermutation-refl (h ∷ [])
 IsPermutation-before_higher h (g ∷ gs) =
     elim (leb h.vaddr g.vaddr) as (λ b. IsPermutation (h ∷ g ∷ gs) (cond b (h ∷ g ∷ gs) (g ∷ before_higher h gs))) [
-      true ↦ IsPermutation-refl (h ∷ g ∷ gs)
-    | false ↦ IsPermutation-trans _ _ _ (IsPermutation-middle (h ∷ []) g gs) (IsPermutation-cons g _ _ (IsPermutation-before_higher h gs))
+      | true ↦ IsPermutation-refl (h ∷ g ∷ gs)
+      | false ↦ IsPermutation-trans _ _ _ (IsPermutation-middle (h ∷ []) g gs) (IsPermutation-cons g _ _ (IsPermutation-before_higher h gs))
     ]
 
 pub IsPermutation-by_address : (hs : List ProgramHeader) → IsPermutation hs (by_address hs)
@@ -176,7 +176,7 @@ same_order (g ∷ gs) [] are_g are_h order_g order_h to from = let none = to g (
 same_order (g ∷ gs) (h ∷ hs) are_g are_h order_g order_h to from =
     let e : g ≡ h = same_first g gs h hs are_g are_h order_g order_h (Contains-cons_cases g gs h (from h (Contains-first h hs))) (Contains-cons_cases h hs g (to g (Contains-first g gs))) in
     let es : gs ≡ hs = same_order gs hs (All-tail (λ x. is_segment x ≡ true) g gs are_g) (All-tail (λ x. is_segment x ≡ true) h hs are_h) order_g.1 order_h.1
-        (after_first g h gs hs are_g order_g e to) (after_first h g hs gs are_h order_h (sym e) from) in
+    (after_first g h gs hs are_g order_g e to) (after_first h g hs gs are_h order_h (sym e) from) in
     ap₂ (λ (x : ProgramHeader) (xs : List ProgramHeader). x ∷ xs) e es
 
 -- segments of which no two share a word, by ascending address

@@ -119,11 +119,7 @@ fn touching(segments: &[ProgramHeader]) -> Option<(ProgramHeader, ProgramHeader)
 }
 
 /// Tests the segments of a file of this length against a size of memory.
-pub fn check_segments(
-    segments: &[ProgramHeader],
-    length: u64,
-    memory: u32,
-) -> Result<(), ElfError>
+pub fn check_segments(segments: &[ProgramHeader], length: u64, memory: u32) -> Result<(), ElfError>
     ensures { result_err result ≡ segment_refusal length memory segments.now }
 {
     if let Some(header) = cut_off(segments, length) {

@@ -7,10 +7,10 @@ ghost use Rattle.elf_loader.specs.Headers.{table, table_end};
 ghost use Rattle.elf_loader.specs.Segments.{is_segment, IsLoadable, segments, part_of, by_address};
 ghost use Rattle.elf_loader.specs.Loaded.{is_interpreter, touching, segment_refusal, program_of, image_of};
 
-use bn_base::{Image, Segment, Settings};
 use crate::checks::{check_header, check_segments};
 use crate::error::ElfError;
 use crate::program_header::{HEADER_SIZE, ProgramHeader};
+use bn_base::{Image, Segment, Settings};
 use le_numbers::{read_u16, read_u32};
 use std::alloc::{AllocError, Global};
 
@@ -60,11 +60,7 @@ fn by_address(mut headers: Vec<ProgramHeader>) -> Result<Vec<ProgramHeader>, All
 }
 
 // The segments in whole aligned words, their bytes out of the file.
-fn parts(
-    alloc: Global,
-    bytes: &[u8],
-    headers: &[ProgramHeader],
-) -> Result<Vec<Segment>, AllocError>
+fn parts(alloc: Global, bytes: &[u8], headers: &[ProgramHeader]) -> Result<Vec<Segment>, AllocError>
     requires { All (IsLoadable (length bytes.now)) headers.now }
     ensures { IfOk result (λ parts. parts.items ≡ map (part_of bytes.now) headers.now) }
 {

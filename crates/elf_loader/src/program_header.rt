@@ -4,8 +4,8 @@ ghost use Rattle.elf_loader.specs.Headers.{header_at};
 ghost use Rattle.elf_loader.specs.Segments.{is_segment, file_end, IsLoadable, words_touched, first_word, word_after, share, byte_in, word_of, file_words, part_of};
 ghost use Rattle.elf_loader.specs.Loaded.{is_interpreter, is_cut_off, is_outside};
 
-use bn_base::{Addr, Segment};
 use crate::flags;
+use bn_base::{Addr, Segment};
 use le_numbers::read_u32;
 use std::alloc::{AllocError, Global};
 
