@@ -1,11 +1,11 @@
 -- What memory holds of a program that was loaded.
-use Rattle.std.proofs.Common.{◌≡◌, ◌≤◌, ◌<◌, ℕ, zero, suc, ◌+◌, ◌-◌, ◌*◌, ◌/◌, ◌%◌, ◌==◌, Bool, true, false, cond, ◌&&◌, List, [], ◌∷◌, length, get_or, map, Option, Some, None, Result, Ok, Err, refl, sym, ap, ap₂, subst, ◌∙◌, ◌↔◌, leb, ltb, leb-true, ltb-true, arith}
-use Rattle.std.specs.Prelude.{All, Contains, nat_le, nat_lt, max}
+use Rattle.std.proofs.Common.{◌≡◌, ◌≤◌, ◌<◌, ℕ, ◌+◌, ◌-◌, ◌*◌, ◌/◌, ◌%◌, ◌==◌, Bool, true, false, cond, ◌&&◌, List, [], ◌∷◌, length, map, Option, Some, None, Ok, refl, sym, ap, ap₂, subst, ◌∙◌, ◌↔◌, leb, ltb, arith}
+use Rattle.std.specs.Prelude.{All, Contains, max}
 use Rattle.bn_base.specs.declared.settings.RawSettings.{RawSettings}
 use Rattle.bn_base.specs.Ranges.{IsSetting}
-use Rattle.bn_base.specs.Programs.{Part, Program, AreApart, end_of, is_in, part_or, part_at, word_in, code_in, code_at, first_in, first_at, may_load, is_writable, may_store, highest_end, heap_start}
+use Rattle.bn_base.specs.Programs.{Part, Program, AreApart, is_in, part_at, word_in, code_in, first_in, may_load, is_writable, highest_end, heap_start}
 use Rattle.elf_loader.specs.declared.program_header.ProgramHeader.{ProgramHeader}
-use Rattle.elf_loader.specs.Segments.{is_segment, segments, memory_end, touches, share, words_touched, first_word, word_after, byte_in, word_of, file_words, part_of, before_higher, by_address, has_flag}
+use Rattle.elf_loader.specs.Segments.{is_segment, segments, memory_end, touches, share, words_touched, first_word, word_after, word_of, part_of, before_higher, by_address, has_flag}
 use Rattle.elf_loader.specs.Loaded.{program_of, image_of}
 use Rattle.elf_loader.specs.Held.{HoldsSegment, HoldsNothing, highest}
 use Rattle.std.proofs.lemmas.List.Elements.{All-head, All-tail, All-map}

@@ -1,5 +1,5 @@
 -- What memory holds of a program that was loaded, address by address.
-use Rattle.std.specs.Prelude.{ℕ, ◌*◌, ◌/◌, ◌%◌, ◌==◌, ◌≡◌, Bool, ◌&&◌, if◌then◌else◌, List, [], ◌∷◌, Some, None, max}
+use Rattle.std.specs.Prelude.{ℕ, ◌*◌, ◌/◌, ◌%◌, ◌==◌, ◌≡◌, ◌&&◌, if◌then◌else◌, List, [], ◌∷◌, Some, None, max}
 use Rattle.bn_base.specs.Programs.{Program, code_at, first_at, may_load, may_store}
 use Rattle.elf_loader.specs.declared.program_header.ProgramHeader.{ProgramHeader}
 use Rattle.elf_loader.specs.Segments.{has_flag, memory_end, word_of}

@@ -1,5 +1,5 @@
 -- The program that an ELF file gives, or the first refusal.
-use Rattle.std.specs.Prelude.{ℕ, ◌+◌, ◌*◌, ◌==◌, Bool, true, false, not, ◌&&◌, ◌||◌, nat_lt, nat_eq, List, [], ◌∷◌, length, map, find, Option, Some, None, is_none, option_map, Result, Ok, Err}
+use Rattle.std.specs.Prelude.{ℕ, ◌==◌, Bool, true, false, not, ◌&&◌, ◌||◌, nat_lt, nat_eq, List, [], ◌∷◌, length, map, find, Option, Some, None, is_none, option_map, Result, Ok, Err}
 use Rattle.std.specs.List.{list_any, starts_with}
 use Rattle.std.specs.Option.{option_or}
 use Rattle.bn_base.specs.declared.settings.RawSettings.{RawSettings}
@@ -7,7 +7,7 @@ use Rattle.bn_base.specs.Programs.{Program, code_at}
 use Rattle.elf_loader.specs.declared.error.ElfError.{ElfError}
 use Rattle.elf_loader.specs.declared.error.ElfError.TheVariants.{NotElf, Truncated, NotRv32, NotStatic, NeedsCompressed, NeedsE, TooMany, Outside, SegmentsTouch, NoSegment, EntryOutside}
 use Rattle.elf_loader.specs.declared.program_header.ProgramHeader.{ProgramHeader}
-use Rattle.elf_loader.specs.Headers.{ei_class, ei_data, ei_version, e_type, e_machine, e_version, e_entry, e_phoff, e_flags, e_phentsize, e_phnum, table_end, table}
+use Rattle.elf_loader.specs.Headers.{ei_class, ei_data, ei_version, e_type, e_machine, e_version, e_entry, e_flags, e_phentsize, e_phnum, table_end, table}
 use Rattle.elf_loader.specs.Segments.{has_flag, segments, file_end, memory_end, share, part_of, by_address}
 
 -- a refusal where a test holds

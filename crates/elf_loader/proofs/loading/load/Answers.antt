@@ -1,11 +1,11 @@
-use Rattle.std.proofs.Common.{◌≡◌, ◌∙◌, sym, ap, not, false, true, ℕ, None, Some, Ok, Err, length, filter, is_none, inr, subst}
+use Rattle.std.proofs.Common.{◌≡◌, ◌∙◌, sym, ap, false, true, ℕ, Some, Ok, Err, filter, is_none, inr, subst}
 use Rattle.std.proofs.lemmas.Result.{err_from_is_err_and}
 use Rattle.bn_base.specs.Programs.{Program, code_at}
 use Rattle.elf_loader.specs.declared.error.ElfError.{ElfError}
 use Rattle.elf_loader.specs.declared.error.ElfError.TheVariants.{EntryOutside}
 use Rattle.elf_loader.specs.Headers.{e_entry}
 use Rattle.elf_loader.specs.Segments.{is_segment, segments}
-use Rattle.elf_loader.specs.Loaded.{segment_refusal, program_of, image_of}
+use Rattle.elf_loader.specs.Loaded.{program_of, image_of}
 use Rattle.elf_loader.proofs.Refused.{Reads, refused-segments, refused-entry, loaded}
 use Rattle.elf_loader.proofs.loading.load.Goals as goal
 
