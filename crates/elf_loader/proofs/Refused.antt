@@ -1,17 +1,17 @@
 -- The refusals of the segments, one by one.
 use Rattle.std.proofs.Common.{◌≡◌, ℕ, ◌==◌, Bool, true, false, cond, List, [], ◌∷◌, length, Option, Some, None, Ok, Err, find, refl, ap, sym, ◌∙◌}
-use Rattle.std.specs.Prelude.{All, option_map, is_none}
+use Rattle.std.specs.Prelude.{All, option_map}
 use Rattle.std.specs.Option.{option_or}
 use Rattle.std.proofs.lemmas.List.Elements.{All-nil, All-cons}
 use Rattle.bn_base.specs.declared.settings.RawSettings.{RawSettings}
-use Rattle.bn_base.specs.Programs.{Program, code_at}
+use Rattle.bn_base.specs.Programs.{Program}
 use Rattle.elf_loader.specs.declared.error.ElfError.{ElfError}
 use Rattle.elf_loader.specs.declared.error.ElfError.TheVariants.{NotStatic, EntryOutside, Truncated, Outside, SegmentsTouch, NoSegment}
 use Rattle.elf_loader.specs.declared.program_header.ProgramHeader.{ProgramHeader}
 use Rattle.std.specs.List.{list_any}
-use Rattle.elf_loader.specs.Headers.{table, e_entry}
+use Rattle.elf_loader.specs.Headers.{table}
 use Rattle.elf_loader.specs.Segments.{file_end, segments}
-use Rattle.elf_loader.specs.Loaded.{is_cut_off, is_outside, touching, when, unless, is_interpreter, header_refusal, segment_refusal, program_of, refusal, image_of}
+use Rattle.elf_loader.specs.Loaded.{is_cut_off, is_outside, touching, when, unless, starts_outside, is_interpreter, header_refusal, segment_refusal, program_of, refusal, image_of}
 
 -- a choice of two is none where both are
 pub cond_none : {X : Type 0} (b : Bool) (x : X) (r : Option X) → cond b (Some x) r ≡ None → (b ≡ false) × (r ≡ None)
@@ -79,7 +79,7 @@ pub record Reads (bytes : List ℕ) (memory : ℕ) (headers hs : List ProgramHea
   pub static : list_any is_interpreter headers ≡ false
 
 refusal_then : (bytes : List ℕ) (s : RawSettings) (headers hs : List ProgramHeader) (m : ℕ) → Reads bytes s.memory headers hs m
-    → refusal bytes s ≡ option_or (segment_refusal (length bytes) m hs) (option_or (when (is_none (code_at (program_of bytes s) (e_entry bytes))) (EntryOutside (e_entry bytes))) None)
+    → refusal bytes s ≡ option_or (segment_refusal (length bytes) m hs) (option_or (when (starts_outside (program_of bytes s)) (EntryOutside (program_of bytes s).entry)) None)
 unfolding refusal
 refusal_then bytes s headers hs m r =
     let interpreter : list_any is_interpreter (table bytes) ≡ false = ap (list_any is_interpreter) (sym r.headers_are) ∙ r.static in
@@ -90,12 +90,12 @@ unfolding image_of
 refused-segments bytes s headers hs m e r f = rw (refusal_then bytes s headers hs m r, f) refl
 
 pub refused-entry : (bytes : List ℕ) (s : RawSettings) (headers hs : List ProgramHeader) (m : ℕ) → Reads bytes s.memory headers hs m → segment_refusal (length bytes) m hs ≡ None
-    → is_none (code_at (program_of bytes s) (e_entry bytes)) ≡ true → image_of bytes s ≡ Err (EntryOutside (e_entry bytes))
+    → starts_outside (program_of bytes s) ≡ true → image_of bytes s ≡ Err (EntryOutside (program_of bytes s).entry)
 unfolding image_of
 refused-entry bytes s headers hs m r f n = rw (refusal_then bytes s headers hs m r, f, n) refl
 
 pub loaded : (bytes : List ℕ) (s : RawSettings) (headers hs : List ProgramHeader) (m : ℕ) → Reads bytes s.memory headers hs m → segment_refusal (length bytes) m hs ≡ None
-    → is_none (code_at (program_of bytes s) (e_entry bytes)) ≡ false → image_of bytes s ≡ Ok (program_of bytes s)
+    → starts_outside (program_of bytes s) ≡ false → image_of bytes s ≡ Ok (program_of bytes s)
 unfolding image_of
 loaded bytes s headers hs m r f n = rw (refusal_then bytes s headers hs m r, f, n) refl
 

@@ -6,8 +6,9 @@ use Rattle.bn_base.specs.declared.settings.RawSettings.{RawSettings}
 use Rattle.bn_base.specs.Programs.{Program, code_at}
 use Rattle.elf_loader.specs.declared.error.ElfError.{ElfError}
 use Rattle.elf_loader.specs.declared.error.ElfError.TheVariants.{NotElf, Truncated, NotRv32, NotStatic, NeedsCompressed, NeedsE, TooMany, Outside, SegmentsTouch, NoSegment, EntryOutside}
+use Rattle.elf_loader.specs.declared.file_header.FileHeader.{FileHeader}
 use Rattle.elf_loader.specs.declared.program_header.ProgramHeader.{ProgramHeader}
-use Rattle.elf_loader.specs.Headers.{ei_class, ei_data, ei_version, e_type, e_machine, e_version, e_entry, e_flags, e_phentsize, e_phnum, table_end, table}
+use Rattle.elf_loader.specs.Headers.{file_header, table_end, table}
 use Rattle.elf_loader.specs.Segments.{has_flag, segments, file_end, memory_end, share, part_of, by_address}
 
 -- a refusal where a test holds
@@ -25,22 +26,21 @@ abbrev pub is_elf : List ℕ → Bool
 is_elf bytes = starts_with nat_eq bytes (0x7f ∷ 0x45 ∷ 0x4c ∷ 0x46 ∷ [])
 
 -- the file is 32-bit, little-endian and for RISC-V, with program headers of the standard's size
-abbrev pub is_rv32 : List ℕ → Bool
-is_rv32 bytes =
-    (ei_class bytes == 1) && (ei_data bytes == 1) && (ei_version bytes == 1) && (e_machine bytes == 243) && (e_version bytes == 1)
-    && ((e_phnum bytes == 0) || (e_phentsize bytes == 32))
+abbrev pub is_rv32 : FileHeader → Bool
+is_rv32 f = (f.class == 1) && (f.encoding == 1) && (f.ident_version == 1) && (f.machine == 243) && (f.version == 1) && ((f.phnum == 0) || (f.phentsize == 32))
 
--- what is refused of the ELF header
+-- what is refused of the ELF header: the magic number, the length, the kind of file (2 is an executable
+-- at fixed addresses), what it asks of the processor, and a table that is too long or cut off
 unfoldable pub header_refusal : List ℕ → Option ElfError
-header_refusal bytes = first_of_all (
+header_refusal bytes = let f = file_header bytes in first_of_all (
     when (not (is_elf bytes)) NotElf
     ∷ when (nat_lt (length bytes) 52) (Truncated 52 (length bytes))
-    ∷ when (not (is_rv32 bytes)) NotRv32
-    ∷ when (not (e_type bytes == 2)) NotStatic
-    ∷ when (has_flag (e_flags bytes) 1) NeedsCompressed
-    ∷ when (has_flag (e_flags bytes) 8) NeedsE
-    ∷ when (nat_lt 64 (e_phnum bytes)) (TooMany (e_phnum bytes))
-    ∷ when (nat_lt (length bytes) (table_end bytes)) (Truncated (table_end bytes) (length bytes))
+    ∷ when (not (is_rv32 f)) NotRv32
+    ∷ when (not (f.kind == 2)) NotStatic
+    ∷ when (has_flag f.flags 1) NeedsCompressed
+    ∷ when (has_flag f.flags 8) NeedsE
+    ∷ when (nat_lt 64 f.phnum) (TooMany f.phnum)
+    ∷ when (nat_lt (length bytes) (table_end f)) (Truncated (table_end f) (length bytes))
     ∷ [])
 
 -- a header of type PT_INTERP, 3, asks for a program interpreter
@@ -71,7 +71,11 @@ segment_refusal size memory hs = first_of_all (
 
 -- the program of a file
 unfoldable pub program_of : List ℕ → RawSettings → Program
-program_of bytes s = record { parts = map (part_of bytes) (by_address (segments bytes)); entry = e_entry bytes; memory = s.memory; harts = s.harts }
+program_of bytes s = record { parts = map (part_of bytes) (by_address (segments bytes)); entry = (file_header bytes).entry; memory = s.memory; harts = s.harts }
+
+-- a program's first instruction isn't a code word
+abbrev pub starts_outside : Program → Bool
+starts_outside p = is_none (code_at p p.entry)
 
 -- the first refusal of a file, in order: of its header, of its headers' types, of its segments, of its entry
 unfoldable pub refusal : List ℕ → RawSettings → Option ElfError
@@ -79,7 +83,7 @@ refusal bytes s = first_of_all (
     header_refusal bytes
     ∷ when (list_any is_interpreter (table bytes)) NotStatic
     ∷ segment_refusal (length bytes) s.memory (segments bytes)
-    ∷ when (is_none (code_at (program_of bytes s) (e_entry bytes))) (EntryOutside (e_entry bytes))
+    ∷ when (starts_outside (program_of bytes s)) (EntryOutside (program_of bytes s).entry)
     ∷ [])
 
 -- a program, unless it is refused

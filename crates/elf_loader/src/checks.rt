@@ -1,20 +1,17 @@
 // What is refused of a file, in order.
-ghost use Rattle.std.specs.Prelude.{◌≡◌, ◌≤◌, length, OnOk, find};
+ghost use Rattle.std.specs.Prelude.{◌≡◌, ◌≤◌, length, IfOk, find};
 ghost use Rattle.std.specs.Result.{result_err};
-ghost use Rattle.elf_loader.specs.Headers.{table_end};
+ghost use Rattle.elf_loader.specs.Headers.{file_header, table_end};
 ghost use Rattle.elf_loader.specs.Segments.{share};
-ghost use Rattle.elf_loader.specs.Loaded.{is_elf, is_rv32, header_refusal, is_cut_off, is_outside, segment_refusal, touching};
+ghost use Rattle.elf_loader.specs.Loaded.{header_refusal, is_cut_off, is_outside, segment_refusal, touching};
 
 use crate::error::ElfError;
+use crate::file_header::{FILE_HEADER_SIZE, FileHeader};
 use crate::flags;
-use crate::program_header::{HEADER_SIZE, ProgramHeader};
-use le_numbers::{read_u16, read_u32};
+use crate::program_header::ProgramHeader;
 
-/// The size of the ELF header.
-const ELF_HEADER_SIZE: usize = 52;
-
-/// The instruction set RISC-V.
-const EM_RISCV: u16 = 243;
+/// The magic number.
+const ELF_MAGIC: [u8; 4] = [0x7f, b'E', b'L', b'F'];
 
 /// An executable at fixed addresses.
 const ET_EXEC: u16 = 2;
@@ -22,64 +19,43 @@ const ET_EXEC: u16 = 2;
 /// The most program headers that are taken.
 const MOST_HEADERS: u16 = 64;
 
-// Whether the file begins with the magic number.
-fn is_elf(bytes: &[u8]) -> bool
-    ensures { result ≡ is_elf bytes.now }
-{
-    bytes.starts_with(&[0x7f, 0x45, 0x4c, 0x46])
-}
-
-// Whether the file is 32-bit, little-endian and for RISC-V, with program headers of the standard's size.
-fn is_rv32(bytes: &[u8]) -> bool
-    requires { 52 ≤ length bytes.now }
-    ensures { result ≡ is_rv32 bytes.now }
-{
-    bytes[4] == 1
-        && bytes[5] == 1
-        && bytes[6] == 1
-        && read_u16(bytes, 18) == EM_RISCV
-        && read_u32(bytes, 20) == 1
-        && (read_u16(bytes, 44) == 0 || read_u16(bytes, 42) == HEADER_SIZE as u16)
-}
-
-/// Tests the ELF header.
+/// Reads the ELF header and tests it: the refusals up to a program header table that is cut off.
 #[tactic(auto, unfolding(crate::specs::Loaded::header_refusal))]
-pub fn check_header(bytes: &[u8]) -> Result<(), ElfError>
+pub fn checked_header(bytes: &[u8]) -> Result<FileHeader, ElfError>
     ensures refused { result_err result ≡ header_refusal bytes.now }
-    ensures header { OnOk result (52 ≤ length bytes.now) }
-    ensures table { OnOk result (table_end bytes.now ≤ length bytes.now) }
+    ensures header { IfOk result (λ f. f ≡ file_header bytes.now) }
+    ensures table { IfOk result (λ f. table_end f ≤ length bytes.now) }
 {
     let length = bytes.len() as u64;
-    if !is_elf(bytes) {
+    if !bytes.starts_with(&ELF_MAGIC) {
         return Err(ElfError::NotElf);
     }
-    if bytes.len() < ELF_HEADER_SIZE {
+    if bytes.len() < FILE_HEADER_SIZE {
         return Err(ElfError::Truncated { at: 52, length });
     }
-    if !is_rv32(bytes) {
+    let header = FileHeader::read(bytes);
+    if !header.is_rv32() {
         return Err(ElfError::NotRv32);
     }
-    if read_u16(bytes, 16) != ET_EXEC {
+    if header.kind != ET_EXEC {
         return Err(ElfError::NotStatic);
     }
-    let processor = read_u32(bytes, 36);
-    if flags::needs_compressed(processor) {
+    if flags::needs_compressed(header.flags) {
         return Err(ElfError::NeedsCompressed);
     }
-    if flags::needs_e(processor) {
+    if flags::needs_e(header.flags) {
         return Err(ElfError::NeedsE);
     }
-    let count = read_u16(bytes, 44);
-    if count > MOST_HEADERS {
+    if header.phnum > MOST_HEADERS {
         return Err(ElfError::TooMany {
-            count: count as u64,
+            count: header.phnum as u64,
         });
     }
-    let at = read_u32(bytes, 28) as u64 + HEADER_SIZE as u64 * count as u64;
+    let at = header.table_end();
     if length < at {
         return Err(ElfError::Truncated { at, length });
     }
-    Ok(())
+    Ok(header)
 }
 
 // The first segment whose bytes aren't all in a file of this length.
@@ -118,7 +94,8 @@ fn touching(segments: &[ProgramHeader]) -> Option<(ProgramHeader, ProgramHeader)
     None
 }
 
-/// Tests the segments of a file of this length against a size of memory.
+/// Tests the segments of a file of this length against a size of memory: the refusals from a segment
+/// that is cut off to no segment.
 pub fn check_segments(segments: &[ProgramHeader], length: u64, memory: u32) -> Result<(), ElfError>
     ensures { result_err result ≡ segment_refusal length memory segments.now }
 {

@@ -3,6 +3,7 @@
 
 mod checks;
 mod error;
+mod file_header;
 mod flags;
 pub mod laws;
 mod loading;

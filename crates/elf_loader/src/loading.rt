@@ -1,31 +1,33 @@
 // From the bytes of a file to a program.
-ghost use Rattle.std.specs.Prelude.{◌≡◌, ◌≤◌, ◌%◌, ◌^◌, ◌⊎◌, true, length, map, filter, All, is_none, None, Ok, Err, IfOk, IfErr};
+ghost use Rattle.std.specs.Prelude.{◌≡◌, ◌≤◌, ◌%◌, ◌^◌, ◌⊎◌, true, length, map, filter, All, None, Ok, Err, IfOk, IfErr};
 ghost use Rattle.std.specs.List.{list_any};
-ghost use Rattle.bn_base.specs.Programs.{code_at};
 ghost use Rattle.elf_loader.specs.declared.error.ElfError.TheVariants.{OutOfMemory};
-ghost use Rattle.elf_loader.specs.Headers.{table, table_end};
+ghost use Rattle.elf_loader.specs.Headers.{file_header, table, table_end};
 ghost use Rattle.elf_loader.specs.Segments.{is_segment, IsLoadable, segments, part_of, by_address};
-ghost use Rattle.elf_loader.specs.Loaded.{is_interpreter, touching, segment_refusal, program_of, image_of};
+ghost use Rattle.elf_loader.specs.Loaded.{is_interpreter, starts_outside, touching, segment_refusal, program_of, image_of};
 
-use crate::checks::{check_header, check_segments};
+use crate::checks::{check_segments, checked_header};
 use crate::error::ElfError;
+use crate::file_header::FileHeader;
 use crate::program_header::{HEADER_SIZE, ProgramHeader};
-use bn_base::{Image, Segment, Settings};
-use le_numbers::{read_u16, read_u32};
+use bn_base::{Addr, Image, Segment, Settings};
 use std::alloc::{AllocError, Global};
 
 // The program header table.
 #[tactic(auto, unfolding(crate::specs::Headers::table))]
-fn read_table(alloc: Global, bytes: &[u8]) -> Result<Vec<ProgramHeader>, AllocError>
-    requires header { 52 ≤ length bytes.now }
-    requires inside { table_end bytes.now ≤ length bytes.now }
+fn read_table(
+    alloc: Global,
+    bytes: &[u8],
+    header: FileHeader,
+) -> Result<Vec<ProgramHeader>, AllocError>
+    requires own { header ≡ file_header bytes.now }
+    requires inside { table_end header ≤ length bytes.now }
     ensures { IfOk result (λ headers. headers.items ≡ table bytes.now) }
 {
-    let start = read_u32(bytes, 28) as usize;
-    let count = read_u16(bytes, 44) as usize;
+    let count = header.phnum as usize;
     let mut headers = Vec::with_capacity(alloc, count)?;
     for place in 0..count {
-        let at = start + HEADER_SIZE * place;
+        let at = header.phoff as usize + HEADER_SIZE * place;
         headers.push(ProgramHeader::read(bytes, at, place as u64))?;
     }
     Ok(headers)
@@ -77,9 +79,10 @@ fn program(
     alloc: Global,
     bytes: &[u8],
     headers: Vec<ProgramHeader>,
+    entry: Addr,
     settings: &Settings,
 ) -> Result<Image, AllocError>
-    requires header { 52 ≤ length bytes.now }
+    requires own { entry ≡ (file_header bytes.now).entry }
     requires are { headers.items ≡ segments bytes.now }
     requires taken { segment_refusal (length bytes.now) settings.now.memory headers.items ≡ None }
     requires low { 65536 ≤ settings.now.memory }
@@ -89,38 +92,57 @@ fn program(
 {
     let headers = by_address(headers)?;
     let parts = parts(alloc, bytes, &headers)?;
-    Ok(Image::new(parts, read_u32(bytes, 24), settings))
+    Ok(Image::new(parts, entry, settings))
 }
 
 // Whether the first instruction isn't a code word.
 fn starts_outside(image: &Image) -> bool
-    ensures { result ≡ is_none (code_at image.now image.now.entry) }
+    ensures { result ≡ starts_outside image.now }
 {
     image.code(image.entry()).is_none()
 }
 
-/// Loads the program of an ELF file.
+/// Loads the program of an ELF file (ELF, "Program Loading").
 ///
 /// A segment is a program header of type PT_LOAD with a size in memory above 0. Every aligned word
-/// that it touches holds its bytes, and 0 where the file has none. All other header types, and all
-/// flags but PF_X and PF_W, mean nothing. The file is refused by the first of the tests, in the order
-/// of `ElfError`'s variants, save that `NotStatic` also comes after the program header table was found
-/// to be whole, and `Truncated` after that for a segment. Memory may run out at any growth.
+/// that it touches holds its bytes, and 0 where the file has none; the word is code with PF_X and
+/// read-only without PF_W. Other types of headers and other flags mean nothing, nor do sections. All
+/// other mapped words are 0 and writable. Sums are taken in 64 bits.
 ///
-/// It takes time linear in the length of the file, and the image holds each segment's bytes once.
+/// The first of these that applies is the refusal. Where it comes for several segments, the first
+/// of them in the table is named.
+///
+/// | refusal | comes where |
+/// |---|---|
+/// | `NotElf` | the first four bytes aren't 7f 45 4c 46 |
+/// | `Truncated` at 52 | the file has fewer than 52 bytes |
+/// | `NotRv32` | class, encoding or version isn't 1, or `e_machine` isn't 243, or there are program headers and `e_phentsize` isn't 32 |
+/// | `NotStatic` | `e_type` isn't 2 |
+/// | `NeedsCompressed`, `NeedsE` | `e_flags` has bit 0, has bit 3 |
+/// | `TooMany` | there are more than 64 program headers |
+/// | `Truncated` | the program header table passes the end of the file |
+/// | `NotStatic` | a program header has type PT_INTERP |
+/// | `Truncated` | a segment's bytes pass the end of the file |
+/// | `Outside` | a segment begins below 4,096, ends past the memory's size, or has more bytes in the file than in memory |
+/// | `SegmentsTouch` | two segments share an aligned word |
+/// | `NoSegment` | there is no segment |
+/// | `EntryOutside` | `e_entry` isn't a multiple of 4, or isn't in an executable segment |
+///
+/// `OutOfMemory` may come in place of any answer. It takes time linear in the length of the file, and
+/// the image holds each segment's bytes once.
 #[tactic(auto, unfolding(crate::specs::Loaded::image_of, crate::specs::Loaded::refusal))]
 pub fn load(alloc: Global, bytes: &[u8], settings: &Settings) -> Result<Image, ElfError>
     ensures loaded { IfOk result (λ i. image_of bytes.now settings.now ≡ Ok i) }
     ensures refused { IfErr result (λ e. (e ≡ OutOfMemory) ⊎ (image_of bytes.now settings.now ≡ Err e)) }
 {
-    check_header(bytes)?;
-    let table = read_table(alloc, bytes)?;
+    let header = checked_header(bytes)?;
+    let table = read_table(alloc, bytes, header)?;
     if needs_interpreter(&table) {
         return Err(ElfError::NotStatic);
     }
     let segments = segments(alloc, &table)?;
     check_segments(&segments, bytes.len() as u64, settings.memory())?;
-    let image = program(alloc, bytes, segments, settings)?;
+    let image = program(alloc, bytes, segments, header.entry, settings)?;
     if starts_outside(&image) {
         return Err(ElfError::EntryOutside {
             entry: image.entry(),
