@@ -1,0 +1,7 @@
+pub mod Found
+pub mod Grown
+pub mod Laid
+pub mod Memory
+pub mod Order
+pub mod Refused
+pub mod Words

@@ -1,0 +1,183 @@
+-- What memory holds of a program that was loaded.
+use Rattle.std.proofs.Common.{◌≡◌, ◌≤◌, ◌<◌, ℕ, ◌+◌, ◌-◌, ◌*◌, ◌/◌, ◌%◌, ◌==◌, Bool, true, false, cond, ◌&&◌, List, [], ◌∷◌, length, map, Option, Some, None, Ok, refl, sym, ap, ap₂, subst, ◌∙◌, ◌↔◌, leb, ltb, arith}
+use Rattle.std.specs.Prelude.{All, Contains, max}
+use Rattle.bn_base.specs.declared.settings.RawSettings.{RawSettings}
+use Rattle.bn_base.specs.Ranges.{IsSetting}
+use Rattle.bn_base.specs.Programs.{Part, Program, AreApart, is_in, part_at, word_in, code_in, first_in, may_load, is_writable, highest_end, heap_start}
+use Rattle.elf_loader.specs.declared.program_header.ProgramHeader.{ProgramHeader}
+use Rattle.elf_loader.specs.Segments.{is_segment, segments, memory_end, touches, share, words_touched, first_word, word_after, word_of, part_of, before_higher, by_address, has_flag}
+use Rattle.elf_loader.specs.Loaded.{program_of, image_of}
+use Rattle.elf_loader.specs.Held.{HoldsSegment, HoldsNothing, highest}
+use Rattle.std.proofs.lemmas.List.Elements.{All-head, All-tail, All-map}
+use Rattle.std.proofs.lemmas.List.Sorted.{All-permutation, Contains-permutation}
+use Rattle.elf_loader.proofs.Found.{low_first, high_end, found, missing, Contains-map}
+use Rattle.elf_loader.proofs.Laid.{AreSegments-segments, parts_apart}
+use Rattle.elf_loader.proofs.Order.{AreSegments, IsPermutation-by_address}
+use Rattle.elf_loader.proofs.Refused.{is_loaded, are_taken}
+use Rattle.elf_loader.proofs.Words.{words_touched-some, get_or-file_words}
+
+within : (a b w : ℕ) → (leb a w && ltb w b) ≡ true → (a ≤ w) × (w < b)
+within a b w e = (grind arith, grind arith)
+
+between : (a b w : ℕ) → a ≤ w → w < b → (leb a w && ltb w b) ≡ true
+between a b w low high = grind arith
+
+size_positive : (h : ProgramHeader) → is_segment h ≡ true → 0 < h.memsz
+size_positive h is = grind arith
+
+-- the first of a segment's bytes in a word
+byte_from : (v m a : ℕ) → 0 < m → v / 4 ≤ a / 4 → a / 4 < v / 4 + (v % 4 + m + 3) / 4 → (byte : ℕ) × (v ≤ byte) × (byte < v + m) × (byte / 4 ≡ a / 4)
+byte_from v m a some low high = (max v (4 * (a / 4)), omega arith, omega arith, omega arith)
+
+byte_to : (v m a byte : ℕ) → 0 < m → v ≤ byte → byte < v + m → byte / 4 ≡ a / 4 → (v / 4 ≤ a / 4) × (a / 4 < v / 4 + (v % 4 + m + 3) / 4)
+byte_to v m a byte some low high e = (omega arith, omega arith)
+
+word_after-some : (h : ProgramHeader) → is_segment h ≡ true → word_after h ≡ h.vaddr / 4 + (h.vaddr % 4 + h.memsz + 3) / 4
+word_after-some h is = ap (λ n. first_word h + n) (words_touched-some h.vaddr h.memsz (size_positive h is))
+
+pub touches-bytes : (h : ProgramHeader) (addr : ℕ) → is_segment h ≡ true → (touches h addr ≡ true) ↔ ((byte : ℕ) × (h.vaddr ≤ byte) × (byte < memory_end h) × (byte / 4 ≡ addr / 4))
+touches-bytes h addr is = (to, from)
+  where
+    to : touches h addr ≡ true → (byte : ℕ) × (h.vaddr ≤ byte) × (byte < memory_end h) × (byte / 4 ≡ addr / 4)
+    to t = let ends = within (first_word h) (word_after h) (addr / 4) t in
+        byte_from h.vaddr h.memsz addr (size_positive h is) ends.0 (omega (arith, ends.1, word_after-some h is))
+
+    from : (byte : ℕ) × (h.vaddr ≤ byte) × (byte < memory_end h) × (byte / 4 ≡ addr / 4) → touches h addr ≡ true
+    from (byte, low, high, e) = let ends = byte_to h.vaddr h.memsz addr byte (size_positive h is) low high e in
+        between (first_word h) (word_after h) (addr / 4) ends.0 (omega (arith, ends.1, word_after-some h is))
+
+-- two stretches that are not empty have a common number exactly where each begins before the other ends
+meet_from : (a b c d : ℕ) → a < b → c < d → (ltb a d && ltb c b) ≡ true → (n : ℕ) × (a ≤ n) × (n < b) × (c ≤ n) × (n < d)
+meet_from a b c d ab cd e = let ad : a < d = grind arith in let cb : c < b = grind arith in (max a c, omega arith, omega arith, omega arith, omega arith)
+
+meet_to : (a b c d n : ℕ) → a ≤ n → n < b → c ≤ n → n < d → (ltb a d && ltb c b) ≡ true
+meet_to a b c d n low high low' high' = grind arith
+
+pub has_words : (h : ProgramHeader) → is_segment h ≡ true → first_word h < word_after h
+has_words h is = omega (arith, word_after-some h is, size_positive h is)
+
+whole_word : (n : ℕ) → 4 * n / 4 ≡ n
+whole_word n = omega arith
+
+pub share-words : (g h : ProgramHeader) → is_segment g ≡ true → is_segment h ≡ true → (share g h ≡ true) ↔ ((addr : ℕ) × (touches g addr ≡ true) × (touches h addr ≡ true))
+share-words g h is_g is_h = (to, from)
+  where
+    to : share g h ≡ true → (addr : ℕ) × (touches g addr ≡ true) × (touches h addr ≡ true)
+    to e = let m = meet_from (first_word g) (word_after g) (first_word h) (word_after h) (has_words g is_g) (has_words h is_h) e in
+        (4 * m.0, rw whole_word (between _ _ m.0 m.1 m.2), rw whole_word (between _ _ m.0 m.3 m.4))
+
+    from : (addr : ℕ) × (touches g addr ≡ true) × (touches h addr ≡ true) → share g h ≡ true
+    from (addr, tg, th) =
+        let in_g = within (first_word g) (word_after g) (addr / 4) tg in
+        let in_h = within (first_word h) (word_after h) (addr / 4) th in
+        meet_to (first_word g) (word_after g) (first_word h) (word_after h) (addr / 4) in_g.0 in_g.1 in_h.0 in_h.1
+
+-- the addresses of a segment's words are those of its part
+starts : (first a : ℕ) → leb (4 * first) a ≡ leb first (a / 4)
+starts first a = grind arith
+
+ends : (after a : ℕ) → ltb a (4 * after) ≡ ltb (a / 4) after
+ends after a = grind arith
+
+is_in-touches : (first count a : ℕ) → (leb (4 * first) a && ltb a (4 * first + 4 * count)) ≡ (leb first (a / 4) && ltb (a / 4) (first + count))
+is_in-touches first count a =
+    let e : 4 * first + 4 * count ≡ 4 * (first + count) = omega arith in
+    ap₂ (λ (x y : Bool). x && y) (starts first a) (ap (λ n. ltb a n) e ∙ ends (first + count) a)
+
+-- a part's word at an address
+word_in-part : (bytes : List ℕ) (h : ProgramHeader) (addr : ℕ) → first_word h ≤ addr / 4 → word_in (part_of bytes h) addr ≡ word_of bytes h (4 * (addr / 4))
+word_in-part bytes h addr low =
+    let e : 4 * (first_word h + (addr - 4 * first_word h) / 4) ≡ 4 * (addr / 4) = omega (arith, low) in
+    get_or-file_words bytes h ((addr - 4 * first_word h) / 4) ∙ ap (word_of bytes h) e
+
+code_here : (b x : Bool) (q : Part) (a w : ℕ) → q.executable ≡ x → (b ≡ true → word_in q a ≡ w) → elim b as (λ _. Option ℕ) [ true ↦ code_in (Some q) a | false ↦ None ] ≡ cond (b && x) (Some w) None
+code_here false x q a w e word = refl
+code_here true true q a w e word = rw e (ap (λ v. Some v) (word refl))
+code_here true false q a w e word = rw e refl
+
+whole_at : (a : ℕ) → (a % 4 == 0) ≡ true → 4 * (a / 4) ≡ a
+whole_at a e = grind arith
+
+code_none : (b : Bool) (a : ℕ) → elim b as (λ _. Option ℕ) [ true ↦ code_in None a | false ↦ None ] ≡ None
+code_none true a = refl
+code_none false a = refl
+
+and_true : (b : Bool) → (b && true) ≡ b
+and_true true = refl
+and_true false = refl
+
+-- the program of a file that is loaded: its parts stand apart, and are those of its segments
+record Laid (bytes : List ℕ) (p : Program) : Type 0 where
+  parts : p.parts ≡ map (part_of bytes) (by_address (segments bytes))
+  apart : AreApart 4096 p.memory p.parts
+
+laid : (bytes : List ℕ) (s : RawSettings) (p : Program) → IsSetting s → image_of bytes s ≡ Ok p → Laid bytes p
+unfolding program_of
+laid bytes s p is e =
+    let loaded = is_loaded bytes s p e in
+    let apart = parts_apart bytes (length bytes) s.memory (segments bytes) is.memory_pages is.memory_low (AreSegments-segments bytes) (are_taken _ _ _ loaded.taken) in
+    subst (Laid bytes) (sym loaded.program) (record { parts = refl; apart = apart })
+
+pub holds_segment : (bytes : List ℕ) (s : RawSettings) (p : Program) (h : ProgramHeader) (addr : ℕ) → IsSetting s → image_of bytes s ≡ Ok p → Contains (segments bytes) h → touches h addr ≡ true → HoldsSegment bytes h p addr
+holds_segment bytes s p h addr is e has t =
+    let l = laid bytes s p is e in
+    let part : Contains p.parts (part_of bytes h) =
+    subst (λ (ps : List Part). Contains ps (part_of bytes h)) (sym l.parts) (Contains-map (part_of bytes) _ h (Contains-permutation _ _ h (IsPermutation-by_address (segments bytes)) has)) in
+    let inside : is_in (part_of bytes h) addr ≡ true = is_in-touches (first_word h) (words_touched h.vaddr h.memsz) addr ∙ t in
+    let here : part_at p.parts addr ≡ Some (part_of bytes h) = found 4096 p.memory p.parts (part_of bytes h) addr l.apart part inside in
+    let ends = within (first_word h) (word_after h) (addr / 4) t in
+    let low = low_first 4096 p.memory p.parts (part_of bytes h) l.apart part in
+    let high = high_end 4096 p.memory p.parts (part_of bytes h) l.apart part in
+    let mapped : may_load p addr ≡ true = between 4096 p.memory addr (omega (arith, low, ends.0)) (omega (arith, high, ends.1)) in
+    record {
+      first = ap (λ o. first_in o addr) here ∙ word_in-part bytes h addr ends.0;
+      code = ap (λ o. elim (addr % 4 == 0) as (λ _. Option ℕ) [ true ↦ code_in o addr | false ↦ None ]) here
+          ∙ code_here (addr % 4 == 0) (has_flag h.flags 1) (part_of bytes h) addr (word_of bytes h addr) refl
+          (λ aligned. word_in-part bytes h addr ends.0 ∙ ap (word_of bytes h) (whole_at addr aligned));
+      store = ap (λ o. may_load p addr && is_writable o) here ∙ ap (λ b. b && has_flag h.flags 2) mapped;
+    }
+
+pub holds_nothing : (bytes : List ℕ) (s : RawSettings) (p : Program) (addr : ℕ) → IsSetting s → image_of bytes s ≡ Ok p → All (λ h. touches h addr ≡ false) (segments bytes) → HoldsNothing p addr
+holds_nothing bytes s p addr is e out =
+    let l = laid bytes s p is e in
+    let sorted : All (λ h. touches h addr ≡ false) (by_address (segments bytes)) = All-permutation (λ h. touches h addr ≡ false) _ _ (IsPermutation-by_address (segments bytes)) out in
+    let outside : All (λ q. is_in q addr ≡ false) p.parts =
+    subst (All (λ (q : Part). is_in q addr ≡ false)) (sym l.parts)
+    (All-map (λ (q : Part). is_in q addr ≡ false) (part_of bytes) (by_address (segments bytes))
+    (λ k d lt. is_in-touches _ _ addr ∙ sorted k d lt)) in
+    let none : part_at p.parts addr ≡ None = missing p.parts addr outside in
+    record {
+      first = ap (λ o. first_in o addr) none;
+      code = ap (λ o. elim (addr % 4 == 0) as (λ _. Option ℕ) [ true ↦ code_in o addr | false ↦ None ]) none ∙ code_none (addr % 4 == 0) addr;
+      store = ap (λ o. may_load p addr && is_writable o) none ∙ and_true (may_load p addr);
+    }
+
+highest-before_higher : (h : ProgramHeader) (hs : List ProgramHeader) → highest (before_higher h hs) ≡ max (memory_end h) (highest hs)
+highest-before_higher h [] = refl
+highest-before_higher h (g ∷ gs) =
+    let later : highest (before_higher h gs) ≡ max (memory_end h) (highest gs) = highest-before_higher h gs in
+    elim (leb h.vaddr g.vaddr) as (λ b. highest (cond b (h ∷ g ∷ gs) (g ∷ before_higher h gs)) ≡ max (memory_end h) (max (memory_end g) (highest gs))) [
+      | true ↦ refl
+      | false ↦ omega (arith, later)
+    ]
+
+highest-by_address : (hs : List ProgramHeader) → highest (by_address hs) ≡ highest hs
+highest-by_address [] = refl
+highest-by_address (h ∷ hs) = highest-before_higher h (by_address hs) ∙ ap (λ n. max (memory_end h) n) (highest-by_address hs)
+
+highest_end-parts : (bytes : List ℕ) (hs : List ProgramHeader) → AreSegments hs → highest_end (map (part_of bytes) hs) ≡ 4 * ((highest hs + 3) / 4)
+highest_end-parts bytes [] are = refl
+highest_end-parts bytes (h ∷ hs) are =
+    let later = highest_end-parts bytes hs (All-tail (λ g. is_segment g ≡ true) h hs are) in
+    omega (arith, later, words_touched-some h.vaddr h.memsz (size_positive h (All-head (λ g. is_segment g ≡ true) h hs are)))
+
+pages : (n : ℕ) → (4 * ((n + 3) / 4) + 4095) / 4096 * 4096 ≡ (n + 4095) / 4096 * 4096
+pages n = omega arith
+
+pub heap_after : (bytes : List ℕ) (s : RawSettings) (p : Program) → IsSetting s → image_of bytes s ≡ Ok p → heap_start p ≡ (highest (segments bytes) + 4095) / 4096 * 4096
+heap_after bytes s p is e =
+    let l = laid bytes s p is e in
+    let all : AreSegments (by_address (segments bytes)) = All-permutation (λ h. is_segment h ≡ true) _ _ (IsPermutation-by_address (segments bytes)) (AreSegments-segments bytes) in
+    let end : highest_end p.parts ≡ 4 * ((highest (segments bytes) + 3) / 4) =
+    ap highest_end l.parts ∙ highest_end-parts bytes (by_address (segments bytes)) all ∙ ap (λ n. 4 * ((n + 3) / 4)) (highest-by_address (segments bytes)) in
+    ap (λ n. (n + 4095) / 4096 * 4096) end ∙ pages (highest (segments bytes))

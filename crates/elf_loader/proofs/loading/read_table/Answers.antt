@@ -1,0 +1,10 @@
+use Rattle.std.proofs.Common.{ap, ◌+◌, ◌*◌, ◌∙◌}
+use Rattle.elf_loader.specs.declared.file_header.FileHeader.{FileHeader}
+use Rattle.elf_loader.specs.Headers.{file_header, header}
+use Rattle.elf_loader.proofs.Grown.{grown}
+use Rattle.elf_loader.proofs.loading.read_table.Goals as goal
+
+pub loop-place-preserved : goal.loop-place-preserved
+loop-place-preserved c =
+    grown (header c.args.bytes.now (file_header c.args.bytes.now)) c.loop-place.place _ _ _ c.in_ok-push.ensures.items c.loop-place.invariant
+    (c.read.ensures ∙ ap (λ (f : FileHeader). header c.args.bytes.now f c.loop-place.place) c.requires.own)

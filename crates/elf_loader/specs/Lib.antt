@@ -1,0 +1,4 @@
+pub mod Headers
+pub mod Segments
+pub mod Loaded
+pub mod Held

@@ -1,0 +1,152 @@
+// From the bytes of a file to a program.
+ghost use Rattle.std.specs.Prelude.{◌≡◌, ◌≤◌, ◌%◌, ◌^◌, ◌⊎◌, true, length, map, filter, All, None, Ok, Err, IfOk, IfErr};
+ghost use Rattle.std.specs.List.{list_any};
+ghost use Rattle.elf_loader.specs.declared.error.ElfError.TheVariants.{OutOfMemory};
+ghost use Rattle.elf_loader.specs.Headers.{file_header, table, table_end};
+ghost use Rattle.elf_loader.specs.Segments.{is_segment, IsLoadable, segments, part_of, by_address};
+ghost use Rattle.elf_loader.specs.Loaded.{is_interpreter, starts_outside, touching, segment_refusal, program_of, image_of};
+
+use crate::checks::{check_segments, checked_header};
+use crate::error::ElfError;
+use crate::file_header::FileHeader;
+use crate::program_header::{HEADER_SIZE, ProgramHeader};
+use bn_base::{Addr, Image, Segment, Settings};
+use std::alloc::{AllocError, Global};
+
+// The program header table.
+#[tactic(auto, unfolding(crate::specs::Headers::table))]
+fn read_table(
+    alloc: Global,
+    bytes: &[u8],
+    header: FileHeader,
+) -> Result<Vec<ProgramHeader>, AllocError>
+    requires own { header ≡ file_header bytes.now }
+    requires inside { table_end header ≤ length bytes.now }
+    ensures { IfOk result (λ headers. headers.items ≡ table bytes.now) }
+{
+    let count = header.phnum as usize;
+    let mut headers = Vec::with_capacity(alloc, count)?;
+    for place in 0..count {
+        let at = header.phoff as usize + HEADER_SIZE * place;
+        headers.push(ProgramHeader::read(bytes, at, place as u64))?;
+    }
+    Ok(headers)
+}
+
+// Whether a program interpreter is asked for.
+fn needs_interpreter(headers: &[ProgramHeader]) -> bool
+    ensures { result ≡ list_any is_interpreter headers.now }
+{
+    headers.iter().any(|h| h.is_interpreter())
+}
+
+// The headers that describe segments.
+fn segments(alloc: Global, headers: &[ProgramHeader]) -> Result<Vec<ProgramHeader>, AllocError>
+    ensures { IfOk result (λ segments. segments.items ≡ filter is_segment headers.now) }
+{
+    headers
+        .iter()
+        .copied()
+        .filter(|h| h.is_segment())
+        .collect(alloc)
+}
+
+// Segments by ascending address.
+fn by_address(mut headers: Vec<ProgramHeader>) -> Result<Vec<ProgramHeader>, AllocError>
+    requires segments { All (λ h. is_segment h ≡ true) headers.items }
+    requires apart { touching headers.items ≡ None }
+    ensures { IfOk result (λ sorted. sorted.items ≡ by_address headers.items) }
+{
+    headers.sort_by_key(|h| h.vaddr)?;
+    Ok(headers)
+}
+
+// The segments in whole aligned words, their bytes out of the file.
+fn parts(alloc: Global, bytes: &[u8], headers: &[ProgramHeader]) -> Result<Vec<Segment>, AllocError>
+    requires { All (IsLoadable (length bytes.now)) headers.now }
+    ensures { IfOk result (λ parts. parts.items ≡ map (part_of bytes.now) headers.now) }
+{
+    let mut parts = Vec::with_capacity(alloc, headers.len())?;
+    for header in headers {
+        parts.push(header.segment(alloc, bytes)?)?;
+    }
+    Ok(parts)
+}
+
+// The program of the segments that were taken.
+#[tactic(auto, unfolding(crate::specs::Loaded::program_of))]
+fn program(
+    alloc: Global,
+    bytes: &[u8],
+    headers: Vec<ProgramHeader>,
+    entry: Addr,
+    settings: &Settings,
+) -> Result<Image, AllocError>
+    requires own { entry ≡ (file_header bytes.now).entry }
+    requires are { headers.items ≡ segments bytes.now }
+    requires taken { segment_refusal (length bytes.now) settings.now.memory headers.items ≡ None }
+    requires low { 65536 ≤ settings.now.memory }
+    requires high { settings.now.memory ≤ 2 ^ 26 }
+    requires pages { settings.now.memory % 4096 ≡ 0 }
+    ensures { IfOk result (λ i. i ≡ program_of bytes.now settings.now) }
+{
+    let headers = by_address(headers)?;
+    let parts = parts(alloc, bytes, &headers)?;
+    Ok(Image::new(parts, entry, settings))
+}
+
+// Whether the first instruction isn't a code word.
+fn starts_outside(image: &Image) -> bool
+    ensures { result ≡ starts_outside image.now }
+{
+    image.code(image.entry()).is_none()
+}
+
+/// Loads the program of an ELF file (ELF, "Program Loading").
+///
+/// A segment is a program header of type PT_LOAD with a size in memory above 0. Every aligned word
+/// that it touches holds its bytes, and 0 where the file has none; the word is code with PF_X and
+/// read-only without PF_W. Other types of headers and other flags mean nothing, nor do sections. All
+/// other mapped words are 0 and writable. Sums are taken in 64 bits.
+///
+/// The first of these that applies is the refusal. Where it comes for several segments, the first
+/// of them in the table is named.
+///
+/// | refusal | comes where |
+/// |---|---|
+/// | `NotElf` | the first four bytes aren't 7f 45 4c 46 |
+/// | `Truncated` at 52 | the file has fewer than 52 bytes |
+/// | `NotRv32` | class, encoding or version isn't 1, or `e_machine` isn't 243, or there are program headers and `e_phentsize` isn't 32 |
+/// | `NotStatic` | `e_type` isn't 2 |
+/// | `NeedsCompressed`, `NeedsE` | `e_flags` has bit 0, has bit 3 |
+/// | `TooMany` | there are more than 64 program headers |
+/// | `Truncated` | the program header table passes the end of the file |
+/// | `NotStatic` | a program header has type PT_INTERP |
+/// | `Truncated` | a segment's bytes pass the end of the file |
+/// | `Outside` | a segment begins below 4,096, ends past the memory's size, or has more bytes in the file than in memory |
+/// | `SegmentsTouch` | two segments share an aligned word |
+/// | `NoSegment` | there is no segment |
+/// | `EntryOutside` | `e_entry` isn't a multiple of 4, or isn't in an executable segment |
+///
+/// `OutOfMemory` may come in place of any answer. It takes time linear in the length of the file, and
+/// the image holds each segment's bytes once.
+#[tactic(auto, unfolding(crate::specs::Loaded::image_of, crate::specs::Loaded::refusal))]
+pub fn load(alloc: Global, bytes: &[u8], settings: &Settings) -> Result<Image, ElfError>
+    ensures loaded { IfOk result (λ i. image_of bytes.now settings.now ≡ Ok i) }
+    ensures refused { IfErr result (λ e. (e ≡ OutOfMemory) ⊎ (image_of bytes.now settings.now ≡ Err e)) }
+{
+    let header = checked_header(bytes)?;
+    let table = read_table(alloc, bytes, header)?;
+    if needs_interpreter(&table) {
+        return Err(ElfError::NotStatic);
+    }
+    let segments = segments(alloc, &table)?;
+    check_segments(&segments, bytes.len() as u64, settings.memory())?;
+    let image = program(alloc, bytes, segments, header.entry, settings)?;
+    if starts_outside(&image) {
+        return Err(ElfError::EntryOutside {
+            entry: image.entry(),
+        });
+    }
+    Ok(image)
+}
