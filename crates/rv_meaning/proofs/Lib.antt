@@ -1,2 +1,3 @@
 pub mod OneStep
 pub mod Orderly
+pub mod Held

@@ -3,3 +3,4 @@ pub mod Access
 pub mod Execute
 pub mod Orderly
 pub mod Told
+pub mod Held
