@@ -1,0 +1,49 @@
+-- The times in one access of a shadow.
+use Rattle.std.proofs.Common.{◌≡◌, ℕ, ◌+◌, ◌-◌, ◌<◌, Bool, true, false, ◌==◌, refl, inl, inr, arith, sym, ap, ◌∙◌, slice_get, slice_set, slice_index_or, if◌then◌else◌}
+use Rattle.std.proofs.lemmas.Option.{slice_get_read}
+use Rattle.vector_time.specs.declared.times.Times.{Times}
+use Rattle.vector_time.specs.Times.{count_of}
+use Rattle.race_log.specs.declared.mode.Mode.{Mode}
+use Rattle.race_log.specs.declared.shadow.Shadow.{Shadow}
+use Rattle.race_log.specs.Kept.{is_write}
+use Rattle.race_log.specs.Search.{gathered, counts_after}
+use Rattle.race_log.specs.Stands.{harts_of, times_of, next_count, kept_of, counts_at}
+use Rattle.race_log.proofs.BoolFacts.{known, same_number, other_number}
+use Rattle.race_log.proofs.Steps.{counts_here, counts_there}
+
+-- what is read of the times is the hart's
+pub read_times : (s : Shadow) (hart : ℕ) (t : Times) → hart < harts_of s → t ≡ slice_index_or s.times.items hart t → times_of s hart ≡ count_of t
+read_times s hart t low read =
+    ap counts_at (slice_get_read s.times.items s.harts hart t (omega (arith, s.each_hart, s.times.ok)) low read)
+
+-- the times after the search, with the hart's own count
+pub set_times : (s : Shadow) (hart count first n : ℕ) (mode : Mode) (t next : Times) → times_of s hart ≡ count_of t
+    → (found : Times) (writes : Bool) → writes ≡ is_write mode
+    → ((h : ℕ) → count_of found h ≡ counts_after hart writes (s.harts - 1) (count_of t) (gathered (kept_of s) first n) h)
+    → ((h : ℕ) → count_of next h ≡ (if h == hart then count + 1 else count_of found h))
+    → (h : ℕ) → count_of next h
+    ≡ (if h == hart then count + 1 else counts_after hart (is_write mode) (harts_of s - 1) (times_of s hart) (gathered (kept_of s) first n) h)
+set_times s hart count first n mode t next is found writes kind counts set h =
+    let same : counts_after hart writes (s.harts - 1) (count_of t) (gathered (kept_of s) first n) h
+    ≡ counts_after hart (is_write mode) (harts_of s - 1) (times_of s hart) (gathered (kept_of s) first n) h =
+    ap (λ w. counts_after hart w (s.harts - 1) (count_of t) (gathered (kept_of s) first n) h) kind
+    ∙ ap (λ f. counts_after hart (is_write mode) (s.harts - 1) f (gathered (kept_of s) first n) h) (sym is) in
+    set h ∙ ap (λ x. if h == hart then count + 1 else x) (counts h ∙ same)
+
+here : {X : Type 0} (x y : X) (h g : ℕ) → h ≡ g → (if h == g then x else y) ≡ x
+here x y h g e = let t : (h == g) ≡ true = grind arith in rw t
+
+there : {X : Type 0} (x y : X) (h g : ℕ) → (h == g) ≡ false → (if h == g then x else y) ≡ y
+there x y h g e = rw e
+
+-- the lowest counts of next accesses, with the hart's times put in
+pub counts_set : (s : Shadow) (hart count : ℕ) (t : Times) → hart < harts_of s → (y : ℕ) → count_of t hart ≡ (if hart == hart then count + 1 else y)
+    → (h : ℕ) → counts_at (slice_get (slice_set s.times.items hart t) h) h ≡ (if h == hart then count + 1 else next_count s h)
+counts_set s hart count t low y set h = elim (known (h == hart)) [
+  | inl same ↦
+      let is = same_number h hart same in
+      rw is (counts_here s.times.items hart t (omega (arith, low, s.each_hart, s.times.ok)) hart ∙ (set ∙ (here (count + 1) y hart hart refl
+      ∙ sym (here (count + 1) (next_count s hart) hart hart refl))))
+  | inr apart ↦
+      counts_there s.times.items hart h t (other_number h hart apart) h ∙ sym (there (count + 1) (next_count s h) h hart apart)
+]

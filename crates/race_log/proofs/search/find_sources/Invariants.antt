@@ -1,0 +1,15 @@
+use Rattle.std.proofs.Common.{◌≡◌, ◌≤◌, ◌-◌, ◌++◌, length}
+use Rattle.vector_time.specs.Times.{count_of}
+use Rattle.race_log.specs.Search.{sources, counts_after, gathered}
+use Rattle.race_log.specs.Words.{kept_in}
+use Rattle.race_log.proofs.search.find_sources.Given as goal
+
+abbrev pub invariant-loop-round : goal.invariant-loop-round
+invariant-loop-round l =
+    let kept = gathered (kept_in l.words) l.first l.count in record {
+      few : length l.edges ≤ l.round;
+      found : l.edges ++ sources l.hart l.writes (l.most - l.round) (count_of l.times) kept
+          ≡ sources l.hart l.writes l.most (count_of l.initial.times) kept;
+      counts : counts_after l.hart l.writes (l.most - l.round) (count_of l.times) kept
+          ≡ counts_after l.hart l.writes l.most (count_of l.initial.times) kept;
+    }

@@ -1,0 +1,60 @@
+-- What a shadow knows and keeps of the points so far.
+use Rattle.std.specs.Prelude.{◌≡◌, ℕ, ◌+◌, ◌<◌, Bool, List, slice_get, Option, Some, None, All}
+use Rattle.vector_time.specs.declared.times.Times.{Times}
+use Rattle.vector_time.specs.Times.{count_of}
+use Rattle.race_log.specs.declared.shadow.Shadow.{Shadow}
+use Rattle.race_log.specs.declared.kept.Kept.{Kept}
+use Rattle.race_log.specs.Points.{Point}
+use Rattle.race_log.specs.ByCount.{IsInOrder}
+use Rattle.race_log.specs.Holds.{OwnUpTo, Holds}
+use Rattle.race_log.specs.Kept.{Suffices}
+use Rattle.race_log.specs.Words.{kept_in}
+
+-- a number past the turn, where there is one
+abbrev pub past_turn : Option ℕ → ℕ
+past_turn None = 0
+past_turn (Some turn) = turn + 1
+
+-- the counts of the times, where there are any
+abbrev pub counts_at : Option Times → ℕ → ℕ
+counts_at None hart = 0
+counts_at (Some times) hart = count_of times hart
+
+-- how many harts there are
+abbrev pub harts_of : Shadow → ℕ
+harts_of s = s.harts
+
+-- the lowest turn that the next access may have
+abbrev pub next_turn : Shadow → ℕ
+next_turn s = past_turn s.last_turn
+
+-- for each hart the number of its points that the given hart knows of
+abbrev pub times_of : Shadow → ℕ → ℕ → ℕ
+times_of s hart = counts_at (slice_get s.times.items hart)
+
+-- the lowest count that the hart's next access may have
+abbrev pub next_count : Shadow → ℕ → ℕ
+next_count s hart = times_of s hart hart
+
+-- the first word and the number of words that are reserved for the next access
+abbrev pub reserved_range : Shadow → Option (ℕ × ℕ)
+reserved_range s = s.reserved
+
+-- what is kept of the word
+abbrev pub kept_of : Shadow → ℕ → List Kept
+kept_of s word = kept_in s.words word
+
+-- the two know of the same points and keep the same
+pub record KnowsSame (old new : Shadow) : Type 0 where
+  pub harts : harts_of new ≡ harts_of old
+  pub turn : next_turn new ≡ next_turn old
+  pub times : (hart other : ℕ) → times_of new hart other ≡ times_of old hart other
+  pub kept : (word : ℕ) → kept_of new word ≡ kept_of old word
+
+-- the shadow stands for the run: it knows of these points and no others, and what it keeps suffices for the live harts
+pub record Stands (run : List Point) (live : ℕ → Bool) (s : Shadow) : Type 0 where
+  pub in_order : IsInOrder run
+  pub harts : All (λ p. p.hart < harts_of s) run
+  pub past : All (λ p. p.turn < next_turn s) run
+  pub own : (hart : ℕ) → hart < harts_of s → Holds run (OwnUpTo run hart) (times_of s hart)
+  pub kept : (word : ℕ) → Suffices run live word (kept_of s word)

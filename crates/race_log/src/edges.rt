@@ -1,0 +1,62 @@
+ghost use Rattle.std.specs.Prelude.{◌≡◌, ◌<◌, ◌++◌, ◌∷◌, [], length, slice_get};
+
+use bn_base::{HartId, Ic};
+use std::marker::Model;
+use vector_time::HARTS;
+
+/// The points that the edges into one point come from, by hart and count, the latest first.
+#[derive(Drop)]
+pub struct Edges {
+    sources: [(HartId, Ic); HARTS],
+    count: usize,
+}
+
+impl Model for Edges {
+    ghost use Rattle.std.specs.Prelude.{◌≡◌, ◌≤◌, ℕ, List, length, take};
+    ghost use Rattle.vector_time.specs.declared.times.TheConstants.{HARTS};
+
+    ghost Value = { List (ℕ × ℕ) };
+
+    ghost view = { λ e. take e.count e.sources };
+
+    ghost invariant = { λ e. (e.count ≤ HARTS) × (length e.sources ≡ HARTS) };
+}
+
+impl Edges {
+    /// No edges.
+    pub(crate) fn new() -> Edges
+        ensures { result ≡ [] }
+    {
+        Edges {
+            sources: [(0, 0); HARTS],
+            count: 0,
+        }
+    }
+
+    /// Puts an edge's source at the end.
+    pub(crate) fn push(&mut self, hart: HartId, ic: Ic)
+        requires { length self.old < HARTS }
+        ensures { self.new ≡ self.old ++ (hart, ic) ∷ [] }
+    {
+        self.sources[self.count] = (hart, ic);
+        self.count += 1;
+    }
+
+    /// How many edges there are.
+    pub fn count(&self) -> usize
+        ensures { result ≡ length self.now }
+    {
+        self.count
+    }
+
+    /// The source of the edge at `i`, counted from 0; `None` exactly where `i` isn't below the count.
+    pub fn get(&self, i: usize) -> Option<(HartId, Ic)>
+        ensures { result ≡ slice_get self.now i }
+    {
+        if i < self.count {
+            Some(self.sources[i])
+        } else {
+            None
+        }
+    }
+}

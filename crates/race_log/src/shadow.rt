@@ -1,0 +1,159 @@
+ghost use Rattle.std.specs.Prelude.{◌≡◌, ◌+◌, ◌*◌, ◌<◌, ◌≤◌, ◌^◌, ◌%◌, ◌==◌, ◌↔◌, ℕ, Bool, List, [], All, Contains, IfOk, OnOk, OnErr, IsTrue, Some, None, length, vec_len, if◌then◌else◌, ◌≢◌};
+ghost use Rattle.std.specs.Option.{ForSome};
+ghost use Rattle.vector_time.specs.declared.times.TheConstants.{HARTS};
+ghost use Rattle.race_log.specs.Words.{HasRoom};
+
+use crate::edges::Edges;
+use crate::kept::Kept;
+use crate::mode::Mode;
+use crate::search::find_sources;
+use crate::words::KeptWords;
+use bn_base::{Addr, HartId, Ic, Settings};
+use std::alloc::{AllocError, Global};
+use vector_time::Times;
+
+/// What each hart knows of the others' points, and what is kept of each word's accesses.
+#[derive(Drop)]
+pub struct Shadow {
+    harts: HartId,
+    last_turn: Option<u64>,
+    reserved: Option<(Addr, u32)>,
+    times: Vec<Times>,
+    words: KeptWords,
+    ghost some_hart: { 0 < harts },
+    ghost few_harts: { harts ≤ HARTS },
+    ghost each_hart: { vec_len times ≡ harts },
+    ghost room: { ForSome reserved (λ r. HasRoom words r.0 r.1) },
+}
+
+impl Shadow {
+    ghost use Rattle.vector_time.specs.Times.{count_of};
+    ghost use Rattle.race_log.specs.Points.{Point};
+    ghost use Rattle.race_log.specs.Tests.{sources_into};
+    ghost use Rattle.race_log.specs.ByCount.{IsPointAt, IsEdgeBetween, IsLatestPoint, IsTimesOf};
+    ghost use Rattle.race_log.specs.Kept.{access_point, after};
+    ghost use Rattle.race_log.specs.Stands.{Stands, KnowsSame, harts_of, next_turn, next_count, times_of, reserved_range};
+
+    /// Knows of no point and keeps nothing.
+    pub fn new(alloc: Global, settings: &Settings) -> Result<Shadow, AllocError>
+        ensures harts { IfOk result (λ s. harts_of s ≡ settings.now.harts) }
+        ensures turn { IfOk result (λ s. next_turn s ≡ 0) }
+        ensures counts { IfOk result (λ s. (h : ℕ) → next_count s h ≡ 0) }
+        ensures reserved { IfOk result (λ s. reserved_range s ≡ None) }
+        ensures stands { IfOk result (λ s. (live : ℕ → Bool) → Stands [] live s) }
+    {
+        let harts = settings.harts();
+        let mut times = Vec::new(alloc);
+        for _ in 0..harts {
+            times.push(Times::new())?;
+        }
+        Ok(Shadow {
+            harts,
+            last_turn: None,
+            reserved: None,
+            times,
+            words: KeptWords::new(alloc),
+        })
+    }
+
+    /// Makes room for the next access, if it is of `count` words from `first`.
+    ///
+    /// Want of memory is the only error. After it all is as before.
+    pub fn reserve(&mut self, first: Addr, count: u32) -> Result<(), AllocError>
+        requires aligned { first % 4 ≡ 0 }
+        requires range { first + 4 * count ≤ 2 ^ 32 }
+        ensures same { KnowsSame self.old self.new }
+        ensures stands { (run : List Point) (live : ℕ → Bool) → Stands run live self.old → Stands run live self.new }
+        ensures ok { OnOk result (reserved_range self.new ≡ Some (first, count)) }
+        ensures err { OnErr result (reserved_range self.new ≡ reserved_range self.old) }
+    {
+        self.words.make_room(first, count)?;
+        self.reserved = Some((first, count));
+        Ok(())
+    }
+
+    /// Takes in the hart's instruction at the count `ic`, done in this turn, which reads or writes `count` words from
+    /// `first`, and answers the edges into it.
+    pub fn access(
+        &mut self,
+        hart: HartId,
+        ic: Ic,
+        turn: u64,
+        first: Addr,
+        count: u32,
+        mode: Mode,
+    ) -> Edges
+        requires hart { hart < harts_of self.old }
+        requires ic { ic < 2 ^ 41 }
+        requires aligned { first % 4 ≡ 0 }
+        requires range { first + 4 * count ≤ 2 ^ 32 }
+        requires reserved { reserved_range self.old ≡ Some (first, count) }
+        requires turns { next_turn self.old ≤ turn }
+        requires counts { next_count self.old hart ≤ ic }
+        // The points that the edges into this one come from are answered, each once, and the latest first.
+        ensures edges { (run : List Point) (live : ℕ → Bool) → IsTrue (live hart) → Stands run live self.old →
+            result ≡ sources_into (after run (access_point hart ic turn first count mode)) (length run) }
+        ensures exact { (run : List Point) (live : ℕ → Bool) → IsTrue (live hart) → Stands run live self.old →
+            let b = access_point hart ic turn first count mode in
+            (h i : ℕ) → Contains result (h, i) ↔ ((p : Point) × IsPointAt run h i p × IsEdgeBetween (after run b) p b) }
+        ensures few { length result < harts_of self.old }
+
+        // The shadow then stands for the run with this point, and the hart's times are those of this point.
+        ensures stands { (run : List Point) (live : ℕ → Bool) → IsTrue (live hart) → Stands run live self.old →
+            Stands (after run (access_point hart ic turn first count mode)) live self.new }
+        ensures times { (run : List Point) (live : ℕ → Bool) → IsTrue (live hart) → Stands run live self.old →
+            let b = access_point hart ic turn first count mode in
+            IsTimesOf (after run b) b (times_of self.new hart) }
+        ensures others { (other : ℕ) → other ≢ hart → (h : ℕ) → times_of self.new other h ≡ times_of self.old other h }
+
+        // How the conditions of the next access change.
+        ensures harts { harts_of self.new ≡ harts_of self.old }
+        ensures turn { next_turn self.new ≡ turn + 1 }
+        ensures counts { (h : ℕ) → next_count self.new h ≡ (if h == hart then ic + 1 else next_count self.old h) }
+        ensures reserved { reserved_range self.new ≡ None }
+    {
+        let mut times = self.times[hart as usize];
+        let most = self.harts as usize - 1;
+        let edges = find_sources(
+            &self.words,
+            &mut times,
+            hart,
+            mode.is_write(),
+            first,
+            count,
+            most,
+        );
+        times.set(hart, ic + 1);
+        self.times[hart as usize] = times;
+        self.last_turn = Some(turn);
+        self.reserved = None;
+        self.words.keep(
+            first,
+            count,
+            &Kept {
+                turn,
+                hart,
+                ic,
+                mode,
+                times,
+            },
+        );
+        edges
+    }
+
+    /// For each hart, how many of its instructions are the given hart's latest point or before it; none of any hart, as
+    /// long as the given hart has no point.
+    pub fn times(&self, hart: HartId) -> &Times
+        requires { hart < harts_of self.now }
+        ensures value { (h : ℕ) → count_of result.now h ≡ times_of self.now hart h }
+        ensures latest { (run : List Point) (live : ℕ → Bool) → Stands run live self.now →
+            (p : Point) → IsLatestPoint run hart p → IsTimesOf run p (count_of result.now) }
+        ensures none { (run : List Point) (live : ℕ → Bool) → Stands run live self.now →
+            All (λ p. p.hart ≢ hart) run → (h : ℕ) → count_of result.now h ≡ 0 }
+    {
+        &self.times[hart as usize]
+    }
+}
+
+#[cfg(test)]
+mod tests;
