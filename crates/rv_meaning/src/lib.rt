@@ -19,3 +19,6 @@ pub use asks::{Ask, Reply, Want};
 pub use interpreter::{quiet_run, quiet_run_in_place};
 pub use laws::{each_ask_is_orderly, each_instruction_is_counted_or_asks};
 pub use replies::{absorb, absorb_in_place};
+
+#[cfg(test)]
+mod tests;
