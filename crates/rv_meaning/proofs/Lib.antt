@@ -1,3 +1,4 @@
 pub mod OneStep
 pub mod Orderly
 pub mod WordsKept
+pub mod Held

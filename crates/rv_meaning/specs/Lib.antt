@@ -4,3 +4,4 @@ pub mod Execute
 pub mod Orderly
 pub mod Told
 pub mod WordStates
+pub mod Held

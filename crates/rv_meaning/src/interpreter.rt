@@ -4,17 +4,21 @@ ghost use Rattle.rv_meaning.specs.Execute.{ask_of};
 ghost use Rattle.rv_meaning.specs.Orderly.{orderly};
 
 use crate::asks::{Ask, Want};
+use crate::fetch::{code_segment, code_word};
 use crate::questions::ask;
 use crate::steps::quiet;
 use bn_base::{Fault, HartState, Image};
 use rv_decode::decode;
 
-// Does the quiet instructions in place, and gives what the hart asks then.
-fn run(image: &Image, state: &mut HartState, budget: u64) -> Want
+/// As [`quiet_run`], but changes the state in place and gives the want alone, which saves copies
+/// where a hart runs and asks many times.
+pub fn quiet_run_in_place(image: &Image, state: &mut HartState, budget: u64) -> Want
     ensures { record { state = state.new; want = result } ≡ ask_of image.now budget state.old }
 {
+    let mut segment = None;
     for _ in 0..budget {
-        match image.code(state.pc) {
+        segment = code_segment(image, segment, state.pc);
+        match code_word(segment, state.pc) {
             None => {
                 return Want::Faulted {
                     kind: Fault::FetchOutside,
@@ -51,6 +55,6 @@ pub fn quiet_run(image: &Image, state: HartState, budget: u64) -> Ask
     ensures orderly { state.ic + budget < 2 ^ 64 → IsTrue (orderly image.now state.ic budget result) }
 {
     let mut state = state;
-    let want = run(image, &mut state, budget);
+    let want = quiet_run_in_place(image, &mut state, budget);
     Ask { state, want }
 }

@@ -4,6 +4,7 @@
 mod access;
 mod amo;
 mod asks;
+mod fetch;
 mod interpreter;
 mod laws;
 mod moves;
@@ -15,6 +16,9 @@ mod words;
 pub use access::{loaded_value, stored_word};
 pub use amo::AmoOp;
 pub use asks::{Ask, Reply, Want};
-pub use interpreter::quiet_run;
+pub use interpreter::{quiet_run, quiet_run_in_place};
 pub use laws::{each_ask_is_orderly, each_instruction_is_counted_or_asks, registers_stay_words};
-pub use replies::absorb;
+pub use replies::{absorb, absorb_in_place};
+
+#[cfg(test)]
+mod tests;

@@ -8,8 +8,9 @@ use crate::asks::{Ask, Reply, Want};
 use crate::moves::{count_up, next_at, next_with};
 use bn_base::{HartState, Register};
 
-// Takes the reply into the state.
-fn take(state: &mut HartState, want: &Want, reply: Reply)
+/// As [`absorb`], but changes the state in place, which saves copies.
+pub fn absorb_in_place(state: &mut HartState, want: &Want, reply: Reply)
+    requires { IsTrue (is_reply_to want.now reply) }
     ensures { state.new ≡ after want.now reply state.old }
 {
     match *want {
@@ -53,6 +54,6 @@ pub fn absorb(ask: &Ask, reply: Reply) -> HartState
     ensures { result ≡ absorbed ask.now reply }
 {
     let mut state = ask.state;
-    take(&mut state, &ask.want, reply);
+    absorb_in_place(&mut state, &ask.want, reply);
     state
 }
