@@ -26,9 +26,6 @@ true_false h k = cc
 
 -- an access point is of one kind
 module _ (hart count turn first n : ℕ) (mode : Mode) where
-  b : Point
-  b = access_point hart count turn first n mode
-
   touched_written : (w : ℕ) → Touches w (access_point hart count turn first n mode) → is_write mode ≡ true → Writes w (access_point hart count turn first n mode)
   touched_written w a t = (a.0, a.1, a.2, a.3, (a.4, range_kind first n (is_write mode) a.0 a.1 a.2 a.3 ∙ t))
 
