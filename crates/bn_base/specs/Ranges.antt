@@ -4,6 +4,10 @@ use Rattle.std.specs.Int.{is_power_of_two}
 use Rattle.bn_base.specs.declared.settings.RawSettings.{RawSettings}
 use Rattle.bn_base.specs.declared.settings.BadSetting.{BadSetting}
 
+-- one hart, and room for most programs
+abbrev pub default_settings : RawSettings
+default_settings = record { harts = 1; interval = 100000; limit = 1000000000; log_size = 1048576; memory = 1048576; sets = 64; ways = 4; line = 8 }
+
 -- from low to high
 abbrev pub is_between : ℕ → ℕ → ℕ → Bool
 is_between low high value = nat_le low value && nat_le value high

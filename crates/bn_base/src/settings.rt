@@ -67,7 +67,9 @@ impl Model for Settings {
 }
 
 impl Default for RawSettings {
-    ghost is_default = { λ s. s ≡ record { harts = 1; interval = 100000; limit = 1000000000; log_size = 1048576; memory = 1048576; sets = 64; ways = 4; line = 8 } };
+    ghost use Rattle.bn_base.specs.Ranges.{default_settings};
+
+    ghost is_default = { λ s. s ≡ default_settings };
 
     /// One hart, intervals of 100,000 instructions, a limit of 10^9 instructions, 1 MiB of log,
     /// 1 MiB of memory, and a cache of 64 sets of 4 lines of 8 words.
@@ -81,6 +83,19 @@ impl Default for RawSettings {
             sets: 64,
             ways: 4,
             line: 8,
+        }
+    }
+}
+
+impl Default for Settings {
+    ghost use Rattle.bn_base.specs.Ranges.{default_settings};
+
+    ghost is_default = { λ s. s ≡ default_settings };
+
+    /// The default of `RawSettings`, which is in range.
+    fn default() -> Settings {
+        Settings {
+            raw: RawSettings::default(),
         }
     }
 }

@@ -30,10 +30,10 @@ fn signed_21(n: u32) -> i32
     requires { n < 2 ^ 21 }
     ensures { result ≡ signed 21 n }
 {
-    if n < 1048576 {
+    if n < 0x0010_0000 {
         n as i32
     } else {
-        n as i32 - 2097152
+        n as i32 - 0x0020_0000
     }
 }
 
@@ -60,7 +60,9 @@ fn rs2(word: u32) -> u8
 
 /// The offset of a branch: bits 31, 7, 30 to 25 and 11 to 8, then a 0.
 fn branch_bits(word: u32) -> u32
-    ensures value { result ≡ field 31 1 word * 2 ^ 12 + field 7 1 word * 2 ^ 11 + field 25 6 word * 2 ^ 5 + field 8 4 word * 2 }
+    ensures value { result ≡
+        field 31 1 word * 2 ^ 12 + field 7 1 word * 2 ^ 11 + field 25 6 word * 2 ^ 5
+        + field 8 4 word * 2 }
     ensures bound { result < 2 ^ 13 }
 {
     (word >> 31) % 2 * 4096 + (word >> 7) % 2 * 2048 + (word >> 25) % 64 * 32 + (word >> 8) % 16 * 2
@@ -68,10 +70,12 @@ fn branch_bits(word: u32) -> u32
 
 /// The offset of a jump: bits 31, 19 to 12, 20 and 30 to 21, then a 0.
 fn jump_bits(word: u32) -> u32
-    ensures value { result ≡ field 31 1 word * 2 ^ 20 + field 12 8 word * 2 ^ 12 + field 20 1 word * 2 ^ 11 + field 21 10 word * 2 }
+    ensures value { result ≡
+        field 31 1 word * 2 ^ 20 + field 12 8 word * 2 ^ 12 + field 20 1 word * 2 ^ 11
+        + field 21 10 word * 2 }
     ensures bound { result < 2 ^ 21 }
 {
-    (word >> 31) % 2 * 1048576
+    (word >> 31) % 2 * 0x0010_0000
         + (word >> 12) % 256 * 4096
         + (word >> 20) % 2 * 2048
         + (word >> 21) % 1024 * 2
@@ -86,7 +90,7 @@ fn upper(name: Name, word: u32) -> Instr
         rd: rd(word),
         rs1: 0,
         rs2: 0,
-        imm: ((word >> 12) % 1048576 * 4096).cast_signed(),
+        imm: ((word >> 12) % 0x0010_0000 * 4096).cast_signed(),
         aq: false,
         rl: false,
     }

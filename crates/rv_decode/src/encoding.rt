@@ -82,7 +82,7 @@ fn laid_s(n: u32) -> u32
     ensures value { result ≡ laid_s n }
     ensures bound { result < 2 ^ 32 }
 {
-    n / 32 * 33554432 + n % 32 * 128
+    n / 32 * 0x0200_0000 + n % 32 * 128
 }
 
 /// A branch's offset in its places.
@@ -90,7 +90,7 @@ fn laid_b(n: u32) -> u32
     requires { n < 2 ^ 13 }
     ensures { result ≡ laid_b n }
 {
-    n / 4096 * 2147483648 + n / 2048 % 2 * 128 + n / 32 % 64 * 33554432 + n / 2 % 16 * 256
+    n / 4096 * 0x8000_0000 + n / 2048 % 2 * 128 + n / 32 % 64 * 0x0200_0000 + n / 2 % 16 * 256
 }
 
 /// A jump's offset in its places.
@@ -98,43 +98,45 @@ fn laid_j(n: u32) -> u32
     requires { n < 2 ^ 21 }
     ensures { result ≡ laid_j n }
 {
-    n / 1048576 * 2147483648
+    n / 0x0010_0000 * 0x8000_0000
         + n / 4096 % 256 * 4096
-        + n / 2048 % 2 * 1048576
-        + n / 2 % 1024 * 2097152
+        + n / 2048 % 2 * 0x0010_0000
+        + n / 2 % 1024 * 0x0020_0000
 }
 
 /// The fields of an instruction in their places.
 fn laid(format: Format, instr: &Instr) -> u32
     ensures { result ≡ laid format (seen instr.now) }
 {
-    let rd = instr.rd as u32 * 128;
-    let rs1 = instr.rs1 as u32 * 32768;
-    let rs2 = instr.rs2 as u32 * 1048576;
+    let rd = u32::from(instr.rd) * 128;
+    let rs1 = u32::from(instr.rs1) * 0x8000;
+    let rs2 = u32::from(instr.rs2) * 0x0010_0000;
     let imm = instr.imm.cast_unsigned();
     match format {
         Format::U => rd + imm / 4096 * 4096,
-        Format::J => rd + laid_j(imm % 2097152),
-        Format::I => rd + rs1 + imm % 4096 * 1048576,
+        Format::J => rd + laid_j(imm % 0x0020_0000),
+        Format::I => rd + rs1 + imm % 4096 * 0x0010_0000,
         Format::B => rs1 + rs2 + laid_b(imm % 8192),
         Format::S => rs1 + rs2 + laid_s(imm % 4096),
-        Format::Shift => rd + rs1 + imm % 32 * 1048576,
+        Format::Shift => rd + rs1 + imm % 32 * 0x0010_0000,
         Format::R => rd + rs1 + rs2,
         Format::Bare => 0,
         Format::Atomic => {
-            let aq = if instr.aq { 1 } else { 0 };
-            let rl = if instr.rl { 1 } else { 0 };
-            rd + rs1 + rs2 + aq * 67108864 + rl * 33554432
+            let aq = u32::from(instr.aq) * 0x0400_0000;
+            let rl = u32::from(instr.rl) * 0x0200_0000;
+            rd + rs1 + rs2 + aq + rl
         }
     }
 }
 
-/// The word of an instruction, given that some word spells it. Every instruction but a fence has one
-/// word; a fence, of which only the name is kept, gives `0ff0000f`, which is `fence iorw, iorw`.
+/// The word of an instruction, given that some word spells it. Every instruction but a fence has
+/// one word; a fence, of which only the name is kept, gives `0ff0000f`, which is
+/// `fence iorw, iorw` (section 2.7 of the RISC-V unprivileged specification).
 pub fn encode(instr: &Instr) -> u32
     requires { IsSpelled (seen instr.now) }
     ensures again { decoded result ≡ Some (seen instr.now) }
-    ensures only { (w : ℕ) → w < 2 ^ 32 → decoded w ≡ Some (seen instr.now) → instr.now.name ≢ Fence → result ≡ w }
+    ensures only { (w : ℕ) → w < 2 ^ 32 →
+        decoded w ≡ Some (seen instr.now) → instr.now.name ≢ Fence → result ≡ w }
     ensures fence { instr.now.name ≡ Fence → result ≡ 0x0ff0000f }
 {
     fixed_of(instr.name) + laid(instr.name.format(), instr)

@@ -35,7 +35,8 @@ fn load_name(f3: u32) -> Option<(Name, Format)>
     }
 }
 
-/// The register-immediate instructions (opcode 0010011); `low` is bits 26 and 25, `f5` bits 31 to 27.
+/// The register-immediate instructions (opcode 0010011); `low` is bits 26 and 25, `f5` bits 31 to
+/// 27.
 fn immediate_name(f3: u32, low: u32, f5: u32) -> Option<(Name, Format)>
     ensures { kind_by (row_by table 0x13 0 f3 0 0 low f5) ≡ result }
 {
@@ -53,7 +54,8 @@ fn immediate_name(f3: u32, low: u32, f5: u32) -> Option<(Name, Format)>
     }
 }
 
-/// The register-register instructions (opcode 0110011); `low` is bits 26 and 25, `f5` bits 31 to 27.
+/// The register-register instructions (opcode 0110011); `low` is bits 26 and 25, `f5` bits 31 to
+/// 27.
 fn register_name(f3: u32, low: u32, f5: u32) -> Option<(Name, Format)>
     ensures { kind_by (row_by table 0x33 0 f3 0 0 low f5) ≡ result }
 {

@@ -10,6 +10,7 @@ pub fn no_two_rows_fit_one_word()
 /// A word decodes to the row that it fits, whichever that is, and to nothing exactly where it fits
 /// none.
 pub fn each_word_decodes_by_its_row()
-    ensures row { (w : ℕ) → All (λ r. IsTrue (fits r w) → decoded w ≡ Some (spelled r.name r.format w)) table }
+    ensures row { (w : ℕ) →
+        All (λ r. IsTrue (fits r w) → decoded w ≡ Some (spelled r.name r.format w)) table }
     ensures none { (w : ℕ) → ((decoded w ≡ None) ↔ All (λ r. IsFalse (fits r w)) table) }
 {}

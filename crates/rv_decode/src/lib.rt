@@ -12,6 +12,8 @@ mod instr;
 mod kinds;
 mod laws;
 mod name;
+#[cfg(test)]
+mod tests;
 
 pub use decoding::decode;
 pub use encoding::encode;

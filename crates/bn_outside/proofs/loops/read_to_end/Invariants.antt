@@ -1,0 +1,14 @@
+use Rattle.std.proofs.Common.{length, vec_len, ◌≡◌, ◌-◌, ◌≤◌}
+use Rattle.std.specs.Io.KnownBytes.{Consumes}
+use Rattle.bn_outside.proofs.loops.read_to_end.Given as goal
+
+abbrev pub invariant-pieces : goal.invariant-pieces
+invariant-pieces g l = record {
+  within : vec_len l.bytes ≤ l.limit;
+  room : length l.piece ≡ 4096;
+  gone : Consumes (g.I.Source.left l.fn.source) (g.I.Source.left l.source) l.bytes.items;
+  later : g.I.Source.faults l.fn.source ≤ g.I.Source.faults l.source;
+}
+
+abbrev pub decreases-pieces : goal.decreases-pieces
+decreases-pieces g l = l.limit - vec_len l.bytes

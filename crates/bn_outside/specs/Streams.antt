@@ -1,0 +1,25 @@
+-- What a source has left and what a sink was given, where they tell it.
+use Rattle.std.specs.Prelude.{◌≡◌, ◌↔◌, ℕ, ◌<◌, List, [], Option, Some, None, length, take, ⊤}
+use Rattle.std.specs.Io.KnownBytes.{Appends, Consumes}
+
+-- a read that found these bytes left, into a buffer with room, answered 0 exactly where there were none
+abbrev pub EndsExactly : Option (List ℕ) → ℕ → List ℕ → Type 0
+EndsExactly None n buffer = ⊤
+EndsExactly (Some left) n buffer = 0 < length buffer → (n ≡ 0) ↔ (left ≡ [])
+
+-- these are all the bytes that were left, and none is left now
+abbrev pub ConsumesAll : Option (List ℕ) → Option (List ℕ) → List ℕ → Type 0
+ConsumesAll None new bytes = ⊤
+ConsumesAll (Some left) new bytes = (bytes ≡ left) × (new ≡ Some [])
+
+-- some bytes at the front of what was left are gone
+abbrev pub ConsumesPart : Option (List ℕ) → Option (List ℕ) → Type 0
+ConsumesPart old new = (bytes : List ℕ) × Consumes old new bytes
+
+-- some front of a text was added, perhaps all of it
+abbrev pub AppendsPart : Option (List ℕ) → Option (List ℕ) → List ℕ → Type 0
+AppendsPart old new text = (n : ℕ) × Appends old new (take n text)
+
+-- a front of a text was added, and not all of it
+abbrev pub AppendsShort : Option (List ℕ) → Option (List ℕ) → List ℕ → Type 0
+AppendsShort old new text = (n : ℕ) × (n < length text) × Appends old new (take n text)

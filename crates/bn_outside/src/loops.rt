@@ -1,0 +1,94 @@
+// The loops over a sink and a source. Each turn takes at least one byte.
+ghost use Rattle.std.specs.Prelude.{◌≡◌, ◌≤◌, ◌<◌, ℕ, List, IfOk, IfSome, OnOk, OnErr, Err, vec_len, length};
+ghost use Rattle.std.specs.Io.KnownBytes.{Appends};
+ghost use Rattle.bn_outside.specs.Counts.{Rose};
+ghost use Rattle.bn_outside.specs.Streams.{AppendsPart, AppendsShort, ConsumesAll, ConsumesPart};
+ghost use Rattle.bn_outside.specs.declared.loops.ReadError.TheVariants as read_error;
+
+use crate::{Failed, Sink, Source};
+use std::alloc::{AllocError, Global};
+use thiserror::Error;
+
+/// Why a source was not read to its end.
+#[derive(Clone, Copy, Debug, Drop, PartialEq, Eq, Error)]
+pub enum ReadError {
+    /// More bytes were left than the limit.
+    #[error("more bytes than the limit")]
+    TooLong,
+    /// A read failed.
+    #[error("the read failed")]
+    Failed,
+    /// There was no memory for the bytes.
+    #[error("out of memory")]
+    OutOfMemory,
+}
+
+impl From<Failed> for ReadError {
+    ghost from_gives = { λ _ error. error ≡ read_error.Failed };
+
+    fn from(_: Failed) -> ReadError {
+        ReadError::Failed
+    }
+}
+
+impl From<AllocError> for ReadError {
+    ghost from_gives = { λ _ error. error ≡ read_error.OutOfMemory };
+
+    fn from(_: AllocError) -> ReadError {
+        ReadError::OutOfMemory
+    }
+}
+
+// How many bytes one read asks for.
+const PIECE: usize = 4096;
+
+/// Writes all of a text.
+///
+/// It fails only where a write did, and then the sink was given a front of the text and not all
+/// of it.
+pub fn send_all<K: Sink>(sink: &mut K, text: &[u8]) -> Result<(), Failed>
+    ensures ok { OnOk result (Appends (K.written sink.old) (K.written sink.new) text.now) }
+    ensures part { AppendsPart (K.written sink.old) (K.written sink.new) text.now }
+    ensures short { OnErr result (AppendsShort (K.written sink.old) (K.written sink.new) text.now) }
+    ensures later { K.faults sink.old ≤ K.faults sink.new }
+    ensures cause { OnErr result (Rose (K.faults sink.old) (K.faults sink.new)) }
+{
+    let mut sent = 0;
+    while sent < text.len() {
+        sent += sink.write(&text[sent..])?;
+    }
+    Ok(())
+}
+
+/// Reads all bytes that a source has left, where they are at most `limit`.
+///
+/// It stops once more than `limit` bytes have come. `Failed` comes only where a read failed. After
+/// a refusal some of the bytes that were left are gone.
+pub fn read_to_end<I: Source>(
+    alloc: Global,
+    source: &mut I,
+    limit: usize,
+) -> Result<Vec<u8>, ReadError>
+    ensures bound { IfOk result (λ bytes. vec_len bytes ≤ limit) }
+    ensures all { IfOk result (λ bytes.
+        ConsumesAll (I.left source.old) (I.left source.new) bytes.items) }
+    ensures long { result ≡ Err ReadError.TooLong →
+        IfSome (I.left source.old) (λ left. limit < length left) }
+    ensures part { ConsumesPart (I.left source.old) (I.left source.new) }
+    ensures later { I.faults source.old ≤ I.faults source.new }
+    ensures cause { result ≡ Err ReadError.Failed →
+        Rose (I.faults source.old) (I.faults source.new) }
+{
+    let mut bytes = Vec::new(alloc);
+    let mut piece = [0u8; PIECE];
+    'pieces: loop {
+        let count = source.read(&mut piece)?;
+        if count == 0 {
+            return Ok(bytes);
+        }
+        if count > limit - bytes.len() {
+            return Err(ReadError::TooLong);
+        }
+        bytes.extend_from_slice(&piece[..count])?;
+    }
+}

@@ -1,0 +1,109 @@
+// A source in memory.
+ghost use Rattle.std.specs.Prelude.{◌≡◌, ◌≤◌, ◌<◌, ◌↔◌, ◌++◌, take, drop, min, Some, IfOk, IsErr, OnErr, length};
+ghost use Rattle.bn_outside.specs.Counts.{Rose, counted};
+ghost use Rattle.bn_outside.specs.Calls.{NextFails, after_call};
+ghost use Rattle.bn_outside.specs.InMemory.{source_over};
+ghost use Rattle.bn_outside.specs.Streams.{EndsExactly};
+
+use crate::calls::FailingCalls;
+use crate::{Failed, Source};
+use std::marker::Model;
+
+/// A source over bytes in memory. Exactly the reads whose numbers are listed fail; the first read
+/// has the number 1.
+#[derive(Drop)]
+pub struct MemorySource {
+    bytes: Vec<u8>,
+    at: usize,
+    most: usize,
+    calls: FailingCalls,
+    faults: u64,
+}
+
+impl Model for MemorySource {
+    ghost use Rattle.std.specs.Prelude.{◌<◌, ◌≤◌, length, drop};
+    ghost use Rattle.bn_outside.specs.InMemory.{SourceState};
+
+    ghost Value = { SourceState };
+
+    ghost view = { λ s. record {
+      left = drop s.at s.bytes.items;
+      most = s.most;
+      calls = s.calls;
+      faults = s.faults;
+    } };
+
+    ghost invariant = { λ s. (s.at ≤ length s.bytes.items) × (0 < s.most) };
+}
+
+impl MemorySource {
+    /// A source of these bytes, each read of which gives as many as the buffer has room for.
+    pub fn new(bytes: Vec<u8>, failing: Vec<u64>) -> Self
+        ensures { result ≡ source_over bytes.items usize.MAX failing.items }
+    {
+        MemorySource::in_pieces(bytes, usize::MAX, failing)
+    }
+
+    /// A source of these bytes, each read of which gives at most `most`.
+    pub fn in_pieces(bytes: Vec<u8>, most: usize, failing: Vec<u64>) -> Self
+        requires { 0 < most }
+        ensures { result ≡ source_over bytes.items most failing.items }
+    {
+        MemorySource {
+            bytes,
+            at: 0,
+            most,
+            calls: FailingCalls::new(failing),
+            faults: 0,
+        }
+    }
+
+    /// The bytes that are left.
+    pub fn left(&self) -> &[u8]
+        ensures { result.now ≡ self.now.left }
+    {
+        &self.bytes[self.at..]
+    }
+}
+
+impl Source for MemorySource {
+    ghost left = { λ s. Some s.left };
+
+    ghost faults = { λ s. s.faults };
+
+    fn read(&mut self, buffer: &mut [u8]) -> Result<usize, Failed>
+        ensures bound { IfOk result (λ n. n ≤ length buffer.new) }
+        ensures moved { IfOk result (λ n. self.old.left ≡ take n buffer.new ++ self.new.left) }
+        ensures end { IfOk result (λ n. EndsExactly (Some self.old.left) n buffer.new) }
+        ensures kept { OnErr result (self.new.left ≡ self.old.left) }
+        ensures later { self.old.faults ≤ self.new.faults }
+        ensures cause { OnErr result (Rose self.old.faults self.new.faults) }
+
+        // Exactly the listed calls fail, and the others give all that they may.
+        ensures listed { IsErr result ↔ NextFails self.old.calls }
+        ensures count { IfOk result (λ n.
+            n ≡ min self.old.most (min (length buffer.old) (length self.old.left))) }
+
+        // All else stays, the rest of the buffer too.
+        ensures rest { IfOk result (λ n. buffer.new ≡ take n self.old.left ++ drop n buffer.old) }
+        ensures untouched { OnErr result (buffer.new ≡ buffer.old) }
+        ensures ok { IfOk result (λ n. self.new ≡ record self.old {
+          left = drop n self.old.left;
+          calls = after_call self.old.calls;
+        }) }
+        ensures err { OnErr result (self.new ≡ record self.old {
+          calls = after_call self.old.calls;
+          faults = counted self.old.faults;
+        }) }
+    {
+        if self.calls.next_fails() {
+            self.faults = self.faults.saturating_add(1);
+            return Err(Failed);
+        }
+        let left = self.bytes.len() - self.at;
+        let count = self.most.min(buffer.len().min(left));
+        buffer[..count].copy_from_slice(&self.bytes[self.at..self.at + count]);
+        self.at += count;
+        Ok(count)
+    }
+}

@@ -1,0 +1,27 @@
+// A sink of bytes.
+ghost use Rattle.std.specs.Prelude.{◌≤◌, ◌<◌, ℕ, List, Option, IfOk, OnErr, length, take};
+ghost use Rattle.std.specs.Io.KnownBytes.{Appends, Keeps};
+ghost use Rattle.bn_outside.specs.Counts.{Rose};
+
+use crate::Failed;
+
+/// Bytes that go out.
+pub trait Sink {
+    /// The bytes written so far, where the sink tells them.
+    ghost written: { Self → Option (List ℕ) };
+
+    /// How often a write has failed.
+    ghost faults: { Self → ℕ };
+
+    /// Takes bytes from the front of `piece` and answers how many, at most the piece's length and
+    /// at least one where it has any.
+    ///
+    /// A failed write takes nothing and comes only in a call that counted it.
+    fn write(&mut self, piece: &[u8]) -> Result<usize, Failed>
+        ensures bound { IfOk result (λ n. n ≤ length piece.now) }
+        ensures some { IfOk result (λ n. 0 < length piece.now → 0 < n) }
+        ensures taken { IfOk result (λ n. Appends (written self.old) (written self.new) (take n piece.now)) }
+        ensures kept { OnErr result (Keeps (written self.old) (written self.new)) }
+        ensures later { faults self.old ≤ faults self.new }
+        ensures cause { OnErr result (Rose (faults self.old) (faults self.new)) };
+}

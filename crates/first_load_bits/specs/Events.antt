@@ -1,0 +1,38 @@
+-- What happens to a hart's cache, and how addresses fall into words, lines and sets.
+use Rattle.std.specs.Prelude.{ℕ, ◌*◌, ◌/◌, ◌%◌, ◌≡◌}
+
+-- the shape of a cache: how many sets it has, how many lines a set lists, how many words a line has
+pub record Geometry : Type 0 where
+  pub sets : ℕ
+  pub ways : ℕ
+  pub line : ℕ
+
+-- a touch of the word at an address, a drop of the line at an address, or a clear
+pub data Event : Type 0 where
+  Touch : (addr : ℕ) → Event
+  Drop : (addr : ℕ) → Event
+  Clear : Event
+
+-- the number of the word that has the byte at an address
+abbrev pub word_of : ℕ → ℕ
+word_of a = a / 4
+
+-- the number of the line that has the byte at an address
+abbrev pub line_of : Geometry → ℕ → ℕ
+line_of g a = a / (4 * g.line)
+
+-- the set that a line belongs to
+abbrev pub set_of : Geometry → ℕ → ℕ
+set_of g l = l % g.sets
+
+-- the event is a touch of the line
+abbrev pub IsTouchOf : Geometry → ℕ → Event → Type 0
+IsTouchOf g l (Touch a) = line_of g a ≡ l
+IsTouchOf g l (Drop a) = ⊥
+IsTouchOf g l Clear = ⊥
+
+-- the event is a drop of the line
+abbrev pub IsDropOf : Geometry → ℕ → Event → Type 0
+IsDropOf g l (Touch a) = ⊥
+IsDropOf g l (Drop a) = line_of g a ≡ l
+IsDropOf g l Clear = ⊥

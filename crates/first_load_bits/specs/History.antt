@@ -1,0 +1,48 @@
+-- Which words are warm, by the history of a cache. A history is the list of its events, the latest first. A moment is
+-- named by the number n of events since: `drop n es` is the history es as it was then.
+use Rattle.std.specs.Prelude.{ℕ, ◌≡◌, ◌≢◌, ◌≤◌, List, ◌∷◌, ◌++◌, length, drop, All, AllPairs}
+use Rattle.first_load_bits.specs.Events.{Geometry, Event, word_of, line_of, set_of, IsTouchOf, IsDropOf}
+use Rattle.first_load_bits.specs.Events.{Touch, Clear}
+
+-- the history has a last touch of line l, and these events since
+pub record IsSinceTouch (g : Geometry) (l : ℕ) (since es : List Event) : Type 0 where
+  pub addr : ℕ
+  pub before : List Event
+  pub parts : es ≡ since ++ Touch addr ∷ before
+  pub touch : line_of g addr ≡ l
+  pub last : All (λ e. ¬ IsTouchOf g l e) since
+
+-- line l was touched, and wasn't dropped since its last touch
+pub record IsUndropped (g : Geometry) (l : ℕ) (es : List Event) : Type 0 where
+  pub since : List Event
+  pub touched : IsSinceTouch g l since es
+  pub undropped : All (λ e. ¬ IsDropOf g l e) since
+
+-- there are n other lines of the set of l that were touched in es, and not dropped since their own last touch
+pub record HasOthers (g : Geometry) (l n : ℕ) (es : List Event) : Type 0 where
+  pub others : List ℕ
+  pub count : length others ≡ n
+  pub distinct : AllPairs (λ x y. x ≢ y) others
+  pub each : All (λ k. (k ≢ l) × (set_of g k ≡ set_of g l) × IsUndropped g k es) others
+
+-- Line l was touched, wasn't dropped since its last touch, and at no moment since that touch were there `ways` other
+-- lines of its set that were touched later than it and not dropped since their own last touch.
+pub record IsListed (g : Geometry) (l : ℕ) (es : List Event) : Type 0 where
+  pub since : List Event
+  pub touched : IsSinceTouch g l since es
+  pub undropped : All (λ e. ¬ IsDropOf g l e) since
+  pub room : (n : ℕ) → n ≤ length since → ¬ HasOthers g l g.ways (drop n since)
+
+-- the cache holds line l: with one level, it is listed
+abbrev pub IsHeld : Geometry → ℕ → List Event → Type 0
+IsHeld g l es = IsListed g l es
+
+-- The word at address a is warm: since some touch of it after the last clear, its line was held at every moment.
+pub record IsWarm (g : Geometry) (a : ℕ) (es : List Event) : Type 0 where
+  pub addr : ℕ
+  pub since : List Event
+  pub before : List Event
+  pub parts : es ≡ since ++ Touch addr ∷ before
+  pub touch : word_of addr ≡ word_of a
+  pub uncleared : All (λ e. e ≢ Clear) since
+  pub held : (n : ℕ) → n ≤ length since → IsHeld g (line_of g a) (drop n es)

@@ -1,0 +1,61 @@
+-- Which words are warm, as a test that computes. Events are given latest first, as everywhere.
+use Rattle.std.specs.Prelude.{ℕ, ◌==◌, nat_lt, Bool, true, false, List, [], ◌∷◌, length, Option, Some, None, is_some}
+use Rattle.first_load_bits.specs.Events.{Geometry, Event, word_of, line_of, set_of}
+use Rattle.first_load_bits.specs.Events.{Touch, Drop, Clear}
+
+-- the numbers but k
+abbrev pub except : ℕ → List ℕ → List ℕ
+except k [] = []
+except k (l ∷ ls) = elim (l == k) [ true ↦ except k ls | false ↦ l ∷ except k ls ]
+
+-- k is first of the numbers
+abbrev pub with_first : ℕ → Option (List ℕ) → Option (List ℕ)
+with_first k None = None
+with_first k (Some ls) = Some (k ∷ except k ls)
+
+-- k isn't among the numbers
+abbrev pub without : ℕ → Option (List ℕ) → Option (List ℕ)
+without k None = None
+without k (Some ls) = Some (except k ls)
+
+-- the numbers, if there are fewer than n
+abbrev pub fewer : ℕ → Option (List ℕ) → Option (List ℕ)
+fewer n None = None
+fewer n (Some ls) = elim (nat_lt (length ls) n) [ true ↦ Some ls | false ↦ None ]
+
+-- Where line l is listed: the other lines of its set that were touched later than it and not dropped since their own
+-- last touch. None where it isn't listed.
+abbrev pub later_lines : Geometry → ℕ → List Event → Option (List ℕ)
+later_lines g l [] = None
+later_lines g l (Touch a ∷ es) =
+    let k = line_of g a in
+    elim (k == l) [
+      | true ↦ Some []
+      | false ↦ elim (set_of g k == set_of g l) [ true ↦ fewer g.ways (with_first k (later_lines g l es)) | false ↦ later_lines g l es ]
+    ]
+later_lines g l (Drop a ∷ es) =
+    let k = line_of g a in
+    elim (k == l) [
+      | true ↦ None
+      | false ↦ elim (set_of g k == set_of g l) [ true ↦ without k (later_lines g l es) | false ↦ later_lines g l es ]
+    ]
+later_lines g l (Clear ∷ es) = later_lines g l es
+
+-- whether line l is listed
+abbrev pub listed : Geometry → ℕ → List Event → Bool
+listed g l es = is_some (later_lines g l es)
+
+-- whether the cache holds line l: with one level, whether it is listed
+abbrev pub held : Geometry → ℕ → List Event → Bool
+held g l es = listed g l es
+
+-- whether the word at address a is warm
+abbrev pub warm : Geometry → ℕ → List Event → Bool
+warm g a [] = false
+warm g a (Touch b ∷ es) =
+    elim (word_of b == word_of a) [
+      | true ↦ true
+      | false ↦ elim (held g (line_of g a) (Touch b ∷ es)) [ true ↦ warm g a es | false ↦ false ]
+    ]
+warm g a (Drop b ∷ es) = elim (line_of g b == line_of g a) [ true ↦ false | false ↦ warm g a es ]
+warm g a (Clear ∷ es) = false

@@ -1,0 +1,53 @@
+//! Laws between the definitions of a warm word, as functions whose contracts are the laws.
+ghost use Rattle.std.specs.Prelude.{ℕ, Bool, true, false, List, [], ◌∷◌, length, IsTrue, ◌↔◌, ◌<◌, ◌≤◌, ◌≡◌, ◌≢◌};
+ghost use Rattle.first_load_bits.specs.Events.{Geometry, Event, Touch, Drop, Clear, word_of, line_of, set_of};
+ghost use Rattle.first_load_bits.specs.History.{IsListed, IsHeld, IsWarm};
+ghost use Rattle.first_load_bits.specs.Warm.{later_lines, listed, held, warm};
+ghost use Rattle.first_load_bits.specs.Lines.{lines, in_front, is_set};
+ghost use Rattle.first_load_bits.specs.Worked.{answers, smallest, small};
+
+/// The tests that compute say what the history says: which lines are listed, which are held, and which words are warm.
+pub fn tests_say_the_history()
+    ensures listed { (g : Geometry) (l : ℕ) (es : List Event) → 0 < g.ways → (IsTrue (listed g l es) ↔ IsListed g l es) }
+    ensures held { (g : Geometry) (l : ℕ) (es : List Event) → 0 < g.ways → (IsTrue (held g l es) ↔ IsHeld g l es) }
+    ensures warm { (g : Geometry) (a : ℕ) (es : List Event) → 0 < g.ways → (IsTrue (warm g a es) ↔ IsWarm g a es) }
+{}
+
+/// The lists that the rules of a cache give say the same. A line is listed exactly where it stands in its set's list,
+/// behind the lines that were touched later; no list is longer than `ways`; and a word is warm exactly where its bit is
+/// set.
+pub fn lists_say_the_history()
+    ensures order { (g : Geometry) (l : ℕ) (es : List Event) → 0 < g.ways → in_front l (lines g (set_of g l) es) ≡ later_lines g l es }
+    ensures few { (g : Geometry) (k : ℕ) (es : List Event) → length (lines g k es) ≤ g.ways }
+    ensures warm { (g : Geometry) (a : ℕ) (es : List Event) → 0 < g.ways → is_set g a (lines g (set_of g (line_of g a)) es) ≡ warm g a es }
+{}
+
+/// No event warms a word but a touch of that word, and no word of a dropped line is warm, nor any word after a clear.
+pub fn only_a_touch_warms()
+    ensures touch { (g : Geometry) (a b : ℕ) (es : List Event) → word_of b ≢ word_of a → IsTrue (warm g a (Touch b ∷ es)) → IsTrue (warm g a es) }
+    ensures drop { (g : Geometry) (a b : ℕ) (es : List Event) → IsTrue (warm g a (Drop b ∷ es)) → (line_of g b ≢ line_of g a) × IsTrue (warm g a es) }
+    ensures clear { (g : Geometry) (a : ℕ) (es : List Event) → ¬ IsTrue (warm g a (Clear ∷ es)) }
+{}
+
+/// Small histories, with the answers of their touches and the lists that they lead to.
+pub fn worked_examples()
+    // The one line is lost to the next word. An address of any byte names the word.
+    ensures lost { answers smallest [] (Touch 0 ∷ Touch 4 ∷ Touch 0 ∷ []) ≡ false ∷ false ∷ false ∷ [] }
+    ensures byte { answers smallest [] (Touch 0 ∷ Touch 0 ∷ Touch 3 ∷ []) ≡ false ∷ true ∷ true ∷ [] }
+
+    // A drop that names the next word drops the whole line, and spares the next line.
+    ensures dropped { answers small [] (Touch 0x20000 ∷ Drop 0x20004 ∷ Touch 0x20000 ∷ []) ≡ false ∷ false ∷ [] }
+    ensures spared { answers small [] (Touch 0x20000 ∷ Drop 0x20010 ∷ Touch 0x20000 ∷ []) ≡ false ∷ true ∷ [] }
+
+    // A word is touched for itself alone, and after a clear it is cold once.
+    ensures neighbour { answers small [] (Touch 0x20000 ∷ Touch 0x20004 ∷ Touch 0x20004 ∷ []) ≡ false ∷ false ∷ true ∷ [] }
+    ensures cleared { answers small [] (Touch 0x20000 ∷ Clear ∷ Touch 0x20000 ∷ Touch 0x20000 ∷ []) ≡ false ∷ false ∷ true ∷ [] }
+
+    // Of three lines of one set the one touched longest ago is lost. Lines of the other set count for nothing.
+    ensures oldest { answers small [] (Touch 0 ∷ Touch 0x20 ∷ Touch 0 ∷ Touch 0x40 ∷ Touch 0 ∷ Touch 0x20 ∷ []) ≡ false ∷ false ∷ true ∷ false ∷ true ∷ false ∷ [] }
+    ensures other_set { answers small [] (Touch 0 ∷ Touch 0x10 ∷ Touch 0x30 ∷ Touch 0x50 ∷ Touch 0 ∷ []) ≡ false ∷ false ∷ false ∷ false ∷ true ∷ [] }
+
+    // A touch puts its line in front, and a clear keeps the lines in their order.
+    ensures front { lines small 0 (Touch 4 ∷ Touch 0x28 ∷ Touch 0 ∷ []) ≡ record { number = 0; bits = 3 } ∷ record { number = 2; bits = 4 } ∷ [] }
+    ensures order { lines small 0 (Clear ∷ Touch 0x28 ∷ Touch 0 ∷ []) ≡ record { number = 2; bits = 0 } ∷ record { number = 0; bits = 0 } ∷ [] }
+{}

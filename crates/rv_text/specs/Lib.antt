@@ -1,0 +1,4 @@
+pub mod Names
+pub mod Instructions
+pub mod Rows
+pub mod Texts
