@@ -42,22 +42,24 @@ conflict_is p q h =
     record {
       apart = hart_apart p q apart;
       word = y.1.word;
-      first = (x.0, x.1, x.2, x.3, same);
-      second = (y.0, y.1, y.2, y.3, refl);
-      written = elim (or_split x.1.writes y.1.writes (and_right (x.1.word == y.1.word) (x.1.writes || y.1.writes) y.4)) [
-        | inl t ↦ inl (x.0, x.1, x.2, x.3, (same, t))
-        | inr t ↦ inr (y.0, y.1, y.2, y.3, (refl, t))
-      ];
+      meet = record {
+        first = (x.0, x.1, x.2, x.3, same);
+        second = (y.0, y.1, y.2, y.3, refl);
+        written = elim (or_split x.1.writes y.1.writes (and_right (x.1.word == y.1.word) (x.1.writes || y.1.writes) y.4)) [
+          | inl t ↦ inl (x.0, x.1, x.2, x.3, (same, t))
+          | inr t ↦ inr (y.0, y.1, y.2, y.3, (refl, t))
+        ];
+      };
     }
 
 pub is_conflict_at : (p q : Point) → IsConflict p q → is_conflict p q ≡ true
 is_conflict_at p q c = both (not (p.hart == q.hart)) (list_any (λ x. list_any (clashes x) q.accesses) p.accesses)
     (true_not (p.hart == q.hart) (λ t. c.apart (same_number p.hart q.hart t)))
-    (elim c.written [
-      | inl w ↦ let x = w.1 in let y = c.second.1 in
-          meet (w.0, x, w.2, w.3, tt) (c.second.0, y, c.second.2, c.second.3, tt) (w.4.0 ∙ sym c.second.4) (or_first x.writes y.writes w.4.1)
-      | inr w ↦ let x = c.first.1 in let y = w.1 in
-          meet (c.first.0, x, c.first.2, c.first.3, tt) (w.0, y, w.2, w.3, tt) (c.first.4 ∙ sym w.4.0) (or_second x.writes y.writes w.4.1)
+    (elim c.meet.written [
+      | inl w ↦ let x = w.1 in let y = c.meet.second.1 in
+          meet (w.0, x, w.2, w.3, tt) (c.meet.second.0, y, c.meet.second.2, c.meet.second.3, tt) (w.4.0 ∙ sym c.meet.second.4) (or_first x.writes y.writes w.4.1)
+      | inr w ↦ let x = c.meet.first.1 in let y = w.1 in
+          meet (c.meet.first.0, x, c.meet.first.2, c.meet.first.3, tt) (w.0, y, w.2, w.3, tt) (c.meet.first.4 ∙ sym w.4.0) (or_second x.writes y.writes w.4.1)
     ])
   where
     meet : (a : Any (λ (x : Access). Unit {0}) p.accesses) (d : Any (λ (x : Access). Unit {0}) q.accesses) → a.1.word ≡ d.1.word

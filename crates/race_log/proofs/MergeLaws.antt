@@ -261,9 +261,7 @@ module _ (kept : ℕ → Bool) (run : List Point) (Pair : ℕ → ℕ → Type 0
       related = record {
         apart = other_number a.first.hart a.second.hart other;
         word = word;
-        first = a.related.first;
-        second = a.related.second;
-        written = a.related.written;
+        meet = a.related;
       };
     }) kept_m kept_n
   ]

@@ -26,9 +26,6 @@ true_false h k = cc
 
 -- an access point is of one kind
 module _ (hart count turn first n : ℕ) (mode : Mode) where
-  b : Point
-  b = access_point hart count turn first n mode
-
   touched_written : (w : ℕ) → Touches w (access_point hart count turn first n mode) → is_write mode ≡ true → Writes w (access_point hart count turn first n mode)
   touched_written w a t = (a.0, a.1, a.2, a.3, (a.4, range_kind first n (is_write mode) a.0 a.1 a.2 a.3 ∙ t))
 
@@ -39,9 +36,9 @@ module _ (hart count turn first n : ℕ) (mode : Mode) where
   one_kind = record {
     word = λ p c. (
       c.word,
-      is_touches c.word (access_point hart count turn first n mode) c.second,
-      is_touches c.word p c.first,
-      elim c.written [
+      is_touches c.word (access_point hart count turn first n mode) c.meet.second,
+      is_touches c.word p c.meet.first,
+      elim c.meet.written [
         | inl w ↦ or_first (writes_word c.word p) (is_write mode) (is_writes c.word p w)
         | inr w ↦ or_second (writes_word c.word p) (is_write mode) (written_kind c.word w)
       ],
@@ -49,12 +46,14 @@ module _ (hart count turn first n : ℕ) (mode : Mode) where
     conflict = λ p w apart in_b in_p wrote. record {
       apart = apart;
       word = w;
-      first = touches_is w p in_p;
-      second = touches_is w (access_point hart count turn first n mode) in_b;
-      written = elim (or_split (writes_word w p) (is_write mode) wrote) [
-        | inl t ↦ inl (writes_is w p t)
-        | inr t ↦ inr (touched_written w (touches_is w (access_point hart count turn first n mode) in_b) t)
-      ];
+      meet = record {
+        first = touches_is w p in_p;
+        second = touches_is w (access_point hart count turn first n mode) in_b;
+        written = elim (or_split (writes_word w p) (is_write mode) wrote) [
+          | inl t ↦ inl (writes_is w p t)
+          | inr t ↦ inr (touched_written w (touches_is w (access_point hart count turn first n mode) in_b) t)
+        ];
+      };
     };
     written = λ w in_b. elim (known (writes_word w (access_point hart count turn first n mode))) [
       | inl t ↦ t ∙ sym (written_kind w (writes_is w (access_point hart count turn first n mode) t))

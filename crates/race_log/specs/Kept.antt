@@ -46,7 +46,7 @@ pub record KeptAt (run : List Point) (word m : ℕ) (k : Kept) : Type 0 where
 abbrev pub AllKnow : List Point → (ℕ → Bool) → ℕ → Type 0
 AllKnow run live m = (hart : ℕ) → live hart ≡ true → OwnUpTo run hart m
 
--- an access at or after place m that is kept, and is a write or one of the hart
+-- an access is kept that place m's point is or is before, and that serves
 abbrev pub KeptSince : List Point → ℕ → List Kept → ℕ → (Kept → Type 0) → Type 0
 KeptSince run word ks m Serves = (j : ℕ) × (k : Kept) × In ks k × KeptAt run word j k × UpTo run m j × Serves k
 

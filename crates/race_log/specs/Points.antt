@@ -32,9 +32,7 @@ pub record MeetAt (word : ℕ) (p q : Point) : Type 0 where
 pub record IsConflict (p q : Point) : Type 0 where
   pub apart : p.hart ≢ q.hart
   pub word : ℕ
-  pub first : Touches word p
-  pub second : Touches word q
-  pub written : Writes word p ⊎ Writes word q
+  pub meet : MeetAt word p q
 
 -- two points of one hart
 abbrev pub IsSameHart : Point → Point → Type 0

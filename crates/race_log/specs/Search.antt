@@ -29,10 +29,12 @@ latest hart writes counts best (k ∷ ks) =
 abbrev pub merged : (ℕ → ℕ) → (ℕ → ℕ) → ℕ → ℕ
 merged f g h = max (f h) (g h)
 
+-- the source found, and those found after it
 abbrev pub then_sources : Option Kept → (Kept → List (ℕ × ℕ)) → List (ℕ × ℕ)
 then_sources None rest = []
 then_sources (Some k) rest = (k.hart, k.ic) ∷ rest k
 
+-- the counts after what was found, or as they are
 abbrev pub then_counts : (ℕ → ℕ) → Option Kept → (Kept → ℕ → ℕ) → ℕ → ℕ
 then_counts counts None rest = counts
 then_counts counts (Some k) rest = rest k

@@ -1,0 +1,10 @@
+use Rattle.std.proofs.Common.{◌≡◌, ◌≤◌, ℕ}
+use Rattle.race_log.specs.Stands.{harts_of, next_turn, next_count}
+use Rattle.race_bench.proofs.many.Given as goal
+
+abbrev pub invariant-loop-turn : goal.invariant-loop-turn
+invariant-loop-turn l = record {
+  harts : harts_of l.shadow ≡ l.harts;
+  turn : next_turn l.shadow ≤ l.turn;
+  counts : (h : ℕ) → next_count l.shadow h ≤ l.turn;
+}

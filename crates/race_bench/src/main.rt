@@ -1,0 +1,125 @@
+//! Times the race log: accesses per second for one hart and for eight harts, and bytes per word.
+//!
+//! `race_bench ACCESSES` makes so many accesses of single words for each line that it prints. Without a number it prints
+//! how to call it.
+#![tactic(auto)]
+
+ghost use Rattle.std.specs.Prelude.{◌≡◌, ◌≤◌, ◌<◌, ◌+◌, ◌^◌, ℕ};
+ghost use Rattle.race_log.specs.Stands.{harts_of, next_turn, next_count};
+
+use bn_base::{RawSettings, Settings};
+use race_log::{Mode, Shadow};
+use std::alloc::AllocError;
+use std::time::Instant;
+use std::{env, fs};
+
+// A load or store of one word, in that turn and at the same count, and how many edges it has.
+fn access_word(
+    shadow: &mut Shadow,
+    hart: u8,
+    turn: u64,
+    word: u32,
+    mode: Mode,
+) -> Result<usize, AllocError>
+    requires hart { hart < harts_of shadow.old }
+    requires small { turn < 2 ^ 40 }
+    requires turn { next_turn shadow.old ≤ turn }
+    requires counts { (h : ℕ) → next_count shadow.old h ≤ turn }
+    requires word { word < 2 ^ 28 }
+    ensures harts { harts_of shadow.new ≡ harts_of shadow.old }
+    ensures turn { next_turn shadow.new ≤ turn + 1 }
+    ensures counts { (h : ℕ) → next_count shadow.new h ≤ turn + 1 }
+{
+    shadow.reserve(4 * word, 1)?;
+    let edges = shadow.access(hart, turn, turn, 4 * word, 1, mode);
+    Ok(edges.count())
+}
+
+// Accesses of the harts in turn to words in no order, one in `writes` of them a store; how many edges they have.
+fn many(
+    shadow: &mut Shadow,
+    harts: u8,
+    accesses: u64,
+    words: u32,
+    writes: u64,
+) -> Result<u64, AllocError>
+    requires harts { harts_of shadow.old ≡ harts }
+    requires some { 0 < harts }
+    requires turn { next_turn shadow.old ≡ 0 }
+    requires counts { (h : ℕ) → next_count shadow.old h ≡ 0 }
+    requires small { accesses < 2 ^ 40 }
+    requires words { words < 2 ^ 28 }
+    requires any { 0 < words }
+    requires writes { 0 < writes }
+{
+    let mut edges = 0u64;
+    let mut seed = 0u64;
+    for turn in 0..accesses {
+        seed = seed
+            .wrapping_mul(6_364_136_223_846_793_005)
+            .wrapping_add(1_442_695_040_888_963_407);
+        let word = ((seed >> 33) % 0x8000_0000) as u32 % words;
+        let hart = (turn % harts as u64) as u8;
+        let mode = if (seed >> 20) % writes == 0 {
+            Mode::Write
+        } else {
+            Mode::Read
+        };
+        let found = access_word(shadow, hart, turn, word, mode)?;
+        edges = edges.wrapping_add(found as u64);
+    }
+    Ok(edges)
+}
+
+// The bytes of memory that the process has in use, or 0 where the system doesn't say.
+fn resident(rt: &HostRuntime) -> u64 {
+    let Ok(text) = fs::read_to_string(rt, "/proc/self/statm") else {
+        return 0;
+    };
+    match text.as_str().split_whitespace().nth(1) {
+        Some(pages) => pages.parse::<u64>().unwrap_or(0).saturating_mul(4096),
+        None => 0,
+    }
+}
+
+fn timed(rt: &HostRuntime, harts: u64, accesses: u64, words: u32) -> anyhow::Result<()>
+    requires small { accesses < 2 ^ 40 }
+    requires words { words < 2 ^ 28 }
+    requires any { 0 < words }
+{
+    let raw = RawSettings {
+        harts,
+        ..RawSettings::default()
+    };
+    let Ok(settings) = Settings::checked(&raw) else {
+        return Ok(());
+    };
+    let before = resident(rt);
+    let mut shadow = Shadow::new(rt.alloc(), &settings)?;
+    let clock = Instant::now(rt)?;
+    let edges = many(&mut shadow, settings.harts(), accesses, words, 4)?;
+    let micros = clock.elapsed(rt)?.as_micros();
+    let spent = u64::try_from(micros).unwrap_or(u64::MAX).max(1);
+    let rate = accesses.saturating_mul(1_000_000) / spent;
+    let used = resident(rt).saturating_sub(before) / words as u64;
+    println!(rt;
+        "harts {harts} words {words}: {rate} accesses a second, {edges} edges, {used} bytes a word"
+    )?;
+    Ok(())
+}
+
+fn main(rt: HostRuntime) -> anyhow::Result<()> {
+    let words: Vec<String> = env::args(&rt)?.collect(rt.alloc())?;
+    let accesses = match words.get(1) {
+        Some(word) => word.as_str().parse::<u64>().unwrap_or(0),
+        None => 0,
+    };
+    if accesses == 0 || accesses >= 1 << 40 {
+        println!(rt; "race_bench ACCESSES")?;
+        return Ok(());
+    }
+    timed(&rt, 1, accesses, 64)?;
+    timed(&rt, 8, accesses, 64)?;
+    timed(&rt, 1, accesses, 262_144)?;
+    timed(&rt, 8, accesses, 262_144)
+}
