@@ -5,8 +5,8 @@ use Rattle.std.proofs.lemmas.Bool.{le-leb, lt-leb}
 use Rattle.std.proofs.lemmas.Bool.Decides.{leb_tells}
 use Rattle.std.proofs.lemmas.List.{append-nil}
 use Rattle.log_record.specs.declared.record.Record.{Record}
-use Rattle.log_record.specs.Spelling.{bytes_of}
-use Rattle.log_ring.specs.Kept.{total, kept}
+use Rattle.log_record.specs.Spelling.{bytes_of, total}
+use Rattle.log_ring.specs.Kept.{kept}
 
 pub total-cons : (r : Record) (rs : List Record) → total (r ∷ rs) ≡ length (bytes_of r) + total rs
 total-cons r rs = length-append (bytes_of r) (flat_map bytes_of rs)

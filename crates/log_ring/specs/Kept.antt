@@ -1,12 +1,7 @@
 -- Which records a ring keeps.
 use Rattle.std.specs.Prelude.{◌≡◌, ℕ, ◌+◌, ◌≤◌, nat_le, List, [], ◌∷◌, ◌++◌, length, if◌then◌else◌}
-use Rattle.std.specs.List.{flat_map}
 use Rattle.log_record.specs.declared.record.Record.{Record}
-use Rattle.log_record.specs.Spelling.{bytes_of}
-
--- how many bytes records have together
-abbrev pub total : List Record → ℕ
-total rs = length (flat_map bytes_of rs)
+use Rattle.log_record.specs.Spelling.{total}
 
 -- the longest suffix of whole records whose bytes sum to at most a size
 unfoldable pub kept : ℕ → List Record → List Record

@@ -1,7 +1,8 @@
 // What it means to keep the longest suffix.
 ghost use Rattle.std.specs.Prelude.{◌≡◌, ◌≤◌, ◌++◌, ◌∷◌, [], ℕ, List, length};
 ghost use Rattle.log_record.specs.declared.record.Record.{Record};
-ghost use Rattle.log_ring.specs.Kept.{kept, total};
+ghost use Rattle.log_record.specs.Spelling.{total};
+ghost use Rattle.log_ring.specs.Kept.{kept};
 
 /// What is kept is a suffix.
 pub fn a_suffix_is_kept()

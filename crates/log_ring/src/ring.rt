@@ -2,9 +2,9 @@
 ghost use Rattle.std.specs.Prelude.{◌≡◌, ◌++◌, ◌∷◌, [], ◌+◌, ◌-◌, ◌<◌, ◌≤◌, ◌^◌, length, List, ◌↔◌, IfOk, Some, slice_get, IsTrue};
 ghost use Rattle.std.specs.List.{flat_map, AllByRecursion};
 ghost use Rattle.log_record.specs.declared.record.Record.{Record};
-ghost use Rattle.log_record.specs.Spelling.{bytes_of, is_marked, Fits};
+ghost use Rattle.log_record.specs.Spelling.{bytes_of, total, is_marked, Fits};
 ghost use Rattle.log_ring.specs.Whole.{records_in, IsWhole, Oldest};
-ghost use Rattle.log_ring.specs.Kept.{total, kept, held, Holds, GivesUp};
+ghost use Rattle.log_ring.specs.Kept.{kept, held, Holds, GivesUp};
 
 use circular_buffer::HeapCircularBuffer;
 use log_record::{Record, size, write};

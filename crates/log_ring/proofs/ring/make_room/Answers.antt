@@ -1,6 +1,7 @@
 use Rattle.std.proofs.Common.{◌≡◌, ◌<◌, ◌≤◌, ◌∷◌, ap, ◌∙◌, sym, arith, length}
 use Rattle.log_ring.specs.Whole.{records_in}
-use Rattle.log_ring.specs.Kept.{kept, total}
+use Rattle.log_record.specs.Spelling.{total}
+use Rattle.log_ring.specs.Kept.{kept}
 use Rattle.log_ring.proofs.Cuts.{total-records_in}
 use Rattle.log_ring.proofs.Fitting.{kept-over, kept-all}
 use Rattle.log_ring.proofs.ring.make_room.Goals as goal
