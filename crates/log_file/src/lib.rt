@@ -1,0 +1,12 @@
+// The log file, version 1: written, read back, and each damage named.
+#![tactic(auto)]
+
+pub mod error;
+pub mod head;
+pub mod reading;
+pub mod splitting;
+pub mod writing;
+
+pub use error::FileError;
+pub use reading::read_file;
+pub use writing::write_file;
