@@ -1,7 +1,7 @@
 -- A file that is written is read again.
-use Rattle.std.proofs.Common.{◌≡◌, ℕ, ◌+◌, ◌-◌, ◌%◌, ◌^◌, ◌<◌, ◌≤◌, List, [], ◌∷◌, ◌++◌, length, take, drop, length-drop, length-append, Result, Ok, Err, Option, Some, None, refl, sym, ap, subst, ◌∙◌, append_assoc, arith, inl, inr}
+use Rattle.std.proofs.Common.{◌≡◌, ℕ, ◌+◌, ◌-◌, ◌%◌, ◌^◌, ◌<◌, ◌≤◌, List, ◌++◌, length, take, drop, length-drop, length-append, Result, Ok, Err, Option, Some, None, refl, sym, ap, subst, ◌∙◌, arith, inl, inr}
 use Rattle.std.specs.Prelude.{IsTrue, true, IfOk, IfErr, MatchResult}
-use Rattle.std.specs.List.{flat_map, AllByRecursion}
+use Rattle.std.specs.List.{flat_map}
 use Rattle.std.proofs.lemmas.Bool.{eq-eqb, le-ltb}
 use Rattle.std.proofs.lemmas.List.{drop-drop, take_at, drop_at}
 use Rattle.std.proofs.lemmas.Slice.Eq.{bytes_eq-Decides}
@@ -11,11 +11,11 @@ use Rattle.bn_base.specs.declared.settings.RawSettings.{RawSettings}
 use Rattle.bn_base.specs.Ranges.{IsSetting, is_between, is_small_power, is_memory_size, first_bad}
 use Rattle.std.specs.Int.{is_power_of_two}
 use Rattle.le_numbers.specs.Numbers.{number_at, number_bytes}
-use Rattle.le_numbers.proofs.Fields.{length-number_bytes, ReadsBack, reads_back}
+use Rattle.le_numbers.proofs.Fields.{length-number_bytes, reads_back}
 use Rattle.log_record.specs.declared.head.Head.{Head}
 use Rattle.log_record.specs.declared.record.Record.{Record}
 use Rattle.log_record.specs.declared.record.Record.TheVariants.{Header, FirstLoad, ScOk, ScFailed, Edge, End}
-use Rattle.log_record.specs.Spelling.{bytes_of, total, Fits}
+use Rattle.log_record.specs.Spelling.{bytes_of, Fits}
 use Rattle.log_record.proofs.Records.{one_record}
 use Rattle.log_order.specs.declared.walk.OrderBreak.{OrderBreak}
 use Rattle.log_order.specs.Order.{order_break, broken_by}
@@ -80,8 +80,21 @@ length-spelled h dropped n rest =
     let t20 = number_bytes 8 s.limit ++ t28 in
     let t16 = number_bytes 4 s.interval ++ t20 in
     let t12 = number_bytes 4 s.harts ++ t16 in
-    omega (arith, number_first 4 1 t12, number_first 4 s.harts t16, number_first 4 s.interval t20, number_first 8 s.limit t28, number_first 4 s.log_size t32, number_first 4 s.memory t36, number_first 4 s.sets t40,
-      number_first 4 s.ways t44, number_first 4 s.line t48, length-append h.digest t80, number_first 8 dropped t88, number_first 4 n rest)
+    omega (
+      arith,
+      number_first 4 1 t12,
+      number_first 4 s.harts t16,
+      number_first 4 s.interval t20,
+      number_first 8 s.limit t28,
+      number_first 4 s.log_size t32,
+      number_first 4 s.memory t36,
+      number_first 4 s.sets t40,
+      number_first 4 s.ways t44,
+      number_first 4 s.line t48,
+      length-append h.digest t80,
+      number_first 8 dropped t88,
+      number_first 4 n rest,
+    )
 
 -- the bytes of a log's records are fewer than a field of four bytes counts
 pub small_size : (c : Content) → IsContent c → length (flat_map bytes_of c.records) < 2 ^ 32
@@ -106,9 +119,16 @@ memory value l h p = grind arith
 -- nothing is bad of settings in range
 none_bad : (s : RawSettings) → IsSetting s → first_bad s ≡ None
 none_bad s is =
-    rw (between 1 8 s.harts is.harts_low is.harts_high, between 1 10000000 s.interval is.interval_low is.interval_high, between 1 (2 ^ 40) s.limit is.limit_low is.limit_high,
-      between 16384 (2 ^ 28) s.log_size is.log_size_low is.log_size_high, memory s.memory is.memory_low is.memory_high is.memory_pages, power 1024 s.sets is.sets_low is.sets_high is.sets_power,
-      between 1 16 s.ways is.ways_low is.ways_high, power 16 s.line is.line_low is.line_high is.line_power) refl
+    rw (
+      between 1 8 s.harts is.harts_low is.harts_high,
+      between 1 10000000 s.interval is.interval_low is.interval_high,
+      between 1 (2 ^ 40) s.limit is.limit_low is.limit_high,
+      between 16384 (2 ^ 28) s.log_size is.log_size_low is.log_size_high,
+      memory s.memory is.memory_low is.memory_high is.memory_pages,
+      power 1024 s.sets is.sets_low is.sets_high is.sets_power,
+      between 1 16 s.ways is.ways_low is.ways_high,
+      power 16 s.line is.line_low is.line_high is.line_power,
+    ) refl
 
 faultless : (signed : List ℕ) → take 8 signed ≡ magic → number_at 4 8 signed ≡ 1 → first_bad (settings_in signed) ≡ None → size_in signed ≤ (settings_in signed).log_size → size_in signed ≡ length signed - 92
     → head_fault signed (sha256 signed) ≡ None
@@ -131,7 +151,7 @@ no_fault_again c is =
 
 -- ---- the records
 
-some_bytes : (r : Record) → Fits r → 0 < length (bytes_of r)
+pub some_bytes : (r : Record) → Fits r → 0 < length (bytes_of r)
 some_bytes (Header h n ic pc x) fits = omega arith
 some_bytes (FirstLoad h skip value) fits = omega arith
 some_bytes (ScOk h) fits = omega arith

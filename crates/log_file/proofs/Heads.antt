@@ -1,5 +1,5 @@
 -- What a head without a fault says.
-use Rattle.std.proofs.Common.{◌≡◌, ℕ, ◌+◌, ◌-◌, ◌^◌, ◌<◌, ◌≤◌, Bool, true, false, not, cond, eqb, ltb, List, ◌++◌, length, take, drop, length-drop, Result, Ok, Err, Option, Some, None, inl, inr, refl, sym, ap, subst, ◌∙◌, append_assoc, arith}
+use Rattle.std.proofs.Common.{◌≡◌, ℕ, ◌-◌, ◌<◌, ◌≤◌, Bool, true, false, not, cond, eqb, ltb, List, ◌++◌, length, take, drop, length-drop, Result, Ok, Err, Option, Some, None, inl, inr, refl, sym, ap, subst, ◌∙◌, append_assoc, arith}
 use Rattle.std.specs.Prelude.{slice_index, IfOk}
 use Rattle.std.specs.List.{flat_map}
 use Rattle.std.specs.Str.{bytes_eq}
@@ -40,7 +40,7 @@ signed_is_spelled h dropped records =
     let s = h.settings in
     regroup_end (settings_bytes s) h.digest (number_bytes 8 dropped) (number_bytes 4 (length records)) records
     ∙ regroup magic (number_bytes 4 1) (number_bytes 4 s.harts) (number_bytes 4 s.interval) (number_bytes 8 s.limit) (number_bytes 4 s.log_size) (number_bytes 4 s.memory) (number_bytes 4 s.sets) (number_bytes 4 s.ways)
-      (number_bytes 4 s.line) (h.digest ++ (number_bytes 8 dropped ++ (number_bytes 4 (length records) ++ records)))
+    (number_bytes 4 s.line) (h.digest ++ (number_bytes 8 dropped ++ (number_bytes 4 (length records) ++ records)))
 
 -- bytes with the right beginning are a head's, and those after it
 pub head_parts : (bytes : List ℕ) → AreBytes bytes → 92 ≤ length bytes → take 8 bytes ≡ magic → number_at 4 8 bytes ≡ 1

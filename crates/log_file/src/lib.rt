@@ -3,6 +3,7 @@
 
 pub mod error;
 pub mod head;
+pub mod laws;
 pub mod reading;
 pub mod splitting;
 pub mod writing;
