@@ -86,6 +86,10 @@ pub record Fits (r : Record) : Type 0 where
   pub fields : FitsFields r
   pub mark : IsTrue (is_marked r)
 
+-- how many bytes records have together
+abbrev pub total : List Record → ℕ
+total rs = length (flat_map bytes_of rs)
+
 -- the bytes begin with those of a record, which has so many
 pub record BeginsWith (bytes : List ℕ) (r : Record) (n : ℕ) : Type 0 where
   pub fits : Fits r

@@ -11,7 +11,8 @@ use le_numbers::{read_u32, read_u64};
 
 /// How many bytes a record has that begins with this byte, its tag; `None` where none begins so.
 pub fn size(tag: u8) -> Option<usize>
-    ensures { result ≡ size_of tag }
+    ensures value { result ≡ size_of tag }
+    ensures bounds { IfSome result (λ size. (2 ≤ size) × (size ≤ 146)) }
 {
     match tag {
         1 => Some(146),

@@ -1,0 +1,5 @@
+pub mod Rows
+pub mod Heads
+pub mod Again
+pub mod Refusals
+pub mod Counts

@@ -1,0 +1,5 @@
+use Rattle.log_file.proofs.Again.{one_content}
+use Rattle.log_file.proofs.laws.files_say_one_thing.Goals as goal
+
+pub returns : goal.returns
+returns c = one_content

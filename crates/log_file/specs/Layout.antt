@@ -1,0 +1,59 @@
+-- The bytes of a log file: its fields one after another.
+use Rattle.std.specs.Prelude.{ℕ, List, ◌++◌, codes, take, drop, length}
+use Rattle.std.specs.List.{flat_map}
+use Rattle.sha2.specs.Sha256.{sha256}
+use Rattle.bn_base.specs.declared.settings.RawSettings.{RawSettings}
+use Rattle.le_numbers.specs.Numbers.{number_at, number_bytes}
+use Rattle.log_record.specs.declared.head.Head.{Head}
+use Rattle.log_record.specs.Spelling.{bytes_of}
+use Rattle.log_order.specs.Content.{Content}
+
+-- the bytes that begin each file
+unfoldable pub magic : List ℕ
+magic = codes "BUGNETLG"
+
+-- magic, version 1, and the settings
+unfoldable pub settings_bytes : RawSettings → List ℕ
+settings_bytes s =
+    magic ++ number_bytes 4 1 ++ number_bytes 4 s.harts ++ number_bytes 4 s.interval ++ number_bytes 8 s.limit ++ number_bytes 4 s.log_size
+    ++ number_bytes 4 s.memory ++ number_bytes 4 s.sets ++ number_bytes 4 s.ways ++ number_bytes 4 s.line
+
+-- all bytes before the last digest: the settings, the program's digest, the number of records given up, the number of bytes of the kept ones, and these
+unfoldable pub signed_bytes : Head → ℕ → List ℕ → List ℕ
+signed_bytes head dropped records = settings_bytes head.settings ++ head.digest ++ number_bytes 8 dropped ++ number_bytes 4 (length records) ++ records
+
+-- the bytes of a file with these records' bytes; they end with the digest of all bytes before
+abbrev pub spelling : Head → ℕ → List ℕ → List ℕ
+spelling head dropped records = signed_bytes head dropped records ++ sha256 (signed_bytes head dropped records)
+
+-- the one spelling of what a log says
+abbrev pub file_bytes : Content → List ℕ
+file_bytes c = spelling c.head c.dropped (flat_map bytes_of c.records)
+
+-- the settings at their places
+abbrev pub settings_in : List ℕ → RawSettings
+settings_in bytes = record {
+  harts = number_at 4 12 bytes;
+  interval = number_at 4 16 bytes;
+  limit = number_at 8 20 bytes;
+  log_size = number_at 4 28 bytes;
+  memory = number_at 4 32 bytes;
+  sets = number_at 4 36 bytes;
+  ways = number_at 4 40 bytes;
+  line = number_at 4 44 bytes;
+}
+
+-- the program's digest at its place
+abbrev pub digest_in : List ℕ → List ℕ
+digest_in bytes = take 32 (drop 48 bytes)
+
+abbrev pub head_in : List ℕ → Head
+head_in bytes = record { settings = settings_in bytes; digest = digest_in bytes }
+
+-- how many records were given up, by the field at its place
+abbrev pub dropped_in : List ℕ → ℕ
+dropped_in bytes = number_at 8 80 bytes
+
+-- how many bytes the records have, by the field at its place
+abbrev pub size_in : List ℕ → ℕ
+size_in bytes = number_at 4 88 bytes

@@ -1,0 +1,17 @@
+// The log file, version 1: written, read back, and each damage named.
+#![tactic(auto)]
+
+pub mod error;
+#[cfg(test)]
+mod first_log;
+pub mod head;
+pub mod laws;
+pub mod reading;
+pub mod splitting;
+#[cfg(test)]
+mod tests;
+pub mod writing;
+
+pub use error::FileError;
+pub use reading::read_file;
+pub use writing::write_file;

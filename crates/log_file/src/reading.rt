@@ -1,0 +1,75 @@
+// Reading a file.
+ghost use Rattle.std.specs.Prelude.{◌≡◌, ◌≤◌, ◌++◌, length, drop, None, MatchResult, IfOk, IfErr};
+ghost use Rattle.log_order.specs.Content.{Content, IsContent};
+ghost use Rattle.log_file.specs.declared.error.FileError.TheVariants.{OutOfMemory};
+ghost use Rattle.log_file.specs.Layout.{settings_in, head_in, dropped_in, file_bytes};
+ghost use Rattle.log_file.specs.Faults.{head_fault};
+ghost use Rattle.log_file.specs.File.{HasFields, IsRecordsFault, IsRefusal};
+
+use crate::error::FileError;
+use crate::head::{DIGEST_SIZE, HEAD_SIZE, checked_settings, digest_in};
+use crate::splitting::split;
+use bn_base::Settings;
+use le_numbers::read_u64;
+use log_order::KeptLog;
+use log_record::Head;
+use std::alloc::Global;
+
+fn tail(bytes: &[u8], at: usize) -> &[u8]
+    requires { at ≤ length bytes.now }
+    ensures { result.now ≡ drop at bytes.now }
+{
+    &bytes[at..]
+}
+
+// What a file says whose head has no fault and these settings.
+fn content_in(alloc: Global, signed: &[u8], settings: Settings) -> Result<KeptLog, FileError>
+    requires long { 92 ≤ length signed.now }
+    requires settings { settings ≡ settings_in signed.now }
+    requires bound { length (drop 92 signed.now) ≤ settings.log_size }
+    ensures content { IfOk result (λ c. IsContent c) }
+    ensures fields { IfOk result (HasFields signed.now) }
+    ensures refused { IfErr result (λ e. IsRecordsFault (head_in signed.now) (dropped_in signed.now) (drop 92 signed.now) e) }
+{
+    let head = Head {
+        settings,
+        digest: digest_in(signed),
+    };
+    let dropped = read_u64(signed, 80);
+    let records = split(alloc, tail(signed, HEAD_SIZE))?;
+    match KeptLog::checked(head, dropped, records) {
+        Ok(log) => Ok(log),
+        Err(found) => Err(FileError::BadOrder {
+            at: found.at,
+            rule: found.rule,
+        }),
+    }
+}
+
+fn read(alloc: Global, bytes: &[u8]) -> Result<KeptLog, FileError>
+    ensures content { IfOk result (λ c. IsContent c) }
+    ensures found { IfOk result (λ c. bytes.now ≡ file_bytes c) }
+    ensures refused { IfErr result (λ e. IsRefusal bytes.now e) }
+{
+    let length = bytes.len();
+    if length < HEAD_SIZE + DIGEST_SIZE {
+        return Err(FileError::Short {
+            length: length as u64,
+        });
+    }
+    let (signed, kept) = bytes.split_at(length - DIGEST_SIZE);
+    let settings = checked_settings(signed, kept)?;
+    content_in(alloc, signed, settings)
+}
+
+/// What a log file says. The error is the first that applies, in the order of `FileError`.
+pub fn read_file(alloc: Global, bytes: &[u8]) -> Result<KeptLog, FileError>
+    // A log that is read is one that the format has, and the bytes are its spelling.
+    ensures content { IfOk result (λ c. IsContent c) }
+    ensures found { IfOk result (λ c. bytes.now ≡ file_bytes c) }
+    // A log whose spelling the bytes are is read.
+    ensures only { (d : Content) → IsContent d → bytes.now ≡ file_bytes d → MatchResult result (λ c. c ≡ d) (λ e. e ≡ OutOfMemory) }
+    ensures refused { IfErr result (λ e. IsRefusal bytes.now e) }
+{
+    read(alloc, bytes)
+}

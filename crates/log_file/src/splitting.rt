@@ -1,0 +1,53 @@
+// The records of a file.
+ghost use Rattle.std.specs.Prelude.{◌≡◌, List, length, IfOk, IfErr};
+ghost use Rattle.std.specs.List.{flat_map, AllByRecursion};
+ghost use Rattle.log_record.specs.declared.record.Record.{Record};
+ghost use Rattle.log_record.specs.Spelling.{bytes_of, Fits};
+ghost use Rattle.log_file.specs.File.{IsSplitError};
+
+use crate::error::FileError;
+use log_record::{Record, read, size};
+use std::alloc::Global;
+
+// How many records these bytes are, by the tags alone.
+fn count(bytes: &[u8]) -> usize
+    ensures { (rs : List Record) → AllByRecursion Fits rs → bytes.now ≡ flat_map bytes_of rs → result ≡ length rs }
+{
+    let mut count = 0;
+    let mut at = 0;
+    while at < bytes.len() {
+        match size(bytes[at]) {
+            None => return count,
+            Some(size) => {
+                at += size;
+                count += 1;
+            }
+        }
+    }
+    count
+}
+
+/// The records whose bytes these are. The error tells the first place where a record should begin
+/// and none does.
+pub fn split(alloc: Global, bytes: &[u8]) -> Result<Vec<Record>, FileError>
+    ensures fit { IfOk result (λ v. AllByRecursion Fits v.items) }
+    ensures parts { IfOk result (λ v. bytes.now ≡ flat_map bytes_of v.items) }
+    ensures refused { IfErr result (λ e. IsSplitError bytes.now e) }
+{
+    let mut records = Vec::with_capacity(alloc, count(bytes))?;
+    let mut rest = bytes;
+    while !rest.is_empty() {
+        match read(rest) {
+            None => {
+                return Err(FileError::BadRecord {
+                    at: (bytes.len() - rest.len()) as u64,
+                });
+            }
+            Some((entry, size)) => {
+                records.push(entry)?;
+                rest = &rest[size..];
+            }
+        }
+    }
+    Ok(records)
+}

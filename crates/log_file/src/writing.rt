@@ -1,0 +1,50 @@
+// Writing a file.
+ghost use Rattle.std.specs.Prelude.{◌≡◌, ◌≤◌, ◌++◌, length, IfOk};
+ghost use Rattle.log_file.specs.Layout.{settings_bytes, signed_bytes, spelling};
+
+use crate::head::{MAGIC, VERSION, digest_of};
+use bn_base::Settings;
+use le_numbers::{push_u32, push_u64};
+use log_record::Head;
+use std::alloc::{AllocError, Global};
+
+#[tactic(auto, unfolding(crate::specs::Layout::magic, crate::specs::Layout::settings_bytes))]
+fn settings_part(alloc: Global, settings: &Settings) -> Result<Vec<u8>, AllocError>
+    ensures { IfOk result (λ v. v.items ≡ settings_bytes settings.now) }
+{
+    let mut out = Vec::new(alloc);
+    out.extend_from_slice(MAGIC)?;
+    push_u32(&mut out, VERSION)?;
+    push_u32(&mut out, settings.harts() as u32)?;
+    push_u32(&mut out, settings.interval())?;
+    push_u64(&mut out, settings.limit())?;
+    push_u32(&mut out, settings.log_size())?;
+    push_u32(&mut out, settings.memory())?;
+    push_u32(&mut out, settings.sets())?;
+    push_u32(&mut out, settings.ways())?;
+    push_u32(&mut out, settings.line())?;
+    Ok(out)
+}
+
+/// The file with this head, so many dropped records and the bytes of these kept ones, at most
+/// log-size bytes.
+#[tactic(auto, unfolding(crate::specs::Layout::signed_bytes))]
+pub fn write_file(
+    alloc: Global,
+    head: &Head,
+    dropped: u64,
+    records: &[u8],
+) -> Result<Vec<u8>, AllocError>
+    requires { length records.now ≤ head.now.settings.log_size }
+    ensures { IfOk result (λ v. v.items ≡ spelling head.now dropped records.now) }
+{
+    let _bound = head.settings.log_size();
+    let mut out = settings_part(alloc, &head.settings)?;
+    out.extend_from_slice(&head.digest)?;
+    push_u64(&mut out, dropped)?;
+    push_u32(&mut out, records.len() as u32)?;
+    out.extend_from_slice(records)?;
+    let digest = digest_of(&out);
+    out.extend_from_slice(&digest)?;
+    Ok(out)
+}

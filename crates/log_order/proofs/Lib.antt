@@ -1,0 +1,6 @@
+pub mod Walking
+pub mod Firsts
+pub mod Weaker
+pub mod Fronts
+pub mod Suffixes
+pub mod Takes

@@ -1,0 +1,6 @@
+pub mod Rules
+pub mod Order
+pub mod First
+pub mod Weak
+pub mod Suffix
+pub mod Content

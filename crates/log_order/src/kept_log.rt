@@ -1,0 +1,75 @@
+// What a log says.
+ghost use Rattle.std.specs.Prelude.{◌≡◌, ◌≤◌, Some, IfOk, IfErr};
+ghost use Rattle.std.specs.List.{AllByRecursion};
+ghost use Rattle.log_record.specs.Spelling.{Fits, total};
+ghost use Rattle.log_order.specs.Order.{broken_by};
+ghost use Rattle.log_order.specs.Content.{content, IsContent};
+
+use crate::walk::{OrderBreak, broken_by};
+use log_record::{Head, Record};
+use std::marker::Model;
+
+/// What a log says: its head, how many records were given up before those that it keeps, and these
+/// records, which have at most log-size bytes and are in order.
+#[derive(Drop)]
+pub struct KeptLog {
+    head: Head,
+    dropped: u64,
+    records: Vec<Record>,
+}
+
+impl Model for KeptLog {
+    ghost use Rattle.log_order.specs.Content.{Content, content, IsContent};
+
+    ghost Value = { Content };
+
+    ghost view = { λ k. content k.head k.dropped k.records.items };
+
+    ghost invariant = { λ k. IsContent (content k.head k.dropped k.records.items) };
+}
+
+impl KeptLog {
+    /// The log with this head, so many dropped records and these kept ones, which have at most
+    /// log-size bytes. The error tells where they break the order first.
+    pub fn checked(head: Head, dropped: u64, records: Vec<Record>) -> Result<KeptLog, OrderBreak>
+        requires fit { AllByRecursion Fits records.items }
+        requires bound { total records.items ≤ head.settings.log_size }
+        ensures ok { IfOk result (λ k. k ≡ content head dropped records.items) }
+        ensures err { IfErr result (λ b. broken_by head.settings dropped records.items ≡ Some b) }
+        ensures whole { IfOk result (λ k. IsContent k) }
+    {
+        let _settings = head.settings.raw();
+        let _digest = head.digest;
+        match broken_by(&head.settings, dropped, &records) {
+            Some(found) => Err(found),
+            None => Ok(KeptLog {
+                head,
+                dropped,
+                records,
+            }),
+        }
+    }
+
+    /// The settings of the recording, and the digest of its program.
+    pub fn head(&self) -> &Head
+        ensures value { result.now ≡ self.now.head }
+        ensures whole { IsContent self.now }
+    {
+        &self.head
+    }
+
+    /// How many records were given up before the kept ones.
+    pub fn dropped(&self) -> u64
+        ensures { result ≡ self.now.dropped }
+    {
+        self.dropped
+    }
+
+    /// The kept records, the oldest first.
+    pub fn records(&self) -> &[Record]
+        ensures value { result.now ≡ self.now.records }
+        ensures whole { IsContent self.now }
+    {
+        &self.records
+    }
+}

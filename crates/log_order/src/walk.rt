@@ -1,0 +1,165 @@
+// The first break of the order of records.
+ghost use Rattle.std.specs.Prelude.{◌≡◌, ◌<◌, ◌≤◌, ◌^◌, ◌==◌};
+ghost use Rattle.std.specs.List.{list_any};
+ghost use Rattle.log_record.specs.Spelling.{total};
+ghost use Rattle.log_order.specs.Rules.{is_unfinished};
+ghost use Rattle.log_order.specs.Order.{has_source, step, Steps, after_all, is_late, late_edge, ended, broken, broken_by, terms_of};
+
+use crate::view::{HartView, Terms};
+use bn_base::Settings;
+use log_record::Record;
+
+/// Where the order of records is broken first, and by which rule.
+#[derive(Clone, Copy, Debug, PartialEq, Eq, Drop)]
+pub struct OrderBreak {
+    /// The place of the record, in bytes from the first record's; for rule 6 the records' end.
+    pub at: u64,
+    /// The rule, 1 to 7.
+    pub rule: u64,
+}
+
+// The most harts that a recording has.
+const MOST_HARTS: usize = 8;
+
+impl Terms {
+    /// What of the settings the order depends on.
+    pub fn of(settings: &Settings) -> Terms
+        ensures { result ≡ terms_of settings.now }
+    {
+        Terms {
+            interval: settings.interval() as u64,
+            limit: settings.limit(),
+        }
+    }
+}
+
+fn has_source(harts: usize, entry: &Record) -> bool
+    ensures { result ≡ has_source harts entry.now }
+{
+    match entry {
+        Record::Edge { hart, from, .. } => (*from as usize) < harts && *from != *hart,
+        _ => true,
+    }
+}
+
+#[tactic(auto, unfolding(crate::specs::Order::step))]
+fn step(terms: &Terms, harts: &mut [HartView], entry: &Record) -> Result<(), u8>
+    ensures { Steps result harts.new (step terms.now harts.old entry.now) }
+{
+    let hart = entry.hart() as usize;
+    match harts.get(hart).copied() {
+        None => Err(1),
+        Some(view) => {
+            if !has_source(harts.len(), entry) {
+                return Err(1);
+            }
+            let next = view.after(terms, entry)?;
+            harts[hart] = next;
+            Ok(())
+        }
+    }
+}
+
+fn after_all(terms: &Terms, harts: &mut [HartView], records: &[Record]) -> Result<(), OrderBreak>
+    requires { total records.now < 2 ^ 63 }
+    ensures { Steps result harts.new (after_all terms.now 0 harts.old records.now) }
+{
+    let mut at = 0;
+    for entry in records {
+        if let Err(rule) = step(terms, harts, entry) {
+            return Err(OrderBreak {
+                at,
+                rule: rule as u64,
+            });
+        }
+        at += entry.size() as u64;
+    }
+    Ok(())
+}
+
+fn any_unfinished(all: bool, harts: &[HartView]) -> bool
+    ensures { result ≡ list_any (is_unfinished all) harts.now }
+{
+    harts.iter().any(|view| view.is_unfinished(all))
+}
+
+fn is_late(harts: &[HartView], entry: &Record) -> bool
+    ensures { result ≡ is_late harts.now entry.now }
+{
+    match entry {
+        Record::Edge { from, from_ic, .. } => match harts.get(*from as usize) {
+            None => false,
+            Some(view) => match view.last {
+                None => false,
+                Some(last) => last <= *from_ic,
+            },
+        },
+        _ => false,
+    }
+}
+
+fn late_edge(harts: &[HartView], records: &[Record]) -> Option<u64>
+    requires { total records.now < 2 ^ 63 }
+    ensures { result ≡ late_edge harts.now 0 records.now }
+{
+    let mut at = 0;
+    for entry in records {
+        if is_late(harts, entry) {
+            return Some(at);
+        }
+        at += entry.size() as u64;
+    }
+    None
+}
+
+fn total(records: &[Record]) -> u64
+    requires { total records.now < 2 ^ 63 }
+    ensures { result ≡ total records.now }
+{
+    let mut size = 0;
+    for entry in records {
+        size += entry.size() as u64;
+    }
+    size
+}
+
+#[tactic(auto, unfolding(crate::specs::Order::ended))]
+fn ended(all: bool, harts: &[HartView], records: &[Record]) -> Option<OrderBreak>
+    requires { total records.now < 2 ^ 63 }
+    ensures { result ≡ ended all harts.now records.now }
+{
+    if any_unfinished(all, harts) {
+        return Some(OrderBreak {
+            at: total(records),
+            rule: 6,
+        });
+    }
+    match late_edge(harts, records) {
+        None => None,
+        Some(at) => Some(OrderBreak { at, rule: 7 }),
+    }
+}
+
+#[tactic(auto, unfolding(crate::specs::Order::broken))]
+fn broken(terms: &Terms, count: usize, all: bool, records: &[Record]) -> Option<OrderBreak>
+    requires count { count ≤ 8 }
+    requires size { total records.now < 2 ^ 63 }
+    ensures { result ≡ broken terms.now count all records.now }
+{
+    let mut views = [HartView::fresh(all); MOST_HARTS];
+    let harts = &mut views[..count];
+    match after_all(terms, harts, records) {
+        Err(found) => Some(found),
+        Ok(()) => ended(all, harts, records),
+    }
+}
+
+/// Where the order of a log's records is broken first, so many records having been dropped before
+/// them. `None` comes exactly where they are in order.
+pub fn broken_by(settings: &Settings, dropped: u64, records: &[Record]) -> Option<OrderBreak>
+    requires { total records.now < 2 ^ 63 }
+    ensures { result ≡ broken_by settings.now dropped records.now }
+{
+    let harts = settings.harts() as usize;
+    broken(&Terms::of(settings), harts, dropped == 0, records)
+}

@@ -1,0 +1,9 @@
+// A ring of log records that keeps the latest whole ones.
+#![tactic(auto)]
+
+pub mod laws;
+pub mod ring;
+#[cfg(test)]
+mod tests;
+
+pub use ring::Ring;
