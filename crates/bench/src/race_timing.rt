@@ -1,17 +1,12 @@
-//! Times the race log: accesses per second for one hart and for eight harts, and bytes per word.
-//!
-//! `race_bench ACCESSES` makes so many accesses of single words for each line that it prints. Without a number it prints
-//! how to call it.
-#![tactic(auto)]
-
+// The race log: accesses per second for one hart and for eight harts, and bytes per word.
 ghost use Rattle.std.specs.Prelude.{◌≡◌, ◌≤◌, ◌<◌, ◌+◌, ◌^◌, ℕ};
 ghost use Rattle.race_log.specs.Stands.{harts_of, next_turn, next_count};
 
 use bn_base::{RawSettings, Settings};
 use race_log::{Mode, Shadow};
 use std::alloc::AllocError;
+use std::fs;
 use std::time::Instant;
-use std::{env, fs};
 
 // A load or store of one word, in that turn and at the same count, and how many edges it has.
 fn access_word(
@@ -108,18 +103,12 @@ fn timed(rt: &HostRuntime, harts: u64, accesses: u64, words: u32) -> anyhow::Res
     Ok(())
 }
 
-fn main(rt: HostRuntime) -> anyhow::Result<()> {
-    let words: Vec<String> = env::args(&rt)?.collect(rt.alloc())?;
-    let accesses = match words.get(1) {
-        Some(word) => word.as_str().parse::<u64>().unwrap_or(0),
-        None => 0,
-    };
-    if accesses == 0 || accesses >= 1 << 40 {
-        println!(rt; "race_bench ACCESSES")?;
-        return Ok(());
-    }
-    timed(&rt, 1, accesses, 64)?;
-    timed(&rt, 8, accesses, 64)?;
-    timed(&rt, 1, accesses, 262_144)?;
-    timed(&rt, 8, accesses, 262_144)
+/// Times accesses of single words, to few words and to many, by one hart and by eight.
+pub fn races(rt: &HostRuntime, accesses: u64) -> anyhow::Result<()>
+    requires { accesses < 2 ^ 40 }
+{
+    timed(rt, 1, accesses, 64)?;
+    timed(rt, 8, accesses, 64)?;
+    timed(rt, 1, accesses, 262_144)?;
+    timed(rt, 8, accesses, 262_144)
 }

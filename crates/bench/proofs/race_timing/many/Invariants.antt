@@ -1,6 +1,6 @@
 use Rattle.std.proofs.Common.{◌≡◌, ◌≤◌, ℕ}
 use Rattle.race_log.specs.Stands.{harts_of, next_turn, next_count}
-use Rattle.race_bench.proofs.many.Given as goal
+use Rattle.bench.proofs.race_timing.many.Given as goal
 
 abbrev pub invariant-loop-turn : goal.invariant-loop-turn
 invariant-loop-turn l = record {

@@ -1,0 +1,32 @@
+//! Times the layers. The first word chooses the layer, the second says how much of it.
+//!
+//! | words | what is timed |
+//! |---|---|
+//! | `decode COUNT` | the decoder on so many words |
+//! | `races COUNT` | the race log on so many accesses of single words |
+#![tactic(auto)]
+
+mod decode_timing;
+mod race_timing;
+
+use std::env;
+
+fn main(rt: HostRuntime) -> anyhow::Result<()> {
+    let words: Vec<String> = env::args(&rt)?.collect(rt.alloc())?;
+    let layer = match words.get(1) {
+        Some(word) => word.as_str(),
+        None => "",
+    };
+    let count = match words.get(2) {
+        Some(word) => word.as_str().parse::<u64>().unwrap_or(0),
+        None => 0,
+    };
+    if layer == "decode" && count > 0 {
+        return decode_timing::decoding(&rt, count);
+    }
+    if layer == "races" && count > 0 && count < 1 << 40 {
+        return race_timing::races(&rt, count);
+    }
+    println!(rt; "bench LAYER COUNT, where LAYER is decode or races")?;
+    Ok(())
+}
