@@ -40,6 +40,6 @@ pub fn decoding(rt: &HostRuntime, count: u64) -> anyhow::Result<()> {
     let micros = clock.elapsed(rt)?.as_micros();
     let spent = u64::try_from(micros).unwrap_or(u64::MAX).max(1);
     let rate = count.saturating_mul(1_000_000) / spent;
-    println!(rt; "decode {count} words: {rate} words a second, {found} instructions")?;
+    println!(rt; "decode {count} words: {rate} a second, {found} instructions")?;
     Ok(())
 }

@@ -3,10 +3,12 @@
 //! | words | what is timed |
 //! |---|---|
 //! | `decode COUNT` | the decoder on so many words |
+//! | `meaning COUNT` | so many instructions of two loops, one with loads and stores |
 //! | `races COUNT` | the race log on so many accesses of single words |
 #![tactic(auto)]
 
 mod decode_timing;
+mod meaning_timing;
 mod race_timing;
 
 use std::env;
@@ -24,9 +26,12 @@ fn main(rt: HostRuntime) -> anyhow::Result<()> {
     if layer == "decode" && count > 0 {
         return decode_timing::decoding(&rt, count);
     }
+    if layer == "meaning" && count > 0 {
+        return meaning_timing::meaning(&rt, count);
+    }
     if layer == "races" && count > 0 && count < 1 << 40 {
         return race_timing::races(&rt, count);
     }
-    println!(rt; "bench LAYER COUNT, where LAYER is decode or races")?;
+    println!(rt; "bench LAYER COUNT, where LAYER is decode, meaning or races")?;
     Ok(())
 }
