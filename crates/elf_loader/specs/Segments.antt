@@ -18,10 +18,11 @@ is_segment h = (h.kind == 1) && nat_lt 0 h.memsz
 unfoldable pub segments : List ℕ → List ProgramHeader
 segments bytes = filter is_segment (table bytes)
 
--- where a segment ends in the file, and in memory
+-- where a segment's bytes end in the file
 abbrev pub file_end : ProgramHeader → ℕ
 file_end h = h.offset + h.filesz
 
+-- where a segment ends in memory
 abbrev pub memory_end : ProgramHeader → ℕ
 memory_end h = h.vaddr + h.memsz
 
@@ -35,10 +36,11 @@ pub record IsLoadable (size : ℕ) (h : ProgramHeader) : Type 0 where
 abbrev pub words_touched : ℕ → ℕ → ℕ
 words_touched addr size = if size == 0 then 0 else ((addr % 4 + size + 3) / 4)
 
--- the first aligned word that a segment touches, and the first after those, counted from address 0
+-- the first aligned word that a segment touches, words being counted from address 0
 abbrev pub first_word : ProgramHeader → ℕ
 first_word h = h.vaddr / 4
 
+-- the first aligned word after those that a segment touches
 abbrev pub word_after : ProgramHeader → ℕ
 word_after h = first_word h + words_touched h.vaddr h.memsz
 
@@ -62,7 +64,8 @@ word_of bytes h addr = number_at 4 0 (byte_in bytes h addr ∷ byte_in bytes h (
 unfoldable pub file_words : List ℕ → ProgramHeader → List ℕ
 file_words bytes h = map (λ k. word_of bytes h (4 * (first_word h + k))) (range_with_len 0 (words_touched h.vaddr h.filesz))
 
--- the segment in whole aligned words, executable with PF_X, 1, and writable with PF_W, 2
+-- the segment in whole aligned words, of which the file gives those that have one of its bytes; executable
+-- with PF_X, 1, and writable with PF_W, 2
 abbrev pub part_of : List ℕ → ProgramHeader → Part
 part_of bytes h = record {
   first = 4 * first_word h;

@@ -1,4 +1,5 @@
-// Programs out of ELF files: 32-bit little-endian RISC-V, at fixed addresses (ELF, and RISC-V ELF psABI).
+// Loads programs out of ELF files: static 32-bit RISC-V executables (ELF, and the RISC-V ELF psABI).
+// `load` gives the image of the file's bytes, or the first of the reasons to refuse it.
 #![tactic(auto)]
 
 mod checks;

@@ -1,4 +1,4 @@
-use Rattle.std.proofs.Common.{ap, ◌+◌, ◌*◌, ◌∙◌}
+use Rattle.std.proofs.Common.{ap, ◌∙◌}
 use Rattle.elf_loader.specs.declared.file_header.FileHeader.{FileHeader}
 use Rattle.elf_loader.specs.Headers.{file_header, header}
 use Rattle.elf_loader.proofs.Grown.{grown}
