@@ -1,10 +1,10 @@
 -- What a command answers after its loads.
-use Rattle.std.proofs.Common.{◌≡◌, ℕ, ◌≤◌, length, List, Option, Some, None, ◌∙◌, ap, subst, sym, arith, true, false, Bool, cond, nat_lt, refl, inl, inr, ◌⊎◌}
+use Rattle.std.proofs.Common.{◌≡◌, ℕ, ◌≤◌, length, List, Option, Some, None, ◌∙◌, ap, subst, sym, arith, false, Bool, cond, nat_lt}
 use Rattle.std.proofs.Common.{Vec, Global, String}
 use Rattle.std.specs.Prelude.{Result, Ok, Err}
 use Rattle.std.proofs.lemmas.Bool.Decides.{nat_tests}
 use Rattle.bn_outside.specs.Files.{Files}
-use Rattle.bugnet.specs.Refusals.{name_at, IsOutside}
+use Rattle.bugnet.specs.Refusals.{name_at}
 use Rattle.bugnet.specs.Commands.{Told, refused, file_or, with_file}
 use Rattle.bugnet.specs.Outside.{WithFiles, FetchTells, Gives}
 use Rattle.bugnet.specs.declared.answer.Answer.{Answer}

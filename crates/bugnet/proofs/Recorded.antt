@@ -1,26 +1,23 @@
 -- The log file that a recording saves is read back, and its replay gives the run's rows.
-use Rattle.std.proofs.Common.{◌≡◌, ℕ, zero, suc, ◌+◌, ◌-◌, ◌*◌, ◌^◌, ◌≤◌, ◌<◌, nat_lt, min, List, [], ◌∷◌, ◌++◌, length, take, drop, Some, None, ap, ◌∙◌, sym, refl, cond, Bool, true, false, ◌==◌, ◌&&◌, arith, subst, append_assoc, length-append}
+use Rattle.std.proofs.Common.{◌≡◌, ℕ, zero, suc, ◌+◌, ◌^◌, ◌≤◌, ◌<◌, nat_lt, List, [], ◌∷◌, ◌++◌, length, take, drop, Some, None, ap, ◌∙◌, sym, refl, cond, Bool, true, false, ◌==◌, ◌&&◌, arith, append_assoc, length-append}
 use Rattle.std.proofs.lemmas.Bool.Decides.{nat_tests}
 use Rattle.std.proofs.lemmas.List.{drop_at, take_at}
 use Rattle.std.proofs.lemmas.Slice.Eq.{bytes_eq-Decides}
 use Rattle.std.specs.Str.{bytes_eq}
-use Rattle.std.specs.declared.string.String.{String}
-use Rattle.std.specs.declared.alloc.Global.{Global}
 use Rattle.sha2.specs.Sha256.{sha256}
 use Rattle.sha2.proofs.Facts256.{length-sha256}
 use Rattle.bn_base.specs.Programs.{Program}
-use Rattle.bn_base.specs.declared.end_mark.EndMark.{EndMark}
 use Rattle.bn_base.specs.declared.state.HartState.{HartState}
 use Rattle.rv_meaning.specs.Execute.{count_up, ask_of}
 use Rattle.rv_meaning.specs.WordStates.{AreWords}
 use Rattle.le_numbers.specs.Numbers.{number_at, number_bytes}
 use Rattle.log_record.specs.Reading.{words_at}
-use Rattle.bugnet.specs.SmallElf.{words_in, program_of}
-use Rattle.bugnet.specs.Rows.{start_state, turn_ask, exit_mark, rows_of, IsExit}
-use Rattle.bugnet.specs.Replayed.{Replayed, replayed}
+use Rattle.bugnet.specs.SmallElf.{program_of}
+use Rattle.bugnet.specs.Rows.{start_state, exit_mark, rows_of}
+use Rattle.bugnet.specs.Replayed.{replayed}
 use Rattle.bugnet.specs.LogFile.{settings_bytes, header_bytes, end_bytes, signed_part, file_of_records, log_bytes, kept_in, fields_in, log_of, log_in}
-use Rattle.bugnet.specs.Commands.{Told, replay_of, replay_kept, replay_same, replay_words, printed, ended}
-use Rattle.bugnet.specs.Headline.{Headline, run_ask, kept_of, file_of_run, run_text}
+use Rattle.bugnet.specs.Commands.{replay_of, replay_kept, replay_same, replay_words, printed, ended}
+use Rattle.bugnet.specs.Headline.{Headline, run_ask, kept_of, file_of_run}
 use Rattle.bugnet.specs.declared.log.Kept.{Kept}
 use Rattle.bugnet.specs.declared.interval.Outcome.TheVariants.{Done}
 use Rattle.bugnet.proofs.Suffices.{Counted, log_suffices, turn_before}

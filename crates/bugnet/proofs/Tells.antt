@@ -1,25 +1,24 @@
 -- What a whole call of the program does, from what its parts do.
-use Rattle.std.proofs.Common.{◌≡◌, ◌≢◌, ◌≤◌, ℕ, suc, Bool, cond, List, [], ◌∷◌, ◌++◌, length, take, Option, Some, None, ◌∙◌, ap, subst, sym, refl, arith, inl, inr, ◌⊎◌, append_assoc, Global, String}
-use Rattle.std.specs.Prelude.{Result, Ok, Err}
+use Rattle.std.proofs.Common.{◌≡◌, ◌≤◌, ℕ, Bool, cond, List, [], ◌∷◌, ◌++◌, length, Option, Some, None, ◌∙◌, ap, subst, sym, refl, arith, inl, inr, ◌⊎◌, append_assoc, Global, String}
+use Rattle.std.specs.Prelude.{Ok, Err}
 use Rattle.std.specs.Io.KnownBytes.{Appends}
 use Rattle.std.proofs.lemmas.List.{append-nil, take_all}
 use Rattle.bn_base.specs.declared.end_mark.EndMark.{EndMark}
-use Rattle.bn_outside.specs.Counts.{Rose}
 use Rattle.bn_outside.specs.Files.{Files, WhereTold, SameElsewhere}
 use Rattle.bn_outside.specs.Streams.{AppendsPart}
-use Rattle.bugnet.specs.Refusals.{name_at, status_of, line_of, IsOutside}
+use Rattle.bugnet.specs.Refusals.{name_at, status_of, IsOutside}
 use Rattle.bugnet.specs.Texts.{begin_text, end_text, rows_text}
 use Rattle.bugnet.specs.Printed.{end_of_interval, interval_text}
 use Rattle.bugnet.specs.Replayed.{Replayed}
 use Rattle.std.specs.Str.{bytes_eq}
-use Rattle.bugnet.specs.Commands.{Told, refused, ended, printed, replay_told, replay_log, replay_of, is_record, record_names, answer_told, with_file}
+use Rattle.bugnet.specs.Commands.{Told, refused, ended, replay_told, replay_log, replay_of, is_record, record_names, answer_told, with_file}
 use Rattle.bugnet.specs.Headline.{Headline, ReplaysRun, PrintsRun, run_text, file_of_run}
 use Rattle.bugnet.proofs.Loads.{within}
 use Rattle.bugnet.proofs.Recorded.{size_of_file}
-use Rattle.bugnet.specs.Outside.{Wrote, SendStops, ToldRefusal, WithFiles, Gives, told_of, SameFiles, SameBut, KeptBoth, KeptFiles, replay_in}
-use Rattle.bugnet.specs.Run.{IsFree, Done, Stopped, Tells, own_err, own_out, IsFreeRefusal}
+use Rattle.bugnet.specs.Outside.{SendStops, ToldRefusal, WithFiles, Gives, told_of, SameFiles, KeptBoth, KeptFiles, replay_in}
+use Rattle.bugnet.specs.Run.{IsFree, Tells, own_err, own_out, IsFreeRefusal}
 use Rattle.bugnet.specs.declared.answer.Answer.{Answer}
-use Rattle.bugnet.specs.declared.answer.Answer.TheVariants.{Interval, Recorded}
+use Rattle.bugnet.specs.declared.answer.Answer.TheVariants.{Interval}
 use Rattle.bugnet.specs.declared.answer.Reading.{Reading}
 use Rattle.bugnet.specs.declared.interval.Outcome as ends
 use Rattle.bugnet.specs.declared.interval.Outcome.TheVariants as end

@@ -1,19 +1,16 @@
 -- What the program does to the outside.
-use Rattle.std.specs.Prelude.{◌≡◌, ◌≢◌, ◌≤◌, ◌⊎◌, ℕ, ◌==◌, List, [], ◌∷◌, ◌++◌, length, take, Option, Some, None, Result, Ok, Err, if◌then◌else◌}
-use Rattle.std.specs.Option.{option_map}
-use Rattle.std.specs.Io.KnownBytes.{Appends, Keeps}
+use Rattle.std.specs.Prelude.{◌≡◌, ◌≢◌, ◌≤◌, ◌⊎◌, ℕ, List, [], ◌∷◌, length, Option, Some, None, Result, Ok, Err}
+use Rattle.std.specs.Io.KnownBytes.{Appends}
 use Rattle.std.specs.declared.string.String.{String}
 use Rattle.std.specs.declared.vec.Vec.{Vec}
 use Rattle.std.specs.declared.alloc.Global.{Global}
 use Rattle.bn_outside.specs.Counts.{Counts, Rose}
 use Rattle.bn_outside.specs.Files.{Files}
 use Rattle.bn_outside.specs.Streams.{AppendsPart}
-use Rattle.bugnet.specs.Refusals.{name_at, status_of, line_of, IsOutside}
+use Rattle.bugnet.specs.Refusals.{status_of, line_of, IsOutside}
 use Rattle.bugnet.specs.Replayed.{Replayed, replayed}
 use Rattle.bugnet.specs.Commands.{Told, refused, printed, file_or}
-use Rattle.bugnet.specs.LogFile.{log_bytes}
 use Rattle.bugnet.specs.Texts.{summary_text}
-use Rattle.bugnet.specs.declared.interval.Outcome.{Outcome}
 use Rattle.bugnet.specs.declared.refusal.Refusal.{Refusal}
 use Rattle.bugnet.specs.declared.refusal.Refusal.TheVariants as why
 use Rattle.bugnet.specs.declared.answer.Answer.{Answer}

@@ -7,8 +7,8 @@ use Rattle.bn_base.specs.declared.end_mark.EndMark.{EndMark}
 use Rattle.bn_base.specs.declared.row.Row.{Row}
 use Rattle.bn_base.specs.declared.fault.Fault.{Fault}
 use Rattle.rv_meaning.specs.declared.asks.Want.{Want}
-use Rattle.rv_meaning.specs.declared.asks.Want.TheVariants.{System, Cut, Faulted}
-use Rattle.rv_meaning.specs.Execute.{Step, Quiet, Asks, step}
+use Rattle.rv_meaning.specs.declared.asks.Want.TheVariants.{System, Faulted}
+use Rattle.rv_meaning.specs.Execute.{Quiet, Asks, step}
 use Rattle.bugnet.specs.Rows.{built, row_of, rows_of, turn_ask, exit_mark, IsExit}
 use Rattle.bugnet.specs.declared.interval.Outcome.{Outcome}
 use Rattle.bugnet.specs.declared.interval.Outcome.TheVariants.{Done, EndDiffers}

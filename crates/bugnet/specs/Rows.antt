@@ -1,5 +1,5 @@
 -- A run of one hart that takes one turn, and its rows.
-use Rattle.std.specs.Prelude.{ℕ, zero, suc, ◌+◌, ◌-◌, ◌*◌, ◌^◌, ◌==◌, Bool, true, false, List, [], ◌∷◌, ◌++◌, replicate, slice_set, Option, Some, None, if◌then◌else◌}
+use Rattle.std.specs.Prelude.{ℕ, zero, suc, ◌==◌, Bool, true, false, List, [], ◌∷◌, replicate, slice_set, Option, Some, None, if◌then◌else◌}
 use Rattle.std.specs.Option.{unwrap_or}
 use Rattle.bn_base.specs.Programs.{Program, code_at}
 use Rattle.bn_base.specs.declared.state.HartState.{HartState}
@@ -9,8 +9,8 @@ use Rattle.bn_base.specs.declared.fault.Fault.TheVariants.{Illegal}
 use Rattle.rv_decode.specs.Table.{Instruction, decoded}
 use Rattle.rv_meaning.specs.declared.asks.Ask.{Ask}
 use Rattle.rv_meaning.specs.declared.asks.Want.{Want}
-use Rattle.rv_meaning.specs.declared.asks.Want.TheVariants.{Load, Store, LoadReserved, StoreConditional, Amo, System, Cut, Faulted}
-use Rattle.rv_meaning.specs.Execute.{Step, Quiet, Asks, reg, count_up, step, ask_of}
+use Rattle.rv_meaning.specs.declared.asks.Want.TheVariants.{System, Cut, Faulted}
+use Rattle.rv_meaning.specs.Execute.{Quiet, Asks, reg, count_up, step, ask_of}
 
 -- hart 0 of one before the run: its number in a0, the number of harts in a1, the end of memory in sp
 abbrev pub start_state : HartState

@@ -4,7 +4,6 @@ use Rattle.std.specs.Io.KnownBytes.{Appends}
 use Rattle.std.specs.declared.string.String.{String}
 use Rattle.std.specs.declared.alloc.Global.{Global}
 use Rattle.bn_outside.specs.Streams.{AppendsPart}
-use Rattle.bugnet.specs.Refusals.{status_of, line_of}
 use Rattle.bugnet.specs.Commands.{Told}
 use Rattle.bugnet.specs.Outside.{Wrote, ToldRefusal}
 use Rattle.bugnet.specs.declared.refusal.Refusal.{Refusal}

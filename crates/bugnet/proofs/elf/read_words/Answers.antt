@@ -1,4 +1,4 @@
-use Rattle.std.proofs.Common.{◌≡◌, ◌∙◌, ◌+◌, ◌*◌, ◌-◌, ◌++◌, ◌∷◌, [], List, ℕ, ap, arith}
+use Rattle.std.proofs.Common.{◌∙◌, ◌+◌, ◌*◌, ◌-◌, ◌++◌, ◌∷◌, [], List, ℕ, ap, arith}
 use Rattle.log_record.specs.Reading.{words_at}
 use Rattle.bugnet.proofs.Words.{words_at-more, words_at-done}
 use Rattle.bugnet.proofs.elf.read_words.Goals as goal

@@ -1,4 +1,4 @@
-use Rattle.std.proofs.Common.{◌≡◌, sym, ap, arith, ℕ, ◌-◌, ◌/◌, length, refl, List, ◌∙◌}
+use Rattle.std.proofs.Common.{◌≡◌, sym, ap, arith, ℕ, ◌-◌, ◌/◌, length, List}
 use Rattle.log_record.specs.Reading.{words_at}
 use Rattle.bugnet.specs.SmallElf.{words_of}
 use Rattle.bugnet.proofs.elf.words_in.Goals as goal

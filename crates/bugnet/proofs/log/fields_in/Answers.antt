@@ -1,4 +1,4 @@
-use Rattle.std.proofs.Common.{◌≡◌, ◌∙◌, ◌-◌, ap, List, ℕ, length, take, drop}
+use Rattle.std.proofs.Common.{◌∙◌, ◌-◌, ap, List, ℕ, length, take, drop}
 use Rattle.std.proofs.lemmas.List.{take_rest}
 use Rattle.bugnet.specs.LogFile.{kept_in}
 use Rattle.bugnet.proofs.log.fields_in.Goals as goal

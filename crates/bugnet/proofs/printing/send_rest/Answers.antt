@@ -1,4 +1,3 @@
-use Rattle.std.proofs.Common.{◌≡◌}
 use Rattle.bugnet.specs.Printed.{end_of_interval}
 use Rattle.bugnet.specs.Texts.{rows_text}
 use Rattle.bugnet.specs.Outside.{replay_in}

@@ -1,4 +1,4 @@
-use Rattle.std.proofs.Common.{◌≡◌, ℕ, suc, ◌+◌, ◌-◌, ◌≤◌, ap, subst, arith}
+use Rattle.std.proofs.Common.{◌+◌, ◌-◌, ap, subst, arith}
 use Rattle.std.specs.Prelude.{Ok}
 use Rattle.bn_base.specs.declared.end_mark.EndMark.{EndMark}
 use Rattle.bugnet.specs.Rows.{built}

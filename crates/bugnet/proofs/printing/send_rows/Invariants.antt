@@ -1,4 +1,4 @@
-use Rattle.std.proofs.Common.{◌≤◌, ◌-◌}
+use Rattle.std.proofs.Common.{◌-◌}
 use Rattle.bugnet.specs.Replayed.{replayed}
 use Rattle.bugnet.proofs.Prints.{SoFar}
 use Rattle.bugnet.specs.Outside.{replay_in}
