@@ -17,7 +17,7 @@ sub a b = wrap (a + (2 ^ 32 - b))
 abbrev pub signed_of : ℕ → ℤ
 signed_of a = cast_signed w32 a
 
--- the word that a signed number is in two's complement, modulo 2 ^ 32
+-- the word that a signed number is in two's complement, for numbers from -2 ^ 32 to 2 ^ 32 - 1
 abbrev pub bits_of : ℤ → ℕ
 bits_of z = cast_unsigned w32 z
 
