@@ -20,3 +20,5 @@ for kind in quiet mixed; do
 done
 "$ours" decode "$count"
 "$ours" races 5000000
+"$ours" ring 20000000
+"$ours" cache 20000000

@@ -5,11 +5,15 @@
 //! | `decode COUNT` | the decoder on so many words |
 //! | `meaning COUNT` | so many instructions of two loops, one with loads and stores |
 //! | `races COUNT` | the race log on so many accesses of single words |
+//! | `ring COUNT` | so many first loads that go through a full ring of records |
+//! | `cache COUNT` | so many touches of a hart's cache |
 #![tactic(auto)]
 
 mod decode_timing;
 mod meaning_timing;
 mod race_timing;
+mod ring_timing;
+mod touch_timing;
 
 use std::env;
 
@@ -32,6 +36,12 @@ fn main(rt: HostRuntime) -> anyhow::Result<()> {
     if layer == "races" && count > 0 && count < 1 << 40 {
         return race_timing::races(&rt, count);
     }
-    println!(rt; "bench LAYER COUNT, where LAYER is decode, meaning or races")?;
+    if layer == "ring" && count > 0 && count < 1 << 40 {
+        return ring_timing::records(&rt, count);
+    }
+    if layer == "cache" && count > 0 && count < 1 << 40 {
+        return touch_timing::touches(&rt, count);
+    }
+    println!(rt; "bench LAYER COUNT, where LAYER is decode, meaning, races, ring or cache")?;
     Ok(())
 }
