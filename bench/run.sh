@@ -22,3 +22,4 @@ done
 "$ours" races 5000000
 "$ours" ring 20000000
 "$ours" cache 20000000
+"$ours" file 6710886

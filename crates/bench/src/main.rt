@@ -7,9 +7,11 @@
 //! | `races COUNT` | the race log on so many accesses of single words |
 //! | `ring COUNT` | so many first loads that go through a full ring of records |
 //! | `cache COUNT` | so many touches of a hart's cache |
+//! | `file COUNT` | a log file with so many first loads, written and read |
 #![tactic(auto)]
 
 mod decode_timing;
+mod file_timing;
 mod meaning_timing;
 mod race_timing;
 mod ring_timing;
@@ -42,6 +44,9 @@ fn main(rt: HostRuntime) -> anyhow::Result<()> {
     if layer == "cache" && count > 0 && count < 1 << 40 {
         return touch_timing::touches(&rt, count);
     }
-    println!(rt; "bench LAYER COUNT, where LAYER is decode, meaning, races, ring or cache")?;
+    if layer == "file" && count > 0 {
+        return file_timing::files(&rt, count);
+    }
+    println!(rt; "bench LAYER COUNT, where LAYER is decode, meaning, races, ring, cache or file")?;
     Ok(())
 }

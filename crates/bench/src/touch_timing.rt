@@ -41,7 +41,7 @@ fn timed(rt: &HostRuntime, touches: u64, words: u32) -> anyhow::Result<()>
     Ok(())
 }
 
-/// Times so many touches of words that all find room in the cache, and of sixteen times as many.
+/// Times so many touches of words that all find room in the cache, and of 256 times as many.
 pub fn touches(rt: &HostRuntime, count: u64) -> anyhow::Result<()>
     requires { count < 2 ^ 40 }
 {

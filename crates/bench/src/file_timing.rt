@@ -1,0 +1,76 @@
+// The log file: bytes per second of a file of first loads that is written, and of one that is read.
+ghost use Rattle.std.specs.Prelude.{IsTrue};
+ghost use Rattle.log_record.specs.Spelling.{is_marked};
+
+use bn_base::{EndMark, RawSettings, Settings};
+use log_file::{read_file, write_file};
+use log_record::{Head, Record, write};
+use std::alloc::{AllocError, Global};
+use std::time::Instant;
+
+// The hart's exit.
+fn end(count: u64) -> Record
+    ensures { IsTrue (is_marked result) }
+{
+    let mark = EndMark {
+        ic: count,
+        reason: 3,
+        value: 5,
+    };
+    Record::End { hart: 0, mark }
+}
+
+// The bytes of so many first loads of a hart and of its end.
+fn kept(alloc: Global, count: u64) -> Result<Vec<u8>, AllocError> {
+    let load = write(&Record::FirstLoad {
+        hart: 0,
+        skip: 2,
+        value: 3,
+    });
+    let mut bytes = Vec::new(alloc);
+    for _ in 0..count {
+        bytes.extend_from_slice(load.as_slice())?;
+    }
+    bytes.extend_from_slice(write(&end(count)).as_slice())?;
+    Ok(bytes)
+}
+
+// Bytes per second.
+fn rate(bytes: usize, micros: u128) -> u64 {
+    let spent = u64::try_from(micros).unwrap_or(u64::MAX).max(1);
+    (bytes as u64).saturating_mul(1_000_000) / spent
+}
+
+/// Times the writing and the reading of a log file with so many first loads, 10 bytes each.
+pub fn files(rt: &HostRuntime, count: u64) -> anyhow::Result<()> {
+    let raw = RawSettings {
+        log_size: 1 << 28,
+        ..RawSettings::default()
+    };
+    let Ok(settings) = Settings::checked(&raw) else {
+        return Ok(());
+    };
+    let records = kept(rt.alloc(), count)?;
+    if records.len() > settings.log_size() as usize {
+        println!(rt; "a log holds at most 268435456 bytes")?;
+        return Ok(());
+    }
+    let head = Head {
+        settings,
+        digest: [0; 32],
+    };
+    let clock = Instant::now(rt)?;
+    let file = write_file(rt.alloc(), &head, 1, &records)?;
+    let written = rate(file.len(), clock.elapsed(rt)?.as_micros());
+    let clock = Instant::now(rt)?;
+    let log = read_file(rt.alloc(), &file);
+    let read = rate(file.len(), clock.elapsed(rt)?.as_micros());
+    match log {
+        Ok(log) => {
+            let found = log.records().len();
+            println!(rt; "file of {found} records: {written} bytes a second written, {read} read")?;
+        }
+        Err(error) => println!(rt; "file refused: {error}")?,
+    }
+    Ok(())
+}
