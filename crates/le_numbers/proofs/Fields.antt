@@ -47,30 +47,24 @@ unfolding number_at
 number_at-small width at bytes are = little_from-lt 0 width (drop at bytes) (AreBytes-drop at bytes are)
 
 -- where a field lies within the bytes, they go on there with the bytes of its number
-pub drop-number_at : (width at next : ℕ) (bytes : List ℕ) → AreBytes bytes → next ≤ length bytes → at + width ≡ next
-    → drop at bytes ≡ number_bytes width (number_at width at bytes) ++ drop next bytes
+pub drop-number_at : (width at : ℕ) (bytes : List ℕ) → AreBytes bytes → at + width ≤ length bytes
+    → drop at bytes ≡ number_bytes width (number_at width at bytes) ++ drop (at + width) bytes
 unfolding number_at number_bytes
-drop-number_at width at next bytes are within e =
+drop-number_at width at bytes are within =
     let long : width ≤ length (drop at bytes) = omega (arith, length-drop at bytes) in
     sym (take-append-drop width (drop at bytes))
-    ∙ ap₂ (λ (xs ys : List ℕ). xs ++ ys) (sym (spelled width (drop at bytes) (AreBytes-drop at bytes are) long)) (drop-drop width at bytes ∙ ap (λ (k : ℕ). drop k bytes) e)
+    ∙ ap₂ (λ (xs ys : List ℕ). xs ++ ys) (sym (spelled width (drop at bytes) (AreBytes-drop at bytes are) long)) (drop-drop width at bytes)
 
--- what is read where a number's bytes stand
-pub record ReadsBack (width at next : ℕ) (bytes : List ℕ) (n : ℕ) (rest : List ℕ) : Type 0 where
-  pub number : number_at width at bytes ≡ n
-  pub behind : drop next bytes ≡ rest
-
-pub reads_back : (width at next : ℕ) (bytes : List ℕ) (n : ℕ) (rest : List ℕ) → n < 256 ^ width → at + width ≡ next → drop at bytes ≡ number_bytes width n ++ rest
-    → ReadsBack width at next bytes n rest
+-- a number is read where its bytes stand, and what follows stands behind them
+pub reads_back : (width at n : ℕ) (bytes rest : List ℕ) → n < 256 ^ width → drop at bytes ≡ number_bytes width n ++ rest → (number_at width at bytes ≡ n) × (drop (at + width) bytes ≡ rest)
 unfolding number_at number_bytes
-reads_back width at next bytes n rest small e there = record {
-  number = ap (little_from 0 width) there ∙ little_number-reads_back width n rest small;
-  behind = ap (λ (k : ℕ). drop k bytes) (sym e) ∙ sym (drop-drop width at bytes) ∙ ap (drop width) there ∙ drop_at (bytes_low_first 0 width n) rest width (length-bytes_low_first 0 width n);
-}
+reads_back width at n bytes rest small there = (
+  ap (little_from 0 width) there ∙ little_number-reads_back width n rest small,
+  sym (drop-drop width at bytes) ∙ ap (drop width) there ∙ drop_at (bytes_low_first 0 width n) rest width (length-bytes_low_first 0 width n),
+)
 
 pub number_at-written : (width n : ℕ) (front rest : List ℕ) → n < 256 ^ width → number_at width (length front) (front ++ number_bytes width n ++ rest) ≡ n
 number_at-written width n front rest small =
     let there : drop (length front) (front ++ number_bytes width n ++ rest) ≡ number_bytes width n ++ rest =
     ap (drop (length front)) (append_assoc front (number_bytes width n) rest) ∙ drop_at front (number_bytes width n ++ rest) (length front) refl in
-    let back = reads_back width (length front) (length front + width) (front ++ number_bytes width n ++ rest) n rest small refl there in
-    back.number
+    (reads_back width (length front) n (front ++ number_bytes width n ++ rest) rest small there).0

@@ -1,15 +1,26 @@
 // What reading and writing numbers have to do with each other.
-ghost use Rattle.std.specs.Prelude.{◌≡◌, ◌≤◌, ◌<◌, ◌^◌, ◌+◌, ◌++◌, ℕ, List, [], ◌∷◌, length, drop};
-ghost use Rattle.le_numbers.specs.Numbers.{number_at, number_bytes, AreBytes};
+ghost use Rattle.std.specs.Prelude.{◌≡◌, ◌<◌, ◌^◌, ◌++◌, ℕ, List, [], ◌∷◌, length};
+ghost use Rattle.le_numbers.specs.Numbers.{number_at, number_bytes};
+ghost use Rattle.le_numbers.specs.Laws.{HaveTheirWidth, AreRead, AreWritten, Fit};
 
-/// A number that is written is read back, whatever stands before it and behind it.
-pub fn written_numbers_are_read()
-    ensures { (width n : ℕ) (front rest : List ℕ) → n < 256 ^ width → number_at width (length front) (front ++ number_bytes width n ++ rest) ≡ n }
+/// A number has as many bytes as its width says. It tells how long a field is, and where the next
+/// begins.
+pub fn numbers_have_their_width()
+    ensures { HaveTheirWidth }
 {}
 
-/// Bytes that are read are the bytes of the number that they give.
+/// A number that is written is read back, whatever stands before it and behind it; and where its
+/// bytes stand at a place, what follows stands behind them. It reads a field after the other.
+pub fn written_numbers_are_read()
+    ensures front { (width n : ℕ) (front rest : List ℕ) → n < 256 ^ width → number_at width (length front) (front ++ number_bytes width n ++ rest) ≡ n }
+    ensures place { AreRead }
+{}
+
+/// Bytes that are read are the bytes of the number that they give, and the number fits its width.
+/// It says what fields were written where only their bytes are known.
 pub fn read_numbers_are_written()
-    ensures { (width at : ℕ) (bytes : List ℕ) → AreBytes bytes → at + width ≤ length bytes → drop at bytes ≡ number_bytes width (number_at width at bytes) ++ drop (at + width) bytes }
+    ensures bytes { AreWritten }
+    ensures fit { Fit }
 {}
 
 /// The definition on three bytes: 2 * 256 + 1 stands behind the first.

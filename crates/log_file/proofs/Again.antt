@@ -11,12 +11,12 @@ use Rattle.bn_base.specs.declared.settings.RawSettings.{RawSettings}
 use Rattle.bn_base.specs.Ranges.{IsSetting, is_between, is_small_power, is_memory_size, first_bad}
 use Rattle.std.specs.Int.{is_power_of_two}
 use Rattle.le_numbers.specs.Numbers.{number_at, number_bytes}
-use Rattle.le_numbers.proofs.Fields.{length-number_bytes, reads_back}
+use Rattle.le_numbers.specs.Laws.{HaveTheirWidth, AreRead}
 use Rattle.log_record.specs.declared.head.Head.{Head}
 use Rattle.log_record.specs.declared.record.Record.{Record}
 use Rattle.log_record.specs.declared.record.Record.TheVariants.{Header, FirstLoad, ScOk, ScFailed, Edge, End}
 use Rattle.log_record.specs.Spelling.{bytes_of, Fits}
-use Rattle.log_record.proofs.Records.{one_record}
+use Rattle.log_record.specs.Laws.{BeginNoOther}
 use Rattle.log_order.specs.declared.walk.OrderBreak.{OrderBreak}
 use Rattle.log_order.specs.Order.{order_break, broken_by}
 use Rattle.log_order.specs.Content.{Content, content, IsContent}
@@ -25,6 +25,7 @@ use Rattle.log_file.specs.declared.error.FileError.TheVariants.{Short, BadMagic,
 use Rattle.log_file.specs.Layout.{magic, signed_bytes, file_bytes, settings_in, head_in, dropped_in, size_in}
 use Rattle.log_file.specs.Faults.{head_fault, signed_of, file_fault}
 use Rattle.log_file.specs.File.{IsRecordsFault, IsRefusal}
+use Rattle.log_file.specs.Laws.{SayOneThing, AreNotRefused}
 use Rattle.log_file.proofs.Rows.{ArePrefixFree, no_stop, one_row}
 use Rattle.log_file.proofs.Heads.{spelled, signed_is_spelled}
 
@@ -37,72 +38,73 @@ pub record Again (bytes : List ℕ) (h : Head) (dropped n : ℕ) (rest : List �
   pub n_is : size_in bytes ≡ n
   pub rest_is : drop 92 bytes ≡ rest
 
-pub spelled_again : (h : Head) (dropped n : ℕ) (rest bytes : List ℕ) → IsSetting h.settings → length h.digest ≡ 32 → dropped < 2 ^ 64 → n < 2 ^ 32 → bytes ≡ spelled h dropped n rest → Again bytes h dropped n rest
+pub spelled_again : AreRead → (h : Head) (dropped n : ℕ) (rest bytes : List ℕ) → IsSetting h.settings → length h.digest ≡ 32 → dropped < 2 ^ 64 → n < 2 ^ 32 → bytes ≡ spelled h dropped n rest → Again bytes h dropped n rest
 unfolding spelled magic
-spelled_again h dropped n rest bytes is len small fits e =
-    let s8 = reads_back 4 8 12 bytes 1 _ (omega arith) refl (ap (drop 8) e) in
-    let s12 = reads_back 4 12 16 bytes h.settings.harts _ (omega (arith, is.harts_high)) refl s8.behind in
-    let s16 = reads_back 4 16 20 bytes h.settings.interval _ (omega (arith, is.interval_high)) refl s12.behind in
-    let s20 = reads_back 8 20 28 bytes h.settings.limit _ (omega (arith, is.limit_high)) refl s16.behind in
-    let s28 = reads_back 4 28 32 bytes h.settings.log_size _ (omega (arith, is.log_size_high)) refl s20.behind in
-    let s32 = reads_back 4 32 36 bytes h.settings.memory _ (omega (arith, is.memory_high)) refl s28.behind in
-    let s36 = reads_back 4 36 40 bytes h.settings.sets _ (omega (arith, is.sets_high)) refl s32.behind in
-    let s40 = reads_back 4 40 44 bytes h.settings.ways _ (omega (arith, is.ways_high)) refl s36.behind in
-    let s44 = reads_back 4 44 48 bytes h.settings.line _ (omega (arith, is.line_high)) refl s40.behind in
-    let digest : take 32 (drop 48 bytes) ≡ h.digest = ap (take 32) s44.behind ∙ take_at h.digest _ 32 len in
-    let later = sym (drop-drop 32 48 bytes) ∙ ap (drop 32) s44.behind ∙ drop_at h.digest _ 32 len in
-    let s80 = reads_back 8 80 88 bytes dropped _ small refl later in
-    let s88 = reads_back 4 88 92 bytes n rest fits refl s80.behind in
+spelled_again read h dropped n rest bytes is len small fits e =
+    let s8 = read 4 8 1 bytes _ (omega arith) (ap (drop 8) e) in
+    let s12 = read 4 12 h.settings.harts bytes _ (omega (arith, is.harts_high)) s8.1 in
+    let s16 = read 4 16 h.settings.interval bytes _ (omega (arith, is.interval_high)) s12.1 in
+    let s20 = read 8 20 h.settings.limit bytes _ (omega (arith, is.limit_high)) s16.1 in
+    let s28 = read 4 28 h.settings.log_size bytes _ (omega (arith, is.log_size_high)) s20.1 in
+    let s32 = read 4 32 h.settings.memory bytes _ (omega (arith, is.memory_high)) s28.1 in
+    let s36 = read 4 36 h.settings.sets bytes _ (omega (arith, is.sets_high)) s32.1 in
+    let s40 = read 4 40 h.settings.ways bytes _ (omega (arith, is.ways_high)) s36.1 in
+    let s44 = read 4 44 h.settings.line bytes _ (omega (arith, is.line_high)) s40.1 in
+    let digest : take 32 (drop 48 bytes) ≡ h.digest = ap (take 32) s44.1 ∙ take_at h.digest _ 32 len in
+    let later = sym (drop-drop 32 48 bytes) ∙ ap (drop 32) s44.1 ∙ drop_at h.digest _ 32 len in
+    let s80 = read 8 80 dropped bytes _ small later in
+    let s88 = read 4 88 n bytes rest fits s80.1 in
     record {
       begins = ap (take 8) e;
-      version = s8.number;
-      head = rw (s12.number, s16.number, s20.number, s28.number, s32.number, s36.number, s40.number, s44.number, digest) refl;
-      dropped_is = s80.number;
-      n_is = s88.number;
-      rest_is = s88.behind;
+      version = s8.0;
+      head = rw (s12.0, s16.0, s20.0, s28.0, s32.0, s36.0, s40.0, s44.0, digest) refl;
+      dropped_is = s80.0;
+      n_is = s88.0;
+      rest_is = s88.1;
     }
 
-number_first : (width n : ℕ) (rest : List ℕ) → length (number_bytes width n ++ rest) ≡ width + length rest
-number_first width n rest = omega (arith, length-append (number_bytes width n) rest, length-number_bytes width n)
+module _ (long : HaveTheirWidth) where
+  number_first : (width n : ℕ) (rest : List ℕ) → length (number_bytes width n ++ rest) ≡ width + length rest
+  number_first width n rest = omega (arith, length-append (number_bytes width n) rest, long width n)
 
-length-spelled : (h : Head) (dropped n : ℕ) (rest : List ℕ) → length (spelled h dropped n rest) ≡ 60 + length h.digest + length rest
-unfolding spelled magic
-length-spelled h dropped n rest =
-    let s = h.settings in
-    let t88 = number_bytes 4 n ++ rest in
-    let t80 = number_bytes 8 dropped ++ t88 in
-    let t48 = h.digest ++ t80 in
-    let t44 = number_bytes 4 s.line ++ t48 in
-    let t40 = number_bytes 4 s.ways ++ t44 in
-    let t36 = number_bytes 4 s.sets ++ t40 in
-    let t32 = number_bytes 4 s.memory ++ t36 in
-    let t28 = number_bytes 4 s.log_size ++ t32 in
-    let t20 = number_bytes 8 s.limit ++ t28 in
-    let t16 = number_bytes 4 s.interval ++ t20 in
-    let t12 = number_bytes 4 s.harts ++ t16 in
-    omega (
-      arith,
-      number_first 4 1 t12,
-      number_first 4 s.harts t16,
-      number_first 4 s.interval t20,
-      number_first 8 s.limit t28,
-      number_first 4 s.log_size t32,
-      number_first 4 s.memory t36,
-      number_first 4 s.sets t40,
-      number_first 4 s.ways t44,
-      number_first 4 s.line t48,
-      length-append h.digest t80,
-      number_first 8 dropped t88,
-      number_first 4 n rest,
-    )
+  length-spelled : (h : Head) (dropped n : ℕ) (rest : List ℕ) → length (spelled h dropped n rest) ≡ 60 + length h.digest + length rest
+  unfolding spelled magic
+  length-spelled h dropped n rest =
+      let s = h.settings in
+      let t88 = number_bytes 4 n ++ rest in
+      let t80 = number_bytes 8 dropped ++ t88 in
+      let t48 = h.digest ++ t80 in
+      let t44 = number_bytes 4 s.line ++ t48 in
+      let t40 = number_bytes 4 s.ways ++ t44 in
+      let t36 = number_bytes 4 s.sets ++ t40 in
+      let t32 = number_bytes 4 s.memory ++ t36 in
+      let t28 = number_bytes 4 s.log_size ++ t32 in
+      let t20 = number_bytes 8 s.limit ++ t28 in
+      let t16 = number_bytes 4 s.interval ++ t20 in
+      let t12 = number_bytes 4 s.harts ++ t16 in
+      omega (
+        arith,
+        number_first 4 1 t12,
+        number_first 4 s.harts t16,
+        number_first 4 s.interval t20,
+        number_first 8 s.limit t28,
+        number_first 4 s.log_size t32,
+        number_first 4 s.memory t36,
+        number_first 4 s.sets t40,
+        number_first 4 s.ways t44,
+        number_first 4 s.line t48,
+        length-append h.digest t80,
+        number_first 8 dropped t88,
+        number_first 4 n rest,
+      )
 
 -- the bytes of a log's records are fewer than a field of four bytes counts
 pub small_size : (c : Content) → IsContent c → length (flat_map bytes_of c.records) < 2 ^ 32
 small_size c is = omega (arith, is.bound, is.settings.log_size_high)
 
-pub content_again : (c : Content) → IsContent c → Again (signed_bytes c.head c.dropped (flat_map bytes_of c.records)) c.head c.dropped (length (flat_map bytes_of c.records)) (flat_map bytes_of c.records)
-content_again c is =
-    spelled_again c.head c.dropped (length (flat_map bytes_of c.records)) (flat_map bytes_of c.records) (signed_bytes c.head c.dropped (flat_map bytes_of c.records))
+pub content_again : AreRead → (c : Content) → IsContent c → Again (signed_bytes c.head c.dropped (flat_map bytes_of c.records)) c.head c.dropped (length (flat_map bytes_of c.records)) (flat_map bytes_of c.records)
+content_again read c is =
+    spelled_again read c.head c.dropped (length (flat_map bytes_of c.records)) (flat_map bytes_of c.records) (signed_bytes c.head c.dropped (flat_map bytes_of c.records))
     is.settings is.digest is.dropped (small_size c is) (signed_is_spelled c.head c.dropped (flat_map bytes_of c.records))
 
 -- ---- the head
@@ -140,9 +142,9 @@ abbrev signed_for : Content → List ℕ
 signed_for c = signed_bytes c.head c.dropped (flat_map bytes_of c.records)
 
 -- a head that is written has no fault
-pub no_fault_again : (c : Content) → IsContent c → head_fault (signed_for c) (sha256 (signed_for c)) ≡ None
-no_fault_again c is =
-    let a = content_again c is in
+pub no_fault_again : AreRead → (c : Content) → IsContent c → head_fault (signed_for c) (sha256 (signed_for c)) ≡ None
+no_fault_again read c is =
+    let a = content_again read c is in
     let long : size_in (signed_for c) ≡ length (signed_for c) - 92 = a.n_is ∙ sym (ap length a.rest_is) ∙ length-drop 92 (signed_for c) in
     let settings : settings_in (signed_for c) ≡ c.head.settings = ap (λ (h : Head). h.settings) a.head in
     let ranges : first_bad (settings_in (signed_for c)) ≡ None = ap first_bad settings ∙ none_bad c.head.settings is.settings in
@@ -159,8 +161,8 @@ some_bytes (ScFailed h) fits = omega arith
 some_bytes (Edge h ic s j) fits = omega arith
 some_bytes (End h mark) fits = omega arith
 
-pub records_free : ArePrefixFree bytes_of Fits
-records_free = record { some = some_bytes; one = λ r s x y fr fs e. one_record r s x y fr.fields fs.fields e }
+pub records_free : BeginNoOther → ArePrefixFree bytes_of Fits
+records_free alone = record { some = some_bytes; one = λ r s x y fr fs e. alone r s x y fr.fields fs.fields e }
 
 abbrev unbroken : Option OrderBreak
 unbroken = None
@@ -174,18 +176,18 @@ faultfree = None
 no_error : (e : FileError) → faultfree ≡ Some e → ⊥
 no_error e h = cc
 
-records_fault_again : (c : Content) → IsContent c → (e : FileError) → IsRecordsFault c.head c.dropped (flat_map bytes_of c.records) e → e ≡ OutOfMemory
-records_fault_again c is (Short n) x = absurd x
-records_fault_again c is BadMagic x = absurd x
-records_fault_again c is (BadVersion found) x = absurd x
-records_fault_again c is (BadHead field value) x = absurd x
-records_fault_again c is (LengthDiffers said found) x = absurd x
-records_fault_again c is (DigestDiffers kept found) x = absurd x
-records_fault_again c is (BadRecord place) x = absurd (no_stop bytes_of Fits records_free c.records x.before x.rest is.fit x.fit x.parts x.more x.none)
-records_fault_again c is (BadOrder place rule) x =
-    let same = one_row bytes_of Fits records_free c.records x.records is.fit x.fit x.parts in
+records_fault_again : BeginNoOther → (c : Content) → IsContent c → (e : FileError) → IsRecordsFault c.head c.dropped (flat_map bytes_of c.records) e → e ≡ OutOfMemory
+records_fault_again alone c is (Short n) x = absurd x
+records_fault_again alone c is BadMagic x = absurd x
+records_fault_again alone c is (BadVersion found) x = absurd x
+records_fault_again alone c is (BadHead field value) x = absurd x
+records_fault_again alone c is (LengthDiffers said found) x = absurd x
+records_fault_again alone c is (DigestDiffers kept found) x = absurd x
+records_fault_again alone c is (BadRecord place) x = absurd (no_stop bytes_of Fits (records_free alone) c.records x.before x.rest is.fit x.fit x.parts x.more x.none)
+records_fault_again alone c is (BadOrder place rule) x =
+    let same = one_row bytes_of Fits (records_free alone) c.records x.records is.fit x.fit x.parts in
     absurd (no_break (order_break place rule) (sym is.order ∙ ap (broken_by c.head.settings c.dropped) same ∙ x.first))
-records_fault_again c is OutOfMemory x = refl
+records_fault_again alone c is OutOfMemory x = refl
 
 -- ---- the file
 
@@ -202,11 +204,11 @@ digest_again c =
     ap (λ (k : ℕ). drop k (s ++ sha256 s)) n ∙ drop_at s (sha256 s) (length s) refl
 
 -- the head of a file has 92 bytes
-long_signed : (c : Content) → IsContent c → 92 ≤ length (signed_for c)
-long_signed c is = omega (arith, ap length (signed_is_spelled c.head c.dropped (flat_map bytes_of c.records)), length-spelled c.head c.dropped (length (flat_map bytes_of c.records)) (flat_map bytes_of c.records), is.digest)
+long_signed : HaveTheirWidth → (c : Content) → IsContent c → 92 ≤ length (signed_for c)
+long_signed long c is = omega (arith, ap length (signed_is_spelled c.head c.dropped (flat_map bytes_of c.records)), length-spelled long c.head c.dropped (length (flat_map bytes_of c.records)) (flat_map bytes_of c.records), is.digest)
 
-long_file : (c : Content) → IsContent c → 124 ≤ length (file_bytes c)
-long_file c is = omega (arith, length-append (signed_for c) (sha256 (signed_for c)), length-sha256 (signed_for c), long_signed c is)
+long_file : HaveTheirWidth → (c : Content) → IsContent c → 124 ≤ length (file_bytes c)
+long_file long c is = omega (arith, length-append (signed_for c) (sha256 (signed_for c)), length-sha256 (signed_for c), long_signed long c is)
 
 pub no_file_fault : (bytes : List ℕ) → 124 ≤ length bytes → head_fault (signed_of bytes) (drop (length bytes - 32) bytes) ≡ None → file_fault bytes ≡ None
 no_file_fault bytes le h = rw (le-ltb _ _ le) h
@@ -219,28 +221,29 @@ at_content c e a x =
     (subst (λ (t : List ℕ). IsRecordsFault (head_in (signed_for c)) (dropped_in (signed_for c)) t e) a.rest_is x))
 
 -- a file that is written is refused only for want of memory
-pub refused_again : (c : Content) → IsContent c → (e : FileError) → IsRefusal (file_bytes c) e → e ≡ OutOfMemory
-refused_again c is e x =
-    let a = content_again c is in
-    let fault : head_fault (signed_of (file_bytes c)) (drop (length (file_bytes c) - 32) (file_bytes c)) ≡ None = rw (signed_again c, digest_again c) (no_fault_again c is) in
-    let long : 124 ≤ length (file_bytes c) = long_file c is in
+pub refused_again : HaveTheirWidth → AreRead → BeginNoOther → (c : Content) → IsContent c → (e : FileError) → IsRefusal (file_bytes c) e → e ≡ OutOfMemory
+refused_again long read alone c is e x =
+    let a = content_again read c is in
+    let fault : head_fault (signed_of (file_bytes c)) (drop (length (file_bytes c) - 32) (file_bytes c)) ≡ None = rw (signed_again c, digest_again c) (no_fault_again read c is) in
+    let enough : 124 ≤ length (file_bytes c) = long_file long c is in
     elim x [
-      | inl one ↦ absurd (no_error e (sym (no_file_fault (file_bytes c) long fault) ∙ one))
-      | inr two ↦ records_fault_again c is e (at_content c e a (subst (λ (t : List ℕ). IsRecordsFault (head_in t) (dropped_in t) (drop 92 t) e) (signed_again c) two.1))
+      | inl one ↦ absurd (no_error e (sym (no_file_fault (file_bytes c) enough fault) ∙ one))
+      | inr two ↦ records_fault_again alone c is e (at_content c e a (subst (λ (t : List ℕ). IsRecordsFault (head_in t) (dropped_in t) (drop 92 t) e) (signed_again c) two.1))
     ]
 
 -- two logs with one spelling are one
-pub one_content : (c d : Content) → IsContent c → IsContent d → file_bytes c ≡ file_bytes d → c ≡ d
-one_content c d ic id e =
+pub one_content : AreRead → BeginNoOther → (c d : Content) → IsContent c → IsContent d → file_bytes c ≡ file_bytes d → c ≡ d
+one_content read alone c d ic id e =
     let s : signed_for c ≡ signed_for d = sym (signed_again c) ∙ ap signed_of e ∙ signed_again d in
-    let a = content_again c ic in
-    let b = content_again d id in
+    let a = content_again read c ic in
+    let b = content_again read d id in
     let head : c.head ≡ d.head = sym a.head ∙ ap head_in s ∙ b.head in
     let dropped : c.dropped ≡ d.dropped = sym a.dropped_is ∙ ap dropped_in s ∙ b.dropped_is in
-    let rs = one_row bytes_of Fits records_free c.records d.records ic.fit id.fit (sym a.rest_is ∙ ap (drop 92) s ∙ b.rest_is) in
+    let rs = one_row bytes_of Fits (records_free alone) c.records d.records ic.fit id.fit (sym a.rest_is ∙ ap (drop 92) s ∙ b.rest_is) in
     ap (λ (h : Head). content h c.dropped c.records) head ∙ ap (λ (n : ℕ). content d.head n c.records) dropped ∙ ap (content d.head d.dropped) rs
 
-pub read_only : (bytes : List ℕ) (r : Result Content FileError) → IfOk r (λ c. IsContent c) → IfOk r (λ c. bytes ≡ file_bytes c) → IfErr r (λ e. IsRefusal bytes e) → (d : Content) → IsContent d → bytes ≡ file_bytes d
+-- a file is read as the log whose spelling it is, since it is that of no other, and has no cause for a refusal
+pub read_only : SayOneThing → AreNotRefused → (bytes : List ℕ) (r : Result Content FileError) → IfOk r (λ c. IsContent c) → IfOk r (λ c. bytes ≡ file_bytes c) → IfErr r (λ e. IsRefusal bytes e) → (d : Content) → IsContent d → bytes ≡ file_bytes d
     → MatchResult r (λ c. c ≡ d) (λ e. e ≡ OutOfMemory)
-read_only bytes (Ok c) ic f x d id e = one_content c d ic id (sym f ∙ e)
-read_only bytes (Err y) ic f x d id e = refused_again d id y (subst (λ (b : List ℕ). IsRefusal b y) e x)
+read_only same taken bytes (Ok c) ic f x d id e = same c d ic id (sym f ∙ e)
+read_only same taken bytes (Err y) ic f x d id e = taken d id y (subst (λ (b : List ℕ). IsRefusal b y) e x)

@@ -11,7 +11,7 @@ use Rattle.bn_base.specs.declared.settings.BadSetting.{BadSetting}
 use Rattle.bn_base.specs.declared.settings.RawSettings.{RawSettings}
 use Rattle.bn_base.specs.Ranges.{first_bad}
 use Rattle.le_numbers.specs.Numbers.{number_at, number_bytes, AreBytes}
-use Rattle.le_numbers.proofs.Fields.{drop-number_at}
+use Rattle.le_numbers.specs.Laws.{AreWritten}
 use Rattle.log_record.specs.declared.head.Head.{Head}
 use Rattle.log_record.specs.Spelling.{bytes_of}
 use Rattle.log_order.specs.Content.{Content}
@@ -43,22 +43,22 @@ signed_is_spelled h dropped records =
     (number_bytes 4 s.line) (h.digest ++ (number_bytes 8 dropped ++ (number_bytes 4 (length records) ++ records)))
 
 -- bytes with the right beginning are a head's, and those after it
-pub head_parts : (bytes : List ℕ) → AreBytes bytes → 92 ≤ length bytes → take 8 bytes ≡ magic → number_at 4 8 bytes ≡ 1
+pub head_parts : AreWritten → (bytes : List ℕ) → AreBytes bytes → 92 ≤ length bytes → take 8 bytes ≡ magic → number_at 4 8 bytes ≡ 1
     → bytes ≡ spelled (head_in bytes) (dropped_in bytes) (size_in bytes) (drop 92 bytes)
 unfolding spelled
-head_parts bytes are long begins version =
-    let t88 = drop-number_at 4 88 92 bytes are long refl in
-    let t80 = drop-number_at 8 80 88 bytes are (omega arith) refl ∙ ap (λ (t : List ℕ). number_bytes 8 (number_at 8 80 bytes) ++ t) t88 in
+head_parts written bytes are long begins version =
+    let t88 = written 4 88 bytes are long in
+    let t80 = written 8 80 bytes are (omega arith) ∙ ap (λ (t : List ℕ). number_bytes 8 (number_at 8 80 bytes) ++ t) t88 in
     let t48 = sym (take-append-drop 32 (drop 48 bytes)) ∙ ap (λ (t : List ℕ). take 32 (drop 48 bytes) ++ t) (drop-drop 32 48 bytes ∙ t80) in
-    let t44 = drop-number_at 4 44 48 bytes are (omega arith) refl ∙ ap (λ (t : List ℕ). number_bytes 4 (number_at 4 44 bytes) ++ t) t48 in
-    let t40 = drop-number_at 4 40 44 bytes are (omega arith) refl ∙ ap (λ (t : List ℕ). number_bytes 4 (number_at 4 40 bytes) ++ t) t44 in
-    let t36 = drop-number_at 4 36 40 bytes are (omega arith) refl ∙ ap (λ (t : List ℕ). number_bytes 4 (number_at 4 36 bytes) ++ t) t40 in
-    let t32 = drop-number_at 4 32 36 bytes are (omega arith) refl ∙ ap (λ (t : List ℕ). number_bytes 4 (number_at 4 32 bytes) ++ t) t36 in
-    let t28 = drop-number_at 4 28 32 bytes are (omega arith) refl ∙ ap (λ (t : List ℕ). number_bytes 4 (number_at 4 28 bytes) ++ t) t32 in
-    let t20 = drop-number_at 8 20 28 bytes are (omega arith) refl ∙ ap (λ (t : List ℕ). number_bytes 8 (number_at 8 20 bytes) ++ t) t28 in
-    let t16 = drop-number_at 4 16 20 bytes are (omega arith) refl ∙ ap (λ (t : List ℕ). number_bytes 4 (number_at 4 16 bytes) ++ t) t20 in
-    let t12 = drop-number_at 4 12 16 bytes are (omega arith) refl ∙ ap (λ (t : List ℕ). number_bytes 4 (number_at 4 12 bytes) ++ t) t16 in
-    let t8 = drop-number_at 4 8 12 bytes are (omega arith) refl ∙ ap (λ (n : ℕ). number_bytes 4 n ++ drop 12 bytes) version ∙ ap (λ (t : List ℕ). number_bytes 4 1 ++ t) t12 in
+    let t44 = written 4 44 bytes are (omega arith) ∙ ap (λ (t : List ℕ). number_bytes 4 (number_at 4 44 bytes) ++ t) t48 in
+    let t40 = written 4 40 bytes are (omega arith) ∙ ap (λ (t : List ℕ). number_bytes 4 (number_at 4 40 bytes) ++ t) t44 in
+    let t36 = written 4 36 bytes are (omega arith) ∙ ap (λ (t : List ℕ). number_bytes 4 (number_at 4 36 bytes) ++ t) t40 in
+    let t32 = written 4 32 bytes are (omega arith) ∙ ap (λ (t : List ℕ). number_bytes 4 (number_at 4 32 bytes) ++ t) t36 in
+    let t28 = written 4 28 bytes are (omega arith) ∙ ap (λ (t : List ℕ). number_bytes 4 (number_at 4 28 bytes) ++ t) t32 in
+    let t20 = written 8 20 bytes are (omega arith) ∙ ap (λ (t : List ℕ). number_bytes 8 (number_at 8 20 bytes) ++ t) t28 in
+    let t16 = written 4 16 bytes are (omega arith) ∙ ap (λ (t : List ℕ). number_bytes 4 (number_at 4 16 bytes) ++ t) t20 in
+    let t12 = written 4 12 bytes are (omega arith) ∙ ap (λ (t : List ℕ). number_bytes 4 (number_at 4 12 bytes) ++ t) t16 in
+    let t8 = written 4 8 bytes are (omega arith) ∙ ap (λ (n : ℕ). number_bytes 4 n ++ drop 12 bytes) version ∙ ap (λ (t : List ℕ). number_bytes 4 1 ++ t) t12 in
     sym (take-append-drop 8 bytes) ∙ ap (λ (f : List ℕ). f ++ drop 8 bytes) begins ∙ ap (λ (t : List ℕ). magic ++ t) t8
 
 passed : (b : Bool) (e : FileError) (r : Option FileError) → cond (not b) (Some e) r ≡ None → (b ≡ true) × (r ≡ None)
@@ -97,11 +97,11 @@ no_fault signed kept h =
     record { begins = same_bytes _ _ a.0; version = eqb-true _ _ b.0; settings = c.0; within = ltb-false _ _ w.0; size = eqb-true _ _ d.0; digest = same_bytes _ _ e.0 }
 
 -- the bytes of a head without a fault are those that are written for it
-pub signed_is : (signed kept : List ℕ) → AreBytes signed → 92 ≤ length signed → head_fault signed kept ≡ None → signed ≡ signed_bytes (head_in signed) (dropped_in signed) (drop 92 signed)
-signed_is signed kept are long h =
+pub signed_is : AreWritten → (signed kept : List ℕ) → AreBytes signed → 92 ≤ length signed → head_fault signed kept ≡ None → signed ≡ signed_bytes (head_in signed) (dropped_in signed) (drop 92 signed)
+signed_is written signed kept are long h =
     let p = no_fault signed kept h in
     let n : size_in signed ≡ length (drop 92 signed) = p.size ∙ sym (length-drop 92 signed) in
-    head_parts signed are long p.begins p.version ∙ ap (λ (k : ℕ). spelled (head_in signed) (dropped_in signed) k (drop 92 signed)) n
+    head_parts written signed are long p.begins p.version ∙ ap (λ (k : ℕ). spelled (head_in signed) (dropped_in signed) k (drop 92 signed)) n
     ∙ sym (signed_is_spelled (head_in signed) (dropped_in signed) (drop 92 signed))
 
 -- the records of a file without a fault in its head have at most log-size bytes
@@ -111,11 +111,11 @@ records_bound signed kept settings h is =
     omega (arith, p.within, p.size, length-drop 92 signed, ap (λ (s : RawSettings). s.log_size) is)
 
 -- the bytes of a file are the spelling of what stands at the places of its fields
-pub is_file : (signed kept : List ℕ) (c : Content) → AreBytes signed → 92 ≤ length signed → head_fault signed kept ≡ None → HasFields signed c → signed ++ kept ≡ file_bytes c
-is_file signed kept c are long h has =
+pub is_file : AreWritten → (signed kept : List ℕ) (c : Content) → AreBytes signed → 92 ≤ length signed → head_fault signed kept ≡ None → HasFields signed c → signed ++ kept ≡ file_bytes c
+is_file written signed kept c are long h has =
     let p = no_fault signed kept h in
     let whole : signed ≡ signed_bytes c.head c.dropped (flat_map bytes_of c.records) =
-    signed_is signed kept are long h ∙ ap (λ (x : Head). signed_bytes x (dropped_in signed) (drop 92 signed)) (sym has.head)
+    signed_is written signed kept are long h ∙ ap (λ (x : Head). signed_bytes x (dropped_in signed) (drop 92 signed)) (sym has.head)
     ∙ ap (λ (d : ℕ). signed_bytes c.head d (drop 92 signed)) (sym has.dropped) ∙ ap (λ (t : List ℕ). signed_bytes c.head c.dropped t) has.records in
     ap (λ (k : List ℕ). signed ++ k) p.digest ∙ ap (λ (t : List ℕ). t ++ sha256 t) whole
 
@@ -126,6 +126,6 @@ front_bytes bytes signed kept parts are i =
       | inr le ↦ rw (get_or_past signed i 0 le) (omega arith)
     ]
 
-pub ok_is_file : (bytes signed kept : List ℕ) (r : Result Content FileError) → bytes ≡ signed ++ kept → AreBytes bytes → 92 ≤ length signed → head_fault signed kept ≡ None → IfOk r (HasFields signed) → IfOk r (λ c. bytes ≡ file_bytes c)
-ok_is_file bytes signed kept (Ok c) parts are long h has = parts ∙ is_file signed kept c (front_bytes bytes signed kept parts are) long h has
-ok_is_file bytes signed kept (Err e) parts are long h has = tt
+pub ok_is_file : AreWritten → (bytes signed kept : List ℕ) (r : Result Content FileError) → bytes ≡ signed ++ kept → AreBytes bytes → 92 ≤ length signed → head_fault signed kept ≡ None → IfOk r (HasFields signed) → IfOk r (λ c. bytes ≡ file_bytes c)
+ok_is_file written bytes signed kept (Ok c) parts are long h has = parts ∙ is_file written signed kept c (front_bytes bytes signed kept parts are) long h has
+ok_is_file written bytes signed kept (Err e) parts are long h has = tt

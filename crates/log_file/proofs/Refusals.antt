@@ -3,6 +3,7 @@ use Rattle.std.proofs.Common.{◌≡◌, ℕ, List, Option, Some, None, refl, sy
 use Rattle.std.specs.Prelude.{◌≢◌}
 use Rattle.log_record.specs.declared.head.Head.{Head}
 use Rattle.log_record.specs.Spelling.{bytes_of, total, Fits}
+use Rattle.log_record.specs.Laws.{BeginNoOther}
 use Rattle.log_order.specs.declared.walk.OrderBreak.{OrderBreak}
 use Rattle.log_order.specs.Order.{order_break, broken_by}
 use Rattle.log_file.specs.declared.error.FileError.{FileError}
@@ -29,57 +30,59 @@ some_break b = Some b
 same_break : (b c : OrderBreak) → some_break b ≡ some_break c → b ≡ c
 same_break b c h = cc
 
-one_place : (bytes : List ℕ) (p q : ℕ) → NoRecord bytes p → NoRecord bytes q → p ≡ q
-one_place bytes p q x y =
-    let same = one_stop bytes_of Fits records_free x.before y.before x.rest y.rest x.fit y.fit (sym x.parts ∙ y.parts) x.none y.none in
-    x.place_is ∙ ap total same ∙ sym y.place_is
+-- by the law that no record's bytes begin another's
+module _ (alone : BeginNoOther) where
+  one_place : (bytes : List ℕ) (p q : ℕ) → NoRecord bytes p → NoRecord bytes q → p ≡ q
+  one_place bytes p q x y =
+      let same = one_stop bytes_of Fits (records_free alone) x.before y.before x.rest y.rest x.fit y.fit (sym x.parts ∙ y.parts) x.none y.none in
+      x.place_is ∙ ap total same ∙ sym y.place_is
 
-whole_or_not : (head : Head) (dropped : ℕ) (bytes : List ℕ) (p q rule : ℕ) → NoRecord bytes p → BreaksOrder head dropped bytes q rule → ⊥
-whole_or_not head dropped bytes p q rule x y = no_stop bytes_of Fits records_free y.records x.before x.rest y.fit x.fit (sym y.parts ∙ x.parts) x.more x.none
+  whole_or_not : (head : Head) (dropped : ℕ) (bytes : List ℕ) (p q rule : ℕ) → NoRecord bytes p → BreaksOrder head dropped bytes q rule → ⊥
+  whole_or_not head dropped bytes p q rule x y = no_stop bytes_of Fits (records_free alone) y.records x.before x.rest y.fit x.fit (sym y.parts ∙ x.parts) x.more x.none
 
-one_break : (head : Head) (dropped : ℕ) (bytes : List ℕ) (p q a b : ℕ) → BreaksOrder head dropped bytes p a → BreaksOrder head dropped bytes q b → order_break p a ≡ order_break q b
-one_break head dropped bytes p q a b x y =
-    let same = one_row bytes_of Fits records_free x.records y.records x.fit y.fit (sym x.parts ∙ y.parts) in
-    same_break (order_break p a) (order_break q b) (sym x.first ∙ ap (broken_by head.settings dropped) same ∙ y.first)
+  one_break : (head : Head) (dropped : ℕ) (bytes : List ℕ) (p q a b : ℕ) → BreaksOrder head dropped bytes p a → BreaksOrder head dropped bytes q b → order_break p a ≡ order_break q b
+  one_break head dropped bytes p q a b x y =
+      let same = one_row bytes_of Fits (records_free alone) x.records y.records x.fit y.fit (sym x.parts ∙ y.parts) in
+      same_break (order_break p a) (order_break q b) (sym x.first ∙ ap (broken_by head.settings dropped) same ∙ y.first)
 
-one_fault : (head : Head) (dropped : ℕ) (bytes : List ℕ) (e f : FileError) → IsRecordsFault head dropped bytes e → IsRecordsFault head dropped bytes f → e ≢ OutOfMemory → f ≢ OutOfMemory → e ≡ f
-one_fault head dropped bytes (Short n) f x y m k = absurd x
-one_fault head dropped bytes BadMagic f x y m k = absurd x
-one_fault head dropped bytes (BadVersion found) f x y m k = absurd x
-one_fault head dropped bytes (BadHead field value) f x y m k = absurd x
-one_fault head dropped bytes (LengthDiffers said found) f x y m k = absurd x
-one_fault head dropped bytes (DigestDiffers kept found) f x y m k = absurd x
-one_fault head dropped bytes OutOfMemory f x y m k = absurd (m refl)
-one_fault head dropped bytes (BadRecord p) (Short n) x y m k = absurd y
-one_fault head dropped bytes (BadRecord p) BadMagic x y m k = absurd y
-one_fault head dropped bytes (BadRecord p) (BadVersion found) x y m k = absurd y
-one_fault head dropped bytes (BadRecord p) (BadHead field value) x y m k = absurd y
-one_fault head dropped bytes (BadRecord p) (LengthDiffers said found) x y m k = absurd y
-one_fault head dropped bytes (BadRecord p) (DigestDiffers kept found) x y m k = absurd y
-one_fault head dropped bytes (BadRecord p) (BadRecord q) x y m k = ap (λ (n : ℕ). BadRecord n) (one_place bytes p q x y)
-one_fault head dropped bytes (BadRecord p) (BadOrder q b) x y m k = absurd (whole_or_not head dropped bytes p q b x y)
-one_fault head dropped bytes (BadRecord p) OutOfMemory x y m k = absurd (k refl)
-one_fault head dropped bytes (BadOrder p a) (Short n) x y m k = absurd y
-one_fault head dropped bytes (BadOrder p a) BadMagic x y m k = absurd y
-one_fault head dropped bytes (BadOrder p a) (BadVersion found) x y m k = absurd y
-one_fault head dropped bytes (BadOrder p a) (BadHead field value) x y m k = absurd y
-one_fault head dropped bytes (BadOrder p a) (LengthDiffers said found) x y m k = absurd y
-one_fault head dropped bytes (BadOrder p a) (DigestDiffers kept found) x y m k = absurd y
-one_fault head dropped bytes (BadOrder p a) (BadRecord q) x y m k = absurd (whole_or_not head dropped bytes q p a y x)
-one_fault head dropped bytes (BadOrder p a) (BadOrder q b) x y m k = ap (λ (o : OrderBreak). BadOrder o.at o.rule) (one_break head dropped bytes p q a b x y)
-one_fault head dropped bytes (BadOrder p a) OutOfMemory x y m k = absurd (k refl)
+  one_fault : (head : Head) (dropped : ℕ) (bytes : List ℕ) (e f : FileError) → IsRecordsFault head dropped bytes e → IsRecordsFault head dropped bytes f → e ≢ OutOfMemory → f ≢ OutOfMemory → e ≡ f
+  one_fault head dropped bytes (Short n) f x y m k = absurd x
+  one_fault head dropped bytes BadMagic f x y m k = absurd x
+  one_fault head dropped bytes (BadVersion found) f x y m k = absurd x
+  one_fault head dropped bytes (BadHead field value) f x y m k = absurd x
+  one_fault head dropped bytes (LengthDiffers said found) f x y m k = absurd x
+  one_fault head dropped bytes (DigestDiffers kept found) f x y m k = absurd x
+  one_fault head dropped bytes OutOfMemory f x y m k = absurd (m refl)
+  one_fault head dropped bytes (BadRecord p) (Short n) x y m k = absurd y
+  one_fault head dropped bytes (BadRecord p) BadMagic x y m k = absurd y
+  one_fault head dropped bytes (BadRecord p) (BadVersion found) x y m k = absurd y
+  one_fault head dropped bytes (BadRecord p) (BadHead field value) x y m k = absurd y
+  one_fault head dropped bytes (BadRecord p) (LengthDiffers said found) x y m k = absurd y
+  one_fault head dropped bytes (BadRecord p) (DigestDiffers kept found) x y m k = absurd y
+  one_fault head dropped bytes (BadRecord p) (BadRecord q) x y m k = ap (λ (n : ℕ). BadRecord n) (one_place bytes p q x y)
+  one_fault head dropped bytes (BadRecord p) (BadOrder q b) x y m k = absurd (whole_or_not head dropped bytes p q b x y)
+  one_fault head dropped bytes (BadRecord p) OutOfMemory x y m k = absurd (k refl)
+  one_fault head dropped bytes (BadOrder p a) (Short n) x y m k = absurd y
+  one_fault head dropped bytes (BadOrder p a) BadMagic x y m k = absurd y
+  one_fault head dropped bytes (BadOrder p a) (BadVersion found) x y m k = absurd y
+  one_fault head dropped bytes (BadOrder p a) (BadHead field value) x y m k = absurd y
+  one_fault head dropped bytes (BadOrder p a) (LengthDiffers said found) x y m k = absurd y
+  one_fault head dropped bytes (BadOrder p a) (DigestDiffers kept found) x y m k = absurd y
+  one_fault head dropped bytes (BadOrder p a) (BadRecord q) x y m k = absurd (whole_or_not head dropped bytes q p a y x)
+  one_fault head dropped bytes (BadOrder p a) (BadOrder q b) x y m k = ap (λ (o : OrderBreak). BadOrder o.at o.rule) (one_break head dropped bytes p q a b x y)
+  one_fault head dropped bytes (BadOrder p a) OutOfMemory x y m k = absurd (k refl)
 
-pub one_refusal : (bytes : List ℕ) (e f : FileError) → IsRefusal bytes e → IsRefusal bytes f → e ≢ OutOfMemory → f ≢ OutOfMemory → e ≡ f
-one_refusal bytes e f x y m k =
-    elim x [
-      | inl a ↦
-          elim y [
-            | inl b ↦ same_error e f (sym a ∙ b)
-            | inr b ↦ absurd (none_error e (sym b.0 ∙ a))
-          ]
-      | inr a ↦
-          elim y [
-            | inl b ↦ absurd (none_error f (sym a.0 ∙ b))
-            | inr b ↦ one_fault _ _ _ e f a.1 b.1 m k
-          ]
-    ]
+  pub one_refusal : (bytes : List ℕ) (e f : FileError) → IsRefusal bytes e → IsRefusal bytes f → e ≢ OutOfMemory → f ≢ OutOfMemory → e ≡ f
+  one_refusal bytes e f x y m k =
+      elim x [
+        | inl a ↦
+            elim y [
+              | inl b ↦ same_error e f (sym a ∙ b)
+              | inr b ↦ absurd (none_error e (sym b.0 ∙ a))
+            ]
+        | inr a ↦
+            elim y [
+              | inl b ↦ absurd (none_error f (sym a.0 ∙ b))
+              | inr b ↦ one_fault _ _ _ e f a.1 b.1 m k
+            ]
+      ]

@@ -14,16 +14,20 @@ abbrev pub setting_fault : Option BadSetting → Option FileError → Option Fil
 setting_fault (Some bad) later = Some (BadHead bad.field bad.value)
 setting_fault None later = later
 
+-- what is wrong behind the settings, of which one is the most bytes that the records may have
+abbrev pub later_fault : List ℕ → List ℕ → ℕ → Option FileError
+later_fault signed kept log_size =
+    if nat_lt log_size (size_in signed) then Some (BadHead 9 (size_in signed)) else
+    if not (size_in signed == length signed - 92) then Some (LengthDiffers (size_in signed) (length signed - 92)) else
+    if not (bytes_eq kept (sha256 signed)) then Some (DigestDiffers kept (sha256 signed)) else
+    None
+
 -- the first fault of the bytes before the last digest, and of that digest
 unfoldable pub head_fault : List ℕ → List ℕ → Option FileError
 head_fault signed kept =
     if not (bytes_eq (take 8 signed) magic) then Some BadMagic else
     if not (number_at 4 8 signed == 1) then Some (BadVersion (number_at 4 8 signed)) else
-    setting_fault (first_bad (settings_in signed))
-    (if nat_lt (settings_in signed).log_size (size_in signed) then Some (BadHead 9 (size_in signed)) else
-    if not (size_in signed == length signed - 92) then Some (LengthDiffers (size_in signed) (length signed - 92)) else
-    if not (bytes_eq kept (sha256 signed)) then Some (DigestDiffers kept (sha256 signed)) else
-    None)
+    setting_fault (first_bad (settings_in signed)) (later_fault signed kept (settings_in signed).log_size)
 
 -- all bytes but the last 32, which are a digest
 abbrev pub signed_of : List ℕ → List ℕ

@@ -1,3 +1,4 @@
 pub mod Layout
 pub mod Faults
 pub mod File
+pub mod Laws

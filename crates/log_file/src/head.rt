@@ -3,7 +3,7 @@ ghost use Rattle.std.specs.Prelude.{◌≡◌, ◌≤◌, ◌+◌, Some, None, d
 ghost use Rattle.std.specs.Str.{bytes_eq};
 ghost use Rattle.sha2.specs.Sha256.{sha256};
 ghost use Rattle.log_file.specs.Layout.{settings_in, digest_in};
-ghost use Rattle.log_file.specs.Faults.{head_fault};
+ghost use Rattle.log_file.specs.Faults.{later_fault, head_fault};
 
 use crate::error::FileError;
 use bn_base::{RawSettings, Settings};
@@ -68,6 +68,36 @@ pub fn digest_of(bytes: &[u8]) -> [u8; 32]
     Sha256::digest(bytes)
 }
 
+// What is wrong behind the settings: how many bytes the records have, or the last digest.
+fn later_fault(signed: &[u8], kept: &[u8], settings: &Settings) -> Option<FileError>
+    requires signed { 92 ≤ length signed.now }
+    requires kept { length kept.now ≡ 32 }
+    ensures { result ≡ later_fault signed.now kept.now settings.now.log_size }
+{
+    let said = read_u32(signed, 88);
+    if settings.log_size() < said {
+        return Some(FileError::BadHead {
+            field: 9,
+            value: said as u64,
+        });
+    }
+    let found = signed.len() - HEAD_SIZE;
+    if said as usize != found {
+        return Some(FileError::LengthDiffers {
+            said: said as u64,
+            found: found as u64,
+        });
+    }
+    let digest = digest_of(signed);
+    if !same(kept, &digest) {
+        return Some(FileError::DigestDiffers {
+            kept: copied(kept),
+            found: digest,
+        });
+    }
+    None
+}
+
 /// The settings that a file's head has, where nothing is wrong with it: `signed` are all bytes of
 /// the file but the last 32, which are `kept`. The error is the first fault.
 #[tactic(auto, unfolding(crate::specs::Faults::head_fault, crate::specs::Layout::magic))]
@@ -95,26 +125,8 @@ pub fn checked_settings(signed: &[u8], kept: &[u8]) -> Result<Settings, FileErro
             });
         }
     };
-    let said = read_u32(signed, 88);
-    if settings.log_size() < said {
-        return Err(FileError::BadHead {
-            field: 9,
-            value: said as u64,
-        });
+    match later_fault(signed, kept, &settings) {
+        None => Ok(settings),
+        Some(fault) => Err(fault),
     }
-    let found = signed.len() - HEAD_SIZE;
-    if said as usize != found {
-        return Err(FileError::LengthDiffers {
-            said: said as u64,
-            found: found as u64,
-        });
-    }
-    let digest = digest_of(signed);
-    if !same(kept, &digest) {
-        return Err(FileError::DigestDiffers {
-            kept: copied(kept),
-            found: digest,
-        });
-    }
-    Ok(settings)
 }

@@ -8,8 +8,10 @@ ghost use Rattle.log_file.specs.File.{HasFields, IsRecordsFault, IsRefusal};
 
 use crate::error::FileError;
 use crate::head::{DIGEST_SIZE, HEAD_SIZE, checked_settings, digest_in};
+use crate::laws::{files_say_one_thing, logs_are_not_refused};
 use crate::splitting::split;
 use bn_base::Settings;
+use le_numbers::laws::read_numbers_are_written;
 use le_numbers::read_u64;
 use log_order::KeptLog;
 use log_record::Head;
@@ -51,6 +53,7 @@ fn read(alloc: Global, bytes: &[u8]) -> Result<KeptLog, FileError>
     ensures found { IfOk result (λ c. bytes.now ≡ file_bytes c) }
     ensures refused { IfErr result (λ e. IsRefusal bytes.now e) }
 {
+    read_numbers_are_written();
     let length = bytes.len();
     if length < HEAD_SIZE + DIGEST_SIZE {
         return Err(FileError::Short {
@@ -71,5 +74,7 @@ pub fn read_file(alloc: Global, bytes: &[u8]) -> Result<KeptLog, FileError>
     ensures only { (d : Content) → IsContent d → bytes.now ≡ file_bytes d → MatchResult result (λ c. c ≡ d) (λ e. e ≡ OutOfMemory) }
     ensures refused { IfErr result (λ e. IsRefusal bytes.now e) }
 {
+    files_say_one_thing();
+    logs_are_not_refused();
     read(alloc, bytes)
 }

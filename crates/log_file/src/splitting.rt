@@ -6,6 +6,7 @@ ghost use Rattle.log_record.specs.Spelling.{bytes_of, Fits};
 ghost use Rattle.log_file.specs.File.{IsSplitError};
 
 use crate::error::FileError;
+use log_record::laws::tags_tell_sizes;
 use log_record::{Record, read, size};
 use std::alloc::Global;
 
@@ -13,6 +14,7 @@ use std::alloc::Global;
 fn count(bytes: &[u8]) -> usize
     ensures { (rs : List Record) → AllByRecursion Fits rs → bytes.now ≡ flat_map bytes_of rs → result ≡ length rs }
 {
+    tags_tell_sizes();
     let mut count = 0;
     let mut at = 0;
     while at < bytes.len() {

@@ -5,38 +5,39 @@ use Rattle.std.specs.Prelude.{slice_index}
 use Rattle.log_record.specs.Spelling.{AreRegisters}
 use Rattle.std.proofs.lemmas.List.{append-nil}
 use Rattle.le_numbers.specs.Numbers.{number_at, number_bytes, AreBytes}
-use Rattle.le_numbers.proofs.Fields.{drop-number_at, number_at-small, reads_back}
+use Rattle.le_numbers.specs.Laws.{AreRead, AreWritten, Fit}
 use Rattle.log_record.specs.Reading.{words_at}
-
--- bytes go on with the bytes of the words that are read there
-pub drop-words_at : (count at next : ℕ) (bytes : List ℕ) → AreBytes bytes → next ≤ length bytes → at + 4 * count ≡ next
-    → drop at bytes ≡ flat_map (number_bytes 4) (words_at count at bytes) ++ drop next bytes
-unfolding words_at
-drop-words_at zero at next bytes are within e = ap (λ (k : ℕ). drop k bytes) (omega arith)
-drop-words_at (suc count) at next bytes are within e =
-    let first = drop-number_at 4 at (at + 4) bytes are (omega arith) refl in
-    let others = drop-words_at count (at + 4) next bytes are within (omega arith) in
-    first ∙ ap (λ (t : List ℕ). number_bytes 4 (number_at 4 at bytes) ++ t) others
-    ∙ sym (append_assoc (number_bytes 4 (number_at 4 at bytes)) (flat_map (number_bytes 4) (words_at count (at + 4) bytes)) (drop next bytes))
 
 pub length-words_at : (count at : ℕ) (bytes : List ℕ) → length (words_at count at bytes) ≡ count
 unfolding words_at
 length-words_at zero at bytes = refl
 length-words_at (suc count) at bytes = ap suc (length-words_at count (at + 4) bytes)
 
-pub words_at-small : (count at : ℕ) (bytes : List ℕ) → AreBytes bytes → AllByRecursion (λ w. w < 2 ^ 32) (words_at count at bytes)
-unfolding words_at
-words_at-small zero at bytes are = tt
-words_at-small (suc count) at bytes are = (number_at-small 4 at bytes are, words_at-small count (at + 4) bytes are)
+module _ (written : AreWritten) (fit : Fit) where
+  -- bytes go on with the bytes of the words that are read there
+  pub drop-words_at : (count at next : ℕ) (bytes : List ℕ) → AreBytes bytes → next ≤ length bytes → at + 4 * count ≡ next
+      → drop at bytes ≡ flat_map (number_bytes 4) (words_at count at bytes) ++ drop next bytes
+  unfolding words_at
+  drop-words_at zero at next bytes are within e = ap (λ (k : ℕ). drop k bytes) (omega arith)
+  drop-words_at (suc count) at next bytes are within e =
+      let first = written 4 at bytes are (omega arith) in
+      let others = drop-words_at count (at + 4) next bytes are within (omega arith) in
+      first ∙ ap (λ (t : List ℕ). number_bytes 4 (number_at 4 at bytes) ++ t) others
+      ∙ sym (append_assoc (number_bytes 4 (number_at 4 at bytes)) (flat_map (number_bytes 4) (words_at count (at + 4) bytes)) (drop next bytes))
+
+  pub words_at-small : (count at : ℕ) (bytes : List ℕ) → AreBytes bytes → AllByRecursion (λ w. w < 2 ^ 32) (words_at count at bytes)
+  unfolding words_at
+  words_at-small zero at bytes are = tt
+  words_at-small (suc count) at bytes are = (fit 4 at bytes are, words_at-small count (at + 4) bytes are)
 
 -- words are read where their bytes stand
-pub words_at-written : (words : List ℕ) (at : ℕ) (bytes rest : List ℕ) → AllByRecursion (λ w. w < 2 ^ 32) words → drop at bytes ≡ flat_map (number_bytes 4) words ++ rest
+pub words_at-written : AreRead → (words : List ℕ) (at : ℕ) (bytes rest : List ℕ) → AllByRecursion (λ w. w < 2 ^ 32) words → drop at bytes ≡ flat_map (number_bytes 4) words ++ rest
     → words_at (length words) at bytes ≡ words
 unfolding words_at
-words_at-written [] at bytes rest small there = refl
-words_at-written (w ∷ words) at bytes rest small there =
-    let back = reads_back 4 at (at + 4) bytes w (flat_map (number_bytes 4) words ++ rest) small.0 refl (there ∙ append_assoc (number_bytes 4 w) (flat_map (number_bytes 4) words) rest) in
-    ap₂ (λ (x : ℕ) (xs : List ℕ). x ∷ xs) back.number (words_at-written words (at + 4) bytes rest small.1 back.behind)
+words_at-written read [] at bytes rest small there = refl
+words_at-written read (w ∷ words) at bytes rest small there =
+    let back = read 4 at w bytes (flat_map (number_bytes 4) words ++ rest) small.0 (there ∙ append_assoc (number_bytes 4 w) (flat_map (number_bytes 4) words) rest) in
+    ap₂ (λ (x : ℕ) (xs : List ℕ). x ∷ xs) back.0 (words_at-written read words (at + 4) bytes rest small.1 back.1)
 
 -- a loop that has read the words in front reads one more
 pub words_at-more : (front : List ℕ) (count i at next : ℕ) (bytes total : List ℕ) → i < count → at + 4 ≡ next → front ++ words_at (count - i) at bytes ≡ total

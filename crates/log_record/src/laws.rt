@@ -1,14 +1,39 @@
 // What the bytes of records have to do with each other.
-ghost use Rattle.std.specs.Prelude.{◌≡◌, ◌++◌, List, ℕ, Some, length};
+ghost use Rattle.std.specs.Prelude.{◌≡◌, Some, length};
 ghost use Rattle.log_record.specs.declared.record.Record.{Record};
 ghost use Rattle.log_record.specs.Spelling.{size_of, tag_of, bytes_of, FitsFields};
+ghost use Rattle.log_record.specs.Laws.{TellTheirSize, AreRead, AreWritten, BeginNoOther};
+
+use le_numbers::laws::{
+    numbers_have_their_width, read_numbers_are_written, written_numbers_are_read,
+};
+
+/// A record has as many bytes as its tag says, and the tag stands first. So bytes are split into
+/// records without reading these.
+pub fn tags_tell_sizes()
+    ensures tag { (r : Record) → FitsFields r → size_of (tag_of r) ≡ Some (length (bytes_of r)) }
+    ensures front { TellTheirSize }
+{
+    numbers_have_their_width();
+}
+
+/// A record that is written is read back, whatever stands behind it.
+pub fn written_records_are_read()
+    ensures { AreRead }
+{
+    written_numbers_are_read();
+}
+
+/// Bytes that are read are the bytes of the record that they give, whatever an End's mark.
+pub fn read_records_are_written()
+    ensures { AreWritten }
+{
+    read_numbers_are_written();
+}
 
 /// No record's bytes begin another's, so bytes are those of at most one list of records.
 pub fn no_record_begins_another()
-    ensures { (r s : Record) (x y : List ℕ) → FitsFields r → FitsFields s → bytes_of r ++ x ≡ bytes_of s ++ y → (r ≡ s) × (x ≡ y) }
-{}
-
-/// A record has as many bytes as its tag says.
-pub fn tags_tell_sizes()
-    ensures { (r : Record) → FitsFields r → size_of (tag_of r) ≡ Some (length (bytes_of r)) }
-{}
+    ensures { BeginNoOther }
+{
+    written_records_are_read();
+}

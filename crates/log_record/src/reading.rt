@@ -4,10 +4,17 @@ ghost use Rattle.log_record.specs.declared.record.Record.{Record};
 ghost use Rattle.log_record.specs.Spelling.{size_of, bytes_of, has_value, has_no_value, is_mark, is_marked, Fits, BeginsWith};
 ghost use Rattle.log_record.specs.Reading.{words_at, header_in, first_load_in, edge_in, end_in, record_in};
 
+use crate::laws::{read_records_are_written, tags_tell_sizes, written_records_are_read};
 use crate::record::Record;
 use bn_base::end_mark::{CALL, EXIT, FAULT, GROUP, LENGTH, LIMIT, STOPPED};
-use bn_base::{EndMark, Fault, Registers};
+use bn_base::{EndMark, Registers};
 use le_numbers::{read_u32, read_u64};
+
+// The reason of EBREAK, the second fault (RISC-V unprivileged ISA, 2.8).
+const BREAKPOINT: u8 = FAULT + 2;
+
+// The reason of the last fault, a store to a read-only word.
+const LAST_FAULT: u8 = FAULT + 9;
 
 /// How many bytes a record has that begins with this byte, its tag; `None` where none begins so.
 pub fn size(tag: u8) -> Option<usize>
@@ -30,8 +37,8 @@ fn has_value(reason: u8) -> bool
 {
     match reason {
         CALL | EXIT | GROUP => true,
-        18 => false,
-        _ => FAULT < reason && reason <= 25,
+        BREAKPOINT => false,
+        _ => FAULT < reason && reason <= LAST_FAULT,
     }
 }
 
@@ -40,7 +47,7 @@ fn has_no_value(reason: u8) -> bool
 {
     match reason {
         LENGTH | STOPPED | LIMIT => true,
-        _ => reason == 18,
+        _ => reason == BREAKPOINT,
     }
 }
 
@@ -149,6 +156,9 @@ pub fn read(bytes: &[u8]) -> Option<(Record, usize)>
     // What stands there is read, whatever follows it.
     ensures only { (r : Record) (rest : List ℕ) → Fits r → bytes.now ≡ bytes_of r ++ rest → result ≡ Some (r, length (bytes_of r)) }
 {
+    tags_tell_sizes();
+    written_records_are_read();
+    read_records_are_written();
     let tag = *bytes.first()?;
     let size = size(tag)?;
     if bytes.len() < size {

@@ -3,6 +3,7 @@ ghost use Rattle.std.specs.Prelude.{◌≡◌, ◌≤◌, length};
 ghost use Rattle.log_record.specs.Spelling.{bytes_of, hart_of};
 
 use bn_base::{EndMark, HartId, Ic, Registers};
+use le_numbers::laws::numbers_have_their_width;
 
 /// One record of a log. Each belongs to a hart.
 #[derive(Clone, Copy, Debug, PartialEq, Eq, Drop)]
@@ -66,6 +67,7 @@ impl Record {
         ensures value { result ≡ length (bytes_of self.now) }
         ensures bound { result ≤ 146 }
     {
+        numbers_have_their_width();
         match self {
             Record::Header { x, .. } => 22 + 4 * x.others().len(),
             Record::FirstLoad { .. } => 10,

@@ -2,11 +2,12 @@
 ghost use Rattle.std.specs.Prelude.{◌≡◌, ◌++◌, ◌∷◌, [], ◌≤◌, ◌<◌, ◌^◌, ◌+◌, drop, length, IsTrue};
 ghost use Rattle.std.specs.List.{flat_map, AllByRecursion};
 ghost use Rattle.le_numbers.specs.Numbers.{number_bytes};
+ghost use Rattle.log_record.specs.declared.record.Record.TheVariants.{Header, Edge};
 ghost use Rattle.log_record.specs.Spelling.{bytes_of, is_marked, AreRegisters, Fits};
 
 use crate::bytes::Bytes;
 use crate::record::Record;
-use bn_base::{HartId, Registers};
+use bn_base::{HartId, Ic, Registers};
 
 fn begin(tag: u8, hart: HartId) -> Bytes
     ensures { result ≡ tag ∷ hart ∷ [] }
@@ -38,6 +39,28 @@ fn put_words(bytes: &mut Bytes, words: &[u32])
     }
 }
 
+fn header(hart: HartId, interval: u64, ic: Ic, pc: u32, x: &Registers) -> Bytes
+    ensures bytes { result ≡ bytes_of (Header hart interval ic pc x.now) }
+    ensures are { AreRegisters x.now }
+{
+    let mut bytes = begin(1, hart);
+    bytes.put_u64(interval);
+    bytes.put_u64(ic);
+    bytes.put_u32(pc);
+    put_registers(&mut bytes, x);
+    bytes
+}
+
+fn edge(hart: HartId, ic: Ic, from: HartId, from_ic: Ic) -> Bytes
+    ensures { result ≡ bytes_of (Edge hart ic from from_ic) }
+{
+    let mut bytes = begin(5, hart);
+    bytes.put_u64(ic);
+    bytes.put(from);
+    bytes.put_u64(from_ic);
+    bytes
+}
+
 /// The bytes of a record: the tag, the hart and the fields in their order, each number with its
 /// least significant byte first. The mark of an End is one that an interval can have.
 pub fn write(entry: &Record) -> Bytes
@@ -52,14 +75,7 @@ pub fn write(entry: &Record) -> Bytes
             ic,
             pc,
             x,
-        } => {
-            let mut bytes = begin(1, *hart);
-            bytes.put_u64(*interval);
-            bytes.put_u64(*ic);
-            bytes.put_u32(*pc);
-            put_registers(&mut bytes, x);
-            bytes
-        }
+        } => header(*hart, *interval, *ic, *pc, x),
         Record::FirstLoad { hart, skip, value } => {
             let mut bytes = begin(2, *hart);
             bytes.put_u32(*skip);
@@ -73,13 +89,7 @@ pub fn write(entry: &Record) -> Bytes
             ic,
             from,
             from_ic,
-        } => {
-            let mut bytes = begin(5, *hart);
-            bytes.put_u64(*ic);
-            bytes.put(*from);
-            bytes.put_u64(*from_ic);
-            bytes
-        }
+        } => edge(*hart, *ic, *from, *from_ic),
         Record::End { hart, mark } => {
             let mut bytes = begin(6, *hart);
             bytes.put_u64(mark.ic);

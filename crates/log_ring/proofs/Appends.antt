@@ -5,6 +5,7 @@ use Rattle.std.proofs.lemmas.List.{append-nil}
 use Rattle.circular_buffer.specs.Buffer.{Buffer, buffer, keep_last}
 use Rattle.log_record.specs.declared.record.Record.{Record}
 use Rattle.log_record.specs.Spelling.{bytes_of, Fits}
+use Rattle.log_record.specs.Laws.{TellTheirSize, AreRead}
 use Rattle.log_ring.specs.Whole.{records_in, IsWhole}
 use Rattle.log_ring.specs.Kept.{kept, Held, held, Holds, GivesUp}
 use Rattle.log_ring.proofs.Cuts.{records_in-bytes, whole_of}
@@ -19,11 +20,11 @@ flat_map-push [] r = append-nil (bytes_of r)
 flat_map-push (x ∷ rs) r = ap (λ (t : List ℕ). bytes_of x ++ t) (flat_map-push rs r) ∙ sym (append_assoc (bytes_of x) (flat_map bytes_of rs) (bytes_of r))
 
 -- bytes of whole records with one record more
-pub pushed_whole : (xs ys : List ℕ) (r : Record) → IsWhole xs → Fits r → ys ≡ xs ++ bytes_of r → (IsWhole ys) × (records_in ys ≡ records_in xs ++ r ∷ [])
-pushed_whole xs ys r whole fits e =
+pub pushed_whole : TellTheirSize → AreRead → (xs ys : List ℕ) (r : Record) → IsWhole xs → Fits r → ys ≡ xs ++ bytes_of r → (IsWhole ys) × (records_in ys ≡ records_in xs ++ r ∷ [])
+pushed_whole tell read xs ys r whole fits e =
     let fit = all-push (records_in xs) r whole.fit fits in
     let joined : flat_map bytes_of (records_in xs ++ r ∷ []) ≡ ys = flat_map-push (records_in xs) r ∙ ap (λ (t : List ℕ). t ++ bytes_of r) whole.joined ∙ sym e in
-    (whole_of ys (records_in xs ++ r ∷ []) fit joined, records_in-bytes ys (records_in xs ++ r ∷ []) fit joined)
+    (whole_of tell read ys (records_in xs ++ r ∷ []) fit joined, records_in-bytes tell read ys (records_in xs ++ r ∷ []) fit joined)
 
 pub keep_all : (n : ℕ) (xs : List ℕ) → length xs ≤ n → keep_last n xs ≡ xs
 keep_all n xs le = let none : length xs - n ≡ 0 = omega arith in ap (λ (k : ℕ). drop k xs) none
@@ -52,14 +53,14 @@ pub record Pushed (old : Held) (r : Record) (b : Buffer ℕ) (m : ℕ) : Type 0 
   pub latest : records_in b.items ≡ kept old.size (old.records ++ r ∷ [])
   pub count : m + length (records_in b.items) ≡ length old.records + 1
 
-pub pushed : (old : Held) (xs : List ℕ) (dropped capacity size room m : ℕ) (mid b : Buffer ℕ) (text : List ℕ) (r : Record)
+pub pushed : TellTheirSize → AreRead → (old : Held) (xs : List ℕ) (dropped capacity size room m : ℕ) (mid b : Buffer ℕ) (text : List ℕ) (r : Record)
     → held (records_in xs) dropped capacity ≡ old → Fits r → text ≡ bytes_of r → size ≡ length text → room ≡ capacity - size → size ≤ capacity
     → IsWhole mid.items → mid.capacity ≡ capacity → records_in mid.items ≡ kept room (records_in xs) → length mid.items ≤ room → m + length (records_in mid.items) ≡ length (records_in xs)
     → b ≡ buffer (keep_last mid.capacity (mid.items ++ text)) mid.capacity → Pushed old r b m
-pushed old xs dropped capacity size room m mid b text r view fits text_is size_is room_is within whole mid_capacity mid_records mid_room count out =
+pushed tell read old xs dropped capacity size room m mid b text r view fits text_is size_is room_is within whole mid_capacity mid_records mid_room count out =
     let under : length (mid.items ++ text) ≤ mid.capacity = omega (arith, length-append mid.items text) in
     let items : b.items ≡ mid.items ++ bytes_of r = ap (λ (x : Buffer ℕ). x.items) out ∙ keep_all mid.capacity (mid.items ++ text) under ∙ ap (λ (t : List ℕ). mid.items ++ t) text_is in
-    let both = pushed_whole mid.items b.items r whole fits items in
+    let both = pushed_whole tell read mid.items b.items r whole fits items in
     let records : records_in xs ≡ old.records = ap (λ (h : Held). h.records) view in
     let capacity_is : capacity ≡ old.size = ap (λ (h : Held). h.size) view in
     let fill : room + length (bytes_of r) ≡ capacity = omega (arith, ap length text_is) in

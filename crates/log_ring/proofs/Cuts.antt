@@ -7,8 +7,7 @@ use Rattle.log_record.specs.declared.record.Record.{Record}
 use Rattle.log_record.specs.declared.record.Record.TheVariants.{Header, FirstLoad, ScOk, ScFailed, Edge, End}
 use Rattle.log_record.specs.Spelling.{size_of, bytes_of, Fits}
 use Rattle.log_record.specs.Reading.{record_in}
-use Rattle.log_record.proofs.Records.{record_again, tag_again}
-use Rattle.log_record.proofs.Sizes.{size_of-tag_of}
+use Rattle.log_record.specs.Laws.{TellTheirSize, AreRead}
 use Rattle.log_ring.specs.Whole.{cut, records_in, IsWhole, Oldest}
 
 -- no record has fewer than two bytes
@@ -30,30 +29,6 @@ unfolding cut
 cut-nil zero = refl
 cut-nil (suc count) = refl
 
--- the tag of a record in front tells where the next begins
-size_in_front : (r : Record) (rest : List ℕ) → Fits r → size_of (slice_index (bytes_of r ++ rest) 0) ≡ Some (length (bytes_of r))
-size_in_front r rest fits = ap size_of (tag_again r rest) ∙ size_of-tag_of r fits.fields
-
-cut-bytes : (count : ℕ) (rs : List Record) → AllByRecursion Fits rs → length (flat_map bytes_of rs) ≤ count → cut count (flat_map bytes_of rs) ≡ rs
-cut-bytes count [] fit enough = cut-nil count
-cut-bytes zero (r ∷ rs) fit enough = absurd (omega (arith, two_bytes r, length-append (bytes_of r) (flat_map bytes_of rs)))
-cut-bytes (suc count) (r ∷ rs) fit enough =
-    let bytes = bytes_of r ++ flat_map bytes_of rs in
-    let len = length-append (bytes_of r) (flat_map bytes_of rs) in
-    let two = two_bytes r in
-    let next : drop (unwrap_or (size_of (slice_index bytes 0)) 0) bytes ≡ flat_map bytes_of rs =
-    ap (λ (o : Option ℕ). drop (unwrap_or o 0) bytes) (size_in_front r (flat_map bytes_of rs) fit.0) ∙ drop_at (bytes_of r) (flat_map bytes_of rs) (length (bytes_of r)) refl in
-    cut-suc count bytes (omega arith)
-    ∙ ap₂ (λ (x : Record) (xs : List Record). x ∷ xs) (record_again r (flat_map bytes_of rs) fit.0.fields) (ap (cut count) next ∙ cut-bytes count rs fit.1 (omega arith))
-
-pub records_in-bytes : (bytes : List ℕ) (rs : List Record) → AllByRecursion Fits rs → flat_map bytes_of rs ≡ bytes → records_in bytes ≡ rs
-records_in-bytes bytes rs fit e = ap records_in (sym e) ∙ cut-bytes (length (flat_map bytes_of rs)) rs fit (omega arith)
-
-pub whole_of : (bytes : List ℕ) (rs : List Record) → AllByRecursion Fits rs → flat_map bytes_of rs ≡ bytes → IsWhole bytes
-whole_of bytes rs fit e =
-    let same = records_in-bytes bytes rs fit e in
-    record { fit = subst (AllByRecursion Fits) (sym same) fit; joined = ap (flat_map bytes_of) same ∙ e }
-
 -- the first of whole records
 pub record First (bytes : List ℕ) : Type 0 where
   pub first : Record
@@ -61,22 +36,6 @@ pub record First (bytes : List ℕ) : Type 0 where
   pub within : length (bytes_of first) ≤ length bytes
   pub records : records_in bytes ≡ first ∷ records_in (drop (length (bytes_of first)) bytes)
   pub whole : IsWhole (drop (length (bytes_of first)) bytes)
-
-first_of : (bytes : List ℕ) (rs : List Record) → 0 < length bytes → records_in bytes ≡ rs → AllByRecursion Fits rs → flat_map bytes_of rs ≡ bytes → First bytes
-first_of bytes [] some same fit e = absurd (omega (arith, ap length e))
-first_of bytes (r ∷ rs) some same fit e =
-    let parts : bytes ≡ bytes_of r ++ flat_map bytes_of rs = sym e in
-    let behind : drop (length (bytes_of r)) bytes ≡ flat_map bytes_of rs = ap (drop (length (bytes_of r))) parts ∙ drop_at (bytes_of r) (flat_map bytes_of rs) (length (bytes_of r)) refl in
-    record {
-      first = r;
-      size = ap (λ (t : List ℕ). size_of (slice_index t 0)) parts ∙ size_in_front r (flat_map bytes_of rs) fit.0;
-      within = omega (arith, ap length parts, length-append (bytes_of r) (flat_map bytes_of rs));
-      records = same ∙ ap (λ (xs : List Record). r ∷ xs) (sym (records_in-bytes (drop (length (bytes_of r)) bytes) rs fit.1 (sym behind)));
-      whole = whole_of (drop (length (bytes_of r)) bytes) rs fit.1 (sym behind);
-    }
-
-pub first_in : (bytes : List ℕ) → 0 < length bytes → IsWhole bytes → First bytes
-first_in bytes some whole = first_of bytes (records_in bytes) some refl whole.fit whole.joined
 
 abbrev some : {A : Type 0} → A → Option A
 some x = Some x
@@ -88,32 +47,70 @@ first_byte : (bytes : List ℕ) (tag : ℕ) → some tag ≡ slice_get bytes 0 �
 first_byte [] tag e = absurd cc
 first_byte (b ∷ bytes) tag e = cc
 
--- the tag in front is known, and tells where the next record begins
-pub tag_known : {A : Type 0} (bytes : List ℕ) (tag : ℕ) → 0 < length bytes → IsWhole bytes → slice_get bytes 0 ≡ some tag → none ℕ ≡ size_of tag → A
-tag_known bytes tag long whole e unknown =
-    let f = first_in bytes long whole in
-    let known : some (length (bytes_of f.first)) ≡ none ℕ = sym f.size ∙ ap size_of (first_byte bytes tag (sym e)) ∙ sym unknown in
-    absurd cc
+-- by the laws of records: the first byte of a record tells how many they are, and its fields make the record
+module _ (tell : TellTheirSize) (read : AreRead) where
+  cut-bytes : (count : ℕ) (rs : List Record) → AllByRecursion Fits rs → length (flat_map bytes_of rs) ≤ count → cut count (flat_map bytes_of rs) ≡ rs
+  cut-bytes count [] fit enough = cut-nil count
+  cut-bytes zero (r ∷ rs) fit enough = absurd (omega (arith, two_bytes r, length-append (bytes_of r) (flat_map bytes_of rs)))
+  cut-bytes (suc count) (r ∷ rs) fit enough =
+      let bytes = bytes_of r ++ flat_map bytes_of rs in
+      let len = length-append (bytes_of r) (flat_map bytes_of rs) in
+      let two = two_bytes r in
+      let next : drop (unwrap_or (size_of (slice_index bytes 0)) 0) bytes ≡ flat_map bytes_of rs =
+      ap (λ (o : Option ℕ). drop (unwrap_or o 0) bytes) (tell r (flat_map bytes_of rs) fit.0.fields) ∙ drop_at (bytes_of r) (flat_map bytes_of rs) (length (bytes_of r)) refl in
+      cut-suc count bytes (omega arith)
+      ∙ ap₂ (λ (x : Record) (xs : List Record). x ∷ xs) (read r (flat_map bytes_of rs) fit.0.fields) (ap (cut count) next ∙ cut-bytes count rs fit.1 (omega arith))
 
-pub oldest_is : (bytes : List ℕ) (tag size : ℕ) → 0 < length bytes → IsWhole bytes → slice_get bytes 0 ≡ some tag → some size ≡ size_of tag → Oldest bytes size
-oldest_is bytes tag size long whole e told =
-    let f = first_in bytes long whole in
-    let same : some (length (bytes_of f.first)) ≡ some size = sym f.size ∙ ap size_of (first_byte bytes tag (sym e)) ∙ sym told in
-    let n : length (bytes_of f.first) ≡ size = cc in
-    let two = two_bytes f.first in
-    record {
-      first = f.first;
-      within = omega (arith, f.within);
-      some = omega arith;
-      records = f.records ∙ ap (λ (k : ℕ). f.first ∷ records_in (drop k bytes)) n;
-      whole = subst (λ (k : ℕ). IsWhole (drop k bytes)) n f.whole;
-    }
+  pub records_in-bytes : (bytes : List ℕ) (rs : List Record) → AllByRecursion Fits rs → flat_map bytes_of rs ≡ bytes → records_in bytes ≡ rs
+  records_in-bytes bytes rs fit e = ap records_in (sym e) ∙ cut-bytes (length (flat_map bytes_of rs)) rs fit (omega arith)
 
-pub whole_nil : IsWhole []
-whole_nil = whole_of [] [] tt refl
+  pub whole_of : (bytes : List ℕ) (rs : List Record) → AllByRecursion Fits rs → flat_map bytes_of rs ≡ bytes → IsWhole bytes
+  whole_of bytes rs fit e =
+      let same = records_in-bytes bytes rs fit e in
+      record { fit = subst (AllByRecursion Fits) (sym same) fit; joined = ap (flat_map bytes_of) same ∙ e }
+
+  first_of : (bytes : List ℕ) (rs : List Record) → 0 < length bytes → records_in bytes ≡ rs → AllByRecursion Fits rs → flat_map bytes_of rs ≡ bytes → First bytes
+  first_of bytes [] some same fit e = absurd (omega (arith, ap length e))
+  first_of bytes (r ∷ rs) some same fit e =
+      let parts : bytes ≡ bytes_of r ++ flat_map bytes_of rs = sym e in
+      let behind : drop (length (bytes_of r)) bytes ≡ flat_map bytes_of rs = ap (drop (length (bytes_of r))) parts ∙ drop_at (bytes_of r) (flat_map bytes_of rs) (length (bytes_of r)) refl in
+      record {
+        first = r;
+        size = ap (λ (t : List ℕ). size_of (slice_index t 0)) parts ∙ tell r (flat_map bytes_of rs) fit.0.fields;
+        within = omega (arith, ap length parts, length-append (bytes_of r) (flat_map bytes_of rs));
+        records = same ∙ ap (λ (xs : List Record). r ∷ xs) (sym (records_in-bytes (drop (length (bytes_of r)) bytes) rs fit.1 (sym behind)));
+        whole = whole_of (drop (length (bytes_of r)) bytes) rs fit.1 (sym behind);
+      }
+
+  pub first_in : (bytes : List ℕ) → 0 < length bytes → IsWhole bytes → First bytes
+  first_in bytes some whole = first_of bytes (records_in bytes) some refl whole.fit whole.joined
+
+  -- the tag in front is known, and tells where the next record begins
+  pub tag_known : {A : Type 0} (bytes : List ℕ) (tag : ℕ) → 0 < length bytes → IsWhole bytes → slice_get bytes 0 ≡ some tag → none ℕ ≡ size_of tag → A
+  tag_known bytes tag long whole e unknown =
+      let f = first_in bytes long whole in
+      let known : some (length (bytes_of f.first)) ≡ none ℕ = sym f.size ∙ ap size_of (first_byte bytes tag (sym e)) ∙ sym unknown in
+      absurd cc
+
+  pub oldest_is : (bytes : List ℕ) (tag size : ℕ) → 0 < length bytes → IsWhole bytes → slice_get bytes 0 ≡ some tag → some size ≡ size_of tag → Oldest bytes size
+  oldest_is bytes tag size long whole e told =
+      let f = first_in bytes long whole in
+      let same : some (length (bytes_of f.first)) ≡ some size = sym f.size ∙ ap size_of (first_byte bytes tag (sym e)) ∙ sym told in
+      let n : length (bytes_of f.first) ≡ size = cc in
+      let two = two_bytes f.first in
+      record {
+        first = f.first;
+        within = omega (arith, f.within);
+        some = omega arith;
+        records = f.records ∙ ap (λ (k : ℕ). f.first ∷ records_in (drop k bytes)) n;
+        whole = subst (λ (k : ℕ). IsWhole (drop k bytes)) n f.whole;
+      }
 
 pub records_in-nil : records_in [] ≡ []
-records_in-nil = records_in-bytes [] [] tt refl
+records_in-nil = cut-nil 0
+
+pub whole_nil : IsWhole []
+whole_nil = record { fit = subst (AllByRecursion Fits) (sym records_in-nil) tt; joined = ap (flat_map bytes_of) records_in-nil }
 
 -- no more records than half of the bytes
 pub total-records_in : (bytes : List ℕ) → IsWhole bytes → length (flat_map bytes_of (records_in bytes)) ≡ length bytes

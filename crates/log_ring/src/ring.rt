@@ -7,6 +7,7 @@ ghost use Rattle.log_ring.specs.Whole.{records_in, IsWhole, Oldest};
 ghost use Rattle.log_ring.specs.Kept.{kept, held, Holds, GivesUp};
 
 use circular_buffer::HeapCircularBuffer;
+use log_record::laws::{tags_tell_sizes, written_records_are_read};
 use log_record::{Record, size, write};
 use std::alloc::{AllocError, Global};
 use std::marker::Model;
@@ -48,6 +49,8 @@ fn oldest_size(bytes: &HeapCircularBuffer<u8>) -> usize
     requires some { 0 < length bytes.now.items }
     ensures { Oldest bytes.now.items result }
 {
+    tags_tell_sizes();
+    written_records_are_read();
     match size(oldest_tag(bytes)) {
         Some(size) => size,
         None => unreachable!(),
@@ -140,6 +143,8 @@ impl Ring {
         ensures size { self.new.size ≡ self.old.size }
         ensures holds { (appended : List Record) → Holds self.old appended → Holds self.new (appended ++ entry.now ∷ []) }
     {
+        tags_tell_sizes();
+        written_records_are_read();
         let newest = write(entry);
         let room = self.bytes.capacity() - newest.len();
         self.dropped += make_room(&mut self.bytes, room);

@@ -1,6 +1,8 @@
-use Rattle.std.proofs.Common.{◌+◌, refl}
-use Rattle.le_numbers.proofs.Fields.{drop-number_at}
+use Rattle.le_numbers.proofs.Fields.{drop-number_at, number_at-small}
 use Rattle.le_numbers.proofs.laws.read_numbers_are_written.Goals as goal
 
-pub returns : goal.returns
-returns c = λ width at bytes are within. drop-number_at width at (at + width) bytes are within refl
+pub returns-clause-bytes : goal.returns-clause-bytes
+returns-clause-bytes c = drop-number_at
+
+pub returns-clause-fit : goal.returns-clause-fit
+returns-clause-fit c = number_at-small

@@ -2,4 +2,4 @@ use Rattle.log_file.proofs.Refusals.{one_refusal}
 use Rattle.log_file.proofs.laws.refusals_are_unique.Goals as goal
 
 pub returns : goal.returns
-returns c = one_refusal
+returns c = one_refusal c.no_record_begins_another.ensures

@@ -11,4 +11,4 @@ returns-clause-found c =
     let h = c.in_ok-settings.ensures.ok in
     let parts : c.args.bytes.now ≡ c.split_at.result.0.now ++ c.split_at.result.1.now =
     sym (take-append-drop (length c.args.bytes.now - 32) c.args.bytes.now) ∙ ap₂ (λ (x y : List ℕ). x ++ y) (sym c.split_at.ensures.front) (sym c.split_at.ensures.back) in
-    ok_is_file c.args.bytes.now c.split_at.result.0.now c.split_at.result.1.now c.content_in.result parts (λ i. omega (arith, c.type_inv.bytes i)) (omega (arith, c.if-length.false, c.split_at.ensures.front_len)) h.1 c.content_in.ensures.fields
+    ok_is_file c.read_numbers_are_written.ensures.bytes c.args.bytes.now c.split_at.result.0.now c.split_at.result.1.now c.content_in.result parts (λ i. omega (arith, c.type_inv.bytes i)) (omega (arith, c.if-length.false, c.split_at.ensures.front_len)) h.1 c.content_in.ensures.fields

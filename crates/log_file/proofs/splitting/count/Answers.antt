@@ -11,11 +11,11 @@ loop-at-preserved c =
     record {
       few = omega (arith, c.loop-at.invariant.few, b.0);
       near = omega (arith, c.loop-at-test.true, b.1);
-      counted = λ rs fit parts. counted_more c.args.bytes.now rs c.loop-at.at (c.loop-at.at + c.in-Some.size) c.in-Some.size c.loop-at.count c.loop-at-test.true c.in-Some.ensures.value refl (c.loop-at.invariant.counted rs fit parts);
+      counted = λ rs fit parts. counted_more c.tags_tell_sizes.ensures.front c.args.bytes.now rs c.loop-at.at (c.loop-at.at + c.in-Some.size) c.in-Some.size c.loop-at.count c.loop-at-test.true c.in-Some.ensures.value refl (c.loop-at.invariant.counted rs fit parts);
     }
 
 pub returns-in-None : goal.returns-in-None
-returns-in-None c = λ rs fit parts. counted_unknown c.args.bytes.now rs c.loop-at.at c.loop-at.count c.loop-at-test.true c.in-None.ensures.value (c.loop-at.invariant.counted rs fit parts)
+returns-in-None c = λ rs fit parts. counted_unknown c.tags_tell_sizes.ensures.front c.args.bytes.now rs c.loop-at.at c.loop-at.count c.loop-at-test.true c.in-None.ensures.value (c.loop-at.invariant.counted rs fit parts)
 
 pub returns : goal.returns
 returns c = λ rs fit parts. counted_all c.args.bytes.now rs c.loop-at.at c.loop-at.count c.loop-at-test.false (c.loop-at.invariant.counted rs fit parts)

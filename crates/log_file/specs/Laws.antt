@@ -1,0 +1,15 @@
+-- Laws of files and logs, by their names.
+use Rattle.std.specs.Prelude.{◌≡◌}
+use Rattle.log_order.specs.Content.{Content, IsContent}
+use Rattle.log_file.specs.declared.error.FileError.{FileError}
+use Rattle.log_file.specs.declared.error.FileError.TheVariants.{OutOfMemory}
+use Rattle.log_file.specs.Layout.{file_bytes}
+use Rattle.log_file.specs.File.{IsRefusal}
+
+-- no file says two things
+abbrev pub SayOneThing : Type 0
+SayOneThing = (c d : Content) → IsContent c → IsContent d → file_bytes c ≡ file_bytes d → c ≡ d
+
+-- bytes that are a log's have no cause for a refusal
+abbrev pub AreNotRefused : Type 0
+AreNotRefused = (c : Content) → IsContent c → (e : FileError) → IsRefusal (file_bytes c) e → e ≡ OutOfMemory
