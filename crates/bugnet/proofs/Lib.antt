@@ -4,3 +4,4 @@ mod Prints
 mod Loads
 mod Recorded
 mod Suffices
+mod Saves

@@ -15,7 +15,7 @@ use Rattle.bugnet.specs.Commands.{Told, refused, ended, replay_told, replay_log,
 use Rattle.bugnet.specs.Headline.{Headline, ReplaysRun, PrintsRun, run_text, file_of_run}
 use Rattle.bugnet.proofs.Loads.{within}
 use Rattle.bugnet.proofs.Recorded.{size_of_file}
-use Rattle.bugnet.specs.Outside.{SendStops, ToldRefusal, WithFiles, Gives, told_of, SameFiles, KeptBoth, KeptFiles, replay_in}
+use Rattle.bugnet.specs.Outside.{SendStops, ToldRefusal, WithFiles, Gives, told_of, SameFiles, KeptBoth, KeptFiles, MayChange, replay_in}
 use Rattle.bugnet.specs.Run.{IsFree, Tells, own_err, own_out, IsFreeRefusal}
 use Rattle.bugnet.specs.declared.answer.Answer.{Answer}
 use Rattle.bugnet.specs.declared.answer.Answer.TheVariants.{Interval}
@@ -127,6 +127,19 @@ refusal-kept (Some files) after words what r status log book err_old err_new bef
 refusal-kept (Some files) after words what r status log book err_old err_new before now e (inr same) h =
     inr (subst (λ (t : Told). WhereTold (Some files) after (KeptFiles t.saved log book)) same (same-files (Some files) after e))
 
+-- where nothing changed, no more did than what may
+pub none-changed : (saved : Option (List ℕ)) (log book : List ℕ) (known after : Option Files) → after ≡ known → WhereTold known after (MayChange saved log book)
+none-changed saved log book None after e = tt
+none-changed saved log book (Some files) after e = subst (λ (k : Option Files). WhereTold (Some files) k (MayChange saved log book)) (sym e) (same saved)
+  where
+    same : (s : Option (List ℕ)) → MayChange s log book files files
+    same None = λ name. refl
+    same (Some bytes) = λ name not_log not_book. refl
+
+pub refusal-others : (known after : Option Files) (what : Files → Told) (log book : List ℕ) → after ≡ known → WithFiles known (λ files. WhereTold known after (MayChange (what files).saved log book))
+refusal-others None after what log book e = tt
+refusal-others (Some files) after what log book e = none-changed (what files).saved log book (Some files) after e
+
 -- ---- an interval
 
 -- what is printed is what is told
@@ -135,7 +148,7 @@ unfolding ended
 ended-out words mark text end.Done = sym (append_assoc begin_text text (end_text mark))
 ended-out words mark text (end.EndDiffers found) = ap (λ (t : List ℕ). begin_text ++ t) (append-nil text)
 
-ended-saved : (words : List (String Global)) (mark : EndMark) (text : List ℕ) (o : ends.Outcome) → (ended words mark text o).saved ≡ None
+pub ended-saved : (words : List (String Global)) (mark : EndMark) (text : List ℕ) (o : ends.Outcome) → (ended words mark text o).saved ≡ None
 unfolding ended
 ended-saved words mark text end.Done = refl
 ended-saved words mark text (end.EndDiffers found) = refl
@@ -237,6 +250,15 @@ answer-kept None first after words what a status log book e g h = tt
 answer-kept (Some files) first after words what a status log book e g h =
     let here = subst (λ (k : Option Files). IsFree status ⊎ WhereTold k after (KeptFiles (told_of words a).saved log book)) e h in
     subst (λ (t : Told). IsFree status ⊎ WhereTold (Some files) after (KeptFiles t.saved log book)) g here
+
+-- and no more changes than what may
+pub answer-others : (known first after : Option Files) (words : List (String Global)) (what : Files → Told) (a : Answer) (log book : List ℕ)
+    → first ≡ known → WithFiles known (λ files. Gives words (what files) (Ok a)) → WhereTold first after (MayChange (told_of words a).saved log book)
+    → WithFiles known (λ files. WhereTold known after (MayChange (what files).saved log book))
+answer-others None first after words what a log book e g h = tt
+answer-others (Some files) first after words what a log book e g h =
+    let here = subst (λ (k : Option Files). WhereTold k after (MayChange (told_of words a).saved log book)) e h in
+    subst (λ (t : Told). WhereTold (Some files) after (MayChange t.saved log book)) g here
 
 -- ---- a recording
 

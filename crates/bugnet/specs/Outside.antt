@@ -101,7 +101,7 @@ abbrev pub KeptFiles : Option (List ℕ) → List ℕ → List ℕ → Files →
 KeptFiles None log book old new = SameFiles old new
 KeptFiles (Some bytes) log book old new = KeptBoth bytes log book old new
 
--- whatever happened, only what was to be saved may have changed
+-- whatever happened, only the two names of what was to be saved may have changed, and none where nothing was
 abbrev pub MayChange : Option (List ℕ) → List ℕ → List ℕ → Files → Files → Type 0
 MayChange None log book old new = SameFiles old new
 MayChange (Some bytes) log book old new = SameBut log book old new

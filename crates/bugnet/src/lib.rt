@@ -9,6 +9,7 @@ mod answer;
 mod commands;
 mod elf;
 mod interval;
+mod laws;
 mod loading;
 mod log;
 mod printing;
@@ -20,6 +21,7 @@ mod texts;
 
 pub use answer::{Answer, Reading, Recording};
 pub use interval::{Outcome, headline, log_suffices};
+pub use laws::only_recordings_save;
 pub use log::Kept;
 pub use program::run;
 pub use refusal::Refusal;

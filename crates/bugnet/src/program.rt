@@ -4,7 +4,7 @@ ghost use Rattle.bn_outside.specs.Counts.{Rose, NoneFell};
 ghost use Rattle.bn_outside.specs.Files.{WhereTold};
 ghost use Rattle.bugnet.specs.Refusals.{name_at};
 ghost use Rattle.bugnet.specs.Commands.{answer_told};
-ghost use Rattle.bugnet.specs.Outside.{told_of, WithFiles, KeptBoth, KeptFiles, SameBut, SaveStops};
+ghost use Rattle.bugnet.specs.Outside.{told_of, WithFiles, KeptBoth, KeptFiles, SameBut, MayChange, SaveStops};
 ghost use Rattle.bugnet.specs.Run.{IsFree, Tells};
 ghost use Rattle.bugnet.specs.Headline.{PrintsRun};
 ghost use Rattle.bugnet.specs.declared.answer.Answer.TheVariants.{Recorded, Interval};
@@ -102,7 +102,7 @@ fn act<S: Store, O: Sink, X: Sink>(
 ) -> u8
     ensures told { Tells words.now (told_of words.now answer.now) result (O.written out.old) (O.written out.new) (X.written err.old) (X.written err.new) (X.faults err.old) (X.faults err.new) }
     ensures kept { IsFree result ⊎ WhereTold (S.files store.old) (S.files store.new) (KeptFiles (told_of words.now answer.now).saved (name_at words.now 5) (name_at words.now 6)) }
-    ensures others { WhereTold (S.files store.old) (S.files store.new) (SameBut (name_at words.now 5) (name_at words.now 6)) }
+    ensures others { WhereTold (S.files store.old) (S.files store.new) (MayChange (told_of words.now answer.now).saved (name_at words.now 5) (name_at words.now 6)) }
     ensures later { NoneFell (S.counts store.old) (S.counts store.new) }
     ensures failed { result ≡ 3 → Rose (S.counts store.old).faults (S.counts store.new).faults }
     ensures missing { result ≢ 4 }
@@ -147,9 +147,10 @@ pub fn run<S: Store, I: Source, O: Sink, X: Sink>(
     // The log that a recording saved gives the recorded run: replaying it prints that run's rows.
     ensures headline { WithFiles (S.files store.old) (λ files. PrintsRun words.now files result (O.written out.old) (O.written out.new)) }
 
-    // What was to be saved is saved, and whatever happens nothing else changes.
+    // What was to be saved is saved. Whatever happens, only a recording changes files, and of these
+    // only LOG and BOOK: where nothing was to be saved, as at a replay, all stay as they were.
     ensures kept { WithFiles (S.files store.old) (λ files. IsFree result ⊎ WhereTold (S.files store.old) (S.files store.new) (KeptFiles (answer_told words.now files).saved (name_at words.now 5) (name_at words.now 6))) }
-    ensures others { WhereTold (S.files store.old) (S.files store.new) (SameBut (name_at words.now 5) (name_at words.now 6)) }
+    ensures others { WithFiles (S.files store.old) (λ files. WhereTold (S.files store.old) (S.files store.new) (MayChange (answer_told words.now files).saved (name_at words.now 5) (name_at words.now 6))) }
 
     // A refusal by the outside comes only where its count rose.
     ensures failed { result ≡ 3 → Rose (S.counts store.old).faults (S.counts store.new).faults }

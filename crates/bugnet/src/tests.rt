@@ -2,6 +2,7 @@
 use crate::run;
 use bn_outside::{MemorySink, MemorySource, MemoryStore};
 use std::alloc::{AllocError, Global};
+use std::process::Abort;
 use std::test::Fail;
 
 // The program file of `addi a0,zero,5`, `addi a7,zero,93`, `ecall`.
@@ -159,60 +160,71 @@ fn a_forged_end_is_told_after_the_rows_before_it(rt: HostRuntime) -> Result<(), 
     Ok(())
 }
 
+// A call is refused with this status and line. It prints nothing, and saves nothing under LOG,
+// BOOK or A.
+fn check_refused(
+    rt: &impl Abort,
+    machine: &mut Machine,
+    words: &[&str],
+    status: u8,
+    line: &str,
+) -> Result<(), AllocError> {
+    assert_eq!(rt; machine.run(words)?, status, "{line}");
+    assert_eq!(rt; machine.out.written(), b"".as_slice());
+    assert_eq!(rt; machine.err.written(), line.as_bytes());
+    for name in ["LOG", "BOOK", "A"] {
+        assert_eq!(rt; machine.store.bytes(name), None);
+    }
+    Ok(())
+}
+
 #[test]
-fn what_is_refused_saves_and_prints_nothing(rt: HostRuntime) -> Result<(), Fail> {
-    // `addi zero,zero,0` alone: the run ends in a fault.
+fn words_that_are_no_command_are_refused(rt: HostRuntime) -> Result<(), Fail> {
+    let mut machine = with_program(rt.alloc(), &PROGRAM)?;
+    let line = "bugnet: words refused\n";
+    check_refused(&rt, &mut machine, &["bugnet"], 2, line)?;
+    for seed in ["18446744073709551616", "+1"] {
+        let words = ["bugnet", "record", "--seed", seed, "ELF", "LOG", "BOOK"];
+        check_refused(&rt, &mut machine, &words, 2, line)?;
+    }
+    let words = ["bugnet", "record", "--seed", "1", "-ELF", "LOG", "BOOK"];
+    check_refused(&rt, &mut machine, &words, 2, line)?;
+    Ok(())
+}
+
+#[test]
+fn log_and_book_have_two_names(rt: HostRuntime) -> Result<(), Fail> {
+    let mut machine = with_program(rt.alloc(), &PROGRAM)?;
+    let words = ["bugnet", "record", "--seed", "1", "ELF", "A", "A"];
+    check_refused(&rt, &mut machine, &words, 2, "bugnet: same name A\n")?;
+    Ok(())
+}
+
+#[test]
+fn a_missing_log_is_told_by_its_name(rt: HostRuntime) -> Result<(), Fail> {
+    let mut machine = with_program(rt.alloc(), &PROGRAM)?;
+    check_refused(&rt, &mut machine, &PLAY, 4, "bugnet: missing: LOG\n")?;
+    Ok(())
+}
+
+#[test]
+fn a_run_that_ends_in_a_fault_is_not_built_yet(rt: HostRuntime) -> Result<(), Fail> {
+    // `addi zero,zero,0` alone.
     let mut short = [0; 88];
     short.copy_from_slice(&PROGRAM[..88]);
     short[68] = 4;
     short[72] = 4;
     short[84..].copy_from_slice(&[0x13, 0, 0, 0]);
     let mut machine = with_program(rt.alloc(), &short)?;
-    for (words, status, line) in [
-        (RECORD.as_slice(), 22, "bugnet: not built yet\n"),
-        (["bugnet"].as_slice(), 2, "bugnet: words refused\n"),
-        (PLAY.as_slice(), 4, "bugnet: missing: LOG\n"),
-        (
-            ["bugnet", "record", "--seed", "1", "ELF", "A", "A"].as_slice(),
-            2,
-            "bugnet: same name A\n",
-        ),
-        (
-            [
-                "bugnet",
-                "record",
-                "--seed",
-                "18446744073709551616",
-                "ELF",
-                "LOG",
-                "BOOK",
-            ]
-            .as_slice(),
-            2,
-            "bugnet: words refused\n",
-        ),
-        (
-            ["bugnet", "record", "--seed", "+1", "ELF", "LOG", "BOOK"].as_slice(),
-            2,
-            "bugnet: words refused\n",
-        ),
-        (
-            ["bugnet", "record", "--seed", "1", "-ELF", "LOG", "BOOK"].as_slice(),
-            2,
-            "bugnet: words refused\n",
-        ),
-        (
-            ["bugnet", "replay", "ELF", "ELF", "0", "0"].as_slice(),
-            22,
-            "bugnet: not built yet\n",
-        ),
-    ] {
-        assert_eq!(rt; machine.run(words)?, status, "{line}");
-        assert_eq!(rt; machine.out.written(), b"".as_slice());
-        assert_eq!(rt; machine.err.written(), line.as_bytes());
-        assert_eq!(rt; machine.store.bytes("LOG"), None);
-        assert_eq!(rt; machine.store.bytes("BOOK"), None);
-    }
+    check_refused(&rt, &mut machine, &RECORD, 22, "bugnet: not built yet\n")?;
+    Ok(())
+}
+
+#[test]
+fn a_program_is_no_log(rt: HostRuntime) -> Result<(), Fail> {
+    let mut machine = with_program(rt.alloc(), &PROGRAM)?;
+    let words = ["bugnet", "replay", "ELF", "ELF", "0", "0"];
+    check_refused(&rt, &mut machine, &words, 22, "bugnet: not built yet\n")?;
     Ok(())
 }
 
@@ -230,5 +242,16 @@ fn a_store_that_fails_is_told_by_its_name(rt: HostRuntime) -> Result<(), Fail> {
         assert_eq!(rt; machine.run(&RECORD)?, 3);
         assert_eq!(rt; machine.err.written(), line.as_bytes());
     }
+    Ok(())
+}
+
+#[test]
+fn a_replay_that_the_store_stops_changes_no_file(rt: HostRuntime) -> Result<(), Fail> {
+    let alloc = rt.alloc();
+    let mut machine = Machine::new(alloc, Vec::from_slice(alloc, &[1])?);
+    // The fifth word of a replay is no name, though a file may have it.
+    machine.store.put("0", &[7])?;
+    assert_eq!(rt; machine.run(&PLAY)?, 3);
+    assert_eq!(rt; machine.store.bytes("0"), Some([7].as_slice()));
     Ok(())
 }
