@@ -2,3 +2,4 @@ pub mod OneStep
 pub mod Orderly
 pub mod WordsKept
 pub mod Held
+pub mod DecodedAhead

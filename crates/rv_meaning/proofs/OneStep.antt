@@ -1,14 +1,13 @@
 -- One instruction of a hart, and what is left of its budget.
-use Rattle.std.proofs.Common.{◌≡◌, ℕ, suc, ◌+◌, ◌-◌, ◌<◌, arith, ap, ◌∙◌, sym}
+use Rattle.std.proofs.Common.{◌≡◌, ℕ, false, suc, ◌+◌, ◌-◌, ◌<◌, arith, ap, ◌∙◌, sym}
 use Rattle.std.specs.Prelude.{Option, Some}
 use Rattle.bn_base.specs.Programs.{Program, code_at}
 use Rattle.bn_base.specs.declared.state.HartState.{HartState}
-use Rattle.rv_decode.specs.declared.name.Name.{Name}
 use Rattle.rv_decode.specs.Table.{Instruction, decoded}
 use Rattle.rv_meaning.specs.declared.asks.Ask.{Ask}
 use Rattle.rv_meaning.specs.declared.asks.Want.{Want}
-use Rattle.rv_meaning.specs.Execute.{Step, Quiet, Asks, ask_of, step, fetched, executed, meaning}
-use Rattle.rv_meaning.specs.Told.{asked}
+use Rattle.rv_meaning.specs.Execute.{Step, Quiet, Asks, ask_of, step, fetched, executed}
+use Rattle.rv_meaning.specs.Told.{Told}
 
 -- after a quiet instruction, what is left gives the same ask
 pub quiet_more : (i : Program) (b k : ℕ) (s t : HartState) → k < b → Quiet t ≡ step i s → ask_of i (b - (k + 1)) t ≡ ask_of i (b - k) s
@@ -31,7 +30,5 @@ pub word_step : (i : Program) (s : HartState) (w : ℕ) (o : Option Instruction)
 word_step i s w o e f = ap (λ p. executed p w i s) f ∙ code_step i s (Some w) e
 
 -- an instruction that asks, and leaves the state as it was, is the end
-pub ask_after : (i : Program) (b k : ℕ) (s t : HartState) (w : Want) (n : Name) (d : Instruction) → k < b → t ≡ s → Asks (asked (meaning n i d s)) ≡ meaning n i d s → meaning n i d s ≡ step i s → w ≡ asked (meaning n i d t) → record { state = t; want = w } ≡ ask_of i (b - k) s
-ask_after i b k s t w n d h ts e m q =
-    let we : w ≡ asked (meaning n i d s) = q ∙ ap (λ u. asked (meaning n i d u)) ts in
-    ap (λ (u : HartState). record { state = u; want = w }) ts ∙ ask_at i b k s w h (ap Asks we ∙ (e ∙ m))
+pub ask_after : (i : Program) (b k : ℕ) (s t : HartState) (w : Want) (x : Step) → k < b → Told false s t w x → x ≡ step i s → record { state = t; want = w } ≡ ask_of i (b - k) s
+ask_after i b k s t w x h told m = ap (λ (u : HartState). record { state = u; want = w }) told.0 ∙ ask_at i b k s w h (told.1 ∙ m)

@@ -5,3 +5,4 @@ pub mod Orderly
 pub mod Told
 pub mod WordStates
 pub mod Held
+pub mod Ahead

@@ -5,8 +5,7 @@ ghost use Rattle.rv_meaning.specs.Orderly.{orderly};
 
 use crate::asks::{Ask, Want};
 use crate::fetch::{code_segment, code_word};
-use crate::questions::ask;
-use crate::steps::quiet;
+use crate::steps::step;
 use bn_base::{Fault, HartState, Image};
 use rv_decode::decode;
 
@@ -16,6 +15,7 @@ pub fn quiet_run_in_place(image: &Image, state: &mut HartState, budget: u64) -> 
     ensures { record { state = state.new; want = result } ≡ ask_of image.now budget state.old }
 {
     let mut segment = None;
+    let mut want = Want::Cut;
     for _ in 0..budget {
         segment = code_segment(image, segment, state.pc);
         match code_word(segment, state.pc) {
@@ -33,8 +33,8 @@ pub fn quiet_run_in_place(image: &Image, state: &mut HartState, budget: u64) -> 
                     };
                 }
                 Some(instr) => {
-                    if !quiet(instr, state) {
-                        return ask(instr, image, state);
+                    if !step(&instr, image, state, &mut want) {
+                        return want;
                     }
                 }
             },

@@ -2,6 +2,7 @@
 #![tactic(auto)]
 
 mod access;
+mod ahead;
 mod amo;
 mod asks;
 mod fetch;
@@ -14,6 +15,7 @@ mod steps;
 mod words;
 
 pub use access::{loaded_value, stored_word};
+pub use ahead::DecodedImage;
 pub use amo::AmoOp;
 pub use asks::{Ask, Reply, Want};
 pub use interpreter::{quiet_run, quiet_run_in_place};

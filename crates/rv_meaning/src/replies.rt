@@ -9,6 +9,7 @@ use crate::moves::{count_up, next_at, next_with};
 use bn_base::{HartState, Register};
 
 /// As [`absorb`], but changes the state in place, which saves copies.
+#[inline(always)]
 pub fn absorb_in_place(state: &mut HartState, want: &Want, reply: Reply)
     requires { IsTrue (is_reply_to want.now reply) }
     ensures { state.new ≡ after want.now reply state.old }

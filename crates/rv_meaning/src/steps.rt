@@ -1,17 +1,19 @@
-//! One instruction of a hart.
+//! One instruction of a hart: what it does where it is quiet, else what it asks.
 ghost use Rattle.std.specs.Prelude.{◌≡◌, true};
-ghost use Rattle.bn_base.specs.Programs.{Program};
 ghost use Rattle.rv_decode.specs.Seen.{seen};
 ghost use Rattle.rv_meaning.specs.Execute.{meaning, next_at, next_with, jump, branch};
 ghost use Rattle.rv_meaning.specs.Told.{Told};
 ghost use Rattle.rv_meaning.specs.Words.{add};
 
+use crate::amo::AmoOp;
+use crate::asks::Want;
 use crate::moves::{next_at, next_with};
+use crate::questions::{amo, fault, load, load_reserved, store, store_conditional, system};
 use crate::words::{
     div_signed, div_unsigned, flag, high_mixed, high_signed, high_unsigned, less, rem_signed,
     rem_unsigned, shift_left, shift_right, shift_right_signed, sub,
 };
-use bn_base::{Addr, HartState, Register};
+use bn_base::{Addr, Fault, HartState, Image, Register};
 use rv_decode::{Instr, Name};
 
 // Writes `value` to `rd`, as an instruction that computes it.
@@ -23,11 +25,11 @@ fn gives(state: &mut HartState, rd: Register, value: u32) -> bool
     true
 }
 
-fn jump(state: &mut HartState, instr: Instr, target: Addr) -> bool
-    ensures { Told result state.old state.new (jump (seen instr) target state.old) }
+fn jump(want: &mut Want, state: &mut HartState, instr: &Instr, target: Addr) -> bool
+    ensures { Told result state.old state.new want.new (jump (seen instr.now) target state.old) }
 {
     if target % 4 != 0 {
-        return false;
+        return fault(want, Fault::TargetMisaligned, target);
     }
     let link = state.pc.wrapping_add(4);
     state.x.put(Register::new(instr.rd), link);
@@ -35,8 +37,8 @@ fn jump(state: &mut HartState, instr: Instr, target: Addr) -> bool
     true
 }
 
-fn branch(state: &mut HartState, taken: bool, target: Addr) -> bool
-    ensures { Told result state.old state.new (branch taken target state.old) }
+fn branch(want: &mut Want, state: &mut HartState, taken: bool, target: Addr) -> bool
+    ensures { Told result state.old state.new want.new (branch taken target state.old) }
 {
     if !taken {
         next_at(state, state.pc.wrapping_add(4));
@@ -45,7 +47,7 @@ fn branch(state: &mut HartState, taken: bool, target: Addr) -> bool
         next_at(state, target);
         true
     } else {
-        false
+        fault(want, Fault::TargetMisaligned, target)
     }
 }
 
@@ -57,9 +59,11 @@ fn fence(state: &mut HartState) -> bool
     true
 }
 
-/// Does an instruction, unless it asks. Then it gives false, and the state is as before.
-pub fn quiet(instr: Instr, state: &mut HartState) -> bool
-    ensures { (i : Program) → Told result state.old state.new (meaning instr.name i (seen instr) state.old) }
+/// Does an instruction, unless it asks. Then it gives false, `want` is what it asks, and the state
+/// is as before.
+#[inline(always)]
+pub fn step(instr: &Instr, image: &Image, state: &mut HartState, want: &mut Want) -> bool
+    ensures { Told result state.old state.new want.new (meaning instr.now.name image.now (seen instr.now) state.old) }
 {
     let pc = state.pc;
     let rd = Register::new(instr.rd);
@@ -71,14 +75,22 @@ pub fn quiet(instr: Instr, state: &mut HartState) -> bool
     match instr.name {
         Name::Lui => gives(state, rd, imm),
         Name::Auipc => gives(state, rd, pc.wrapping_add(imm)),
-        Name::Jal => jump(state, instr, near),
-        Name::Jalr => jump(state, instr, there / 2 * 2),
-        Name::Beq => branch(state, a == b, near),
-        Name::Bne => branch(state, a != b, near),
-        Name::Blt => branch(state, less(a, b), near),
-        Name::Bge => branch(state, !less(a, b), near),
-        Name::Bltu => branch(state, a < b, near),
-        Name::Bgeu => branch(state, !(a < b), near),
+        Name::Jal => jump(want, state, instr, near),
+        Name::Jalr => jump(want, state, instr, there / 2 * 2),
+        Name::Beq => branch(want, state, a == b, near),
+        Name::Bne => branch(want, state, a != b, near),
+        Name::Blt => branch(want, state, less(a, b), near),
+        Name::Bge => branch(want, state, !less(a, b), near),
+        Name::Bltu => branch(want, state, a < b, near),
+        Name::Bgeu => branch(want, state, !(a < b), near),
+        Name::Lb => load(want, image, there, 1, true, rd),
+        Name::Lh => load(want, image, there, 2, true, rd),
+        Name::Lw => load(want, image, there, 4, false, rd),
+        Name::Lbu => load(want, image, there, 1, false, rd),
+        Name::Lhu => load(want, image, there, 2, false, rd),
+        Name::Sb => store(want, image, there, 1, b),
+        Name::Sh => store(want, image, there, 2, b),
+        Name::Sw => store(want, image, there, 4, b),
         Name::Addi => gives(state, rd, a.wrapping_add(imm)),
         Name::Slti => gives(state, rd, flag(less(a, imm))),
         Name::Sltiu => gives(state, rd, flag(a < imm)),
@@ -107,6 +119,18 @@ pub fn quiet(instr: Instr, state: &mut HartState) -> bool
         Name::Rem => gives(state, rd, rem_signed(a, b)),
         Name::Remu => gives(state, rd, rem_unsigned(a, b)),
         Name::Fence => fence(state),
-        _ => false,
+        Name::Ecall => system(want, state),
+        Name::Ebreak => fault(want, Fault::Breakpoint, 0),
+        Name::LrW => load_reserved(want, image, a, rd),
+        Name::ScW => store_conditional(want, image, a, rd, b),
+        Name::AmoswapW => amo(want, image, a, AmoOp::Swap, rd, b),
+        Name::AmoaddW => amo(want, image, a, AmoOp::Add, rd, b),
+        Name::AmoxorW => amo(want, image, a, AmoOp::Xor, rd, b),
+        Name::AmoandW => amo(want, image, a, AmoOp::And, rd, b),
+        Name::AmoorW => amo(want, image, a, AmoOp::Or, rd, b),
+        Name::AmominW => amo(want, image, a, AmoOp::Min, rd, b),
+        Name::AmomaxW => amo(want, image, a, AmoOp::Max, rd, b),
+        Name::AmominuW => amo(want, image, a, AmoOp::MinU, rd, b),
+        Name::AmomaxuW => amo(want, image, a, AmoOp::MaxU, rd, b),
     }
 }

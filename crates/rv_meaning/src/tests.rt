@@ -5,6 +5,7 @@ use bn_base::{HartState, Image, Register, Registers, Segment, Settings};
 use std::alloc::{AllocError, Global};
 
 mod computing;
+mod decoded;
 mod jumps;
 mod memory;
 mod turns;

@@ -16,16 +16,15 @@ returns-in-None-decode c =
     let fetched = c.in-Some.ensures i c.code_segment-segment.ensures.none c.code_segment-segment.ensures.code in
     ask_at i c.args.budget c.loop.counter s _ c.loop-test.true (word_step i s w None fetched c.in-None-decode.ensures) ∙ c.loop.invariant.0
 
-pub returns-then-not-quiet : goal.returns-then-not-quiet
-returns-then-not-quiet c =
+pub returns-then-not-step : goal.returns-then-not-step
+returns-then-not-step c =
     let i = c.args.image.now in let s = c.loop.state in let w = c.in-Some.word in let d = c.in-Some-decode.instr in
     let fetched = c.in-Some.ensures i c.code_segment-segment.ensures.none c.code_segment-segment.ensures.code in
-    let asks = c.if-not-quiet.ensures i in
-    ask_after i c.args.budget c.loop.counter s c.quiet.new.state c.ask.result d.name (seen d) c.loop-test.true asks.0 asks.1 (word_step i s w (Some (seen d)) fetched c.in-Some-decode.ensures) c.ask.ensures ∙ c.loop.invariant.0
+    ask_after i c.args.budget c.loop.counter s c.step.new.state c.step.new.want _ c.loop-test.true c.if-not-step.ensures (word_step i s w (Some (seen d)) fetched c.in-Some-decode.ensures) ∙ c.loop.invariant.0
 
 pub loop-preserved : goal.loop-preserved
 loop-preserved c =
     let i = c.args.image.now in let s = c.loop.state in let w = c.in-Some.word in let d = c.in-Some-decode.instr in
     let fetched = c.in-Some.ensures i c.code_segment-segment.ensures.none c.code_segment-segment.ensures.code in
-    let one = c.if-not-quiet.ensures i ∙ word_step i s w (Some (seen d)) fetched c.in-Some-decode.ensures in
-    (quiet_more i c.args.budget c.loop.counter s c.quiet.new.state c.loop-test.true one ∙ c.loop.invariant.0, c.code_segment-segment.ensures.code)
+    let one = c.if-not-step.ensures ∙ word_step i s w (Some (seen d)) fetched c.in-Some-decode.ensures in
+    (quiet_more i c.args.budget c.loop.counter s c.step.new.state c.loop-test.true one ∙ c.loop.invariant.0, c.code_segment-segment.ensures.code)

@@ -1,0 +1,19 @@
+use Rattle.std.proofs.Common.{List, ap, sym, subst, ◌∙◌}
+use Rattle.std.specs.Prelude.{Option}
+use Rattle.rv_decode.specs.declared.instr.Instr.{Instr}
+use Rattle.rv_meaning.specs.Ahead.{IsAhead, decoded_word}
+use Rattle.rv_meaning.proofs.DecodedAhead.{ahead_more, place_more}
+use Rattle.rv_meaning.proofs.ahead.decoded_from.Goals as goal
+
+pub returns-in-None-checked_add : goal.returns-in-None-checked_add
+returns-in-None-checked_add c =
+    let e = c.decode.ensures ∙ ap decoded_word c.in-Some.ensures in
+    let more = ahead_more c.args.image.now c.args.first c.loop.addr c.loop.instrs.items c.decode.result c.loop.invariant.0 c.loop.invariant.1 e in
+    subst (λ (os : List (Option Instr)). IsAhead c.args.image.now c.args.first os) (sym c.in_ok-push-in-Some.ensures.items) more
+
+pub loop-preserved : goal.loop-preserved
+loop-preserved c =
+    let e = c.decode.ensures ∙ ap decoded_word c.in-Some.ensures in
+    let more = ahead_more c.args.image.now c.args.first c.loop.addr c.loop.instrs.items c.decode.result c.loop.invariant.0 c.loop.invariant.1 e in
+    let items = c.in_ok-push-in-Some.ensures.items in
+    (subst (λ (os : List (Option Instr)). IsAhead c.args.image.now c.args.first os) (sym items) more, place_more c.args.first c.loop.addr _ c.loop.instrs.items _ c.decode.result items c.loop.invariant.1 c.in-Some-checked_add.ensures.1)

@@ -1,0 +1,131 @@
+//! Code that is decoded ahead, for harts that run many instructions.
+//!
+//! Decoding a word takes longer than doing its instruction. What runs a program for long makes a
+//! [`DecodedImage`] of it once; what does single instructions or short stretches calls
+//! [`quiet_run_in_place`], which needs no memory.
+ghost use Rattle.std.specs.Prelude.{◌≡◌, Some, IfOk, IfSome};
+ghost use Rattle.bn_base.specs.Programs.{code_at};
+ghost use Rattle.rv_decode.specs.Seen.{seen};
+ghost use Rattle.rv_meaning.specs.Ahead.{decoded_word, IsAhead};
+ghost use Rattle.rv_meaning.specs.Execute.{ask_of};
+
+use crate::asks::Want;
+use crate::interpreter::quiet_run_in_place;
+use crate::steps::step;
+use bn_base::{Addr, HartState, Image};
+use rv_decode::{Instr, decode};
+use std::alloc::{AllocError, Global};
+use std::marker::Model;
+
+/// How many words are decoded ahead, at most.
+const LIMIT: u32 = 1 << 20;
+
+/// A program with the segment that it starts in decoded ahead, up to its first 2^20 words.
+/// Contracts see the program.
+///
+/// It takes 16 bytes a word, and never changes: a `&DecodedImage` may be shared among the threads
+/// that run the program's harts. Code in other segments, and words beyond the first 2^20, run too,
+/// as slowly as without it.
+#[derive(Drop)]
+pub struct DecodedImage<'a> {
+    image: &'a Image,
+    first: Addr,
+    instrs: Vec<Option<Instr>>,
+}
+
+impl<'a> Model for DecodedImage<'a> {
+    ghost use Rattle.bn_base.specs.Programs.{Program};
+    ghost use Rattle.rv_meaning.specs.Ahead.{IsAhead};
+
+    ghost Value = { Program };
+
+    ghost view = { λ d. d.image.now };
+
+    ghost invariant = { λ d. IsAhead d.image.now d.first d.instrs.items };
+}
+
+// What the code words from `first` on decode to, at most `count` of them.
+fn decoded_from(
+    alloc: Global,
+    image: &Image,
+    first: Addr,
+    count: u32,
+) -> Result<Vec<Option<Instr>>, AllocError>
+    ensures { IfOk result (λ v. IsAhead image.now first v.items) }
+{
+    let mut instrs = Vec::new(alloc);
+    let mut addr = first;
+    for _ in 0..count {
+        match image.code(addr) {
+            None => return Ok(instrs),
+            Some(word) => instrs.push(decode(word))?,
+        }
+        match addr.checked_add(4) {
+            None => return Ok(instrs),
+            Some(next) => addr = next,
+        }
+    }
+    Ok(instrs)
+}
+
+impl<'a> DecodedImage<'a> {
+    /// Decodes the segment that the program starts in. The error is that memory is wanting.
+    pub fn new(alloc: Global, image: &'a Image) -> Result<DecodedImage<'a>, AllocError>
+        ensures { IfOk result (λ d. d ≡ image.now) }
+    {
+        DecodedImage::with_limit(alloc, image, LIMIT)
+    }
+
+    // Decodes at most `limit` words of the segment that the program starts in.
+    pub(crate) fn with_limit(
+        alloc: Global,
+        image: &'a Image,
+        limit: u32,
+    ) -> Result<DecodedImage<'a>, AllocError>
+        ensures { IfOk result (λ d. d ≡ image.now) }
+    {
+        let first = match image.segment_at(image.entry()) {
+            None => 0,
+            Some(segment) => segment.first(),
+        };
+        let instrs = decoded_from(alloc, image, first, limit)?;
+        Ok(DecodedImage {
+            image,
+            first,
+            instrs,
+        })
+    }
+
+    // The instruction at a pc, where it is decoded.
+    fn instr(&self, pc: Addr) -> Option<&Instr>
+        ensures { IfSome result (λ d. decoded_word (code_at self.now pc) ≡ Some (seen d.now)) }
+    {
+        if pc < self.first || (pc - self.first) % 4 != 0 {
+            return None;
+        }
+        match self.instrs.get(((pc - self.first) / 4) as usize) {
+            None => None,
+            Some(instr) => instr.as_ref(),
+        }
+    }
+
+    /// As [`quiet_run_in_place`] of its program, and faster where the code is decoded. The state is
+    /// changed in place, up to the instruction that asks; the reply to the want goes to
+    /// [`absorb_in_place`](crate::absorb_in_place).
+    pub fn quiet_run_in_place(&self, state: &mut HartState, budget: u64) -> Want
+        ensures { record { state = state.new; want = result } ≡ ask_of self.now budget state.old }
+    {
+        let mut want = Want::Cut;
+        for done in 0..budget {
+            match self.instr(state.pc) {
+                None => return quiet_run_in_place(self.image, state, budget - done),
+                Some(instr) => {
+                    if !step(instr, self.image, state, &mut want) {
+                        return want;
+                    }
+                }
+            }
+        }
+        Want::Cut
+    }
+}
