@@ -3,6 +3,9 @@ use crate::*;
 use std::alloc::{AllocError, Global};
 use std::test::Fail;
 
+mod books;
+mod gates;
+
 // The calls that are to fail, and whether each of the first six then does.
 const LISTED: [u64; 3] = [2, 3, 6];
 
