@@ -1,0 +1,7 @@
+use Rattle.std.proofs.Common.{◌≡◌, drop}
+use Rattle.hart_replay.specs.Scans.{mark_in}
+use Rattle.hart_replay.proofs.scan.next_mark.Given as goal
+
+-- no End stands before the place
+abbrev pub invariant-loop-place : goal.invariant-loop-place
+invariant-loop-place l = mark_in l.hart (drop l.place l.records) ≡ mark_in l.hart (drop l.from l.records)

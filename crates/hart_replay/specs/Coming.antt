@@ -1,0 +1,88 @@
+-- What is still to come of a replay, and what of it a caller sees.
+use Rattle.std.specs.Prelude.{◌≡◌, ℕ, zero, suc, ◌+◌, ◌-◌, ◌*◌, ◌^◌, ◌⊎◌, Bool, List, [], ◌∷◌, ◌++◌, take, length, Option, Some, None, Result, Ok, Err}
+use Rattle.bn_base.specs.Programs.{Program}
+use Rattle.bn_base.specs.declared.end_mark.EndMark.{EndMark}
+use Rattle.bn_base.specs.declared.row.Row.{Row}
+use Rattle.bn_base.specs.declared.state.HartState.{HartState}
+use Rattle.rv_meaning.specs.Execute.{Quiet, Asks, step, absorbed}
+use Rattle.rv_meaning.specs.declared.asks.Want.{Want}
+use Rattle.rv_meaning.specs.declared.asks.Want.TheVariants.{Load, Store, LoadReserved, StoreConditional, Amo, System, Cut, Faulted}
+use Rattle.rv_meaning.specs.declared.asks.Reply.{Reply}
+use Rattle.rv_meaning.specs.declared.asks.Reply.TheVariants.{Word, Stored, ScOk, ScFailed, Answer, Over}
+use Rattle.log_record.specs.declared.record.Record.{Record}
+use Rattle.hart_replay.specs.declared.error.ReplayError.{ReplayError}
+use Rattle.hart_replay.specs.declared.error.ReplayError.TheVariants.{NoInterval, OutOfMemory}
+use Rattle.hart_replay.specs.Replay.{Outcome, Done, Refused, Replayed, Interval, Position, Next, On, Stop, one_step, ended, interval_of, replayed}
+
+-- ---- the state by the rows
+
+-- the reply that a row tells of, by what its instruction asked
+abbrev pub word_reply : Option (ℕ × ℕ) → Reply
+word_reply None = Over
+word_reply (Some access) = Word access.1
+
+abbrev pub conditional_reply : Option (ℕ × ℕ) → Reply
+conditional_reply None = ScFailed
+conditional_reply (Some access) = ScOk
+
+abbrev pub call_reply : Option (ℕ × ℕ) → Reply
+call_reply None = Over
+call_reply (Some result) = Answer result.1
+
+abbrev pub reply_in : Row → Want → Reply
+reply_in r (Load a w s rd) = word_reply r.load
+reply_in r (LoadReserved a rd) = word_reply r.load
+reply_in r (Amo a o rd y) = word_reply r.load
+reply_in r (Store a w y) = Stored
+reply_in r (StoreConditional a rd y) = conditional_reply r.store
+reply_in r (System n args) = call_reply r.reg
+reply_in r Cut = Over
+reply_in r (Faulted f y) = Over
+
+-- the state after a row, by the state before it: that of the instruction with the row's reply; a fault changes nothing
+abbrev pub after_row : Program → HartState → Row → HartState
+after_row i s r = elim (r.fault) [
+  | None ↦ elim (step i s) [ Quiet t ↦ t | Asks k ↦ absorbed (record { state = s; want = k }) (reply_in r k) ]
+  | Some f ↦ s
+]
+
+-- ---- what is to come
+
+abbrev pub with_rows : List Row → Replayed → Replayed
+with_rows rs x = record { rows = rs ++ x.rows; outcome = x.outcome }
+
+-- a position without its rows
+abbrev pub without_rows : Position → Position
+without_rows p = record { state = p.state; loads = p.loads; conditionals = p.conditionals; rows = []; called = p.called }
+
+-- the rows after a position, with n instructions left up to the mark's count, and the outcome
+abbrev pub to_come : Program → ℕ → Interval → ℕ → Position → Replayed
+to_come i h v zero p = ended i h v (without_rows p)
+to_come i h v (suc n) p = elim (one_step i h v p) [ On q ↦ with_rows (take 1 q.rows) (to_come i h v n q) | Stop o ↦ record { rows = []; outcome = o } ]
+
+-- ---- what a caller sees
+
+-- a replayer: its program, the hart's state after the rows given so far, and what is left of the replay
+pub record Replaying : Type 0 where
+  pub program : Program
+  pub state : HartState
+  pub left : Replayed
+
+-- nothing is left but the outcome
+abbrev pub over : Outcome → Replayed
+over o = record { rows = []; outcome = o }
+
+-- a replayer at the start of interval c of hart h
+pub record Begins (i : Program) (h c : ℕ) (records : List Record) (r : Replaying) : Type 0 where
+  pub program : r.program ≡ i
+  pub interval : Interval
+  pub found : interval_of h c records ≡ Some interval
+  pub state : r.state ≡ interval.start
+  pub left : r.left ≡ replayed i records h c
+
+-- what a step does: it gives the first row that is left, or none where the replay is done, or the outcome; want of memory
+-- may come at any row
+abbrev pub Stepped : Replaying → Result (Option Row) ReplayError → Replaying → Type 0
+Stepped old (Ok None) new = (old.left ≡ over Done) × (new ≡ old)
+Stepped old (Ok (Some row)) new = (old.left ≡ with_rows (row ∷ []) new.left) × (new.state ≡ after_row old.program old.state row) × (new.program ≡ old.program)
+Stepped old (Err e) new = ((old.left ≡ over (Refused e)) ⊎ (e ≡ OutOfMemory)) × (new ≡ record old { left = over (Refused e) })

@@ -1,0 +1,16 @@
+//! The replay of one checkpoint interval, from its log and the program alone.
+#![tactic(auto)]
+
+mod course;
+pub mod error;
+mod header;
+mod page;
+mod pending;
+pub mod replayer;
+mod scan;
+#[cfg(test)]
+mod tests;
+mod words;
+
+pub use error::ReplayError;
+pub use replayer::Replayer;

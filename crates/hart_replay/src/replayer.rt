@@ -1,0 +1,114 @@
+//! The replay of one interval, row by row.
+ghost use Rattle.std.specs.Prelude.{◌≡◌, ◌⊎◌, None, IfOk, IfErr};
+ghost use Rattle.hart_replay.specs.declared.error.ReplayError.TheVariants.{NoInterval, OutOfMemory};
+ghost use Rattle.hart_replay.specs.Replay.{interval_of};
+ghost use Rattle.hart_replay.specs.Coming.{Begins, Stepped};
+
+use crate::course::Course;
+use crate::error::ReplayError;
+use crate::header::find;
+use crate::pending::{Conditionals, Loads};
+use crate::scan::next_mark;
+use crate::words::Words;
+use bn_base::{HartState, Image, Row};
+use log_order::KeptLog;
+use std::alloc::Global;
+use std::marker::Model;
+
+/// The replay of one checkpoint interval (BugNet, ISCA 2005), from its log and the program alone.
+///
+/// Contracts see the program, the hart's state after the rows given so far, and what is left: the
+/// rows to come and the outcome. Each step takes constant time, but for records of the log that it
+/// passes; each record is passed at most twice. The memory that it takes is in proportion to the
+/// pages of 64 words that the interval touches.
+#[derive(Drop)]
+pub struct Replayer<'a> {
+    course: Course<'a>,
+    /// The outcome, once it is told or only it is left.
+    over: Option<Result<(), ReplayError>>,
+}
+
+impl<'a> Model for Replayer<'a> {
+    ghost use Rattle.hart_replay.specs.Coming.{Replaying};
+    ghost use Rattle.hart_replay.specs.Sides.{side, side_to_come, left_by};
+
+    ghost Value = { Replaying };
+
+    ghost view = { λ r. record { program = r.course.image.now; state = r.course.state; left = left_by r.over (side_to_come r.course.image.now r.course.hart r.course.mark r.course.state r.course.called (side r.course.loads r.course.conditionals r.course.words)) } };
+}
+
+impl<'a> Replayer<'a> {
+    /// The replay of an interval of a hart, before its first row. NoInterval comes exactly where the
+    /// log keeps no Header of that hart and interval.
+    pub fn begin(
+        alloc: Global,
+        image: &'a Image,
+        log: &'a KeptLog,
+        hart: u64,
+        interval: u64,
+    ) -> Result<Replayer<'a>, ReplayError>
+        ensures begins { IfOk result (λ r. Begins image.now hart interval log.now.records r) }
+        ensures refused { IfErr result (λ e. ((e ≡ NoInterval hart interval) × (interval_of hart interval log.now.records ≡ None)) ⊎ (e ≡ OutOfMemory)) }
+    {
+        let records = log.records();
+        match find(hart, interval, records) {
+            None => Err(ReplayError::NoInterval { hart, interval }),
+            Some(start) => Ok(Replayer {
+                course: Course {
+                    image,
+                    hart: start.hart,
+                    mark: next_mark(start.hart, records, start.next),
+                    state: start.state,
+                    loads: Loads::new(start.hart, records, start.next),
+                    conditionals: Conditionals::new(start.hart, records, start.next),
+                    words: Words::new(alloc),
+                    called: false,
+                },
+                over: None,
+            }),
+        }
+    }
+
+    /// The next row; `None` where all rows were given and the interval ended as its log says.
+    ///
+    /// The errors are those of the definition, and come after the rows before them: a word that
+    /// neither the log nor an earlier row tells, a store-conditional without a record, an end that
+    /// isn't the log's, and records that are left. OutOfMemory may come at any row. After `None` or
+    /// an error it answers the same again, and the state stays.
+    pub fn step(&mut self) -> Result<Option<Row>, ReplayError>
+        ensures { Stepped self.old result self.new }
+    {
+        match self.over {
+            Some(Ok(())) => Ok(None),
+            Some(Err(error)) => Err(error),
+            None => {
+                if self.course.state.ic < self.course.mark.ic {
+                    match self.course.go_on() {
+                        Ok(row) => Ok(Some(row)),
+                        Err(error) => {
+                            self.over = Some(Err(error));
+                            Err(error)
+                        }
+                    }
+                } else {
+                    let (row, outcome) = self.course.end();
+                    self.over = Some(outcome);
+                    match row {
+                        Some(row) => Ok(Some(row)),
+                        None => match outcome {
+                            Ok(()) => Ok(None),
+                            Err(error) => Err(error),
+                        },
+                    }
+                }
+            }
+        }
+    }
+
+    /// The hart's state after the rows given so far.
+    pub fn state(&self) -> &HartState
+        ensures { result.now ≡ self.now.state }
+    {
+        &self.course.state
+    }
+}
