@@ -1,0 +1,16 @@
+pub mod EachHart
+pub mod Histories
+pub mod Moved
+pub mod Spans
+pub mod Worked
+pub mod MoveOn
+pub mod Edges
+pub mod Fits
+pub mod Stopping
+pub mod Owns
+pub mod PlainRuns
+pub mod Meant
+pub mod PlainFits
+pub mod Firsts
+pub mod Beginning
+pub mod OneTurn

@@ -1,0 +1,188 @@
+-- Each turn moves its hart on.
+use Rattle.std.proofs.Common.{◌≡◌, ℕ, ◌+◌, ◌-◌, ◌<◌, ◌≤◌, ◌^◌, Bool, true, false, nat_le, nat_lt, ◌&&◌, Option, Some, None, refl, ◌∙◌, arith, ◌==◌, List}
+use Rattle.std.specs.Prelude.{if◌then◌else◌}
+use Rattle.std.proofs.lemmas.Grind.{common_steps}
+use Rattle.bn_base.specs.Programs.{Program}
+use Rattle.bn_base.specs.Faults.{fault_number}
+use Rattle.bn_base.specs.declared.settings.RawSettings.{RawSettings}
+use Rattle.bn_base.specs.declared.state.HartState.{HartState}
+use Rattle.bn_base.specs.declared.fault.Fault.{Fault}
+use Rattle.bn_base.specs.declared.fault.Fault.TheVariants.{Illegal, Breakpoint, FetchOutside, TargetMisaligned, LoadOutside, LoadMisaligned, StoreOutside, StoreMisaligned, StoreReadOnly}
+use Rattle.rv_meaning.specs.declared.asks.Ask.{Ask}
+use Rattle.rv_meaning.specs.declared.asks.Want.{Want}
+use Rattle.rv_meaning.specs.declared.asks.Want.TheVariants.{Load, Store, LoadReserved, StoreConditional, Amo, System, Cut, Faulted}
+use Rattle.rv_meaning.specs.declared.asks.Reply.{Reply}
+use Rattle.rv_meaning.specs.declared.asks.Reply.TheVariants as replies
+use Rattle.rv_meaning.specs.Execute.{absorbed, count_up}
+use Rattle.rv_meaning.specs.Orderly.{has_value}
+use Rattle.system_calls.specs.declared.effect.Plan.{Plan}
+use Rattle.system_calls.specs.declared.effect.Plan.TheVariants as plans
+use Rattle.run_model.specs.declared.hart.Hart.{Hart}
+use Rattle.run_model.specs.declared.next.Next.{Next}
+use Rattle.run_model.specs.declared.next.Next.TheVariants.{GoesOn, NewInterval, HartOver, RunOver}
+use Rattle.run_model.specs.declared.span.Span.{Span}
+use Rattle.run_model.specs.Machine.{Machine, answer_call, answer_sc, is_reserved, planned}
+use Rattle.run_model.specs.Turn.{budget, span_of, counted, after_call, is_orderly}
+use Rattle.run_model.specs.Logs.{is_marked_next}
+use Rattle.run_model.specs.Counts.{IsFit, MovesOn, AskMovesOn, EachTurnMovesOn, is_on}
+
+-- both of two tests hold
+pub both : (a b : Bool) → (a && b) ≡ true → (a ≡ true) × (b ≡ true)
+both true b e = (refl, e)
+both false b e = cc
+
+le_of : (a b : ℕ) → nat_le a b ≡ true → a ≤ b
+le_of a b e = grind arith
+
+not_le_of : (a b : ℕ) → nat_le a b ≡ false → b < a
+not_le_of a b e = grind arith
+
+lt_of : (a b : ℕ) → nat_lt a b ≡ true → a < b
+lt_of a b e = grind arith
+
+same_of : (a b : ℕ) → (a == b) ≡ true → a ≡ b
+same_of a b e = grind arith
+
+pub budget_interval : (c : RawSettings) (h : Hart) → budget c h ≤ c.interval - (h.state.ic - h.begun)
+budget_interval c h = grind (arith, common_steps)
+
+pub budget_limit : (c : RawSettings) (h : Hart) → budget c h ≤ c.limit - h.state.ic
+budget_limit c h = grind (arith, common_steps)
+
+some_budget : (c : RawSettings) (h : Hart) → 0 < c.interval - (h.state.ic - h.begun) → 0 < c.limit - h.state.ic → 0 < budget c h
+some_budget c h a b = grind (arith, common_steps)
+
+one_up : (n : ℕ) → n < 2 ^ 63 → count_up n ≡ n + 1
+one_up n small = grind (arith, common_steps)
+
+-- what a count that goes on says
+pub record OnCount (c : RawSettings) (h : Hart) (ic : ℕ) (next : Next) : Type 0 where
+  pub below : is_on next ≡ true → ic < c.limit
+  pub within : next ≡ GoesOn → ic < h.begun + c.interval
+  pub marked : is_marked_next next ≡ true
+
+on_count : (c : RawSettings) (h : Hart) (ic : ℕ) (full end : Bool) → nat_le c.limit ic ≡ end → nat_le c.interval (ic - h.begun) ≡ full → OnCount c h ic (elim end [ true ↦ HartOver 7 0 | false ↦ elim full [ true ↦ NewInterval 1 0 | false ↦ GoesOn ] ])
+on_count c h ic full true e f = record { below = λ p. cc; within = λ p. cc; marked = refl }
+on_count c h ic true false e f = record { below = λ p. not_le_of c.limit ic e; within = λ p. cc; marked = refl }
+on_count c h ic false false e f = record { below = λ p. not_le_of c.limit ic e; within = λ p. omega (arith, not_le_of c.interval (ic - h.begun) f); marked = refl }
+
+counted_on : (c : RawSettings) (h : Hart) (ic : ℕ) → OnCount c h ic (counted c h ic)
+counted_on c h ic = on_count c h ic (nat_le c.interval (ic - h.begun)) (nat_le c.limit ic) refl refl
+
+-- an access moves on by one instruction
+access_moves : (c : RawSettings) (h : Hart) (asked after : ℕ) (span : Option Span) (load : Option ℕ) → c.limit < 2 ^ 63 → IsFit c h → h.state.ic ≤ asked → asked < h.state.ic + budget c h → after ≡ count_up asked
+    → MovesOn c h asked after (counted c h after) span load
+access_moves c h asked after span load small fit from below e =
+    let one : after ≡ asked + 1 = e ∙ one_up asked (omega (arith, small, below, fit.limit, budget_limit c h)) in
+    record {
+      from = from;
+      low = omega (arith, one);
+      high = omega (arith, one, below);
+      accessed = λ p. one;
+      loaded = λ p. one;
+      on = λ p. omega (arith, one, from);
+      within = (counted_on c h after).within;
+      marked = (counted_on c h after).marked;
+    }
+
+-- a call moves on by one instruction, and ends its interval
+call_moves : (c : RawSettings) (h : Hart) (asked after : ℕ) (next : Next) (span : Option Span) → c.limit < 2 ^ 63 → IsFit c h → h.state.ic ≤ asked → asked < h.state.ic + budget c h → after ≡ count_up asked → is_marked_next next ≡ true
+    → (next ≡ GoesOn → ⊥) → MovesOn c h asked after next span None
+call_moves c h asked after next span small fit from below e marked ends =
+    let one : after ≡ asked + 1 = e ∙ one_up asked (omega (arith, small, below, fit.limit, budget_limit c h)) in
+    record {
+      from = from;
+      low = omega (arith, one);
+      high = omega (arith, one, below);
+      accessed = λ p. one;
+      loaded = λ p. cc;
+      on = λ p. omega (arith, one, from);
+      within = λ p. absurd (ends p);
+      marked = marked;
+    }
+
+-- a cut moves on by the whole budget
+cut_moves : (c : RawSettings) (h : Hart) (asked after : ℕ) → IsFit c h → h.live ≡ true → asked ≡ h.state.ic + budget c h → after ≡ asked → MovesOn c h asked after (counted c h after) None None
+cut_moves c h asked after fit live whole e =
+    let n = counted_on c h after in
+    let open_interval = fit.unfilled live in
+    record {
+      from = omega (arith, whole);
+      low = omega (arith, e);
+      high = omega (arith, e, whole);
+      accessed = λ p. cc;
+      loaded = λ p. cc;
+      on = λ p. omega (arith, e, whole, some_budget c h (omega (arith, open_interval, fit.skipped)) (omega (arith, n.below p, e, whole)));
+      within = n.within;
+      marked = n.marked;
+    }
+
+-- a fault doesn't move on
+fault_moves : (c : RawSettings) (h : Hart) (asked after : ℕ) (reason value : ℕ) → h.state.ic ≤ asked → asked < h.state.ic + budget c h → after ≡ asked → is_marked_next (RunOver reason value) ≡ true → MovesOn c h asked after (RunOver reason value) None None
+fault_moves c h asked after reason value from below e marked = record {
+  from = from;
+  low = omega (arith, e);
+  high = omega (arith, e, below);
+  accessed = λ p. cc;
+  loaded = λ p. cc;
+  on = λ p. cc;
+  within = λ p. cc;
+  marked = marked;
+}
+
+fault_marked : (kind : Fault) (value : ℕ) → has_value kind value ≡ true → is_marked_next (RunOver (16 + fault_number kind) value) ≡ true
+fault_marked Illegal value e = refl
+fault_marked Breakpoint value e = e
+fault_marked FetchOutside value e = refl
+fault_marked TargetMisaligned value e = refl
+fault_marked LoadOutside value e = refl
+fault_marked LoadMisaligned value e = refl
+fault_marked StoreOutside value e = refl
+fault_marked StoreMisaligned value e = refl
+fault_marked StoreReadOnly value e = refl
+
+-- the count of an ask that is no cut
+pub record InBudget (c : RawSettings) (h : Hart) (asked : ℕ) : Type 0 where
+  pub from : h.state.ic ≤ asked
+  pub below : asked < h.state.ic + budget c h
+
+in_budget : (c : RawSettings) (h : Hart) (asked : ℕ) → (nat_le h.state.ic asked && nat_lt asked (h.state.ic + budget c h)) ≡ true → InBudget c h asked
+in_budget c h asked e = record { from = le_of _ _ (both _ _ e).0; below = lt_of _ _ (both (nat_le h.state.ic asked) _ e).1 }
+
+sc_moves : (b : Bool) (c : RawSettings) (h : Hart) (s : HartState) (a rd v k : ℕ) (m : Machine) → c.limit < 2 ^ 63 → IsFit c h → InBudget c h s.ic
+    → let ask : Ask = record { state = s; want = StoreConditional a rd v } in let reply = (answer_sc b a v k m).reply in
+    MovesOn c h s.ic (absorbed ask reply).ic (counted c h (absorbed ask reply).ic) (span_of None ask.want reply) None
+sc_moves true c h s a rd v k m small fit b = access_moves c h s.ic _ _ None small fit b.from b.below refl
+sc_moves false c h s a rd v k m small fit b = access_moves c h s.ic _ _ None small fit b.from b.below refl
+
+plan_moves : (p : Plan) (c : RawSettings) (h : Hart) (s : HartState) (number k : ℕ) (args : List ℕ) (m : Machine) → c.limit < 2 ^ 63 → IsFit c h → InBudget c h s.ic
+    → let ask : Ask = record { state = s; want = System number args } in let reply = (answer_call p k m).reply in
+    MovesOn c h s.ic (absorbed ask reply).ic (after_call p reply) (span_of (Some p) ask.want reply) None
+plan_moves (plans.Fill a n) c h s number k args m small fit b = call_moves c h s.ic _ _ _ small fit b.from b.below refl refl (λ p. cc)
+plan_moves (plans.Send t a n) c h s number k args m small fit b = call_moves c h s.ic _ _ _ small fit b.from b.below refl refl (λ p. cc)
+plan_moves (plans.Break v) c h s number k args m small fit b = call_moves c h s.ic _ _ _ small fit b.from b.below refl refl (λ p. cc)
+plan_moves (plans.Answer v) c h s number k args m small fit b = call_moves c h s.ic _ _ _ small fit b.from b.below refl refl (λ p. cc)
+plan_moves (plans.EndHart v) c h s number k args m small fit b = call_moves c h s.ic _ _ _ small fit b.from b.below refl refl (λ p. cc)
+plan_moves (plans.EndRun v) c h s number k args m small fit b = call_moves c h s.ic _ _ _ small fit b.from b.below refl refl (λ p. cc)
+
+cut_at : (b : Bool) (c : RawSettings) (h : Hart) (s : HartState) → IsFit c h → h.live ≡ true → s.ic ≡ h.state.ic + budget c h
+    → let ask : Ask = record { state = s; want = Cut } in let reply : Reply = if b then replies.Over else replies.Went in
+    MovesOn c h s.ic (absorbed ask reply).ic (counted c h (absorbed ask reply).ic) None None
+cut_at true c h s fit live whole = cut_moves c h s.ic _ fit live whole refl
+cut_at false c h s fit live whole = cut_moves c h s.ic _ fit live whole refl
+
+want_moves : (want : Want) (c : RawSettings) (i : Program) (m : Machine) (h : Hart) (k : ℕ) (s : HartState) → c.limit < 2 ^ 63 → IsFit c h → h.live ≡ true
+    → is_orderly c i h (record { state = s; want = want }) ≡ true → AskMovesOn c i m h k (record { state = s; want = want })
+want_moves (Load a w g rd) c i m h k s small fit live e = let b = in_budget c h s.ic (both _ _ e).0 in access_moves c h s.ic _ _ _ small fit b.from b.below refl
+want_moves (LoadReserved a rd) c i m h k s small fit live e = let b = in_budget c h s.ic (both _ _ e).0 in access_moves c h s.ic _ _ _ small fit b.from b.below refl
+want_moves (Store a w v) c i m h k s small fit live e = let b = in_budget c h s.ic (both _ _ e).0 in access_moves c h s.ic _ _ _ small fit b.from b.below refl
+want_moves (Amo a o rd v) c i m h k s small fit live e = let b = in_budget c h s.ic (both _ _ e).0 in access_moves c h s.ic _ _ _ small fit b.from b.below refl
+want_moves (StoreConditional a rd v) c i m h k s small fit live e = let b = in_budget c h s.ic (both _ _ e).0 in sc_moves (is_reserved (m.reserved k) a) c h s a rd v k m small fit b
+want_moves (System number args) c i m h k s small fit live e = let b = in_budget c h s.ic (both _ _ e).0 in plan_moves (planned i m number args) c h s number k args m small fit b
+want_moves Cut c i m h k s small fit live e = cut_at (nat_le c.limit s.ic) c h s fit live (same_of _ _ (both _ _ e).0)
+want_moves (Faulted kind value) c i m h k s small fit live e =
+    let b = in_budget c h s.ic (both _ _ e).0 in
+    fault_moves c h s.ic _ _ _ b.from b.below refl (fault_marked kind value (both (nat_le h.state.ic s.ic && nat_lt s.ic (h.state.ic + budget c h)) _ e).1)
+
+pub ask_moves : EachTurnMovesOn
+ask_moves c i m h k ask small fit live e = want_moves ask.want c i m h k ask.state small fit live e

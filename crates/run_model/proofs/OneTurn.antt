@@ -1,0 +1,42 @@
+-- A turn of a plain machine is a turn of its run.
+use Rattle.std.proofs.Common.{◌≡◌, ℕ, zero, suc, ◌+◌, ◌<◌, ◌≤◌, ◌^◌, Bool, true, List, [], ◌∷◌, length, sym, ◌∙◌, ap, subst, arith}
+use Rattle.std.specs.Prelude.{Option, IsTrue, slice_get}
+use Rattle.bn_base.specs.Programs.{Program}
+use Rattle.bn_base.specs.declared.settings.RawSettings.{RawSettings}
+use Rattle.rv_meaning.specs.declared.asks.Ask.{Ask}
+use Rattle.rv_meaning.specs.Execute.{ask_of}
+use Rattle.rv_meaning.specs.Orderly.{orderly, is_counted, passes}
+use Rattle.system_calls.specs.declared.effect.Plan.{Plan}
+use Rattle.run_model.specs.declared.hart.Hart.{Hart}
+use Rattle.run_model.specs.Machine.{call_of}
+use Rattle.run_model.specs.Turn.{Run, serve, serve_call, serve_orderly, served_if, turn, ask_at, is_orderly, budget}
+use Rattle.run_model.specs.Counts.{IsFit}
+use Rattle.run_model.specs.Harts.{alive, hart_in}
+use Rattle.run_model.proofs.MoveOn.{budget_limit, both}
+
+pub alive_in : (hs : List Hart) (k : ℕ) → alive (slice_get hs k) ≡ true → (k < length hs) × ((hart_in hs k).live ≡ true)
+alive_in [] zero e = cc
+alive_in [] (suc k) e = cc
+alive_in (h ∷ hs) zero e = (omega arith, e)
+alive_in (h ∷ hs) (suc k) e = let rest = alive_in hs k e in (omega (arith, rest.0), rest.1)
+
+-- an orderly ask of the hart
+pub ordered_at : (c : RawSettings) (i : Program) (x h : Hart) (ask : Ask) (b : ℕ) → x ≡ h → b ≡ budget c x → IsTrue (orderly i x.state.ic b ask) → IsTrue (is_orderly c i h ask)
+ordered_at c i x h ask b e eb o = subst (λ (y : Hart). IsTrue (is_orderly c i y ask)) e (subst (λ (n : ℕ). IsTrue (orderly i x.state.ic n ask)) eb o)
+
+-- the count stays small
+pub small_count : (c : RawSettings) (x : Hart) (b : ℕ) → c.limit ≤ 2 ^ 40 → IsFit c x → b ≡ budget c x → x.state.ic + b < 2 ^ 64
+small_count c x b high fit e = omega (arith, high, fit.limit, e, budget_limit c x)
+
+pub passes_of : (c : RawSettings) (i : Program) (h : Hart) (ask : Ask) → IsTrue (is_orderly c i h ask) → IsTrue (passes i ask.want)
+passes_of c i h ask e = (both (is_counted h.state.ic (budget c h) ask.want ask.state.ic) (passes i ask.want) e).1
+
+pub turn_is : (c : RawSettings) (i : Program) (run : Run) (k : ℕ) (ask : Ask) (call : Option Plan) → ask ≡ ask_at c i (run.harts k) → call ≡ call_of i run.machine ask.want → IsTrue (is_orderly c i (run.harts k) ask) → (serve_call c run k ask call).run ≡ turn c i run k
+unfolding serve
+turn_is c i run k ask call ea ec o =
+    let q : (serve_call c run k ask call).run ≡ (serve_orderly c i run k ask).run = ap (λ (x : Option Plan). (serve_call c run k ask x).run) ec in
+    let p : (served_if (is_orderly c i (run.harts k) ask) c i run k ask).run ≡ (serve_orderly c i run k ask).run = ap (λ (b : Bool). (served_if b c i run k ask).run) o in
+    q ∙ sym p ∙ ap (λ (a : Ask). (served_if (is_orderly c i (run.harts k) a) c i run k a).run) ea
+
+pub ask_is : (c : RawSettings) (i : Program) (x h : Hart) (ask : Ask) (b : ℕ) → x ≡ h → b ≡ budget c x → ask ≡ ask_of i b x.state → ask ≡ ask_at c i h
+ask_is c i x h ask b e eb ea = ea ∙ ap (λ (n : ℕ). ask_of i n x.state) eb ∙ ap (λ (y : Hart). ask_of i (budget c y) y.state) e

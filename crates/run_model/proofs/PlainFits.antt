@@ -1,0 +1,216 @@
+-- A turn of a plain machine keeps its counts within the settings.
+use Rattle.std.proofs.Common.{◌≡◌, ℕ, zero, suc, ◌+◌, ◌<◌, ◌≤◌, ◌==◌, Bool, true, false, List, length, refl, sym, ◌∙◌, ap, subst, arith, inl, inr}
+use Rattle.std.specs.Prelude.{Option, Some, None, is_some, IsTrue, ◌≢◌, if◌then◌else◌}
+use Rattle.std.proofs.lemmas.Bool.Decides.{eqb_tells}
+use Rattle.std.proofs.lemmas.Option.{slice_get-get_or, get_or_from_slice_get}
+use Rattle.bn_base.specs.Programs.{Program}
+use Rattle.bn_base.specs.declared.settings.RawSettings.{RawSettings}
+use Rattle.bn_base.specs.declared.state.HartState.{HartState}
+use Rattle.rv_meaning.specs.Execute.{absorbed}
+use Rattle.rv_meaning.specs.declared.asks.Ask.{Ask}
+use Rattle.rv_meaning.specs.declared.asks.Reply.{Reply}
+use Rattle.system_calls.specs.declared.effect.Plan.{Plan}
+use Rattle.first_load_bits.specs.declared.warm.Warm.{Warm}
+use Rattle.first_load_bits.specs.declared.warm.Warm.TheVariants as answers
+use Rattle.race_log.specs.Stands.{harts_of, next_turn, next_count}
+use Rattle.run_model.specs.declared.hart.Hart.{Hart}
+use Rattle.run_model.specs.declared.next.Next.{Next}
+use Rattle.run_model.specs.declared.next.Next.TheVariants.{GoesOn, NewInterval, HartOver, RunOver}
+use Rattle.run_model.specs.declared.span.Span.{Span}
+use Rattle.run_model.specs.declared.trace.Trace.{Trace}
+use Rattle.run_model.specs.Machine.{Machine, answer, call_of}
+use Rattle.run_model.specs.Turn.{is_orderly, span_of, next_of, loading, hart_after, harts_after, other_after, skipped_after}
+use Rattle.run_model.specs.Counts.{IsFit, MovesOn, AskMovesOn, turns_left, is_there, is_loading}
+use Rattle.run_model.specs.EachCache.{steps_in, touched_word, touches}
+use Rattle.run_model.specs.Harts.{AreHarts, hart_in, all_left}
+use Rattle.run_model.specs.Logs.{taken}
+use Rattle.run_model.specs.Plain.{IsTraceFit, IsHartFit, count_after, clears}
+use Rattle.run_model.proofs.MoveOn.{ask_moves}
+use Rattle.run_model.proofs.Fits.{fit_by, fewer_left, fit_other, no_more_left}
+
+-- ---- the hart whose turn it was
+
+skip_any : (w : Option Warm) (h : Hart) (low after : ℕ) → h.begun + h.skipped ≤ h.state.ic → h.state.ic ≤ low → low ≤ after → (is_some w ≡ true → after ≡ low + 1) → h.begun + skipped_after w h.skipped ≤ after
+skip_any None h low after fit a b on = omega (arith, fit, a, b)
+skip_any (Some answers.Warm) h low after fit a b on = omega (arith, fit, a, on refl)
+skip_any (Some answers.Cold) h low after fit a b on = omega (arith, fit, a, b)
+
+ic_after : (next : Next) (s : HartState) (skipped : ℕ) (h : Hart) → (hart_after next s skipped h).state.ic ≡ s.ic
+ic_after GoesOn s skipped h = refl
+ic_after (NewInterval reason value) s skipped h = refl
+ic_after (HartOver reason value) s skipped h = refl
+ic_after (RunOver reason value) s skipped h = refl
+
+number_after : (next : Next) (s : HartState) (skipped : ℕ) (h : Hart) → h.number + clears next ≤ (hart_after next s skipped h).number
+number_after GoesOn s skipped h = omega arith
+number_after (NewInterval reason value) s skipped h = omega arith
+number_after (HartOver reason value) s skipped h = omega arith
+number_after (RunOver reason value) s skipped h = omega arith
+
+-- ---- the others
+
+other_ic : (next : Next) (h : Hart) → (other_after next h).state.ic ≡ h.state.ic
+other_ic GoesOn h = refl
+other_ic (NewInterval reason value) h = refl
+other_ic (HartOver reason value) h = refl
+other_ic (RunOver reason value) h = by_live h.live h
+  where
+    by_live : (b : Bool) (x : Hart) → (elim b as (λ y. Hart) [ true ↦ record x { live = false; mark = Some (record { ic = x.state.ic; reason = 5; value = 0 }) } | false ↦ x ]).state.ic ≡ x.state.ic
+    by_live true x = refl
+    by_live false x = refl
+
+other_number : (next : Next) (h : Hart) → (other_after next h).number ≡ h.number
+other_number GoesOn h = refl
+other_number (NewInterval reason value) h = refl
+other_number (HartOver reason value) h = refl
+other_number (RunOver reason value) h = by_live h.live h
+  where
+    by_live : (b : Bool) (x : Hart) → (elim b as (λ y. Hart) [ true ↦ record x { live = false; mark = Some (record { ic = x.state.ic; reason = 5; value = 0 }) } | false ↦ x ]).number ≡ x.number
+    by_live true x = refl
+    by_live false x = refl
+
+-- ---- the turns that are left
+
+all_less : (c : RawSettings) (n : ℕ) (f g : ℕ → Hart) → ((k : ℕ) → k < n → turns_left c (g k) ≤ turns_left c (f k)) → all_left c n g ≤ all_left c n f
+all_less c zero f g each = omega arith
+all_less c (suc n) f g each = omega (arith, each n (omega arith), all_less c n f g (λ k below. each k (omega (arith, below))))
+
+one_less : (c : RawSettings) (n own : ℕ) (f g : ℕ → Hart) → own < n → ((k : ℕ) → k < n → turns_left c (g k) ≤ turns_left c (f k)) → turns_left c (g own) < turns_left c (f own) → all_left c n g < all_left c n f
+one_less c zero own f g within each less = omega (arith, within)
+one_less c (suc n) own f g within each less = elim (eqb_tells own n) [
+  | inl p ↦ omega (arith, all_less c n f g (λ k below. each k (omega (arith, below))), subst (λ (k : ℕ). turns_left c (g k) < turns_left c (f k)) p.1 less)
+  | inr p ↦ omega (arith, each n (omega arith), one_less c n own f g (lower own n within p.1) (λ k below. each k (omega (arith, below))) less)
+]
+  where
+    lower : (j n : ℕ) → j < suc n → j ≢ n → j < n
+    lower j n h e = omega (arith, h, e)
+
+-- ---- what the steps of a turn say
+
+pub record Steps (c : RawSettings) (old new : Trace) (turns k : ℕ) (ask : Ask) (call : Option Plan) (reply : Reply) (load : Option Warm) : Type 0 where
+  pub harts : (f : ℕ → Hart) → AreHarts old.harts.items f →
+      let h = hart_in old.harts.items k in
+      let s = absorbed ask reply in
+      let next = next_of c call h ask.want reply s.ic in
+      AreHarts new.harts.items (harts_after next k (hart_after next s (skipped_after load h.skipped) h) f)
+  pub len : length new.harts.items ≡ length old.harts.items
+  pub caches : length new.caches ≡ length old.caches
+  pub steps : (j : ℕ) → steps_in new.caches j ≡ (if j == k then steps_in old.caches j + touches (touched_word call (span_of call ask.want reply)) + clears (next_of c call (hart_in old.harts.items k) ask.want reply (absorbed ask reply).ic) else steps_in old.caches j)
+  pub loading : is_some load ≡ true → is_loading (loading ask.want) ≡ true
+  pub shadow : harts_of new.shadow ≡ harts_of old.shadow
+  pub turn : next_turn new.shadow ≤ turns + 1
+  pub next : next_count new.shadow k ≤ count_after (span_of call ask.want reply) ask.state.ic (next_count old.shadow k)
+  pub others : (j : ℕ) → j ≢ k → next_count new.shadow j ≡ next_count old.shadow j
+  pub took : taken new.ring ≤ taken old.ring + 20
+  pub size : new.ring.size ≡ old.ring.size
+
+touched_less : (call : Option Plan) (span : Option Span) (low after : ℕ) → low ≤ after → (is_there span ≡ true → after ≡ low + 1) → low + touches (touched_word call span) ≤ after
+touched_less None None low after a on = omega (arith, a)
+touched_less None (Some x) low after a on = omega (arith, on refl)
+touched_less (Some p) None low after a on = omega (arith, a)
+touched_less (Some p) (Some x) low after a on = omega (arith, a)
+
+counted_less : (span : Option Span) (low before after : ℕ) → before ≤ low → low ≤ after → (is_there span ≡ true → after ≡ low + 1) → count_after span low before ≤ after
+counted_less None low before after a b on = omega (arith, a, b)
+counted_less (Some x) low before after a b on = omega (arith, on refl)
+
+in_new : (hs : List Hart) (j : ℕ) (f : ℕ → Hart) → AreHarts hs f → j < length hs → hart_in hs j ≡ f j
+in_new hs j f are within = get_or_from_slice_get hs j (f j) _ (are j within)
+
+own_at : (j k : ℕ) (next : Next) (own : Hart) (f : ℕ → Hart) → (j == k) ≡ true → harts_after next k own f j ≡ own
+own_at j k next own f e = ap (λ (b : Bool). elim b as (λ x. Hart) [ true ↦ own | false ↦ other_after next (f j) ]) e
+
+other_at : (j k : ℕ) (next : Next) (own : Hart) (f : ℕ → Hart) → (j == k) ≡ false → harts_after next k own f j ≡ other_after next (f j)
+other_at j k next own f e = ap (λ (b : Bool). elim b as (λ x. Hart) [ true ↦ own | false ↦ other_after next (f j) ]) e
+
+-- the turn moves on, where the call and the reply are these
+moves_as : (c : RawSettings) (i : Program) (m : Machine) (h : Hart) (k : ℕ) (ask : Ask) (call : Option Plan) (reply : Reply) → call ≡ call_of i m ask.want → reply ≡ (answer c call m k ask).reply → AskMovesOn c i m h k ask
+    → MovesOn c h ask.state.ic (absorbed ask reply).ic (next_of c call h ask.want reply (absorbed ask reply).ic) (span_of call ask.want reply) (loading ask.want)
+moves_as c i m h k ask call reply ec er on =
+    let Q : Option Plan → Reply → Type 0 = λ x r. MovesOn c h ask.state.ic (absorbed ask r).ic (next_of c x h ask.want r (absorbed ask r).ic) (span_of x ask.want r) (loading ask.want) in
+    subst (λ (r : Reply). Q call r) (sym er) (subst (λ (x : Option Plan). Q x (answer c x m k ask).reply) (sym ec) on)
+
+if_true : (b : Bool) (x y : ℕ) → b ≡ true → (if b then x else y) ≡ x
+if_true b x y e = ap (λ (t : Bool). if t then x else y) e
+
+if_false : (b : Bool) (x y : ℕ) → b ≡ false → (if b then x else y) ≡ y
+if_false b x y e = ap (λ (t : Bool). if t then x else y) e
+
+-- the hart whose turn it was
+own_hart : (c : RawSettings) (old new : Trace) (turns k : ℕ) (ask : Ask) (call : Option Plan) (reply : Reply) (load : Option Warm) (next : Next) (own : Hart)
+    → let h = hart_in old.harts.items k in let s = absorbed ask reply in
+    next ≡ next_of c call h ask.want reply s.ic → own ≡ hart_after next s (skipped_after load h.skipped) h → 1 ≤ c.interval → IsHartFit c old k → MovesOn c h ask.state.ic s.ic next (span_of call ask.want reply) (loading ask.want)
+    → Steps c old new turns k ask call reply load → hart_in new.harts.items k ≡ own → (k == k) ≡ true → IsHartFit c new k
+own_hart c old new turns k ask call reply load next own en eo some fit on st at same =
+    let h = hart_in old.harts.items k in let s = absorbed ask reply in
+    let span = span_of call ask.want reply in
+    let is : hart_in new.harts.items k ≡ hart_after next s (skipped_after load h.skipped) h = at ∙ eo in
+    let fits = fit_by next c h ask.state.ic s span (loading ask.want) (skipped_after load h.skipped) some fit.fit on (skip_any load h ask.state.ic s.ic fit.fit.skipped on.from on.low (λ e. on.loaded (st.loading e))) in
+    let ic : (hart_in new.harts.items k).state.ic ≡ s.ic = ap (λ (x : Hart). x.state.ic) is ∙ ic_after next s _ h in
+    let number : (hart_in new.harts.items k).number ≡ (hart_after next s (skipped_after load h.skipped) h).number = ap (λ (x : Hart). x.number) is in
+    let stepped : steps_in new.caches k ≡ steps_in old.caches k + touches (touched_word call span) + clears (next_of c call h ask.want reply s.ic) = st.steps k ∙ if_true (k == k) _ _ same in
+    let cleared : clears (next_of c call h ask.want reply s.ic) ≡ clears next = ap clears (sym en) in
+    record {
+      fit = subst (λ (x : Hart). IsFit c x) (sym is) fits;
+      steps = omega (arith, stepped, cleared, fit.steps, touched_less call span ask.state.ic s.ic on.low on.accessed, on.from, ic, number, number_after next s (skipped_after load h.skipped) h);
+      count = omega (arith, st.next, ic, counted_less span ask.state.ic (next_count old.shadow k) s.ic (omega (arith, fit.count, on.from)) on.low on.accessed);
+    }
+
+-- another hart
+other_hart : (c : RawSettings) (old new : Trace) (turns k j : ℕ) (ask : Ask) (call : Option Plan) (reply : Reply) (load : Option Warm) (next : Next) → IsHartFit c old j → Steps c old new turns k ask call reply load
+    → hart_in new.harts.items j ≡ other_after next (hart_in old.harts.items j) → (j == k) ≡ false → j ≢ k → IsHartFit c new j
+other_hart c old new turns k j ask call reply load next fit st at apart differ =
+    let h = hart_in old.harts.items j in
+    let ic : (hart_in new.harts.items j).state.ic ≡ h.state.ic = ap (λ (x : Hart). x.state.ic) at ∙ other_ic next h in
+    let number : (hart_in new.harts.items j).number ≡ h.number = ap (λ (x : Hart). x.number) at ∙ other_number next h in
+    let stepped : steps_in new.caches j ≡ steps_in old.caches j = st.steps j ∙ if_false (j == k) _ _ apart in
+    record {
+      fit = subst (λ (x : Hart). IsFit c x) (sym at) (fit_other next c h fit.fit);
+      steps = omega (arith, stepped, fit.steps, ic, number);
+      count = omega (arith, st.others j differ, fit.count, ic);
+    }
+
+eqb_same : (k : ℕ) → (k == k) ≡ true
+eqb_same k = grind arith
+
+pub fit_traced : (c : RawSettings) (i : Program) (m : Machine) (old new : Trace) (turns k : ℕ) (ask : Ask) (call : Option Plan) (reply : Reply) (load : Option Warm) → IsTraceFit c old turns → k < c.harts → (hart_in old.harts.items k).live ≡ true
+    → IsTrue (is_orderly c i (hart_in old.harts.items k) ask) → call ≡ call_of i m ask.want → reply ≡ (answer c call m k ask).reply → Steps c old new turns k ask call reply load → IsTraceFit c new (turns + 1)
+fit_traced c i m old new turns k ask call reply load fit within live ordered ec er st =
+    let h = hart_in old.harts.items k in
+    let f : ℕ → Hart = hart_in old.harts.items in
+    let g : ℕ → Hart = hart_in new.harts.items in
+    let s = absorbed ask reply in
+    let next = next_of c call h ask.want reply s.ic in
+    let own = hart_after next s (skipped_after load h.skipped) h in
+    let each = fit.each k within in
+    let on = moves_as c i m h k ask call reply ec er (ask_moves c i m h k ask (omega (arith, fit.settings.limit_high)) each.fit live ordered) in
+    let old_are : AreHarts old.harts.items f = λ j below. slice_get-get_or old.harts.items j _ below in
+    let new_are : AreHarts new.harts.items (harts_after next k own f) = st.harts f old_are in
+    let at : (j : ℕ) → j < c.harts → g j ≡ harts_after next k own f j = λ j below. in_new new.harts.items j (harts_after next k own f) new_are (omega (arith, below, st.len, fit.harts)) in
+    let own_is : g k ≡ own = at k within ∙ own_at k k next own f (eqb_same k) in
+    let fewer : turns_left c own < turns_left c h = fewer_left next c h ask.state.ic s (span_of call ask.want reply) (loading ask.want) (skipped_after load h.skipped) live each.fit on in
+    let own_fewer : turns_left c (g k) < turns_left c (f k) = subst (λ (x : Hart). turns_left c x < turns_left c h) (sym own_is) fewer in
+    let no_more : (j : ℕ) → j < c.harts → turns_left c (g j) ≤ turns_left c (f j) = λ j below. elim (eqb_tells j k) [
+      | inl p ↦ subst (λ (n : ℕ). turns_left c (g n) ≤ turns_left c (f n)) (sym p.1) (omega (arith, own_fewer))
+      | inr p ↦ subst (λ (x : Hart). turns_left c x ≤ turns_left c (f j)) (sym (at j below ∙ other_at j k next own f p.0)) (no_more_left next c (f j))
+    ] in
+    let less = one_less c c.harts k f g within no_more own_fewer in
+    record {
+      settings = fit.settings;
+      harts = st.len ∙ fit.harts;
+      caches = st.caches ∙ fit.caches;
+      shadow = st.shadow ∙ fit.shadow;
+      each = λ j below. elim (eqb_tells j k) [
+        | inl p ↦ subst (λ (n : ℕ). IsHartFit c new n) (sym p.1) (own_hart c old new turns k ask call reply load next own refl refl fit.settings.interval_low each on st own_is (eqb_same k))
+        | inr p ↦ other_hart c old new turns k j ask call reply load next (fit.each j below) st (at j below ∙ other_at j k next own f p.0) p.0 p.1
+      ];
+      turn = st.turn;
+      left = omega (arith, less, fit.left);
+      log = omega (arith, st.took, fit.log);
+      log_size = st.size ∙ fit.log_size;
+    }
+
+-- steps before and after, where both go by one test
+pub two_ifs : (b : Bool) (new middle old more clear : ℕ) → new ≡ (if b then middle + clear else middle) → middle ≡ (if b then old + more else old) → new ≡ (if b then old + more + clear else old)
+two_ifs true new middle old more clear e f = e ∙ ap (λ (x : ℕ). x + clear) f
+two_ifs false new middle old more clear e f = e ∙ f

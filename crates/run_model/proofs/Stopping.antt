@@ -1,0 +1,125 @@
+-- Lists of harts that are set one by one.
+use Rattle.std.proofs.Common.{◌≡◌, ℕ, zero, suc, ◌+◌, ◌<◌, ◌≤◌, Bool, true, false, not, ◌&&◌, ◌==◌, List, [], ◌∷◌, ◌++◌, length, Some, refl, sym, ◌∙◌, ap, subst, arith, inl, inr, length-set}
+use Rattle.std.specs.Prelude.{slice_get, slice_set, get_or, ◌≢◌}
+use Rattle.std.proofs.lemmas.Bool.Decides.{eqb_tells}
+use Rattle.std.proofs.lemmas.List.{get_or-set_same, get_or-set_other, append_assoc, append-nil}
+use Rattle.std.proofs.lemmas.Option.{slice_get-get_or, get_or_from_slice_get}
+use Rattle.log_record.specs.declared.record.Record.{Record}
+use Rattle.log_record.specs.declared.record.Record.TheVariants.{End}
+use Rattle.run_model.specs.declared.hart.Hart.{Hart}
+use Rattle.run_model.specs.declared.next.Next.{Next}
+use Rattle.run_model.specs.declared.next.Next.TheVariants.{RunOver}
+use Rattle.run_model.specs.Turn.{other_after, harts_after, stopped_records, run_over_records, mark}
+use Rattle.run_model.specs.Harts.{AreHarts, others_after, stopped_at, stopped_below, stop_record, stop_records}
+
+-- hart k of a list in which one was set
+pub set_one : (hs : List Hart) (n k : ℕ) (t y : Hart) (g : ℕ → Hart) → AreHarts hs g → n < length hs → k < length hs → slice_get (slice_set hs n t) k ≡ Some (elim (k == n) [ true ↦ t | false ↦ g k ])
+set_one hs n k t y g are within below =
+    let there : k < length (slice_set hs n t) = rw (length-set hs n t) below in
+    elim (eqb_tells k n) [
+      | inl p ↦ slice_get-get_or (slice_set hs n t) k y there ∙ ap (λ (j : ℕ). Some (get_or (slice_set hs n t) j y)) p.1 ∙ ap Some (get_or-set_same hs n t y within) ∙ sym (ap (λ (b : Bool). Some (elim b as (λ x. Hart) [ true ↦ t | false ↦ g k ])) p.0)
+      | inr p ↦ slice_get-get_or (slice_set hs n t) k y there ∙ ap Some (get_or-set_other hs n k t y p.1) ∙ ap Some (get_or_from_slice_get hs k (g k) y (are k below)) ∙ sym (ap (λ (b : Bool). Some (elim b as (λ x. Hart) [ true ↦ t | false ↦ g k ])) p.0)
+    ]
+
+pub are_set : (hs : List Hart) (n : ℕ) (t : Hart) (g f : ℕ → Hart) → AreHarts hs g → n < length hs → ((k : ℕ) → elim (k == n) as (λ x. Hart) [ true ↦ t | false ↦ g k ] ≡ f k) → AreHarts (slice_set hs n t) f
+are_set hs n t g f are within same k below =
+    let inside : k < length hs = omega (arith, below, length-set hs n t) in
+    set_one hs n k t t g are within inside ∙ ap Some (same k)
+
+-- a hart that isn't stopped yet
+pub below_same : (own n j : ℕ) (f : ℕ → Hart) → n ≤ j → stopped_below own n f j ≡ f j
+below_same own zero j f h = refl
+below_same own (suc n) j f h = elim (eqb_tells j n) [
+  | inl p ↦ absurd (too_low j n p.1 h)
+  | inr p ↦ ap (λ (b : Bool). elim b as (λ x. Hart) [ true ↦ stopped_at own f j | false ↦ stopped_below own n f j ]) p.0 ∙ below_same own n j f (omega (arith, h))
+]
+  where
+    too_low : (j n : ℕ) → j ≡ n → suc n ≤ j → ⊥
+    too_low j n e h = omega (arith, e, h)
+
+none_below : (j : ℕ) → j < 0 → ⊥
+none_below j h = omega (arith, h)
+
+-- a hart that is
+pub below_stopped : (own n j : ℕ) (f : ℕ → Hart) → j < n → stopped_below own n f j ≡ stopped_at own f j
+below_stopped own zero j f h = absurd (none_below j h)
+below_stopped own (suc n) j f h = elim (eqb_tells j n) [
+  | inl p ↦ ap (λ (b : Bool). elim b as (λ x. Hart) [ true ↦ stopped_at own f j | false ↦ stopped_below own n f j ]) p.0
+  | inr p ↦ ap (λ (b : Bool). elim b as (λ x. Hart) [ true ↦ stopped_at own f j | false ↦ stopped_below own n f j ]) p.0 ∙ below_stopped own n j f (lower j n h p.1)
+]
+  where
+    lower : (j n : ℕ) → j < suc n → j ≢ n → j < n
+    lower j n h e = omega (arith, h, e)
+
+-- one hart more is stopped
+pub stop_more : (hs : List Hart) (own n : ℕ) (t : Hart) (f : ℕ → Hart) → AreHarts hs (stopped_below own n f) → n < length hs → t ≡ stopped_at own f n → AreHarts (slice_set hs n t) (stopped_below own (n + 1) f)
+stop_more hs own n t f are within e =
+    let up : suc n ≡ n + 1 = omega arith in
+    subst (λ (m : ℕ). AreHarts (slice_set hs n t) (stopped_below own m f)) up
+    (are_set hs n t (stopped_below own n f) (stopped_below own (suc n) f) are within
+    (λ k. elim (eqb_tells k n) [
+      | inl p ↦ ap (λ (b : Bool). elim b as (λ x. Hart) [ true ↦ t | false ↦ stopped_below own n f k ]) p.0 ∙ e ∙ sym (ap (stopped_at own f) p.1) ∙ sym (ap (λ (b : Bool). elim b as (λ x. Hart) [ true ↦ stopped_at own f k | false ↦ stopped_below own n f k ]) p.0)
+      | inr p ↦ ap (λ (b : Bool). elim b as (λ x. Hart) [ true ↦ t | false ↦ stopped_below own n f k ]) p.0 ∙ sym (ap (λ (b : Bool). elim b as (λ x. Hart) [ true ↦ stopped_at own f k | false ↦ stopped_below own n f k ]) p.0)
+    ]))
+
+-- the hart at a place, in a list that stands for harts
+pub hart_there : (hs : List Hart) (own n : ℕ) (d : Hart) (f : ℕ → Hart) → AreHarts hs (stopped_below own n f) → n < length hs → f n ≡ get_or hs n d
+hart_there hs own n d f are within = sym (get_or_from_slice_get hs n (stopped_below own n f n) d (are n within) ∙ below_same own n n f (omega arith))
+
+-- the Ends in the two orders of recursion
+one_first : (b : Bool) (j : ℕ) (h : Hart) (rs : List Record) → elim b as (λ x. List Record) [ true ↦ End j (mark h.state.ic 5 0) ∷ rs | false ↦ rs ] ≡ elim b as (λ x. List Record) [ true ↦ End j (mark h.state.ic 5 0) ∷ [] | false ↦ [] ] ++ rs
+one_first true j h rs = refl
+one_first false j h rs = refl
+
+stop_both : (m own j : ℕ) (f : ℕ → Hart) → stop_records own j f ++ stopped_records own j m f ≡ stop_records own (j + m) f
+stop_both zero own j f =
+    let end : j ≡ j + 0 = omega arith in
+    append-nil (stop_records own j f) ∙ ap (λ (n : ℕ). stop_records own n f) end
+stop_both (suc m) own j f =
+    let first : stopped_records own j (suc m) f ≡ stop_record own j (f j) ++ stopped_records own (j + 1) m f = one_first (not (j == own) && (f j).live) j (f j) (stopped_records own (j + 1) m f) in
+    let up : suc j ≡ j + 1 = omega arith in
+    let same : stop_records own j f ++ stop_record own j (f j) ≡ stop_records own (j + 1) f = ap (λ (n : ℕ). stop_records own n f) up in
+    let end : j + 1 + m ≡ j + suc m = omega arith in
+    ap (λ (rs : List Record). stop_records own j f ++ rs) first
+    ∙ sym (append_assoc (stop_records own j f) (stop_record own j (f j)) (stopped_records own (j + 1) m f))
+    ∙ ap (λ (rs : List Record). rs ++ stopped_records own (j + 1) m f) same
+    ∙ stop_both m own (j + 1) f
+    ∙ ap (λ (n : ℕ). stop_records own n f) end
+
+pub stops_are : (own n : ℕ) (f : ℕ → Hart) → stop_records own n f ≡ stopped_records own 0 n f
+stops_are own n f =
+    let whole : 0 + n ≡ n = omega arith in
+    sym (stop_both n own 0 f ∙ ap (λ (m : ℕ). stop_records own m f) whole)
+
+-- one hart's Ends more
+pub stops_more : (own n : ℕ) (f : ℕ → Hart) (rs : List Record) (h : Hart) → f n ≡ h → (rs ++ stop_records own n f) ++ stop_record own n h ≡ rs ++ stop_records own (n + 1) f
+stops_more own n f rs h e =
+    let up : suc n ≡ n + 1 = omega arith in
+    append_assoc rs (stop_records own n f) (stop_record own n h)
+    ∙ ap (λ (x : Hart). rs ++ (stop_records own n f ++ stop_record own n x)) (sym e)
+    ∙ ap (λ (m : ℕ). rs ++ stop_records own m f) up
+
+no_change : (b : Bool) (h : Hart) → h ≡ elim b as (λ x. Hart) [ true ↦ h | false ↦ h ]
+no_change true h = refl
+no_change false h = refl
+
+-- where the run goes on, the other harts stay
+pub others_stay : (next : Next) (hs : List Hart) (own : ℕ) (f : ℕ → Hart) → other_after next ≡ (λ h. h) → AreHarts hs f → AreHarts hs (others_after next own f)
+others_stay next hs own f e are k below = are k below ∙ ap Some (no_change (k == own) (f k) ∙ ap (λ (g : Hart → Hart). elim (k == own) as (λ x. Hart) [ true ↦ f k | false ↦ g (f k) ]) (sym e))
+
+pub all_stopped : (hs : List Hart) (own n : ℕ) (f : ℕ → Hart) → AreHarts hs (stopped_below own n f) → n ≡ length hs → AreHarts hs (stopped_at own f)
+all_stopped hs own n f are whole k below = are k below ∙ ap Some (below_stopped own n k f (omega (arith, below, whole)))
+
+after_by : (b : Bool) (t x y : Hart) → elim b as (λ z. Hart) [ true ↦ t | false ↦ elim b as (λ z. Hart) [ true ↦ x | false ↦ y ] ] ≡ elim b as (λ z. Hart) [ true ↦ t | false ↦ y ]
+after_by true t x y = refl
+after_by false t x y = refl
+
+-- the harts after a turn, once the one whose turn it was is set
+pub harts_set : (next : Next) (hs : List Hart) (own : ℕ) (t : Hart) (f : ℕ → Hart) → AreHarts hs (others_after next own f) → own < length hs → AreHarts (slice_set hs own t) (harts_after next own t f)
+harts_set next hs own t f are within = are_set hs own t (others_after next own f) (harts_after next own t f) are within (λ k. after_by (k == own) t (f k) (other_after next (f k)))
+
+pub over_harts : (next : Next) (reason value : ℕ) (hs : List Hart) (own : ℕ) (f : ℕ → Hart) → next ≡ RunOver reason value → AreHarts hs (stopped_at own f) → AreHarts hs (others_after next own f)
+over_harts next reason value hs own f e are = subst (λ (n : Next). AreHarts hs (others_after n own f)) (sym e) are
+
+pub over_records : (next : Next) (reason value own n : ℕ) (f : ℕ → Hart) → next ≡ RunOver reason value → stop_records own n f ≡ run_over_records next own n f
+over_records next reason value own n f e = stops_are own n f ∙ ap (λ (x : Next). run_over_records x own n f) (sym e)

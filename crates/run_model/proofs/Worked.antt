@@ -1,0 +1,42 @@
+-- Small recordings, worked out by hand.
+use Rattle.std.proofs.Common.{◌≡◌, ◌∷◌, [], refl}
+use Rattle.log_record.specs.declared.record.Record.TheVariants.{FirstLoad, ScOk, ScFailed, Edge}
+use Rattle.race_log.specs.Tests.{at_places, leads, any_below, before, edge, greatest_first, edges_into}
+use Rattle.run_model.specs.Turn.{serve}
+use Rattle.run_model.specs.Examples.{recorded, first_header, end, two_loads_of_a_word, a_skipped_load, a_byte_store, a_line_put_out, a_conditional_store, a_line_lost, a_reservation_lost, a_filled_word, header_after_the_call, a_relay}
+
+pub the_first_load_is_logged : (recorded two_loads_of_a_word).stream ≡ first_header two_loads_of_a_word 0 ∷ FirstLoad 0 0 0 ∷ end 0 5 3 0 ∷ []
+unfolding serve at_places leads any_below before edge greatest_first edges_into
+the_first_load_is_logged = refl
+
+pub a_skipped_load_is_counted : (recorded a_skipped_load).stream ≡ first_header a_skipped_load 0 ∷ FirstLoad 0 0 0 ∷ FirstLoad 0 1 0 ∷ end 0 6 3 0 ∷ []
+unfolding serve at_places leads any_below before edge greatest_first edges_into
+a_skipped_load_is_counted = refl
+
+pub a_byte_store_is_logged : (recorded a_byte_store).stream ≡ first_header a_byte_store 0 ∷ FirstLoad 0 0 0 ∷ end 0 5 3 0 ∷ []
+unfolding serve at_places leads any_below before edge greatest_first edges_into
+a_byte_store_is_logged = refl
+
+pub a_line_put_out_is_logged_again : (recorded a_line_put_out).stream ≡ first_header a_line_put_out 0 ∷ FirstLoad 0 0 0 ∷ FirstLoad 0 0 0 ∷ FirstLoad 0 0 0 ∷ end 0 6 3 0 ∷ []
+unfolding serve at_places leads any_below before edge greatest_first edges_into
+a_line_put_out_is_logged_again = refl
+
+pub a_conditional_store_succeeds : (recorded a_conditional_store).stream ≡ first_header a_conditional_store 0 ∷ FirstLoad 0 0 0 ∷ ScOk 0 ∷ end 0 5 3 0 ∷ []
+unfolding serve at_places leads any_below before edge greatest_first edges_into
+a_conditional_store_succeeds = refl
+
+pub a_store_drops_the_line : (recorded a_line_lost).stream ≡ first_header a_line_lost 0 ∷ first_header a_line_lost 1 ∷ FirstLoad 0 0 0 ∷ FirstLoad 0 0 0 ∷ end 0 6 3 0 ∷ end 1 5 3 1 ∷ []
+unfolding serve at_places leads any_below before edge greatest_first edges_into
+a_store_drops_the_line = refl
+
+pub a_store_ends_the_reservation : (recorded a_reservation_lost).stream ≡ first_header a_reservation_lost 0 ∷ first_header a_reservation_lost 1 ∷ FirstLoad 0 0 0 ∷ Edge 1 2 0 2 ∷ ScFailed 0 ∷ end 0 6 3 0 ∷ end 1 5 3 1 ∷ []
+unfolding serve at_places leads any_below before edge greatest_first edges_into
+a_store_ends_the_reservation = refl
+
+pub a_filled_word_is_logged_again : (recorded a_filled_word).stream ≡ first_header a_filled_word 0 ∷ first_header a_filled_word 1 ∷ FirstLoad 0 0 0 ∷ Edge 1 6 0 2 ∷ end 1 7 2 4 ∷ header_after_the_call ∷ Edge 0 3 1 6 ∷ FirstLoad 0 0 2054781047 ∷ end 0 6 3 0 ∷ end 1 9 3 4 ∷ []
+unfolding serve at_places leads any_below before edge greatest_first edges_into
+a_filled_word_is_logged_again = refl
+
+pub a_relay_needs_no_third_edge : (recorded a_relay).stream ≡ first_header a_relay 0 ∷ first_header a_relay 1 ∷ first_header a_relay 2 ∷ Edge 1 3 0 4 ∷ FirstLoad 1 0 3 ∷ Edge 2 4 1 4 ∷ FirstLoad 2 0 3 ∷ FirstLoad 2 0 3 ∷ end 0 8 3 0 ∷ end 1 8 3 1 ∷ end 2 8 3 2 ∷ []
+unfolding serve at_places leads any_below before edge greatest_first edges_into
+a_relay_needs_no_third_edge = refl

@@ -1,0 +1,6 @@
+use Rattle.run_model.specs.Turn.{drops}
+use Rattle.run_model.specs.EachCache.{IsDropped}
+use Rattle.run_model.proofs.caches.drop_from_each.Given as goal
+
+abbrev pub invariant-loop-k : goal.invariant-loop-k
+invariant-loop-k l = IsDropped l.spared (drops l.first l.count) l.k l.fn.caches l.caches

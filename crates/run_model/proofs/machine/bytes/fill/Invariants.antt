@@ -1,0 +1,11 @@
+use Rattle.std.proofs.Common.{◌≡◌, ℕ, length, take, drop}
+use Rattle.bus_memory.specs.Contents.{Holds}
+use Rattle.run_model.specs.Machine.{filled}
+use Rattle.run_model.proofs.machine.bytes.fill.Given as goal
+
+abbrev pub invariant-loop-place : goal.invariant-loop-place
+invariant-loop-place l = record {
+  size : length l.memory.words ≡ length l.fn.memory.words;
+  made : l.memory.made ≡ l.fn.memory.made;
+  holds : (m : ℕ → ℕ) → Holds l.fn.memory.words m → Holds l.memory.words (filled l.addr (take l.place (drop l.start l.bytes)) m);
+}

@@ -1,0 +1,11 @@
+use Rattle.std.proofs.Common.{◌≡◌, ◌+◌, ◌++◌, ℕ, vec_len, vec_capacity}
+use Rattle.bus_memory.specs.Contents.{Holds}
+use Rattle.run_model.specs.Machine.{bytes_in}
+use Rattle.run_model.proofs.machine.bytes.send.Given as goal
+
+abbrev pub invariant-loop-place : goal.invariant-loop-place
+invariant-loop-place l = record {
+  len : vec_len l.stream ≡ vec_len l.fn.stream + l.place;
+  capacity : vec_capacity l.stream ≡ vec_capacity l.fn.stream;
+  items : (m : ℕ → ℕ) → Holds l.memory.words m → l.stream.items ≡ l.fn.stream.items ++ bytes_in m l.addr l.place;
+}

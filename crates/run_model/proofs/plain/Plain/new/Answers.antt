@@ -1,0 +1,15 @@
+use Rattle.std.proofs.Common.{ℕ, List, refl, sym, subst}
+use Rattle.bn_base.specs.declared.settings.RawSettings.{RawSettings}
+use Rattle.run_model.specs.Parts.{IsMachine}
+use Rattle.run_model.specs.Plain.{IsTrace}
+use Rattle.run_model.specs.Runs.{start, start_machine}
+use Rattle.run_model.proofs.plain.Plain.new.Goals as goal
+
+pub returns-clause-run : goal.returns-clause-run
+returns-clause-run c =
+    let f = c.args.from.now in
+    record {
+      machine = subst (λ (xs : List ℕ). IsMachine xs c.in_ok-machine.machine (start_machine f.image f.input.items)) (sym c.in_ok-copy.ensures.input) (c.in_ok-machine.ensures.stands f.input.items);
+      trace = subst (λ (s : RawSettings). IsTrace s c.in_ok-trace.trace (start f.settings f.image f.input.items)) (sym c.in_ok-copy.ensures.settings) (c.in_ok-trace.ensures.run f.input.items);
+      turns = refl;
+    }

@@ -1,0 +1,34 @@
+use Rattle.std.proofs.Common.{ℕ, List, sym, subst}
+use Rattle.std.specs.Prelude.{Vec}
+use Rattle.std.specs.Global.{Global}
+use Rattle.first_load_bits.specs.Stands.{Contents}
+use Rattle.log_ring.specs.Kept.{Held, Holds}
+use Rattle.run_model.specs.declared.hart.Hart.{Hart}
+use Rattle.run_model.specs.Parts.{IsMachine}
+use Rattle.run_model.specs.EachCache.{AreCaches}
+use Rattle.run_model.specs.Harts.{AreHarts}
+use Rattle.run_model.proofs.plain.Plain.prepare.Goals as goal
+
+pub returns-in_err-reserve-clause-run : goal.returns-in_err-reserve-clause-run
+returns-in_err-reserve-clause-run c run is = record {
+  machine = subst (λ (xs : List ℕ). IsMachine xs c.room.new.self run.machine) c.deref-2.ensures.value (c.room.ensures.stands run.machine (subst (λ (xs : List ℕ). IsMachine xs c.args.self.now.machine run.machine) (sym c.deref-2.ensures.value) is.machine));
+  trace = record {
+    harts = subst (λ (v : Vec Hart Global). AreHarts v.items run.harts) (sym c.reserve.ensures.harts) is.trace.harts;
+    caches = subst (λ (cs : List Contents). AreCaches c.args.self.now.start.settings cs run.events) (sym c.reserve.ensures.caches) is.trace.caches;
+    shadow = c.reserve.ensures.shadow run.points is.trace.shadow;
+    log = subst (λ (ring : Held). Holds ring run.stream) (sym c.reserve.ensures.ring) is.trace.log;
+  };
+  turns = is.turns;
+}
+
+pub returns-clause-run : goal.returns-clause-run
+returns-clause-run c run is = record {
+  machine = subst (λ (xs : List ℕ). IsMachine xs c.room.new.self run.machine) c.deref-2.ensures.value (c.room.ensures.stands run.machine (subst (λ (xs : List ℕ). IsMachine xs c.args.self.now.machine run.machine) (sym c.deref-2.ensures.value) is.machine));
+  trace = record {
+    harts = subst (λ (v : Vec Hart Global). AreHarts v.items run.harts) (sym c.reserve.ensures.harts) is.trace.harts;
+    caches = subst (λ (cs : List Contents). AreCaches c.args.self.now.start.settings cs run.events) (sym c.reserve.ensures.caches) is.trace.caches;
+    shadow = c.reserve.ensures.shadow run.points is.trace.shadow;
+    log = subst (λ (ring : Held). Holds ring run.stream) (sym c.reserve.ensures.ring) is.trace.log;
+  };
+  turns = is.turns;
+}

@@ -1,0 +1,33 @@
+use Rattle.std.proofs.Common.{sym, subst}
+use Rattle.std.specs.Prelude.{Vec}
+use Rattle.std.specs.Global.{Global}
+use Rattle.rv_meaning.specs.Execute.{absorbed}
+use Rattle.run_model.specs.declared.hart.Hart.{Hart}
+use Rattle.run_model.specs.declared.next.Next.{Next}
+use Rattle.run_model.specs.EachCache.{AreCaches}
+use Rattle.run_model.specs.Harts.{AreHarts, hart_in}
+use Rattle.run_model.specs.Turn.{events_after, harts_after, next_of}
+use Rattle.run_model.proofs.Owns.{hart_at, next_is, own_is}
+use Rattle.run_model.proofs.trace.Trace.finish.Goals as goal
+
+pub returns-clause-harts : goal.returns-clause-harts
+returns-clause-harts c f are =
+    let x = c.index-before.result.now in
+    let h = hart_in c.args.self.now.harts.items c.args.hart in
+    let s = absorbed c.args.ask.now c.args.reply in
+    let there = hart_at c.args.self.now.harts.items c.args.hart x c.requires.hart c.index-before.ensures in
+    let next = next_is c.args.settings.now c.args.call c.args.ask.now.want c.args.reply x h c.absorb.new.self s c.of-next.result there c.absorb.ensures c.of-next.ensures in
+    let own = own_is c.args.settings.now c.args.call c.args.ask.now.want c.args.reply c.args.load x h c.absorb.new.self c.take.new.self s c.of-next.result c.skipped_after-skipped.result there c.absorb.ensures c.of-next.ensures c.skipped_after-skipped.ensures c.take.ensures in
+    subst (λ (y : Hart). AreHarts c.finish_turn.new.harts.items (harts_after (next_of c.args.settings.now c.args.call h c.args.ask.now.want c.args.reply s.ic) c.args.hart y f)) own
+    (subst (λ (n : Next). AreHarts c.finish_turn.new.harts.items (harts_after n c.args.hart c.take.new.self f)) next
+    (c.finish_turn.ensures.harts f (subst (λ (v : Vec Hart Global). AreHarts v.items f) (sym c.begin.ensures.harts) are)))
+
+pub returns-clause-caches : goal.returns-clause-caches
+returns-clause-caches c s span events are =
+    let x = c.index-before.result.now in
+    let h = hart_in c.args.self.now.harts.items c.args.hart in
+    let t = absorbed c.args.ask.now c.args.reply in
+    let there = hart_at c.args.self.now.harts.items c.args.hart x c.requires.hart c.index-before.ensures in
+    let next = next_is c.args.settings.now c.args.call c.args.ask.now.want c.args.reply x h c.absorb.new.self t c.of-next.result there c.absorb.ensures c.of-next.ensures in
+    subst (λ (n : Next). AreCaches s c.begin.new.self.caches (events_after n c.args.hart c.args.call span events)) next
+    (c.begin.ensures.caches s c.args.call span events are)

@@ -1,0 +1,152 @@
+-- Small recordings whose streams are worked out by hand.
+use Rattle.std.specs.Prelude.{ℕ, ◌≡◌, true, false, List, [], ◌∷◌, length, filter, Bool, Some, None}
+use Rattle.bn_base.specs.Programs.{Program, Part}
+use Rattle.bn_base.specs.Ranges.{default_settings}
+use Rattle.bn_base.specs.declared.settings.RawSettings.{RawSettings}
+use Rattle.bn_base.specs.declared.row.Row.{Row}
+use Rattle.bn_base.specs.declared.fault.Fault.TheVariants.{LoadOutside}
+use Rattle.log_record.specs.declared.record.Record.{Record}
+use Rattle.log_record.specs.declared.record.Record.TheVariants.{End}
+use Rattle.run_model.specs.Turn.{Run, header, mark}
+use Rattle.run_model.specs.Runs.{start, start_state, run_of, legal_from, is_over}
+use Rattle.run_model.specs.Rows.{rows_of}
+
+-- what is recorded: the code words, which begin at address 0x10054, the settings, the input, and the list of turns
+pub record Recording : Type 0 where
+  pub words : List ℕ
+  pub settings : RawSettings
+  pub input : List ℕ
+  pub turns : List ℕ
+
+-- one read-only segment of code
+abbrev pub code_part : List ℕ → Part
+code_part words = record { first = 0x10054; words = words; count = length words; executable = true; writable = false }
+
+abbrev pub program_of : Recording → Program
+program_of e = record { parts = code_part e.words ∷ []; entry = 0x10054; memory = e.settings.memory; harts = e.settings.harts }
+
+abbrev pub recorded : Recording → Run
+recorded e = run_of e.settings (program_of e) e.input e.turns
+
+-- the Header of hart k's interval 0
+abbrev pub first_header : Recording → ℕ → Record
+first_header e k = header k 0 (start_state e.settings (program_of e) k)
+
+-- the End of an interval of hart k
+abbrev pub end : ℕ → ℕ → ℕ → ℕ → Record
+end k ic reason value = End k (mark ic reason value)
+
+-- the rows of hart k
+abbrev pub rows : Recording → ℕ → List Row
+rows e k = rows_of e.settings (program_of e) (start e.settings (program_of e) e.input) e.turns k
+
+-- the list is legal, and finished
+abbrev pub is_whole : Recording → Type 0
+is_whole e = (legal_from e.settings (program_of e) (start e.settings (program_of e) e.input) e.turns ≡ true) × (is_over e.settings (recorded e) ≡ true)
+
+-- ---- one hart
+
+-- addi a0,zero,5; addi a7,zero,93; ecall
+abbrev pub an_exit : Recording
+an_exit = record { words = 0x00500513 ∷ 0x05d00893 ∷ 0x00000073 ∷ []; settings = default_settings; input = []; turns = 0 ∷ [] }
+
+-- lui s0,0x20; lw t0,0(s0); lw t1,0(s0); then an exit
+abbrev pub two_loads_of_a_word : Recording
+two_loads_of_a_word = record { words = 0x00020437 ∷ 0x00042283 ∷ 0x00042303 ∷ 0x05d00893 ∷ 0x00000073 ∷ []; settings = default_settings; input = []; turns = 0 ∷ 0 ∷ 0 ∷ [] }
+
+-- lui s0,0x20; lw t0,0(s0); lw t1,0(s0); lw t0,4(s0); then an exit
+abbrev pub a_skipped_load : Recording
+a_skipped_load = record { words = 0x00020437 ∷ 0x00042283 ∷ 0x00042303 ∷ 0x00442283 ∷ 0x05d00893 ∷ 0x00000073 ∷ []; settings = default_settings; input = []; turns = 0 ∷ 0 ∷ 0 ∷ 0 ∷ [] }
+
+-- lui s0,0x20; sb a1,0(s0); lw t0,0(s0); then an exit
+abbrev pub a_byte_store : Recording
+a_byte_store = record { words = 0x00020437 ∷ 0x00b40023 ∷ 0x00042283 ∷ 0x05d00893 ∷ 0x00000073 ∷ []; settings = default_settings; input = []; turns = 0 ∷ 0 ∷ 0 ∷ [] }
+
+-- lui s0,0x20; lw t0,0(s0); lw t0,4(s0); lw t0,0(s0); then an exit, with a cache of one line of one word
+abbrev pub a_line_put_out : Recording
+a_line_put_out = record { words = 0x00020437 ∷ 0x00042283 ∷ 0x00442283 ∷ 0x00042283 ∷ 0x05d00893 ∷ 0x00000073 ∷ []; settings = record default_settings { sets = 1; ways = 1; line = 1 }; input = []; turns = 0 ∷ 0 ∷ 0 ∷ 0 ∷ [] }
+
+-- lui s0,0x20; lr.w t0,(s0); sc.w t1,a1,(s0); then an exit
+abbrev pub a_conditional_store : Recording
+a_conditional_store = record { words = 0x00020437 ∷ 0x100422af ∷ 0x18b4232f ∷ 0x05d00893 ∷ 0x00000073 ∷ []; settings = default_settings; input = []; turns = 0 ∷ 0 ∷ 0 ∷ [] }
+
+-- an exit, with intervals of one instruction
+abbrev pub one_a_time : Recording
+one_a_time = record { words = 0x00500513 ∷ 0x05d00893 ∷ 0x00000073 ∷ []; settings = record default_settings { interval = 1 }; input = []; turns = 0 ∷ 0 ∷ 0 ∷ [] }
+
+-- addi a7,zero,214; addi a0,zero,0; ecall; then an exit, with intervals of three instructions
+abbrev pub a_call_at_full_length : Recording
+a_call_at_full_length = record { words = 0x0d600893 ∷ 0x00000513 ∷ 0x00000073 ∷ 0x05d00893 ∷ 0x00000073 ∷ []; settings = record default_settings { interval = 3 }; input = []; turns = 0 ∷ 0 ∷ [] }
+
+-- lw t0,0(zero)
+abbrev pub a_fault : Recording
+a_fault = record { words = 0x00002283 ∷ []; settings = default_settings; input = []; turns = 0 ∷ [] }
+
+-- jal zero to itself, up to a limit of ten instructions, with intervals of four
+abbrev pub a_limit : Recording
+a_limit = record { words = 0x0000006f ∷ []; settings = record default_settings { interval = 4; limit = 10 }; input = []; turns = 0 ∷ 0 ∷ 0 ∷ [] }
+
+-- ---- several harts
+
+-- hart 0 loads a word twice; hart 1 stores the next word, of the same line, in between
+abbrev pub a_line_lost : Recording
+a_line_lost = record {
+  words = 0x00020437 ∷ 0x00051a63 ∷ 0x00042283 ∷ 0x00042303 ∷ 0x05d00893 ∷ 0x00000073 ∷ 0x00b42223 ∷ 0x05d00893 ∷ 0x00000073 ∷ [];
+  settings = record default_settings { harts = 2; line = 4 };
+  input = [];
+  turns = 0 ∷ 1 ∷ 0 ∷ 0 ∷ 1 ∷ [];
+}
+
+-- hart 0 reserves a word and stores it conditionally; hart 1 stores it in between
+abbrev pub a_reservation_lost : Recording
+a_reservation_lost = record {
+  words = 0x00020437 ∷ 0x00051a63 ∷ 0x100422af ∷ 0x18b4232f ∷ 0x05d00893 ∷ 0x00000073 ∷ 0x00b42023 ∷ 0x05d00893 ∷ 0x00000073 ∷ [];
+  settings = record default_settings { harts = 2 };
+  input = [];
+  turns = 0 ∷ 1 ∷ 0 ∷ 0 ∷ 1 ∷ [];
+}
+
+-- hart 0 loads a word twice; hart 1's read call fills it with `wxyz` in between
+abbrev pub a_filled_word : Recording
+a_filled_word = record {
+  words = 0x00020437 ∷ 0x00051a63 ∷ 0x00042283 ∷ 0x00042303 ∷ 0x05d00893 ∷ 0x00000073 ∷ 0x00000513 ∷ 0x00040593 ∷ 0x00400613 ∷ 0x03f00893 ∷ 0x00000073 ∷ 0x05d00893 ∷ 0x00000073 ∷ [];
+  settings = record default_settings { harts = 2 };
+  input = 119 ∷ 120 ∷ 121 ∷ 122 ∷ [];
+  turns = 0 ∷ 1 ∷ 0 ∷ 0 ∷ 1 ∷ [];
+}
+
+-- the Header of hart 1's interval after the call: its registers hold the call's arguments and result
+abbrev pub header_after_the_call : Record
+header_after_the_call = header 1 1 (record {
+  pc = 0x10080;
+  x = 0 ∷ 0 ∷ 983040 ∷ 0 ∷ 0 ∷ 0 ∷ 0 ∷ 0 ∷ 0x20000 ∷ 0 ∷ 4 ∷ 0x20000 ∷ 4 ∷ 0 ∷ 0 ∷ 0 ∷ 0 ∷ 63 ∷ 0 ∷ 0 ∷ 0 ∷ 0 ∷ 0 ∷ 0 ∷ 0 ∷ 0 ∷ 0 ∷ 0 ∷ 0 ∷ 0 ∷ 0 ∷ 0 ∷ [];
+  ic = 7;
+})
+
+-- hart 0 stores a word, hart 1 loads it and stores the next, hart 2 loads the next and then the first
+abbrev pub relay_words : List ℕ
+relay_words = 0x00020437 ∷ 0x00100393 ∷ 0x00750863 ∷ 0x00051c63 ∷ 0x00b42023 ∷ 0x0180006f ∷ 0x00042283 ∷ 0x00b42223 ∷ 0x00c0006f ∷ 0x00442283 ∷ 0x00042303 ∷ 0x05d00893 ∷ 0x00000073 ∷ []
+
+abbrev pub a_relay : Recording
+a_relay = record { words = relay_words; settings = record default_settings { harts = 3 }; input = []; turns = 0 ∷ 1 ∷ 1 ∷ 2 ∷ 2 ∷ 0 ∷ 1 ∷ 2 ∷ [] }
+
+-- ---- what is shown of them
+
+abbrev pub is_end : Record → Bool
+is_end (End k mark) = true
+is_end r = false
+
+-- the Ends of a stream
+abbrev pub marks : List Record → List Record
+marks rs = filter is_end rs
+
+-- the rows of the exit
+abbrev pub rows_of_an_exit : List Row
+rows_of_an_exit =
+    record { hart = 0; ic = 0; pc = 0x10054; word = Some 0x00500513; reg = Some (10, 5); load = None; store = None; fault = None }
+    ∷ record { hart = 0; ic = 1; pc = 0x10058; word = Some 0x05d00893; reg = Some (17, 93); load = None; store = None; fault = None }
+    ∷ record { hart = 0; ic = 2; pc = 0x1005c; word = Some 0x00000073; reg = None; load = None; store = None; fault = None } ∷ []
+
+-- and that of the load which faults
+abbrev pub row_of_a_fault : Row
+row_of_a_fault = record { hart = 0; ic = 0; pc = 0x10054; word = Some 0x00002283; reg = None; load = None; store = None; fault = Some (LoadOutside, 0) }

@@ -1,0 +1,14 @@
+pub mod Machine
+pub mod Turn
+pub mod Runs
+pub mod Rows
+pub mod Files
+pub mod Logs
+pub mod Counts
+pub mod Harts
+pub mod Plain
+pub mod Parts
+pub mod EachCache
+pub mod Turning
+pub mod First
+pub mod Examples

@@ -1,0 +1,92 @@
+-- What a plain machine keeps, and the runs that it stands for.
+use Rattle.std.specs.Prelude.{◌≡◌, ◌≤◌, ◌<◌, ◌^◌, ◌%◌, ◌/◌, ℕ, ◌+◌, ◌*◌, ⊤, Bool, true, List, length, get_or, drop, Option, Some, None}
+use Rattle.bn_base.specs.Ranges.{IsSetting}
+use Rattle.bn_base.specs.declared.settings.RawSettings.{RawSettings}
+use Rattle.race_log.specs.declared.shadow.Shadow.{Shadow}
+use Rattle.race_log.specs.Stands.{Stands, harts_of, next_turn, next_count, reserved_range}
+use Rattle.log_ring.specs.Kept.{Holds}
+use Rattle.run_model.specs.declared.next.Next.{Next}
+use Rattle.run_model.specs.declared.next.Next.TheVariants.{GoesOn, NewInterval, HartOver, RunOver}
+use Rattle.run_model.specs.declared.span.Span.{Span}
+use Rattle.run_model.specs.declared.start.Start.{Start}
+use Rattle.run_model.specs.declared.trace.Trace.{Trace}
+use Rattle.run_model.specs.Parts.{MachineParts, IsMachine}
+use Rattle.run_model.specs.EachCache.{AreCaches, steps_in}
+use Rattle.run_model.specs.Machine.{Machine}
+use Rattle.run_model.specs.Turn.{Run}
+use Rattle.run_model.specs.Runs.{most_turns}
+use Rattle.run_model.specs.Logs.{taken}
+use Rattle.run_model.specs.Harts.{AreHarts, hart_in, all_left}
+use Rattle.run_model.specs.Counts.{IsFit}
+
+-- every hart's knowledge counts
+abbrev pub everyone : ℕ → Bool
+everyone k = true
+
+-- the race log can take in an access of these words without more memory
+abbrev pub IsRaceReady : Shadow → Option Span → Type 0
+IsRaceReady s None = ⊤
+IsRaceReady s (Some x) = (x.first % 4 ≡ 0) × (x.first + 4 * x.count ≤ 2 ^ 32) × (reserved_range s ≡ Some (x.first, x.count))
+
+-- the lowest count that the hart's next access may have, once instruction ic accessed these words, if it did
+abbrev pub count_after : Option Span → (ic before : ℕ) → ℕ
+count_after None ic before = before
+count_after (Some x) ic before = ic + 1
+
+-- how many times the bits of the hart's cache are cleared
+abbrev pub clears : Next → ℕ
+clears GoesOn = 0
+clears (NewInterval reason value) = 1
+clears (HartOver reason value) = 0
+clears (RunOver reason value) = 0
+
+-- ---- a plain machine
+
+-- what it keeps: what it began with, the machine that the harts share, what is traced of the run, and how many turns it took
+pub record PlainParts : Type 0 where
+  pub start : Start
+  pub machine : MachineParts
+  pub trace : Trace
+  pub turns : ℕ
+
+-- what is traced is that of the run
+pub record IsTrace (c : RawSettings) (t : Trace) (run : Run) : Type 0 where
+  pub harts : AreHarts t.harts.items run.harts
+  pub caches : AreCaches c t.caches run.events
+  pub shadow : Stands run.points everyone t.shadow
+  pub log : Holds t.ring run.stream
+
+-- the parts stand for the run
+pub record IsRun (p : PlainParts) (run : Run) : Type 0 where
+  pub machine : IsMachine p.start.input.items p.machine run.machine
+  pub trace : IsTrace p.start.settings p.trace run
+  pub turns : p.turns ≡ run.turns
+
+-- the counts of a hart, its cache and its knowledge fit each other
+pub record IsHartFit (c : RawSettings) (t : Trace) (k : ℕ) : Type 0 where
+  pub fit : IsFit c (hart_in t.harts.items k)
+  pub steps : steps_in t.caches k ≤ (hart_in t.harts.items k).state.ic + (hart_in t.harts.items k).number
+  pub count : next_count t.shadow k ≤ (hart_in t.harts.items k).state.ic
+
+-- what is traced fits the settings and the number of turns
+pub record IsTraceFit (c : RawSettings) (t : Trace) (turns : ℕ) : Type 0 where
+  pub settings : IsSetting c
+  pub harts : length t.harts.items ≡ c.harts
+  pub caches : length t.caches ≡ c.harts
+  pub shadow : harts_of t.shadow ≡ c.harts
+  pub each : (k : ℕ) → k < c.harts → IsHartFit c t k
+  pub turn : next_turn t.shadow ≤ turns
+  pub left : turns + all_left c c.harts (hart_in t.harts.items) ≤ most_turns c
+  pub log : taken t.ring ≤ 8 + 24 * turns
+  pub log_size : t.ring.size ≡ c.log_size
+
+-- one of the machines that the parts stand for
+abbrev pub meant : List ℕ → MachineParts → Machine
+meant input p = record {
+  memory = λ a. get_or p.memory.words (a / 4) 0;
+  reserved = λ k. get_or p.reserved k None;
+  brk = p.brk;
+  input = drop p.taken input;
+  out = p.out;
+  err = p.err;
+}

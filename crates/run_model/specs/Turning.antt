@@ -1,0 +1,12 @@
+-- The parts of a plain machine.
+use Rattle.std.specs.Prelude.{ℕ, Bool, slice_get}
+use Rattle.run_model.specs.Harts.{alive}
+use Rattle.run_model.specs.declared.plain.Plain.{Plain}
+use Rattle.run_model.specs.Plain.{PlainParts}
+
+abbrev pub parts : Plain → PlainParts
+parts p = record { start = p.start; machine = p.machine; trace = p.trace; turns = p.turns }
+
+-- whether a hart is there and live
+abbrev pub is_alive : PlainParts → ℕ → Bool
+is_alive p k = alive (slice_get p.trace.harts.items k)

@@ -1,0 +1,72 @@
+// What is traced before the first turn.
+ghost use Rattle.std.specs.Prelude.{◌≡◌, ◌≤◌, ◌<◌, ◌^◌, ◌+◌, ◌∷◌, ◌++◌, [], ℕ, List, length, IfOk};
+ghost use Rattle.run_model.specs.Runs.{start as first_run, start_state};
+ghost use Rattle.run_model.specs.Plain.{IsTrace, IsTraceFit};
+ghost use Rattle.run_model.specs.First.{AreFirst};
+
+use crate::caches::Caches;
+use crate::hart::Hart;
+use crate::records::append_header;
+use crate::trace::Trace;
+use bn_base::{HartId, HartState, Image, Registers, Settings};
+use log_ring::Ring;
+use race_log::Shadow;
+use std::alloc::{AllocError, Global};
+
+/// How many bytes of the stacks' region each hart has, from the end of memory down.
+const STACK: u32 = 65_536;
+
+/// A hart before the run: it starts at the program's entry, with its number in a0, the number of harts
+/// in a1, and in sp the end of memory less 65,536 bytes for each hart before it.
+fn start_state(settings: &Settings, image: &Image, number: HartId) -> HartState
+    ensures { result ≡ start_state settings.now image.now number }
+{
+    let mut contents = [0; 32];
+    contents[10] = u32::from(number);
+    contents[11] = u32::from(settings.harts());
+    contents[2] = image.memory().wrapping_sub(STACK * u32::from(number));
+    HartState {
+        pc: image.entry(),
+        x: Registers::new(contents),
+        ic: 0,
+    }
+}
+
+// The harts before the first turn, and the log with their first Headers.
+fn first_harts(
+    alloc: Global,
+    settings: &Settings,
+    image: &Image,
+    ring: &mut Ring,
+) -> Result<Vec<Hart>, AllocError>
+    requires { (ring.old.records ≡ []) × (ring.old.dropped ≡ 0) }
+    ensures { IfOk result (λ harts. AreFirst settings.now image.now settings.now.harts ring.old harts.items ring.new) }
+{
+    let mut harts = Vec::with_capacity(alloc, usize::from(settings.harts()))?;
+    for number in 0..settings.harts() {
+        append_header(ring, number, 0, &start_state(settings, image, number));
+        harts.push(Hart::new(start_state(settings, image, number)))?;
+    }
+    Ok(harts)
+}
+
+impl Trace {
+    /// What is traced before the first turn: each hart has begun its interval 0. The only error is want
+    /// of memory.
+    pub fn new(alloc: Global, settings: &Settings, image: &Image) -> Result<Trace, AllocError>
+        ensures run { IfOk result (λ t. (input : List ℕ) → IsTrace settings.now t (first_run settings.now image.now input)) }
+        ensures fits { IfOk result (λ t. IsTraceFit settings.now t 0) }
+    {
+        let _settings = settings.raw();
+        let mut ring = Ring::new(alloc, settings.log_size() as usize)?;
+        let harts = first_harts(alloc, settings, image, &mut ring)?;
+        let caches = Caches::new(alloc, settings)?;
+        let shadow = Shadow::new(alloc, settings)?;
+        Ok(Trace {
+            harts,
+            caches,
+            shadow,
+            ring,
+        })
+    }
+}

@@ -1,0 +1,126 @@
+// What a run keeps of a hart.
+ghost use Rattle.std.specs.Prelude.{◌≡◌, ◌<◌, ◌-◌, ◌^◌, IsTrue};
+ghost use Rattle.rv_meaning.specs.Execute.{absorbed};
+ghost use Rattle.rv_meaning.specs.Orderly.{is_reply_to};
+ghost use Rattle.run_model.specs.Runs.{start_hart};
+ghost use Rattle.run_model.specs.Turn.{budget, hart_after, mark, stopped, dead, skipped_after};
+
+use crate::next::Next;
+use bn_base::end_mark::STOPPED;
+use bn_base::{EndMark, HartState, Ic, Settings};
+use first_load_bits::Warm;
+use rv_meaning::{Ask, Reply, absorb_in_place};
+
+/// A hart between two turns.
+#[derive(Clone, Copy, Debug, PartialEq, Eq, Drop)]
+pub struct Hart {
+    /// Its state, as its last served ask left it.
+    pub state: HartState,
+    /// Whether it can take a turn: neither it nor the run is over.
+    pub live: bool,
+    /// The number of its present interval, from 0.
+    pub number: u64,
+    /// How many instructions it had done when that interval began.
+    pub begun: Ic,
+    /// How many loading accesses of the interval were skipped since the last logged one.
+    pub skipped: u32,
+    /// How its last finished interval ended, if one did.
+    pub mark: Option<EndMark>,
+}
+
+impl Hart {
+    /// A hart before its first turn.
+    pub fn new(state: HartState) -> Hart
+        ensures { result ≡ start_hart state }
+    {
+        Hart {
+            state,
+            live: true,
+            number: 0,
+            begun: 0,
+            skipped: 0,
+            mark: None,
+        }
+    }
+
+    /// How many instructions it may do before its next cut: as many as are left of its interval, and of its limit.
+    pub fn budget(&self, settings: &Settings) -> u64
+        ensures { result ≡ budget settings.now self.now }
+    {
+        let done = self.state.ic.saturating_sub(self.begun);
+        let interval = u64::from(settings.interval()).saturating_sub(done);
+        let limit = settings.limit().saturating_sub(self.state.ic);
+        interval.min(limit)
+    }
+
+    /// The reply to its ask gives its next state.
+    pub fn absorb(&mut self, ask: &Ask, reply: Reply)
+        requires { IsTrue (is_reply_to ask.now.want reply) }
+        ensures { self.new ≡ record self.old { state = absorbed ask.now reply } }
+    {
+        self.state = ask.state;
+        absorb_in_place(&mut self.state, &ask.want, reply);
+    }
+
+    /// Takes in what comes after its turn, its state being the one after the reply.
+    pub fn take(&mut self, next: Next, skipped: u32)
+        requires { self.old.number < 2 ^ 64 - 1 }
+        ensures { self.new ≡ hart_after next self.old.state skipped self.old }
+    {
+        match next {
+            Next::GoesOn => self.skipped = skipped,
+            Next::NewInterval { reason, value } => {
+                self.mark = Some(self.mark_here(reason, value));
+                self.number += 1;
+                self.begun = self.state.ic;
+                self.skipped = 0;
+            }
+            Next::HartOver { reason, value } | Next::RunOver { reason, value } => {
+                self.mark = Some(self.mark_here(reason, value));
+                self.live = false;
+                self.skipped = skipped;
+            }
+        }
+    }
+
+    // A mark at its present count.
+    fn mark_here(&self, reason: u8, value: u32) -> EndMark
+        ensures { result ≡ mark self.now.state.ic reason value }
+    {
+        EndMark {
+            ic: self.state.ic,
+            reason,
+            value,
+        }
+    }
+
+    /// The run's end stops it, where it is live.
+    pub fn stop(&mut self)
+        ensures { self.new ≡ stopped self.old }
+    {
+        if self.live {
+            self.live = false;
+            self.mark = Some(self.mark_here(STOPPED, 0));
+        }
+    }
+
+    /// It is over, without a mark.
+    pub fn end(&mut self)
+        ensures { self.new ≡ dead self.old }
+    {
+        self.live = false;
+    }
+}
+
+/// How many loading accesses were skipped since the last logged one, after one more: whether its word
+/// was warm just before, if there was one.
+pub fn skipped_after(load: Option<Warm>, skipped: u32) -> u32
+    requires { skipped < 2 ^ 32 - 1 }
+    ensures { result ≡ skipped_after load skipped }
+{
+    match load {
+        Some(Warm::Cold) => 0,
+        Some(Warm::Warm) => skipped + 1,
+        None => skipped,
+    }
+}

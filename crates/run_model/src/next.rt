@@ -1,0 +1,96 @@
+// What comes after a turn.
+ghost use Rattle.std.specs.Prelude.{◌≡◌, ◌≤◌};
+ghost use Rattle.run_model.specs.Turn.{counted, after_call, after_access, next_of};
+
+use crate::hart::Hart;
+use bn_base::end_mark::{CALL, EXIT, FAULT, GROUP, LENGTH, LIMIT};
+use bn_base::{Ic, Settings};
+use rv_meaning::{Reply, Want};
+use system_calls::Plan;
+
+/// What comes after a hart's turn: its present interval goes on, or it ends for a reason, which has
+/// the code and the value of an [`EndMark`](bn_base::EndMark).
+#[derive(Clone, Copy, Debug, PartialEq, Eq, Drop)]
+pub enum Next {
+    /// The interval goes on.
+    GoesOn,
+    /// The interval ends, and the hart begins its next one.
+    NewInterval { reason: u8, value: u32 },
+    /// The interval ends, and the hart is over.
+    HartOver { reason: u8, value: u32 },
+    /// The interval ends, and the whole run is over.
+    RunOver { reason: u8, value: u32 },
+}
+
+impl Next {
+    /// What comes after the turn of a hart which leaves its count at `ic`, by its want, the system
+    /// call that is planned for it, if one is, and the reply.
+    pub fn of(
+        settings: &Settings,
+        call: Option<Plan>,
+        hart: &Hart,
+        want: &Want,
+        reply: Reply,
+        ic: Ic,
+    ) -> Next
+        ensures { result ≡ next_of settings.now call hart.now want.now reply ic }
+    {
+        match call {
+            Some(plan) => Next::after_call(plan, reply),
+            None => Next::after_access(settings, hart, want, ic),
+        }
+    }
+
+    // A hart's count at the limit ends it; else an interval that is full ends.
+    fn counted(settings: &Settings, hart: &Hart, ic: Ic) -> Next
+        ensures { result ≡ counted settings.now hart.now ic }
+    {
+        if settings.limit() <= ic {
+            Next::HartOver {
+                reason: LIMIT,
+                value: 0,
+            }
+        } else if u64::from(settings.interval()) <= ic.saturating_sub(hart.begun) {
+            Next::NewInterval {
+                reason: LENGTH,
+                value: 0,
+            }
+        } else {
+            Next::GoesOn
+        }
+    }
+
+    // Each system call ends the interval.
+    fn after_call(plan: Plan, reply: Reply) -> Next
+        ensures { result ≡ after_call plan reply }
+    {
+        match (plan, reply) {
+            (Plan::EndHart { code }, _) => Next::HartOver {
+                reason: EXIT,
+                value: code,
+            },
+            (Plan::EndRun { code }, _) => Next::RunOver {
+                reason: GROUP,
+                value: code,
+            },
+            (_, Reply::Answer(value)) => Next::NewInterval {
+                reason: CALL,
+                value,
+            },
+            _ => Next::GoesOn,
+        }
+    }
+
+    // A fault ends the run.
+    fn after_access(settings: &Settings, hart: &Hart, want: &Want, ic: Ic) -> Next
+        ensures { result ≡ after_access settings.now hart.now want.now ic }
+    {
+        match want {
+            Want::Faulted { kind, value } => Next::RunOver {
+                reason: FAULT + kind.number(),
+                value: *value,
+            },
+            _ => Next::counted(settings, hart, ic),
+        }
+    }
+}

@@ -1,0 +1,21 @@
+// The plain machine.
+ghost use Rattle.std.specs.Prelude.{◌≡◌};
+ghost use Rattle.run_model.specs.Parts.{size_of};
+ghost use Rattle.run_model.specs.Plain.{IsTraceFit};
+
+use crate::machine::Machine;
+use crate::start::Start;
+use crate::trace::Trace;
+
+/// A machine that takes turns one by one, on the caller's thread.
+///
+/// Contracts say by `IsRun` of its parts which runs of the definition it stands for.
+#[derive(Drop)]
+pub struct Plain {
+    pub(crate) start: Start,
+    pub(crate) machine: Machine,
+    pub(crate) trace: Trace,
+    pub(crate) turns: u64,
+    ghost memory: { size_of machine ≡ start.image.memory },
+    ghost fits: { IsTraceFit start.settings trace turns },
+}

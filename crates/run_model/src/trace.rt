@@ -1,0 +1,209 @@
+// What is traced of a run: its harts, their caches, the race log and the log.
+ghost use Rattle.std.specs.Prelude.{◌≡◌, ◌≤◌, ◌<◌, ◌+◌, ◌-◌, ◌*◌, ◌^◌, ◌++◌, ◌==◌, ◌≢◌, ℕ, List, length, IsTrue, true, is_some, Option, OnOk, if◌then◌else◌};
+ghost use Rattle.bn_base.specs.Programs.{Program};
+ghost use Rattle.bn_base.specs.declared.settings.RawSettings.{RawSettings};
+ghost use Rattle.rv_meaning.specs.Execute.{absorbed};
+ghost use Rattle.rv_meaning.specs.Orderly.{is_reply_to};
+ghost use Rattle.first_load_bits.specs.Events.{Event};
+ghost use Rattle.log_record.specs.declared.record.Record.{Record};
+ghost use Rattle.log_ring.specs.Kept.{Holds};
+ghost use Rattle.race_log.specs.Points.{Point};
+ghost use Rattle.race_log.specs.Stands.{Stands, KnowsSame, harts_of, next_turn, next_count};
+ghost use Rattle.run_model.specs.declared.hart.Hart.{Hart};
+ghost use Rattle.run_model.specs.declared.next.Next.TheVariants.{GoesOn};
+ghost use Rattle.run_model.specs.declared.span.Span.{Span};
+ghost use Rattle.run_model.specs.Machine.{Machine, call_of};
+ghost use Rattle.run_model.specs.Turn.{span_of, next_of, loading, warmth, point_of, points_after, edge_records, load_record, sc_record, next_records, run_over_records, harts_after, hart_after, events_after, skipped_after};
+ghost use Rattle.run_model.specs.Harts.{AreHarts, hart_in};
+ghost use Rattle.run_model.specs.Logs.{taken, is_marked_next};
+ghost use Rattle.run_model.specs.EachCache.{AreCaches, steps_in, where_loading, touched_word, touches};
+ghost use Rattle.run_model.specs.Counts.{is_loading};
+ghost use Rattle.run_model.specs.Parts.{AreAddresses};
+ghost use Rattle.run_model.specs.Plain.{everyone, IsRaceReady, count_after, clears};
+
+use crate::caches::Caches;
+use crate::hart::{Hart, skipped_after};
+use crate::harts::finish_turn;
+use crate::next::Next;
+use crate::race::record_access;
+use crate::records::{append_conditional, append_load, append_next};
+use crate::span::{Span, loading};
+use bn_base::{HartId, Settings};
+use first_load_bits::Warm;
+use log_ring::Ring;
+use race_log::Shadow;
+use rv_meaning::{Ask, Reply, Want};
+use std::alloc::AllocError;
+use system_calls::Plan;
+
+/// What is traced of a run: its harts, their caches, the race log and the log.
+#[derive(Drop)]
+pub struct Trace {
+    pub harts: Vec<Hart>,
+    pub caches: Caches,
+    pub shadow: Shadow,
+    pub ring: Ring,
+}
+
+// How the word of a loading access was, where that of an access was so.
+fn where_loading(want: &Want, touched: Option<Warm>) -> Option<Warm>
+    ensures { result ≡ where_loading (loading want.now) touched }
+{
+    match loading(want) {
+        None => None,
+        Some(_) => touched,
+    }
+}
+
+impl Trace {
+    /// Finds the memory that the race log needs to take in an access of these words. All stays as it is,
+    /// also on `Err`, and want of memory is the only error.
+    pub fn reserve(&mut self, span: Option<Span>) -> Result<(), AllocError>
+        requires { AreAddresses span }
+        ensures ready { OnOk result (IsRaceReady self.new.shadow span) }
+        ensures shadow { (points : List Point) → Stands points everyone self.old.shadow → Stands points everyone self.new.shadow }
+        ensures same { KnowsSame self.old.shadow self.new.shadow }
+        ensures harts { self.new.harts ≡ self.old.harts }
+        ensures caches { self.new.caches ≡ self.old.caches }
+        ensures ring { self.new.ring ≡ self.old.ring }
+    {
+        match span {
+            None => Ok(()),
+            Some(span) => self.shadow.reserve(span.first, span.count),
+        }
+    }
+
+    /// Takes in the words that a hart's asking instruction accesses: its Edges, its FirstLoad or how
+    /// its SC went are appended, and the caches touched and dropped. The answer is how the word of a
+    /// loading access was just before; `word` is that word.
+    pub fn access(
+        &mut self,
+        turn: u64,
+        hart: HartId,
+        call: Option<Plan>,
+        ask: &Ask,
+        reply: Reply,
+        word: u32,
+    ) -> Option<Warm>
+        requires hart { hart < length self.old.harts.items }
+        requires caches { hart < length self.old.caches }
+        requires shadow { hart < harts_of self.old.shadow }
+        requires few { harts_of self.old.shadow ≤ 8 }
+        requires ic { ask.now.state.ic < 2 ^ 41 }
+        requires steps { steps_in self.old.caches hart < 2 ^ 42 }
+        requires addresses { AreAddresses (span_of call ask.now.want reply) }
+        requires ready { IsRaceReady self.old.shadow (span_of call ask.now.want reply) }
+        requires turns { next_turn self.old.shadow ≤ turn }
+        requires counts { next_count self.old.shadow hart ≤ ask.now.state.ic }
+        requires room { taken self.old.ring + 10 < 2 ^ 60 }
+        ensures load { (c : RawSettings) (i : Program) (m : Machine) (events : ℕ → List Event) → call ≡ call_of i m ask.now.want → AreCaches c self.old.caches events →
+            result ≡ warmth c (loading ask.now.want) (events hart) }
+        ensures loading { is_some result ≡ true → is_loading (loading ask.now.want) ≡ true }
+        ensures caches { (c : RawSettings) (events : ℕ → List Event) → AreCaches c self.old.caches events →
+            AreCaches c self.new.caches (events_after GoesOn hart call (span_of call ask.now.want reply) events) }
+        ensures shadow { (points : List Point) → Stands points everyone self.old.shadow →
+            Stands (points_after (point_of hart ask.now.state.ic turn (span_of call ask.now.want reply)) points) everyone self.new.shadow }
+        ensures holds { (points : List Point) (rs : List Record) → Stands points everyone self.old.shadow → Holds self.old.ring rs →
+            Holds self.new.ring (rs ++ edge_records (point_of hart ask.now.state.ic turn (span_of call ask.now.want reply)) points
+            ++ load_record result hart (hart_in self.old.harts.items hart).skipped word ++ sc_record reply hart) }
+        ensures harts { self.new.harts ≡ self.old.harts }
+        ensures count { length self.new.caches ≡ length self.old.caches }
+        ensures steps { (k : ℕ) → steps_in self.new.caches k ≡ (if k == hart then steps_in self.old.caches k + touches (touched_word call (span_of call ask.now.want reply)) else steps_in self.old.caches k) }
+        ensures shadow_harts { harts_of self.new.shadow ≡ harts_of self.old.shadow }
+        ensures turn { next_turn self.new.shadow ≤ turn + 1 }
+        ensures next { next_count self.new.shadow hart ≤ count_after (span_of call ask.now.want reply) ask.now.state.ic (next_count self.old.shadow hart) }
+        ensures others { (h : ℕ) → h ≢ hart → next_count self.new.shadow h ≡ next_count self.old.shadow h }
+        ensures took { taken self.new.ring ≤ taken self.old.ring + 10 }
+        ensures size { self.new.ring.size ≡ self.old.ring.size }
+    {
+        let span = Span::of(call, &ask.want, reply);
+        record_access(
+            &mut self.shadow,
+            &mut self.ring,
+            hart,
+            ask.state.ic,
+            turn,
+            span,
+        );
+        let touched = self.caches.take(hart, call, span);
+        let load = where_loading(&ask.want, touched);
+        let skipped = self.harts[hart as usize].skipped;
+        append_load(&mut self.ring, load, hart, skipped, word);
+        append_conditional(&mut self.ring, reply, hart);
+        load
+    }
+
+    // Clears the bits of a hart's cache, where it begins an interval.
+    fn begin(&mut self, hart: HartId, next: Next)
+        requires caches { hart < length self.old.caches }
+        requires steps { steps_in self.old.caches hart < 2 ^ 42 }
+        ensures caches { (c : RawSettings) (call : Option Plan) (span : Option Span) (events : ℕ → List Event) →
+            AreCaches c self.old.caches (events_after GoesOn hart call span events) → AreCaches c self.new.caches (events_after next hart call span events) }
+        ensures count { length self.new.caches ≡ length self.old.caches }
+        ensures steps { (k : ℕ) → steps_in self.new.caches k ≡ (if k == hart then steps_in self.old.caches k + clears next else steps_in self.old.caches k) }
+        ensures harts { self.new.harts ≡ self.old.harts }
+        ensures shadow { self.new.shadow ≡ self.old.shadow }
+        ensures ring { self.new.ring ≡ self.old.ring }
+    {
+        match next {
+            Next::NewInterval { .. } => self.caches.clear(hart),
+            Next::GoesOn => {}
+            Next::HartOver { .. } => {}
+            Next::RunOver { .. } => {}
+        }
+    }
+
+    /// The reply to a hart's ask gives its next state, and what comes next for it and for the others;
+    /// the Ends and the next Header are appended. `load` is how the word of a loading access was.
+    pub fn finish(
+        &mut self,
+        settings: &Settings,
+        hart: HartId,
+        call: Option<Plan>,
+        ask: &Ask,
+        reply: Reply,
+        load: Option<Warm>,
+    )
+        requires hart { hart < length self.old.harts.items }
+        requires few { length self.old.harts.items ≤ 8 }
+        requires caches { hart < length self.old.caches }
+        requires steps { steps_in self.old.caches hart < 2 ^ 42 }
+        requires fits { IsTrue (is_reply_to ask.now.want reply) }
+        requires number { (hart_in self.old.harts.items hart).number < 2 ^ 62 }
+        requires skipped { (hart_in self.old.harts.items hart).skipped < 2 ^ 32 - 1 }
+        requires marked { IsTrue (is_marked_next (next_of settings.now call (hart_in self.old.harts.items hart) ask.now.want reply (absorbed ask.now reply).ic)) }
+        requires room { taken self.old.ring + 10 < 2 ^ 60 }
+        ensures harts { (f : ℕ → Hart) → AreHarts self.old.harts.items f →
+            let h = hart_in self.old.harts.items hart in
+            let s = absorbed ask.now reply in
+            let next = next_of settings.now call h ask.now.want reply s.ic in
+            AreHarts self.new.harts.items (harts_after next hart (hart_after next s (skipped_after load h.skipped) h) f) }
+        ensures holds { (f : ℕ → Hart) (rs : List Record) → AreHarts self.old.harts.items f → Holds self.old.ring rs →
+            let h = hart_in self.old.harts.items hart in
+            let s = absorbed ask.now reply in
+            let next = next_of settings.now call h ask.now.want reply s.ic in
+            Holds self.new.ring (rs ++ next_records next hart h.number s ++ run_over_records next hart (length self.old.harts.items) f) }
+        ensures caches { (c : RawSettings) (span : Option Span) (events : ℕ → List Event) → AreCaches c self.old.caches (events_after GoesOn hart call span events) →
+            let h = hart_in self.old.harts.items hart in
+            AreCaches c self.new.caches (events_after (next_of settings.now call h ask.now.want reply (absorbed ask.now reply).ic) hart call span events) }
+        ensures len { length self.new.harts.items ≡ length self.old.harts.items }
+        ensures count { length self.new.caches ≡ length self.old.caches }
+        ensures steps { (k : ℕ) →
+            let h = hart_in self.old.harts.items hart in
+            let next = next_of settings.now call h ask.now.want reply (absorbed ask.now reply).ic in
+            steps_in self.new.caches k ≡ (if k == hart then steps_in self.old.caches k + clears next else steps_in self.old.caches k) }
+        ensures shadow { self.new.shadow ≡ self.old.shadow }
+        ensures took { taken self.new.ring ≤ taken self.old.ring + 10 }
+        ensures size { self.new.ring.size ≡ self.old.ring.size }
+    {
+        let before = &self.harts[hart as usize];
+        let skipped = skipped_after(load, before.skipped);
+        let mut own = *before;
+        own.absorb(ask, reply);
+        let next = Next::of(settings, call, before, &ask.want, reply, own.state.ic);
+        append_next(&mut self.ring, next, hart, own.number, &own.state);
+        self.begin(hart, next);
+        own.take(next, skipped);
+        finish_turn(&mut self.harts, &mut self.ring, hart, next, own);
+    }
+}

@@ -1,0 +1,153 @@
+// The turns of a plain machine.
+ghost use Rattle.std.specs.Prelude.{◌≡◌, ◌<◌, ◌≤◌, ◌*◌, ◌^◌, ℕ, true, length, IsTrue, IfOk, OnOk, OnErr, MatchOption};
+ghost use Rattle.rv_meaning.specs.Orderly.{passes};
+ghost use Rattle.rv_meaning.specs.declared.asks.Reply.{Reply};
+ghost use Rattle.rv_meaning.specs.declared.asks.Reply.TheVariants as replies;
+ghost use Rattle.run_model.specs.Machine.{Machine as Meant, call_of};
+ghost use Rattle.run_model.specs.Turn.{Run, span_of, is_orderly, serve_call, turn};
+ghost use Rattle.run_model.specs.Parts.{HasRoom, IsMachine, AreAddresses};
+ghost use Rattle.run_model.specs.Harts.{hart_in};
+ghost use Rattle.run_model.specs.Plain.{IsRun, IsRaceReady};
+ghost use Rattle.log_ring.specs.Kept.{Holds};
+ghost use Rattle.run_model.specs.Runs.{start, is_live, most_turns};
+ghost use Rattle.run_model.specs.Turning.{parts, is_alive};
+
+use crate::hart::Hart;
+use crate::machine::Machine;
+use crate::plain::Plain;
+use crate::span::Span;
+use crate::start::Start;
+use crate::trace::Trace;
+use bn_base::HartId;
+use log_ring::Ring;
+use rv_meaning::{Ask, Reply, quiet_run};
+use std::alloc::{AllocError, Global};
+use system_calls::Plan;
+
+impl Plain {
+    // Plans an ask's system call, if it is one, and finds the memory that the turn needs.
+    fn prepare(&mut self, ask: &Ask) -> Result<Option<Plan>, AllocError>
+        requires { IsTrue (passes self.old.start.image ask.now.want) }
+        ensures run { (run : Run) → IsRun (parts self.old) run → IsRun (parts self.new) run }
+        ensures call { IfOk result (λ call. (m : Meant) → IsMachine self.new.start.input.items self.new.machine m → call ≡ call_of self.new.start.image m ask.now.want) }
+        ensures room { IfOk result (λ call. HasRoom self.new.start.input.items self.new.machine call ask.now.want) }
+        ensures race { IfOk result (λ call. IsRaceReady self.new.trace.shadow (span_of call ask.now.want replies.ScOk)) }
+        ensures addresses { IfOk result (λ call. (reply : Reply) → AreAddresses (span_of call ask.now.want reply)) }
+        ensures start { self.new.start ≡ self.old.start }
+        ensures harts { self.new.trace.harts ≡ self.old.trace.harts }
+    {
+        let call = self
+            .machine
+            .call(&self.start.image, &self.start.input, &ask.want);
+        self.machine
+            .room(&self.start.image, &self.start.input, call, &ask.want)?;
+        self.trace.reserve(Span::of(call, &ask.want, Reply::ScOk))?;
+        Ok(call)
+    }
+
+    // Answers an ask, without memory.
+    fn apply(&mut self, hart: HartId, ask: &Ask, call: Option<Plan>) -> Reply
+        requires hart { hart < self.old.start.settings.harts }
+        requires live { (hart_in self.old.trace.harts.items hart).live ≡ true }
+        requires orderly { IsTrue (is_orderly self.old.start.settings self.old.start.image (hart_in self.old.trace.harts.items hart) ask.now) }
+        requires call { (m : Meant) → IsMachine self.old.start.input.items self.old.machine m → call ≡ call_of self.old.start.image m ask.now.want }
+        requires room { HasRoom self.old.start.input.items self.old.machine call ask.now.want }
+        requires race { IsRaceReady self.old.trace.shadow (span_of call ask.now.want replies.ScOk) }
+        requires addresses { (reply : Reply) → AreAddresses (span_of call ask.now.want reply) }
+        ensures run { (run : Run) → IsRun (parts self.old) run → IsRun (parts self.new) (serve_call self.old.start.settings run hart ask.now call).run }
+        ensures reply { (run : Run) → IsRun (parts self.old) run → result ≡ (serve_call self.old.start.settings run hart ask.now call).reply }
+        ensures start { self.new.start ≡ self.old.start }
+    {
+        let word = self.machine.word_before(&self.start.image, &ask.want);
+        let reply = self
+            .machine
+            .answer(&self.start.settings, &self.start.input, call, hart, ask);
+        let load = self.trace.access(self.turns, hart, call, ask, reply, word);
+        self.trace
+            .finish(&self.start.settings, hart, call, ask, reply, load);
+        self.turns += 1;
+        reply
+    }
+
+    /// The machine before its first turn. The only error is want of memory.
+    pub fn new(alloc: Global, from: &Start) -> Result<Plain, AllocError>
+        ensures run { IfOk result (λ p. IsRun (parts p) (start from.now.settings from.now.image from.now.input.items)) }
+        ensures image { IfOk result (λ p. p.start.image ≡ from.now.image) }
+        ensures settings { IfOk result (λ p. p.start.settings ≡ from.now.settings) }
+        ensures input { IfOk result (λ p. p.start.input.items ≡ from.now.input.items) }
+        ensures digest { IfOk result (λ p. p.start.digest ≡ from.now.digest) }
+    {
+        let machine = Machine::new(alloc, &from.image)?;
+        let trace = Trace::new(alloc, &from.settings, &from.image)?;
+        Ok(Plain {
+            start: from.copy(alloc)?,
+            machine,
+            trace,
+            turns: 0,
+        })
+    }
+
+    /// Whether a hart is there and can take a turn.
+    pub fn live(&self, hart: HartId) -> bool
+        ensures value { result ≡ is_alive (parts self.now) hart }
+        ensures run { (run : Run) → IsRun (parts self.now) run → result ≡ is_live self.now.start.settings run hart }
+    {
+        match self.trace.harts.get(usize::from(hart)) {
+            Some(hart) => hart.live,
+            None => false,
+        }
+    }
+
+    /// A turn of a live hart: its quiet instructions up to its first ask, and the answer to that. The
+    /// only error is want of memory; then no turn was taken.
+    pub fn turn(&mut self, hart: HartId) -> Result<(), AllocError>
+        requires { is_alive (parts self.old) hart ≡ true }
+        ensures run { OnOk result ((run : Run) → IsRun (parts self.old) run → IsRun (parts self.new) (turn self.old.start.settings self.old.start.image run hart)) }
+        ensures refused { OnErr result ((run : Run) → IsRun (parts self.old) run → IsRun (parts self.new) run) }
+        ensures start { self.new.start ≡ self.old.start }
+    {
+        let before = &self.trace.harts[hart as usize];
+        let budget = before.budget(&self.start.settings);
+        let ask = quiet_run(&self.start.image, before.state, budget);
+        let call = self.prepare(&ask)?;
+        self.apply(hart, &ask, call);
+        Ok(())
+    }
+
+    /// A hart between two turns.
+    pub fn hart(&self, hart: HartId) -> Option<&Hart>
+        ensures { (run : Run) → IsRun (parts self.now) run → MatchOption result (self.now.start.settings.harts ≤ hart) (λ h. h.now ≡ run.harts hart) }
+    {
+        self.trace.harts.get(usize::from(hart))
+    }
+
+    /// The log: the kept records of the run.
+    pub fn ring(&self) -> &Ring
+        ensures holds { (run : Run) → IsRun (parts self.now) run → Holds result.now run.stream }
+        ensures size { result.now.size ≡ self.now.start.settings.log_size }
+    {
+        &self.trace.ring
+    }
+
+    /// The bytes of output stream 1.
+    pub fn out(&self) -> &[u8]
+        ensures { (run : Run) → IsRun (parts self.now) run → result.now ≡ run.machine.out }
+    {
+        self.machine.out()
+    }
+
+    /// The bytes of output stream 2.
+    pub fn err(&self) -> &[u8]
+        ensures { (run : Run) → IsRun (parts self.now) run → result.now ≡ run.machine.err }
+    {
+        self.machine.err()
+    }
+
+    /// How many turns were taken.
+    pub fn turns(&self) -> u64
+        ensures value { (run : Run) → IsRun (parts self.now) run → result ≡ run.turns }
+        ensures most { result ≤ most_turns self.now.start.settings }
+    {
+        self.turns
+    }
+}
