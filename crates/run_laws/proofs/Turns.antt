@@ -1,0 +1,284 @@
+-- The turns of a legal list, one by one.
+use Rattle.std.proofs.Common.{◌≡◌, ℕ, zero, suc, ◌+◌, ◌-◌, ◌*◌, ◌<◌, ◌≤◌, ◌^◌, ◌==◌, Bool, true, false, not, ◌&&◌, nat_lt, List, [], ◌∷◌, length, refl, sym, ◌∙◌, ap, subst, arith, inl, inr}
+use Rattle.std.specs.Prelude.{Some, IsTrue, ◌≢◌}
+use Rattle.std.proofs.lemmas.Bool.Decides.{eqb_tells}
+use Rattle.std.proofs.lemmas.Grind.{common_steps}
+use Rattle.bn_base.specs.Programs.{Program}
+use Rattle.bn_base.specs.Ranges.{IsSetting}
+use Rattle.bn_base.specs.declared.settings.RawSettings.{RawSettings}
+use Rattle.bn_base.specs.declared.state.HartState.{HartState}
+use Rattle.rv_meaning.specs.Execute.{ask_of, absorbed}
+use Rattle.rv_meaning.specs.Orderly.{orderly}
+use Rattle.rv_meaning.specs.declared.asks.Ask.{Ask}
+use Rattle.rv_meaning.specs.declared.asks.Want.{Want}
+use Rattle.rv_meaning.specs.declared.asks.Want.TheVariants.{Load, Store, LoadReserved, StoreConditional, Amo, System, Cut, Faulted}
+use Rattle.rv_meaning.specs.declared.asks.Reply.{Reply}
+use Rattle.system_calls.specs.declared.effect.Plan.{Plan}
+use Rattle.system_calls.specs.declared.effect.Plan.TheVariants as plans
+use Rattle.bn_outside.specs.declared.turn_row.TurnRow.{TurnRow}
+use Rattle.run_model.specs.declared.hart.Hart.{Hart}
+use Rattle.run_model.specs.declared.next.Next.{Next}
+use Rattle.run_model.specs.declared.next.Next.TheVariants.{GoesOn, NewInterval, HartOver, RunOver}
+use Rattle.run_model.specs.Machine.{Machine, answer, call_of, planned}
+use Rattle.run_model.specs.Turn.{Run, Served, serve, serve_orderly, served_if, turn, ask_at, is_orderly, budget, next_of, loading, warmth, skipped_after, hart_after, other_after, harts_after}
+use Rattle.run_model.specs.Runs.{start_hart, start_state, run_from, legal_from, is_live}
+use Rattle.run_model.specs.Counts.{IsFit, EachTurnMovesOn, EachTurnFits, OthersStayFit, turns_left}
+use Rattle.run_model.specs.Harts.{all_left}
+use Rattle.run_laws.specs.Laws.{TurnsMoveTheirHart}
+use Rattle.run_laws.specs.History.{after_rows, IsLawful, IsOwn, Place, place_of, place_after, row_at, rows_from, rows_by}
+
+-- ---- lawful
+
+live_by : (b : Bool) (x : Bool) → elim b as (λ z. Bool) [ true ↦ x | false ↦ false ] ≡ true → (b ≡ true) × (x ≡ true)
+live_by true x e = (refl, e)
+live_by false x e = cc
+
+legal_first : (c : RawSettings) (i : Program) (run : Run) (k : ℕ) (ks : List ℕ) → legal_from c i run (k ∷ ks) ≡ true → (is_live c run k ≡ true) × (legal_from c i (turn c i run k) ks ≡ true)
+legal_first c i run k ks e = live_by (is_live c run k) (legal_from c i (turn c i run k) ks) e
+
+pub lawful : (c : RawSettings) (i : Program) (run : Run) (b : List ℕ) → legal_from c i run b ≡ true → IsLawful c i run (rows_from c i run b) × (after_rows c i run (rows_from c i run b) ≡ run_from c i run b)
+lawful c i run [] e = (tt, refl)
+lawful c i run (k ∷ ks) e =
+    let first = legal_first c i run k ks e in
+    let rest = lawful c i (turn c i run k) ks first.1 in
+    ((first.0, refl, rest.0), rest.1)
+
+-- ---- orderly
+
+-- the law of orderly asks
+abbrev pub AsksAreOrderly : Type 0
+AsksAreOrderly = (i : Program) (b : ℕ) (s : HartState) → s.ic + b < 2 ^ 64 → IsTrue (orderly i s.ic b (ask_of i b s))
+
+budget_limit : (c : RawSettings) (h : Hart) → budget c h ≤ c.limit - h.state.ic
+budget_limit c h = grind (arith, common_steps)
+
+ordered : AsksAreOrderly → (c : RawSettings) (i : Program) (h : Hart) → c.limit < 2 ^ 63 → IsFit c h → is_orderly c i h (ask_at c i h) ≡ true
+ordered asks c i h small fit = asks i (budget c h) h.state (omega (arith, small, fit.limit, budget_limit c h))
+
+both : (a b : Bool) → (a && b) ≡ true → (a ≡ true) × (b ≡ true)
+both true b e = (refl, e)
+both false b e = cc
+
+-- the turn of an orderly ask
+served : (c : RawSettings) (i : Program) (run : Run) (k : ℕ) (ask : Ask) → is_orderly c i (run.harts k) ask ≡ true → serve c i run k ask ≡ serve_orderly c i run k ask
+unfolding serve
+served c i run k ask o = ap (λ (b : Bool). served_if b c i run k ask) o
+
+-- ---- the harts after a turn
+
+-- what comes after the turn of hart k, and its state
+abbrev reply_of : RawSettings → Program → Run → ℕ → Reply
+reply_of c i run k = let ask = ask_at c i (run.harts k) in (answer c (call_of i run.machine ask.want) run.machine k ask).reply
+
+abbrev state_of : RawSettings → Program → Run → ℕ → HartState
+state_of c i run k = absorbed (ask_at c i (run.harts k)) (reply_of c i run k)
+
+abbrev next_at : RawSettings → Program → Run → ℕ → Next
+next_at c i run k = let ask = ask_at c i (run.harts k) in next_of c (call_of i run.machine ask.want) (run.harts k) ask.want (reply_of c i run k) (state_of c i run k).ic
+
+abbrev own_at : RawSettings → Program → Run → ℕ → Hart
+own_at c i run k = hart_after (next_at c i run k) (state_of c i run k) (skipped_after (warmth c (loading (ask_at c i (run.harts k)).want) (run.events k)) (run.harts k).skipped) (run.harts k)
+
+harts_of_turn : (c : RawSettings) (i : Program) (run : Run) (k j : ℕ) → is_orderly c i (run.harts k) (ask_at c i (run.harts k)) ≡ true → (turn c i run k).harts j ≡ harts_after (next_at c i run k) k (own_at c i run k) run.harts j
+harts_of_turn c i run k j o = ap (λ (s : Served). s.run.harts j) (served c i run k (ask_at c i (run.harts k)) o)
+
+own_is : (c : RawSettings) (i : Program) (run : Run) (k j : ℕ) → is_orderly c i (run.harts k) (ask_at c i (run.harts k)) ≡ true → (j == k) ≡ true → (turn c i run k).harts j ≡ own_at c i run k
+own_is c i run k j o e = harts_of_turn c i run k j o ∙ ap (λ (b : Bool). elim b as (λ x. Hart) [ true ↦ own_at c i run k | false ↦ other_after (next_at c i run k) (run.harts j) ]) e
+
+other_is : (c : RawSettings) (i : Program) (run : Run) (k j : ℕ) → is_orderly c i (run.harts k) (ask_at c i (run.harts k)) ≡ true → (j == k) ≡ false → (turn c i run k).harts j ≡ other_after (next_at c i run k) (run.harts j)
+other_is c i run k j o e = harts_of_turn c i run k j o ∙ ap (λ (b : Bool). elim b as (λ x. Hart) [ true ↦ own_at c i run k | false ↦ other_after (next_at c i run k) (run.harts j) ]) e
+
+-- ---- counts
+
+AllFit : RawSettings → Run → Type 0
+AllFit c run = (k : ℕ) → IsFit c (run.harts k)
+
+-- the laws of turns that are used here
+pub record Laws : Type 0 where
+  pub asks : AsksAreOrderly
+  pub moves : EachTurnMovesOn
+  pub fits : EachTurnFits
+  pub others : OthersStayFit
+
+-- how a turn changes what is left to each hart
+record Left (c : RawSettings) (old new : Run) (k : ℕ) : Type 0 where
+  pub fit : (j : ℕ) → IsFit c (new.harts j)
+  pub less : turns_left c (new.harts k) < turns_left c (old.harts k)
+  pub others : (j : ℕ) → turns_left c (new.harts j) ≤ turns_left c (old.harts j)
+
+eqb_same : (k : ℕ) → (k == k) ≡ true
+eqb_same k = grind arith
+
+turn_left : Laws → (c : RawSettings) (i : Program) (run : Run) (k : ℕ) → IsSetting c → ((j : ℕ) → IsFit c (run.harts j)) → (run.harts k).live ≡ true → Left c run (turn c i run k) k
+turn_left laws c i run k setting fit live =
+    let h = run.harts k in
+    let ask = ask_at c i h in
+    let small : c.limit < 2 ^ 63 = omega (arith, setting.limit_high) in
+    let o = ordered laws.asks c i h small (fit k) in
+    let on = laws.moves c i run.machine h k ask small (fit k) live o in
+    let own = laws.fits c h ask.state.ic (state_of c i run k) (next_at c i run k) _ (loading ask.want) (run.events k) setting.interval_low live (fit k) on in
+    let here = own_is c i run k k o (eqb_same k) in
+    let less : turns_left c ((turn c i run k).harts k) < turns_left c h = subst (λ (x : Hart). turns_left c x < turns_left c h) (sym here) own.1 in
+    record {
+      fit = λ j. elim (eqb_tells j k) [
+        | inl p ↦ subst (λ (x : Hart). IsFit c x) (sym (own_is c i run k j o p.0)) own.0
+        | inr p ↦ subst (λ (x : Hart). IsFit c x) (sym (other_is c i run k j o p.0)) (laws.others c (run.harts j) (next_at c i run k) (fit j)).0
+      ];
+      less = less;
+      others = λ j. elim (eqb_tells j k) [
+        | inl p ↦ subst (λ (n : ℕ). turns_left c ((turn c i run k).harts n) ≤ turns_left c (run.harts n)) (sym p.1) (omega (arith, less))
+        | inr p ↦ subst (λ (x : Hart). turns_left c x ≤ turns_left c (run.harts j)) (sym (other_is c i run k j o p.0)) (laws.others c (run.harts j) (next_at c i run k) (fit j)).1
+      ];
+    }
+
+-- ---- runs end
+
+all_less : (c : RawSettings) (n : ℕ) (f g : ℕ → Hart) → ((k : ℕ) → turns_left c (g k) ≤ turns_left c (f k)) → all_left c n g ≤ all_left c n f
+all_less c zero f g each = omega arith
+all_less c (suc n) f g each = omega (arith, each n, all_less c n f g each)
+
+one_less : (c : RawSettings) (n own : ℕ) (f g : ℕ → Hart) → own < n → ((k : ℕ) → turns_left c (g k) ≤ turns_left c (f k)) → turns_left c (g own) < turns_left c (f own) → all_left c n g < all_left c n f
+one_less c zero own f g within each less = omega (arith, within)
+one_less c (suc n) own f g within each less = elim (eqb_tells own n) [
+  | inl p ↦ omega (arith, all_less c n f g each, subst (λ (k : ℕ). turns_left c (g k) < turns_left c (f k)) p.1 less)
+  | inr p ↦ omega (arith, each n, one_less c n own f g (lower own n within p.1) each less)
+]
+  where
+    lower : (j n : ℕ) → j < suc n → j ≢ n → j < n
+    lower j n h e = omega (arith, h, e)
+
+below_of : (a b : ℕ) → nat_lt a b ≡ true → a < b
+below_of a b e = grind arith
+
+pub few_turns : Laws → (c : RawSettings) (i : Program) (run : Run) (b : List ℕ) → IsSetting c → ((j : ℕ) → IsFit c (run.harts j)) → legal_from c i run b ≡ true → length b ≤ all_left c c.harts run.harts
+few_turns laws c i run [] setting fit e = omega arith
+few_turns laws c i run (k ∷ ks) setting fit e =
+    let first = legal_first c i run k ks e in
+    let live = both (nat_lt k c.harts) (run.harts k).live first.0 in
+    let left = turn_left laws c i run k setting fit live.1 in
+    let rest = few_turns laws c i (turn c i run k) ks setting left.fit first.1 in
+    omega (arith, rest, one_less c c.harts k run.harts (turn c i run k).harts (below_of k c.harts live.0) left.others left.less)
+
+-- ---- at the start
+
+pub fit_start : (c : RawSettings) (s : HartState) → s.ic ≡ 0 → 1 ≤ c.interval → IsFit c (start_hart s)
+fit_start c s e some = record { number = omega arith; skipped = omega (arith, e); interval = omega (arith, e); limit = omega (arith, e); unfilled = λ p. omega (arith, e, some) }
+
+pub all_first : (c : RawSettings) (i : Program) (n : ℕ) → all_left c n (λ k. start_hart (start_state c i k)) ≡ n * (c.limit + 1)
+all_first c i zero = omega arith
+all_first c i (suc n) = omega (arith, all_first c i n)
+
+-- ---- a hart's own rows
+
+counted_place : (over full : Bool) (s : HartState) (skipped : ℕ) (h : Hart)
+    → place_of (hart_after (elim over as (λ x. Next) [ true ↦ HartOver 7 0 | false ↦ elim full as (λ x. Next) [ true ↦ NewInterval 1 0 | false ↦ GoesOn ] ]) s skipped h)
+    ≡ record { state = s; begun = elim (not over && full) as (λ x. ℕ) [ true ↦ s.ic | false ↦ h.begun ] }
+counted_place true full s skipped h = refl
+counted_place false true s skipped h = refl
+counted_place false false s skipped h = refl
+
+-- where a hart is after its turn, as the rules of the definition and the hart by itself have it
+PlaceIs : RawSettings → Program → Machine → ℕ → Hart → Ask → ℕ → Type 0
+PlaceIs c i m k h ask skipped =
+    let call = call_of i m ask.want in
+    let reply = (answer c call m k ask).reply in
+    let s = absorbed ask reply in
+    place_of (hart_after (next_of c call h ask.want reply s.ic) s skipped h) ≡ place_after c (place_of h) ask reply
+
+plan_place : (p : Plan) (c : RawSettings) (m : Machine) (k : ℕ) (h : Hart) (s : HartState) (number : ℕ) (args : List ℕ) (skipped : ℕ)
+    → let ask : Ask = record { state = s; want = System number args } in
+    let reply = (answer c (Some p) m k ask).reply in
+    place_of (hart_after (next_of c (Some p) h ask.want reply (absorbed ask reply).ic) (absorbed ask reply) skipped h) ≡ place_after c (place_of h) ask reply
+plan_place (plans.Fill a n) c m k h s number args skipped = refl
+plan_place (plans.Send t a n) c m k h s number args skipped = refl
+plan_place (plans.Break v) c m k h s number args skipped = refl
+plan_place (plans.Answer v) c m k h s number args skipped = refl
+plan_place (plans.EndHart v) c m k h s number args skipped = refl
+plan_place (plans.EndRun v) c m k h s number args skipped = refl
+
+want_place : (want : Want) (c : RawSettings) (i : Program) (m : Machine) (k : ℕ) (h : Hart) (s : HartState) (skipped : ℕ) → PlaceIs c i m k h (record { state = s; want = want }) skipped
+unfolding PlaceIs
+want_place (Load a w g rd) c i m k h s skipped = counted_place _ _ _ skipped h
+want_place (LoadReserved a rd) c i m k h s skipped = counted_place _ _ _ skipped h
+want_place (Store a w v) c i m k h s skipped = counted_place _ _ _ skipped h
+want_place (Amo a o rd v) c i m k h s skipped = counted_place _ _ _ skipped h
+want_place (StoreConditional a rd v) c i m k h s skipped = counted_place _ _ _ skipped h
+want_place (System number args) c i m k h s skipped = plan_place (planned i m number args) c m k h s number args skipped
+want_place Cut c i m k h s skipped = counted_place _ _ _ skipped h
+want_place (Faulted kind value) c i m k h s skipped = refl
+
+stopped_place : (b : Bool) (h : Hart) → place_of (elim b as (λ x. Hart) [ true ↦ record h { live = false; mark = Some (record { ic = h.state.ic; reason = 5; value = 0 }) } | false ↦ h ]) ≡ place_of h
+stopped_place true h = refl
+stopped_place false h = refl
+
+other_place : (next : Next) (h : Hart) → place_of (other_after next h) ≡ place_of h
+other_place GoesOn h = refl
+other_place (NewInterval reason value) h = refl
+other_place (HartOver reason value) h = refl
+other_place (RunOver reason value) h = stopped_place h.live h
+
+own_place : (c : RawSettings) (i : Program) (run : Run) (k : ℕ) → is_orderly c i (run.harts k) (ask_at c i (run.harts k)) ≡ true
+    → place_after c (place_of (run.harts k)) (ask_at c i (run.harts k)) (serve c i run k (ask_at c i (run.harts k))).reply ≡ place_of ((turn c i run k).harts k)
+unfolding PlaceIs
+own_place c i run k o =
+    let ask = ask_at c i (run.harts k) in
+    let reply = ap (λ (s : Served). place_after c (place_of (run.harts k)) ask s.reply) (served c i run k ask o) in
+    reply ∙ sym (ap place_of (own_is c i run k k o (eqb_same k)) ∙ want_place ask.want c i run.machine k (run.harts k) ask.state _)
+
+differ : (j k : ℕ) → (j ≡ k → ⊥) → (j == k) ≡ false
+differ j k f = elim (eqb_tells j k) [
+  | inl p ↦ absurd (f p.1)
+  | inr p ↦ p.0
+]
+
+pub own : Laws → (c : RawSettings) (i : Program) (run : Run) (b : List ℕ) (h : ℕ) → IsSetting c → ((j : ℕ) → IsFit c (run.harts j)) → legal_from c i run b ≡ true → IsOwn c i h (place_of (run.harts h)) (rows_by h (rows_from c i run b))
+own laws c i run [] h setting fit e = tt
+own laws c i run (k ∷ ks) h setting fit e =
+    let first = legal_first c i run k ks e in
+    let live = both (nat_lt k c.harts) (run.harts k).live first.0 in
+    let left = turn_left laws c i run k setting fit live.1 in
+    let o = ordered laws.asks c i (run.harts k) (omega (arith, setting.limit_high)) (fit k) in
+    let rest = own laws c i (turn c i run k) ks h setting left.fit first.1 in
+    let rows = rows_by h (rows_from c i (turn c i run k) ks) in
+    let row = row_at c i run k in
+    elim (eqb_tells k h) [
+      | inl p ↦
+          let place : place_after c (place_of (run.harts h)) row.ask row.reply ≡ place_of ((turn c i run k).harts h) =
+          subst (λ (n : ℕ). place_after c (place_of (run.harts n)) row.ask row.reply ≡ place_of ((turn c i run k).harts n)) p.1 (own_place c i run k o) in
+          subst (λ (b : Bool). IsOwn c i h (place_of (run.harts h)) (elim b as (λ x. List TurnRow) [ true ↦ row ∷ rows | false ↦ rows ])) (sym p.0)
+          ((p.1, ap (λ (n : ℕ). ask_at c i (run.harts n)) p.1, subst (λ (x : Place). IsOwn c i h x rows) (sym place) rest))
+      | inr p ↦
+          let place : place_of ((turn c i run k).harts h) ≡ place_of (run.harts h) = ap place_of (other_is c i run k h o (differ h k (λ q. p.1 (sym q)))) ∙ other_place (next_at c i run k) (run.harts h) in
+          subst (λ (b : Bool). IsOwn c i h (place_of (run.harts h)) (elim b as (λ x. List TurnRow) [ true ↦ row ∷ rows | false ↦ rows ])) (sym p.0)
+          (subst (λ (x : Place). IsOwn c i h x rows) place rest)
+    ]
+
+-- ---- one turn, and all before it
+
+fit_run : Laws → (c : RawSettings) (i : Program) (run : Run) (b : List ℕ) → IsSetting c → ((j : ℕ) → IsFit c (run.harts j)) → legal_from c i run b ≡ true → (j : ℕ) → IsFit c ((run_from c i run b).harts j)
+fit_run laws c i run [] setting fit e j = fit j
+fit_run laws c i run (k ∷ ks) setting fit e j =
+    let first = legal_first c i run k ks e in
+    let live = both (nat_lt k c.harts) (run.harts k).live first.0 in
+    fit_run laws c i (turn c i run k) ks setting (turn_left laws c i run k setting fit live.1).fit first.1 j
+
+pub orderly_after : Laws → (c : RawSettings) (i : Program) (run : Run) (b : List ℕ) (k : ℕ) → IsSetting c → ((j : ℕ) → IsFit c (run.harts j)) → legal_from c i run b ≡ true
+    → is_orderly c i ((run_from c i run b).harts k) (ask_at c i ((run_from c i run b).harts k)) ≡ true
+orderly_after laws c i run b k setting fit e = ordered laws.asks c i ((run_from c i run b).harts k) (omega (arith, setting.limit_high)) (fit_run laws c i run b setting fit e k)
+
+own_state : (next : Next) (s : HartState) (skipped : ℕ) (h : Hart) → (hart_after next s skipped h).state ≡ s
+own_state GoesOn s skipped h = refl
+own_state (NewInterval reason value) s skipped h = refl
+own_state (HartOver reason value) s skipped h = refl
+own_state (RunOver reason value) s skipped h = refl
+
+pub moved : (c : RawSettings) (i : Program) (run : Run) (k : ℕ) → is_orderly c i (run.harts k) (ask_at c i (run.harts k)) ≡ true → ((turn c i run k).harts k).state ≡ absorbed (ask_at c i (run.harts k)) (serve c i run k (ask_at c i (run.harts k))).reply
+moved c i run k o =
+    ap (λ (h : Hart). h.state) (own_is c i run k k o (eqb_same k)) ∙ own_state (next_at c i run k) (state_of c i run k) _ (run.harts k)
+    ∙ sym (ap (λ (s : Served). absorbed (ask_at c i (run.harts k)) s.reply) (served c i run k (ask_at c i (run.harts k)) o))
+
+pub stayed : (c : RawSettings) (i : Program) (run : Run) (k j : ℕ) → is_orderly c i (run.harts k) (ask_at c i (run.harts k)) ≡ true → (j == k) ≡ false → ((turn c i run k).harts j).state ≡ (run.harts j).state
+stayed c i run k j o apart = ap (λ (h : Hart). h.state) (other_is c i run k j o apart) ∙ ap (λ (p : Place). p.state) (other_place (next_at c i run k) (run.harts j))
+
+pub turns_move : TurnsMoveTheirHart
+turns_move = record { own = moved; others = stayed }

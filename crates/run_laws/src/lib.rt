@@ -1,0 +1,54 @@
+//! Laws of runs: what the turns of a legal list are, as a book of turns has them. These functions do
+//! nothing: their contracts are theorems over the definitions of `run_model`.
+#![tactic(auto)]
+
+ghost use Rattle.run_laws.specs.Laws.{TurnsAreLawful, TurnsAreOwn, RunsEnd, OwnAsksAreOrderly, TurnsMoveTheirHart};
+
+mod examples;
+
+pub use examples::{a_relay_goes_on_over_intervals, a_seeded_list_ends, seed_0_begins_with_hart_1};
+use run_model::{each_turn_fits, each_turn_moves_on, others_stay_fit};
+use rv_meaning::each_ask_is_orderly;
+
+/// The rows of a legal list of turns are lawful: each one's hart is live, and its reply is the
+/// machine's after the rows before it.
+pub fn turns_are_lawful()
+    ensures { TurnsAreLawful }
+{}
+
+/// Each hart's rows of a legal list are its own: each asks what the hart asks next, given the replies
+/// before it.
+pub fn turns_are_own()
+    ensures { TurnsAreOwn }
+{
+    each_ask_is_orderly();
+    each_turn_moves_on();
+    each_turn_fits();
+    others_stay_fit();
+}
+
+/// A run ends: a legal list has at most harts * (limit + 1) turns.
+pub fn runs_end()
+    ensures { RunsEnd }
+{
+    each_ask_is_orderly();
+    each_turn_moves_on();
+    each_turn_fits();
+    others_stay_fit();
+}
+
+/// What a hart asks next is orderly, after the turns of any legal list.
+pub fn own_asks_are_orderly()
+    ensures { OwnAsksAreOrderly }
+{
+    each_ask_is_orderly();
+    each_turn_moves_on();
+    each_turn_fits();
+    others_stay_fit();
+}
+
+/// A turn sets its hart's state to the one after the reply, and leaves the other harts' states.
+#[tactic(auto, using(crate::proofs::Turns::turns_move))]
+pub fn turns_move_their_hart()
+    ensures { TurnsMoveTheirHart }
+{}
