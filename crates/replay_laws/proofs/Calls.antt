@@ -1,0 +1,235 @@
+-- A system call in the replay of an interval.
+use Rattle.std.proofs.Common.{◌≡◌, ℕ, ◌+◌, ◌-◌, ◌<◌, ◌^◌, min, Bool, true, false, not, ◌&&◌, List, ◌∷◌, Some, None, refl, sym, ◌∙◌, ap, arith, subst, inl, inr}
+use Rattle.std.specs.Prelude.{◌==◌, ◌||◌, ◌⊎◌, nat_lt, nat_le, slice_index, if◌then◌else◌}
+use Rattle.std.proofs.lemmas.Bool.{false≢true, eq-eqb}
+use Rattle.std.proofs.lemmas.Bool.Decides.{eqb_tells}
+use Rattle.bn_base.specs.Programs.{Program, may_load, may_store, heap_start, heap_limit}
+use Rattle.bn_base.specs.declared.end_mark.EndMark.{EndMark}
+use Rattle.bn_base.specs.declared.state.HartState.{HartState}
+use Rattle.rv_meaning.specs.Execute.{Asks, step, absorbed, count_up}
+use Rattle.rv_meaning.specs.declared.asks.Ask.{Ask}
+use Rattle.rv_meaning.specs.declared.asks.Want.TheVariants.{System}
+use Rattle.rv_meaning.specs.declared.asks.Reply.TheVariants.{Answer, Over}
+use Rattle.system_calls.specs.declared.kernel.Kernel.{Kernel}
+use Rattle.system_calls.specs.declared.effect.Plan.{Plan}
+use Rattle.system_calls.specs.declared.effect.Plan.TheVariants as plans
+use Rattle.system_calls.specs.Calls.{read_plan, write_plan, break_plan, plan_of, all_bytes, stream_size, stream_len}
+use Rattle.hart_rows.specs.Rows.{call_row}
+use Rattle.hart_replay.specs.Replay.{Interval, Position, Logged, puts, system_step, call_reason, found}
+use Rattle.hart_replay.specs.Replay.{Next as Goal}
+use Rattle.hart_replay.specs.Replay.{On, Stop, Refused}
+use Rattle.hart_replay.specs.declared.error.ReplayError.TheVariants.{EndDiffers}
+use Rattle.run_model.specs.declared.next.Next.{Next}
+use Rattle.run_model.specs.declared.next.Next.TheVariants.{GoesOn, NewInterval, HartOver, RunOver}
+use Rattle.run_model.specs.Machine.{Machine, answer_call, planned, kernel_of}
+use Rattle.run_model.specs.Turn.{after_call, sc_record, mark}
+use Rattle.replay_laws.proofs.Asked.{asking}
+use Rattle.replay_laws.proofs.Ends.{is_call}
+use Rattle.replay_laws.proofs.Step.{Holds, Stepped, ask_goes}
+use Rattle.replay_laws.proofs.Turns.{end_log, ended_at}
+
+-- ---- what a call is, by its number
+
+-- a call that goes on
+abbrev Goes : Plan → Type 0
+Goes (plans.EndHart v) = false ≡ true
+Goes (plans.EndRun v) = false ≡ true
+Goes p = Unit {0}
+
+abbrev pub Kind : ℕ → ℕ → Plan → Type 0
+Kind n a0 p = ((call_reason n ≡ 3) × (p ≡ plans.EndHart a0)) ⊎ (((call_reason n ≡ 4) × (p ≡ plans.EndRun a0)) ⊎ ((call_reason n ≡ 2) × Goes p))
+
+then_case : (P : Plan → Type 0) (x : Bool) (a b : Plan) → x ≡ true → P a → P (if x then a else b)
+then_case P x a b e y = subst (λ (z : Bool). P (if z then a else b)) (sym e) y
+
+else_case : (P : Plan → Type 0) (x : Bool) (a b : Plan) → x ≡ false → P b → P (if x then a else b)
+else_case P x a b e y = subst (λ (z : Bool). P (if z then a else b)) (sym e) y
+
+goes_if : (x : Bool) (a b : Plan) → Goes a → Goes b → Goes (if x then a else b)
+goes_if true a b f g = f
+goes_if false a b f g = g
+
+read_goes : (a0 a1 a2 : ℕ) (k : Kernel) (i : Program) → Goes (read_plan a0 a1 a2 k i)
+read_goes a0 a1 a2 k i =
+    let count : ℕ = min a2 (min 4096 k.input_left) in
+    goes_if (a0 == 0) _ _ (goes_if (count == 0) _ _ tt (goes_if (all_bytes (may_store i) a1 count) _ _ tt tt)) tt
+
+write_goes : (a0 a1 a2 : ℕ) (k : Kernel) (i : Program) → Goes (write_plan a0 a1 a2 k i)
+write_goes a0 a1 a2 k i =
+    let room : ℕ = stream_size - stream_len a0 k in
+    goes_if (a0 == 1 || (a0 == 2)) _ _
+    (goes_if (a2 == 0) _ _ tt (goes_if (nat_le stream_size (stream_len a0 k)) _ _ tt (goes_if (all_bytes (may_load i) a1 (min a2 (min 4096 room))) _ _ tt tt))) tt
+
+break_goes : (a0 : ℕ) (k : Kernel) (i : Program) → Goes (break_plan a0 k i)
+break_goes a0 k i = goes_if (nat_le (heap_start i) a0 && nat_le a0 (heap_limit i)) _ _ tt tt
+
+other_reason : (n : ℕ) → (n == 93) ≡ false → (n == 94) ≡ false → call_reason n ≡ 2
+other_reason n e f =
+    ap (λ (x : Bool). elim x as (λ y. ℕ) [ true ↦ 3 | false ↦ elim (n == 94) as (λ y. ℕ) [ true ↦ 4 | false ↦ 2 ] ]) e
+    ∙ ap (λ (x : Bool). elim x as (λ y. ℕ) [ true ↦ 4 | false ↦ 2 ]) f
+
+plan_of_kind : (n a0 a1 a2 : ℕ) (k : Kernel) (i : Program) → Kind n a0 (plan_of n a0 a1 a2 k i)
+plan_of_kind n a0 a1 a2 k i = elim (eqb_tells n 63) [
+  | inl p ↦ then_case (Kind n a0) (n == 63) _ _ p.0 (inr (inr (ap call_reason p.1, read_goes a0 a1 a2 k i)))
+  | inr p ↦ else_case (Kind n a0) (n == 63) _ _ p.0 (elim (eqb_tells n 64) [
+    | inl p ↦ then_case (Kind n a0) (n == 64) _ _ p.0 (inr (inr (ap call_reason p.1, write_goes a0 a1 a2 k i)))
+    | inr p ↦ else_case (Kind n a0) (n == 64) _ _ p.0 (elim (eqb_tells n 93) [
+      | inl p ↦ then_case (Kind n a0) (n == 93) _ _ p.0 (inl (ap call_reason p.1, refl))
+      | inr q ↦ else_case (Kind n a0) (n == 93) _ _ q.0 (elim (eqb_tells n 94) [
+        | inl p ↦ then_case (Kind n a0) (n == 94) _ _ p.0 (inr (inl (ap call_reason p.1, refl)))
+        | inr p ↦ else_case (Kind n a0) (n == 94) _ _ p.0 (inr (inr (other_reason n q.0 p.0, goes_if (n == 214) _ _ (break_goes a0 k i) tt)))
+      ])
+    ])
+  ])
+]
+
+pub plan_kind : (i : Program) (m : Machine) (n : ℕ) (args : List ℕ) → Kind n (slice_index args 0) (planned i m n args)
+plan_kind i m n args = plan_of_kind n (slice_index args 0) (slice_index args 1) (slice_index args 2) (kernel_of m) i
+
+-- ---- the step
+
+both_true : (a b : Bool) → a ≡ true → b ≡ true → (a && b) ≡ true
+both_true true b e f = f
+both_true false b e f = e
+
+or_left : (a b : Bool) → a ≡ true → (a || b) ≡ true
+or_left true b e = refl
+or_left false b e = absurd (false≢true e)
+
+or_right : (a b : Bool) → b ≡ true → (a || b) ≡ true
+or_right true b e = refl
+or_right false b e = e
+
+abbrev call_value : ℕ → ℕ → ℕ
+call_value reason a0 = elim (reason == 2) [ true ↦ 0 | false ↦ a0 ]
+
+-- whether the mark tells the call
+abbrev is_told : Interval → ℕ → ℕ → ℕ → Bool
+is_told v ic n a0 = ic + 1 == v.mark.ic && (call_reason n == v.mark.reason) && ((call_reason n == 2) || (call_value (call_reason n) a0 == v.mark.value))
+
+call_test : (v : Interval) (ic n a0 r x : ℕ) → v.mark ≡ mark (ic + 1) r x → call_reason n ≡ r
+    → ((call_reason n == 2) || (call_value (call_reason n) a0 == v.mark.value)) ≡ true → is_told v ic n a0 ≡ true
+call_test v ic n a0 r x m e f =
+    both_true _ _ (both_true _ _ (eq-eqb (ic + 1) v.mark.ic (sym (ap (λ (k : EndMark). k.ic) m))) (eq-eqb (call_reason n) v.mark.reason (e ∙ sym (ap (λ (k : EndMark). k.reason) m)))) f
+
+abbrev gone : Program → ℕ → Position → Ask → ℕ → Position
+gone i h q ask x =
+    record { state = absorbed ask (Answer x); loads = q.loads; conditionals = q.conditionals; rows = call_row h i q.state (Some (10, x)) ∷ q.rows; called = true }
+
+abbrev over : Program → ℕ → Position → Ask → Position
+over i h q ask = record { state = absorbed ask Over; loads = q.loads; conditionals = q.conditionals; rows = call_row h i q.state None ∷ q.rows; called = true }
+
+-- by whether the call goes on
+abbrev by_reason : Program → ℕ → Interval → Position → Ask → Bool → Goal
+by_reason i h v q ask z = elim z [ true ↦ On (gone i h q ask v.mark.value) | false ↦ On (over i h q ask) ]
+
+abbrev by_test : Program → ℕ → Interval → Position → Ask → ℕ → ℕ → Bool → Goal
+by_test i h v q ask n a0 b = elim b [
+  | true ↦ by_reason i h v q ask (call_reason n == 2)
+  | false ↦ Stop (Refused (EndDiffers h v.mark (found (q.state.ic + 1) (call_reason n) (call_value (call_reason n) a0))))
+]
+
+call_goes : (i : Program) (h : ℕ) (v : Interval) (q : Position) (ask : Ask) (n a0 x : ℕ) → v.mark ≡ mark (q.state.ic + 1) 2 x → call_reason n ≡ 2
+    → system_step i h v q ask n a0 ≡ On (gone i h q ask x)
+call_goes i h v q ask n a0 x m e =
+    let two : (call_reason n == 2) ≡ true = eq-eqb (call_reason n) 2 e in
+    ap (by_test i h v q ask n a0) (call_test v q.state.ic n a0 2 x m e (or_left _ _ two))
+    ∙ (ap (by_reason i h v q ask) two ∙ ap (λ (k : EndMark). On (gone i h q ask k.value)) m)
+
+call_ends : (i : Program) (h : ℕ) (v : Interval) (q : Position) (ask : Ask) (n a0 r : ℕ) → v.mark ≡ mark (q.state.ic + 1) r a0 → call_reason n ≡ r → (r == 2) ≡ false
+    → system_step i h v q ask n a0 ≡ On (over i h q ask)
+call_ends i h v q ask n a0 r m e f =
+    let no : (call_reason n == 2) ≡ false = ap (λ y. y == 2) e ∙ f in
+    let value : call_value (call_reason n) a0 ≡ a0 = ap (λ (z : Bool). elim z as (λ y. ℕ) [ true ↦ 0 | false ↦ a0 ]) no in
+    ap (by_test i h v q ask n a0) (call_test v q.state.ic n a0 r a0 m e (or_right _ _ (eq-eqb _ _ (value ∙ sym (ap (λ (k : EndMark). k.value) m)))))
+    ∙ ap (by_reason i h v q ask) no
+
+-- an end for that reason is no fault, and where it is that of a call, a call was done
+abbrev pub Plain : ℕ → Bool → Type 0
+Plain r called = (nat_lt 16 r ≡ false) × ((is_call r && not called) ≡ false)
+
+-- what comes next is no end, or a plain one
+abbrev pub Fine : Next → Bool → Type 0
+Fine GoesOn called = Unit {0}
+Fine (NewInterval r x) called = Plain r called
+Fine (HartOver r x) called = Plain r called
+Fine (RunOver r x) called = Plain r called
+
+answered : (x : ℕ) (i : Program) (h : ℕ) (v : Interval) (q : Position) (n : ℕ) (args : List ℕ) (m m2 : ℕ → ℕ) (sk : ℕ) → call_reason n ≡ 2
+    → step i q.state ≡ Asks (System n args) → q.state.ic + 1 < 2 ^ 64 → Holds v sk (ended_at (count_up q.state.ic) 2 x) q.loads q.conditionals
+    → Stepped i h v q (System n args) m m2 (Answer x) None sk (ended_at (count_up q.state.ic) 2 x)
+answered x i h v q n args m m2 sk k e b o =
+    let ask : Ask = asking (System n args) q.state in
+    let up : count_up q.state.ic ≡ q.state.ic + 1 = omega arith in
+    let told : v.mark ≡ mark (q.state.ic + 1) 2 x = o.mark_is ∙ ap (λ y. mark y 2 x) up in
+    record {
+      next = gone i h q ask x;
+      on = λ z. ask_goes i h v q (gone i h q ask x) (System n args) z e (call_goes i h v q ask n (slice_index args 0) x told k);
+      state = refl;
+      rows = λ more. refl;
+      words = λ y. refl;
+      held = o;
+    }
+
+finished : (r x : ℕ) (i : Program) (h : ℕ) (v : Interval) (q : Position) (n : ℕ) (args : List ℕ) (m m2 : ℕ → ℕ) (sk : ℕ) → call_reason n ≡ r → (r == 2) ≡ false
+    → x ≡ slice_index args 0 → step i q.state ≡ Asks (System n args) → q.state.ic + 1 < 2 ^ 64 → Holds v sk (ended_at (count_up q.state.ic) r x) q.loads q.conditionals
+    → Stepped i h v q (System n args) m m2 Over None sk (ended_at (count_up q.state.ic) r x)
+finished r x i h v q n args m m2 sk k f a e b o =
+    let ask : Ask = asking (System n args) q.state in
+    let up : count_up q.state.ic ≡ q.state.ic + 1 = omega arith in
+    let told : v.mark ≡ mark (q.state.ic + 1) r (slice_index args 0) = o.mark_is ∙ (ap (λ y. mark y r x) up ∙ ap (λ y. mark (q.state.ic + 1) r y) a) in
+    record {
+      next = over i h q ask;
+      on = λ z. ask_goes i h v q (over i h q ask) (System n args) z e (call_ends i h v q ask n (slice_index args 0) r told k f);
+      state = refl;
+      rows = λ more. refl;
+      words = λ y. refl;
+      held = o;
+    }
+
+kind_goes : (n a0 : ℕ) (p : Plan) → Kind n a0 p → Goes p → call_reason n ≡ 2
+kind_goes n a0 p (inl k) g = absurd (false≢true (subst Goes k.1 g))
+kind_goes n a0 p (inr (inl k)) g = absurd (false≢true (subst Goes k.1 g))
+kind_goes n a0 p (inr (inr k)) g = k.0
+
+code_of : Plan → ℕ
+code_of (plans.EndHart v) = v
+code_of (plans.EndRun v) = v
+code_of p = 0
+
+is_run : Plan → Bool
+is_run (plans.EndRun v) = true
+is_run p = false
+
+kind_hart : (n a0 x : ℕ) → Kind n a0 (plans.EndHart x) → (call_reason n ≡ 3) × (x ≡ a0)
+unfolding code_of is_run
+kind_hart n a0 x (inl k) = (k.0, ap code_of k.1)
+kind_hart n a0 x (inr (inl k)) = absurd (false≢true (ap is_run k.1))
+kind_hart n a0 x (inr (inr k)) = absurd (false≢true k.1)
+
+kind_run : (n a0 x : ℕ) → Kind n a0 (plans.EndRun x) → (call_reason n ≡ 4) × (x ≡ a0)
+unfolding code_of is_run
+kind_run n a0 x (inl k) = absurd (false≢true (sym (ap is_run k.1)))
+kind_run n a0 x (inr (inl k)) = (k.0, ap code_of k.1)
+kind_run n a0 x (inr (inr k)) = absurd (false≢true k.1)
+
+-- what the turn of a planned call leaves to come
+abbrev call_log : Plan → ℕ → HartState → ℕ → List ℕ → Machine → Logged → Logged
+call_log pl h s n args m l = end_log (after_call pl (answer_call pl h m).reply) (absorbed (asking (System n args) s) (answer_call pl h m).reply) l
+
+pub call_step : (pl : Plan) (i : Program) (h : ℕ) (v : Interval) (q : Position) (n : ℕ) (args : List ℕ) (m : Machine) (sk : ℕ) (l : Logged)
+    → Kind n (slice_index args 0) pl → step i q.state ≡ Asks (System n args) → q.state.ic + 1 < 2 ^ 64
+    → Holds v sk (puts h (sc_record (answer_call pl h m).reply h) (call_log pl h q.state n args m l)) q.loads q.conditionals
+    → (s : Stepped i h v q (System n args) m.memory (answer_call pl h m).machine.memory (answer_call pl h m).reply None sk (call_log pl h q.state n args m l)) × Fine
+    (after_call pl (answer_call pl h m).reply) s.next.called
+unfolding answered finished
+call_step (plans.Fill a z) i h v q n args m sk l k e b o =
+    (answered z i h v q n args m.memory _ sk (kind_goes n (slice_index args 0) (plans.Fill a z) k tt) e b o, (refl, refl))
+call_step (plans.Send f a z) i h v q n args m sk l k e b o =
+    (answered z i h v q n args m.memory _ sk (kind_goes n (slice_index args 0) (plans.Send f a z) k tt) e b o, (refl, refl))
+call_step (plans.Break x) i h v q n args m sk l k e b o =
+    (answered x i h v q n args m.memory _ sk (kind_goes n (slice_index args 0) (plans.Break x) k tt) e b o, (refl, refl))
+call_step (plans.Answer x) i h v q n args m sk l k e b o =
+    (answered x i h v q n args m.memory _ sk (kind_goes n (slice_index args 0) (plans.Answer x) k tt) e b o, (refl, refl))
+call_step (plans.EndHart x) i h v q n args m sk l k e b o = let z = kind_hart n (slice_index args 0) x k in (finished 3 x i h v q n args m.memory _ sk z.0 refl z.1 e b o, (refl, refl))
+call_step (plans.EndRun x) i h v q n args m sk l k e b o = let z = kind_run n (slice_index args 0) x k in (finished 4 x i h v q n args m.memory _ sk z.0 refl z.1 e b o, (refl, refl))

@@ -1,0 +1,191 @@
+-- The counts of harts, and the harts and records after a turn.
+use Rattle.std.proofs.Common.{◌≡◌, ℕ, ◌+◌, ◌<◌, ◌≤◌, ◌^◌, Bool, true, false, List, [], ◌∷◌, ◌++◌, Option, refl, sym, ◌∙◌, ap, arith, subst, inl, inr}
+use Rattle.std.specs.Prelude.{◌==◌, nat_le, if◌then◌else◌}
+use Rattle.std.proofs.lemmas.Bool.{false≢true}
+use Rattle.bn_base.specs.Programs.{Program}
+use Rattle.bn_base.specs.declared.settings.RawSettings.{RawSettings}
+use Rattle.bn_base.specs.declared.state.HartState.{HartState}
+use Rattle.rv_meaning.specs.Execute.{absorbed, count_up}
+use Rattle.rv_meaning.specs.declared.asks.Want.{Want}
+use Rattle.rv_meaning.specs.declared.asks.Want.TheVariants.{Load, Store, LoadReserved, StoreConditional, Amo, System, Cut, Faulted}
+use Rattle.rv_meaning.specs.declared.asks.Reply.TheVariants.{Went, Over}
+use Rattle.system_calls.specs.declared.effect.Plan.{Plan}
+use Rattle.system_calls.specs.declared.effect.Plan.TheVariants as plans
+use Rattle.first_load_bits.specs.declared.warm.Warm.{Warm}
+use Rattle.race_log.specs.Points.{Point}
+use Rattle.log_record.specs.declared.record.Record.{Record}
+use Rattle.hart_replay.specs.Replay.{Interval, Logged, puts, nothing, first}
+use Rattle.run_model.specs.declared.hart.Hart.{Hart}
+use Rattle.run_model.specs.declared.next.Next.{Next}
+use Rattle.run_model.specs.declared.next.Next.TheVariants.{GoesOn, NewInterval}
+use Rattle.run_model.specs.Machine.{Machine, answer_call, answer_sc, planned, is_reserved}
+use Rattle.run_model.specs.Turn.{Run, ask_at, budget, loading, warmth, word_before, load_record, sc_record, skipped_after, point_of, hart_after, other_after, mark}
+use Rattle.run_model.specs.Rows.{reply_at}
+use Rattle.replay_laws.proofs.Asked.{asking, state_after, span_to, next_at, served_turn}
+use Rattle.replay_laws.proofs.Step.{of_memory}
+use Rattle.replay_laws.proofs.Turns.{turn_records, end_log, own_log, foreign_log, other_log, own_hart, foreign_hart, puts_append}
+use Rattle.replay_laws.proofs.Way.{Sound, Came, way}
+
+-- a live hart's count is within the limit
+pub record Fit (c : RawSettings) (t : Hart) : Type 0 where
+  pub live : t.live ≡ true
+  pub within : t.state.ic ≤ c.limit
+
+-- ---- the count after a reply
+
+Counted : HartState → HartState → Type 0
+Counted s t = (s.ic ≤ t.ic) × (t.ic ≤ s.ic + 1)
+
+counted_up : (s t : HartState) → s.ic + 1 < 2 ^ 64 → t.ic ≡ count_up s.ic → Counted s t
+unfolding Counted
+counted_up s t b e = (omega arith, omega arith)
+
+pub plan_counts : (pl : Plan) (j n : ℕ) (args : List ℕ) (m : Machine) (s : HartState)
+    → (absorbed (asking (System n args) s) (answer_call pl j m).reply).ic ≡ count_up s.ic
+plan_counts (plans.Fill a z) j n args m s = refl
+plan_counts (plans.Send f a z) j n args m s = refl
+plan_counts (plans.Break x) j n args m s = refl
+plan_counts (plans.Answer x) j n args m s = refl
+plan_counts (plans.EndHart x) j n args m s = refl
+plan_counts (plans.EndRun x) j n args m s = refl
+
+sc_counts : (x : Bool) (j a rd w : ℕ) (m : Machine) (s : HartState) → (absorbed (asking (StoreConditional a rd w) s) (answer_sc x a w j m).reply).ic ≡ count_up s.ic
+sc_counts true j a rd w m s = refl
+sc_counts false j a rd w m s = refl
+
+pub cut_state : (b : Bool) (s : HartState) → absorbed (asking Cut s) (if b then Over else Went) ≡ s
+cut_state true s = refl
+cut_state false s = refl
+
+same_count : (s : HartState) → Counted s s
+unfolding Counted
+same_count s = (omega arith, omega arith)
+
+pub memory_counts : (w : Want) (c : RawSettings) (i : Program) (m : Machine) (j : ℕ) (s : HartState) → of_memory w ≡ true → (state_after c i m j w s).ic ≡ count_up s.ic
+memory_counts (Load a wd g rd) c i m j s e = refl
+memory_counts (LoadReserved a rd) c i m j s e = refl
+memory_counts (Store a wd w) c i m j s e = refl
+memory_counts (Amo a o rd w) c i m j s e = refl
+memory_counts (StoreConditional a rd w) c i m j s e = sc_counts (is_reserved (m.reserved j) a) j a rd w m s
+memory_counts (System n args) c i m j s e = absurd (false≢true e)
+memory_counts Cut c i m j s e = absurd (false≢true e)
+memory_counts (Faulted f y) c i m j s e = absurd (false≢true e)
+
+want_counts : (w : Want) (c : RawSettings) (i : Program) (m : Machine) (j : ℕ) (s : HartState) → s.ic + 1 < 2 ^ 64 → Counted s (state_after c i m j w s)
+want_counts (Load a wd g rd) c i m j s b = counted_up s _ b refl
+want_counts (LoadReserved a rd) c i m j s b = counted_up s _ b refl
+want_counts (Store a wd w) c i m j s b = counted_up s _ b refl
+want_counts (Amo a o rd w) c i m j s b = counted_up s _ b refl
+want_counts (StoreConditional a rd w) c i m j s b = counted_up s _ b (sc_counts (is_reserved (m.reserved j) a) j a rd w m s)
+want_counts (System n args) c i m j s b = counted_up s _ b (plan_counts (planned i m n args) j n args m s)
+want_counts Cut c i m j s b = subst (Counted s) (sym (cut_state (nat_le c.limit s.ic) s)) (same_count s)
+want_counts (Faulted f y) c i m j s b = same_count s
+
+-- ---- names for what hart k's turn does
+
+abbrev pub want_at : RawSettings → Program → Run → ℕ → Want
+want_at c i run k = (ask_at c i (run.harts k)).want
+
+-- the state in which it asks, and that after the reply
+abbrev pub asked_at : RawSettings → Program → Run → ℕ → HartState
+asked_at c i run k = (ask_at c i (run.harts k)).state
+
+abbrev pub next_state : RawSettings → Program → Run → ℕ → HartState
+next_state c i run k = state_after c i run.machine k (want_at c i run k) (asked_at c i run k)
+
+-- whether the word of its loading access is warm, how many are skipped after it, and that word
+abbrev pub warmth_at : RawSettings → Program → Run → ℕ → Option Warm
+warmth_at c i run k = warmth c (loading (want_at c i run k)) (run.events k)
+
+abbrev pub skip_next : RawSettings → Program → Run → ℕ → ℕ
+skip_next c i run k = skipped_after (warmth_at c i run k) (run.harts k).skipped
+
+abbrev pub word_at : RawSettings → Program → Run → ℕ → ℕ
+word_at c i run k = word_before run.machine.memory (loading (want_at c i run k))
+
+abbrev pub point_at : RawSettings → Program → Run → ℕ → Option Point
+point_at c i run k = point_of k (asked_at c i run k).ic run.turns (span_to c i run.machine k (want_at c i run k) (asked_at c i run k))
+
+-- its records
+abbrev pub added : RawSettings → Program → Run → ℕ → List Record
+added c i run k =
+    turn_records k (point_at c i run k) run.points (warmth_at c i run k) (run.harts k).skipped (word_at c i run k) (reply_at c i run k) (next_at c i run k) (run.harts k).number
+    (next_state c i run k) c.harts run.harts
+
+-- the records of the turns of a list
+abbrev pub served_records : RawSettings → Program → Run → List ℕ → List Record
+served_records c i run [] = []
+served_records c i run (k ∷ ks) = added c i run k ++ served_records c i (served_turn c i run k) ks
+
+-- what they say to h
+abbrev pub log_from : RawSettings → Program → Run → List ℕ → ℕ → Logged
+log_from c i run ks h = puts h (served_records c i run ks) nothing
+
+-- ---- h's own turn
+
+pub own_turn_log : (c : RawSettings) (i : Program) (run : Run) (ks : List ℕ) (h : ℕ)
+    → log_from c i run (h ∷ ks) h ≡ puts h (load_record (warmth_at c i run h) h (run.harts h).skipped (word_at c i run h))
+    (puts h (sc_record (reply_at c i run h) h) (end_log (next_at c i run h) (next_state c i run h) (log_from c i (served_turn c i run h) ks h)))
+own_turn_log c i run ks h =
+    puts_append h (added c i run h) (served_records c i (served_turn c i run h) ks) nothing
+    ∙ own_log h (point_at c i run h) run.points (warmth_at c i run h) (run.harts h).skipped (word_at c i run h) (reply_at c i run h) (next_at c i run h) (run.harts h).number
+    (next_state c i run h) c.harts run.harts (log_from c i (served_turn c i run h) ks h)
+
+cut_next : (c : RawSettings) (i : Program) (m : Machine) (j : ℕ) (w : Want) (s : HartState) → w ≡ Cut → state_after c i m j w s ≡ s
+cut_next c i m j w s e = subst (λ (x : Want). state_after c i m j x s ≡ s) (sym e) (cut_state (nat_le c.limit s.ic) s)
+
+abbrev no_interval : HartState → Interval
+no_interval s = record { start = s; loads = []; conditionals = []; mark = mark 0 0 0 }
+
+pub own_came : (c : RawSettings) (i : Program) (t : Hart) (h : ℕ) → Sound c i → Fit c t
+    → Came i t.state.ic (budget c t) (ask_at c i t) × (t.state.ic ≤ (ask_at c i t).state.ic)
+own_came c i t h z f =
+    let r = way c i h (no_interval t.state) (budget c t) (first (no_interval t.state)) z (omega (arith, f.within, z.limit)) in
+    (r.1, r.0.from)
+
+bounds_by : (c : RawSettings) (i : Program) (m : Machine) (t : Hart) (h : ℕ) (w : Want) (s : HartState) → Sound c i → Fit c t → t.state.ic ≤ s.ic
+    → Came i t.state.ic (budget c t) (asking w s) → (t.state.ic ≤ (state_after c i m h w s).ic) × ((state_after c i m h w s).ic ≤ c.limit)
+unfolding Counted
+bounds_by c i m t h w s z f g (inl p) =
+    let e : (state_after c i m h w s).ic ≡ s.ic = ap (λ (x : HartState). x.ic) (cut_next c i m h w s p.0) in
+    (omega (arith, e, g), omega (arith, f.within, e, p.1))
+bounds_by c i m t h w s z f g (inr p) =
+    let e : Counted s (state_after c i m h w s) = want_counts w c i m h s (omega (arith, f.within, z.limit, p.1)) in
+    (omega (arith, e.0, g), omega (arith, f.within, e.1, p.1))
+
+pub own_bounds : (c : RawSettings) (i : Program) (run : Run) (h : ℕ) → Sound c i → Fit c (run.harts h)
+    → ((run.harts h).state.ic ≤ (next_state c i run h).ic) × ((next_state c i run h).ic ≤ c.limit)
+own_bounds c i run h z f = let r = own_came c i (run.harts h) h z f in bounds_by c i run.machine (run.harts h) h (want_at c i run h) (asked_at c i run h) z f r.1 r.0
+
+pub own_harts : (c : RawSettings) (i : Program) (run : Run) (h : ℕ) (n : Next) → next_at c i run h ≡ n
+    → (served_turn c i run h).harts h ≡ hart_after n (next_state c i run h) (skip_next c i run h) (run.harts h)
+own_harts c i run h n e =
+    own_hart (next_at c i run h) h (hart_after (next_at c i run h) (next_state c i run h) (skip_next c i run h) (run.harts h)) run.harts
+    ∙ ap (λ x. hart_after x (next_state c i run h) (skip_next c i run h) (run.harts h)) e
+
+-- ---- another hart's turn
+
+pub other_turn_log : (c : RawSettings) (i : Program) (run : Run) (ks : List ℕ) (h k : ℕ) (n : Next) → next_at c i run k ≡ n → (k == h) ≡ false → (h == k) ≡ false
+    → (run.harts h).live ≡ true → h < c.harts → log_from c i run (k ∷ ks) h ≡ other_log n (run.harts h) (log_from c i (served_turn c i run k) ks h)
+other_turn_log c i run ks h k n e f g live b =
+    puts_append h (added c i run k) (served_records c i (served_turn c i run k) ks) nothing
+    ∙ (foreign_log h k (point_at c i run k) run.points (warmth_at c i run k) (run.harts k).skipped (word_at c i run k) (reply_at c i run k) (next_at c i run k)
+    (run.harts k).number (next_state c i run k) c.harts run.harts (log_from c i (served_turn c i run k) ks h) f g live b
+    ∙ ap (λ x. other_log x (run.harts h) (log_from c i (served_turn c i run k) ks h)) e)
+
+pub other_harts : (c : RawSettings) (i : Program) (run : Run) (h k : ℕ) (n : Next) → next_at c i run k ≡ n → (h == k) ≡ false
+    → (served_turn c i run k).harts h ≡ other_after n (run.harts h)
+other_harts c i run h k n e g =
+    foreign_hart (next_at c i run k) h k (hart_after (next_at c i run k) (next_state c i run k) (skip_next c i run k) (run.harts k)) run.harts g
+    ∙ ap (λ x. other_after x (run.harts h)) e
+
+-- ---- fit harts
+
+-- a live hart is fit after its own turn that goes on, or that begins an interval
+pub own_fit : (c : RawSettings) (i : Program) (run : Run) (h : ℕ) → Sound c i → next_at c i run h ≡ GoesOn → Fit c (run.harts h) → Fit c ((served_turn c i run h).harts h)
+own_fit c i run h z e f = subst (λ (x : Hart). Fit c x) (sym (own_harts c i run h GoesOn e)) (record { live = f.live; within = (own_bounds c i run h z f).1 })
+
+pub begun_fit : (c : RawSettings) (i : Program) (run : Run) (h r x : ℕ) → Sound c i → next_at c i run h ≡ NewInterval r x → Fit c (run.harts h)
+    → Fit c ((served_turn c i run h).harts h)
+begun_fit c i run h r x z e f =
+    subst (λ (y : Hart). Fit c y) (sym (own_harts c i run h (NewInterval r x) e)) (record { live = f.live; within = (own_bounds c i run h z f).1 })

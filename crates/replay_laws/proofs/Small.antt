@@ -1,0 +1,52 @@
+-- The reason for which a hart begins a new interval is that of no fault.
+use Rattle.std.proofs.Common.{◌≡◌, ℕ, Bool, true, false, refl, subst}
+use Rattle.std.specs.Prelude.{nat_lt, nat_le, ◌-◌}
+use Rattle.bn_base.specs.Programs.{Program}
+use Rattle.bn_base.specs.declared.settings.RawSettings.{RawSettings}
+use Rattle.rv_meaning.specs.declared.asks.Want.{Want}
+use Rattle.rv_meaning.specs.declared.asks.Want.TheVariants.{Load, Store, LoadReserved, StoreConditional, Amo, System, Cut, Faulted}
+use Rattle.system_calls.specs.declared.effect.Plan.{Plan}
+use Rattle.system_calls.specs.declared.effect.Plan.TheVariants as plans
+use Rattle.run_model.specs.declared.hart.Hart.{Hart}
+use Rattle.run_model.specs.declared.next.Next.{Next}
+use Rattle.run_model.specs.declared.next.Next.TheVariants.{GoesOn, NewInterval, HartOver, RunOver}
+use Rattle.run_model.specs.Machine.{Machine, answer_call, planned}
+use Rattle.run_model.specs.Turn.{Run, after_call, counted}
+use Rattle.replay_laws.proofs.Asked.{next_at, next_to}
+use Rattle.replay_laws.proofs.Counts.{want_at, asked_at}
+
+-- what comes next is no new interval, or one for such a reason
+abbrev Small : Next → Type 0
+Small (NewInterval r x) = nat_lt 16 r ≡ false
+Small GoesOn = Unit {0}
+Small (HartOver r x) = Unit {0}
+Small (RunOver r x) = Unit {0}
+
+counted_if : (x y : Bool) → Small (elim x as (λ z. Next) [ true ↦ HartOver 7 0 | false ↦ elim y as (λ z. Next) [ true ↦ NewInterval 1 0 | false ↦ GoesOn ] ])
+counted_if true y = tt
+counted_if false true = refl
+counted_if false false = tt
+
+counted_small : (c : RawSettings) (t : Hart) (ic : ℕ) → Small (counted c t ic)
+counted_small c t ic = counted_if (nat_le c.limit ic) (nat_le c.interval (ic - t.begun))
+
+call_small : (pl : Plan) (h : ℕ) (m : Machine) → Small (after_call pl (answer_call pl h m).reply)
+call_small (plans.Fill a z) h m = refl
+call_small (plans.Send f a z) h m = refl
+call_small (plans.Break x) h m = refl
+call_small (plans.Answer x) h m = refl
+call_small (plans.EndHart x) h m = tt
+call_small (plans.EndRun x) h m = tt
+
+want_small : (w : Want) (c : RawSettings) (i : Program) (run : Run) (k : ℕ) → Small (next_to c i run.machine k (run.harts k) w (asked_at c i run k))
+want_small (Load a wd g rd) c i run k = counted_small c (run.harts k) _
+want_small (LoadReserved a rd) c i run k = counted_small c (run.harts k) _
+want_small (Store a wd v) c i run k = counted_small c (run.harts k) _
+want_small (Amo a o rd v) c i run k = counted_small c (run.harts k) _
+want_small (StoreConditional a rd v) c i run k = counted_small c (run.harts k) _
+want_small (System n args) c i run k = call_small (planned i run.machine n args) k run.machine
+want_small Cut c i run k = counted_small c (run.harts k) _
+want_small (Faulted f y) c i run k = tt
+
+pub new_small : (c : RawSettings) (i : Program) (run : Run) (k r x : ℕ) → next_at c i run k ≡ NewInterval r x → nat_lt 16 r ≡ false
+new_small c i run k r x e = subst Small e (want_small (want_at c i run k) c i run k)

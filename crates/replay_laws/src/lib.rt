@@ -1,0 +1,51 @@
+//! Laws of replays: what a kept log says of the run that it was recorded of. These functions do
+//! nothing: their contracts are theorems.
+#![tactic(auto)]
+
+ghost use Rattle.replay_laws.specs.Known.{WarmWordsStayKnown};
+ghost use Rattle.replay_laws.specs.Law.{LogSuffices, RowsStandTogether, RowsAreCounted};
+
+mod examples;
+
+pub use examples::{
+    a_fault_is_replayed, a_filled_word_is_loaded_again, the_last_interval_is_replayed,
+};
+use log_ring::laws::a_suffix_is_kept;
+use rv_meaning::{each_ask_is_orderly, each_instruction_is_counted_or_asks};
+
+/// Log sufficiency: for every program, input, cache and interval length, every list of turns that
+/// is legal and finished, and every interval of a hart whose Header the log still keeps, the
+/// replay of that interval from the kept log is done, and gives exactly that interval's rows of
+/// the recorded run (for one hart the claim of BugNet, ISCA 2005).
+pub fn the_log_suffices()
+    ensures { LogSuffices }
+{
+    each_instruction_is_counted_or_asks();
+    each_ask_is_orderly();
+    a_suffix_is_kept();
+}
+
+/// The rows of a kept interval are those of its hart from the Header's count to the End's, with
+/// the row of the fault where it ends by one.
+pub fn the_rows_of_an_interval_stand_together()
+    ensures { RowsStandTogether }
+{
+    each_instruction_is_counted_or_asks();
+    each_ask_is_orderly();
+    a_suffix_is_kept();
+}
+
+/// The rows of a hart have its counts, one after another from 0.
+pub fn the_rows_of_a_hart_are_counted()
+    ensures { RowsAreCounted }
+{
+    each_instruction_is_counted_or_asks();
+    each_ask_is_orderly();
+}
+
+/// What a hart knows of the words that are warm to it stays true, through its own turns up to the
+/// interval's end and through those of the other harts: the reason why first loads suffice.
+#[tactic(auto, using(crate::proofs::Warmth::warm_words))]
+pub fn warm_words_stay_known()
+    ensures { WarmWordsStayKnown }
+{}
