@@ -1,6 +1,10 @@
 #!/usr/bin/env bash
-# Times single layers beside plain C twins in the same run, and prints the ratios.
+# Times single layers beside plain C twins in the same run, and a replay beside the run of the same
+# instructions, and prints the ratios.
 # Needs gcc. The timed program is the crate `bench`, proved and built first.
+#
+# bench/run.sh [COUNT [RUNS]]: the meaning of so many instructions is timed RUNS times, in turns with
+# its twin, and the best of each counts, so that a busy moment of the machine spoils no ratio.
 set -eu
 top=$(cd "$(dirname "$0")/.." && pwd)
 work=$(mktemp -d)
@@ -9,17 +13,41 @@ gcc -O2 -o "$work/interpreter" "$top/bench/interpreter.c"
 (cd "$top/crates/bench" && rt run) >/dev/null 2>&1
 ours=$top/crates/bench/out/bench
 
-rate() { sed -n "s/^$1 .*: \([0-9]*\) a second.*/\1/p"; }
-
 count=${1:-50000000}
-"$ours" meaning "$count" | tee "$work/ours"
-"$work/interpreter" "$count" | tee "$work/plain"
+runs=${2:-7}
+for _ in $(seq "$runs"); do
+    "$ours" meaning "$count" >>"$work/ours"
+    "$work/interpreter" "$count" >>"$work/plain"
+done
+
+# The best rate of a kind, and the states that its runs came to.
+best() { sed -n "s/^$2 .*: \([0-9]*\) a second.*/\1/p" "$work/$1" | sort -n | tail -1; }
+states() { sed -n "s/^$1[a-z-]* .* state \([0-9]*\).*/\1/p" "$work/ours" "$work/plain" | sort -u; }
+
 for kind in quiet mixed; do
-    awk -v kind=$kind -v a="$(rate $kind <"$work/ours")" -v b="$(rate $kind <"$work/plain")" \
-        'BEGIN { printf "%s: %.2f of plain C\n", kind, a / b }'
+    if [ "$(states $kind | wc -l)" -ne 1 ]; then
+        echo "$kind: the two came to different states" >&2
+        exit 1
+    fi
+    plain=$(best plain $kind)
+    for ours_kind in $kind $kind-by-words; do
+        awk -v kind=$ours_kind -v a="$(best ours $ours_kind)" -v b="$plain" \
+            'BEGIN { printf "%s: %d a second, %.2f of plain C (%d)\n", kind, a, a / b, b }'
+    done
 done
 "$ours" decode "$count"
 "$ours" races 5000000
 "$ours" ring 20000000
 "$ours" cache 20000000
 "$ours" file 6710886
+
+# The replay of an interval of the greatest length beside the quiet run of the same instructions.
+for _ in $(seq "$runs"); do
+    "$ours" replay 10000000 >>"$work/replayed"
+done
+if [ "$(sed -n 's/.* state \([0-9]*\).*/\1/p' "$work/replayed" | sort -u | wc -l)" -ne 1 ]; then
+    echo "the replay and its run came to different states" >&2
+    exit 1
+fi
+awk -v a="$(best replayed replay)" -v b="$(best replayed run)" \
+    'BEGIN { printf "replay: %d instructions a second, %.2f of the quiet run of the same (%d)\n", a, a / b, b }'

@@ -8,12 +8,14 @@
 //! | `ring COUNT` | so many first loads that go through a full ring of records |
 //! | `cache COUNT` | so many touches of a hart's cache |
 //! | `file COUNT` | a log file with so many first loads, written and read |
+//! | `replay COUNT` | an interval of so many instructions, at most 10,000,000: its run and its replay |
 #![tactic(auto)]
 
 mod decode_timing;
 mod file_timing;
 mod meaning_timing;
 mod race_timing;
+mod replay_timing;
 mod ring_timing;
 mod touch_timing;
 
@@ -47,6 +49,11 @@ fn main(rt: HostRuntime) -> anyhow::Result<()> {
     if layer == "file" && count > 0 {
         return file_timing::files(&rt, count);
     }
-    println!(rt; "bench LAYER COUNT, where LAYER is decode, meaning, races, ring, cache or file")?;
+    if layer == "replay" && count > 0 && count <= 10_000_000 {
+        return replay_timing::replay(&rt, count);
+    }
+    println!(rt;
+        "bench LAYER COUNT, where LAYER is decode, meaning, races, ring, cache, file or replay"
+    )?;
     Ok(())
 }

@@ -3,7 +3,7 @@ ghost use Rattle.std.specs.Prelude.{◌≡◌, ◌≤◌, ◌*◌, IfSome, IsTru
 ghost use Rattle.rv_meaning.specs.Orderly.{is_reply_to};
 
 use bn_base::{HartState, Image, Register, Registers, Segment, Settings};
-use rv_meaning::{Reply, Want, absorb_in_place, quiet_run_in_place};
+use rv_meaning::{DecodedImage, Reply, Want, absorb_in_place, quiet_run_in_place};
 use std::alloc::{AllocError, Global};
 use std::time::Instant;
 
@@ -22,7 +22,7 @@ const QUIET: [u32; 10] = [
 ];
 
 // A loop that also loads a word, stores it, and loads a byte.
-const MIXED: [u32; 11] = [
+pub(crate) const MIXED: [u32; 11] = [
     0x0004_0a37,
     0x0012_8293,
     0x3ff2_f713,
@@ -37,7 +37,7 @@ const MIXED: [u32; 11] = [
 ];
 
 // A number that the whole state goes into.
-fn sum_of(state: &HartState) -> u32 {
+pub(crate) fn sum_of(state: &HartState) -> u32 {
     let mut sum = state.pc;
     for number in 0..32u8 {
         sum = sum
@@ -47,7 +47,7 @@ fn sum_of(state: &HartState) -> u32 {
     sum
 }
 
-// The reply of a memory of words to a load or a store of a word; none to other wants.
+// The reply of a memory of words to a load, or to a store of a word; none to other wants.
 fn served(memory: &mut Vec<u32>, want: &Want) -> Option<Reply>
     ensures { IfSome result (λ r. IsTrue (is_reply_to want.now r)) }
 {
@@ -56,7 +56,11 @@ fn served(memory: &mut Vec<u32>, want: &Want) -> Option<Reply>
             let word = memory.get((addr / 4) as usize).copied().unwrap_or(0);
             Some(Reply::Word(word))
         }
-        Want::Store { addr, value, .. } => {
+        Want::Store {
+            addr,
+            width: 4,
+            value,
+        } => {
             if let Some(word) = memory.get_mut((addr / 4) as usize) {
                 *word = value;
             }
@@ -67,7 +71,7 @@ fn served(memory: &mut Vec<u32>, want: &Want) -> Option<Reply>
 }
 
 // A hart at the start of the code.
-fn start() -> HartState {
+pub(crate) fn start() -> HartState {
     HartState {
         pc: 0x10000,
         x: Registers::new([0; 32]),
@@ -76,7 +80,7 @@ fn start() -> HartState {
 }
 
 // The program of these words.
-fn program(alloc: Global, words: Vec<u32>) -> Result<Image, AllocError>
+pub(crate) fn program(alloc: Global, words: Vec<u32>) -> Result<Image, AllocError>
     requires { vec_len words ≤ 1000 }
 {
     let count = words.len() as u32;
@@ -102,26 +106,66 @@ fn run(image: &Image, memory: &mut Vec<u32>, limit: u64) -> HartState {
     state
 }
 
-fn timed(rt: &HostRuntime, kind: &str, image: &Image, limit: u64) -> anyhow::Result<()> {
-    let mut memory = Vec::new(rt.alloc());
-    for _ in 0..262_144 {
-        memory.push(0)?;
+// The same, over the program decoded ahead.
+fn run_decoded(image: &DecodedImage, memory: &mut Vec<u32>, limit: u64) -> HartState {
+    let mut state = start();
+    for _ in 0..limit {
+        if state.ic >= limit {
+            return state;
+        }
+        let budget = limit - state.ic;
+        let want = image.quiet_run_in_place(&mut state, budget);
+        match served(memory, &want) {
+            None => return state,
+            Some(reply) => absorb_in_place(&mut state, &want, reply),
+        }
     }
-    let clock = Instant::now(rt)?;
-    let state = run(image, &mut memory, limit);
+    state
+}
+
+// A memory of 2^18 words, all 0.
+fn new_memory(alloc: Global) -> Result<Vec<u32>, AllocError> {
+    vec![in alloc; 0; 262_144]
+}
+
+// Prints how fast a hart came to this state.
+fn tell(rt: &HostRuntime, kind: &str, state: &HartState, clock: Instant) -> anyhow::Result<()> {
     let micros = clock.elapsed(rt)?.as_micros();
     let spent = u64::try_from(micros).unwrap_or(u64::MAX).max(1);
     let done = state.ic;
     let rate = done.saturating_mul(1_000_000) / spent;
-    let sum = sum_of(&state);
+    let sum = sum_of(state);
     println!(rt; "{kind} {done} instructions: {rate} a second, state {sum}")?;
     Ok(())
 }
 
-/// Times so many instructions of a loop of arithmetic, and of one with loads and stores.
+fn timed(rt: &HostRuntime, kind: &str, image: &Image, limit: u64) -> anyhow::Result<()> {
+    let mut memory = new_memory(rt.alloc())?;
+    let clock = Instant::now(rt)?;
+    let state = run(image, &mut memory, limit);
+    tell(rt, kind, &state, clock)
+}
+
+pub(crate) fn timed_decoded(
+    rt: &HostRuntime,
+    kind: &str,
+    image: &Image,
+    limit: u64,
+) -> anyhow::Result<()> {
+    let mut memory = new_memory(rt.alloc())?;
+    let clock = Instant::now(rt)?;
+    let image = DecodedImage::new(rt.alloc(), image)?;
+    let state = run_decoded(&image, &mut memory, limit);
+    tell(rt, kind, &state, clock)
+}
+
+/// Times so many instructions of a loop of arithmetic, and of one with loads and stores: each with
+/// its code decoded ahead, and then with each word decoded as it comes.
 pub fn meaning(rt: &HostRuntime, limit: u64) -> anyhow::Result<()> {
     let quiet = program(rt.alloc(), Vec::from_array(rt.alloc(), QUIET)?)?;
-    timed(rt, "quiet", &quiet, limit)?;
     let mixed = program(rt.alloc(), Vec::from_array(rt.alloc(), MIXED)?)?;
-    timed(rt, "mixed", &mixed, limit)
+    timed_decoded(rt, "quiet", &quiet, limit)?;
+    timed_decoded(rt, "mixed", &mixed, limit)?;
+    timed(rt, "quiet-by-words", &quiet, limit)?;
+    timed(rt, "mixed-by-words", &mixed, limit)
 }
