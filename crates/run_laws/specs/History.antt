@@ -11,7 +11,7 @@ use Rattle.rv_meaning.specs.declared.asks.Reply.{Reply}
 use Rattle.rv_meaning.specs.declared.asks.Reply.TheVariants.{Answer}
 use Rattle.bn_outside.specs.declared.turn_row.TurnRow.{TurnRow}
 use Rattle.run_model.specs.declared.hart.Hart.{Hart}
-use Rattle.run_model.specs.Turn.{Run, serve, turn, ask_at}
+use Rattle.run_model.specs.Turn.{Run, serve, turn, ask_at, is_orderly}
 use Rattle.run_model.specs.Runs.{is_live}
 
 -- ---- what the machine says of rows
@@ -25,6 +25,11 @@ after_rows c i run (r ∷ rs) = after_rows c i (serve c i run r.hart r.ask).run 
 abbrev pub IsLawful : RawSettings → Program → Run → List TurnRow → Type 0
 IsLawful c i run [] = ⊤
 IsLawful c i run (r ∷ rs) = (is_live c run r.hart ≡ true) × (r.reply ≡ (serve c i run r.hart r.ask).reply) × IsLawful c i (serve c i run r.hart r.ask).run rs
+
+-- whether each one asks what its hart could make
+abbrev pub are_orderly : RawSettings → Program → Run → List TurnRow → Bool
+are_orderly c i run [] = true
+are_orderly c i run (r ∷ rs) = is_orderly c i (run.harts r.hart) r.ask && are_orderly c i (serve c i run r.hart r.ask).run rs
 
 -- ---- what a hart says of its own rows
 

@@ -14,3 +14,4 @@ pub mod PlainFits
 pub mod Firsts
 pub mod Beginning
 pub mod OneTurn
+pub mod Ending

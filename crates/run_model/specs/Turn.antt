@@ -277,9 +277,13 @@ serve_orderly c i run k ask = serve_call c run k ask (call_of i run.machine ask.
 abbrev pub dead : Hart → Hart
 dead h = record h { live = false }
 
+-- no hart is live any more
+abbrev pub halted : Run → Run
+halted run = record run { harts = λ j. dead (run.harts j) }
+
 -- an ask that isn't orderly ends all, and adds no record
 abbrev pub serve_disorderly : Run → Served
-serve_disorderly run = record { reply = replies.Over; run = record run { harts = λ j. dead (run.harts j); turns = run.turns + 1 } }
+serve_disorderly run = record { reply = replies.Over; run = record (halted run) { turns = run.turns + 1 } }
 
 abbrev pub served_if : Bool → RawSettings → Program → Run → ℕ → Ask → Served
 served_if true c i run k ask = serve_orderly c i run k ask

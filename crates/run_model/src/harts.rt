@@ -1,9 +1,9 @@
 // The harts of a run, and what a turn leaves of them.
-ghost use Rattle.std.specs.Prelude.{◌≡◌, ◌≤◌, ◌<◌, ◌+◌, ◌*◌, ◌^◌, ◌++◌, ℕ, List, length, slice_set};
+ghost use Rattle.std.specs.Prelude.{◌≡◌, ◌≤◌, ◌<◌, ◌+◌, ◌*◌, ◌^◌, ◌++◌, ℕ, List, length, slice_set, get_or};
 ghost use Rattle.log_record.specs.declared.record.Record.{Record};
 ghost use Rattle.log_ring.specs.Kept.{Holds};
 ghost use Rattle.run_model.specs.declared.hart.Hart.{Hart};
-ghost use Rattle.run_model.specs.Turn.{harts_after, run_over_records};
+ghost use Rattle.run_model.specs.Turn.{harts_after, run_over_records, dead};
 ghost use Rattle.run_model.specs.Harts.{AreHarts, others_after, stopped_below, stopped_at, stop_record, stop_records};
 ghost use Rattle.run_model.specs.Logs.{taken};
 
@@ -75,4 +75,14 @@ pub fn finish_turn(harts: &mut Vec<Hart>, ring: &mut Ring, number: HartId, next:
 {
     end_others(harts, ring, number, next);
     harts[number as usize] = own;
+}
+
+/// No hart is live any more.
+pub fn end_each(harts: &mut Vec<Hart>)
+    ensures each { (k : ℕ) (d : Hart) → k < length harts.old.items → get_or harts.new.items k d ≡ dead (get_or harts.old.items k d) }
+    ensures len { length harts.new.items ≡ length harts.old.items }
+{
+    for number in 0..harts.len() {
+        harts[number].end();
+    }
 }

@@ -35,3 +35,4 @@ pub use plain::Plain;
 pub use span::{Span, loading};
 pub use start::Start;
 pub use trace::Trace;
+pub use turning::Recorded;

@@ -4,29 +4,54 @@ ghost use Rattle.rv_meaning.specs.Orderly.{passes};
 ghost use Rattle.rv_meaning.specs.declared.asks.Reply.{Reply};
 ghost use Rattle.rv_meaning.specs.declared.asks.Reply.TheVariants as replies;
 ghost use Rattle.run_model.specs.Machine.{Machine as Meant, call_of};
-ghost use Rattle.run_model.specs.Turn.{Run, span_of, is_orderly, serve_call, turn};
+ghost use Rattle.run_model.specs.Turn.{Run, span_of, is_orderly, serve_call, serve_disorderly, halted, turn, budget};
 ghost use Rattle.run_model.specs.Parts.{HasRoom, IsMachine, AreAddresses};
-ghost use Rattle.run_model.specs.Harts.{hart_in};
+ghost use Rattle.run_model.specs.Harts.{AreHarts, hart_in};
 ghost use Rattle.run_model.specs.Plain.{IsRun, IsRaceReady};
 ghost use Rattle.log_ring.specs.Kept.{Holds};
 ghost use Rattle.run_model.specs.Runs.{start, is_live, most_turns};
 ghost use Rattle.run_model.specs.Turning.{parts, is_alive};
 
 use crate::hart::Hart;
-use crate::machine::Machine;
+use crate::harts::end_each;
+use crate::machine::{Machine, Streams};
 use crate::plain::Plain;
 use crate::span::Span;
 use crate::start::Start;
 use crate::trace::Trace;
-use bn_base::HartId;
+use bn_base::{HartId, HartState};
 use log_ring::Ring;
 use rv_meaning::{Ask, Reply, quiet_run};
 use std::alloc::{AllocError, Global};
 use system_calls::Plan;
 
+/// What a plain machine recorded: its harts, the ring of kept records, the bytes of both output streams,
+/// and how many turns it took.
+#[derive(Drop)]
+pub struct Recorded {
+    pub harts: Vec<Hart>,
+    pub ring: Ring,
+    pub out: Vec<u8>,
+    pub err: Vec<u8>,
+    pub turns: u64,
+}
+
 impl Plain {
-    // Plans an ask's system call, if it is one, and finds the memory that the turn needs.
-    fn prepare(&mut self, ask: &Ask) -> Result<Option<Plan>, AllocError>
+    /// Whether a hart could ask this now: the count fits its budget, and the access passes the tests.
+    pub fn is_orderly(&self, hart: HartId, ask: &Ask) -> bool
+        requires { is_alive (parts self.now) hart ≡ true }
+        ensures value { result ≡ is_orderly self.now.start.settings self.now.start.image (hart_in self.now.trace.harts.items hart) ask.now }
+        ensures run { (run : Run) → IsRun (parts self.now) run → result ≡ is_orderly self.now.start.settings self.now.start.image (run.harts hart) ask.now }
+    {
+        let own = &self.trace.harts[hart as usize];
+        let budget = own.budget(&self.start.settings);
+        ask.is_orderly(&self.start.image, own.state.ic, budget)
+    }
+
+    /// Plans the system call that an orderly ask makes, if it makes one, and finds all memory that its
+    /// turn needs: first pages, then room in a stream, then room in the race log. The machine stays as it
+    /// is, also on `Err`, and want of memory is the only error.
+    pub fn prepare(&mut self, ask: &Ask) -> Result<Option<Plan>, AllocError>
         requires { IsTrue (passes self.old.start.image ask.now.want) }
         ensures run { (run : Run) → IsRun (parts self.old) run → IsRun (parts self.new) run }
         ensures call { IfOk result (λ call. (m : Meant) → IsMachine self.new.start.input.items self.new.machine m → call ≡ call_of self.new.start.image m ask.now.want) }
@@ -45,8 +70,8 @@ impl Plain {
         Ok(call)
     }
 
-    // Answers an ask, without memory.
-    fn apply(&mut self, hart: HartId, ask: &Ask, call: Option<Plan>) -> Reply
+    /// Answers an orderly ask of a live hart, once it is prepared, and takes its turn. It takes no memory.
+    pub fn apply(&mut self, hart: HartId, ask: &Ask, call: Option<Plan>) -> Reply
         requires hart { hart < self.old.start.settings.harts }
         requires live { (hart_in self.old.trace.harts.items hart).live ≡ true }
         requires orderly { IsTrue (is_orderly self.old.start.settings self.old.start.image (hart_in self.old.trace.harts.items hart) ask.now) }
@@ -67,6 +92,25 @@ impl Plain {
             .finish(&self.start.settings, hart, call, ask, reply, load);
         self.turns += 1;
         reply
+    }
+
+    /// The turn of a live hart whose ask isn't orderly: it ends all and adds no record.
+    pub fn end_all(&mut self, hart: HartId)
+        requires { is_alive (parts self.old) hart ≡ true }
+        ensures run { (run : Run) → IsRun (parts self.old) run → IsRun (parts self.new) (serve_disorderly run).run }
+        ensures start { self.new.start ≡ self.old.start }
+    {
+        let _own = &self.trace.harts[hart as usize];
+        end_each(&mut self.trace.harts);
+        self.turns += 1;
+    }
+
+    /// No hart is live any more; nothing else changes.
+    pub fn halt(&mut self)
+        ensures run { (run : Run) → IsRun (parts self.old) run → IsRun (parts self.new) (halted run) }
+        ensures start { self.new.start ≡ self.old.start }
+    {
+        end_each(&mut self.trace.harts);
     }
 
     /// The machine before its first turn. The only error is want of memory.
@@ -91,6 +135,7 @@ impl Plain {
     pub fn live(&self, hart: HartId) -> bool
         ensures value { result ≡ is_alive (parts self.now) hart }
         ensures run { (run : Run) → IsRun (parts self.now) run → result ≡ is_live self.now.start.settings run hart }
+        ensures left { is_alive (parts self.now) hart ≡ true → self.now.turns < most_turns self.now.start.settings }
     {
         match self.trace.harts.get(usize::from(hart)) {
             Some(hart) => hart.live,
@@ -149,5 +194,55 @@ impl Plain {
         ensures most { result ≤ most_turns self.now.start.settings }
     {
         self.turns
+    }
+
+    /// How many instructions a hart may do before its next cut.
+    pub fn budget(&self, hart: HartId) -> u64
+        requires { hart < self.now.start.settings.harts }
+        ensures { (run : Run) → IsRun (parts self.now) run → result ≡ budget self.now.start.settings (run.harts hart) }
+    {
+        self.trace.harts[hart as usize].budget(&self.start.settings)
+    }
+
+    /// A hart's state, as its last served ask left it.
+    pub fn state(&self, hart: HartId) -> &HartState
+        requires { hart < self.now.start.settings.harts }
+        ensures { (run : Run) → IsRun (parts self.now) run → result.now ≡ (run.harts hart).state }
+    {
+        &self.trace.harts[hart as usize].state
+    }
+
+    /// What it began with.
+    pub fn start(&self) -> &Start
+        ensures { result.now ≡ self.now.start }
+    {
+        &self.start
+    }
+
+    /// Takes out what was recorded. It takes no memory.
+    pub fn into_recorded(self) -> Recorded
+        ensures harts { (run : Run) → IsRun (parts self) run → AreHarts result.harts.items run.harts }
+        ensures count { length result.harts.items ≡ self.start.settings.harts }
+        ensures ring { (run : Run) → IsRun (parts self) run → Holds result.ring run.stream }
+        ensures size { result.ring.size ≡ self.start.settings.log_size }
+        ensures out { (run : Run) → IsRun (parts self) run → result.out.items ≡ run.machine.out }
+        ensures err { (run : Run) → IsRun (parts self) run → result.err.items ≡ run.machine.err }
+        ensures turns { (run : Run) → IsRun (parts self) run → result.turns ≡ run.turns }
+    {
+        let Plain {
+            start: _,
+            machine,
+            trace,
+            turns,
+        } = self;
+        let Trace { harts, ring, .. } = trace;
+        let Streams { out, err } = machine.into_streams();
+        Recorded {
+            harts,
+            ring,
+            out,
+            err,
+            turns,
+        }
     }
 }

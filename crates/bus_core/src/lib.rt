@@ -1,0 +1,6 @@
+//! The bus.
+#![tactic(auto)]
+
+mod bus;
+
+pub use bus::Bus;

@@ -1,0 +1,29 @@
+use Rattle.std.proofs.Common.{◌+◌, ℕ, ap, arith}
+use Rattle.run_model.specs.Harts.{hart_in}
+use Rattle.run_model.proofs.Ending.{ended_are, ended_fits, some_left}
+use Rattle.run_model.proofs.OneTurn.{alive_in}
+use Rattle.run_model.proofs.plain.Plain.end_all.Goals as goal
+
+pub returns-clause-run : goal.returns-clause-run
+returns-clause-run c run is =
+    let t = c.args.self.now.trace in
+    record {
+      machine = is.machine;
+      trace = record {
+        harts = ended_are t.harts.items c.end_each.new.harts.items run.harts (record { each = c.end_each.ensures.each; len = c.end_each.ensures.len }) is.trace.harts;
+        caches = is.trace.caches;
+        shadow = is.trace.shadow;
+        log = is.trace.log;
+      };
+      turns = ap (λ (n : ℕ). n + 1) is.turns;
+    }
+
+pub invariant_of-self : goal.invariant_of-self
+invariant_of-self c =
+    let p = c.args.self.now in
+    let live = alive_in p.trace.harts.items c.args.hart c.requires in
+    let some = some_left p.start.settings p.start.settings.harts c.args.hart (hart_in p.trace.harts.items) (omega (arith, live.0, p.fits.harts)) live.1 in
+    record {
+      memory = p.memory;
+      fits = ended_fits p.start.settings p.trace c.end_each.new.harts p.turns (p.turns + 1) (record { each = c.end_each.ensures.each; len = c.end_each.ensures.len }) p.fits (omega arith) (omega (arith, p.fits.left, some));
+    }
