@@ -1,0 +1,156 @@
+-- What stands after each turn of a run.
+use Rattle.std.proofs.Common.{◌≡◌, ℕ, ◌<◌, ◌≤◌, ◌==◌, Bool, true, false, ◌&&◌, nat_lt, refl, inl, inr, arith, sym, ap, ◌∙◌, subst, List, [], ◌∷◌, Some, None}
+use Rattle.std.proofs.lemmas.Bool.{false≢true}
+use Rattle.std.proofs.lemmas.Bool.Decides.{eqb_tells}
+use Rattle.bn_base.specs.Programs.{Program}
+use Rattle.bn_base.specs.Ranges.{IsSetting}
+use Rattle.bn_base.specs.declared.settings.RawSettings.{RawSettings}
+use Rattle.bn_base.specs.declared.state.HartState.{HartState}
+use Rattle.bn_outside.specs.declared.turn_row.TurnRow.{TurnRow}
+use Rattle.rv_meaning.specs.Execute.{absorbed}
+use Rattle.rv_meaning.specs.declared.asks.Ask.{Ask}
+use Rattle.rv_meaning.specs.declared.asks.Reply.{Reply}
+use Rattle.run_model.specs.declared.hart.Hart.{Hart}
+use Rattle.run_model.specs.declared.next.Next.{Next}
+use Rattle.run_model.specs.declared.next.Next.TheVariants.{GoesOn, NewInterval, HartOver, RunOver}
+use Rattle.run_model.specs.Machine.{answer, call_of}
+use Rattle.run_model.specs.Turn.{Run, serve, serve_orderly, serve_disorderly, served_if, is_orderly, span_of, next_of, loading, warmth, word_before, skipped_after, point_of, hart_after, other_after, harts_after, dead}
+use Rattle.run_model.specs.Runs.{start, start_state, start_hart}
+use Rattle.run_model.specs.Counts.{IsFit, MovesOn, EachTurnMovesOn, EachTurnFits, OthersStayFit}
+use Rattle.run_laws.specs.History.{after_rows, IsLawful}
+use Rattle.race_laws.proofs.Order.{Ordered, order_none, order_after, fresh_of}
+use Rattle.race_laws.proofs.Heads.{EdgeLaws, Heads, heads_after, first_heads}
+
+-- the laws that are used here
+pub record Laws : Type 0 where
+  pub moves : EachTurnMovesOn
+  pub fits : EachTurnFits
+  pub others : OthersStayFit
+  pub edges : EdgeLaws
+
+abbrev pub counts_of : (ℕ → Hart) → ℕ → ℕ
+counts_of harts j = (harts j).state.ic
+
+-- the counts are within the settings, the points are in order, and the Edges into later points stand behind each Header
+pub record Stands (c : RawSettings) (run : Run) : Type 0 where
+  pub fit : (j : ℕ) → IsFit c (run.harts j)
+  pub order : Ordered run.points run.turns (counts_of run.harts)
+  pub heads : Heads run.points run.stream
+
+-- ---- the harts
+
+own_state : (next : Next) (s : HartState) (skipped : ℕ) (h : Hart) → (hart_after next s skipped h).state ≡ s
+own_state GoesOn s skipped h = refl
+own_state (NewInterval reason value) s skipped h = refl
+own_state (HartOver reason value) s skipped h = refl
+own_state (RunOver reason value) s skipped h = refl
+
+stopped_state : (b : Bool) (h : Hart) → (elim b as (λ x. Hart) [ true ↦ record h { live = false; mark = Some (record { ic = h.state.ic; reason = 5; value = 0 }) } | false ↦ h ]).state ≡ h.state
+stopped_state true h = refl
+stopped_state false h = refl
+
+other_state : (next : Next) (h : Hart) → (other_after next h).state ≡ h.state
+other_state GoesOn h = refl
+other_state (NewInterval reason value) h = refl
+other_state (HartOver reason value) h = refl
+other_state (RunOver reason value) h = stopped_state h.live h
+
+own_is : (next : Next) (k j : ℕ) (own : Hart) (harts : ℕ → Hart) → (j == k) ≡ true → harts_after next k own harts j ≡ own
+own_is next k j own harts e = ap (λ (b : Bool). elim b as (λ x. Hart) [ true ↦ own | false ↦ other_after next (harts j) ]) e
+
+other_is : (next : Next) (k j : ℕ) (own : Hart) (harts : ℕ → Hart) → (j == k) ≡ false → harts_after next k own harts j ≡ other_after next (harts j)
+other_is next k j own harts e = ap (λ (b : Bool). elim b as (λ x. Hart) [ true ↦ own | false ↦ other_after next (harts j) ]) e
+
+eqb_same : (k : ℕ) → (k == k) ≡ true
+eqb_same k = grind arith
+
+own_count : (next : Next) (k : ℕ) (s : HartState) (skipped : ℕ) (h : Hart) (harts : ℕ → Hart) → counts_of (harts_after next k (hart_after next s skipped h) harts) k ≡ s.ic
+own_count next k s skipped h harts = ap (λ (x : Hart). x.state.ic) (own_is next k k (hart_after next s skipped h) harts (eqb_same k)) ∙ ap (λ (x : HartState). x.ic) (own_state next s skipped h)
+
+-- no count falls
+counts_rise : (next : Next) (k : ℕ) (s : HartState) (skipped : ℕ) (harts : ℕ → Hart) → (harts k).state.ic ≤ s.ic
+    → (j : ℕ) → counts_of harts j ≤ counts_of (harts_after next k (hart_after next s skipped (harts k)) harts) j
+counts_rise next k s skipped harts up j = elim (eqb_tells j k) [
+  | inl p ↦ subst (λ (n : ℕ). counts_of harts n ≤ counts_of (harts_after next k (hart_after next s skipped (harts k)) harts) n) (sym p.1)
+      (omega (arith, up, own_count next k s skipped (harts k) harts))
+  | inr p ↦
+      let same : counts_of (harts_after next k (hart_after next s skipped (harts k)) harts) j ≡ counts_of harts j =
+      ap (λ (x : Hart). x.state.ic) (other_is next k j (hart_after next s skipped (harts k)) harts p.0) ∙ ap (λ (x : HartState). x.ic) (other_state next (harts j)) in
+      omega (arith, same)
+]
+
+all_fit : (c : RawSettings) (next : Next) (k : ℕ) (own : Hart) (harts : ℕ → Hart) → OthersStayFit → IsFit c own → ((j : ℕ) → IsFit c (harts j)) → (j : ℕ) → IsFit c (harts_after next k own harts j)
+all_fit c next k own harts others fit each j = elim (eqb_tells j k) [
+  | inl p ↦ subst (λ (x : Hart). IsFit c x) (sym (own_is next k j own harts p.0)) fit
+  | inr p ↦ subst (λ (x : Hart). IsFit c x) (sym (other_is next k j own harts p.0)) (others c (harts j) next (each j)).0
+]
+
+-- ---- an orderly ask
+
+orderly_stands : Laws → (c : RawSettings) (i : Program) (run : Run) (k : ℕ) (ask : Ask) → IsSetting c → (run.harts k).live ≡ true → is_orderly c i (run.harts k) ask ≡ true
+    → Stands c run → Stands c (serve_orderly c i run k ask).run
+orderly_stands laws c i run k ask setting live o is =
+    let h : Hart = run.harts k in
+    let call = call_of i run.machine ask.want in
+    let reply : Reply = (answer c call run.machine k ask).reply in
+    let s : HartState = absorbed ask reply in
+    let next : Next = next_of c call h ask.want reply s.ic in
+    let span = span_of call ask.want reply in
+    let load = warmth c (loading ask.want) (run.events k) in
+    let own : Hart = hart_after next s (skipped_after load h.skipped) h in
+    let harts : ℕ → Hart = harts_after next k own run.harts in
+    let on : MovesOn c h ask.state.ic s.ic next span (loading ask.want) = laws.moves c i run.machine h k ask (omega (arith, setting.limit_high)) (is.fit k) live o in
+    let fit = laws.fits c h ask.state.ic s next span (loading ask.want) (run.events k) setting.interval_low live (is.fit k) on in
+    let here : counts_of harts k ≡ s.ic = own_count next k s (skipped_after load h.skipped) h run.harts in
+    let order = order_after (point_of k ask.state.ic run.turns span) run.points run.turns (counts_of run.harts) (counts_of harts)
+    (counts_rise next k s (skipped_after load h.skipped) run.harts (omega (arith, on.from, on.low)))
+    (fresh_of span k ask.state.ic run.turns (counts_of run.harts) (counts_of harts) on.from (λ e. here ∙ on.accessed e)) is.order in
+    record {
+      fit = all_fit c next k own run.harts laws.others fit.0 is.fit;
+      order = order;
+      heads = heads_after laws.edges (point_of k ask.state.ic run.turns span) run.points run.stream load k h.skipped (word_before run.machine.memory (loading ask.want)) reply next h.number s c.harts run.harts
+          (λ m p e same. subst (λ (n : ℕ). p.count < n) (ap (counts_of harts) same ∙ here) (order.counted m p e)) is.heads;
+    }
+
+-- ---- any ask
+
+dead_fit : (c : RawSettings) (h : Hart) → IsFit c h → IsFit c (dead h)
+dead_fit c h f = record { number = f.number; skipped = f.skipped; interval = f.interval; limit = f.limit; unfilled = λ e. absurd (false≢true e) }
+
+disorderly_stands : (c : RawSettings) (run : Run) → Stands c run → Stands c (serve_disorderly run).run
+disorderly_stands c run is = record {
+  fit = λ j. dead_fit c (run.harts j) (is.fit j);
+  order = order_after None run.points run.turns (counts_of run.harts) (counts_of run.harts) (λ j. omega arith) tt is.order;
+  heads = is.heads;
+}
+
+served_stands : Laws → (b : Bool) (c : RawSettings) (i : Program) (run : Run) (k : ℕ) (ask : Ask) → IsSetting c → (run.harts k).live ≡ true → is_orderly c i (run.harts k) ask ≡ b
+    → Stands c run → Stands c (served_if b c i run k ask).run
+served_stands laws true c i run k ask setting live o is = orderly_stands laws c i run k ask setting live o is
+served_stands laws false c i run k ask setting live o is = disorderly_stands c run is
+
+ask_stands : Laws → (c : RawSettings) (i : Program) (run : Run) (k : ℕ) (ask : Ask) → IsSetting c → (run.harts k).live ≡ true → Stands c run → Stands c (serve c i run k ask).run
+unfolding serve
+ask_stands laws c i run k ask setting live is = served_stands laws (is_orderly c i (run.harts k) ask) c i run k ask setting live refl is
+
+both : (a b : Bool) → (a && b) ≡ true → b ≡ true
+both true b e = e
+both false b e = cc
+
+pub rows_stand : Laws → (c : RawSettings) (i : Program) (run : Run) (rows : List TurnRow) → IsSetting c → IsLawful c i run rows → Stands c run → Stands c (after_rows c i run rows)
+rows_stand laws c i run [] setting lawful is = is
+rows_stand laws c i run (r ∷ rows) setting lawful is =
+    rows_stand laws c i (serve c i run r.hart r.ask).run rows setting lawful.2
+    (ask_stands laws c i run r.hart r.ask setting (both (nat_lt r.hart c.harts) (run.harts r.hart).live lawful.0) is)
+
+-- ---- the start
+
+fit_start : (c : RawSettings) (s : HartState) → s.ic ≡ 0 → 1 ≤ c.interval → IsFit c (start_hart s)
+fit_start c s e some = record { number = omega arith; skipped = omega (arith, e); interval = omega (arith, e); limit = omega (arith, e); unfilled = λ p. omega (arith, e, some) }
+
+pub start_stands : (c : RawSettings) (i : Program) (input : List ℕ) → IsSetting c → Stands c (start c i input)
+start_stands c i input setting = record {
+  fit = λ j. fit_start c (start_state c i j) refl setting.interval_low;
+  order = order_none;
+  heads = first_heads c i 0 c.harts;
+}

@@ -1,0 +1,5 @@
+pub mod Edges
+pub mod Runs
+pub mod Since
+pub mod Laws
+pub mod Examples
