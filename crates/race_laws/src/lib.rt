@@ -3,14 +3,17 @@
 #![tactic(auto)]
 
 ghost use Rattle.race_laws.specs.Runs.{OfLists, OfRows};
+ghost use Rattle.race_laws.specs.Orders.{BeginningsGoOn};
 ghost use Rattle.race_laws.specs.Laws.{EdgesAreNetzers, HasOrder, HasEdgesByCount, KeepsLateEdges, OrdersConflicts};
+ghost use Rattle.race_laws.specs.Laws.{KeepsEdgesAlone, KeepsWords, ReplayedAreSinceHeaders};
 
 mod examples;
 
 pub use examples::{a_relay_has_two_edges, edges_through_a_dropped_interval_are_kept};
 use log_ring::laws::a_suffix_is_kept;
 use race_log::{
-    edges_order_conflicts, listed_edges_are_all, places_stand_for_counts, tests_decide,
+    edges_order_conflicts, late_edges_suffice, listed_edges_are_all, places_stand_for_counts,
+    some_hart_goes_on, tests_decide,
 };
 use run_laws::turns_are_lawful;
 use run_model::{each_turn_fits, each_turn_moves_on, others_stay_fit};
@@ -82,3 +85,49 @@ pub fn kept_edges_order_conflicts()
     a_suffix_is_kept();
     edges_order_conflicts();
 }
+
+/// The kept Edges are those of edges of the run, and no others.
+pub fn kept_edges_are_edges()
+    ensures turns { OfLists KeepsEdgesAlone }
+    ensures rows { OfRows KeepsEdgesAlone }
+{
+    tests_decide();
+    listed_edges_are_all();
+    a_suffix_is_kept();
+}
+
+/// In every order that merges the harts' lists and respects the kept Edges, the points of kept
+/// intervals that access a common word, one of them writing it, stand in recorded order. So each
+/// word's writes stand as recorded, and each of its reads between the same writes.
+pub fn allowed_orders_keep_words()
+    ensures turns { OfLists KeepsWords }
+    ensures rows { OfRows KeepsWords }
+{
+    each_turn_moves_on();
+    each_turn_fits();
+    others_stay_fit();
+    tests_decide();
+    listed_edges_are_all();
+    turns_are_lawful();
+    a_suffix_is_kept();
+    late_edges_suffice();
+    some_hart_goes_on();
+}
+
+/// No such order gets stuck: wherever its beginning isn't whole, some hart's next point has the
+/// sources of all kept Edges into it before it.
+pub fn beginnings_go_on()
+    ensures { BeginningsGoOn }
+{
+    tests_decide();
+    listed_edges_are_all();
+    late_edges_suffice();
+    some_hart_goes_on();
+}
+
+/// The points of an interval that the log can replay are of a kept interval, and so are all later
+/// ones of its hart.
+#[tactic(auto, using(crate::proofs::Alone::replayed_since))]
+pub fn replayed_points_are_since_headers()
+    ensures { ReplayedAreSinceHeaders }
+{}
