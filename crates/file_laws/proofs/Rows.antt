@@ -1,0 +1,188 @@
+-- A recording after lawful rows.
+use Rattle.std.proofs.Common.{◌≡◌, ℕ, zero, suc, ◌+◌, ◌-◌, ◌<◌, Bool, true, false, ◌&&◌, ◌||◌, nat_lt, Option, Some, None, List, [], ◌∷◌, ◌++◌, length, replicate, Ok, refl, sym, ◌∙◌, ap, subst, arith, inl, inr}
+use Rattle.std.specs.Prelude.{◌⊎◌, ◌==◌, slice_get}
+use Rattle.std.specs.List.{AllByRecursion}
+use Rattle.std.proofs.lemmas.Bool.{false≢true}
+use Rattle.std.proofs.lemmas.Bool.Decides.{eqb_tells}
+use Rattle.std.proofs.lemmas.List.{length-append}
+use Rattle.bn_base.specs.Programs.{Program}
+use Rattle.bn_base.specs.Ranges.{IsSetting}
+use Rattle.bn_base.specs.declared.settings.RawSettings.{RawSettings}
+use Rattle.rv_meaning.specs.declared.asks.Ask.{Ask}
+use Rattle.bn_outside.specs.declared.turn_row.TurnRow.{TurnRow}
+use Rattle.log_record.specs.declared.record.Record.{Record}
+use Rattle.log_order.specs.declared.view.Terms.{Terms}
+use Rattle.log_order.specs.declared.view.HartView.{HartView}
+use Rattle.log_order.specs.Rules.{fresh, is_over}
+use Rattle.log_order.specs.Order.{after_all, terms_of, late_edge, broken, broken_by}
+use Rattle.log_order.specs.Suffix.{Keeps, IsEarly, EndsLast}
+use Rattle.log_order.specs.Weak.{AreWeak}
+use Rattle.log_ring.specs.Kept.{kept}
+use Rattle.run_model.specs.declared.hart.Hart.{Hart}
+use Rattle.run_model.specs.Turn.{Run, Served, serve, serve_disorderly, served_if, is_orderly}
+use Rattle.run_model.specs.Runs.{is_live, any_live}
+use Rattle.run_model.specs.Runs as runs
+use Rattle.run_model.specs.Files.{kept_of, dropped_of}
+use Rattle.run_laws.specs.History.{after_rows, IsLawful}
+use Rattle.file_laws.specs.Recorded.{are_orderly, counts_of, KeepsRules}
+use Rattle.file_laws.proofs.Views.{Views}
+use Rattle.file_laws.proofs.Turns.{Laws, Recording, turn_kept}
+
+both : (a b : Bool) → (a && b) ≡ true → (a ≡ true) × (b ≡ true)
+both true b e = (refl, e)
+both false b e = cc
+
+below_of : (a b : ℕ) → nat_lt a b ≡ true → a < b
+below_of a b e = grind arith
+
+-- what holds at all times
+pub record Written (c : RawSettings) (run : Run) : Type 0 where
+  pub views : Views
+  pub keeps : Keeps (terms_of c) c.harts 0 run.stream views
+  pub early : AllByRecursion (IsEarly (counts_of run)) run.stream
+
+abbrev written : (c : RawSettings) (run : Run) → Recording c run → Written c run
+written c run known = record { views = known.views; keeps = known.keeps; early = known.early }
+
+disordered : (c : RawSettings) (i : Program) (run : Run) (k : ℕ) (ask : Ask) → is_orderly c i (run.harts k) ask ≡ false → serve c i run k ask ≡ serve_disorderly run
+unfolding serve
+disordered c i run k ask o = ap (λ (b : Bool). served_if b c i run k ask) o
+
+-- an ask that isn't orderly adds nothing, and no row comes after it
+after_disorder : (c : RawSettings) (i : Program) (run : Run) (rows : List TurnRow) → Recording c run → IsLawful c i (serve_disorderly run).run rows → Written c (after_rows c i (serve_disorderly run).run rows)
+after_disorder c i run [] known lawful = record { views = known.views; keeps = known.keeps; early = known.early }
+after_disorder c i run (r ∷ rs) known lawful = absurd (false≢true (both (nat_lt r.hart c.harts) false lawful.0).1)
+
+by_order : (b : Bool) → Laws → (c : RawSettings) (i : Program) (run : Run) (r : TurnRow) (rs : List TurnRow) → IsSetting c → Recording c run → IsLawful c i run (r ∷ rs)
+    → ((next : Run) → Recording c next → IsLawful c i next rs → Written c (after_rows c i next rs))
+    → is_orderly c i (run.harts r.hart) r.ask ≡ b → Written c (after_rows c i run (r ∷ rs))
+by_order true laws c i run r rs setting known lawful rest o =
+    let live = both (nat_lt r.hart c.harts) (run.harts r.hart).live lawful.0 in
+    rest (serve c i run r.hart r.ask).run (turn_kept laws c i run r.hart r.ask setting known (below_of r.hart c.harts live.0) live.1 o) lawful.2
+by_order false laws c i run r rs setting known lawful rest o =
+    let e = disordered c i run r.hart r.ask o in
+    subst (λ (s : Served). Written c (after_rows c i s.run rs)) (sym e) (after_disorder c i run rs known (subst (λ (s : Served). IsLawful c i s.run rs) e lawful.2))
+
+-- after any lawful rows
+pub rows_kept : Laws → (c : RawSettings) (i : Program) (run : Run) (rows : List TurnRow) → IsSetting c → Recording c run → IsLawful c i run rows → Written c (after_rows c i run rows)
+rows_kept laws c i run [] setting known lawful = written c run known
+rows_kept laws c i run (r ∷ rs) setting known lawful =
+    by_order (is_orderly c i (run.harts r.hart) r.ask) laws c i run r rs setting known lawful (λ next k l. rows_kept laws c i next rs setting k l) refl
+
+orderly_first : (b x : Bool) → elim b as (λ z. Bool) [ true ↦ x | false ↦ false ] ≡ true → (b ≡ true) × (x ≡ true)
+orderly_first true x e = (refl, e)
+orderly_first false x e = cc
+
+-- after lawful rows of orderly asks
+pub rows_recorded : Laws → (c : RawSettings) (i : Program) (run : Run) (rows : List TurnRow) → IsSetting c → Recording c run → IsLawful c i run rows → are_orderly c i run rows ≡ true → Recording c (after_rows c i run rows)
+rows_recorded laws c i run [] setting known lawful orderly = known
+rows_recorded laws c i run (r ∷ rs) setting known lawful orderly =
+    let live = both (nat_lt r.hart c.harts) (run.harts r.hart).live lawful.0 in
+    let first = orderly_first (is_orderly c i (run.harts r.hart) r.ask) (are_orderly c i (serve c i run r.hart r.ask).run rs) orderly in
+    rows_recorded laws c i (serve c i run r.hart r.ask).run rs setting
+    (turn_kept laws c i run r.hart r.ask setting known (below_of r.hart c.harts live.0) live.1 first.0) lawful.2 first.1
+
+-- ---- what is kept
+
+-- the laws about kept records
+abbrev pub SuffixIsKept : Type 0
+SuffixIsKept = (size : ℕ) (rs : List Record) → (front : List Record) × (rs ≡ front ++ kept size rs)
+
+abbrev pub FirstAreGivenUp : Type 0
+FirstAreGivenUp = (t : Terms) (count dropped : ℕ) (front back : List Record) (harts : List HartView) → Keeps t count dropped (front ++ back) harts → Keeps t count (dropped + length front) back harts
+
+abbrev pub KeptKeepRules : Type 0
+KeptKeepRules = (t : Terms) (count dropped : ℕ) (kept : List Record) (harts : List HartView) → Keeps t count dropped kept harts → (weaker : List HartView) × (after_all t 0 (replicate count (fresh (dropped == 0))) kept ≡ Ok weaker) × AreWeak weaker harts
+
+abbrev pub KeptAreInOrder : Type 0
+KeptAreInOrder = (t : Terms) (count dropped : ℕ) (kept : List Record) (harts : List HartView) → Keeps t count dropped kept harts → AllByRecursion (λ v. is_over v.phase ≡ true) harts → late_edge harts 0 kept ≡ None → broken t count (dropped == 0) kept ≡ None
+
+abbrev pub EarlyAreNotLate : Type 0
+EarlyAreNotLate = (counts : ℕ → ℕ) (harts : List HartView) (start : ℕ) (rs : List Record) → EndsLast counts harts → AllByRecursion (IsEarly counts) rs → late_edge harts start rs ≡ None
+
+-- as many were given up as come before the kept ones
+dropped_is : (stream front back : List Record) → stream ≡ front ++ back → length stream - length back ≡ length front
+dropped_is stream front back e = omega (arith, ap length e, length-append front back)
+
+last_part : {X : Type 0} (P : X → Type 0) (xs ys : List X) → AllByRecursion P (xs ++ ys) → AllByRecursion P ys
+last_part P [] ys a = a
+last_part P (x ∷ xs) ys a = last_part P xs ys a.1
+
+pub kept_keeps : SuffixIsKept → FirstAreGivenUp → (c : RawSettings) (run : Run) (w : Written c run) → Keeps (terms_of c) c.harts (dropped_of c run) (kept_of c run) w.views
+kept_keeps suffix given c run w =
+    let part = suffix c.log_size run.stream in
+    let kp = given (terms_of c) c.harts 0 part.0 (kept_of c run) w.views (subst (λ (x : List Record). Keeps (terms_of c) c.harts 0 x w.views) part.1 w.keeps) in
+    let n : 0 + length part.0 ≡ dropped_of c run = omega (arith, dropped_is run.stream part.0 (kept_of c run) part.1) in
+    subst (λ (d : ℕ). Keeps (terms_of c) c.harts d (kept_of c run) w.views) n kp
+
+pub kept_early : SuffixIsKept → (c : RawSettings) (run : Run) → Written c run → AllByRecursion (IsEarly (counts_of run)) (kept_of c run)
+kept_early suffix c run w =
+    let part = suffix c.log_size run.stream in
+    last_part (IsEarly (counts_of run)) part.0 (kept_of c run) (subst (AllByRecursion (IsEarly (counts_of run))) part.1 w.early)
+
+pub kept_rules : SuffixIsKept → FirstAreGivenUp → KeptKeepRules → (c : RawSettings) (run : Run) → Written c run → KeepsRules c run
+kept_rules suffix given rules c run w =
+    let r = rules (terms_of c) c.harts (dropped_of c run) (kept_of c run) w.views (kept_keeps suffix given c run w) in
+    record { views = r.0; ran = r.1; early = kept_early suffix c run w }
+
+-- ---- where no hart is live
+
+either : (a b : Bool) → (a || b) ≡ false → (a ≡ false) × (b ≡ false)
+either false b x = (refl, x)
+either true b x = cc
+
+last_or_before : (j n : ℕ) → j < suc n → (j ≡ n) ⊎ (j < n)
+last_or_before j n h = elim (eqb_tells j n) [
+  | inl p ↦ inl p.1
+  | inr p ↦ inr (omega (arith, h, p.1))
+]
+
+none_live : (n : ℕ) (harts : ℕ → Hart) → any_live n harts ≡ false → (j : ℕ) → j < n → (harts j).live ≡ false
+none_live zero harts e j h = absurd (omega (arith, h))
+none_live (suc n) harts e j h =
+    let parts = either (harts n).live (any_live n harts) e in
+    elim (last_or_before j n h) [
+      | inl p ↦ subst (λ (x : ℕ). (harts x).live ≡ false) (sym p) parts.0
+      | inr p ↦ none_live n harts parts.1 j p
+    ]
+
+over_known : (b : Bool) → elim b as (λ x. Bool) [ true ↦ false | false ↦ true ] ≡ true → b ≡ false
+over_known true e = cc
+over_known false e = refl
+
+same_view : (v w : HartView) (o : Option HartView) → o ≡ Some v → o ≡ Some w → v ≡ w
+same_view v w o e f = let g : ◌≡◌ {A = Option HartView} (Some v) (Some w) = sym e ∙ f in cc
+
+all_over : (vs : Views) → ((j : ℕ) (v : HartView) → slice_get vs j ≡ Some v → is_over v.phase ≡ true) → AllByRecursion (λ v. is_over v.phase ≡ true) vs
+all_over [] each = tt
+all_over (v ∷ vs) each = (each 0 v refl, all_over vs (λ j w e. each (suc j) w e))
+
+get_within : {X : Type 0} (xs : List X) (j : ℕ) (x : X) → slice_get xs j ≡ Some x → j < length xs
+get_within [] j x e = cc
+get_within (y ∷ xs) zero x e = omega arith
+get_within (y ∷ xs) (suc j) x e = omega (arith, get_within xs j x e)
+
+-- the view of a hart that isn't live
+record Ended (ic : ℕ) (v : HartView) : Type 0 where
+  over : is_over v.phase ≡ true
+  last : v.last ≡ Some ic
+
+ended_at : (c : RawSettings) (run : Run) (known : Recording c run) → any_live c.harts run.harts ≡ false → (j : ℕ) (v : HartView) → slice_get known.views j ≡ Some v → Ended (counts_of run j) v
+ended_at c run known none j v e =
+    let within : j < c.harts = omega (arith, get_within known.views j v e, known.size) in
+    let done = (known.view j within).over (none_live c.harts run.harts none j within) in
+    subst (Ended (counts_of run j)) (same_view _ v (slice_get known.views j) done.is e) (record { over = refl; last = refl })
+
+ends_last : (c : RawSettings) (run : Run) (known : Recording c run) → any_live c.harts run.harts ≡ false → EndsLast (counts_of run) known.views
+ends_last c run known none s v last e l =
+    let end = (ended_at c run known none s v e).last in
+    let g : ◌≡◌ {A = Option ℕ} (Some (counts_of run s)) (Some last) = sym end ∙ l in
+    let same : counts_of run s ≡ last = cc in omega (arith, same)
+
+pub kept_in_order : SuffixIsKept → FirstAreGivenUp → KeptAreInOrder → EarlyAreNotLate → (c : RawSettings) (run : Run) → Recording c run → runs.is_over c run ≡ true → broken_by c (dropped_of c run) (kept_of c run) ≡ None
+kept_in_order suffix given order early c run known over =
+    let none = over_known (any_live c.harts run.harts) over in
+    let w = written c run known in
+    order (terms_of c) c.harts (dropped_of c run) (kept_of c run) known.views (kept_keeps suffix given c run w)
+    (all_over known.views (λ j v e. (ended_at c run known none j v e).over))
+    (early (counts_of run) known.views 0 (kept_of c run) (ends_last c run known none) (kept_early suffix c run w))

@@ -1,0 +1,109 @@
+-- A recording at its start: the Header of each hart's first interval.
+use Rattle.std.proofs.Common.{◌≡◌, ℕ, zero, suc, ◌+◌, ◌<◌, ◌≤◌, true, false, Some, None, List, [], ◌∷◌, ◌++◌, length, replicate, refl, sym, ◌∙◌, ap, subst, arith, append_assoc, inl, inr}
+use Rattle.std.specs.Prelude.{◌≢◌, ◌⊎◌, ◌==◌, slice_get}
+use Rattle.std.specs.List.{AllByRecursion}
+use Rattle.std.proofs.lemmas.Bool.Decides.{eqb_tells}
+use Rattle.std.proofs.lemmas.List.{append-nil}
+use Rattle.bn_base.specs.Programs.{Program}
+use Rattle.bn_base.specs.Ranges.{IsSetting}
+use Rattle.bn_base.specs.declared.settings.RawSettings.{RawSettings}
+use Rattle.bn_base.specs.declared.state.HartState.{HartState}
+use Rattle.log_record.specs.declared.record.Record.{Record}
+use Rattle.log_order.specs.declared.view.Terms.{Terms}
+use Rattle.log_order.specs.declared.view.HartView.{HartView}
+use Rattle.log_order.specs.declared.view.Phase.TheVariants.{Open}
+use Rattle.log_order.specs.Rules.{fresh}
+use Rattle.log_order.specs.Order.{terms_of}
+use Rattle.log_order.specs.Suffix.{Keeps, IsEarly}
+use Rattle.run_model.specs.Turn.{header}
+use Rattle.run_model.specs.Runs.{start, start_hart, start_state, first_headers}
+use Rattle.run_model.specs.Counts.{IsFit}
+use Rattle.file_laws.proofs.Views.{OrderLaws, Views, IsOpen, Took, took_one}
+use Rattle.file_laws.proofs.Nexts.{open_view}
+use Rattle.file_laws.proofs.Turns.{Recording}
+
+-- the law of a recorder that begins
+abbrev pub NoneAreKept : Type 0
+NoneAreKept = (t : Terms) (count : ℕ) → Keeps t count 0 [] (replicate count (fresh true))
+
+-- after the Headers of m harts from k on
+record Begins (c : RawSettings) (i : Program) (n : ℕ) (stream : List Record) (vs : Views) (k m : ℕ) : Type 0 where
+  views : Views
+  keeps : Keeps (terms_of c) n 0 (stream ++ first_headers c i k m) views
+  size : length views ≡ length vs
+  inside : (j : ℕ) → k ≤ j → j < k + m → IsOpen 1 0 0 (slice_get views j)
+  before : (j : ℕ) → j < k → slice_get views j ≡ slice_get vs j
+
+AreFresh : ℕ → ℕ → Views → Type 0
+AreFresh k m vs = (j : ℕ) → k ≤ j → j < k + m → slice_get vs j ≡ Some (fresh true)
+
+apart_of : (i j : ℕ) → i ≢ j → (i == j) ≡ false
+apart_of i j h = grind arith
+
+first_or_later : (i j m : ℕ) → j ≤ i → i < j + suc m → (i ≡ j) ⊎ ((j + 1 ≤ i) × (i < j + 1 + m))
+first_or_later i j m low high = elim (eqb_tells i j) [
+  | inl p ↦ inl p.1
+  | inr p ↦ inr (omega (arith, low, p.1), omega (arith, high))
+]
+
+begin_one : OrderLaws → (c : RawSettings) (i : Program) (n : ℕ) (stream : List Record) (vs : Views) (k : ℕ) → Keeps (terms_of c) n 0 stream vs → slice_get vs k ≡ Some (fresh true)
+    → Took (terms_of c) n stream vs k (header k 0 (start_state c i k) ∷ []) (IsOpen 1 0 0)
+begin_one laws c i n stream vs k kp e =
+    let opened : HartView = record { phase = Open 1 0; seen = 0; met = true; last = None } in
+    took_one laws.more (terms_of c) n stream vs k (header k 0 (start_state c i k)) (fresh true) opened (IsOpen 1 0 0) kp e
+    (laws.header (terms_of c) vs k 0 0 (start_state c i k).pc (start_state c i k).x 0 false None e (omega arith) (omega arith) (omega arith))
+    (record { seen = 0; met = true; last = None; is = refl; low = omega arith })
+
+begins : OrderLaws → (c : RawSettings) (i : Program) (n : ℕ) (stream : List Record) (vs : Views) (k m : ℕ) → Keeps (terms_of c) n 0 stream vs → AreFresh k m vs → Begins c i n stream vs k m
+unfolding AreFresh
+begins laws c i n stream vs k zero kp are = record {
+  views = vs;
+  keeps = subst (λ (x : List Record). Keeps (terms_of c) n 0 x vs) (sym (append-nil stream)) kp;
+  size = refl;
+  inside = λ j low high. absurd (omega (arith, low, high));
+  before = λ j low. refl;
+}
+begins laws c i n stream vs k (suc m) kp are =
+    let first : Record = header k 0 (start_state c i k) in
+    let one = begin_one laws c i n stream vs k kp (are k (omega arith) (omega arith)) in
+    let rest = begins laws c i n (stream ++ first ∷ []) one.views (k + 1) m one.keeps (λ j low high. one.others j (apart_of j k (omega (arith, low))) ∙ are j (omega (arith, low)) (omega (arith, high))) in
+    record {
+      views = rest.views;
+      keeps = subst (λ (x : List Record). Keeps (terms_of c) n 0 x rest.views) (append_assoc stream (first ∷ []) (first_headers c i (k + 1) m)) rest.keeps;
+      size = rest.size ∙ one.size;
+      inside = λ j low high. elim (first_or_later j k m low high) [
+        | inl p ↦ (let here : IsOpen 1 0 0 (slice_get rest.views k) = subst (IsOpen 1 0 0) (sym (rest.before k (omega arith))) one.own in subst (λ (x : ℕ). IsOpen 1 0 0 (slice_get rest.views x)) (sym p) here)
+        | inr p ↦ rest.inside j p.0 p.1
+      ];
+      before = λ j low. rest.before j (omega (arith, low)) ∙ one.others j (apart_of j k (omega (arith, low)));
+    }
+
+get_replicate : (n j : ℕ) (v : HartView) → j < n → slice_get (replicate n v) j ≡ Some v
+get_replicate zero j v h = absurd (omega (arith, h))
+get_replicate (suc n) zero v h = refl
+get_replicate (suc n) (suc j) v h = get_replicate n j v (omega (arith, h))
+
+length_replicate : (n : ℕ) (v : HartView) → length (replicate n v) ≡ n
+length_replicate zero v = refl
+length_replicate (suc n) v = ap suc (length_replicate n v)
+
+headers_early : (c : RawSettings) (i : Program) (counts : ℕ → ℕ) (k m : ℕ) → AllByRecursion (IsEarly counts) (first_headers c i k m)
+headers_early c i counts k zero = tt
+headers_early c i counts k (suc m) = (tt, headers_early c i counts (k + 1) m)
+
+pub fit_start : (c : RawSettings) (s : HartState) → s.ic ≡ 0 → 1 ≤ c.interval → IsFit c (start_hart s)
+fit_start c s e some = record { number = omega arith; skipped = omega (arith, e); interval = omega (arith, e); limit = omega (arith, e); unfilled = λ p. omega (arith, e, some) }
+
+pub started : OrderLaws → NoneAreKept → (c : RawSettings) (i : Program) (input : List ℕ) → IsSetting c → Recording c (start c i input)
+unfolding AreFresh
+started laws none c i input setting =
+    let begin = begins laws c i c.harts [] (replicate c.harts (fresh true)) 0 c.harts (none (terms_of c) c.harts) (λ j low high. get_replicate c.harts j (fresh true) (omega (arith, high))) in
+    record {
+      views = begin.views;
+      keeps = begin.keeps;
+      size = begin.size ∙ length_replicate c.harts (fresh true);
+      view = λ j within. open_view (start_hart (start_state c i j)) (slice_get begin.views j) refl (begin.inside j (omega arith) (omega (arith, within)));
+      fit = λ j. fit_start c (start_state c i j) refl setting.interval_low;
+      early = headers_early c i _ 0 c.harts;
+      points = λ m q e. cc;
+    }

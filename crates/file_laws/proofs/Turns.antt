@@ -1,0 +1,333 @@
+-- One turn of a recording: its records keep the rules, and leave the harts' views as the harts are.
+use Rattle.std.proofs.Common.{◌≡◌, ℕ, zero, suc, ◌+◌, ◌-◌, ◌<◌, ◌≤◌, ◌^◌, Bool, true, false, not, ◌&&◌, Option, Some, None, List, [], ◌∷◌, ◌++◌, length, refl, sym, ◌∙◌, ap, subst, arith, append_assoc, inl, inr}
+use Rattle.std.specs.Prelude.{◌==◌, slice_get}
+use Rattle.std.specs.List.{AllByRecursion}
+use Rattle.std.proofs.lemmas.Bool.Decides.{eqb_tells}
+use Rattle.std.proofs.lemmas.Grind.{common_steps}
+use Rattle.std.proofs.lemmas.List.{append-nil}
+use Rattle.bn_base.specs.Programs.{Program}
+use Rattle.bn_base.specs.Ranges.{IsSetting}
+use Rattle.bn_base.specs.declared.settings.RawSettings.{RawSettings}
+use Rattle.bn_base.specs.declared.state.HartState.{HartState}
+use Rattle.rv_meaning.specs.Execute.{absorbed}
+use Rattle.rv_meaning.specs.declared.asks.Ask.{Ask}
+use Rattle.rv_meaning.specs.declared.asks.Reply.{Reply}
+use Rattle.rv_meaning.specs.declared.asks.Reply.TheVariants as replies
+use Rattle.first_load_bits.specs.declared.warm.Warm.{Warm}
+use Rattle.first_load_bits.specs.declared.warm.Warm.TheVariants as answers
+use Rattle.system_calls.specs.declared.effect.Plan.{Plan}
+use Rattle.race_log.specs.Points.{Point}
+use Rattle.log_record.specs.declared.record.Record.{Record}
+use Rattle.log_record.specs.declared.record.Record.TheVariants.{Header, FirstLoad, ScOk, ScFailed, Edge, End}
+use Rattle.log_order.specs.Order.{terms_of}
+use Rattle.log_order.specs.Suffix.{Keeps, IsEarly}
+use Rattle.run_model.specs.declared.hart.Hart.{Hart}
+use Rattle.run_model.specs.declared.next.Next.{Next}
+use Rattle.run_model.specs.declared.next.Next.TheVariants.{GoesOn, NewInterval, HartOver, RunOver}
+use Rattle.run_model.specs.declared.span.Span.{Span}
+use Rattle.run_model.specs.Machine.{Answered, answer, call_of}
+use Rattle.run_model.specs.Turn.{Run, Served, serve, serve_orderly, served_if, after_ask, span_of, next_of, loading, warmth, skipped_after, word_before, budget, point_of, points_after, edge_records, load_record, sc_record, next_records, stopped_records, run_over_records, hart_after, other_after, harts_after, is_orderly, mark}
+use Rattle.run_model.specs.Counts.{IsFit, is_there, MovesOn, EachTurnMovesOn, EachTurnFits, OthersStayFit}
+use Rattle.file_laws.specs.Recorded.{counts_of}
+use Rattle.file_laws.proofs.Views.{OrderLaws, Views, IsOpen, IsView, Took, took_none, took_both, took_edges, took_load, took_conditional, open_later, AreSources}
+use Rattle.file_laws.proofs.Nexts.{EndsAs, IsWithin, next_ends, took_next}
+use Rattle.file_laws.proofs.Sources.{ListedEdges, ArePoints, sources_are, edges_early, points_go_on}
+use Rattle.file_laws.proofs.Stops.{stops}
+
+-- the laws that are used here
+pub record Laws : Type 0 where
+  pub order : OrderLaws
+  pub listed : ListedEdges
+  pub moves : EachTurnMovesOn
+  pub fits : EachTurnFits
+  pub others : OthersStayFit
+
+-- what holds of a run all of whose asks were orderly: the records keep the rules, and leave the view of each hart that the
+-- hart has
+pub record Recording (c : RawSettings) (run : Run) : Type 0 where
+  pub views : Views
+  pub keeps : Keeps (terms_of c) c.harts 0 run.stream views
+  pub size : length views ≡ c.harts
+  pub view : (j : ℕ) → j < c.harts → IsView (run.harts j) (slice_get views j)
+  pub fit : (j : ℕ) → IsFit c (run.harts j)
+  pub early : AllByRecursion (IsEarly (counts_of run)) run.stream
+  pub points : ArePoints c.harts (counts_of run) run.points
+
+-- ---- lists of early records
+
+pub all_both : {X : Type 0} (P : X → Type 0) (xs ys : List X) → AllByRecursion P xs → AllByRecursion P ys → AllByRecursion P (xs ++ ys)
+all_both P [] ys a b = b
+all_both P (x ∷ xs) ys a b = (a.0, all_both P xs ys a.1 b)
+
+early_one : (counts later : ℕ → ℕ) (r : Record) → ((s : ℕ) → counts s ≤ later s) → IsEarly counts r → IsEarly later r
+early_one counts later (Header h n ic pc x) on e = tt
+early_one counts later (FirstLoad h skip value) on e = tt
+early_one counts later (ScOk h) on e = tt
+early_one counts later (ScFailed h) on e = tt
+early_one counts later (Edge h ic s j) on e = omega (arith, e, on s)
+early_one counts later (End h mark) on e = tt
+
+pub early_later : (counts later : ℕ → ℕ) (rs : List Record) → ((s : ℕ) → counts s ≤ later s) → AllByRecursion (IsEarly counts) rs → AllByRecursion (IsEarly later) rs
+early_later counts later [] on a = tt
+early_later counts later (r ∷ rs) on a = (early_one counts later r on a.0, early_later counts later rs on a.1)
+
+load_early : (load : Option Warm) (counts : ℕ → ℕ) (k skipped word : ℕ) → AllByRecursion (IsEarly counts) (load_record load k skipped word)
+load_early (Some answers.Cold) counts k skipped word = (tt, tt)
+load_early (Some answers.Warm) counts k skipped word = tt
+load_early None counts k skipped word = tt
+
+conditional_early : (reply : Reply) (counts : ℕ → ℕ) (k : ℕ) → AllByRecursion (IsEarly counts) (sc_record reply k)
+conditional_early replies.ScOk counts k = (tt, tt)
+conditional_early replies.ScFailed counts k = (tt, tt)
+conditional_early reply counts k = tt
+
+next_early : (next : Next) (counts : ℕ → ℕ) (k number : ℕ) (s : HartState) → AllByRecursion (IsEarly counts) (next_records next k number s)
+next_early GoesOn counts k number s = tt
+next_early (NewInterval reason value) counts k number s = (tt, (tt, tt))
+next_early (HartOver reason value) counts k number s = (tt, tt)
+next_early (RunOver reason value) counts k number s = (tt, tt)
+
+stop_early : (b : Bool) (counts : ℕ → ℕ) (j ic : ℕ) (rs : List Record) → AllByRecursion (IsEarly counts) rs → AllByRecursion (IsEarly counts) (elim b as (λ x. List Record) [ true ↦ End j (mark ic 5 0) ∷ rs | false ↦ rs ])
+stop_early true counts j ic rs a = (tt, a)
+stop_early false counts j ic rs a = a
+
+stops_early : (counts : ℕ → ℕ) (k j n : ℕ) (harts : ℕ → Hart) → AllByRecursion (IsEarly counts) (stopped_records k j n harts)
+stops_early counts k j zero harts = tt
+stops_early counts k j (suc n) harts = stop_early (not (j == k) && (harts j).live) counts j (harts j).state.ic (stopped_records k (j + 1) n harts) (stops_early counts k (j + 1) n harts)
+
+over_early : (next : Next) (counts : ℕ → ℕ) (k n : ℕ) (harts : ℕ → Hart) → AllByRecursion (IsEarly counts) (run_over_records next k n harts)
+over_early (RunOver reason value) counts k n harts = stops_early counts k 0 n harts
+over_early GoesOn counts k n harts = tt
+over_early (NewInterval reason value) counts k n harts = tt
+over_early (HartOver reason value) counts k n harts = tt
+
+-- ---- the harts after a turn
+
+own_state : (next : Next) (s : HartState) (skipped : ℕ) (h : Hart) → (hart_after next s skipped h).state ≡ s
+own_state GoesOn s skipped h = refl
+own_state (NewInterval reason value) s skipped h = refl
+own_state (HartOver reason value) s skipped h = refl
+own_state (RunOver reason value) s skipped h = refl
+
+stopped_state : (b : Bool) (h : Hart) → (elim b as (λ x. Hart) [ true ↦ record h { live = false; mark = Some (mark h.state.ic 5 0) } | false ↦ h ]).state ≡ h.state
+stopped_state true h = refl
+stopped_state false h = refl
+
+other_state : (next : Next) (h : Hart) → (other_after next h).state ≡ h.state
+other_state GoesOn h = refl
+other_state (NewInterval reason value) h = refl
+other_state (HartOver reason value) h = refl
+other_state (RunOver reason value) h = stopped_state h.live h
+
+own_is : (next : Next) (k j : ℕ) (own : Hart) (harts : ℕ → Hart) → (j == k) ≡ true → harts_after next k own harts j ≡ own
+own_is next k j own harts e = ap (λ (b : Bool). elim b as (λ x. Hart) [ true ↦ own | false ↦ other_after next (harts j) ]) e
+
+other_is : (next : Next) (k j : ℕ) (own : Hart) (harts : ℕ → Hart) → (j == k) ≡ false → harts_after next k own harts j ≡ other_after next (harts j)
+other_is next k j own harts e = ap (λ (b : Bool). elim b as (λ x. Hart) [ true ↦ own | false ↦ other_after next (harts j) ]) e
+
+same_self : (k : ℕ) → (k == k) ≡ true
+same_self k = grind arith
+
+-- the hart whose turn it was, and the count of each hart
+abbrev own_hart : RawSettings → Run → ℕ → Ask → Next → HartState → Hart
+own_hart c run k ask next s = hart_after next s (skipped_after (warmth c (loading ask.want) (run.events k)) (run.harts k).skipped) (run.harts k)
+
+abbrev counts_after : RawSettings → Run → ℕ → Ask → Next → HartState → ℕ → ℕ
+counts_after c run k ask next s j = (harts_after next k (own_hart c run k ask next s) run.harts j).state.ic
+
+counts_go_on : (c : RawSettings) (run : Run) (k : ℕ) (ask : Ask) (next : Next) (s : HartState) → (run.harts k).state.ic ≤ s.ic → (j : ℕ) → counts_of run j ≤ counts_after c run k ask next s j
+counts_go_on c run k ask next s on j = elim (eqb_tells j k) [
+  | inl p ↦
+      let e = ap (λ (x : HartState). x.ic) (ap (λ (h : Hart). h.state) (own_is next k j (own_hart c run k ask next s) run.harts p.0) ∙ own_state next s (skipped_after (warmth c (loading ask.want) (run.events k)) (run.harts k).skipped) (run.harts k)) in
+      let old : counts_of run j ≡ counts_of run k = ap (counts_of run) p.1 in
+      omega (arith, e, old, on)
+  | inr p ↦
+      let e = ap (λ (x : HartState). x.ic) (ap (λ (h : Hart). h.state) (other_is next k j (own_hart c run k ask next s) run.harts p.0) ∙ other_state next (run.harts j)) in
+      omega (arith, e)
+]
+
+own_count : (c : RawSettings) (run : Run) (k : ℕ) (ask : Ask) (next : Next) (s : HartState) → counts_after c run k ask next s k ≡ s.ic
+own_count c run k ask next s = ap (λ (h : Hart). h.state.ic) (own_is next k k (own_hart c run k ask next s) run.harts (same_self k)) ∙ ap (λ (x : HartState). x.ic) (own_state next s (skipped_after (warmth c (loading ask.want) (run.events k)) (run.harts k).skipped) (run.harts k))
+
+-- ---- where the asking instruction is
+
+budget_interval : (c : RawSettings) (h : Hart) → budget c h ≤ c.interval - (h.state.ic - h.begun)
+budget_interval c h = grind (arith, common_steps)
+
+budget_limit : (c : RawSettings) (h : Hart) → budget c h ≤ c.limit - h.state.ic
+budget_limit c h = grind (arith, common_steps)
+
+turn_within : (c : RawSettings) (h : Hart) (asked after : ℕ) (next : Next) (span : Option Span) (load : Option ℕ) → IsFit c h → MovesOn c h asked after next span load → IsWithin c h after
+turn_within c h asked after next span load fit on = record {
+  low = omega (arith, fit.skipped, on.from, on.low);
+  high = omega (arith, on.high, budget_interval c h, fit.interval, fit.skipped);
+  limit = omega (arith, on.high, budget_limit c h, fit.limit);
+}
+
+-- ---- the records of a turn
+
+took_point : Laws → (c : RawSettings) (run : Run) (k ic : ℕ) (span : Option Span) (s : HartState) (asked : ℕ) (next : Next) (load : Option ℕ) (known : Recording c run) → IsSetting c → MovesOn c (run.harts k) asked s.ic next span load
+    → IsOpen ((run.harts k).number + 1) (run.harts k).begun (run.harts k).state.ic (slice_get known.views k)
+    → Took (terms_of c) c.harts run.stream known.views k (edge_records (point_of k asked run.turns span) run.points) (IsOpen ((run.harts k).number + 1) (run.harts k).begun s.ic)
+took_point laws c run k ic None s asked next load known setting on v =
+    took_none (terms_of c) c.harts run.stream known.views k (IsOpen ((run.harts k).number + 1) (run.harts k).begun s.ic) known.keeps
+    (open_later ((run.harts k).number + 1) (run.harts k).begun (run.harts k).state.ic s.ic (slice_get known.views k) (omega (arith, on.from, on.low)) v)
+took_point laws c run k ic (Some x) s asked next load known setting on v =
+    let h = run.harts k in
+    let up : s.ic ≡ asked + 1 = on.accessed refl in
+    let within = turn_within c h asked s.ic next (Some x) load (known.fit k) on in
+    let sources : AreSources c.harts c.limit k _ = sources_are laws.listed run.points _ c.harts c.limit (counts_of run) known.points (λ j. (known.fit j).limit) in
+    subst (λ (n : ℕ). Took (terms_of c) c.harts run.stream known.views k (edge_records (point_of k asked run.turns (Some x)) run.points) (IsOpen (h.number + 1) h.begun n)) (sym up)
+    (took_edges laws.order (terms_of c) c.harts run.stream known.views k asked (h.number + 1) h.begun _ known.keeps known.size
+    (open_later (h.number + 1) h.begun h.state.ic (asked + 1) (slice_get known.views k) (omega (arith, on.from)) v) sources
+    (omega (arith, up, within.limit)) (omega (arith, (known.fit k).skipped, on.from)) (omega (arith, up, within.high)))
+
+-- all records of the turn but those of the harts that it stops
+abbrev own_records : RawSettings → Run → ℕ → Ask → Reply → Option Span → Next → HartState → List Record
+own_records c run k ask reply span next s =
+    edge_records (point_of k ask.state.ic run.turns span) run.points
+    ++ (load_record (warmth c (loading ask.want) (run.events k)) k (run.harts k).skipped (word_before run.machine.memory (loading ask.want)) ++ (sc_record reply k ++ next_records next k (run.harts k).number s))
+
+took_turn : Laws → (c : RawSettings) (run : Run) (k : ℕ) (ask : Ask) (reply : Reply) (span : Option Span) (next : Next) (s : HartState) (known : Recording c run) → IsSetting c → k < c.harts → (run.harts k).live ≡ true
+    → MovesOn c (run.harts k) ask.state.ic s.ic next span (loading ask.want) → EndsAs c (run.harts k) s.ic next
+    → Took (terms_of c) c.harts run.stream known.views k (own_records c run k ask reply span next s) (IsView (own_hart c run k ask next s))
+took_turn laws c run k ask reply span next s known setting there live on so =
+    let h = run.harts k in
+    let t = terms_of c in
+    let n = c.harts in
+    let number = h.number + 1 in
+    let load = warmth c (loading ask.want) (run.events k) in
+    let word = word_before run.machine.memory (loading ask.want) in
+    let P = IsOpen number h.begun s.ic in
+    let within = turn_within c h ask.state.ic s.ic next span (loading ask.want) (known.fit k) on in
+    let edges = took_point laws c run k ask.state.ic span s ask.state.ic next (loading ask.want) known setting on ((known.view k there).in_interval live) in
+    let es : List Record = edge_records (point_of k ask.state.ic run.turns span) run.points in
+    let loads = took_load laws.order t n (run.stream ++ es) edges.views k s.ic number h.begun load h.skipped word edges.keeps edges.own in
+    let ls : List Record = load_record load k h.skipped word in
+    let conditionals = took_conditional laws.order t n ((run.stream ++ es) ++ ls) loads.views k s.ic number h.begun reply loads.keeps loads.own in
+    let cs : List Record = sc_record reply k in
+    let small : h.number < 2 ^ 41 = omega (arith, (known.fit k).number, within.low, within.limit, setting.limit_high) in
+    let last = took_next next laws.order c n (((run.stream ++ es) ++ ls) ++ cs) conditionals.views k h s (skipped_after load h.skipped) conditionals.keeps live small conditionals.own within so in
+    let Q = IsView (own_hart c run k ask next s) in
+    let ns : List Record = next_records next k h.number s in
+    took_both t n run.stream known.views k es (ls ++ (cs ++ ns)) P Q edges
+    (took_both t n (run.stream ++ es) edges.views k ls (cs ++ ns) P Q loads (took_both t n ((run.stream ++ es) ++ ls) loads.views k cs ns P Q conditionals last))
+
+-- ---- the run after a turn
+
+-- the records of the turn, and the views after them
+record Turned (c : RawSettings) (stream more : List Record) (harts : ℕ → Hart) : Type 0 where
+  views : Views
+  keeps : Keeps (terms_of c) c.harts 0 (stream ++ more) views
+  size : length views ≡ c.harts
+  view : (j : ℕ) → j < c.harts → IsView (harts j) (slice_get views j)
+
+-- the other harts' views stay where the run isn't over
+with_others : (c : RawSettings) (run : Run) (k : ℕ) (own : Hart) (next : Next) (known : Recording c run) (rs : List Record) → ((h : Hart) → other_after next h ≡ h)
+    → Took (terms_of c) c.harts run.stream known.views k rs (IsView own) → Turned c run.stream rs (harts_after next k own run.harts)
+with_others c run k own next known rs stay took = record {
+  views = took.views;
+  keeps = took.keeps;
+  size = took.size ∙ known.size;
+  view = λ j within. elim (eqb_tells j k) [
+    | inl p ↦ (let here : IsView own (slice_get took.views j) = subst (λ (x : ℕ). IsView own (slice_get took.views x)) (sym p.1) took.own in subst (λ (h : Hart). IsView h (slice_get took.views j)) (sym (own_is next k j own run.harts p.0)) here)
+    | inr p ↦ subst (λ (h : Hart). IsView h (slice_get took.views j)) (sym (other_is next k j own run.harts p.0 ∙ stay (run.harts j))) (subst (IsView (run.harts j)) (sym (took.others j p.0)) (known.view j within))
+  ];
+}
+
+-- where it is, the live ones are stopped
+with_stops : OrderLaws → (c : RawSettings) (run : Run) (k : ℕ) (own : Hart) (reason value : ℕ) (known : Recording c run) (rs : List Record) → Took (terms_of c) c.harts run.stream known.views k rs (IsView own)
+    → Turned c run.stream (rs ++ stopped_records k 0 c.harts run.harts) (harts_after (RunOver reason value) k own run.harts)
+with_stops laws c run k own reason value known rs took =
+    let next = RunOver reason value in
+    let stop = stops laws c c.harts (run.stream ++ rs) took.views k 0 c.harts run.harts took.keeps known.fit
+    (λ i low high apart. subst (IsView (run.harts i)) (sym (took.others i apart)) (known.view i (omega (arith, high)))) in record {
+      views = stop.views;
+      keeps = subst (λ (x : List Record). Keeps (terms_of c) c.harts 0 x stop.views) (append_assoc run.stream rs (stopped_records k 0 c.harts run.harts)) stop.keeps;
+      size = stop.size ∙ (took.size ∙ known.size);
+      view = λ j within. elim (eqb_tells j k) [
+        | inl p ↦
+            let here : IsView own (slice_get stop.views k) = subst (IsView own) (sym stop.own) took.own in
+            let there : IsView own (slice_get stop.views j) = subst (λ (x : ℕ). IsView own (slice_get stop.views x)) (sym p.1) here in
+            subst (λ (h : Hart). IsView h (slice_get stop.views j)) (sym (own_is next k j own run.harts p.0)) there
+        | inr p ↦ subst (λ (h : Hart). IsView h (slice_get stop.views j)) (sym (other_is next k j own run.harts p.0)) (stop.inside j (omega arith) (omega (arith, within)) p.0)
+      ];
+    }
+
+turned_by : (next : Next) → OrderLaws → (c : RawSettings) (run : Run) (k : ℕ) (own : Hart) (known : Recording c run) (rs : List Record) → Took (terms_of c) c.harts run.stream known.views k rs (IsView own)
+    → Turned c run.stream (rs ++ run_over_records next k c.harts run.harts) (harts_after next k own run.harts)
+turned_by (RunOver reason value) laws c run k own known rs took = with_stops laws c run k own reason value known rs took
+turned_by GoesOn laws c run k own known rs took = subst (λ (x : List Record). Turned c run.stream x (harts_after GoesOn k own run.harts)) (sym (append-nil rs)) (with_others c run k own GoesOn known rs (λ h. refl) took)
+turned_by (NewInterval reason value) laws c run k own known rs took = subst (λ (x : List Record). Turned c run.stream x (harts_after (NewInterval reason value) k own run.harts)) (sym (append-nil rs)) (with_others c run k own (NewInterval reason value) known rs (λ h. refl) took)
+turned_by (HartOver reason value) laws c run k own known rs took = subst (λ (x : List Record). Turned c run.stream x (harts_after (HartOver reason value) k own run.harts)) (sym (append-nil rs)) (with_others c run k own (HartOver reason value) known rs (λ h. refl) took)
+
+-- ---- the whole turn
+
+points_on : (span : Option Span) (k asked turn n : ℕ) (counts later : ℕ → ℕ) (points : List Point) → ArePoints n counts points → ((s : ℕ) → counts s ≤ later s) → k < n → (is_there span ≡ true → asked < later k)
+    → ArePoints n later (points_after (point_of k asked turn span) points)
+points_on None k asked turn n counts later points are on there below = λ m q e. (let old = are m q e in (old.0, omega (arith, old.1, on q.hart)))
+points_on (Some x) k asked turn n counts later points are on there below = points_go_on points _ n counts later are on there (below refl)
+
+fit_after : Laws → (c : RawSettings) (run : Run) (k : ℕ) (ask : Ask) (span : Option Span) (next : Next) (s : HartState) → IsSetting c → ((j : ℕ) → IsFit c (run.harts j)) → (run.harts k).live ≡ true
+    → MovesOn c (run.harts k) ask.state.ic s.ic next span (loading ask.want) → (j : ℕ) → IsFit c (harts_after next k (own_hart c run k ask next s) run.harts j)
+fit_after laws c run k ask span next s setting fit live on j = elim (eqb_tells j k) [
+  | inl p ↦ subst (IsFit c) (sym (own_is next k j (own_hart c run k ask next s) run.harts p.0)) (laws.fits c (run.harts k) ask.state.ic s next span (loading ask.want) (run.events k) setting.interval_low live (fit k) on).0
+  | inr p ↦ subst (IsFit c) (sym (other_is next k j (own_hart c run k ask next s) run.harts p.0)) (laws.others c (run.harts j) next (fit j)).0
+]
+
+-- the records of the turn are early
+turn_early : Laws → (c : RawSettings) (run : Run) (k : ℕ) (ask : Ask) (reply : Reply) (span : Option Span) (next : Next) (s : HartState) (later : ℕ → ℕ) → Recording c run → ((j : ℕ) → counts_of run j ≤ later j)
+    → AllByRecursion (IsEarly later) (own_records c run k ask reply span next s ++ run_over_records next k c.harts run.harts)
+turn_early laws c run k ask reply span next s later known on =
+    let es = edge_records (point_of k ask.state.ic run.turns span) run.points in
+    let load = warmth c (loading ask.want) (run.events k) in
+    let ls = load_record load k (run.harts k).skipped (word_before run.machine.memory (loading ask.want)) in
+    let cs = sc_record reply k in
+    let ns = next_records next k (run.harts k).number s in
+    let E = IsEarly later in
+    all_both E (es ++ (ls ++ (cs ++ ns))) (run_over_records next k c.harts run.harts)
+    (all_both E es (ls ++ (cs ++ ns)) (edges_early laws.listed (point_of k ask.state.ic run.turns span) run.points c.harts c.limit (counts_of run) later known.points (λ j. (known.fit j).limit) on)
+    (all_both E ls (cs ++ ns) (load_early load later k (run.harts k).skipped (word_before run.machine.memory (loading ask.want)))
+    (all_both E cs ns (conditional_early reply later k) (next_early next later k (run.harts k).number s))))
+    (over_early next later k c.harts run.harts)
+
+regrouped : (e l s n o : List Record) → (e ++ (l ++ (s ++ n))) ++ o ≡ e ++ (l ++ (s ++ (n ++ o)))
+regrouped e l s n o = append_assoc e (l ++ (s ++ n)) o ∙ ap (λ (x : List Record). e ++ x) (append_assoc l (s ++ n) o ∙ ap (λ (x : List Record). l ++ x) (append_assoc s n o))
+
+after_kept : Laws → (c : RawSettings) (run : Run) (k : ℕ) (ask : Ask) (call : Option Plan) (answered : Answered) (span : Option Span) (next : Next) (s : HartState) → IsSetting c → Recording c run → k < c.harts → (run.harts k).live ≡ true
+    → MovesOn c (run.harts k) ask.state.ic s.ic next span (loading ask.want) → EndsAs c (run.harts k) s.ic next → Recording c (after_ask c run k ask call answered span next s)
+after_kept laws c run k ask call answered span next s setting known there live on so =
+    let own : Hart = own_hart c run k ask next s in
+    let later = counts_after c run k ask next s in
+    let rs : List Record = own_records c run k ask answered.reply span next s in
+    let os : List Record = run_over_records next k c.harts run.harts in
+    let count_on = counts_go_on c run k ask next s (omega (arith, on.from, on.low)) in
+    let took = took_turn laws c run k ask answered.reply span next s known setting there live on so in
+    let turned = turned_by next laws.order c run k own known rs took in
+    let regroup = regrouped (edge_records (point_of k ask.state.ic run.turns span) run.points) (load_record (warmth c (loading ask.want) (run.events k)) k (run.harts k).skipped (word_before run.machine.memory (loading ask.want))) (sc_record answered.reply k) (next_records next k (run.harts k).number s) os in
+    record {
+      views = turned.views;
+      keeps = subst (λ (x : List Record). Keeps (terms_of c) c.harts 0 (run.stream ++ x) turned.views) regroup turned.keeps;
+      size = turned.size;
+      view = turned.view;
+      fit = fit_after laws c run k ask span next s setting known.fit live on;
+      early = subst (λ (x : List Record). AllByRecursion (IsEarly later) (run.stream ++ x)) regroup
+          (all_both (IsEarly later) run.stream (rs ++ os) (early_later (counts_of run) later run.stream count_on known.early) (turn_early laws c run k ask answered.reply span next s later known count_on));
+      points = points_on span k ask.state.ic run.turns c.harts (counts_of run) later run.points known.points count_on there (λ p. omega (arith, on.accessed p, own_count c run k ask next s));
+    }
+
+served : (c : RawSettings) (i : Program) (run : Run) (k : ℕ) (ask : Ask) → is_orderly c i (run.harts k) ask ≡ true → serve c i run k ask ≡ serve_orderly c i run k ask
+unfolding serve
+served c i run k ask o = ap (λ (b : Bool). served_if b c i run k ask) o
+
+-- a live hart's orderly ask is recorded
+pub turn_kept : Laws → (c : RawSettings) (i : Program) (run : Run) (k : ℕ) (ask : Ask) → IsSetting c → Recording c run → k < c.harts → (run.harts k).live ≡ true → is_orderly c i (run.harts k) ask ≡ true → Recording c (serve c i run k ask).run
+turn_kept laws c i run k ask setting known there live o =
+    let h = run.harts k in
+    let call : Option Plan = call_of i run.machine ask.want in
+    let answered : Answered = answer c call run.machine k ask in
+    let s : HartState = absorbed ask answered.reply in
+    let next : Next = next_of c call h ask.want answered.reply s.ic in
+    let on = laws.moves c i run.machine h k ask (omega (arith, setting.limit_high)) (known.fit k) live o in
+    let so = next_ends call c h ask.want answered.reply s.ic setting.interval_low in
+    subst (λ (x : Served). Recording c x.run) (sym (served c i run k ask o)) (after_kept laws c run k ask call answered (span_of call ask.want answered.reply) next s setting known there live on so)

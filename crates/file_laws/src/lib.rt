@@ -1,0 +1,57 @@
+//! Laws of log files: what a recording keeps obeys the order of records, so its file is one that is
+//! read. These functions do nothing: their contracts are theorems over the definitions of
+//! `run_model` and `log_order`.
+#![tactic(auto)]
+
+ghost use Rattle.file_laws.specs.Laws.{KeptRecordsKeepTheRules, FinishedLogsAreInOrder};
+
+use log_order::laws::{
+    an_awaited_header_follows, an_edge_follows, an_end_follows, early_edges_are_not_late,
+    kept_records_are_in_order, kept_records_keep_the_rules, loads_and_conditionals_follow,
+    no_records_are_kept, one_more_is_kept, the_first_are_given_up,
+};
+use log_ring::laws::a_suffix_is_kept;
+use race_log::listed_edges_are_all;
+use run_model::{each_turn_fits, each_turn_moves_on, others_stay_fit};
+
+/// At all times the kept records keep the rules of single records, and each kept Edge comes from an
+/// instruction that its source has done: after any rows, each of which had a live hart and the
+/// machine's reply, also where an ask was not one that its hart could make.
+pub fn kept_records_keep_their_rules()
+    ensures { KeptRecordsKeepTheRules }
+{
+    each_turn_moves_on();
+    each_turn_fits();
+    others_stay_fit();
+    listed_edges_are_all();
+    a_suffix_is_kept();
+    no_records_are_kept();
+    one_more_is_kept();
+    the_first_are_given_up();
+    an_awaited_header_follows();
+    loads_and_conditionals_follow();
+    an_edge_follows();
+    an_end_follows();
+    kept_records_keep_the_rules();
+}
+
+/// Where each ask was one that its hart could make, and no hart is live any more, the kept records
+/// keep all rules of the order of records.
+pub fn finished_logs_are_in_order()
+    ensures { FinishedLogsAreInOrder }
+{
+    each_turn_moves_on();
+    each_turn_fits();
+    others_stay_fit();
+    listed_edges_are_all();
+    a_suffix_is_kept();
+    no_records_are_kept();
+    one_more_is_kept();
+    the_first_are_given_up();
+    an_awaited_header_follows();
+    loads_and_conditionals_follow();
+    an_edge_follows();
+    an_end_follows();
+    kept_records_are_in_order();
+    early_edges_are_not_late();
+}
