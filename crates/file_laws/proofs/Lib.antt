@@ -5,3 +5,9 @@ pub mod Stops
 pub mod Turns
 pub mod Rows
 pub mod Starts
+pub mod Machines
+pub mod Few
+pub mod Fields
+pub mod Contents
+pub mod Asks
+pub mod Words

@@ -32,6 +32,7 @@ pub record EndsSo (c : RawSettings) (h : Hart) (ic reason : ℕ) (on : Bool) : T
   pub full : reason ≡ 1 → h.begun + c.interval ≤ ic
   pub limit : reason ≡ 7 → c.limit ≤ ic
   pub kind : (reason == 1 || reason == 2) ≡ on
+  pub small : reason < 256
 
 abbrev pub EndsAs : RawSettings → Hart → ℕ → Next → Type 0
 EndsAs c h ic GoesOn = Unit {0}
@@ -40,8 +41,8 @@ EndsAs c h ic (HartOver reason value) = EndsSo c h ic reason false
 EndsAs c h ic (RunOver reason value) = EndsSo c h ic reason false
 
 -- an end for a reason that neither a full interval nor the limit gives
-plain_end : (c : RawSettings) (h : Hart) (ic reason : ℕ) (on : Bool) → (reason ≡ 1 → ⊥) → (reason ≡ 7 → ⊥) → (reason == 1 || reason == 2) ≡ on → EndsSo c h ic reason on
-plain_end c h ic reason on f g e = record { full = λ p. absurd (f p); limit = λ p. absurd (g p); kind = e }
+plain_end : (c : RawSettings) (h : Hart) (ic reason : ℕ) (on : Bool) → (reason ≡ 1 → ⊥) → (reason ≡ 7 → ⊥) → (reason == 1 || reason == 2) ≡ on → reason < 256 → EndsSo c h ic reason on
+plain_end c h ic reason on f g e small = record { full = λ p. absurd (f p); limit = λ p. absurd (g p); kind = e; small = small }
 
 le_of : (a b : ℕ) → nat_le a b ≡ true → a ≤ b
 le_of a b e = grind arith
@@ -51,25 +52,25 @@ full_at b n ic some e = omega (arith, some, le_of n (ic - b) e)
 
 count_ends : (c : RawSettings) (h : Hart) (ic : ℕ) (end full : Bool) → nat_le c.limit ic ≡ end → nat_le c.interval (ic - h.begun) ≡ full → 1 ≤ c.interval
     → EndsAs c h ic (elim end as (λ x. Next) [ true ↦ HartOver 7 0 | false ↦ elim full as (λ x. Next) [ true ↦ NewInterval 1 0 | false ↦ GoesOn ] ])
-count_ends c h ic true full e f some = record { full = λ p. absurd cc; limit = λ p. le_of c.limit ic e; kind = refl }
-count_ends c h ic false true e f some = record { full = λ p. full_at h.begun c.interval ic some f; limit = λ p. absurd cc; kind = refl }
+count_ends c h ic true full e f some = record { full = λ p. absurd cc; limit = λ p. le_of c.limit ic e; kind = refl; small = omega arith }
+count_ends c h ic false true e f some = record { full = λ p. full_at h.begun c.interval ic some f; limit = λ p. absurd cc; kind = refl; small = omega arith }
 count_ends c h ic false false e f some = tt
 
 fault_ends : (kind : Fault) (c : RawSettings) (h : Hart) (ic : ℕ) → EndsSo c h ic (16 + fault_number kind) false
-fault_ends Illegal c h ic = plain_end c h ic 17 false (λ p. cc) (λ p. cc) refl
-fault_ends Breakpoint c h ic = plain_end c h ic 18 false (λ p. cc) (λ p. cc) refl
-fault_ends FetchOutside c h ic = plain_end c h ic 19 false (λ p. cc) (λ p. cc) refl
-fault_ends TargetMisaligned c h ic = plain_end c h ic 20 false (λ p. cc) (λ p. cc) refl
-fault_ends LoadOutside c h ic = plain_end c h ic 21 false (λ p. cc) (λ p. cc) refl
-fault_ends LoadMisaligned c h ic = plain_end c h ic 22 false (λ p. cc) (λ p. cc) refl
-fault_ends StoreOutside c h ic = plain_end c h ic 23 false (λ p. cc) (λ p. cc) refl
-fault_ends StoreMisaligned c h ic = plain_end c h ic 24 false (λ p. cc) (λ p. cc) refl
-fault_ends StoreReadOnly c h ic = plain_end c h ic 25 false (λ p. cc) (λ p. cc) refl
+fault_ends Illegal c h ic = plain_end c h ic 17 false (λ p. cc) (λ p. cc) refl (omega arith)
+fault_ends Breakpoint c h ic = plain_end c h ic 18 false (λ p. cc) (λ p. cc) refl (omega arith)
+fault_ends FetchOutside c h ic = plain_end c h ic 19 false (λ p. cc) (λ p. cc) refl (omega arith)
+fault_ends TargetMisaligned c h ic = plain_end c h ic 20 false (λ p. cc) (λ p. cc) refl (omega arith)
+fault_ends LoadOutside c h ic = plain_end c h ic 21 false (λ p. cc) (λ p. cc) refl (omega arith)
+fault_ends LoadMisaligned c h ic = plain_end c h ic 22 false (λ p. cc) (λ p. cc) refl (omega arith)
+fault_ends StoreOutside c h ic = plain_end c h ic 23 false (λ p. cc) (λ p. cc) refl (omega arith)
+fault_ends StoreMisaligned c h ic = plain_end c h ic 24 false (λ p. cc) (λ p. cc) refl (omega arith)
+fault_ends StoreReadOnly c h ic = plain_end c h ic 25 false (λ p. cc) (λ p. cc) refl (omega arith)
 
 call_ends : (plan : Plan) (reply : Reply) (c : RawSettings) (h : Hart) (ic : ℕ) → EndsAs c h ic (after_call plan reply)
-call_ends (plans.EndHart v) reply c h ic = plain_end c h ic 3 false (λ p. cc) (λ p. cc) refl
-call_ends (plans.EndRun v) reply c h ic = plain_end c h ic 4 false (λ p. cc) (λ p. cc) refl
-call_ends plan (replies.Answer v) c h ic = plain_end c h ic 2 true (λ p. cc) (λ p. cc) refl
+call_ends (plans.EndHart v) reply c h ic = plain_end c h ic 3 false (λ p. cc) (λ p. cc) refl (omega arith)
+call_ends (plans.EndRun v) reply c h ic = plain_end c h ic 4 false (λ p. cc) (λ p. cc) refl (omega arith)
+call_ends plan (replies.Answer v) c h ic = plain_end c h ic 2 true (λ p. cc) (λ p. cc) refl (omega arith)
 call_ends plan reply c h ic = tt
 
 -- what comes after a turn ends the interval so

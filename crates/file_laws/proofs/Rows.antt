@@ -28,11 +28,11 @@ use Rattle.file_laws.specs.Recorded.{are_orderly, counts_of, KeepsRules}
 use Rattle.file_laws.proofs.Views.{Views}
 use Rattle.file_laws.proofs.Turns.{Laws, Recording, turn_kept}
 
-both : (a b : Bool) → (a && b) ≡ true → (a ≡ true) × (b ≡ true)
+pub both : (a b : Bool) → (a && b) ≡ true → (a ≡ true) × (b ≡ true)
 both true b e = (refl, e)
 both false b e = cc
 
-below_of : (a b : ℕ) → nat_lt a b ≡ true → a < b
+pub below_of : (a b : ℕ) → nat_lt a b ≡ true → a < b
 below_of a b e = grind arith
 
 -- what holds at all times
@@ -101,10 +101,10 @@ abbrev pub EarlyAreNotLate : Type 0
 EarlyAreNotLate = (counts : ℕ → ℕ) (harts : List HartView) (start : ℕ) (rs : List Record) → EndsLast counts harts → AllByRecursion (IsEarly counts) rs → late_edge harts start rs ≡ None
 
 -- as many were given up as come before the kept ones
-dropped_is : (stream front back : List Record) → stream ≡ front ++ back → length stream - length back ≡ length front
+pub dropped_is : (stream front back : List Record) → stream ≡ front ++ back → length stream - length back ≡ length front
 dropped_is stream front back e = omega (arith, ap length e, length-append front back)
 
-last_part : {X : Type 0} (P : X → Type 0) (xs ys : List X) → AllByRecursion P (xs ++ ys) → AllByRecursion P ys
+pub last_part : {X : Type 0} (P : X → Type 0) (xs ys : List X) → AllByRecursion P (xs ++ ys) → AllByRecursion P ys
 last_part P [] ys a = a
 last_part P (x ∷ xs) ys a = last_part P xs ys a.1
 

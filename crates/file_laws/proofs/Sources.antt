@@ -31,7 +31,7 @@ some_same : {X : Type 0} (x y : X) (o : Option X) → o ≡ Some x → o ≡ Som
 some_same {X = X} x y o e f = let g : ◌≡◌ {A = Option X} (Some x) (Some y) = sym e ∙ f in cc
 
 -- each contained number has the property
-all_contained : (P : ℕ → Type 0) (ms : List ℕ) → ((m : ℕ) → Contains ms m → P m) → AllByRecursion P ms
+pub all_contained : (P : ℕ → Type 0) (ms : List ℕ) → ((m : ℕ) → Contains ms m → P m) → AllByRecursion P ms
 all_contained P [] each = tt
 all_contained P (m ∷ ms) each = (each m (0, omega arith, refl), all_contained P ms (λ n has. each n (suc has.0, omega (arith, has.1), has.2)))
 

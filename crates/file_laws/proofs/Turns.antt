@@ -103,7 +103,7 @@ over_early (HartOver reason value) counts k n harts = tt
 
 -- ---- the harts after a turn
 
-own_state : (next : Next) (s : HartState) (skipped : ℕ) (h : Hart) → (hart_after next s skipped h).state ≡ s
+pub own_state : (next : Next) (s : HartState) (skipped : ℕ) (h : Hart) → (hart_after next s skipped h).state ≡ s
 own_state GoesOn s skipped h = refl
 own_state (NewInterval reason value) s skipped h = refl
 own_state (HartOver reason value) s skipped h = refl
@@ -113,23 +113,23 @@ stopped_state : (b : Bool) (h : Hart) → (elim b as (λ x. Hart) [ true ↦ rec
 stopped_state true h = refl
 stopped_state false h = refl
 
-other_state : (next : Next) (h : Hart) → (other_after next h).state ≡ h.state
+pub other_state : (next : Next) (h : Hart) → (other_after next h).state ≡ h.state
 other_state GoesOn h = refl
 other_state (NewInterval reason value) h = refl
 other_state (HartOver reason value) h = refl
 other_state (RunOver reason value) h = stopped_state h.live h
 
-own_is : (next : Next) (k j : ℕ) (own : Hart) (harts : ℕ → Hart) → (j == k) ≡ true → harts_after next k own harts j ≡ own
+pub own_is : (next : Next) (k j : ℕ) (own : Hart) (harts : ℕ → Hart) → (j == k) ≡ true → harts_after next k own harts j ≡ own
 own_is next k j own harts e = ap (λ (b : Bool). elim b as (λ x. Hart) [ true ↦ own | false ↦ other_after next (harts j) ]) e
 
-other_is : (next : Next) (k j : ℕ) (own : Hart) (harts : ℕ → Hart) → (j == k) ≡ false → harts_after next k own harts j ≡ other_after next (harts j)
+pub other_is : (next : Next) (k j : ℕ) (own : Hart) (harts : ℕ → Hart) → (j == k) ≡ false → harts_after next k own harts j ≡ other_after next (harts j)
 other_is next k j own harts e = ap (λ (b : Bool). elim b as (λ x. Hart) [ true ↦ own | false ↦ other_after next (harts j) ]) e
 
 same_self : (k : ℕ) → (k == k) ≡ true
 same_self k = grind arith
 
 -- the hart whose turn it was, and the count of each hart
-abbrev own_hart : RawSettings → Run → ℕ → Ask → Next → HartState → Hart
+abbrev pub own_hart : RawSettings → Run → ℕ → Ask → Next → HartState → Hart
 own_hart c run k ask next s = hart_after next s (skipped_after (warmth c (loading ask.want) (run.events k)) (run.harts k).skipped) (run.harts k)
 
 abbrev counts_after : RawSettings → Run → ℕ → Ask → Next → HartState → ℕ → ℕ
@@ -157,7 +157,7 @@ budget_interval c h = grind (arith, common_steps)
 budget_limit : (c : RawSettings) (h : Hart) → budget c h ≤ c.limit - h.state.ic
 budget_limit c h = grind (arith, common_steps)
 
-turn_within : (c : RawSettings) (h : Hart) (asked after : ℕ) (next : Next) (span : Option Span) (load : Option ℕ) → IsFit c h → MovesOn c h asked after next span load → IsWithin c h after
+pub turn_within : (c : RawSettings) (h : Hart) (asked after : ℕ) (next : Next) (span : Option Span) (load : Option ℕ) → IsFit c h → MovesOn c h asked after next span load → IsWithin c h after
 turn_within c h asked after next span load fit on = record {
   low = omega (arith, fit.skipped, on.from, on.low);
   high = omega (arith, on.high, budget_interval c h, fit.interval, fit.skipped);
@@ -316,7 +316,7 @@ after_kept laws c run k ask call answered span next s setting known there live o
       points = points_on span k ask.state.ic run.turns c.harts (counts_of run) later run.points known.points count_on there (λ p. omega (arith, on.accessed p, own_count c run k ask next s));
     }
 
-served : (c : RawSettings) (i : Program) (run : Run) (k : ℕ) (ask : Ask) → is_orderly c i (run.harts k) ask ≡ true → serve c i run k ask ≡ serve_orderly c i run k ask
+pub served : (c : RawSettings) (i : Program) (run : Run) (k : ℕ) (ask : Ask) → is_orderly c i (run.harts k) ask ≡ true → serve c i run k ask ≡ serve_orderly c i run k ask
 unfolding serve
 served c i run k ask o = ap (λ (b : Bool). served_if b c i run k ask) o
 

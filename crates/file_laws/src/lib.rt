@@ -3,16 +3,18 @@
 //! `run_model` and `log_order`.
 #![tactic(auto)]
 
-ghost use Rattle.file_laws.specs.Laws.{KeptRecordsKeepTheRules, FinishedLogsAreInOrder};
+ghost use Rattle.file_laws.specs.Laws.{KeptRecordsKeepTheRules, FinishedLogsAreInOrder, LogsAreContents};
 
 use log_order::laws::{
     an_awaited_header_follows, an_edge_follows, an_end_follows, early_edges_are_not_late,
     kept_records_are_in_order, kept_records_keep_the_rules, loads_and_conditionals_follow,
     no_records_are_kept, one_more_is_kept, the_first_are_given_up,
 };
-use log_ring::laws::a_suffix_is_kept;
+use log_ring::laws::{a_suffix_is_kept, kept_records_fit};
 use race_log::listed_edges_are_all;
+use run_laws::runs_end;
 use run_model::{each_turn_fits, each_turn_moves_on, others_stay_fit};
+use rv_meaning::{each_ask_is_orderly, registers_stay_words};
 
 /// At all times the kept records keep the rules of single records, and each kept Edge comes from an
 /// instruction that its source has done: after any rows, each of which had a live hart and the
@@ -45,6 +47,31 @@ pub fn finished_logs_are_in_order()
     others_stay_fit();
     listed_edges_are_all();
     a_suffix_is_kept();
+    no_records_are_kept();
+    one_more_is_kept();
+    the_first_are_given_up();
+    an_awaited_header_follows();
+    loads_and_conditionals_follow();
+    an_edge_follows();
+    an_end_follows();
+    kept_records_are_in_order();
+    early_edges_are_not_late();
+}
+
+/// What is kept of the run of each list of turns that is legal and finished is what a log can say:
+/// the records fit their fields and the log, they are in order, and their numbers are in range.
+pub fn logs_are_contents()
+    ensures { LogsAreContents }
+{
+    each_ask_is_orderly();
+    registers_stay_words();
+    each_turn_moves_on();
+    each_turn_fits();
+    others_stay_fit();
+    runs_end();
+    listed_edges_are_all();
+    a_suffix_is_kept();
+    kept_records_fit();
     no_records_are_kept();
     one_more_is_kept();
     the_first_are_given_up();

@@ -1,0 +1,236 @@
+-- What is kept of a recording is what a log says.
+use Rattle.std.proofs.Common.{◌≡◌, ℕ, zero, suc, ◌+◌, ◌-◌, ◌*◌, ◌%◌, ◌<◌, ◌≤◌, ◌^◌, Bool, true, false, nat_lt, Option, Some, None, List, [], ◌∷◌, ◌++◌, length, replicate, set, refl, sym, ◌∙◌, ap, subst, arith, inl, inr, mod-lt, pow_pos, mul-le-mul}
+use Rattle.std.specs.Prelude.{slice_set, IsTrue}
+use Rattle.std.specs.List.{AllByRecursion}
+use Rattle.std.proofs.lemmas.Bool.Decides.{eqb_tells}
+use Rattle.std.proofs.lemmas.List.{length-append}
+use Rattle.bn_base.specs.Programs.{Program}
+use Rattle.bn_base.specs.Ranges.{IsSetting}
+use Rattle.bn_base.specs.declared.settings.RawSettings.{RawSettings}
+use Rattle.bn_base.specs.declared.state.HartState.{HartState}
+use Rattle.rv_meaning.specs.Execute.{ask_of, absorbed}
+use Rattle.rv_meaning.specs.Orderly.{orderly, passes, is_counted}
+use Rattle.rv_meaning.specs.WordStates.{AreWords}
+use Rattle.rv_meaning.specs.declared.asks.Ask.{Ask}
+use Rattle.system_calls.specs.declared.effect.Plan.{Plan}
+use Rattle.race_log.specs.Points.{Point}
+use Rattle.log_record.specs.declared.record.Record.{Record}
+use Rattle.log_record.specs.Spelling.{Fits, total}
+use Rattle.log_order.specs.Content.{IsContent}
+use Rattle.log_order.specs.Order.{broken_by}
+use Rattle.log_ring.specs.Kept.{kept}
+use Rattle.run_model.specs.declared.hart.Hart.{Hart}
+use Rattle.run_model.specs.declared.next.Next.{Next}
+use Rattle.run_model.specs.declared.span.Span.{Span}
+use Rattle.run_model.specs.Machine.{Answered, answer, call_of}
+use Rattle.run_model.specs.Turn.{Run, Served, turn, ask_at, after_ask, span_of, next_of, loading, warmth, word_before, budget, point_of, edge_records, load_record, sc_record, next_records, run_over_records, harts_after, is_orderly}
+use Rattle.run_model.specs.Runs.{start, start_state, first_headers, run_from, legal_from, is_live, most_turns}
+use Rattle.run_model.specs.Counts.{IsFit, MovesOn}
+use Rattle.run_model.specs.Files.{kept_of, dropped_of, content_of}
+use Rattle.file_laws.specs.Given.{IsImage}
+use Rattle.file_laws.specs.Recorded.{counts_of}
+use Rattle.file_laws.proofs.Asks.{StepsKeepWords, asks_well}
+use Rattle.file_laws.proofs.Machines.{HoldsMachine, IsWordState, EndIsWord, answer_well, state_after, end_word, code_words, first_words, heap_word}
+use Rattle.file_laws.proofs.Nexts.{EndsAs, next_ends}
+use Rattle.file_laws.proofs.Few.{EdgesFall, few_edges}
+use Rattle.file_laws.proofs.Fields.{header_fits, edge_records_fit, load_fits, conditional_fits, next_fits, over_fits, load_few, conditional_few, next_few, over_few}
+use Rattle.file_laws.proofs.Turns.{Laws, Recording, all_both, own_hart, own_is, other_is, own_state, other_state, turn_within, served, turn_kept}
+use Rattle.file_laws.proofs.Rows.{SuffixIsKept, both, below_of, last_part}
+
+abbrev pub AsksAreOrderly : Type 0
+AsksAreOrderly = (i : Program) (b : ℕ) (s : HartState) → s.ic + b < 2 ^ 64 → IsTrue (orderly i s.ic b (ask_of i b s))
+
+-- the laws that are used here
+pub record AllLaws : Type 0 where
+  pub turns : Laws
+  pub asks : AsksAreOrderly
+  pub keep : StepsKeepWords
+  pub fall : EdgesFall
+
+-- what holds of a run of the harts' own asks: its numbers are words, and the records fit their fields and are few
+pub record Worded (c : RawSettings) (run : Run) : Type 0 where
+  pub states : (k : ℕ) → k < c.harts → IsWordState (run.harts k).state
+  pub machine : HoldsMachine run.machine
+  pub fits : AllByRecursion Fits run.stream
+  pub few : length run.stream ≤ 8 + 20 * run.turns
+
+-- ---- a turn
+
+word_loaded : (load : Option ℕ) (memory : ℕ → ℕ) → ((a : ℕ) → memory a < 2 ^ 32) → word_before memory load < 2 ^ 32
+word_loaded None memory words = omega arith
+word_loaded (Some a) memory words = words a
+
+own_point : (span : Option Span) (k asked turns : ℕ) (p : Point) → point_of k asked turns span ≡ Some p → k < 256 → asked < 2 ^ 64 → (p.hart < 256) × (p.count < 2 ^ 64)
+own_point None k asked turns p e small low = cc
+own_point (Some x) k asked turns p e small low = let hart : k ≡ p.hart = hart_of_some _ p e in let count : asked ≡ p.count = count_of_some _ p e in (omega (arith, hart, small), omega (arith, count, low))
+  where
+    same_point : (q r : Point) → ◌≡◌ {A = Option Point} (Some q) (Some r) → q ≡ r
+    same_point q r e = cc
+
+    hart_of_some : (q r : Point) → ◌≡◌ {A = Option Point} (Some q) (Some r) → q.hart ≡ r.hart
+    hart_of_some q r e = ap (λ (x : Point). x.hart) (same_point q r e)
+
+    count_of_some : (q r : Point) → ◌≡◌ {A = Option Point} (Some q) (Some r) → q.count ≡ r.count
+    count_of_some q r e = ap (λ (x : Point). x.count) (same_point q r e)
+
+states_on : (c : RawSettings) (run : Run) (k : ℕ) (ask : Ask) (next : Next) (s : HartState) → ((j : ℕ) → j < c.harts → IsWordState (run.harts j).state) → IsWordState s → (j : ℕ) → j < c.harts
+    → IsWordState (harts_after next k (own_hart c run k ask next s) run.harts j).state
+states_on c run k ask next s states w j within = elim (eqb_tells j k) [
+  | inl p ↦ subst IsWordState (sym (ap (λ (h : Hart). h.state) (own_is next k j (own_hart c run k ask next s) run.harts p.0) ∙ own_state next s _ (run.harts k))) w
+  | inr p ↦ subst IsWordState (sym (ap (λ (h : Hart). h.state) (other_is next k j (own_hart c run k ask next s) run.harts p.0) ∙ other_state next (run.harts j))) (states j within)
+]
+
+five_parts : (a e l s n o : List Record) → length (a ++ (e ++ (l ++ (s ++ (n ++ o))))) ≡ length a + (length e + (length l + (length s + (length n + length o))))
+five_parts a e l s n o = omega (arith, length-append a (e ++ (l ++ (s ++ (n ++ o)))), length-append e (l ++ (s ++ (n ++ o))), length-append l (s ++ (n ++ o)), length-append s (n ++ o), length-append n o)
+
+worded_after : AllLaws → (c : RawSettings) (run : Run) (k : ℕ) (ask : Ask) (call : Option Plan) (answered : Answered) (span : Option Span) (next : Next) (s : HartState) → IsSetting c → Recording c run → Worded c run → k < c.harts
+    → MovesOn c (run.harts k) ask.state.ic s.ic next span (loading ask.want) → EndsAs c (run.harts k) s.ic next → IsWordState s → HoldsMachine answered.machine → EndIsWord next
+    → Worded c (after_ask c run k ask call answered span next s)
+worded_after laws c run k ask call answered span next s setting known w there on so state machine value =
+    let h = run.harts k in
+    let fit = known.fit k in
+    let within = turn_within c h ask.state.ic s.ic next span (loading ask.want) fit on in
+    let point = point_of k ask.state.ic run.turns span in
+    let load = warmth c (loading ask.want) (run.events k) in
+    let word = word_before run.machine.memory (loading ask.want) in
+    let es = edge_records point run.points in
+    let ls = load_record load k h.skipped word in
+    let cs = sc_record answered.reply k in
+    let ns = next_records next k h.number s in
+    let os = run_over_records next k c.harts run.harts in
+    let small : k < 256 = omega (arith, there, setting.harts_high) in
+    let asked : ask.state.ic < 2 ^ 64 = omega (arith, on.low, within.limit, setting.limit_high) in
+    let low : s.ic < 2 ^ 64 = omega (arith, within.limit, setting.limit_high) in
+    let number : h.number + 1 < 2 ^ 64 = omega (arith, fit.number, within.low, within.limit, setting.limit_high) in
+    let skipped : h.skipped < 2 ^ 32 = omega (arith, fit.skipped, fit.interval, setting.interval_high) in
+    let limits : (j : ℕ) → counts_of run j ≤ c.limit = λ j. (known.fit j).limit in
+    let counts : (j : ℕ) → (run.harts j).state.ic < 2 ^ 64 = λ j. omega (arith, (known.fit j).limit, setting.limit_high) in
+    let edges_fit = edge_records_fit laws.turns.listed point run.points c.harts c.limit (counts_of run) known.points limits (λ p e. own_point span k ask.state.ic run.turns p e small asked) (omega (arith, setting.harts_high)) (omega (arith, setting.limit_high)) in
+    record {
+      states = states_on c run k ask next s w.states state;
+      machine = machine;
+      fits = all_both Fits run.stream (es ++ (ls ++ (cs ++ (ns ++ os)))) w.fits
+          (all_both Fits es (ls ++ (cs ++ (ns ++ os))) edges_fit
+          (all_both Fits ls (cs ++ (ns ++ os)) (load_fits load k h.skipped word small skipped (word_loaded (loading ask.want) run.machine.memory w.machine.memory))
+          (all_both Fits cs (ns ++ os) (conditional_fits answered.reply k small)
+          (all_both Fits ns os (next_fits next c h k h.number s small number low state so value on.marked) (over_fits next k c.harts run.harts (omega (arith, setting.harts_high)) counts)))));
+      few = (let edges : length es ≤ c.harts = few_edges laws.turns.listed laws.fall point run.points c.harts c.limit (counts_of run) known.points limits in
+          omega (arith, five_parts run.stream es ls cs ns os, w.few, edges, load_few load k h.skipped word, conditional_few answered.reply k, next_few next k h.number s, over_few next k c.harts run.harts, setting.harts_high));
+    }
+
+budget_limit : (c : RawSettings) (h : Hart) → budget c h ≤ c.limit - h.state.ic
+budget_limit c h = omega arith
+
+ordered : AsksAreOrderly → (c : RawSettings) (i : Program) (h : Hart) → c.limit < 2 ^ 63 → IsFit c h → is_orderly c i h (ask_at c i h) ≡ true
+ordered asks c i h small fit = asks i (budget c h) h.state (omega (arith, small, fit.limit, budget_limit c h))
+
+passed : (i : Program) (from b : ℕ) (ask : Ask) → orderly i from b ask ≡ true → passes i ask.want ≡ true
+passed i from b ask e = (both (is_counted from b ask.want ask.state.ic) (passes i ask.want) e).1
+
+turn_worded : AllLaws → (c : RawSettings) (i : Program) (run : Run) (k : ℕ) → IsSetting c → IsImage i → Recording c run → Worded c run → k < c.harts → (run.harts k).live ≡ true → is_orderly c i (run.harts k) (ask_at c i (run.harts k)) ≡ true → Worded c (turn c i run k)
+turn_worded laws c i run k setting image known w there live o =
+    let h = run.harts k in
+    let ask = ask_at c i h in
+    let call : Option Plan = call_of i run.machine ask.want in
+    let answered : Answered = answer c call run.machine k ask in
+    let s : HartState = absorbed ask answered.reply in
+    let next : Next = next_of c call h ask.want answered.reply s.ic in
+    let state = w.states k there in
+    let asks = asks_well laws.keep i (code_words i image.words) (budget c h) h.state state.registers state.formed in
+    let answers = answer_well c i run.machine k ask asks (passed i h.state.ic (budget c h) ask o) w.machine in
+    let on = laws.turns.moves c i run.machine h k ask (omega (arith, setting.limit_high)) (known.fit k) live o in
+    let so = next_ends call c h ask.want answered.reply s.ic setting.interval_low in
+    subst (λ (x : Served). Worded c x.run) (sym (served c i run k ask o))
+    (worded_after laws c run k ask call answered (span_of call ask.want answered.reply) next s setting known w there on so (state_after ask answered.reply answers.reply asks) answers.machine
+    (end_word ask.want c i run.machine h answered.reply s.ic asks.want w.machine answers.reply))
+
+one_turn : (c : RawSettings) (i : Program) (run : Run) (k : ℕ) → is_orderly c i (run.harts k) (ask_at c i (run.harts k)) ≡ true → (turn c i run k).turns ≡ run.turns + 1
+one_turn c i run k o = ap (λ (x : Served). x.run.turns) (served c i run k (ask_at c i (run.harts k)) o)
+
+-- ---- the turns of a legal list
+
+-- a run after the turns of a list
+pub record After (c : RawSettings) (turns : ℕ) (run : Run) : Type 0 where
+  pub known : Recording c run
+  pub words : Worded c run
+  pub count : run.turns ≡ turns
+
+live_by : (b : Bool) (x : Bool) → elim b as (λ z. Bool) [ true ↦ x | false ↦ false ] ≡ true → (b ≡ true) × (x ≡ true)
+live_by true x e = (refl, e)
+live_by false x e = cc
+
+pub turns_after : AllLaws → (c : RawSettings) (i : Program) (run : Run) (b : List ℕ) (n : ℕ) → IsSetting c → IsImage i → After c n run → legal_from c i run b ≡ true → After c (n + length b) (run_from c i run b)
+turns_after laws c i run [] n setting image a e = (let z : n ≡ n + 0 = omega arith in subst (λ (m : ℕ). After c m run) z a)
+turns_after laws c i run (k ∷ ks) n setting image a e =
+    let first = live_by (is_live c run k) (legal_from c i (turn c i run k) ks) e in
+    let live = both (nat_lt k c.harts) (run.harts k).live first.0 in
+    let there = below_of k c.harts live.0 in
+    let o = ordered laws.asks c i (run.harts k) (omega (arith, setting.limit_high)) (a.known.fit k) in
+    let next : After c (n + 1) (turn c i run k) = record {
+      known = turn_kept laws.turns c i run k (ask_at c i (run.harts k)) setting a.known there live.1 o;
+      words = turn_worded laws c i run k setting image a.known a.words there live.1 o;
+      count = omega (arith, one_turn c i run k o, a.count);
+    } in
+    let z : n + 1 + length ks ≡ n + suc (length ks) = omega arith in
+    subst (λ (m : ℕ). After c m (run_from c i (turn c i run k) ks)) z (turns_after laws c i (turn c i run k) ks (n + 1) setting image next first.1)
+
+-- ---- the start
+
+set_words : (x : List ℕ) (i v : ℕ) → v < 2 ^ 32 → AreWords x → AreWords (set x i v)
+set_words [] i v p h r = h r
+set_words (y ∷ ys) zero v p h zero = p
+set_words (y ∷ ys) zero v p h (suc r) = h (suc r)
+set_words (y ∷ ys) (suc i) v p h zero = h zero
+set_words (y ∷ ys) (suc i) v p h (suc r) = set_words ys i v p (λ k. h (suc k)) r
+
+no_words : (n : ℕ) → AreWords (replicate n 0)
+no_words zero r = omega arith
+no_words (suc n) zero = omega arith
+no_words (suc n) (suc r) = no_words n r
+
+start_registers : (k n top : ℕ) → k < 2 ^ 32 → n < 2 ^ 32 → top < 2 ^ 32 → AreWords (slice_set (slice_set (slice_set (replicate 32 0) 10 k) 11 n) 2 top)
+start_registers k n top p q r = set_words (set (set (replicate 32 0) 10 k) 11 n) 2 top r (set_words (set (replicate 32 0) 10 k) 11 n q (set_words (replicate 32 0) 10 k p (no_words 32)))
+
+start_words : (c : RawSettings) (i : Program) (k : ℕ) → IsSetting c → IsImage i → k < 2 ^ 32 → IsWordState (start_state c i k)
+start_words c i k setting image small = record {
+  registers = start_registers k c.harts ((i.memory + 2 ^ 32 - 65536 * k) % 2 ^ 32) small (omega (arith, setting.harts_high)) (mod-lt (i.memory + 2 ^ 32 - 65536 * k) (pow_pos 32));
+  formed = record { pc = image.entry; count = refl; zero_first = refl };
+}
+
+headers_fit : (c : RawSettings) (i : Program) (k m : ℕ) → IsSetting c → IsImage i → k + m ≤ 256 → AllByRecursion Fits (first_headers c i k m)
+headers_fit c i k zero setting image within = tt
+headers_fit c i k (suc m) setting image within =
+    (header_fits k 0 (start_state c i k) (omega (arith, within)) (omega arith) (omega arith) (start_words c i k setting image (omega (arith, within))), headers_fit c i (k + 1) m setting image (omega (arith, within)))
+
+headers_count : (c : RawSettings) (i : Program) (k m : ℕ) → length (first_headers c i k m) ≡ m
+headers_count c i k zero = refl
+headers_count c i k (suc m) = ap suc (headers_count c i (k + 1) m)
+
+pub start_worded : (c : RawSettings) (i : Program) (input : List ℕ) → IsSetting c → IsImage i → Worded c (start c i input)
+start_worded c i input setting image = record {
+  states = λ k there. start_words c i k setting image (omega (arith, there, setting.harts_high));
+  machine = record { memory = first_words i image.words; brk = heap_word i image.program };
+  fits = headers_fit c i 0 c.harts setting image (omega (arith, setting.harts_high));
+  few = omega (arith, headers_count c i 0 c.harts, setting.harts_high);
+}
+
+-- ---- the content
+
+abbrev pub KeptFit : Type 0
+KeptFit = (size : ℕ) (rs : List Record) → total (kept size rs) ≤ size
+
+turns_bound : (harts limit : ℕ) → harts ≤ 8 → limit ≤ 2 ^ 40 → harts * (limit + 1) ≤ 8 * (2 ^ 40 + 1)
+turns_bound harts limit h l = (let up : limit + 1 ≤ 2 ^ 40 + 1 = omega (arith, l) in mul-le-mul h up)
+
+pub is_content : SuffixIsKept → KeptFit → (c : RawSettings) (digest : List ℕ) (n : ℕ) (run : Run) → IsSetting c → length digest ≡ 32 → After c n run → n ≤ most_turns c → broken_by c (dropped_of c run) (kept_of c run) ≡ None
+    → IsContent (content_of c digest run)
+is_content suffix bound c digest n run setting size a few order =
+    let part = suffix c.log_size run.stream in
+    record {
+      settings = setting;
+      digest = size;
+      dropped = omega (arith, a.words.few, a.count, few, turns_bound c.harts c.limit setting.harts_high setting.limit_high);
+      fit = last_part Fits part.0 (kept_of c run) (subst (AllByRecursion Fits) part.1 a.words.fits);
+      bound = bound c.log_size run.stream;
+      order = order;
+    }

@@ -1,0 +1,118 @@
+-- The records of a turn fit their fields, and are few.
+use Rattle.std.proofs.Common.{◌≡◌, ℕ, zero, suc, ◌+◌, ◌<◌, ◌≤◌, ◌^◌, Bool, true, false, not, ◌&&◌, Option, Some, None, List, [], ◌∷◌, length, slice_index, refl, ap, arith}
+use Rattle.std.specs.Prelude.{◌==◌}
+use Rattle.std.specs.List.{AllByRecursion}
+use Rattle.bn_base.specs.declared.settings.RawSettings.{RawSettings}
+use Rattle.bn_base.specs.declared.state.HartState.{HartState}
+use Rattle.rv_meaning.specs.WordStates.{AreWords}
+use Rattle.rv_meaning.specs.declared.asks.Reply.{Reply}
+use Rattle.rv_meaning.specs.declared.asks.Reply.TheVariants as replies
+use Rattle.first_load_bits.specs.declared.warm.Warm.{Warm}
+use Rattle.first_load_bits.specs.declared.warm.Warm.TheVariants as answers
+use Rattle.race_log.specs.Points.{Point}
+use Rattle.log_record.specs.declared.record.Record.{Record}
+use Rattle.log_record.specs.declared.record.Record.TheVariants.{End}
+use Rattle.log_record.specs.Spelling.{Fits, AreRegisters, is_mark}
+use Rattle.run_model.specs.declared.hart.Hart.{Hart}
+use Rattle.run_model.specs.declared.next.Next.{Next}
+use Rattle.run_model.specs.declared.next.Next.TheVariants.{GoesOn, NewInterval, HartOver, RunOver}
+use Rattle.run_model.specs.Logs.{is_marked_next}
+use Rattle.run_model.specs.Turn.{edges_from, edge_records, load_record, sc_record, next_records, stopped_records, run_over_records, header, mark}
+use Rattle.file_laws.proofs.Views.{AreSources}
+use Rattle.file_laws.proofs.Sources.{ListedEdges, ArePoints, sources_are}
+use Rattle.file_laws.proofs.Nexts.{EndsAs}
+use Rattle.file_laws.proofs.Machines.{IsWordState, EndIsWord}
+
+-- ---- registers
+
+all_words : (xs : List ℕ) → AreWords xs → AllByRecursion (λ w. w < 2 ^ 32) xs
+all_words [] h = tt
+all_words (x ∷ xs) h = (h 0, all_words xs (λ r. h (suc r)))
+
+are_registers : (x : List ℕ) → length x ≡ 32 → slice_index x 0 ≡ 0 → AreWords x → AreRegisters x
+are_registers [] count first words = cc
+are_registers (y ∷ ys) count first words = record { others = ys; zero_first = ap (λ (n : ℕ). n ∷ ys) first; count = omega (arith, count); are_words = all_words ys (λ r. words (suc r)) }
+
+pub header_fits : (k number : ℕ) (s : HartState) → k < 256 → number < 2 ^ 64 → s.ic < 2 ^ 64 → IsWordState s → Fits (header k number s)
+header_fits k number s small few low w = record { fields = (small, few, low, w.formed.pc, are_registers s.x w.formed.count w.formed.zero_first w.registers); mark = refl }
+
+-- ---- Edges
+
+edges_fit : (n limit k ic : ℕ) (ss : List (ℕ × ℕ)) → k < 256 → ic < 2 ^ 64 → n ≤ 256 → limit ≤ 2 ^ 64 → AreSources n limit k ss → AllByRecursion Fits (edges_from k ic ss)
+edges_fit n limit k ic [] small low harts high a = tt
+edges_fit n limit k ic (s ∷ ss) small low harts high a =
+    (record { fields = (small, low, omega (arith, a.0.hart, harts), omega (arith, a.0.below, high)); mark = refl }, edges_fit n limit k ic ss small low harts high a.1)
+
+pub edge_records_fit : ListedEdges → (point : Option Point) (points : List Point) (n limit : ℕ) (counts : ℕ → ℕ) → ArePoints n counts points → ((s : ℕ) → counts s ≤ limit)
+    → ((p : Point) → point ≡ Some p → (p.hart < 256) × (p.count < 2 ^ 64)) → n ≤ 256 → limit ≤ 2 ^ 64 → AllByRecursion Fits (edge_records point points)
+edge_records_fit listed None points n limit counts are high own harts low = tt
+edge_records_fit listed (Some p) points n limit counts are high own harts low = (let o = own p refl in edges_fit n limit p.hart p.count _ o.0 o.1 harts low (sources_are listed points p n limit counts are high))
+
+-- ---- the others
+
+pub load_fits : (load : Option Warm) (k skipped word : ℕ) → k < 256 → skipped < 2 ^ 32 → word < 2 ^ 32 → AllByRecursion Fits (load_record load k skipped word)
+load_fits (Some answers.Cold) k skipped word small few w = (record { fields = (small, few, w); mark = refl }, tt)
+load_fits (Some answers.Warm) k skipped word small few w = tt
+load_fits None k skipped word small few w = tt
+
+pub conditional_fits : (reply : Reply) (k : ℕ) → k < 256 → AllByRecursion Fits (sc_record reply k)
+conditional_fits replies.ScOk k small = (record { fields = small; mark = refl }, tt)
+conditional_fits replies.ScFailed k small = (record { fields = small; mark = refl }, tt)
+conditional_fits reply k small = tt
+
+end_fits : (k ic reason value : ℕ) → k < 256 → ic < 2 ^ 64 → reason < 256 → value < 2 ^ 32 → is_mark (mark ic reason value) ≡ true → Fits (End k (mark ic reason value))
+end_fits k ic reason value small low r v m = record { fields = (small, low, r, v); mark = m }
+
+pub next_fits : (next : Next) (c : RawSettings) (h : Hart) (k number : ℕ) (s : HartState) → k < 256 → number + 1 < 2 ^ 64 → s.ic < 2 ^ 64 → IsWordState s → EndsAs c h s.ic next → EndIsWord next → is_marked_next next ≡ true
+    → AllByRecursion Fits (next_records next k number s)
+next_fits GoesOn c h k number s small few low w so value m = tt
+next_fits (NewInterval reason v) c h k number s small few low w so value m = (end_fits k s.ic reason v small low so.small value m, (header_fits k (number + 1) s small few low w, tt))
+next_fits (HartOver reason v) c h k number s small few low w so value m = (end_fits k s.ic reason v small low so.small value m, tt)
+next_fits (RunOver reason v) c h k number s small few low w so value m = (end_fits k s.ic reason v small low so.small value m, tt)
+
+stop_fits : (b : Bool) (j ic : ℕ) (rs : List Record) → j < 256 → ic < 2 ^ 64 → AllByRecursion Fits rs → AllByRecursion Fits (elim b as (λ x. List Record) [ true ↦ End j (mark ic 5 0) ∷ rs | false ↦ rs ])
+stop_fits true j ic rs small low a = (end_fits j ic 5 0 small low (omega arith) (omega arith) refl, a)
+stop_fits false j ic rs small low a = a
+
+stops_fit : (k j n : ℕ) (harts : ℕ → Hart) → j + n ≤ 256 → ((i : ℕ) → (harts i).state.ic < 2 ^ 64) → AllByRecursion Fits (stopped_records k j n harts)
+stops_fit k j zero harts within low = tt
+stops_fit k j (suc n) harts within low =
+    stop_fits (not (j == k) && (harts j).live) j (harts j).state.ic (stopped_records k (j + 1) n harts) (omega (arith, within)) (low j) (stops_fit k (j + 1) n harts (omega (arith, within)) low)
+
+pub over_fits : (next : Next) (k n : ℕ) (harts : ℕ → Hart) → n ≤ 256 → ((i : ℕ) → (harts i).state.ic < 2 ^ 64) → AllByRecursion Fits (run_over_records next k n harts)
+over_fits (RunOver reason value) k n harts within low = stops_fit k 0 n harts (omega (arith, within)) low
+over_fits GoesOn k n harts within low = tt
+over_fits (NewInterval reason value) k n harts within low = tt
+over_fits (HartOver reason value) k n harts within low = tt
+
+-- ---- how many
+
+pub load_few : (load : Option Warm) (k skipped word : ℕ) → length (load_record load k skipped word) ≤ 1
+load_few (Some answers.Cold) k skipped word = omega arith
+load_few (Some answers.Warm) k skipped word = omega arith
+load_few None k skipped word = omega arith
+
+pub conditional_few : (reply : Reply) (k : ℕ) → length (sc_record reply k) ≤ 1
+conditional_few replies.ScOk k = omega arith
+conditional_few replies.ScFailed k = omega arith
+conditional_few reply k = omega arith
+
+pub next_few : (next : Next) (k number : ℕ) (s : HartState) → length (next_records next k number s) ≤ 2
+next_few GoesOn k number s = omega arith
+next_few (NewInterval reason value) k number s = omega arith
+next_few (HartOver reason value) k number s = omega arith
+next_few (RunOver reason value) k number s = omega arith
+
+stop_few : (b : Bool) (j ic n : ℕ) (rs : List Record) → length rs ≤ n → length (elim b as (λ x. List Record) [ true ↦ End j (mark ic 5 0) ∷ rs | false ↦ rs ]) ≤ suc n
+stop_few true j ic n rs h = omega (arith, h)
+stop_few false j ic n rs h = omega (arith, h)
+
+stops_few : (k j n : ℕ) (harts : ℕ → Hart) → length (stopped_records k j n harts) ≤ n
+stops_few k j zero harts = omega arith
+stops_few k j (suc n) harts = stop_few (not (j == k) && (harts j).live) j (harts j).state.ic n (stopped_records k (j + 1) n harts) (stops_few k (j + 1) n harts)
+
+pub over_few : (next : Next) (k n : ℕ) (harts : ℕ → Hart) → length (run_over_records next k n harts) ≤ n
+over_few (RunOver reason value) k n harts = stops_few k 0 n harts
+over_few GoesOn k n harts = omega arith
+over_few (NewInterval reason value) k n harts = omega arith
+over_few (HartOver reason value) k n harts = omega arith
