@@ -1,15 +1,22 @@
 -- What a recording keeps, as a log has it.
-use Rattle.std.specs.Prelude.{◌≡◌, ℕ, true, List, length, None}
+use Rattle.std.specs.Prelude.{◌≡◌, ℕ, true, List, Some, None}
 use Rattle.bn_base.specs.Programs.{Program}
 use Rattle.bn_base.specs.Ranges.{IsSetting}
 use Rattle.bn_base.specs.declared.settings.RawSettings.{RawSettings}
 use Rattle.bn_outside.specs.declared.turn_row.TurnRow.{TurnRow}
 use Rattle.log_order.specs.Order.{broken_by}
-use Rattle.log_order.specs.Content.{IsContent}
-use Rattle.run_model.specs.Runs.{start, run_of, legal_from, is_over}
-use Rattle.run_model.specs.Files.{kept_of, dropped_of, content_of}
+use Rattle.log_order.specs.Content.{Content, IsContent}
+use Rattle.log_file.specs.declared.error.FileError.{FileError}
+use Rattle.log_file.specs.declared.error.FileError.TheVariants.{OutOfMemory}
+use Rattle.log_file.specs.File.{IsRefusal}
+use Rattle.log_file.specs.Layout.{file_bytes}
+use Rattle.hart_replay.specs.Replay.{Interval, interval_of, replayed}
+use Rattle.hart_replay.specs.Replay.{Done}
+use Rattle.run_model.specs.Rows.{rows_in}
+use Rattle.run_model.specs.Runs.{start, run_of, is_over}
+use Rattle.run_model.specs.Files.{kept_of, dropped_of, content_of, file_of}
 use Rattle.run_laws.specs.History.{after_rows, IsLawful}
-use Rattle.file_laws.specs.Given.{IsImage}
+use Rattle.file_laws.specs.Given.{IsRecording}
 use Rattle.file_laws.specs.Recorded.{are_orderly, KeepsRules}
 
 -- After lawful rows, whoever made their asks, the kept records keep the rules of single records
@@ -23,7 +30,20 @@ FinishedLogsAreInOrder = (c : RawSettings) (i : Program) (input : List ℕ) (row
     → are_orderly c i (start c i input) rows ≡ true → let run = after_rows c i (start c i input) rows in is_over c run ≡ true
     → broken_by c (dropped_of c run) (kept_of c run) ≡ None
 
--- What is kept of the run of each list that is legal and finished is what a log can say
+-- What is kept of a recording is what a log can say
 abbrev pub LogsAreContents : Type 0
-LogsAreContents = (c : RawSettings) (i : Program) (digest input b : List ℕ) → IsSetting c → IsImage i → length digest ≡ 32
-    → legal_from c i (start c i input) b ≡ true → is_over c (run_of c i input b) ≡ true → IsContent (content_of c digest (run_of c i input b))
+LogsAreContents = (c : RawSettings) (i : Program) (digest input b : List ℕ) → IsRecording c i digest input b → IsContent (content_of c digest (run_of c i input b))
+
+-- Its file has no cause for a refusal
+abbrev pub FilesAreRead : Type 0
+FilesAreRead = (c : RawSettings) (i : Program) (digest input b : List ℕ) → IsRecording c i digest input b → (e : FileError) → IsRefusal (file_of c i digest input b) e → e ≡ OutOfMemory
+
+-- What a log says whose bytes are that file's is what was kept
+abbrev pub FilesSayTheRun : Type 0
+FilesSayTheRun = (c : RawSettings) (i : Program) (digest input b : List ℕ) → IsRecording c i digest input b → (d : Content) → IsContent d → file_bytes d ≡ file_of c i digest input b
+    → d ≡ content_of c digest (run_of c i input b)
+
+-- Each interval of a hart whose Header such a log has is replayed from it as it was recorded
+abbrev pub FilesSuffice : Type 0
+FilesSuffice = (c : RawSettings) (i : Program) (digest input b : List ℕ) → IsRecording c i digest input b → (d : Content) → IsContent d → file_bytes d ≡ file_of c i digest input b
+    → (h n : ℕ) (v : Interval) → interval_of h n d.records ≡ Some v → replayed i d.records h n ≡ record { rows = rows_in c i (start c i input) b h n; outcome = Done }

@@ -3,8 +3,9 @@
 //! `run_model` and `log_order`.
 #![tactic(auto)]
 
-ghost use Rattle.file_laws.specs.Laws.{KeptRecordsKeepTheRules, FinishedLogsAreInOrder, LogsAreContents};
+ghost use Rattle.file_laws.specs.Laws.{KeptRecordsKeepTheRules, FinishedLogsAreInOrder, LogsAreContents, FilesAreRead, FilesSayTheRun, FilesSuffice};
 
+use log_file::laws::{files_say_one_thing, logs_are_not_refused};
 use log_order::laws::{
     an_awaited_header_follows, an_edge_follows, an_end_follows, early_edges_are_not_late,
     kept_records_are_in_order, kept_records_keep_the_rules, loads_and_conditionals_follow,
@@ -12,6 +13,7 @@ use log_order::laws::{
 };
 use log_ring::laws::{a_suffix_is_kept, kept_records_fit};
 use race_log::listed_edges_are_all;
+use replay_laws::the_log_suffices;
 use run_laws::runs_end;
 use run_model::{each_turn_fits, each_turn_moves_on, others_stay_fit};
 use rv_meaning::{each_ask_is_orderly, registers_stay_words};
@@ -58,8 +60,8 @@ pub fn finished_logs_are_in_order()
     early_edges_are_not_late();
 }
 
-/// What is kept of the run of each list of turns that is legal and finished is what a log can say:
-/// the records fit their fields and the log, they are in order, and their numbers are in range.
+/// What is kept of a recording is what a log can say: the records fit their fields and the log,
+/// they are in order, and the numbers of the head are in range.
 pub fn logs_are_contents()
     ensures { LogsAreContents }
 {
@@ -81,4 +83,29 @@ pub fn logs_are_contents()
     an_end_follows();
     kept_records_are_in_order();
     early_edges_are_not_late();
+}
+
+/// The file of a recording is read: it has no cause for a refusal.
+pub fn files_are_read()
+    ensures { FilesAreRead }
+{
+    logs_are_contents();
+    logs_are_not_refused();
+}
+
+/// What is read of the file of a recording is what was kept.
+pub fn files_say_the_run()
+    ensures { FilesSayTheRun }
+{
+    logs_are_contents();
+    files_say_one_thing();
+}
+
+/// The file suffices: each interval of a hart whose Header is read of the file of a recording is
+/// replayed with exactly the rows that the recorded run had in it.
+pub fn files_suffice()
+    ensures { FilesSuffice }
+{
+    files_say_the_run();
+    the_log_suffices();
 }

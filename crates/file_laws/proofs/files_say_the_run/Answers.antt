@@ -1,0 +1,6 @@
+use Rattle.run_model.specs.Files.{content_of}
+use Rattle.run_model.specs.Runs.{run_of}
+use Rattle.file_laws.proofs.files_say_the_run.Goals as goal
+
+pub returns : goal.returns
+returns c s i digest input b r d known e = c.files_say_one_thing.ensures d (content_of s digest (run_of s i input b)) known (c.logs_are_contents.ensures s i digest input b r) e
