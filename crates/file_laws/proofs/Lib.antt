@@ -3,11 +3,13 @@ pub mod Nexts
 pub mod Sources
 pub mod Stops
 pub mod Turns
-pub mod Rows
 pub mod Starts
+pub mod Rows
+pub mod Asks
+pub mod Words
 pub mod Machines
 pub mod Few
 pub mod Fields
 pub mod Contents
-pub mod Asks
-pub mod Words
+pub mod Loaded
+pub mod Worked

@@ -1,9 +1,12 @@
 -- What a recording keeps, as a log has it.
-use Rattle.std.specs.Prelude.{◌≡◌, ℕ, true, List, Some, None}
+use Rattle.std.specs.Prelude.{◌≡◌, ◌<◌, ◌^◌, ℕ, true, List, Some, None, Ok}
+use Rattle.std.specs.List.{AllByRecursion}
 use Rattle.bn_base.specs.Programs.{Program}
 use Rattle.bn_base.specs.Ranges.{IsSetting}
 use Rattle.bn_base.specs.declared.settings.RawSettings.{RawSettings}
 use Rattle.bn_outside.specs.declared.turn_row.TurnRow.{TurnRow}
+use Rattle.le_numbers.specs.Numbers.{AreBytes}
+use Rattle.elf_loader.specs.Loaded.{image_of}
 use Rattle.log_order.specs.Order.{broken_by}
 use Rattle.log_order.specs.Content.{Content, IsContent}
 use Rattle.log_file.specs.declared.error.FileError.{FileError}
@@ -16,7 +19,7 @@ use Rattle.run_model.specs.Rows.{rows_in}
 use Rattle.run_model.specs.Runs.{start, run_of, is_over}
 use Rattle.run_model.specs.Files.{kept_of, dropped_of, content_of, file_of}
 use Rattle.run_laws.specs.History.{after_rows, IsLawful}
-use Rattle.file_laws.specs.Given.{IsRecording}
+use Rattle.file_laws.specs.Given.{HasWords, IsRecording}
 use Rattle.file_laws.specs.Recorded.{are_orderly, KeepsRules}
 
 -- After lawful rows, whoever made their asks, the kept records keep the rules of single records
@@ -47,3 +50,7 @@ FilesSayTheRun = (c : RawSettings) (i : Program) (digest input b : List ℕ) →
 abbrev pub FilesSuffice : Type 0
 FilesSuffice = (c : RawSettings) (i : Program) (digest input b : List ℕ) → IsRecording c i digest input b → (d : Content) → IsContent d → file_bytes d ≡ file_of c i digest input b
     → (h n : ℕ) (v : Interval) → interval_of h n d.records ≡ Some v → replayed i d.records h n ≡ record { rows = rows_in c i (start c i input) b h n; outcome = Done }
+
+-- A program that was loaded from bytes has words and an entry of 32 bits
+abbrev pub LoadedProgramsHoldWords : Type 0
+LoadedProgramsHoldWords = (bytes : List ℕ) (s : RawSettings) (i : Program) → AreBytes bytes → image_of bytes s ≡ Ok i → (i.entry < 2 ^ 32) × AllByRecursion HasWords i.parts

@@ -1,3 +1,4 @@
 pub mod Given
 pub mod Recorded
 pub mod Laws
+pub mod Examples

@@ -3,8 +3,12 @@
 //! `run_model` and `log_order`.
 #![tactic(auto)]
 
-ghost use Rattle.file_laws.specs.Laws.{KeptRecordsKeepTheRules, FinishedLogsAreInOrder, LogsAreContents, FilesAreRead, FilesSayTheRun, FilesSuffice};
+ghost use Rattle.file_laws.specs.Laws.{KeptRecordsKeepTheRules, FinishedLogsAreInOrder, LogsAreContents, FilesAreRead, FilesSayTheRun, FilesSuffice, LoadedProgramsHoldWords};
 
+mod examples;
+
+pub use examples::{a_stray_store_leaves_a_header, an_exit_is_a_recording};
+use le_numbers::laws::read_numbers_are_written;
 use log_file::laws::{files_say_one_thing, logs_are_not_refused};
 use log_order::laws::{
     an_awaited_header_follows, an_edge_follows, an_end_follows, early_edges_are_not_late,
@@ -108,4 +112,11 @@ pub fn files_suffice()
 {
     files_say_the_run();
     the_log_suffices();
+}
+
+/// A program that was loaded from bytes has words and an entry of 32 bits, as `IsRecording` asks.
+pub fn loaded_programs_hold_words()
+    ensures { LoadedProgramsHoldWords }
+{
+    read_numbers_are_written();
 }

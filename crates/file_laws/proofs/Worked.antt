@@ -1,0 +1,65 @@
+-- A small recording, and a row that no hart could make.
+use Rattle.std.proofs.Common.{◌≡◌, ◌∷◌, [], true, false, Some, refl, arith}
+use Rattle.le_numbers.specs.Numbers.{number_bytes}
+use Rattle.bn_base.specs.Ranges.{IsSetting, default_settings}
+use Rattle.log_order.specs.Order.{step, after_all, late_edge, ended, broken, order_break, broken_by}
+use Rattle.log_order.specs.Rules.{after_header}
+use Rattle.log_ring.specs.Kept.{kept}
+use Rattle.run_laws.specs.History.{IsLawful}
+use Rattle.run_model.specs.Examples.{an_exit, program_of}
+use Rattle.run_model.specs.Files.{kept_of, dropped_of}
+use Rattle.run_model.specs.Runs.{is_over}
+use Rattle.run_model.specs.Turn.{serve}
+use Rattle.file_laws.specs.Given.{IsImage, IsRecording}
+use Rattle.file_laws.specs.Recorded.{are_orderly}
+use Rattle.file_laws.specs.Examples.{a_digest, an_exit_begun, a_stray_store, after_a_stray_store}
+
+defaults : IsSetting default_settings
+unfolding lib.Count.ones
+defaults = record {
+  harts_low = omega arith;
+  harts_high = omega arith;
+  interval_low = omega arith;
+  interval_high = omega arith;
+  limit_low = omega arith;
+  limit_high = omega arith;
+  log_size_low = omega arith;
+  log_size_high = omega arith;
+  memory_low = omega arith;
+  memory_high = omega arith;
+  memory_pages = refl;
+  sets_low = omega arith;
+  sets_high = omega arith;
+  sets_power = refl;
+  ways_low = omega arith;
+  ways_high = omega arith;
+  line_low = omega arith;
+  line_high = omega arith;
+  line_power = refl;
+}
+
+exit_image : IsImage (program_of an_exit)
+exit_image = record {
+  program = record { apart = (omega arith, omega arith); memory_low = omega arith; memory_high = omega arith; memory_pages = refl };
+  entry = omega arith;
+  words = ((omega arith, (omega arith, (omega arith, tt))), tt);
+}
+
+pub an_exit_is_one : IsRecording an_exit.settings (program_of an_exit) a_digest an_exit.input an_exit.turns
+unfolding serve
+an_exit_is_one = record { setting = defaults; image = exit_image; digest_size = refl; legal = refl; over = refl }
+
+pub stray_is_lawful : IsLawful an_exit.settings (program_of an_exit) an_exit_begun (a_stray_store ∷ [])
+unfolding serve
+stray_is_lawful = (refl, refl, tt)
+
+pub stray_is_not_orderly : are_orderly an_exit.settings (program_of an_exit) an_exit_begun (a_stray_store ∷ []) ≡ false
+stray_is_not_orderly = refl
+
+pub stray_is_over : is_over an_exit.settings after_a_stray_store ≡ true
+unfolding serve
+stray_is_over = refl
+
+pub stray_is_broken : broken_by an_exit.settings (dropped_of an_exit.settings after_a_stray_store) (kept_of an_exit.settings after_a_stray_store) ≡ Some (order_break 146 6)
+unfolding serve kept number_bytes step after_all late_edge ended broken after_header
+stray_is_broken = refl

@@ -1,0 +1,27 @@
+// A small recording, and what a row that no hart could make does to a log.
+ghost use Rattle.std.specs.Prelude.{◌≡◌, ◌∷◌, [], true, false, Some};
+ghost use Rattle.log_order.specs.Order.{order_break, broken_by};
+ghost use Rattle.run_laws.specs.History.{IsLawful};
+ghost use Rattle.run_model.specs.Examples.{an_exit, program_of};
+ghost use Rattle.run_model.specs.Files.{kept_of, dropped_of};
+ghost use Rattle.run_model.specs.Runs.{is_over};
+ghost use Rattle.file_laws.specs.Given.{IsRecording};
+ghost use Rattle.file_laws.specs.Recorded.{are_orderly};
+ghost use Rattle.file_laws.specs.Examples.{a_digest, an_exit_begun, a_stray_store, after_a_stray_store};
+
+/// What the laws ask of a recording holds of three instructions that exit.
+#[tactic(auto, using(crate::proofs::Worked::an_exit_is_one))]
+pub fn an_exit_is_a_recording()
+    ensures { IsRecording an_exit.settings (program_of an_exit) a_digest an_exit.input an_exit.turns }
+{}
+
+/// A row that no hart could make ends all, and adds no End: the log keeps a Header alone, which the
+/// order of records refuses at its end, byte 146. So a law of finished logs has to ask that each ask
+/// was orderly.
+#[tactic(auto, using(crate::proofs::Worked::stray_is_lawful, crate::proofs::Worked::stray_is_over, crate::proofs::Worked::stray_is_broken, crate::proofs::Worked::stray_is_not_orderly))]
+pub fn a_stray_store_leaves_a_header()
+    ensures lawful { IsLawful an_exit.settings (program_of an_exit) an_exit_begun (a_stray_store ∷ []) }
+    ensures orderly { are_orderly an_exit.settings (program_of an_exit) an_exit_begun (a_stray_store ∷ []) ≡ false }
+    ensures over { is_over an_exit.settings after_a_stray_store ≡ true }
+    ensures broken { broken_by an_exit.settings (dropped_of an_exit.settings after_a_stray_store) (kept_of an_exit.settings after_a_stray_store) ≡ Some (order_break 146 6) }
+{}
