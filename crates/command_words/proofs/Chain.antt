@@ -1,0 +1,14 @@
+use Rattle.std.proofs.Common.{◌∙◌, ◌||◌, ap, ap₂}
+use Rattle.clap.specs.Words.{App, Rule, with_rule, with_subcommand}
+use Rattle.clap.specs.Built.{AddsArg, AddsSubcommand}
+use Rattle.clap.specs.declared.builder.arg.Arg.{Arg}
+use Rattle.clap.specs.declared.builder.command.Command.{Command}
+use Rattle.command_words.specs.App.{IsRule, IsSeenAs}
+
+-- one more argument
+pub more : {old new : Command} {a : Arg} (x : App) (r : Rule) → AddsArg old a new → IsRule r a → IsSeenAs x old → IsSeenAs (with_rule x r) new
+more x r h is before = (h.shape is.1 ∙ ap₂ with_rule before.0 is.0, h.globals ∙ ap₂ (λ p q. p || q) before.1 is.1)
+
+-- one more subcommand
+pub more_sub : {old sub new : Command} (x y : App) → AddsSubcommand old sub new → IsSeenAs y sub → IsSeenAs x old → IsSeenAs (with_subcommand x y.top) new
+more_sub x y h is before = (h.shape is.1 ∙ ap₂ with_subcommand before.0 (ap (λ (a : App). a.top) is.0), h.globals ∙ ap₂ (λ p q. p || q) before.1 is.1)

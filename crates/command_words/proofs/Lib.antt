@@ -1,0 +1,3 @@
+mod Chain
+mod Numbers
+mod Whole

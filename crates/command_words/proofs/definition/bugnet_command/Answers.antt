@@ -1,0 +1,21 @@
+use Rattle.std.proofs.Common.{codes, ap, ◌∙◌, true}
+use Rattle.std.proofs.lemmas.Result.{IfOk-weaker}
+use Rattle.clap.specs.Words.{App}
+use Rattle.clap.specs.Simple.{app_of_fields}
+use Rattle.clap.specs.declared.builder.command.Command.{Command}
+use Rattle.clap.specs.declared.builder.command.Command.TheOpen.{Command-F}
+use Rattle.command_words.specs.App.{IsSeenAs, record_app, replay_app, log_app, top_app}
+use Rattle.command_words.proofs.Chain.{more_sub}
+use Rattle.command_words.proofs.definition.bugnet_command.Goals as goal
+
+pub returns : goal.returns
+returns c =
+    let s0 : IsSeenAs top_app c.subcommand_required-command.result = (
+      ap (λ (f : Command-F Command). app_of_fields f) c.subcommand_required-command.ensures
+          ∙ ap (λ (a : App). record a { top = record a.top { subcommand_required = true } }) c.new.ensures.app,
+      ap (λ (f : Command-F Command). f.has_globals) c.subcommand_required-command.ensures ∙ c.new.ensures.local,
+    ) in
+    let s1 = more_sub _ record_app c.in_ok-command.ensures c.in_ok-record_command.ensures s0 in
+    let s2 = more_sub _ replay_app c.in_ok-command-2.ensures c.in_ok-replay_command.ensures s1 in
+    let s3 = more_sub _ (log_app (codes "list")) c.in_ok-command-3.ensures c.in_ok-log_command.ensures s2 in
+    IfOk-weaker c.subcommand-4.result _ _ (λ r h. more_sub _ (log_app (codes "check")) h c.in_ok-log_command-2.ensures s3) c.subcommand-4.ensures

@@ -1,0 +1,142 @@
+-- What the words of a command line say.
+use Rattle.std.specs.Prelude.{ℕ, List, [], ◌∷◌, Option, Some, None, codes, map, option_and_then, option_map, if◌then◌else◌}
+use Rattle.std.specs.String.{string_bytes}
+use Rattle.std.specs.Str.{bytes_eq}
+use Rattle.std.specs.Str.Parse.{digits_value, without_leading_plus}
+use Rattle.std.specs.declared.string.String.{String}
+use Rattle.std.specs.declared.alloc.Global.{Global}
+use Rattle.clap.specs.ValueTests.{is_unsigned_in}
+use Rattle.clap.specs.Words.{Row, Text, fault_of, first_of, subcommand_of}
+use Rattle.clap.specs.Kinds.{Kinds}
+use Rattle.bn_base.specs.declared.settings.RawSettings.{RawSettings}
+use Rattle.bn_base.specs.Ranges.{default_settings}
+use Rattle.command_words.specs.App.{bugnet_app}
+use Rattle.command_words.specs.declared.commands.Recording.{Recording}
+use Rattle.command_words.specs.declared.commands.Command.{Command}
+use Rattle.command_words.specs.declared.commands.Command.TheVariants as command
+
+-- ---- what a line asks for, with its names as lists of bytes
+
+-- a recording
+pub record RecordingLine : Type 0 where
+  pub settings : RawSettings
+  pub seed : ℕ
+  pub input : Option (List ℕ)
+  pub elf : List ℕ
+  pub log : List ℕ
+  pub book : List ℕ
+
+pub data Line : Type 0 where
+  RecordLine : RecordingLine → Line
+  -- log, elf, hart, interval
+  ReplayLine : List ℕ → List ℕ → ℕ → ℕ → Line
+  ListLine : List ℕ → Line
+  CheckLine : List ℕ → Line
+
+-- what a contract sees of a recording: the texts behind its references
+abbrev pub seen_recording : Recording → RecordingLine
+seen_recording r = record {
+  settings = r.settings;
+  seed = r.seed;
+  input = option_map (λ s. s.now) r.input;
+  elf = r.elf.now;
+  log = r.log.now;
+  book = r.book.now;
+}
+
+-- what a contract sees of a command
+abbrev pub seen : Command → Line
+seen (command.Record recording) = RecordLine (seen_recording recording)
+seen (command.Replay log elf hart interval) = ReplayLine log.now elf.now hart interval
+seen (command.List log) = ListLine log.now
+seen (command.Check log) = CheckLine log.now
+
+-- ---- what was found for the arguments of a subcommand
+
+-- a number below 2 ^ 64 in decimal digits, maybe with a plus sign in front
+abbrev pub number_of : Text → Option ℕ
+number_of t = if is_unsigned_in 0 18446744073709551615 t
+    then Some (digits_value 10 (without_leading_plus t)) else None
+
+-- the number of an argument
+abbrev pub number_at : Text → List Row → Option ℕ
+number_at id rows = option_and_then number_of (first_of id rows)
+
+abbrev pub number_or_default : ℕ → Option Text → Option ℕ
+number_or_default default None = Some default
+number_or_default default (Some t) = number_of t
+
+-- the number of an option, or its default where it isn't given
+abbrev pub number_or : ℕ → Text → List Row → Option ℕ
+number_or default id rows = number_or_default default (first_of id rows)
+
+abbrev pub and_then : {X Y : Type 0} → Option X → (X → Option Y) → Option Y
+and_then None f = None
+and_then (Some x) f = f x
+
+-- the settings
+abbrev pub settings_in : List Row → Option RawSettings
+settings_in rows =
+    and_then (number_or default_settings.harts (codes "harts") rows) (λ harts.
+    and_then (number_or default_settings.interval (codes "interval") rows) (λ interval.
+    and_then (number_or default_settings.limit (codes "limit") rows) (λ limit.
+    and_then (number_or default_settings.log_size (codes "log-size") rows) (λ log_size.
+    and_then (number_or default_settings.memory (codes "memory") rows) (λ memory.
+    and_then (number_or default_settings.sets (codes "sets") rows) (λ sets.
+    and_then (number_or default_settings.ways (codes "ways") rows) (λ ways.
+    and_then (number_or default_settings.line (codes "line") rows) (λ line.
+    Some (record { harts = harts; interval = interval; limit = limit; log_size = log_size; memory = memory; sets = sets; ways = ways; line = line })))))))))
+
+abbrev pub recording_in : List Row → Option RecordingLine
+recording_in rows =
+    and_then (settings_in rows) (λ settings.
+    and_then (number_at (codes "seed") rows) (λ seed.
+    and_then (first_of (codes "elf") rows) (λ elf.
+    and_then (first_of (codes "log") rows) (λ log.
+    and_then (first_of (codes "book") rows) (λ book.
+    Some (record { settings = settings; seed = seed; input = first_of (codes "input") rows; elf = elf; log = log; book = book }))))))
+
+abbrev pub record_in : List Row → Option Line
+record_in rows = option_map RecordLine (recording_in rows)
+
+abbrev pub replay_in : List Row → Option Line
+replay_in rows =
+    and_then (first_of (codes "log") rows) (λ log.
+    and_then (first_of (codes "elf") rows) (λ elf.
+    and_then (number_at (codes "hart") rows) (λ hart.
+    and_then (number_at (codes "interval") rows) (λ interval.
+    Some (ReplayLine log elf hart interval)))))
+
+abbrev pub list_in : List Row → Option Line
+list_in rows = option_map ListLine (first_of (codes "log") rows)
+
+abbrev pub check_in : List Row → Option Line
+check_in rows = option_map CheckLine (first_of (codes "log") rows)
+
+-- the line of the subcommand of this name, by what was found for its arguments
+abbrev pub named : Text → List Row → Option Line
+named name rows = if bytes_eq name (codes "record") then record_in rows
+    else (if bytes_eq name (codes "replay") then replay_in rows
+    else (if bytes_eq name (codes "list") then list_in rows
+    else (if bytes_eq name (codes "check") then check_in rows
+    else None)))
+
+abbrev pub line_in : Option (Text × List Row) → Option Line
+line_in None = None
+line_in (Some p) = named p.0 p.1
+
+-- ---- the words
+
+-- the line, where clap finds no fault
+abbrev pub without_fault : Kinds → Option Line → Option Line
+without_fault [] line = line
+without_fault (k ∷ ks) line = None
+
+-- what texts say, the program's name first
+unfoldable pub line_of : List Text → Option Line
+line_of texts = without_fault (fault_of bugnet_app texts) (line_in (subcommand_of bugnet_app texts))
+
+-- what words say, the program's name first; `None` where they are refused: clap finds a fault in
+-- them, or they name no command
+unfoldable pub command_in : List (String Global) → Option Line
+command_in words = line_of (map string_bytes words)

@@ -1,0 +1,43 @@
+// What a command line asks for.
+use bn_base::RawSettings;
+
+/// What a recording is to be.
+#[derive(Clone, Copy, Debug, PartialEq, Eq)]
+pub struct Recording<'a> {
+    /// The settings as they were given, in range or not. Those that weren't given have their
+    /// defaults.
+    pub settings: RawSettings,
+    /// The seed of the turns.
+    pub seed: u64,
+    /// The name of the file that the program reads as its input, if there is one.
+    pub input: Option<&'a str>,
+    /// The name of the program's file.
+    pub elf: &'a str,
+    /// The name under which the log is saved.
+    pub log: &'a str,
+    /// The name under which the list of turns is saved.
+    pub book: &'a str,
+}
+
+/// What a command line asks for.
+#[derive(Clone, Copy, Debug, PartialEq, Eq)]
+pub enum Command<'a> {
+    /// Record a run.
+    Record(Recording<'a>),
+    /// Replay one interval of a hart from a log, with the program's file. The numbers are as they
+    /// were given: the log may have no such hart or interval.
+    Replay {
+        log: &'a str,
+        elf: &'a str,
+        hart: u64,
+        interval: u64,
+    },
+    /// List the intervals that a log keeps.
+    List {
+        log: &'a str,
+    },
+    /// Check that a file is a log.
+    Check {
+        log: &'a str,
+    },
+}

@@ -1,0 +1,104 @@
+// The command by which clap reads the words.
+ghost use Rattle.std.specs.Prelude.{◌≡◌, IfOk, codes};
+ghost use Rattle.clap.specs.Words.{app_of, rule_of};
+ghost use Rattle.clap.specs.declared.builder.command.Command.TheViews.{out-Command};
+ghost use Rattle.command_words.specs.App.{IsRule, IsSeenAs, number_option, needed_option, text_option, word, number_word};
+ghost use Rattle.command_words.specs.App.{settings_app, record_app, replay_app, log_app, bugnet_app};
+
+use clap::builder::ValueParser;
+use clap::{Arg, ArgAction, Command};
+use std::alloc::{AllocError, Global};
+
+// `--ID N`
+fn number_option<'a>(alloc: Global, id: &'a str) -> Arg<'a>
+    ensures { IsRule (number_option id.entry.now) result }
+{
+    Arg::new(alloc, id)
+        .long(id)
+        .action(ArgAction::Set)
+        .value_parser(ValueParser::Unsigned(0, u64::MAX))
+}
+
+// `--ID N`, which has to be there
+fn needed_option<'a>(alloc: Global, id: &'a str) -> Arg<'a>
+    ensures { IsRule (needed_option id.entry.now) result }
+{
+    number_option(alloc, id).required(true)
+}
+
+// `--ID TEXT`
+fn text_option<'a>(alloc: Global, id: &'a str) -> Arg<'a>
+    ensures { IsRule (text_option id.entry.now) result }
+{
+    Arg::new(alloc, id).long(id).action(ArgAction::Set)
+}
+
+// a word that has to be there
+fn word<'a>(alloc: Global, id: &'a str) -> Arg<'a>
+    ensures { IsRule (word id.entry.now) result }
+{
+    Arg::new(alloc, id).action(ArgAction::Set).required(true)
+}
+
+// a number that has to be there
+fn number_word<'a>(alloc: Global, id: &'a str) -> Arg<'a>
+    ensures { IsRule (number_word id.entry.now) result }
+{
+    word(alloc, id).value_parser(ValueParser::Unsigned(0, u64::MAX))
+}
+
+// `record` with the options of its settings alone
+fn settings_command<'a>(alloc: Global) -> Result<Command<'a>, AllocError>
+    ensures { IfOk result (IsSeenAs settings_app) }
+{
+    let command = Command::new(alloc, "record");
+    let command = command.arg(number_option(alloc, "harts"))?;
+    let command = command.arg(number_option(alloc, "interval"))?;
+    let command = command.arg(number_option(alloc, "limit"))?;
+    let command = command.arg(number_option(alloc, "log-size"))?;
+    let command = command.arg(number_option(alloc, "memory"))?;
+    let command = command.arg(number_option(alloc, "sets"))?;
+    let command = command.arg(number_option(alloc, "ways"))?;
+    command.arg(number_option(alloc, "line"))
+}
+
+// `record [OPTIONS] --seed N [--input FILE] ELF LOG BOOK`
+fn record_command<'a>(alloc: Global) -> Result<Command<'a>, AllocError>
+    ensures { IfOk result (IsSeenAs record_app) }
+{
+    let command = settings_command(alloc)?;
+    let command = command.arg(needed_option(alloc, "seed"))?;
+    let command = command.arg(text_option(alloc, "input"))?;
+    let command = command.arg(word(alloc, "elf"))?;
+    let command = command.arg(word(alloc, "log"))?;
+    command.arg(word(alloc, "book"))
+}
+
+// `replay LOG ELF HART INTERVAL`
+fn replay_command<'a>(alloc: Global) -> Result<Command<'a>, AllocError>
+    ensures { IfOk result (IsSeenAs replay_app) }
+{
+    let command = Command::new(alloc, "replay");
+    let command = command.arg(word(alloc, "log"))?;
+    let command = command.arg(word(alloc, "elf"))?;
+    let command = command.arg(number_word(alloc, "hart"))?;
+    command.arg(number_word(alloc, "interval"))
+}
+
+// `NAME LOG`
+fn log_command<'a>(alloc: Global, name: &'a str) -> Result<Command<'a>, AllocError>
+    ensures { IfOk result (IsSeenAs (log_app name.entry.now)) }
+{
+    Command::new(alloc, name).arg(word(alloc, "log"))
+}
+
+// The whole command, of which each line names one subcommand.
+pub fn bugnet_command<'a>(alloc: Global) -> Result<Command<'a>, AllocError>
+    ensures { IfOk result (IsSeenAs bugnet_app) }
+{
+    let command = Command::new(alloc, "bugnet").subcommand_required(true);
+    let command = command.subcommand(record_command(alloc)?)?;
+    let command = command.subcommand(replay_command(alloc)?)?;
+    let command = command.subcommand(log_command(alloc, "list")?)?;
+    command.subcommand(log_command(alloc, "check")?)
+}

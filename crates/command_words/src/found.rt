@@ -1,0 +1,137 @@
+// What clap found for the arguments of a subcommand.
+ghost use Rattle.std.specs.Prelude.{◌≡◌, option_map, codes};
+ghost use Rattle.clap.specs.Words.{first_of, found_of, rows_of};
+ghost use Rattle.bn_base.specs.Ranges.{default_settings};
+ghost use Rattle.command_words.specs.Words.{seen, seen_recording, number_of, number_or, number_at, settings_in, recording_in, record_in, replay_in, list_in, check_in, named};
+
+use crate::commands::{Command, Recording};
+use bn_base::RawSettings;
+use clap::ArgMatches;
+
+fn text_at<'a>(matches: &ArgMatches<'a>, id: &str) -> Option<&'a str>
+    ensures { option_map (λ s. s.now) result ≡ first_of id.now (rows_of (found_of matches.now)) }
+{
+    matches.get_str(id)
+}
+
+fn number_of(text: &str) -> Option<u64>
+    ensures { result ≡ number_of text.now }
+{
+    text.parse().ok()
+}
+
+fn number_at(matches: &ArgMatches<'_>, id: &str) -> Option<u64>
+    ensures { result ≡ number_at id.now (rows_of (found_of matches.now)) }
+{
+    match text_at(matches, id) {
+        None => None,
+        Some(text) => number_of(text),
+    }
+}
+
+fn number_or(matches: &ArgMatches<'_>, id: &str, default: u64) -> Option<u64>
+    ensures { result ≡ number_or default id.now (rows_of (found_of matches.now)) }
+{
+    match text_at(matches, id) {
+        None => Some(default),
+        Some(text) => number_of(text),
+    }
+}
+
+fn settings_in(matches: &ArgMatches<'_>) -> Option<RawSettings>
+    ensures { result ≡ settings_in (rows_of (found_of matches.now)) }
+{
+    let default = RawSettings::default();
+    let harts = number_or(matches, "harts", default.harts)?;
+    let interval = number_or(matches, "interval", default.interval)?;
+    let limit = number_or(matches, "limit", default.limit)?;
+    let log_size = number_or(matches, "log-size", default.log_size)?;
+    let memory = number_or(matches, "memory", default.memory)?;
+    let sets = number_or(matches, "sets", default.sets)?;
+    let ways = number_or(matches, "ways", default.ways)?;
+    let line = number_or(matches, "line", default.line)?;
+    Some(RawSettings {
+        harts,
+        interval,
+        limit,
+        log_size,
+        memory,
+        sets,
+        ways,
+        line,
+    })
+}
+
+fn recording_in<'a>(matches: &ArgMatches<'a>) -> Option<Recording<'a>>
+    ensures { option_map seen_recording result ≡ recording_in (rows_of (found_of matches.now)) }
+{
+    let settings = settings_in(matches)?;
+    let seed = number_at(matches, "seed")?;
+    let elf = text_at(matches, "elf")?;
+    let log = text_at(matches, "log")?;
+    let book = text_at(matches, "book")?;
+    let input = text_at(matches, "input");
+    Some(Recording {
+        settings,
+        seed,
+        input,
+        elf,
+        log,
+        book,
+    })
+}
+
+fn record_in<'a>(matches: &ArgMatches<'a>) -> Option<Command<'a>>
+    ensures { option_map seen result ≡ record_in (rows_of (found_of matches.now)) }
+{
+    match recording_in(matches) {
+        None => None,
+        Some(recording) => Some(Command::Record(recording)),
+    }
+}
+
+fn replay_in<'a>(matches: &ArgMatches<'a>) -> Option<Command<'a>>
+    ensures { option_map seen result ≡ replay_in (rows_of (found_of matches.now)) }
+{
+    let log = text_at(matches, "log")?;
+    let elf = text_at(matches, "elf")?;
+    let hart = number_at(matches, "hart")?;
+    let interval = number_at(matches, "interval")?;
+    Some(Command::Replay {
+        log,
+        elf,
+        hart,
+        interval,
+    })
+}
+
+fn list_in<'a>(matches: &ArgMatches<'a>) -> Option<Command<'a>>
+    ensures { option_map seen result ≡ list_in (rows_of (found_of matches.now)) }
+{
+    let log = text_at(matches, "log")?;
+    Some(Command::List { log })
+}
+
+fn check_in<'a>(matches: &ArgMatches<'a>) -> Option<Command<'a>>
+    ensures { option_map seen result ≡ check_in (rows_of (found_of matches.now)) }
+{
+    let log = text_at(matches, "log")?;
+    Some(Command::Check { log })
+}
+
+// The command of the subcommand of this name, for whose arguments this was found.
+pub fn named<'a>(name: &str, matches: &ArgMatches<'a>) -> Option<Command<'a>>
+    ensures { option_map seen result ≡ named name.now (rows_of (found_of matches.now)) }
+{
+    if name == "record" {
+        record_in(matches)
+    } else if name == "replay" {
+        replay_in(matches)
+    } else if name == "list" {
+        list_in(matches)
+    } else if name == "check" {
+        check_in(matches)
+    } else {
+        None
+    }
+}

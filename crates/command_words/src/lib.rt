@@ -1,0 +1,17 @@
+//! The words of the command line: which are taken, and what they ask for.
+//!
+//! The words are read by one command of clap. What is taken is its definition (`specs/App.antt`),
+//! what a taken line says is `command_in` (`specs/Words.antt`).
+#![tactic(auto)]
+
+mod commands;
+mod definition;
+mod error;
+mod found;
+mod reading;
+#[cfg(test)]
+mod tests;
+
+pub use commands::{Command, Recording};
+pub use error::WordsError;
+pub use reading::read_words;

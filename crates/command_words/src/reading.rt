@@ -1,0 +1,53 @@
+// The words of a command line are read.
+ghost use Rattle.std.specs.Prelude.{◌≡◌, IfOk, Some, None, Err, option_map};
+ghost use Rattle.clap.specs.Words.{subcommand_rows_of};
+ghost use Rattle.command_words.specs.Words.{command_in, line_in, seen};
+
+use crate::commands::Command;
+use crate::definition::bugnet_command;
+use crate::error::WordsError;
+use crate::found::named;
+use clap::ArgMatches;
+use clap::error::ErrorKind;
+use std::alloc::Global;
+
+fn matched<'a>(matches: &ArgMatches<'a>) -> Option<Command<'a>>
+    ensures { option_map seen result ≡ line_in (subcommand_rows_of matches.now) }
+{
+    match matches.subcommand() {
+        None => None,
+        Some((name, found)) => named(name, found),
+    }
+}
+
+/// The command that words ask for, of which the first is the program's own name.
+///
+/// Exactly these lines are taken, as clap takes them (options stand anywhere after the command's
+/// name, `--harts=2` is `--harts 2`, and after `--` all words are names):
+///
+/// ```text
+/// record [--harts N] [--interval N] [--limit N] [--log-size N] [--memory N] [--sets N]
+///        [--ways N] [--line N] --seed N [--input FILE] ELF LOG BOOK
+/// replay LOG ELF HART INTERVAL
+/// list LOG
+/// check LOG
+/// ```
+///
+/// Each number is in decimal digits, below 2^64, maybe with a `+` and leading zeros. An option that
+/// is given twice is refused. Whether settings are in their ranges, and names differ, isn't tested.
+pub fn read_words<'a>(alloc: Global, words: &'a [String]) -> Result<Command<'a>, WordsError>
+    ensures taken { IfOk result (λ c. command_in words.now ≡ Some (seen c)) }
+    ensures refused { result ≡ Err WordsError.Refused → command_in words.now ≡ None }
+{
+    let command = bugnet_command(alloc)?;
+    match command.try_get_matches_from(words) {
+        Ok(matches) => match matched(&matches) {
+            Some(asked) => Ok(asked),
+            None => Err(WordsError::Refused),
+        },
+        Err(error) => match error.kind() {
+            ErrorKind::OutOfMemory => Err(WordsError::OutOfMemory),
+            _ => Err(WordsError::Refused),
+        },
+    }
+}
