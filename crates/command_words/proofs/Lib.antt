@@ -1,3 +1,4 @@
 mod Chain
 mod Numbers
 mod Whole
+mod Cases

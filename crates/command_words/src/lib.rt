@@ -7,6 +7,7 @@
 mod commands;
 mod definition;
 mod error;
+mod examples;
 mod found;
 mod reading;
 #[cfg(test)]
@@ -14,4 +15,8 @@ mod tests;
 
 pub use commands::{Command, Recording};
 pub use error::WordsError;
+pub use examples::{
+    each_command_is_taken, names_may_look_like_other_words, numbers_are_decimal,
+    options_stand_anywhere, other_lines_are_refused,
+};
 pub use reading::read_words;

@@ -1,0 +1,110 @@
+-- The lines worked out, by computation.
+use Rattle.std.proofs.Common.{◌≡◌, [], ◌∷◌, codes, Some, None, refl}
+use Rattle.clap.proofs.OnLiterals.{clap_on_literals}
+use Rattle.bn_base.specs.Ranges.{default_settings}
+use Rattle.command_words.specs.Words.{RecordLine, ReplayLine, ListLine, CheckLine, line_of}
+use Rattle.command_words.specs.Examples.{said, plain}
+
+pub before : said (codes "record" ∷ codes "--seed" ∷ codes "5" ∷ codes "E" ∷ codes "L" ∷ codes "B" ∷ []) ≡ Some (RecordLine plain)
+unfolding line_of clap_on_literals
+before = refl
+
+pub between : said (codes "record" ∷ codes "E" ∷ codes "--seed=5" ∷ codes "L" ∷ codes "B" ∷ []) ≡ Some (RecordLine plain)
+unfolding line_of clap_on_literals
+between = refl
+
+pub after : said (codes "record" ∷ codes "E" ∷ codes "L" ∷ codes "B" ∷ codes "--input" ∷ codes "F" ∷ codes "--seed" ∷ codes "5" ∷ []) ≡ Some (RecordLine (record plain { input = Some (codes "F") }))
+unfolding line_of clap_on_literals
+after = refl
+
+pub setting : said (codes "record" ∷ codes "--ways" ∷ codes "2" ∷ codes "E" ∷ codes "L" ∷ codes "B" ∷ codes "--seed=5" ∷ []) ≡ Some (RecordLine (record plain { settings = record default_settings { ways = 2 } }))
+unfolding line_of clap_on_literals
+setting = refl
+
+pub replay : said (codes "replay" ∷ codes "L" ∷ codes "E" ∷ codes "3" ∷ codes "70" ∷ []) ≡ Some (ReplayLine (codes "L") (codes "E") 3 70)
+unfolding line_of clap_on_literals
+replay = refl
+
+pub list : said (codes "list" ∷ codes "L" ∷ []) ≡ Some (ListLine (codes "L"))
+unfolding line_of clap_on_literals
+list = refl
+
+pub check : said (codes "check" ∷ codes "L" ∷ []) ≡ Some (CheckLine (codes "L"))
+unfolding line_of clap_on_literals
+check = refl
+
+pub signed : said (codes "replay" ∷ codes "L" ∷ codes "E" ∷ codes "0" ∷ codes "+5" ∷ []) ≡ Some (ReplayLine (codes "L") (codes "E") 0 5)
+unfolding line_of clap_on_literals
+signed = refl
+
+pub zeros : said (codes "replay" ∷ codes "L" ∷ codes "E" ∷ codes "0" ∷ codes "007" ∷ []) ≡ Some (ReplayLine (codes "L") (codes "E") 0 7)
+unfolding line_of clap_on_literals
+zeros = refl
+
+pub greatest : said (codes "replay" ∷ codes "L" ∷ codes "E" ∷ codes "0" ∷ codes "18446744073709551615" ∷ []) ≡ Some (ReplayLine (codes "L") (codes "E") 0 18446744073709551615)
+unfolding line_of clap_on_literals
+greatest = refl
+
+pub too_great : said (codes "replay" ∷ codes "L" ∷ codes "E" ∷ codes "0" ∷ codes "18446744073709551616" ∷ []) ≡ None
+unfolding line_of clap_on_literals
+too_great = refl
+
+pub no_number : said (codes "replay" ∷ codes "L" ∷ codes "E" ∷ codes "0" ∷ codes "x" ∷ []) ≡ None
+unfolding line_of clap_on_literals
+no_number = refl
+
+pub dashes : said (codes "check" ∷ codes "--" ∷ codes "--help" ∷ []) ≡ Some (CheckLine (codes "--help"))
+unfolding line_of clap_on_literals
+dashes = refl
+
+pub dash : said (codes "check" ∷ codes "-" ∷ []) ≡ Some (CheckLine (codes "-"))
+unfolding line_of clap_on_literals
+dash = refl
+
+pub command : said (codes "check" ∷ codes "record" ∷ []) ≡ Some (CheckLine (codes "record"))
+unfolding line_of clap_on_literals
+command = refl
+
+pub no_words : line_of [] ≡ None
+unfolding line_of clap_on_literals
+no_words = refl
+
+pub no_command : said [] ≡ None
+unfolding line_of clap_on_literals
+no_command = refl
+
+pub no_seed : said (codes "record" ∷ codes "E" ∷ codes "L" ∷ codes "B" ∷ []) ≡ None
+unfolding line_of clap_on_literals
+no_seed = refl
+
+pub no_name : said (codes "record" ∷ codes "--seed=5" ∷ codes "E" ∷ codes "L" ∷ []) ≡ None
+unfolding line_of clap_on_literals
+no_name = refl
+
+pub one_more : said (codes "check" ∷ codes "L" ∷ codes "L" ∷ []) ≡ None
+unfolding line_of clap_on_literals
+one_more = refl
+
+pub repeated : said (codes "record" ∷ codes "--seed=5" ∷ codes "--seed=5" ∷ codes "E" ∷ codes "L" ∷ codes "B" ∷ []) ≡ None
+unfolding line_of clap_on_literals
+repeated = refl
+
+pub shortened : said (codes "record" ∷ codes "--see=5" ∷ codes "E" ∷ codes "L" ∷ codes "B" ∷ []) ≡ None
+unfolding line_of clap_on_literals
+shortened = refl
+
+pub unknown : said (codes "check" ∷ codes "--deep" ∷ codes "L" ∷ []) ≡ None
+unfolding line_of clap_on_literals
+unknown = refl
+
+pub help : said (codes "help" ∷ []) ≡ None
+unfolding line_of clap_on_literals
+help = refl
+
+pub help_of_a_command : said (codes "check" ∷ codes "L" ∷ codes "--help" ∷ []) ≡ None
+unfolding line_of clap_on_literals
+help_of_a_command = refl
+
+pub version : said (codes "--version" ∷ []) ≡ None
+unfolding line_of clap_on_literals
+version = refl

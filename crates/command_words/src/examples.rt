@@ -1,0 +1,58 @@
+// Lines whose meaning is worked out, so that the definition is seen at work.
+ghost use Rattle.std.specs.Prelude.{◌≡◌, ◌∷◌, [], Some, None, codes};
+ghost use Rattle.bn_base.specs.Ranges.{default_settings};
+ghost use Rattle.command_words.specs.Words.{RecordLine, ReplayLine, ListLine, CheckLine, line_of};
+ghost use Rattle.command_words.specs.Examples.{said, plain};
+
+/// Options stand before, between and after names, with `=` or in two words. Settings that aren't
+/// given have their defaults.
+#[tactic(auto, using(crate::proofs::Cases::before, crate::proofs::Cases::between, crate::proofs::Cases::after, crate::proofs::Cases::setting))]
+pub fn options_stand_anywhere()
+    ensures before { said (codes "record" ∷ codes "--seed" ∷ codes "5" ∷ codes "E" ∷ codes "L" ∷ codes "B" ∷ []) ≡ Some (RecordLine plain) }
+    ensures between { said (codes "record" ∷ codes "E" ∷ codes "--seed=5" ∷ codes "L" ∷ codes "B" ∷ []) ≡ Some (RecordLine plain) }
+    ensures after { said (codes "record" ∷ codes "E" ∷ codes "L" ∷ codes "B" ∷ codes "--input" ∷ codes "F" ∷ codes "--seed" ∷ codes "5" ∷ []) ≡ Some (RecordLine (record plain { input = Some (codes "F") })) }
+    ensures setting { said (codes "record" ∷ codes "--ways" ∷ codes "2" ∷ codes "E" ∷ codes "L" ∷ codes "B" ∷ codes "--seed=5" ∷ []) ≡ Some (RecordLine (record plain { settings = record default_settings { ways = 2 } })) }
+{}
+
+/// The other commands, each with its names and numbers in order.
+#[tactic(auto, using(crate::proofs::Cases::replay, crate::proofs::Cases::list, crate::proofs::Cases::check))]
+pub fn each_command_is_taken()
+    ensures replay { said (codes "replay" ∷ codes "L" ∷ codes "E" ∷ codes "3" ∷ codes "70" ∷ []) ≡ Some (ReplayLine (codes "L") (codes "E") 3 70) }
+    ensures list { said (codes "list" ∷ codes "L" ∷ []) ≡ Some (ListLine (codes "L")) }
+    ensures check { said (codes "check" ∷ codes "L" ∷ []) ≡ Some (CheckLine (codes "L")) }
+{}
+
+/// Numbers are decimal, may have a plus sign and leading zeros, and end below 2^64.
+#[tactic(auto, using(crate::proofs::Cases::signed, crate::proofs::Cases::zeros, crate::proofs::Cases::greatest, crate::proofs::Cases::too_great, crate::proofs::Cases::no_number))]
+pub fn numbers_are_decimal()
+    ensures signed { said (codes "replay" ∷ codes "L" ∷ codes "E" ∷ codes "0" ∷ codes "+5" ∷ []) ≡ Some (ReplayLine (codes "L") (codes "E") 0 5) }
+    ensures zeros { said (codes "replay" ∷ codes "L" ∷ codes "E" ∷ codes "0" ∷ codes "007" ∷ []) ≡ Some (ReplayLine (codes "L") (codes "E") 0 7) }
+    ensures greatest { said (codes "replay" ∷ codes "L" ∷ codes "E" ∷ codes "0" ∷ codes "18446744073709551615" ∷ []) ≡ Some (ReplayLine (codes "L") (codes "E") 0 18446744073709551615) }
+    ensures too_great { said (codes "replay" ∷ codes "L" ∷ codes "E" ∷ codes "0" ∷ codes "18446744073709551616" ∷ []) ≡ None }
+    ensures no_number { said (codes "replay" ∷ codes "L" ∷ codes "E" ∷ codes "0" ∷ codes "x" ∷ []) ≡ None }
+{}
+
+/// After `--` all words are names. `-` alone is a name, and so is a command's.
+#[tactic(auto, using(crate::proofs::Cases::dashes, crate::proofs::Cases::dash, crate::proofs::Cases::command))]
+pub fn names_may_look_like_other_words()
+    ensures dashes { said (codes "check" ∷ codes "--" ∷ codes "--help" ∷ []) ≡ Some (CheckLine (codes "--help")) }
+    ensures dash { said (codes "check" ∷ codes "-" ∷ []) ≡ Some (CheckLine (codes "-")) }
+    ensures command { said (codes "check" ∷ codes "record" ∷ []) ≡ Some (CheckLine (codes "record")) }
+{}
+
+/// A word too few or too many, an option that is repeated, shortened or unknown, and what asks for
+/// help or the version are refused.
+#[tactic(auto, using(crate::proofs::Cases::no_words, crate::proofs::Cases::no_command, crate::proofs::Cases::no_seed, crate::proofs::Cases::no_name, crate::proofs::Cases::one_more, crate::proofs::Cases::repeated, crate::proofs::Cases::shortened, crate::proofs::Cases::unknown, crate::proofs::Cases::help, crate::proofs::Cases::help_of_a_command, crate::proofs::Cases::version))]
+pub fn other_lines_are_refused()
+    ensures no_words { line_of [] ≡ None }
+    ensures no_command { said [] ≡ None }
+    ensures no_seed { said (codes "record" ∷ codes "E" ∷ codes "L" ∷ codes "B" ∷ []) ≡ None }
+    ensures no_name { said (codes "record" ∷ codes "--seed=5" ∷ codes "E" ∷ codes "L" ∷ []) ≡ None }
+    ensures one_more { said (codes "check" ∷ codes "L" ∷ codes "L" ∷ []) ≡ None }
+    ensures repeated { said (codes "record" ∷ codes "--seed=5" ∷ codes "--seed=5" ∷ codes "E" ∷ codes "L" ∷ codes "B" ∷ []) ≡ None }
+    ensures shortened { said (codes "record" ∷ codes "--see=5" ∷ codes "E" ∷ codes "L" ∷ codes "B" ∷ []) ≡ None }
+    ensures unknown { said (codes "check" ∷ codes "--deep" ∷ codes "L" ∷ []) ≡ None }
+    ensures help { said (codes "help" ∷ []) ≡ None }
+    ensures help_of_a_command { said (codes "check" ∷ codes "L" ∷ codes "--help" ∷ []) ≡ None }
+    ensures version { said (codes "--version" ∷ []) ≡ None }
+{}
