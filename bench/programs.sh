@@ -1,0 +1,122 @@
+#!/usr/bin/env bash
+# Times the whole program on examples/sort.elf: its recording, the replay of its longest interval,
+# and the reading of a full log of 64 MiB. Beside them stand qemu-riscv32 on the same program, one
+# instruction at a time too, and sha256sum on the same log. Last, how much memory the list of turns
+# takes. It prints ratios; the numbers beside them are those of the machine and of the moment.
+#
+# bench/programs.sh [RUNS]: each is run RUNS times (3), and the least processor time counts.
+set -eu
+top=$(cd "$(dirname "$0")/.." && pwd)
+work=$(mktemp -d)
+trap 'rm -rf "$work"' EXIT
+runs=${1:-3}
+elf=$top/examples/sort.elf
+zelkuma=$top/zelkuma
+
+# Without words the program only refuses them, but it is built by then.
+status=0
+"$zelkuma" >/dev/null 2>"$work/err" || status=$?
+if [ "$status" -ne 2 ]; then
+    cat "$work/err" >&2
+    exit 1
+fi
+
+# seconds STATUS WORD..: runs the words, which have to end with this status, and prints the least
+# processor time of all the runs. What they write to err last is in $work/err.
+seconds() {
+    local wanted=$1 run status
+    shift
+    : >"$work/times"
+    for run in $(seq "$runs"); do
+        status=0
+        { TIMEFORMAT='%U %S'; time "$@" >/dev/null 2>"$work/err"; } 2>>"$work/times" || status=$?
+        if [ "$status" -ne "$wanted" ]; then
+            echo "run $run of '$*' ended with $status, and not with $wanted:" >&2
+            cat "$work/err" >&2
+            exit 1
+        fi
+    done
+    awk '{ s = $1 + $2; if (NR == 1 || s < least) least = s }
+        END { print least < 0.001 ? 0.001 : least }' "$work/times"
+}
+
+# The number behind a word of the summary that was last on err.
+told() { sed -n "s/^bugnet: .*$1 \([0-9]*\).*/\1/p" "$work/err"; }
+
+# rate WHAT COUNT UNIT SECONDS, then pairs of OTHER OTHER_SECONDS: how many a second, and beside
+# the others how many times their speed.
+rate() {
+    awk 'BEGIN {
+        printf "%s: %.0f %s in %.3f seconds", ARGV[1], ARGV[2], ARGV[3], ARGV[4]
+        printf ", %.0f a second", ARGV[2] / ARGV[4]
+        for (i = 5; i + 1 < ARGC; i += 2) printf ", %.3g of %s", ARGV[i + 1] / ARGV[4], ARGV[i]
+        printf "\n"
+    }' "$@"
+}
+
+# The recording, with an interval of a million instructions so that one replay takes a while.
+record=(record --seed 1 --interval 1000000 --log-size 67108864)
+recorded=$(seconds 0 "$zelkuma" "${record[@]}" "$elf" "$work/LOG" "$work/BOOK")
+instructions=$(told instructions)
+turns=$(told turns)
+"$zelkuma" list "$work/LOG" >"$work/list"
+# The sort ends with its checksum as its code, and a process has the lower 8 bits of that.
+code=$((16#$(awk '$5 == "exit" { print $6 }' "$work/list") % 256))
+
+others=()
+if command -v qemu-riscv32 >/dev/null; then
+    single=-singlestep
+    if qemu-riscv32 -help | grep -q one-insn-per-tb; then
+        single=-one-insn-per-tb
+    fi
+    stepped=$(seconds "$code" qemu-riscv32 "$single" "$elf")
+    whole=$(seconds "$code" qemu-riscv32 "$elf")
+    others=("qemu-riscv32 $single" "$stepped" "qemu-riscv32" "$whole")
+else
+    echo "qemu-riscv32 (Debian's qemu-user) is not installed: nothing stands beside the recording"
+fi
+rate record "$instructions" instructions "$recorded" "${others[@]}"
+
+# The longest interval, beside how long so many instructions took in the other ways.
+read -r hart interval rows < <(awk '
+    { n = $4 - $3; if (n > most) { most = n; which = $1 " " $2 } }
+    END { print which, most }' "$work/list")
+share() { awk -v s="$1" -v n="$rows" -v of="$instructions" 'BEGIN { print s * n / of }'; }
+replayed=$(seconds 0 "$zelkuma" replay "$work/LOG" "$elf" "$hart" "$interval")
+for i in $(seq 1 2 "${#others[@]}"); do
+    others[i]=$(share "${others[i]}")
+done
+rate replay "$rows" rows "$replayed" "the recording of as many" "$(share "$recorded")" "${others[@]}"
+
+# A full log: intervals of 20 instructions make more than 64 MiB of Headers, Ends and FirstLoads.
+runs=1 seconds 0 "$zelkuma" record --seed 1 --lean --interval 20 --log-size 67108864 \
+    --sets 1 --ways 1 --line 1 "$elf" "$work/LOG" "$work/BOOK" >/dev/null
+if [ "$(told dropped)" -eq 0 ]; then
+    echo "the log is not full" >&2
+    exit 1
+fi
+kept=$(told kept)
+digested=$(seconds 0 sha256sum "$work/LOG")
+checked=$(seconds 0 "$zelkuma" check "$work/LOG")
+listed=$(seconds 0 "$zelkuma" list "$work/LOG")
+rate check "$kept" bytes "$checked" sha256sum "$digested"
+rate list "$kept" bytes "$listed" "check" "$checked"
+
+# The list of turns is the difference between a recording that tells it and one that doesn't.
+peak() { # WORD..: the most memory that they took, in KiB
+    if ! /usr/bin/time -f %M -o "$work/peak" "$@" >/dev/null 2>"$work/err"; then
+        cat "$work/err" >&2
+        exit 1
+    fi
+    cat "$work/peak"
+}
+if [ -x /usr/bin/time ]; then
+    full=$(peak "$zelkuma" "${record[@]}" "$elf" "$work/LOG" "$work/BOOK")
+    lean=$(peak "$zelkuma" "${record[@]}" --lean "$elf" "$work/LOG" "$work/BOOK")
+    awk -v full="$full" -v lean="$lean" -v turns="$turns" 'BEGIN {
+        printf "list of turns: %d turns, %.0f bytes each", turns, (full - lean) * 1024 / turns
+        printf " at the peak of %d KiB, %.2f of that without it\n", full, full / lean
+    }'
+else
+    echo "/usr/bin/time (Debian's time) is not installed: the list of turns is not measured"
+fi
