@@ -5,13 +5,12 @@ use Rattle.bn_base.specs.Ranges.{IsSetting, default_settings}
 use Rattle.log_order.specs.Order.{step, after_all, late_edge, ended, broken, order_break, broken_by}
 use Rattle.log_order.specs.Rules.{after_header}
 use Rattle.log_ring.specs.Kept.{kept}
-use Rattle.run_laws.specs.History.{IsLawful}
+use Rattle.run_laws.specs.History.{are_orderly, IsLawful}
 use Rattle.run_model.specs.Examples.{an_exit, program_of}
 use Rattle.run_model.specs.Files.{kept_of, dropped_of}
 use Rattle.run_model.specs.Runs.{is_over}
 use Rattle.run_model.specs.Turn.{serve}
 use Rattle.file_laws.specs.Given.{IsImage, IsRecording}
-use Rattle.file_laws.specs.Recorded.{are_orderly}
 use Rattle.file_laws.specs.Examples.{a_digest, an_exit_begun, a_stray_store, after_a_stray_store}
 
 defaults : IsSetting default_settings

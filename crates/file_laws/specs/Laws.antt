@@ -18,9 +18,9 @@ use Rattle.hart_replay.specs.Replay.{Done}
 use Rattle.run_model.specs.Rows.{rows_in}
 use Rattle.run_model.specs.Runs.{start, run_of, is_over}
 use Rattle.run_model.specs.Files.{kept_of, dropped_of, content_of, file_of}
-use Rattle.run_laws.specs.History.{after_rows, IsLawful}
+use Rattle.run_laws.specs.History.{after_rows, are_orderly, IsLawful}
 use Rattle.file_laws.specs.Given.{HasWords, IsRecording}
-use Rattle.file_laws.specs.Recorded.{are_orderly, KeepsRules}
+use Rattle.file_laws.specs.Recorded.{KeepsRules}
 
 -- After lawful rows, whoever made their asks, the kept records keep the rules of single records
 abbrev pub KeptRecordsKeepTheRules : Type 0

@@ -1,20 +1,13 @@
 -- What holds of the records that are kept of a run.
-use Rattle.std.specs.Prelude.{◌≡◌, ℕ, ◌==◌, Bool, true, false, List, [], ◌∷◌, replicate, Ok}
+use Rattle.std.specs.Prelude.{◌≡◌, ℕ, ◌==◌, List, replicate, Ok}
 use Rattle.std.specs.List.{AllByRecursion}
-use Rattle.bn_base.specs.Programs.{Program}
 use Rattle.bn_base.specs.declared.settings.RawSettings.{RawSettings}
-use Rattle.bn_outside.specs.declared.turn_row.TurnRow.{TurnRow}
 use Rattle.log_order.specs.declared.view.HartView.{HartView}
 use Rattle.log_order.specs.Order.{after_all, terms_of}
 use Rattle.log_order.specs.Rules.{fresh}
 use Rattle.log_order.specs.Suffix.{IsEarly}
-use Rattle.run_model.specs.Turn.{Run, serve, is_orderly}
+use Rattle.run_model.specs.Turn.{Run}
 use Rattle.run_model.specs.Files.{kept_of, dropped_of}
-
--- whether each row's ask was one that its hart could make, at the time when it was served
-abbrev pub are_orderly : RawSettings → Program → Run → List TurnRow → Bool
-are_orderly c i run [] = true
-are_orderly c i run (r ∷ rs) = elim (is_orderly c i (run.harts r.hart) r.ask) [ true ↦ are_orderly c i (serve c i run r.hart r.ask).run rs | false ↦ false ]
 
 -- how many instructions each hart has done
 abbrev pub counts_of : Run → ℕ → ℕ
