@@ -1,1 +1,4 @@
-
+pub mod Serves
+pub mod Marks
+pub mod Rows
+pub mod History

@@ -1,35 +1,109 @@
 -- What a bus keeps, and the rows that led to it.
-use Rattle.std.specs.Prelude.{◌≡◌, ℕ, Bool, true, false, not, List}
+use Rattle.std.specs.Prelude.{◌≡◌, ℕ, zero, suc, ◌+◌, Bool, true, false, not, List, [], ◌∷◌, slice_get, Option}
 use Rattle.bn_base.specs.Programs.{Program}
+use Rattle.bn_base.specs.declared.end_mark.EndMark.{EndMark}
 use Rattle.bn_base.specs.declared.settings.RawSettings.{RawSettings}
+use Rattle.rv_meaning.specs.declared.asks.Ask.{Ask}
+use Rattle.rv_meaning.specs.declared.asks.Reply.{Reply}
+use Rattle.log_ring.specs.Kept.{Held, Holds}
 use Rattle.bn_outside.specs.declared.turn_row.TurnRow.{TurnRow}
+use Rattle.run_model.specs.declared.hart.Hart.{Hart}
+use Rattle.run_model.specs.declared.start.Start.{Start}
 use Rattle.run_model.specs.Plain.{PlainParts, IsRun}
-use Rattle.run_model.specs.Turn.{Run, halted}
+use Rattle.run_model.specs.Parts.{MachineParts, IsMachine}
+use Rattle.first_load_bits.specs.Stands.{Contents}
+use Rattle.run_model.specs.EachCache.{AreCaches}
+use Rattle.run_model.specs.Harts.{AreHarts, alive}
+use Rattle.run_model.specs.Turn.{Run, halted, serve}
 use Rattle.run_model.specs.Runs.{start}
 use Rattle.run_laws.specs.History.{after_rows, are_orderly, IsLawful}
 
--- what it keeps: the machine that takes turns, whether it was halted, whether an ask that isn't orderly was served, and
--- the rows that its book tells
+-- what a run begins with
+pub record Began : Type 0 where
+  pub image : Program
+  pub settings : RawSettings
+  pub input : List ℕ
+  pub digest : List ℕ
+
+abbrev pub began_of : Start → Began
+began_of s = record { image = s.image; settings = s.settings; input = s.input.items; digest = s.digest }
+
+-- what is seen of a bus: what it began with, the rows that its book tells, whether it was halted, whether an ask that
+-- isn't orderly was served, the machine, the harts, their caches, and how many turns it took
 pub record Seen : Type 0 where
-  pub plain : PlainParts
+  pub began : Began
+  pub rows : List TurnRow
   pub halted : Bool
   pub disordered : Bool
-  pub rows : List TurnRow
+  pub machine : MachineParts
+  pub harts : List Hart
+  pub caches : List Contents
+  pub turns : ℕ
+
+abbrev pub seen : PlainParts → (halted disordered : Bool) → List TurnRow → Seen
+seen p halted disordered rows = record { began = began_of p.start; rows = rows; halted = halted; disordered = disordered; machine = p.machine; harts = p.trace.harts.items; caches = p.trace.caches; turns = p.turns }
+
+-- the machine, the harts and their caches are those of the run
+pub record IsState (s : Seen) (run : Run) : Type 0 where
+  pub machine : IsMachine s.began.input s.machine run.machine
+  pub harts : AreHarts s.harts run.harts
+  pub caches : AreCaches s.began.settings s.caches run.events
+  pub turns : s.turns ≡ run.turns
+
+-- ---- runs of a bus
+
+-- the run before the first turn
+abbrev pub first_run : Began → Run
+first_run b = start b.settings b.image b.input
 
 abbrev pub halted_if : Bool → Run → Run
 halted_if true run = halted run
 halted_if false run = run
 
--- the run before the first turn
-abbrev pub first_run : PlainParts → Run
-first_run p = start p.start.settings p.start.image p.start.input.items
-
 -- the run after rows that were served, and after a halt
-abbrev pub run_after : PlainParts → Bool → List TurnRow → Run
-run_after p halted rows = halted_if halted (after_rows p.start.settings p.start.image (first_run p) rows)
+abbrev pub run_after : Began → Bool → List TurnRow → Run
+run_after b halted rows = halted_if halted (after_rows b.settings b.image (first_run b) rows)
 
--- these rows led to it
+-- what is served, and to what
+abbrev pub served_run : Began → Run → ℕ → Ask → Run
+served_run b run hart ask = (serve b.settings b.image run hart ask).run
+
+abbrev pub served_reply : Began → Run → ℕ → Ask → Reply
+served_reply b run hart ask = (serve b.settings b.image run hart ask).reply
+
+abbrev pub row : ℕ → Ask → Reply → TurnRow
+row hart ask reply = record { hart = hart; ask = ask; reply = reply }
+
+-- the rows are lawful, and tell whether all asks were orderly
+pub record AreTold (b : Began) (disordered : Bool) (rows : List TurnRow) : Type 0 where
+  pub lawful : IsLawful b.settings b.image (first_run b) rows
+  pub orderly : disordered ≡ not (are_orderly b.settings b.image (first_run b) rows)
+
+-- these rows led to what is kept
 pub record IsHistory (p : PlainParts) (halted disordered : Bool) (rows : List TurnRow) : Type 0 where
-  pub lawful : IsLawful p.start.settings p.start.image (first_run p) rows
-  pub run : IsRun p (run_after p halted rows)
-  pub orderly : disordered ≡ not (are_orderly p.start.settings p.start.image (first_run p) rows)
+  pub told : AreTold (began_of p.start) disordered rows
+  pub run : IsRun p (run_after (began_of p.start) halted rows)
+
+-- the rows of a book that tells led to what is kept, and some rows did in any case
+pub record IsKept (tells : Bool) (rows : List TurnRow) (p : PlainParts) (halted disordered : Bool) : Type 0 where
+  pub told : tells ≡ true → IsHistory p halted disordered rows
+  pub some : (rs : List TurnRow) × IsHistory p halted disordered rs
+
+-- what the type of a bus says of the rows of its book: they are lawful, and the machine and the harts are as they leave them
+pub record IsTold (s : Seen) : Type 0 where
+  pub told : AreTold s.began s.disordered s.rows
+  pub state : IsState s (run_after s.began s.halted s.rows)
+
+-- and of those that a book doesn't tell, with a ring that holds the log
+pub record IsLogged (s : Seen) (ring : Held) (rows : List TurnRow) : Type 0 where
+  pub told : AreTold s.began s.disordered rows
+  pub state : IsState s (run_after s.began s.halted rows)
+  pub log : Holds ring (run_after s.began s.halted rows).stream
+
+abbrev pub live_in : Seen → ℕ → Bool
+live_in s k = alive (slice_get s.harts k)
+
+-- the last marks of n harts from k on
+abbrev pub marks : ℕ → ℕ → (ℕ → Hart) → List (Option EndMark)
+marks k zero harts = []
+marks k (suc n) harts = (harts k).mark ∷ marks (k + 1) n harts

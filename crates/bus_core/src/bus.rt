@@ -1,28 +1,35 @@
-//! The bus.
+//! The bus: the machine that all harts share, with its book.
 ghost use Rattle.std.specs.Prelude.{◌≡◌, true, false};
 
+use crate::ends::Ends;
 use bn_outside::Book;
 use run_model::Plain;
 use std::marker::Model;
 
-/// The machine that all harts share, with its book.
+/// The machine that all harts share, with the book of its turns. One ask is served at a time.
+///
+/// Its type says that rows led to it, those of its book where that tells them: each was of a live hart
+/// and had the machine's reply, and memory, reservations, caches, race log, harts and ring are those of
+/// the run after these rows.
 #[derive(Drop)]
 pub struct Bus<B: Book> {
-    plain: Plain,
-    book: B,
-    halted: bool,
-    disordered: bool,
+    pub(crate) plain: Plain,
+    // Room for what `close` hands over.
+    pub(crate) ends: Ends,
+    pub(crate) book: B,
+    pub(crate) halted: bool,
+    pub(crate) disordered: bool,
 }
 
 impl<B: Book> Model for Bus<B> {
     ghost use Rattle.std.specs.Prelude.{◌≡◌, true, List};
     ghost use Rattle.bn_outside.specs.declared.turn_row.TurnRow.{TurnRow};
     ghost use Rattle.run_model.specs.Turning.{parts};
-    ghost use Rattle.bus_core.specs.Bus.{Seen, IsHistory};
+    ghost use Rattle.bus_core.specs.Bus.{Seen, seen, IsKept};
 
     ghost Value = { Seen };
 
-    ghost view = { λ b. record { plain = parts b.plain; halted = b.halted; disordered = b.disordered; rows = B.told b.book } };
+    ghost view = { λ b. seen (parts b.plain) b.halted b.disordered (B.told b.book) };
 
-    ghost invariant = { λ b. B.tells ≡ true → IsHistory (parts b.plain) b.halted b.disordered (B.told b.book) };
+    ghost invariant = { λ b. IsKept B.tells (B.told b.book) (parts b.plain) b.halted b.disordered };
 }

@@ -1,6 +1,11 @@
-//! The bus.
+//! The bus: one served ask at a time, by a type that knows its history.
 #![tactic(auto)]
 
 mod bus;
+mod closed;
+mod ends;
+mod serving;
+mod turn;
 
 pub use bus::Bus;
+pub use closed::Closed;

@@ -6,7 +6,7 @@ ghost use Rattle.rv_meaning.specs.declared.asks.Reply.TheVariants as replies;
 ghost use Rattle.run_model.specs.Machine.{Machine as Meant, call_of};
 ghost use Rattle.run_model.specs.Turn.{Run, span_of, is_orderly, serve_call, serve_disorderly, halted, turn, budget};
 ghost use Rattle.run_model.specs.Parts.{HasRoom, IsMachine, AreAddresses};
-ghost use Rattle.run_model.specs.Harts.{AreHarts, hart_in};
+ghost use Rattle.run_model.specs.Harts.{hart_in};
 ghost use Rattle.run_model.specs.Plain.{IsRun, IsRaceReady};
 ghost use Rattle.log_ring.specs.Kept.{Holds};
 ghost use Rattle.run_model.specs.Runs.{start, is_live, most_turns};
@@ -199,7 +199,7 @@ impl Plain {
     /// How many instructions a hart may do before its next cut.
     pub fn budget(&self, hart: HartId) -> u64
         requires { hart < self.now.start.settings.harts }
-        ensures { (run : Run) → IsRun (parts self.now) run → result ≡ budget self.now.start.settings (run.harts hart) }
+        ensures { result ≡ budget self.now.start.settings (hart_in self.now.trace.harts.items hart) }
     {
         self.trace.harts[hart as usize].budget(&self.start.settings)
     }
@@ -207,7 +207,7 @@ impl Plain {
     /// A hart's state, as its last served ask left it.
     pub fn state(&self, hart: HartId) -> &HartState
         requires { hart < self.now.start.settings.harts }
-        ensures { (run : Run) → IsRun (parts self.now) run → result.now ≡ (run.harts hart).state }
+        ensures { result.now ≡ (hart_in self.now.trace.harts.items hart).state }
     {
         &self.trace.harts[hart as usize].state
     }
@@ -221,13 +221,13 @@ impl Plain {
 
     /// Takes out what was recorded. It takes no memory.
     pub fn into_recorded(self) -> Recorded
-        ensures harts { (run : Run) → IsRun (parts self) run → AreHarts result.harts.items run.harts }
+        ensures harts { result.harts ≡ (parts self).trace.harts }
         ensures count { length result.harts.items ≡ self.start.settings.harts }
-        ensures ring { (run : Run) → IsRun (parts self) run → Holds result.ring run.stream }
+        ensures ring { result.ring ≡ (parts self).trace.ring }
         ensures size { result.ring.size ≡ self.start.settings.log_size }
-        ensures out { (run : Run) → IsRun (parts self) run → result.out.items ≡ run.machine.out }
-        ensures err { (run : Run) → IsRun (parts self) run → result.err.items ≡ run.machine.err }
-        ensures turns { (run : Run) → IsRun (parts self) run → result.turns ≡ run.turns }
+        ensures out { result.out.items ≡ (parts self).machine.out }
+        ensures err { result.err.items ≡ (parts self).machine.err }
+        ensures turns { result.turns ≡ (parts self).turns }
     {
         let Plain {
             start: _,

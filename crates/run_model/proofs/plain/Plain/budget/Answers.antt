@@ -1,9 +1,9 @@
 use Rattle.std.proofs.Common.{◌∙◌, ap, arith}
 use Rattle.run_model.specs.Turn.{budget}
-use Rattle.run_model.proofs.Owns.{hart_at, hart_of_run}
+use Rattle.run_model.proofs.Owns.{hart_at}
 use Rattle.run_model.proofs.plain.Plain.budget.Goals as goal
 
 pub returns : goal.returns
-returns c run is =
-    let p = c.args.self.now in let hs = p.trace.harts.items in
-    c.budget.ensures ∙ ap (budget p.start.settings) (hart_at hs c.args.hart c.index.result.now (omega (arith, c.requires, p.fits.harts)) c.index.ensures ∙ hart_of_run hs c.args.hart run.harts is.trace.harts (omega (arith, c.requires, p.fits.harts)))
+returns c =
+    let p = c.args.self.now in
+    c.budget.ensures ∙ ap (budget p.start.settings) (hart_at p.trace.harts.items c.args.hart c.index.result.now (omega (arith, c.requires, p.fits.harts)) c.index.ensures)

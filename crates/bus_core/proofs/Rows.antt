@@ -1,0 +1,65 @@
+-- Rows that are one more.
+use Rattle.std.proofs.Common.{◌≡◌, ℕ, zero, suc, ◌<◌, Bool, true, false, not, ◌&&◌, ◌||◌, List, [], ◌∷◌, ◌++◌, length, refl, sym, ◌∙◌, ap, arith}
+use Rattle.std.specs.Prelude.{nat_lt, slice_get}
+use Rattle.bn_base.specs.Programs.{Program}
+use Rattle.bn_base.specs.declared.settings.RawSettings.{RawSettings}
+use Rattle.bn_outside.specs.declared.turn_row.TurnRow.{TurnRow}
+use Rattle.run_model.specs.declared.hart.Hart.{Hart}
+use Rattle.run_model.specs.Harts.{AreHarts, alive}
+use Rattle.run_model.specs.Runs.{is_live}
+use Rattle.run_model.specs.Turn.{Run, serve, is_orderly, dead}
+use Rattle.run_laws.specs.History.{after_rows, are_orderly, IsLawful}
+
+pub after_snoc : (c : RawSettings) (i : Program) (run : Run) (rows : List TurnRow) (r : TurnRow) → after_rows c i run (rows ++ r ∷ []) ≡ (serve c i (after_rows c i run rows) r.hart r.ask).run
+after_snoc c i run [] r = refl
+after_snoc c i run (x ∷ rows) r = after_snoc c i (serve c i run x.hart x.ask).run rows r
+
+pub lawful_snoc : (c : RawSettings) (i : Program) (run : Run) (rows : List TurnRow) (r : TurnRow) → IsLawful c i run rows → is_live c (after_rows c i run rows) r.hart ≡ true
+    → r.reply ≡ (serve c i (after_rows c i run rows) r.hart r.ask).reply → IsLawful c i run (rows ++ r ∷ [])
+lawful_snoc c i run [] r lawful live same = (live, same, tt)
+lawful_snoc c i run (x ∷ rows) r lawful live same = (lawful.0, lawful.1, lawful_snoc c i (serve c i run x.hart x.ask).run rows r lawful.2 live same)
+
+pub orderly_snoc : (c : RawSettings) (i : Program) (run : Run) (rows : List TurnRow) (r : TurnRow) → are_orderly c i run (rows ++ r ∷ []) ≡ (are_orderly c i run rows && is_orderly c i ((after_rows c i run rows).harts r.hart) r.ask)
+orderly_snoc c i run [] r = last (is_orderly c i (run.harts r.hart) r.ask)
+  where
+    last : (b : Bool) → elim b as (λ x. Bool) [ true ↦ true | false ↦ false ] ≡ (true && b)
+    last true = refl
+    last false = refl
+orderly_snoc c i run (x ∷ rows) r = by_first (is_orderly c i (run.harts x.hart) x.ask) _ _ _ (orderly_snoc c i (serve c i run x.hart x.ask).run rows r)
+  where
+    by_first : (b x y z : Bool) → x ≡ (y && z) → elim b as (λ t. Bool) [ true ↦ x | false ↦ false ] ≡ (elim b as (λ t. Bool) [ true ↦ y | false ↦ false ] && z)
+    by_first true x y z e = e
+    by_first false x y z e = refl
+
+pub not_both : (a b d o e : Bool) → d ≡ not a → o ≡ b → e ≡ (d || not o) → e ≡ not (a && b)
+not_both a b d o e ed eo ee = ee ∙ ap (λ (x : Bool). x || not o) ed ∙ ap (λ (x : Bool). not a || not x) eo ∙ by_both a b
+  where
+    by_both : (a b : Bool) → (not a || not b) ≡ not (a && b)
+    by_both true true = refl
+    by_both true false = refl
+    by_both false true = refl
+    by_both false false = refl
+
+-- ---- live harts
+
+-- what is live stands in the list
+pub alive_in : (hs : List Hart) (k : ℕ) → alive (slice_get hs k) ≡ true → k < length hs
+alive_in [] zero e = cc
+alive_in [] (suc k) e = cc
+alive_in (h ∷ hs) zero e = omega arith
+alive_in (h ∷ hs) (suc k) e = omega (arith, alive_in hs k e)
+
+below : (k n : ℕ) → k < n → nat_lt k n ≡ true
+below k n h = grind (arith, h)
+
+and_both : (a b : Bool) → a ≡ true → b ≡ true → (a && b) ≡ true
+and_both a b ea eb = ap (λ (x : Bool). x && b) ea ∙ eb
+
+pub live_as : (c : RawSettings) (run : Run) (hs : List Hart) (k : ℕ) → AreHarts hs run.harts → length hs ≡ c.harts → alive (slice_get hs k) ≡ true → is_live c run k ≡ true
+live_as c run hs k are len live =
+    let within = alive_in hs k live in
+    and_both (nat_lt k c.harts) (run.harts k).live (below k c.harts (omega (arith, within, len))) (sym (ap alive (are k within)) ∙ live)
+
+-- where all harts were ended, none is live
+pub none_alive : (hs : List Hart) (f : ℕ → Hart) (k : ℕ) → AreHarts hs (λ j. dead (f j)) → alive (slice_get hs k) ≡ true → true ≡ false
+none_alive hs f k are live = sym live ∙ ap alive (are k (alive_in hs k live))

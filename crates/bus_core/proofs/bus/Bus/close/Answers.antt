@@ -1,0 +1,28 @@
+use Rattle.std.proofs.Common.{Bool, not, ◌&&◌, length, subst, sym, ◌∙◌, ap, map}
+use Rattle.std.specs.Prelude.{Vec}
+use Rattle.std.specs.Global.{Global}
+use Rattle.run_model.specs.declared.hart.Hart.{Hart}
+use Rattle.run_model.specs.Runs.{any_live, is_over}
+use Rattle.run_model.specs.Harts.{hart_in}
+use Rattle.run_model.specs.Turning.{parts}
+use Rattle.bus_core.specs.Bus.{Seen, seen, marks, IsState}
+use Rattle.bus_core.proofs.Marks.{marks_are, live_is, over_is}
+use Rattle.bus_core.proofs.bus.Bus.close.Goals as goal
+
+pub returns-clause-ends : goal.returns-clause-ends
+returns-clause-ends g c run is =
+    let b = c.self.inside in let p = parts b.plain in
+    let at : IsState (seen p b.halted b.disordered (g.B.Book.told b.book)) run = subst (λ (x : Seen). IsState x run) (sym c.self.view_is) is in
+    c.of.ensures ∙ ap (λ (v : Vec Hart Global). map (λ (h : Hart). h.mark) v.items) c.into_recorded-recorded.ensures.harts
+    ∙ marks_are p.trace.harts.items run.harts p.start.settings.harts at.harts b.plain.fits.harts
+    ∙ ap (λ (x : Seen). marks 0 x.began.settings.harts run.harts) c.self.view_is
+
+pub returns-clause-finished : goal.returns-clause-finished
+returns-clause-finished g c run is =
+    let b = c.self.inside in let p = parts b.plain in
+    let at : IsState (seen p b.halted b.disordered (g.B.Book.told b.book)) run = subst (λ (x : Seen). IsState x run) (sym c.self.view_is) is in
+    let live = c.any_live-live.ensures ∙ ap (λ (v : Vec Hart Global). any_live (length v.items) (hart_in v.items)) c.into_recorded-recorded.ensures.harts
+    ∙ live_is p.trace.harts.items run.harts p.start.settings.harts at.harts b.plain.fits.harts in
+    c.is_finished.ensures ∙ ap (λ (x : Bool). not b.halted && not b.disordered && not x) live
+    ∙ ap (λ (x : Bool). not b.halted && not b.disordered && x) (over_is (any_live p.start.settings.harts run.harts))
+    ∙ ap (λ (x : Seen). not x.halted && not x.disordered && is_over x.began.settings run) c.self.view_is

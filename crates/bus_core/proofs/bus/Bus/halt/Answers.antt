@@ -1,0 +1,25 @@
+use Rattle.std.proofs.Common.{true, subst, sym}
+use Rattle.run_model.specs.Turn.{halted}
+use Rattle.run_model.specs.Turning.{parts}
+use Rattle.bus_core.specs.Bus.{Seen, seen, IsState, began_of, run_after}
+use Rattle.bus_core.proofs.History.{history_halted, hybrid, hybrid_is, hybrid_halted, state_is}
+use Rattle.bus_core.proofs.bus.Bus.halt.Goals as goal
+
+pub invariant_of-self : goal.invariant_of-self
+invariant_of-self g c =
+    let b = c.self.inside in
+    let p = parts b.plain in let q = parts c.halt.new.self in
+    let s = c.self.invariant.some in
+    record {
+      told = λ t. history_halted p q b.halted b.disordered (g.B.Book.told b.book) c.halt.ensures.start c.halt.ensures.run (c.self.invariant.told t);
+      some = (s.0, history_halted p q b.halted b.disordered s.0 c.halt.ensures.start c.halt.ensures.run s.1);
+    }
+
+pub returns-clause-state : goal.returns-clause-state
+returns-clause-state g c run is =
+    let b = c.self.inside in
+    let p = parts b.plain in let q = parts c.halt.new.self in let told = g.B.Book.told b.book in
+    let at : IsState (seen p b.halted b.disordered told) run = subst (λ (s : Seen). IsState s run) (sym c.self.view_is) is in
+    let s = c.self.invariant.some in
+    let other = run_after (began_of p.start) b.halted s.0 in
+    hybrid_halted _ run other (state_is q true b.disordered told (halted (hybrid run other)) (c.halt.ensures.run (hybrid run other) (hybrid_is p b.halted b.disordered s.0 told run s.1 at)))

@@ -1,0 +1,7 @@
+use Rattle.std.proofs.Common.{◌≡◌}
+use Rattle.run_model.specs.Harts.{hart_in}
+use Rattle.run_model.specs.Runs.{any_live}
+use Rattle.bus_core.proofs.ends.any_live.Given as goal
+
+abbrev pub invariant-loop-number : goal.invariant-loop-number
+invariant-loop-number l = l.found ≡ any_live l.number (hart_in l.harts.items)

@@ -1,0 +1,62 @@
+// The last marks of the harts.
+ghost use Rattle.std.specs.Prelude.{◌≡◌, ◌≤◌, not, ◌&&◌, map, length, vec_len, vec_capacity, IfOk};
+ghost use Rattle.run_model.specs.declared.hart.Hart.{Hart};
+ghost use Rattle.run_model.specs.Harts.{hart_in};
+ghost use Rattle.run_model.specs.Runs.{any_live};
+
+use bn_base::EndMark;
+use run_model::Hart;
+use std::alloc::{AllocError, Global};
+
+// The most harts that there are.
+const HARTS: usize = 8;
+
+/// Room for the last marks of all harts, found ahead.
+#[derive(Drop)]
+pub struct Ends {
+    marks: Vec<Option<EndMark>>,
+    ghost none: { vec_len marks ≡ 0 },
+    ghost room: { 8 ≤ vec_capacity marks },
+}
+
+impl Ends {
+    /// Finds the room. The only error is want of memory.
+    pub fn new(alloc: Global) -> Result<Ends, AllocError> {
+        Ok(Ends {
+            marks: Vec::with_capacity(alloc, HARTS)?,
+        })
+    }
+
+    /// The last mark of each hart; None before one.
+    pub fn of(self, harts: &Vec<Hart>) -> Vec<Option<EndMark>>
+        requires { length harts.now.items ≤ 8 }
+        ensures { result.items ≡ map (λ (h : Hart). h.mark) harts.now.items }
+    {
+        let mut marks = self.marks;
+        for hart in harts {
+            match marks.push(hart.mark) {
+                Ok(()) => (),
+                Err(_) => unreachable!(),
+            }
+        }
+        marks
+    }
+}
+
+/// Whether some hart is live.
+pub fn any_live(harts: &Vec<Hart>) -> bool
+    ensures { result ≡ any_live (length harts.now.items) (hart_in harts.now.items) }
+{
+    let mut found = false;
+    for number in 0..harts.len() {
+        found = harts[number].live || found;
+    }
+    found
+}
+
+/// Whether turns ended a run: no hart is live, and neither a halt nor an ask that isn't orderly ended it.
+pub fn is_finished(halted: bool, disordered: bool, live: bool) -> bool
+    ensures { result ≡ (not halted && not disordered && not live) }
+{
+    !halted && !disordered && !live
+}

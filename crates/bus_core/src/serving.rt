@@ -1,0 +1,151 @@
+// What a bus does.
+ghost use Rattle.std.specs.Prelude.{◌≡◌, ◌<◌, ◌+◌, ◌∷◌, ◌++◌, [], ℕ, Bool, true, false, not, ◌&&◌, ◌||◌, List, is_some, IfOk, OnOk, OnErr, IfSome};
+ghost use Rattle.log_ring.specs.Kept.{Holds};
+ghost use Rattle.run_model.specs.Harts.{hart_in};
+ghost use Rattle.run_model.specs.Runs.{is_live, is_over, most_turns};
+ghost use Rattle.run_model.specs.Turn.{Run, budget, halted, is_orderly};
+ghost use Rattle.bn_outside.specs.declared.turn_row.TurnRow.{TurnRow};
+ghost use Rattle.bus_core.specs.Bus.{began_of, first_run, run_after, served_run, served_reply, row, live_in, marks, IsState, IsTold, IsLogged};
+
+use crate::bus::Bus;
+use crate::closed::Closed;
+use crate::ends::{Ends, any_live, is_finished};
+use crate::turn::take;
+use bn_base::{HartId, HartState};
+use bn_outside::{Book, TurnRow};
+use run_model::{Plain, Start};
+use rv_meaning::{Ask, Reply};
+use std::alloc::{AllocError, Global};
+
+impl<B: Book> Bus<B> {
+    /// The bus before its first turn. The book is cleared; on `Err`, for want of memory, it is given up.
+    pub fn new(alloc: Global, from: &Start, mut book: B) -> Result<Bus<B>, AllocError>
+        ensures began { IfOk result (λ b. b.began ≡ began_of from.now) }
+        ensures state { IfOk result (λ b. IsState b (first_run (began_of from.now))) }
+        ensures flags { IfOk result (λ b. (b.halted ≡ false) × (b.disordered ≡ false)) }
+        ensures rows { IfOk result (λ b. b.rows ≡ []) }
+    {
+        let plain = Plain::new(alloc, from)?;
+        let ends = Ends::new(alloc)?;
+        book.clear();
+        Ok(Bus {
+            plain,
+            ends,
+            book,
+            halted: false,
+            disordered: false,
+        })
+    }
+
+    /// What the run began with.
+    pub fn start(&self) -> &Start
+        ensures { began_of result.now ≡ self.now.began }
+    {
+        self.plain.start()
+    }
+
+    /// The rows of its book, where that tells them. They are lawful, and the machine and the harts are
+    /// those of the run after them; where the book tells nothing, some rows led to it.
+    pub fn rows(&self) -> Option<&[TurnRow]>
+        ensures tells { is_some result ≡ B.tells }
+        ensures rows { IfSome result (λ rows. rows.now ≡ self.now.rows) }
+        ensures told { B.tells ≡ true → IsTold self.now }
+    {
+        self.book.rows()
+    }
+
+    /// Whether a hart is there and live.
+    pub fn live(&self, hart: HartId) -> bool
+        ensures value { result ≡ live_in self.now hart }
+        ensures run { (run : Run) → IsState self.now run → result ≡ is_live self.now.began.settings run hart }
+        ensures within { live_in self.now hart ≡ true → hart < self.now.began.settings.harts }
+        ensures left { live_in self.now hart ≡ true → self.now.turns < most_turns self.now.began.settings }
+    {
+        self.plain.live(hart)
+    }
+
+    /// How many instructions a hart may do before its next cut.
+    pub fn budget(&self, hart: HartId) -> u64
+        requires { hart < self.now.began.settings.harts }
+        ensures { (run : Run) → IsState self.now run → result ≡ budget self.now.began.settings (run.harts hart) }
+    {
+        self.plain.budget(hart)
+    }
+
+    /// A hart's state, as its last served ask left it.
+    pub fn state(&self, hart: HartId) -> &HartState
+        requires { hart < self.now.began.settings.harts }
+        ensures { (run : Run) → IsState self.now run → result.now ≡ (run.harts hart).state }
+    {
+        self.plain.state(hart)
+    }
+
+    /// Serves what a live hart asks: reply and next state are those of the definition, from the state that
+    /// the bus held, and the book has the row. An ask that isn't orderly, which no hart makes by itself,
+    /// ends all and is answered with `Over`.
+    ///
+    /// All memory is found first. On `Err`, for want of it, nothing has changed: served again, the ask has
+    /// the same reply and leaves the same.
+    pub fn serve(&mut self, hart: HartId, ask: &Ask) -> Result<Reply, AllocError>
+        requires { live_in self.old hart ≡ true }
+        ensures reply { IfOk result (λ r. (run : Run) → IsState self.old run → r ≡ served_reply self.old.began run hart ask.now) }
+        ensures state { OnOk result ((run : Run) → IsState self.old run → IsState self.new (served_run self.old.began run hart ask.now)) }
+        ensures told { IfOk result (λ r. B.tells ≡ true → self.new.rows ≡ self.old.rows ++ row hart ask.now r ∷ []) }
+        ensures disordered { OnOk result ((run : Run) → IsState self.old run → self.new.disordered ≡ (self.old.disordered || not (is_orderly self.old.began.settings self.old.began.image (run.harts hart) ask.now))) }
+        ensures refused { OnErr result ((run : Run) → IsState self.old run → IsState self.new run) }
+        ensures kept { OnErr result ((self.new.rows ≡ self.old.rows) × (self.new.disordered ≡ self.old.disordered)) }
+        ensures turns { OnOk result (self.new.turns ≡ self.old.turns + 1) }
+        ensures began { self.new.began ≡ self.old.began }
+        ensures halted { self.new.halted ≡ self.old.halted }
+    {
+        let orderly = self.plain.is_orderly(hart, ask);
+        let reply = take(&mut self.plain, &mut self.book, hart, ask, orderly)?;
+        self.disordered = self.disordered || !orderly;
+        Ok(reply)
+    }
+
+    /// No hart is live any more; nothing else changes.
+    pub fn halt(&mut self)
+        ensures state { (run : Run) → IsState self.old run → IsState self.new (halted run) }
+        ensures halted { self.new.halted ≡ true }
+        ensures began { self.new.began ≡ self.old.began }
+        ensures rows { self.new.rows ≡ self.old.rows }
+        ensures disordered { self.new.disordered ≡ self.old.disordered }
+    {
+        self.plain.halt();
+        self.halted = true;
+    }
+
+    /// Hands over the ring, the streams, the book, each hart's last mark and the number of turns. It takes
+    /// no memory.
+    pub fn close(self) -> Closed<B>
+        ensures told { B.tells ≡ true → IsLogged self result.ring self.rows }
+        ensures some { (rows : List TurnRow) × IsLogged self result.ring rows }
+        ensures size { result.ring.size ≡ self.began.settings.log_size }
+        ensures out { (run : Run) → IsState self run → result.out.items ≡ run.machine.out }
+        ensures err { (run : Run) → IsState self run → result.err.items ≡ run.machine.err }
+        ensures ends { (run : Run) → IsState self run → result.ends.items ≡ marks 0 self.began.settings.harts run.harts }
+        ensures turns { result.turns ≡ self.turns }
+        ensures finished { (run : Run) → IsState self run → result.finished ≡ (not self.halted && not self.disordered && is_over self.began.settings run) }
+        ensures book { B.told result.book ≡ self.rows }
+    {
+        let Bus {
+            plain,
+            ends,
+            book,
+            halted,
+            disordered,
+        } = self;
+        let recorded = plain.into_recorded();
+        let live = any_live(&recorded.harts);
+        Closed {
+            ring: recorded.ring,
+            out: recorded.out,
+            err: recorded.err,
+            ends: ends.of(&recorded.harts),
+            turns: recorded.turns,
+            finished: is_finished(halted, disordered, live),
+            book,
+        }
+    }
+}

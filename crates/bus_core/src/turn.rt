@@ -1,0 +1,94 @@
+// One served ask: the machine's turn and the book's row.
+ghost use Rattle.std.specs.Prelude.{◌≡◌, ◌∷◌, ◌++◌, [], Bool, true, false, not, IsTrue, IfOk, OnOk, OnErr};
+ghost use Rattle.run_model.specs.Turn.{Run, serve, is_orderly};
+ghost use Rattle.run_model.specs.Harts.{hart_in};
+ghost use Rattle.run_model.specs.Plain.{IsRun};
+ghost use Rattle.run_model.specs.Turning.{parts, is_alive};
+ghost use Rattle.bus_core.specs.Bus.{row};
+
+use bn_base::HartId;
+use bn_outside::{Book, TurnRow};
+use run_model::Plain;
+use rv_meaning::{Ask, Reply};
+use std::alloc::AllocError;
+
+// Serves an orderly ask. All memory is found first: pages, a stream's room, the race log's and the book's.
+fn take_orderly<B: Book>(
+    plain: &mut Plain,
+    book: &mut B,
+    hart: HartId,
+    ask: &Ask,
+) -> Result<Reply, AllocError>
+    requires alive { is_alive (parts plain.old) hart ≡ true }
+    requires orderly { IsTrue (is_orderly (parts plain.old).start.settings (parts plain.old).start.image (hart_in (parts plain.old).trace.harts.items hart) ask.now) }
+    requires meant { (run : Run) → IsRun (parts plain.old) run → is_orderly (parts plain.old).start.settings (parts plain.old).start.image (run.harts hart) ask.now ≡ true }
+    ensures reply { IfOk result (λ r. (run : Run) → IsRun (parts plain.old) run → r ≡ (serve (parts plain.old).start.settings (parts plain.old).start.image run hart ask.now).reply) }
+    ensures run { OnOk result ((run : Run) → IsRun (parts plain.old) run → IsRun (parts plain.new) (serve (parts plain.old).start.settings (parts plain.old).start.image run hart ask.now).run) }
+    ensures refused { OnErr result ((run : Run) → IsRun (parts plain.old) run → IsRun (parts plain.new) run) }
+    ensures start { (parts plain.new).start ≡ (parts plain.old).start }
+    ensures told { IfOk result (λ r. B.tells ≡ true → B.told book.new ≡ B.told book.old ++ row hart ask.now r ∷ []) }
+    ensures kept { OnErr result (B.told book.new ≡ B.told book.old) }
+{
+    let call = plain.prepare(ask)?;
+    book.room()?;
+    let reply = plain.apply(hart, ask, call);
+    book.note(TurnRow {
+        hart,
+        ask: *ask,
+        reply,
+    });
+    Ok(reply)
+}
+
+// Serves an ask that isn't orderly: it ends all.
+fn take_disorderly<B: Book>(
+    plain: &mut Plain,
+    book: &mut B,
+    hart: HartId,
+    ask: &Ask,
+) -> Result<Reply, AllocError>
+    requires alive { is_alive (parts plain.old) hart ≡ true }
+    requires meant { (run : Run) → IsRun (parts plain.old) run → is_orderly (parts plain.old).start.settings (parts plain.old).start.image (run.harts hart) ask.now ≡ false }
+    ensures reply { IfOk result (λ r. (run : Run) → IsRun (parts plain.old) run → r ≡ (serve (parts plain.old).start.settings (parts plain.old).start.image run hart ask.now).reply) }
+    ensures run { OnOk result ((run : Run) → IsRun (parts plain.old) run → IsRun (parts plain.new) (serve (parts plain.old).start.settings (parts plain.old).start.image run hart ask.now).run) }
+    ensures refused { OnErr result ((run : Run) → IsRun (parts plain.old) run → IsRun (parts plain.new) run) }
+    ensures start { (parts plain.new).start ≡ (parts plain.old).start }
+    ensures told { IfOk result (λ r. B.tells ≡ true → B.told book.new ≡ B.told book.old ++ row hart ask.now r ∷ []) }
+    ensures kept { OnErr result (B.told book.new ≡ B.told book.old) }
+{
+    book.room()?;
+    plain.end_all(hart);
+    let reply = Reply::Over;
+    book.note(TurnRow {
+        hart,
+        ask: *ask,
+        reply,
+    });
+    Ok(reply)
+}
+
+/// Serves an ask, orderly or not: the machine's turn, and the book's row. On `Err`, for want of memory,
+/// the machine and the rows are as before.
+pub fn take<B: Book>(
+    plain: &mut Plain,
+    book: &mut B,
+    hart: HartId,
+    ask: &Ask,
+    orderly: bool,
+) -> Result<Reply, AllocError>
+    requires alive { is_alive (parts plain.old) hart ≡ true }
+    requires orderly { orderly ≡ is_orderly (parts plain.old).start.settings (parts plain.old).start.image (hart_in (parts plain.old).trace.harts.items hart) ask.now }
+    requires meant { (run : Run) → IsRun (parts plain.old) run → orderly ≡ is_orderly (parts plain.old).start.settings (parts plain.old).start.image (run.harts hart) ask.now }
+    ensures reply { IfOk result (λ r. (run : Run) → IsRun (parts plain.old) run → r ≡ (serve (parts plain.old).start.settings (parts plain.old).start.image run hart ask.now).reply) }
+    ensures run { OnOk result ((run : Run) → IsRun (parts plain.old) run → IsRun (parts plain.new) (serve (parts plain.old).start.settings (parts plain.old).start.image run hart ask.now).run) }
+    ensures refused { OnErr result ((run : Run) → IsRun (parts plain.old) run → IsRun (parts plain.new) run) }
+    ensures start { (parts plain.new).start ≡ (parts plain.old).start }
+    ensures told { IfOk result (λ r. B.tells ≡ true → B.told book.new ≡ B.told book.old ++ row hart ask.now r ∷ []) }
+    ensures kept { OnErr result (B.told book.new ≡ B.told book.old) }
+{
+    if orderly {
+        take_orderly(plain, book, hart, ask)
+    } else {
+        take_disorderly(plain, book, hart, ask)
+    }
+}
