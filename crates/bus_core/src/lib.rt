@@ -5,6 +5,8 @@ mod bus;
 mod closed;
 mod ends;
 mod serving;
+#[cfg(test)]
+mod tests;
 mod turn;
 
 pub use bus::Bus;

@@ -1,6 +1,9 @@
 -- Parts stand for a machine.
-use Rattle.std.proofs.Common.{ℕ, List, refl}
-use Rattle.run_model.specs.Parts.{MachineParts, IsMachine}
+use Rattle.std.proofs.Common.{◌≡◌, ℕ, List, refl, sym, ◌∙◌, subst}
+use Rattle.std.specs.Prelude.{Option, drop}
+use Rattle.bus_memory.specs.Contents.{Holds}
+use Rattle.run_model.specs.Machine.{Machine}
+use Rattle.run_model.specs.Parts.{MachineParts, IsMachine, IsSameMachine, AreReserved}
 use Rattle.run_model.specs.Plain.{meant}
 
 pub is_meant : (input : List ℕ) (p : MachineParts) → IsMachine input p (meant input p)
@@ -11,4 +14,15 @@ is_meant input p = record {
   left = refl;
   out = refl;
   err = refl;
+}
+
+-- what stands for a machine once more memory was found stood for it before
+pub is_before : (input : List ℕ) (old new : MachineParts) (m : Machine) → IsSameMachine old new → IsMachine input new m → IsMachine input old m
+is_before input old new m same is = record {
+  memory = subst (λ (ws : List ℕ). Holds ws m.memory) same.words is.memory;
+  reserved = subst (λ (rs : List (Option ℕ)). AreReserved rs m.reserved) same.reserved is.reserved;
+  brk = sym same.brk ∙ is.brk;
+  left = subst (λ (n : ℕ). drop n input ≡ m.input) same.taken is.left;
+  out = sym same.out ∙ is.out;
+  err = sym same.err ∙ is.err;
 }

@@ -15,17 +15,17 @@ ghost use Rattle.bus_memory.specs.Contents.{Contents, updated, has_page};
 ghost use Rattle.run_model.specs.Machine.{Machine as Meant, answered, with_memory, with_reserved, reserving, others_lose, answer, answer_call, answer_access, answer_sc, call_of, cut_reply, is_reserved, word_count};
 ghost use Rattle.run_model.specs.Turn.{loading, word_before, span_of, call_span, span};
 ghost use Rattle.run_model.specs.Runs.{start_machine};
-ghost use Rattle.run_model.specs.Parts.{MachineParts, IsMachine, IsPlanned, IsSameMachine, AreWordsIn, AreWordsReady, AreAddresses, IsSpanReady, has_width, HasCallRoom, HasStreamRoom, HasRoom, IsAnswer, size_of, kernel_in};
+ghost use Rattle.run_model.specs.Parts.{MachineParts, IsMachine, IsPlanned, IsSameMachine, AreWordsIn, AreWordsReady, AreAddresses, IsSpanReady, has_width, HasCallRoom, HasPlanRoom, HasStreamRoom, HasRoom, IsAnswer, size_of, kernel_in};
 
 mod bytes;
 mod reservations;
 #[cfg(test)]
 mod tests;
 
-use crate::span::{Span, loading};
+use crate::span::{Span, loading, word_count};
 use bn_base::{Addr, HartId, Ic, Image, Settings};
 use bus_memory::Memory;
-use bytes::{fill, send, word_count};
+use bytes::{fill, send};
 use race_log::Mode;
 use reservations::Reservations;
 use rv_meaning::{AmoOp, Ask, Reply, Want, stored_word};
@@ -37,8 +37,9 @@ use system_calls::{Kernel, Plan, plan};
 /// the input was taken, and the two output streams.
 ///
 /// Contracts see these parts, and say by `IsMachine` which machines of the definition they stand for,
-/// the whole input being given. An ask is answered in three steps: `call` plans its system call, if it
-/// is one; `room` finds the memory that the answer needs; and `answer` answers it without memory.
+/// the whole input being given. An ask is answered in steps: `call` plans its system call, if it is one;
+/// `pages` and `stream_room` find the memory that the answer needs; and `answer` answers it without
+/// memory.
 #[derive(Debug, Drop)]
 pub struct Machine {
     memory: Memory,
@@ -166,11 +167,10 @@ impl Machine {
 }
 
 impl Machine {
-    /// Finds the memory that the answer to an ask needs: it makes the pages of the words that the ask
-    /// may write, and room in the stream that it sends to. The machine stays as it is, also on `Err`,
-    /// and want of memory is the only error. The ask passes the program's tests, so the words that it
-    /// accesses are addresses, whatever the reply.
-    pub fn room(
+    /// Makes the pages of the words that an ask may write. The machine stays as it is, also on `Err`, and
+    /// want of memory is the only error. The ask passes the program's tests, so the words that it accesses
+    /// are addresses, whatever the reply.
+    pub fn pages(
         &mut self,
         image: &Image,
         input: &[u8],
@@ -180,14 +180,34 @@ impl Machine {
         requires size { size_of self.old ≡ image.now.memory }
         requires passes { IsTrue (passes image.now want.now) }
         requires planned { IsPlanned image.now input.now self.old call want.now }
-        ensures room { OnOk result (HasRoom input.now self.new call want.now) }
+        ensures ready { OnOk result (AreWordsReady self.new.memory (span_of call want.now replies.ScOk)) }
+        ensures width { IsTrue (has_width want.now) }
+        ensures planned { IsPlanned image.now input.now self.new call want.now }
         ensures same { IsSameMachine self.old self.new }
         ensures stands { (m : Meant) → IsMachine input.now self.old m → IsMachine input.now self.new m }
         ensures size { size_of self.new ≡ size_of self.old }
         ensures addresses { (reply : Reply) → AreAddresses (span_of call want.now reply) }
     {
         let _memory = image.memory();
-        self.make_pages(Span::of(call, want, Reply::ScOk))?;
+        self.make_pages(Span::of(call, want, Reply::ScOk))
+    }
+
+    /// Finds room in the stream that a planned call sends to. The machine stays as it is, also on `Err`,
+    /// and want of memory is the only error.
+    pub fn stream_room(
+        &mut self,
+        image: &Image,
+        input: &[u8],
+        call: Option<Plan>,
+        want: &Want,
+    ) -> Result<(), AllocError>
+        requires planned { IsPlanned image.now input.now self.old call want.now }
+        ensures plan { OnOk result (HasPlanRoom input.now self.new call want.now) }
+        ensures memory { self.new.memory ≡ self.old.memory }
+        ensures same { IsSameMachine self.old self.new }
+        ensures stands { (m : Meant) → IsMachine input.now self.old m → IsMachine input.now self.new m }
+        ensures size { size_of self.new ≡ size_of self.old }
+    {
         match call {
             Some(plan) => self.find_call_room(image, input, plan),
             None => Ok(()),

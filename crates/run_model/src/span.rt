@@ -16,8 +16,8 @@ pub struct Span {
     pub mode: Mode,
 }
 
-// How many aligned words `len` bytes from an address on lie in.
-fn word_count(addr: Addr, len: u32) -> u32
+/// How many aligned words `len` bytes from an address on lie in.
+pub(crate) fn word_count(addr: Addr, len: u32) -> u32
     ensures { result ≡ word_count addr len }
 {
     let end = u64::from(addr) + u64::from(len) + 3;

@@ -49,8 +49,8 @@ impl Plain {
     }
 
     /// Plans the system call that an orderly ask makes, if it makes one, and finds all memory that its
-    /// turn needs: first pages, then room in a stream, then room in the race log. The machine stays as it
-    /// is, also on `Err`, and want of memory is the only error.
+    /// turn needs: first pages, then the race log's, then a stream's. The machine stays as it is, also on
+    /// `Err`, and want of memory is the only error.
     pub fn prepare(&mut self, ask: &Ask) -> Result<Option<Plan>, AllocError>
         requires { IsTrue (passes self.old.start.image ask.now.want) }
         ensures run { (run : Run) → IsRun (parts self.old) run → IsRun (parts self.new) run }
@@ -65,8 +65,10 @@ impl Plain {
             .machine
             .call(&self.start.image, &self.start.input, &ask.want);
         self.machine
-            .room(&self.start.image, &self.start.input, call, &ask.want)?;
+            .pages(&self.start.image, &self.start.input, call, &ask.want)?;
         self.trace.reserve(Span::of(call, &ask.want, Reply::ScOk))?;
+        self.machine
+            .stream_room(&self.start.image, &self.start.input, call, &ask.want)?;
         Ok(call)
     }
 

@@ -30,14 +30,6 @@ fn put_byte(memory: &mut Memory, addr: Addr, value: u8)
     memory.put(place, stored_word(addr, 1, u32::from(value), word));
 }
 
-// How many aligned words `len` bytes from an address on lie in.
-pub(crate) fn word_count(addr: Addr, len: u32) -> u32
-    ensures { result ≡ word_count addr len }
-{
-    let end = u64::from(addr) + u64::from(len) + 3;
-    (end / 4 - u64::from(addr / 4)) as u32
-}
-
 /// Fills `len` bytes from `addr` on with those of `bytes` from `start` on. The pages are made.
 pub(crate) fn fill(memory: &mut Memory, addr: Addr, bytes: &[u8], start: usize, len: u32)
     requires within { addr + len ≤ 4 * length memory.old.words }

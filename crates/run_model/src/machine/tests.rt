@@ -42,7 +42,8 @@ fn asked(
     };
     assert!(rt; ask.is_orderly(&program.0, 5, 1));
     let call = machine.call(&program.0, input, &ask.want);
-    machine.room(&program.0, input, call, &ask.want)?;
+    machine.pages(&program.0, input, call, &ask.want)?;
+    machine.stream_room(&program.0, input, call, &ask.want)?;
     Ok(machine.answer(&program.1, input, call, hart, &ask))
 }
 

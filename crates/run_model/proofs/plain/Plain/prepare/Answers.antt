@@ -7,11 +7,25 @@ use Rattle.run_model.specs.declared.hart.Hart.{Hart}
 use Rattle.run_model.specs.Parts.{IsMachine}
 use Rattle.run_model.specs.EachCache.{AreCaches}
 use Rattle.run_model.specs.Harts.{AreHarts}
+use Rattle.run_model.proofs.Meant.{is_before}
 use Rattle.run_model.proofs.plain.Plain.prepare.Goals as goal
 
 pub returns-in_err-reserve-clause-run : goal.returns-in_err-reserve-clause-run
 returns-in_err-reserve-clause-run c run is = record {
-  machine = subst (λ (xs : List ℕ). IsMachine xs c.room.new.self run.machine) c.deref-2.ensures.value (c.room.ensures.stands run.machine (subst (λ (xs : List ℕ). IsMachine xs c.args.self.now.machine run.machine) (sym c.deref-2.ensures.value) is.machine));
+  machine = subst (λ (xs : List ℕ). IsMachine xs c.pages.new.self run.machine) c.deref-2.ensures.value (c.pages.ensures.stands run.machine (subst (λ (xs : List ℕ). IsMachine xs c.args.self.now.machine run.machine) (sym c.deref-2.ensures.value) is.machine));
+  trace = record {
+    harts = subst (λ (v : Vec Hart Global). AreHarts v.items run.harts) (sym c.reserve.ensures.harts) is.trace.harts;
+    caches = subst (λ (cs : List Contents). AreCaches c.args.self.now.start.settings cs run.events) (sym c.reserve.ensures.caches) is.trace.caches;
+    shadow = c.reserve.ensures.shadow run.points is.trace.shadow;
+    log = subst (λ (ring : Held). Holds ring run.stream) (sym c.reserve.ensures.ring) is.trace.log;
+  };
+  turns = is.turns;
+}
+
+pub returns-in_err-stream_room-clause-run : goal.returns-in_err-stream_room-clause-run
+returns-in_err-stream_room-clause-run c run is = record {
+  machine = subst (λ (xs : List ℕ). IsMachine xs c.stream_room.new.self run.machine) c.deref-3.ensures.value (c.stream_room.ensures.stands run.machine (subst (λ (xs : List ℕ). IsMachine xs c.pages.new.self run.machine) (sym c.deref-3.ensures.value)
+      (subst (λ (xs : List ℕ). IsMachine xs c.pages.new.self run.machine) c.deref-2.ensures.value (c.pages.ensures.stands run.machine (subst (λ (xs : List ℕ). IsMachine xs c.args.self.now.machine run.machine) (sym c.deref-2.ensures.value) is.machine)))));
   trace = record {
     harts = subst (λ (v : Vec Hart Global). AreHarts v.items run.harts) (sym c.reserve.ensures.harts) is.trace.harts;
     caches = subst (λ (cs : List Contents). AreCaches c.args.self.now.start.settings cs run.events) (sym c.reserve.ensures.caches) is.trace.caches;
@@ -23,7 +37,8 @@ returns-in_err-reserve-clause-run c run is = record {
 
 pub returns-clause-run : goal.returns-clause-run
 returns-clause-run c run is = record {
-  machine = subst (λ (xs : List ℕ). IsMachine xs c.room.new.self run.machine) c.deref-2.ensures.value (c.room.ensures.stands run.machine (subst (λ (xs : List ℕ). IsMachine xs c.args.self.now.machine run.machine) (sym c.deref-2.ensures.value) is.machine));
+  machine = subst (λ (xs : List ℕ). IsMachine xs c.stream_room.new.self run.machine) c.deref-3.ensures.value (c.stream_room.ensures.stands run.machine (subst (λ (xs : List ℕ). IsMachine xs c.pages.new.self run.machine) (sym c.deref-3.ensures.value)
+      (subst (λ (xs : List ℕ). IsMachine xs c.pages.new.self run.machine) c.deref-2.ensures.value (c.pages.ensures.stands run.machine (subst (λ (xs : List ℕ). IsMachine xs c.args.self.now.machine run.machine) (sym c.deref-2.ensures.value) is.machine)))));
   trace = record {
     harts = subst (λ (v : Vec Hart Global). AreHarts v.items run.harts) (sym c.reserve.ensures.harts) is.trace.harts;
     caches = subst (λ (cs : List Contents). AreCaches c.args.self.now.start.settings cs run.events) (sym c.reserve.ensures.caches) is.trace.caches;
@@ -32,3 +47,9 @@ returns-clause-run c run is = record {
   };
   turns = is.turns;
 }
+
+pub returns-clause-call : goal.returns-clause-call
+returns-clause-call c m is =
+    let now : IsMachine c.args.self.now.start.input.items c.pages.new.self m = is_before c.args.self.now.start.input.items c.pages.new.self c.stream_room.new.self m c.stream_room.ensures.same is in
+    let before : IsMachine c.args.self.now.start.input.items c.args.self.now.machine m = is_before c.args.self.now.start.input.items c.args.self.now.machine c.pages.new.self m c.pages.ensures.same now in
+    c.call-call.ensures.value m (subst (λ (xs : List ℕ). IsMachine xs c.args.self.now.machine m) (sym c.deref.ensures.value) before)
