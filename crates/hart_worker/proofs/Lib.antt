@@ -1,0 +1,6 @@
+pub mod Rows
+pub mod Live
+pub mod Seeds
+pub mod Taken
+pub mod Errors
+pub mod Whole

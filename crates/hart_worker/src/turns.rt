@@ -1,0 +1,78 @@
+// The turns of harts on the caller's thread.
+ghost use Rattle.std.specs.Prelude.{◌≡◌, ◌+◌, ◌<◌, ◌∷◌, ◌++◌, [], ℕ, true, List, Some, OnOk, IfErr, ◌⊎◌};
+ghost use Rattle.bus_core.specs.Bus.{live_in};
+ghost use Rattle.hart_worker.specs.Lists.{HasTaken, is_finished, seeded_after, list_run, error_of};
+ghost use Rattle.hart_worker.specs.Closed.{IsClosed};
+ghost use Rattle.hart_worker.specs.declared.error.TurnError.TheVariants.{OutOfMemory};
+
+use crate::choosing::{choose, draw};
+use crate::error::TurnError;
+use bn_base::HartId;
+use bn_outside::Book;
+use bus_core::{Bus, Closed};
+use run_laws::{own_asks_are_orderly, turns_are_lawful};
+use rv_meaning::{Ask, DecodedImage};
+use std::alloc::AllocError;
+
+// The turn of a live hart: its quiet instructions, and its first ask, served.
+fn take_turn<B: Book>(code: &DecodedImage, bus: &mut Bus<B>, hart: HartId) -> Result<(), AllocError>
+    requires live { live_in bus.old hart ≡ true }
+    requires within { hart < bus.old.began.settings.harts }
+    requires code { code.now ≡ bus.old.began.image }
+    ensures taken { OnOk result ((list : List ℕ) → HasTaken B.tells bus.old list → HasTaken B.tells bus.new (list ++ hart ∷ [])) }
+    ensures turns { OnOk result (bus.new.turns ≡ bus.old.turns + 1) }
+    ensures began { bus.new.began ≡ bus.old.began }
+{
+    own_asks_are_orderly();
+    let _settings = bus.start().settings.raw();
+    let mut state = *bus.state(hart);
+    let want = code.quiet_run_in_place(&mut state, bus.budget(hart));
+    bus.serve(hart, &Ask { state, want })?;
+    Ok(())
+}
+
+/// Turns chosen by the draws after a number, until no hart is live.
+pub fn finish<B: Book>(code: &DecodedImage, bus: &mut Bus<B>, seed: u64) -> Result<(), AllocError>
+    requires { code.now ≡ bus.old.began.image }
+    ensures taken { OnOk result ((list : List ℕ) → HasTaken B.tells bus.old list → HasTaken B.tells bus.new (list ++ seeded_after bus.old.began list seed)) }
+    ensures finished { OnOk result ((list : List ℕ) → HasTaken B.tells bus.old list → is_finished bus.old.began (list ++ seeded_after bus.old.began list seed) ≡ true) }
+    ensures began { bus.new.began ≡ bus.old.began }
+{
+    let mut state = seed;
+    'drawing: loop {
+        state = draw(state);
+        match choose(bus, state) {
+            None => return Ok(()),
+            Some(hart) => take_turn(code, bus, hart)?,
+        }
+    }
+}
+
+/// The turns of a list, up to the first whose hart isn't live then.
+pub fn follow<B: Book>(code: &DecodedImage, bus: &mut Bus<B>, list: &[u8]) -> Result<(), TurnError>
+    requires code { code.now ≡ bus.old.began.image }
+    requires start { HasTaken B.tells bus.old [] }
+    ensures taken { OnOk result (HasTaken B.tells bus.new list.now) }
+    ensures illegal { IfErr result (λ e. (e ≡ OutOfMemory) ⊎ (error_of bus.old.began list.now ≡ Some e)) }
+    ensures began { bus.new.began ≡ bus.old.began }
+{
+    for at in 0..list.len() {
+        let hart = list[at];
+        if !bus.live(hart) {
+            return Err(TurnError::IllegalTurn {
+                at: at as u64,
+                hart,
+            });
+        }
+        take_turn(code, bus, hart)?;
+    }
+    Ok(())
+}
+
+/// What the bus hands over after the turns of a list that leaves no hart live.
+pub fn close<B: Book>(bus: Bus<B>) -> Closed<B>
+    ensures { (list : List ℕ) → HasTaken B.tells bus list → is_finished bus.began list ≡ true → IsClosed B.tells bus.began list result (B.told result.book) }
+{
+    turns_are_lawful();
+    bus.close()
+}
