@@ -89,7 +89,7 @@ done
 rate replay "$rows" rows "$replayed" "the recording of as many" "$(share "$recorded")" "${others[@]}"
 
 # A full log: intervals of 20 instructions make more than 64 MiB of Headers, Ends and FirstLoads.
-runs=1 seconds 0 "$zelkuma" record --seed 1 --lean --interval 20 --log-size 67108864 \
+runs=1 seconds 0 "$zelkuma" record --seed 1 --interval 20 --log-size 67108864 \
     --sets 1 --ways 1 --line 1 "$elf" "$work/LOG" "$work/BOOK" >/dev/null
 if [ "$(told dropped)" -eq 0 ]; then
     echo "the log is not full" >&2
@@ -102,20 +102,23 @@ listed=$(seconds 0 "$zelkuma" list "$work/LOG")
 rate check "$kept" bytes "$checked" sha256sum "$digested"
 rate list "$kept" bytes "$listed" "check" "$checked"
 
-# The list of turns is the difference between a recording that tells it and one that doesn't.
-peak() { # WORD..: the most memory that they took, in KiB
-    if ! /usr/bin/time -f %M -o "$work/peak" "$@" >/dev/null 2>"$work/err"; then
+# What a turn takes is the difference between this recording and one of half as many instructions.
+peak() { # WORD..: the most memory that they took, in KiB; a recording may end with the limit's 11
+    local status=0
+    /usr/bin/time -f %M -o "$work/peak" "$@" >/dev/null 2>"$work/err" || status=$?
+    if [ "$status" -ne 0 ] && [ "$status" -ne 11 ]; then
         cat "$work/err" >&2
         exit 1
     fi
-    cat "$work/peak"
+    tail -1 "$work/peak"
 }
 if [ -x /usr/bin/time ]; then
-    full=$(peak "$zelkuma" "${record[@]}" "$elf" "$work/LOG" "$work/BOOK")
-    lean=$(peak "$zelkuma" "${record[@]}" --lean "$elf" "$work/LOG" "$work/BOOK")
-    awk -v full="$full" -v lean="$lean" -v turns="$turns" 'BEGIN {
-        printf "list of turns: %d turns, %.0f bytes each", turns, (full - lean) * 1024 / turns
-        printf " at the peak of %d KiB, %.2f of that without it\n", full, full / lean
+    most=$(peak "$zelkuma" "${record[@]}" "$elf" "$work/LOG" "$work/BOOK")
+    less=$(peak "$zelkuma" "${record[@]}" --limit $((instructions / 2)) "$elf" "$work/LOG" "$work/BOOK")
+    fewer=$(told turns)
+    awk -v most="$most" -v less="$less" -v turns="$turns" -v fewer="$fewer" 'BEGIN {
+        printf "list of turns: %.0f bytes a turn", (most - less) * 1024 / (turns - fewer)
+        printf ", %d KiB at the peak of %d turns, %d KiB of %d\n", most, turns, less, fewer
     }'
 else
     echo "/usr/bin/time (Debian's time) is not installed: the list of turns is not measured"
