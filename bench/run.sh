@@ -40,6 +40,7 @@ done
 "$ours" ring 20000000
 "$ours" cache 20000000
 "$ours" file 6710886
+"$ours" serve 2000000
 
 # The replay of an interval of the greatest length beside the quiet run of the same instructions.
 for _ in $(seq "$runs"); do

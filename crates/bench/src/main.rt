@@ -8,6 +8,7 @@
 //! | `ring COUNT` | so many first loads that go through a full ring of records |
 //! | `cache COUNT` | so many touches of a hart's cache |
 //! | `file COUNT` | a log file with so many first loads, written and read |
+//! | `serve COUNT` | so many asks that the bus serves, of one hart and of eight that take turns |
 //! | `replay COUNT` | an interval of so many instructions, at most 10,000,000: its run and its replay |
 #![tactic(auto)]
 
@@ -17,6 +18,7 @@ mod meaning_timing;
 mod race_timing;
 mod replay_timing;
 mod ring_timing;
+mod serve_timing;
 mod touch_timing;
 
 use std::env;
@@ -52,8 +54,11 @@ fn main(rt: HostRuntime) -> anyhow::Result<()> {
     if layer == "replay" && count > 0 && count <= 10_000_000 {
         return replay_timing::replay(&rt, count);
     }
+    if layer == "serve" && count > 0 {
+        return serve_timing::asks(&rt, count);
+    }
     println!(rt;
-        "bench LAYER COUNT, where LAYER is decode, meaning, races, ring, cache, file or replay"
+        "bench LAYER COUNT, where LAYER is decode, meaning, races, ring, cache, file, serve or replay"
     )?;
     Ok(())
 }
