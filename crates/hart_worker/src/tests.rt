@@ -54,13 +54,75 @@ fn kinds(alloc: Global, bytes: &[u8]) -> Result<Vec<u8>, Fail> {
     Ok(tags)
 }
 
-// The harts of a book's rows.
-fn harts(alloc: Global, book: &FullBook) -> Result<Vec<HartId>, Fail> {
+// What was handed over after a run.
+#[derive(Drop)]
+struct Shown {
+    bytes: Vec<u8>,
+    kinds: Vec<u8>,
+    ends: Vec<Option<EndMark>>,
+    harts: Vec<HartId>,
+    turns: u64,
+    finished: bool,
+}
+
+// The harts of a book's rows; none where it doesn't tell them.
+fn harts<B: Book>(alloc: Global, book: &B) -> Result<Vec<HartId>, Fail> {
     let mut harts = Vec::new(alloc);
-    for row in book.rows().ok_or("no rows")? {
-        harts.push(row.hart)?;
+    if let Some(rows) = book.rows() {
+        for row in rows {
+            harts.push(row.hart)?;
+        }
     }
     Ok(harts)
+}
+
+fn show<B: Book>(alloc: Global, closed: Closed<B>) -> Result<Shown, Fail> {
+    let bytes = closed.ring.copy(alloc)?;
+    Ok(Shown {
+        kinds: kinds(alloc, &bytes)?,
+        bytes,
+        harts: harts(alloc, &closed.book)?,
+        ends: closed.ends,
+        turns: closed.turns,
+        finished: closed.finished && closed.out.is_empty() && closed.err.is_empty(),
+    })
+}
+
+// A run by a list of turns, with a book that tells.
+fn by_turns(
+    rt: &(impl Abort + AllocGlobal),
+    code: &[u32],
+    raw: &RawSettings,
+    input: &[u8],
+    list: &[HartId],
+) -> Result<Shown, Fail> {
+    let start = begin(rt, code, raw, input)?;
+    let book = FullBook::new(rt.alloc());
+    show(rt.alloc(), run_turns(rt.alloc(), &start, book, list)?)
+}
+
+// The same, with a book that tells nothing.
+fn without_a_book(
+    rt: &(impl Abort + AllocGlobal),
+    code: &[u32],
+    raw: &RawSettings,
+    input: &[u8],
+    list: &[HartId],
+) -> Result<Shown, Fail> {
+    let start = begin(rt, code, raw, input)?;
+    show(rt.alloc(), run_turns(rt.alloc(), &start, LeanBook, list)?)
+}
+
+// A run by a number.
+fn by_number(
+    rt: &(impl Abort + AllocGlobal),
+    code: &[u32],
+    raw: &RawSettings,
+    seed: u64,
+) -> Result<Shown, Fail> {
+    let start = begin(rt, code, raw, &[])?;
+    let book = FullBook::new(rt.alloc());
+    show(rt.alloc(), run_seeded(rt.alloc(), &start, book, seed)?)
 }
 
 fn mark(ic: u64, reason: u8, value: u32) -> Option<EndMark> {
@@ -73,25 +135,16 @@ fn a_line_lost_between_two_loads_is_logged_again(rt: HostRuntime) -> Result<(), 
         0x00020437, 0x00051a63, 0x00042283, 0x00042303, 0x05d00893, 0x00000073, 0x00b42223,
         0x05d00893, 0x00000073,
     ];
-    let start = begin(&rt, &code, &with(2, 4), &[])?;
-    let book = FullBook::new(rt.alloc());
-    let closed = run_turns(rt.alloc(), &start, book, &[0, 1, 0, 0, 1])?;
-    assert!(rt; closed.finished);
-    assert_eq!(rt; closed.turns, 5);
-    assert_eq!(rt; closed.ring.len(), 342);
-    let bytes = closed.ring.copy(rt.alloc())?;
+    let run = by_turns(&rt, &code, &with(2, 4), &[], &[0, 1, 0, 0, 1])?;
+    assert!(rt; run.finished);
+    assert_eq!(rt; run.turns, 5);
+    assert_eq!(rt; run.bytes.len(), 342);
+    assert_eq!(rt; run.kinds.as_slice(), [1, 1, 2, 2, 6, 6].as_slice());
     assert_eq!(rt;
-        kinds(rt.alloc(), &bytes)?.as_slice(),
-        [1, 1, 2, 2, 6, 6].as_slice()
-    );
-    assert_eq!(rt;
-        closed.ends.as_slice(),
+        run.ends.as_slice(),
         [mark(6, 3, 0), mark(5, 3, 1)].as_slice()
     );
-    assert_eq!(rt;
-        harts(rt.alloc(), &closed.book)?.as_slice(),
-        [0, 1, 0, 0, 1].as_slice()
-    );
+    assert_eq!(rt; run.harts.as_slice(), [0, 1, 0, 0, 1].as_slice());
     Ok(())
 }
 
@@ -101,15 +154,9 @@ fn a_reservation_is_lost(rt: HostRuntime) -> Result<(), Fail> {
         0x00020437, 0x00051a63, 0x100422af, 0x18b4232f, 0x05d00893, 0x00000073, 0x00b42023,
         0x05d00893, 0x00000073,
     ];
-    let start = begin(&rt, &code, &with(2, 8), &[])?;
-    let book = FullBook::new(rt.alloc());
-    let closed = run_turns(rt.alloc(), &start, book, &[0, 1, 0, 0, 1])?;
-    assert_eq!(rt; closed.ring.len(), 353);
-    let bytes = closed.ring.copy(rt.alloc())?;
-    assert_eq!(rt;
-        kinds(rt.alloc(), &bytes)?.as_slice(),
-        [1, 1, 2, 5, 4, 6, 6].as_slice()
-    );
+    let run = by_turns(&rt, &code, &with(2, 8), &[], &[0, 1, 0, 0, 1])?;
+    assert_eq!(rt; run.bytes.len(), 353);
+    assert_eq!(rt; run.kinds.as_slice(), [1, 1, 2, 5, 4, 6, 6].as_slice());
     Ok(())
 }
 
@@ -119,79 +166,64 @@ fn a_filled_word_is_logged_again_without_a_book(rt: HostRuntime) -> Result<(), F
         0x00020437, 0x00051a63, 0x00042283, 0x00042303, 0x05d00893, 0x00000073, 0x00000513,
         0x00040593, 0x00400613, 0x03f00893, 0x00000073, 0x05d00893, 0x00000073,
     ];
-    let start = begin(&rt, &code, &with(2, 8), b"wxyz")?;
-    let closed = run_turns(rt.alloc(), &start, LeanBook, &[0, 1, 0, 0, 1])?;
-    assert!(rt; closed.finished);
-    assert_eq!(rt; closed.ring.len(), 541);
-    let bytes = closed.ring.copy(rt.alloc())?;
-    let tags = kinds(rt.alloc(), &bytes)?;
-    assert_eq!(rt; tags.as_slice(), [1, 1, 2, 5, 6, 1, 5, 2, 6, 6].as_slice());
+    let run = without_a_book(&rt, &code, &with(2, 8), b"wxyz", &[0, 1, 0, 0, 1])?;
+    assert!(rt; run.finished);
+    assert_eq!(rt; run.bytes.len(), 541);
     assert_eq!(rt;
-        closed.ends.as_slice(),
+        run.kinds.as_slice(),
+        [1, 1, 2, 5, 6, 1, 5, 2, 6, 6].as_slice()
+    );
+    assert_eq!(rt;
+        run.ends.as_slice(),
         [mark(6, 3, 0), mark(9, 3, 4)].as_slice()
     );
     Ok(())
 }
 
-// A program that three harts run: each passes a word on to the next.
-fn relay(rt: &(impl Abort + AllocGlobal)) -> Result<Start, Fail> {
-    let code = [
-        0x00020437, 0x00100393, 0x00750863, 0x00051c63, 0x00b42023, 0x0180006f, 0x00042283,
-        0x00b42223, 0x00c0006f, 0x00442283, 0x00042303, 0x05d00893, 0x00000073,
-    ];
-    begin(rt, &code, &with(3, 8), &[])
-}
+// Three harts run it: each passes a word on to the next.
+const RELAY: [u32; 13] = [
+    0x00020437, 0x00100393, 0x00750863, 0x00051c63, 0x00b42023, 0x0180006f, 0x00042283, 0x00b42223,
+    0x00c0006f, 0x00442283, 0x00042303, 0x05d00893, 0x00000073,
+];
 
 #[test]
 fn a_relay_of_three_harts(rt: HostRuntime) -> Result<(), Fail> {
-    let start = relay(&rt)?;
     let list = [0, 1, 1, 2, 2, 0, 1, 2];
-    let closed = run_turns(rt.alloc(), &start, FullBook::new(rt.alloc()), &list)?;
-    assert_eq!(rt; closed.ring.len(), 551);
-    let bytes = closed.ring.copy(rt.alloc())?;
-    let tags = kinds(rt.alloc(), &bytes)?;
+    let run = by_turns(&rt, &RELAY, &with(3, 8), &[], &list)?;
+    assert_eq!(rt; run.bytes.len(), 551);
     assert_eq!(rt;
-        tags.as_slice(),
+        run.kinds.as_slice(),
         [1, 1, 1, 5, 2, 5, 2, 2, 6, 6, 6].as_slice()
     );
-    assert_eq!(rt;
-        closed.ends.as_slice(),
-        [mark(8, 3, 0), mark(8, 3, 1), mark(8, 3, 2)].as_slice()
-    );
+    let ends = [mark(8, 3, 0), mark(8, 3, 1), mark(8, 3, 2)];
+    assert_eq!(rt; run.ends.as_slice(), ends.as_slice());
     Ok(())
 }
 
 #[test]
-fn a_number_chooses_the_turns(rt: HostRuntime) -> Result<(), Fail> {
-    // Of two live harts, the first draw of seed 0 chooses hart 1; then hart 0 alone is left.
-    let start = begin(&rt, &EXIT, &with(2, 8), &[])?;
-    let closed = run_seeded(rt.alloc(), &start, FullBook::new(rt.alloc()), 0)?;
-    assert!(rt; closed.finished);
-    assert_eq!(rt;
-        harts(rt.alloc(), &closed.book)?.as_slice(),
-        [1, 0].as_slice()
-    );
+fn of_two_live_harts_seed_0_chooses_hart_1(rt: HostRuntime) -> Result<(), Fail> {
+    let run = by_number(&rt, &EXIT, &with(2, 8), 0)?;
+    assert!(rt; run.finished);
+    assert_eq!(rt; run.harts.as_slice(), [1, 0].as_slice());
+    Ok(())
+}
 
-    // Run again by its list, such a run is the same.
-    let start = relay(&rt)?;
-    let drawn = run_seeded(rt.alloc(), &start, FullBook::new(rt.alloc()), 7)?;
-    let list = harts(rt.alloc(), &drawn.book)?;
+#[test]
+fn chosen_turns_make_the_same_run_as_their_list(rt: HostRuntime) -> Result<(), Fail> {
+    let drawn = by_number(&rt, &RELAY, &with(3, 8), 7)?;
     assert_eq!(rt; drawn.turns, 8);
-    let again = run_turns(rt.alloc(), &start, LeanBook, &list)?;
-    let first = drawn.ring.copy(rt.alloc())?;
-    assert_eq!(rt; again.ring.copy(rt.alloc())?.as_slice(), first.as_slice());
+    let again = without_a_book(&rt, &RELAY, &with(3, 8), &[], &drawn.harts)?;
+    assert_eq!(rt; again.bytes.as_slice(), drawn.bytes.as_slice());
     Ok(())
 }
 
 #[test]
 fn one_hart_exits_by_any_number(rt: HostRuntime) -> Result<(), Fail> {
-    let start = begin(&rt, &EXIT, &RawSettings::default(), &[])?;
-    let closed = run_seeded(rt.alloc(), &start, LeanBook, 1)?;
-    assert!(rt; closed.finished);
-    assert_eq!(rt; closed.turns, 1);
-    assert_eq!(rt; closed.ends.as_slice(), [mark(3, 3, 5)].as_slice());
-    assert_eq!(rt; closed.ring.len(), 161);
-    assert!(rt; closed.out.is_empty() && closed.err.is_empty());
+    let run = by_number(&rt, &EXIT, &RawSettings::default(), 1)?;
+    assert!(rt; run.finished);
+    assert_eq!(rt; run.turns, 1);
+    assert_eq!(rt; run.ends.as_slice(), [mark(3, 3, 5)].as_slice());
+    assert_eq!(rt; run.bytes.len(), 161);
     Ok(())
 }
 
