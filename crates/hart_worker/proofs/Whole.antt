@@ -54,10 +54,13 @@ unfinished_is tells b s list k e h is =
 
 -- ---- what is handed over
 
-pub finished_is : (halted disordered over : Bool) → halted ≡ false → disordered ≡ false → over ≡ true → (not halted && not disordered && over) ≡ true
-finished_is false false over h d o = o
-finished_is false true over h d o = cc
-finished_is true disordered over h d o = cc
+ended_so : (halted disordered over : Bool) → halted ≡ false → disordered ≡ false → over ≡ true → (not halted && not disordered && over) ≡ true
+ended_so false false over h d o = o
+ended_so false true over h d o = cc
+ended_so true disordered over h d o = cc
+
+pub finished_is : (finished halted disordered over : Bool) → finished ≡ (not halted && not disordered && over) → halted ≡ false → disordered ≡ false → over ≡ true → finished ≡ true
+finished_is finished halted disordered over e h d o = e ∙ ended_so halted disordered over h d o
 
 pub log_is : TurnsAreLawful → (tells : Bool) (s : Seen) (list : List ℕ) (ring : Held) → HasTaken tells s list → tells ≡ true → IsLogged s ring s.rows → Holds ring (list_run s.began list).stream
 log_is lawful tells s list ring h t logged =

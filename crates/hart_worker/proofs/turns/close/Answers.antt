@@ -13,7 +13,7 @@ returns g c = λ list h over.
     record {
       legal = h.legal;
       over = over;
-      finished = e.finished run h.state ∙ finished_is bus.halted bus.disordered (is_over bus.began.settings run) h.running h.orderly over;
+      finished = finished_is c.close.result.finished bus.halted bus.disordered (is_over bus.began.settings run) (e.finished run h.state) h.running h.orderly over;
       out = e.out run h.state;
       err = e.err run h.state;
       ends = e.ends run h.state;
