@@ -1,7 +1,11 @@
-mod Words
-mod Tells
+mod Marks
+mod Counts
 mod Prints
+mod Rows
 mod Loads
-mod Recorded
+mod Tells
+mod Shows
+mod Single
 mod Suffices
-mod Saves
+mod Sums
+mod Recorded

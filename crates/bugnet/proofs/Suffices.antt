@@ -1,135 +1,129 @@
--- The log of a run that ends in an exit gives its rows.
-use Rattle.std.proofs.Common.{◌≡◌, ℕ, suc, zero, ◌+◌, ◌<◌, ◌≤◌, ◌^◌, refl, sym, ◌∙◌, ap, subst, true, arith, List, [], ◌∷◌}
+-- The answer to the replay of a recorded interval is the text of the run's own rows.
+use Rattle.std.proofs.Common.{◌≡◌, ℕ, ◌+◌, ◌<◌, ◌≤◌, ◌^◌, Bool, true, false, List, [], ◌++◌, length, nat_lt, Option, Some, None, ◌∙◌, ap, subst, sym, refl, arith, inl, inr, ◌⊎◌, length-append}
+use Rattle.std.specs.Prelude.{Result, Ok, Err}
+use Rattle.std.specs.Io.KnownBytes.{Appends}
+use Rattle.std.specs.Str.{bytes_eq}
+use Rattle.std.specs.List.{flat_map}
+use Rattle.std.proofs.lemmas.Slice.Eq.{bytes_eq-Decides}
 use Rattle.std.proofs.lemmas.Bool.Decides.{nat_tests}
+use Rattle.sha2.specs.Sha256.{sha256}
+use Rattle.sha2.proofs.Facts256.{length-sha256}
 use Rattle.bn_base.specs.Programs.{Program}
-use Rattle.bn_base.specs.declared.state.HartState.{HartState}
-use Rattle.bn_base.specs.declared.end_mark.EndMark.{EndMark}
-use Rattle.bn_base.specs.declared.row.Row.{Row}
-use Rattle.rv_meaning.specs.declared.asks.Ask.{Ask}
-use Rattle.rv_meaning.specs.declared.asks.Want.{Want}
-use Rattle.rv_meaning.specs.declared.asks.Want.TheVariants.{Load, Store, LoadReserved, StoreConditional, Amo, System, Cut, Faulted}
-use Rattle.rv_meaning.specs.Execute.{Step, Quiet, Asks, step, ask_of, count_up}
-use Rattle.bugnet.specs.Rows.{built, turn_ask, row_of, rows_of, exit_mark, IsExit}
-use Rattle.bugnet.specs.Replayed.{Replayed, with_row, replayed, asked, same_mark}
-use Rattle.bugnet.specs.declared.interval.Outcome.TheVariants.{Done}
+use Rattle.bn_base.specs.declared.settings.RawSettings.{RawSettings}
+use Rattle.bn_outside.specs.Files.{Files}
+use Rattle.command_words.specs.Words.{Line, ReplayLine}
+use Rattle.elf_loader.specs.Loaded.{image_of}
+use Rattle.elf_loader.specs.declared.error.ElfError.{ElfError}
+use Rattle.le_numbers.specs.Numbers.{number_bytes}
+use Rattle.log_record.specs.Spelling.{bytes_of, total}
+use Rattle.log_order.specs.Content.{Content, IsContent}
+use Rattle.log_file.specs.Layout.{magic, settings_bytes, signed_bytes, file_bytes}
+use Rattle.log_file.specs.declared.error.FileError.{FileError}
+use Rattle.hart_replay.specs.Replay.{Done, Replayed, Interval, interval_of, replayed}
+use Rattle.run_model.specs.Files.{kept_of, content_of, file_of}
+use Rattle.run_model.specs.Rows.{rows_in}
+use Rattle.run_model.specs.Runs.{start, run_of}
+use Rattle.replay_laws.specs.Law.{LogSuffices}
+use Rattle.file_laws.specs.Laws.{LogsAreContents}
+use Rattle.bugnet.specs.Names.{FileNames, name_of}
+use Rattle.bugnet.specs.Told.{Told, refused, printed}
+use Rattle.bugnet.specs.Commands.{IsByFile, WithFile, by_log, IsByLog, replay_same, replay_loaded, replay_found, replay_of, interval_told, ended, IsReplayOf, IsReplay}
+use Rattle.bugnet.specs.Answers.{names_in, IsAnswer}
+use Rattle.bugnet.specs.Headline.{Part, run_text, ReplaysRun, Headline, PrintsRun}
+use Rattle.bugnet.specs.Outside.{WithFiles}
+use Rattle.bugnet.specs.Run.{IsFree, Done as Finished, Tells, AnAnswer, StoppedEarly, Answers}
+use Rattle.bugnet.specs.declared.names.Role.{Role}
+use Rattle.bugnet.specs.declared.names.Role.TheVariants as role
+use Rattle.bugnet.proofs.Loads.{fits, of_false}
+use Rattle.bugnet.proofs.Single.{Grammar, one-reading}
+use Rattle.bugnet.proofs.Tells.{free-status, outside-free}
 
--- a quiet instruction counts one
-abbrev pub Counted : Type 0
-Counted = (i : Program) (s t : HartState) → step i s ≡ Quiet t → t.ic ≡ count_up s.ic
+-- ---- the size of a log file
 
-pub replayed-quiet : (i : Program) (mark : EndMark) (s t : HartState) (left : ℕ) → step i s ≡ Quiet t → replayed i mark s (suc left) ≡ with_row (row_of i s t) (replayed i mark t left)
-replayed-quiet i mark s t left e = rw (e, replayed) refl
+settings-size : (s : RawSettings) → length (settings_bytes s) ≡ 48
+unfolding settings_bytes magic number_bytes
+settings-size s = refl
 
-pub replayed-asks : (i : Program) (mark : EndMark) (s : HartState) (w : Want) (left : ℕ) → step i s ≡ Asks w → replayed i mark s (suc left) ≡ asked i mark s (built i s w)
-replayed-asks i mark s w left e = rw (e, replayed) refl
+four : (n : ℕ) → length (number_bytes 4 n) ≡ 4
+unfolding number_bytes
+four n = refl
 
-rows_of-quiet : (i : Program) (s t : HartState) (budget : ℕ) → step i s ≡ Quiet t → rows_of i s (suc budget) ≡ row_of i s t ∷ rows_of i t budget
-rows_of-quiet i s t budget e = rw (e, rows_of) refl
+eight : (n : ℕ) → length (number_bytes 8 n) ≡ 8
+unfolding number_bytes
+eight n = refl
 
-rows_of-asks : (i : Program) (s : HartState) (w : Want) (budget : ℕ) → step i s ≡ Asks w → rows_of i s (suc budget) ≡ row_of i s s ∷ []
-rows_of-asks i s w budget e = rw (e, rows_of) refl
+signed-size : (d : Content) → length d.head.digest ≡ 32 → length (signed_bytes d.head d.dropped (flat_map bytes_of d.records)) ≡ 92 + total d.records
+unfolding signed_bytes
+signed-size d e = simp length-append (omega (arith, e, settings-size d.head.settings, eight d.dropped, four (length (flat_map bytes_of d.records))))
 
-ask_of-quiet : (i : Program) (s t : HartState) (budget : ℕ) → step i s ≡ Quiet t → ask_of i (suc budget) s ≡ ask_of i budget t
-ask_of-quiet i s t budget e = rw (e, ask_of) refl
+file-size : (d : Content) → IsContent d → length (file_bytes d) ≤ 268500992
+file-size d is =
+    let signed = signed_bytes d.head d.dropped (flat_map bytes_of d.records) in
+    let n : length (signed ++ sha256 signed) ≡ length signed + length (sha256 signed) = length-append signed (sha256 signed) in
+    omega (arith, n, signed-size d is.digest, length-sha256 signed, is.bound, is.settings.log_size_high)
 
-ask_of-asks : (i : Program) (s : HartState) (w : Want) (budget : ℕ) → step i s ≡ Asks w → ask_of i (suc budget) s ≡ record { state = s; want = w }
-ask_of-asks i s w budget e = rw (e, ask_of) refl
+-- ---- the answer
 
--- a turn's ask as it is taken by now
-abbrev built_ask : Program → Ask → Ask
-built_ask i ask = record { state = ask.state; want = built i ask.state ask.want }
+-- the answer by a file that is there
+by-file : (there : Option (List ℕ)) (names : FileNames) (r : Role) (limit : ℕ) (bytes : List ℕ) (Go : List ℕ → Told → Type 0) (what : Told)
+    → there ≡ Some bytes → length bytes ≤ limit → IsByFile there names r limit Go what → Go bytes what
+by-file there names r limit bytes Go what e h is =
+    of_false (nat_lt limit (length bytes)) _ (Go bytes what) (fits limit (length bytes) h) (subst (λ (t : Option (List ℕ)). IsByFile t names r limit Go what) e is)
 
-turn_ask-quiet : (i : Program) (s t : HartState) (budget : ℕ) → step i s ≡ Quiet t → turn_ask i (suc budget) s ≡ turn_ask i budget t
-turn_ask-quiet i s t budget e = ap (built_ask i) (ask_of-quiet i s t budget e)
+same : (bs : List ℕ) → bytes_eq bs bs ≡ true
+same bs = (bytes_eq-Decides bs bs).1 refl
 
-turn_ask-asks : (i : Program) (s : HartState) (w : Want) (budget : ℕ) → step i s ≡ Asks w → turn_ask i (suc budget) s ≡ record { state = s; want = built i s w }
-turn_ask-asks i s w budget e = ap (built_ask i) (ask_of-asks i s w budget e)
+-- the replay of what the log of a run says
+answer : LogSuffices → (names : FileNames) (p : Part) (v : Interval) (line : Option Line) (files : Files) → ReplaysRun line files p v
+    → replay_of names p.hart p.number p.elf (content_of p.settings (sha256 p.elf) (run_of p.settings p.program p.input p.turns)) ≡ printed (run_text p v)
+unfolding ended
+answer law names p v line files r =
+    let run = run_of p.settings p.program p.input p.turns in
+    let d = content_of p.settings (sha256 p.elf) run in
+    let small : p.settings.limit < 2 ^ 63 = omega (arith, r.recording.setting.limit_high) in
+    let rows : replayed p.program d.records p.hart p.number ≡ record { rows = rows_in p.settings p.program (start p.settings p.program p.input) p.turns p.hart p.number; outcome = Done } =
+    law p.settings p.program p.input p.turns p.hart p.number small (record { legal = r.recording.legal; over = r.recording.over }) v r.kept in
+    ap (λ (b : Bool). replay_same b names p.hart p.number p.elf d) (same (sha256 p.elf))
+    ∙ ap (λ (i : Result Program ElfError). replay_loaded names p.hart p.number d i) r.loaded
+    ∙ ap (λ (o : Option Interval). replay_found names p.hart p.number d p.program o) r.kept
+    ∙ ap (λ (x : Replayed). interval_told names p.hart p.number v x) rows
 
-later_by : (i : Program) (s : HartState) (budget : ℕ) (x : Step) → Counted → step i s ≡ x
-    → ((t : HartState) → t.ic < 2 ^ 64 → t.ic ≤ (turn_ask i budget t).state.ic)
-    → s.ic < 2 ^ 64 → s.ic ≤ (turn_ask i (suc budget) s).state.ic
-later_by i s budget (Quiet t) law e rest small =
-    let counts = law i s t e in
-    let same = ap (λ (a : Ask). a.state.ic) (turn_ask-quiet i s t budget e) in
-    let later = rest t (omega (arith, counts)) in
-    omega (arith, counts, same, later)
-later_by i s budget (Asks w) law e rest small =
-    let same = ap (λ (a : Ask). a.state.ic) (turn_ask-asks i s w budget e) in
-    omega (arith, same)
+-- an answer by a log that says this
+by-content : Grammar → (names : FileNames) (bytes : List ℕ) (d : Content) (go : Content → Told) (what : Told) → IsContent d → bytes ≡ file_bytes d → IsByLog names bytes go what → what ≡ go d
+by-content g names bytes d go what is e by = by.is ∙ ap (λ (r : Result Content FileError). by_log names go r) (one-reading g bytes by.says (Ok d) by.reads (is, e))
 
--- a turn does not lower the count
-turn_later : (i : Program) (budget : ℕ) (s : HartState) → Counted → s.ic < 2 ^ 64 → s.ic ≤ (turn_ask i budget s).state.ic
-turn_later i zero s law small = omega arith
-turn_later i (suc budget) s law small = later_by i s budget (step i s) law refl (λ t. turn_later i budget t law) small
+replays : Grammar → LogSuffices → LogsAreContents → (files : Files) (p : Part) (v : Interval) (line : Option Line) (r : ReplaysRun line files p v) (what : Told)
+    → IsReplay files (names_in (ReplayLine r.log_name r.elf_name p.hart p.number)) p.hart p.number what → what ≡ printed (run_text p v)
+unfolding WithFile
+replays g law contents files p v line r what is =
+    let names = names_in (ReplayLine r.log_name r.elf_name p.hart p.number) in
+    let d = content_of p.settings (sha256 p.elf) (run_of p.settings p.program p.input p.turns) in
+    let log = file_bytes d in
+    let content : IsContent d = contents p.settings p.program (sha256 p.elf) p.input p.turns r.recording in
+    let first : IsReplayOf files names p.hart p.number log what =
+    by-file (files r.log_name) names role.Log 268500992 log (λ log what. IsReplayOf files names p.hart p.number log what) what r.log (file-size d content) is in
+    let second : IsByLog names log (replay_of names p.hart p.number p.elf) what =
+    by-file (files r.elf_name) names role.Elf 67108864 p.elf (λ elf what. IsByLog names log (replay_of names p.hart p.number elf) what) what r.program r.small first in
+    by-content g names log d (replay_of names p.hart p.number p.elf) what content refl second ∙ answer law names p v line files r
 
--- a mark is the same as itself
-same_mark-self : (mark : EndMark) → same_mark mark mark ≡ true
-same_mark-self mark = grind (arith, nat_tests)
+pub headline : Grammar → LogSuffices → LogsAreContents → Headline
+headline g law contents line files p v r what is =
+    replays g law contents files p v line r what (subst (λ (l : Option Line). IsAnswer l files what) r.command is)
 
-exit_asked : (i : Program) (s : HartState) (w : Want) → IsExit w → asked i (exit_mark s) s w ≡ record { rows = row_of i s s ∷ []; outcome = Done }
-unfolding asked
-exit_asked i s (System number args) exit = rw (same_mark-self (exit_mark s)) refl
-exit_asked i s (Load addr width signed rd) exit = absurd exit
-exit_asked i s (Store addr width value) exit = absurd exit
-exit_asked i s (LoadReserved addr rd) exit = absurd exit
-exit_asked i s (StoreConditional addr rd value) exit = absurd exit
-exit_asked i s (Amo addr op rd value) exit = absurd exit
-exit_asked i s Cut exit = absurd exit
-exit_asked i s (Faulted kind value) exit = absurd exit
+-- ---- what is printed
 
--- the law at one run
-abbrev Suffices : Program → HartState → ℕ → ℕ → Type 0
-Suffices i s budget left = IsExit (turn_ask i budget s).want
-    → s.ic + left ≡ (turn_ask i budget s).state.ic + 1
-    → s.ic + left < 2 ^ 64
-    → replayed i (exit_mark (turn_ask i budget s).state) s left ≡ record { rows = rows_of i s budget; outcome = Done }
+printed-so : Headline → (line : Option Line) (files : Files) (names : FileNames) (p : Part) (v : Interval) (r : ReplaysRun line files p v) (status : ℕ) (out_old out_new err_old err_new : Option (List ℕ)) (before now : ℕ)
+    → Answers names (IsAnswer line files) status out_old out_new err_old err_new before now → IsFree status ⊎ ((status ≡ 0) × Appends out_old out_new (run_text p v))
+printed-so law line files names p v r status out_old out_new err_old err_new before now (inr early) = inl (free-status names early.0 status err_old err_new before now (outside-free early.0 early.1) early.3)
+printed-so law line files names p v r status out_old out_new err_old err_new before now (inl found) = told found.0 (law line files p v r found.0 found.1) found.2
+  where
+    told : (what : Told) → what ≡ printed (run_text p v) → Tells names what status out_old out_new err_old err_new before now → IsFree status ⊎ ((status ≡ 0) × Appends out_old out_new (run_text p v))
+    told what e (inl done) = inr (done.status_is ∙ ap (λ (t : Told). t.status) e, subst (λ (t : List ℕ). Appends out_old out_new t) (ap (λ (t : Told). t.out) e) done.out)
+    told what e (inr stopped) = inl (free-status names stopped.refusal status stopped.err_mid err_new stopped.faults_mid now stopped.free stopped.line)
 
-suffices_by : (i : Program) (s : HartState) (budget left : ℕ) (x : Step) → Counted → step i s ≡ x
-    → ((t : HartState) (fewer : ℕ) → Suffices i t budget fewer) → Suffices i s (suc budget) left
-suffices_by i s budget zero (Quiet t) law e rest exit counted small =
-    let counts = law i s t e in
-    let same = ap (λ (a : Ask). a.state.ic) (turn_ask-quiet i s t budget e) in
-    let later = turn_later i budget t law (omega (arith, counts)) in
-    absurd (omega (arith, counts, same, later))
-suffices_by i s budget zero (Asks w) law e rest exit counted small =
-    let same = ap (λ (a : Ask). a.state.ic) (turn_ask-asks i s w budget e) in
-    absurd (omega (arith, same))
-suffices_by i s budget (suc left) (Quiet t) law e rest exit counted small =
-    let counts = law i s t e in
-    let same = turn_ask-quiet i s t budget e in
-    let count = ap (λ (a : Ask). a.state.ic) same in
-    let last = (turn_ask i budget t).state in
-    let row = row_of i s t in
-    ap (λ (a : Ask). replayed i (exit_mark a.state) s (suc left)) same
-    ∙ (replayed-quiet i (exit_mark last) s t left e
-    ∙ (ap (with_row row) (rest t left (subst (λ (a : Ask). IsExit a.want) same exit) (omega (arith, counts, count)) (omega (arith, counts)))
-    ∙ ap (λ (r : List Row). let z : Replayed = record { rows = r; outcome = Done } in z) (sym (rows_of-quiet i s t budget e))))
-suffices_by i s budget (suc left) (Asks w) law e rest exit counted small =
-    let same = turn_ask-asks i s w budget e in
-    ap (λ (a : Ask). replayed i (exit_mark a.state) s (suc left)) same
-    ∙ (replayed-asks i (exit_mark s) s w left e
-    ∙ (exit_asked i s (built i s w) (subst (λ (a : Ask). IsExit a.want) same exit)
-    ∙ ap (λ (r : List Row). let z : Replayed = record { rows = r; outcome = Done } in z) (sym (rows_of-asks i s w budget e))))
-
-pub log_suffices : Counted → (i : Program) (s : HartState) (budget left : ℕ) → Suffices i s budget left
-log_suffices law i s zero left exit counted small = absurd exit
-log_suffices law i s (suc budget) left exit counted small =
-    suffices_by i s budget left (step i s) law refl (λ t fewer. log_suffices law i t budget fewer) exit counted small
-
-before_by : (i : Program) (s : HartState) (budget : ℕ) (x : Step) → Counted → step i s ≡ x
-    → ((t : HartState) → IsExit (turn_ask i budget t).want → (turn_ask i budget t).state.ic < t.ic + budget)
-    → IsExit (turn_ask i (suc budget) s).want → (turn_ask i (suc budget) s).state.ic < s.ic + suc budget
-before_by i s budget (Quiet t) law e rest exit =
-    let counts = law i s t e in
-    let same = turn_ask-quiet i s t budget e in
-    let count = ap (λ (a : Ask). a.state.ic) same in
-    let before = rest t (subst (λ (a : Ask). IsExit a.want) same exit) in
-    omega (arith, counts, count, before)
-before_by i s budget (Asks w) law e rest exit =
-    let same = ap (λ (a : Ask). a.state.ic) (turn_ask-asks i s w budget e) in
-    omega (arith, same)
-
--- an exit is asked before the budget is used up
-pub turn_before : Counted → (i : Program) (budget : ℕ) (s : HartState) → IsExit (turn_ask i budget s).want → (turn_ask i budget s).state.ic < s.ic + budget
-turn_before law i zero s exit = absurd exit
-turn_before law i (suc budget) s exit = before_by i s budget (step i s) law refl (λ t. turn_before law i budget t) exit
+pub prints-run : Headline → (known : Option Files) (line : Option Line) (names : FileNames) (status : ℕ) (out_old out_new err_old err_new : Option (List ℕ)) (before now : ℕ)
+    → WithFiles known (λ files. Answers names (IsAnswer line files) status out_old out_new err_old err_new before now)
+    → WithFiles known (λ files. PrintsRun line files status out_old out_new)
+prints-run law None line names status out_old out_new err_old err_new before now h = tt
+prints-run law (Some files) line names status out_old out_new err_old err_new before now h =
+    λ p v r. printed-so law line files names p v r status out_old out_new err_old err_new before now h

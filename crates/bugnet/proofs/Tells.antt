@@ -1,333 +1,277 @@
 -- What a whole call of the program does, from what its parts do.
-use Rattle.std.proofs.Common.{◌≡◌, ◌≤◌, ℕ, Bool, cond, List, [], ◌∷◌, ◌++◌, length, Option, Some, None, ◌∙◌, ap, subst, sym, refl, arith, inl, inr, ◌⊎◌, append_assoc, Global, String}
-use Rattle.std.specs.Prelude.{Ok, Err}
+use Rattle.std.proofs.Common.{◌≡◌, ◌≢◌, ◌≤◌, ℕ, Bool, List, [], ◌∷◌, ◌++◌, length, Option, Some, None, ◌∙◌, ap, subst, sym, refl, inl, inr, ◌⊎◌, append_assoc}
+use Rattle.std.specs.Prelude.{Result, Ok, Err}
 use Rattle.std.specs.Io.KnownBytes.{Appends}
-use Rattle.std.proofs.lemmas.List.{append-nil, take_all}
+use Rattle.std.proofs.lemmas.List.{append-nil}
 use Rattle.bn_base.specs.declared.end_mark.EndMark.{EndMark}
+use Rattle.bn_base.specs.declared.state.HartState.{HartState}
+use Rattle.bn_outside.specs.Counts.{Counts, Rose}
 use Rattle.bn_outside.specs.Files.{Files, WhereTold, SameElsewhere}
 use Rattle.bn_outside.specs.Streams.{AppendsPart}
-use Rattle.bugnet.specs.Refusals.{name_at, status_of, IsOutside}
+use Rattle.hart_replay.specs.Coming.{Replaying}
+use Rattle.hart_replay.specs.Replay.{Outcome, Done, Refused, Replayed, Interval}
+use Rattle.hart_replay.specs.declared.error.ReplayError.{ReplayError}
+use Rattle.hart_replay.specs.declared.error.ReplayError.TheVariants.{NoInterval}
+use Rattle.hart_replay.specs.Replay.{interval_of}
+use Rattle.bugnet.specs.Names.{FileNames, no_names}
+use Rattle.bugnet.specs.Refusals.{status_of, line_of, said_of, IsOutside, IsFreeRefusal}
 use Rattle.bugnet.specs.Texts.{begin_text, end_text, rows_text}
-use Rattle.bugnet.specs.Printed.{end_of_interval, interval_text}
-use Rattle.bugnet.specs.Replayed.{Replayed}
-use Rattle.std.specs.Str.{bytes_eq}
-use Rattle.bugnet.specs.Commands.{Told, refused, ended, replay_told, replay_log, replay_of, is_record, record_names, answer_told, with_file}
-use Rattle.bugnet.specs.Headline.{Headline, ReplaysRun, PrintsRun, run_text, file_of_run}
-use Rattle.bugnet.proofs.Loads.{within}
-use Rattle.bugnet.proofs.Recorded.{size_of_file}
-use Rattle.bugnet.specs.Outside.{SendStops, ToldRefusal, WithFiles, Gives, told_of, SameFiles, KeptBoth, KeptFiles, MayChange, replay_in}
-use Rattle.bugnet.specs.Run.{IsFree, Tells, own_err, own_out, IsFreeRefusal}
+use Rattle.bugnet.specs.Told.{Told, Saved, refused, printed}
+use Rattle.bugnet.specs.Printed.{outcome_of, end_of_interval, rest_text}
+use Rattle.bugnet.specs.Commands.{ended, replay_found, list_of, check_of}
+use Rattle.bugnet.specs.Logs.{IsBegun}
+use Rattle.bugnet.specs.Outside.{SendStops, ToldRefusal, WithFiles, Gives, told_of, told_of_reading, told_of_recording, SameFiles, KeptBoth, KeptFiles, MayChange, SaveRefusal}
+use Rattle.bugnet.specs.Run.{IsFree, Tells, own_err, own_out, AnAnswer, StoppedEarly, Answers}
 use Rattle.bugnet.specs.declared.answer.Answer.{Answer}
-use Rattle.bugnet.specs.declared.answer.Answer.TheVariants.{Interval}
 use Rattle.bugnet.specs.declared.answer.Reading.{Reading}
-use Rattle.bugnet.specs.declared.interval.Outcome as ends
-use Rattle.bugnet.specs.declared.interval.Outcome.TheVariants as end
+use Rattle.bugnet.specs.declared.answer.Recording.{Recording}
+use Rattle.bugnet.specs.declared.printing.Ending.{Ending}
+use Rattle.bugnet.specs.declared.printing.Ending.TheVariants as ending
 use Rattle.bugnet.specs.declared.refusal.Refusal.{Refusal}
-use Rattle.bugnet.specs.declared.refusal.Refusal.TheVariants.{WordsRefused, SameName, StoreFailed, Missing, TooLong, ProgramDiffers, OutOfMemory, WriteFailed, EndDiffers, NotBuilt}
-use Rattle.bugnet.proofs.Prints.{appends-nothing}
-
-part-none : (known : Option (List ℕ)) (text : List ℕ) → AppendsPart known known text
-part-none known text = (0, appends-nothing known)
-
-part-whole : (old new : Option (List ℕ)) (text : List ℕ) → Appends old new text → AppendsPart old new text
-part-whole old new text h = (length text, subst (λ (t : List ℕ). Appends old new t) (sym (take_all (length text) text (omega arith))) h)
+use Rattle.bugnet.specs.declared.refusal.Refusal.TheVariants.{WordsRefused, OutOfRange, SameName, StoreFailed, Missing, TooLong, ElfRefused, LogRefused, ProgramDiffers, OutOfMemory, WriteFailed, ReplayStopped}
+use Rattle.bugnet.proofs.Prints.{appends-nothing, part-none, part-whole}
 
 -- ---- a refusal
 
-no_status_0 : (r : Refusal) → status_of r ≡ 0 → ⊥
-no_status_0 WordsRefused h = omega (arith, h)
-no_status_0 (SameName place) h = omega (arith, h)
-no_status_0 (StoreFailed place) h = omega (arith, h)
-no_status_0 (Missing place) h = omega (arith, h)
-no_status_0 (TooLong place) h = omega (arith, h)
-no_status_0 (ProgramDiffers kept found) h = omega (arith, h)
-no_status_0 OutOfMemory h = omega (arith, h)
-no_status_0 WriteFailed h = omega (arith, h)
-no_status_0 (EndDiffers said found) h = omega (arith, h)
-no_status_0 NotBuilt h = omega (arith, h)
-
 -- a refusal that words and files explain
-pub refused-told : (words : List (String Global)) (r : Refusal) (status : ℕ) (out err_old err_new : Option (List ℕ)) (before now : ℕ)
-    → ToldRefusal words r status err_old err_new before now → Tells words (refused words r) status out out err_old err_new before now
+pub refused-told : (names : FileNames) (r : Refusal) (status : ℕ) (out err_old err_new : Option (List ℕ)) (before now : ℕ)
+    → ToldRefusal names r status err_old err_new before now → Tells names (refused names r) status out out err_old err_new before now
 unfolding refused
-refused-told words r status out err_old err_new before now (inl h) = inl (record {
-  status_is = h.0;
-  out = appends-nothing out;
-  err = h.1;
-  summary = λ zero. absurd (no_status_0 r (sym h.0 ∙ zero));
-})
-refused-told words r status out err_old err_new before now (inr h) = inr (record {
+refused-told names r status out err_old err_new before now (inl h) = inl (record { status_is = h.0; out = appends-nothing out; err = h.1 })
+refused-told names r status out err_old err_new before now (inr h) = inr (record {
   refusal = OutOfMemory;
   free = tt;
   out = part-none out [];
   err_mid = err_old;
   faults_mid = before;
-  own = part-none err_old _;
+  own = part-none err_old [];
   line = inl h;
 })
 
--- and one by the outside
-pub outside-told : (words : List (String Global)) (what : Told) (r : Refusal) (status : ℕ) (out err_old err_new : Option (List ℕ)) (before now : ℕ)
-    → IsOutside r → ToldRefusal words r status err_old err_new before now → Tells words what status out out err_old err_new before now
-outside-told words what r status out err_old err_new before now outside h = inr (record {
-  refusal = r;
-  free = free r outside;
-  out = part-none out (own_out what r);
-  err_mid = err_old;
-  faults_mid = before;
-  own = part-none err_old (own_err what);
-  line = h;
-})
-  where
-    free : (r : Refusal) → IsOutside r → IsFreeRefusal r
-    free WordsRefused h = absurd h
-    free (SameName place) h = absurd h
-    free (StoreFailed place) h = tt
-    free (Missing place) h = absurd h
-    free (TooLong place) h = absurd h
-    free (ProgramDiffers kept found) h = absurd h
-    free OutOfMemory h = tt
-    free WriteFailed h = absurd h
-    free (EndDiffers said found) h = absurd h
-    free NotBuilt h = absurd h
+pub outside-free : (r : Refusal) → IsOutside r → IsFreeRefusal r
+outside-free WordsRefused h = absurd h
+outside-free (OutOfRange bad) h = absurd h
+outside-free SameName h = absurd h
+outside-free (StoreFailed role) h = tt
+outside-free (Missing role) h = absurd h
+outside-free (TooLong role) h = absurd h
+outside-free (ElfRefused e) h = absurd h
+outside-free (LogRefused e) h = absurd h
+outside-free (ProgramDiffers kept found) h = absurd h
+outside-free OutOfMemory h = tt
+outside-free WriteFailed h = absurd h
+outside-free (ReplayStopped e) h = absurd h
 
-pub refusal-told : (known : Option Files) (words : List (String Global)) (what : Files → Told) (r : Refusal) (status : ℕ) (out err_old err_new : Option (List ℕ)) (before now : ℕ)
-    → WithFiles known (λ files. Gives words (what files) (Err r)) → ToldRefusal words r status err_old err_new before now
-    → WithFiles known (λ files. Tells words (what files) status out out err_old err_new before now)
-refusal-told None words what r status out err_old err_new before now g h = tt
-refusal-told (Some files) words what r status out err_old err_new before now (inl outside) h = outside-told words (what files) r status out err_old err_new before now outside h
-refusal-told (Some files) words what r status out err_old err_new before now (inr same) h =
-    subst (λ (t : Told). Tells words t status out out err_old err_new before now) same (refused-told words r status out err_old err_new before now h)
+-- the status of one that they don't explain is free
+pub free-status : (names : FileNames) (r : Refusal) (status : ℕ) (err_old err_new : Option (List ℕ)) (before now : ℕ)
+    → IsFreeRefusal r → ToldRefusal names r status err_old err_new before now → IsFree status
+free-status names r status err_old err_new before now o (inr h) = inr (inl h.0)
+free-status names WordsRefused status err_old err_new before now o (inl h) = absurd o
+free-status names (OutOfRange bad) status err_old err_new before now o (inl h) = absurd o
+free-status names SameName status err_old err_new before now o (inl h) = absurd o
+free-status names (StoreFailed role) status err_old err_new before now o (inl h) = inl h.0
+free-status names (Missing role) status err_old err_new before now o (inl h) = absurd o
+free-status names (TooLong role) status err_old err_new before now o (inl h) = absurd o
+free-status names (ElfRefused e) status err_old err_new before now o (inl h) = absurd o
+free-status names (LogRefused e) status err_old err_new before now o (inl h) = absurd o
+free-status names (ProgramDiffers kept found) status err_old err_new before now o (inl h) = absurd o
+free-status names OutOfMemory status err_old err_new before now o (inl h) = inr (inl h.0)
+free-status names WriteFailed status err_old err_new before now o (inl h) = inr (inr h.0)
+free-status names (ReplayStopped e) status err_old err_new before now o (inl h) = absurd o
 
-outside-free : (words : List (String Global)) (r : Refusal) (status : ℕ) (err_old err_new : Option (List ℕ)) (before now : ℕ)
-    → IsOutside r → ToldRefusal words r status err_old err_new before now → IsFree status
-outside-free words (StoreFailed place) status err_old err_new before now o (inl h) = inl h.0
-outside-free words OutOfMemory status err_old err_new before now o (inl h) = inr (inl h.0)
-outside-free words WordsRefused status err_old err_new before now o (inl h) = absurd o
-outside-free words (SameName place) status err_old err_new before now o (inl h) = absurd o
-outside-free words (Missing place) status err_old err_new before now o (inl h) = absurd o
-outside-free words (TooLong place) status err_old err_new before now o (inl h) = absurd o
-outside-free words (ProgramDiffers kept found) status err_old err_new before now o (inl h) = absurd o
-outside-free words WriteFailed status err_old err_new before now o (inl h) = absurd o
-outside-free words (EndDiffers said found) status err_old err_new before now o (inl h) = absurd o
-outside-free words NotBuilt status err_old err_new before now o (inl h) = absurd o
-outside-free words r status err_old err_new before now o (inr h) = inr (inl h.0)
+-- a command that is refused
+pub refusal-answers : (known : Option Files) (names : FileNames) (Is : Files → Told → Type 0) (r : Refusal) (status : ℕ) (out err_old err_new : Option (List ℕ)) (before now : ℕ)
+    → WithFiles known (λ files. Gives names (Is files) (Err r)) → ToldRefusal names r status err_old err_new before now
+    → WithFiles known (λ files. Answers names (Is files) status out out err_old err_new before now)
+refusal-answers None names Is r status out err_old err_new before now g h = tt
+refusal-answers (Some files) names Is r status out err_old err_new before now (inl outside) h = inr (r, outside, appends-nothing out, h)
+refusal-answers (Some files) names Is r status out err_old err_new before now (inr is) h = inl (refused names r, is, refused-told names r status out err_old err_new before now h)
 
-same-files : (known after : Option Files) → after ≡ known → WhereTold known after SameFiles
+pub same-files : (known after : Option Files) → after ≡ known → WhereTold known after SameFiles
 same-files None after e = tt
 same-files (Some files) after e = subst (λ (k : Option Files). WhereTold (Some files) k SameFiles) (sym e) (λ name. refl)
 
 -- nothing is saved at a refusal
-pub refusal-kept : (known after : Option Files) (words : List (String Global)) (what : Files → Told) (r : Refusal) (status : ℕ) (log book : List ℕ) (err_old err_new : Option (List ℕ)) (before now : ℕ)
-    → after ≡ known → WithFiles known (λ files. Gives words (what files) (Err r)) → ToldRefusal words r status err_old err_new before now
-    → WithFiles known (λ files. IsFree status ⊎ WhereTold known after (KeptFiles (what files).saved log book))
+pub refusal-kept : (known after : Option Files) (names : FileNames) (Is : Files → Told → Type 0) (r : Refusal) (status : ℕ) (log book : List ℕ) (err_old err_new : Option (List ℕ)) (before now : ℕ)
+    → after ≡ known → WithFiles known (λ files. Gives names (Is files) (Err r)) → ToldRefusal names r status err_old err_new before now
+    → WithFiles known (λ files. IsFree status ⊎ AnAnswer (Is files) (λ what. WhereTold known after (KeptFiles what.saved log book)))
 unfolding refused
-refusal-kept None after words what r status log book err_old err_new before now e g h = tt
-refusal-kept (Some files) after words what r status log book err_old err_new before now e (inl outside) h = inl (outside-free words r status err_old err_new before now outside h)
-refusal-kept (Some files) after words what r status log book err_old err_new before now e (inr same) h =
-    inr (subst (λ (t : Told). WhereTold (Some files) after (KeptFiles t.saved log book)) same (same-files (Some files) after e))
+refusal-kept None after names Is r status log book err_old err_new before now e g h = tt
+refusal-kept (Some files) after names Is r status log book err_old err_new before now e (inl outside) h = inl (free-status names r status err_old err_new before now (outside-free r outside) h)
+refusal-kept (Some files) after names Is r status log book err_old err_new before now e (inr is) h = inr (refused names r, is, same-files (Some files) after e)
 
 -- where nothing changed, no more did than what may
-pub none-changed : (saved : Option (List ℕ)) (log book : List ℕ) (known after : Option Files) → after ≡ known → WhereTold known after (MayChange saved log book)
+none-changed : (saved : Option Saved) (log book : List ℕ) (known after : Option Files) → after ≡ known → WhereTold known after (MayChange saved log book)
 none-changed saved log book None after e = tt
 none-changed saved log book (Some files) after e = subst (λ (k : Option Files). WhereTold (Some files) k (MayChange saved log book)) (sym e) (same saved)
   where
-    same : (s : Option (List ℕ)) → MayChange s log book files files
+    same : (s : Option Saved) → MayChange s log book files files
     same None = λ name. refl
     same (Some bytes) = λ name not_log not_book. refl
 
-pub refusal-others : (known after : Option Files) (what : Files → Told) (log book : List ℕ) → after ≡ known → WithFiles known (λ files. WhereTold known after (MayChange (what files).saved log book))
-refusal-others None after what log book e = tt
-refusal-others (Some files) after what log book e = none-changed (what files).saved log book (Some files) after e
+pub still-changed : (saved : Option Saved) (log book : List ℕ) (known after : Option Files) → after ≡ known → WhereTold known after (MayChange saved log book)
+still-changed saved log book known after e = none-changed saved log book known after e
 
--- ---- an interval
+pub refusal-others : (known after : Option Files) (Is : Files → Told → Type 0) (log book : List ℕ) → after ≡ known
+    → WithFiles known (λ files. (what : Told) → Is files what → WhereTold known after (MayChange what.saved log book))
+refusal-others None after Is log book e = tt
+refusal-others (Some files) after Is log book e = λ what is. none-changed what.saved log book (Some files) after e
 
--- what is printed is what is told
-ended-out : (words : List (String Global)) (mark : EndMark) (text : List ℕ) (o : ends.Outcome) → begin_text ++ (text ++ end_of_interval mark o) ≡ (ended words mark text o).out
-unfolding ended
-ended-out words mark text end.Done = sym (append_assoc begin_text text (end_text mark))
-ended-out words mark text (end.EndDiffers found) = ap (λ (t : List ℕ). begin_text ++ t) (append-nil text)
+-- ---- an answer
 
-pub ended-saved : (words : List (String Global)) (mark : EndMark) (text : List ℕ) (o : ends.Outcome) → (ended words mark text o).saved ≡ None
-unfolding ended
-ended-saved words mark text end.Done = refl
-ended-saved words mark text (end.EndDiffers found) = refl
-
-done-told : (words : List (String Global)) (mark : EndMark) (text : List ℕ) (out_old out_new err : Option (List ℕ)) (faults : ℕ)
-    → Appends out_old out_new (ended words mark text end.Done).out → Tells words (ended words mark text end.Done) 0 out_old out_new err err faults faults
-unfolding ended
-done-told words mark text out_old out_new err faults h = inl (record { status_is = refl; out = h; err = inl (appends-nothing err); summary = λ z. appends-nothing err })
-
-pub interval-done : (words : List (String Global)) (mark : EndMark) (r : Replayed) (o : ends.Outcome) (out_old out_new err : Option (List ℕ)) (faults : ℕ)
-    → Appends out_old out_new (interval_text mark r) → o ≡ r.outcome → o ≡ end.Done
-    → Tells words (ended words mark (rows_text r.rows) r.outcome) 0 out_old out_new err err faults faults
-interval-done words mark r o out_old out_new err faults h same done =
-    let e : r.outcome ≡ end.Done = sym same ∙ done in
-    let text = rows_text r.rows in
-    let whole : Appends out_old out_new (ended words mark text r.outcome).out = subst (λ (t : List ℕ). Appends out_old out_new t) (ended-out words mark text r.outcome) h in
-    let there : Appends out_old out_new (ended words mark text end.Done).out = subst (λ (x : ends.Outcome). Appends out_old out_new (ended words mark text x).out) e whole in
-    subst (λ (x : ends.Outcome). Tells words (ended words mark text x) 0 out_old out_new err err faults faults) (sym e) (done-told words mark text out_old out_new err faults there)
-
-differs-told : (words : List (String Global)) (mark found : EndMark) (text : List ℕ) (status : ℕ) (out_old out_new err_old err_new : Option (List ℕ)) (before now : ℕ)
-    → Appends out_old out_new (ended words mark text (end.EndDiffers found)).out → ToldRefusal words (EndDiffers mark found) status err_old err_new before now
-    → Tells words (ended words mark text (end.EndDiffers found)) status out_old out_new err_old err_new before now
-unfolding ended
-differs-told words mark found text status out_old out_new err_old err_new before now h (inl told) =
-    inl (record { status_is = told.0; out = h; err = told.1; summary = λ zero. absurd (no_status_0 (EndDiffers mark found) (sym told.0 ∙ zero)) })
-differs-told words mark found text status out_old out_new err_old err_new before now h (inr told) = inr (record {
-  refusal = OutOfMemory;
-  free = tt;
-  out = part-whole out_old out_new _ h;
-  err_mid = err_old;
-  faults_mid = before;
-  own = part-none err_old _;
-  line = inl told;
-})
-
-pub interval-differs : (words : List (String Global)) (mark found : EndMark) (r : Replayed) (o : ends.Outcome) (status : ℕ) (out_old out_new err_old err_new : Option (List ℕ)) (before now : ℕ)
-    → Appends out_old out_new (interval_text mark r) → o ≡ r.outcome → o ≡ end.EndDiffers found → ToldRefusal words (EndDiffers mark found) status err_old err_new before now
-    → Tells words (ended words mark (rows_text r.rows) r.outcome) status out_old out_new err_old err_new before now
-interval-differs words mark found r o status out_old out_new err_old err_new before now h same differs told =
-    let e : r.outcome ≡ end.EndDiffers found = sym same ∙ differs in
-    let text = rows_text r.rows in
-    let whole : Appends out_old out_new (ended words mark text r.outcome).out = subst (λ (t : List ℕ). Appends out_old out_new t) (ended-out words mark text r.outcome) h in
-    let there : Appends out_old out_new (ended words mark text (end.EndDiffers found)).out = subst (λ (x : ends.Outcome). Appends out_old out_new (ended words mark text x).out) e whole in
-    subst (λ (x : ends.Outcome). Tells words (ended words mark text x) status out_old out_new err_old err_new before now) (sym e) (differs-told words mark found text status out_old out_new err_old err_new before now there told)
-
-own-out : (what : Told) (r : Refusal) (before now : ℕ) (old new : Option (List ℕ)) → SendStops before now r → AppendsPart old new what.out → AppendsPart old new (own_out what r)
-own-out what OutOfMemory before now old new s h = h
-own-out what WriteFailed before now old new s h = h
-own-out what WordsRefused before now old new s h = absurd s
-own-out what (SameName place) before now old new s h = absurd s
-own-out what (StoreFailed place) before now old new s h = absurd s
-own-out what (Missing place) before now old new s h = absurd s
-own-out what (TooLong place) before now old new s h = absurd s
-own-out what (ProgramDiffers kept found) before now old new s h = absurd s
-own-out what (EndDiffers said found) before now old new s h = absurd s
-own-out what NotBuilt before now old new s h = absurd s
-
-stops-free : (r : Refusal) (before now : ℕ) → SendStops before now r → IsFreeRefusal r
-stops-free OutOfMemory before now s = tt
-stops-free WriteFailed before now s = tt
-stops-free WordsRefused before now s = absurd s
-stops-free (SameName place) before now s = absurd s
-stops-free (StoreFailed place) before now s = absurd s
-stops-free (Missing place) before now s = absurd s
-stops-free (TooLong place) before now s = absurd s
-stops-free (ProgramDiffers kept found) before now s = absurd s
-stops-free (EndDiffers said found) before now s = absurd s
-stops-free NotBuilt before now s = absurd s
-
--- sending stopped
-pub interval-stopped : (words : List (String Global)) (mark : EndMark) (r : Replayed) (why : Refusal) (status : ℕ) (out_old out_new err_old err_new : Option (List ℕ)) (faults faults_now before now : ℕ)
-    → AppendsPart out_old out_new (interval_text mark r) × SendStops faults faults_now why → ToldRefusal words why status err_old err_new before now
-    → Tells words (ended words mark (rows_text r.rows) r.outcome) status out_old out_new err_old err_new before now
-interval-stopped words mark r why status out_old out_new err_old err_new faults faults_now before now h told =
-    let what = ended words mark (rows_text r.rows) r.outcome in
-    let there = subst (λ (t : List ℕ). AppendsPart out_old out_new t) (ended-out words mark (rows_text r.rows) r.outcome) h.0 in
-    inr (record {
-      refusal = why;
-      free = stops-free why faults faults_now h.1;
-      out = own-out what why faults faults_now out_old out_new h.1 there;
-      err_mid = err_old;
-      faults_mid = before;
-      own = part-none err_old (own_err what);
-      line = told;
-    })
-
--- nothing is saved
-pub interval-kept : (known : Option Files) (words : List (String Global)) (r : Reading) (log book : List ℕ)
-    → WhereTold known known (KeptFiles (told_of words (Interval r)).saved log book)
-interval-kept known words r log book =
-    let none : (told_of words (Interval r)).saved ≡ None = ended-saved words r.kept.mark (rows_text (replay_in r).rows) (replay_in r).outcome in
-    subst (λ (s : Option (List ℕ)). WhereTold known known (KeptFiles s log book)) (sym none) (same-files known known refl)
+pub answer-answers : (known : Option Files) (names : FileNames) (Is : Files → Told → Type 0) (a : Answer) (status : ℕ) (out_old out_new err_old err_new : Option (List ℕ)) (before now : ℕ)
+    → WithFiles known (λ files. Gives names (Is files) (Ok a)) → Tells names (told_of names a) status out_old out_new err_old err_new before now
+    → WithFiles known (λ files. Answers names (Is files) status out_old out_new err_old err_new before now)
+answer-answers None names Is a status out_old out_new err_old err_new before now g h = tt
+answer-answers (Some files) names Is a status out_old out_new err_old err_new before now g h = inl (told_of names a, g, h)
 
 -- what an answer saves is what is to be saved
-pub answer-kept : (known first after : Option Files) (words : List (String Global)) (what : Files → Told) (a : Answer) (status : ℕ) (log book : List ℕ)
-    → first ≡ known → WithFiles known (λ files. Gives words (what files) (Ok a)) → IsFree status ⊎ WhereTold first after (KeptFiles (told_of words a).saved log book)
-    → WithFiles known (λ files. IsFree status ⊎ WhereTold known after (KeptFiles (what files).saved log book))
-answer-kept None first after words what a status log book e g h = tt
-answer-kept (Some files) first after words what a status log book e g h =
-    let here = subst (λ (k : Option Files). IsFree status ⊎ WhereTold k after (KeptFiles (told_of words a).saved log book)) e h in
-    subst (λ (t : Told). IsFree status ⊎ WhereTold (Some files) after (KeptFiles t.saved log book)) g here
+pub answer-kept : (known first after : Option Files) (names : FileNames) (Is : Files → Told → Type 0) (a : Answer) (status : ℕ) (log book : List ℕ)
+    → first ≡ known → WithFiles known (λ files. Gives names (Is files) (Ok a)) → IsFree status ⊎ WhereTold first after (KeptFiles (told_of names a).saved log book)
+    → WithFiles known (λ files. IsFree status ⊎ AnAnswer (Is files) (λ what. WhereTold known after (KeptFiles what.saved log book)))
+answer-kept None first after names Is a status log book e g h = tt
+answer-kept (Some files) first after names Is a status log book e g (inl free) = inl free
+answer-kept (Some files) first after names Is a status log book e g (inr h) =
+    inr (told_of names a, g, subst (λ (k : Option Files). WhereTold k after (KeptFiles (told_of names a).saved log book)) e h)
 
--- and no more changes than what may
-pub answer-others : (known first after : Option Files) (words : List (String Global)) (what : Files → Told) (a : Answer) (log book : List ℕ)
-    → first ≡ known → WithFiles known (λ files. Gives words (what files) (Ok a)) → WhereTold first after (MayChange (told_of words a).saved log book)
-    → WithFiles known (λ files. WhereTold known after (MayChange (what files).saved log book))
-answer-others None first after words what a log book e g h = tt
-answer-others (Some files) first after words what a log book e g h =
-    let here = subst (λ (k : Option Files). WhereTold k after (MayChange (told_of words a).saved log book)) e h in
-    subst (λ (t : Told). WhereTold (Some files) after (MayChange t.saved log book)) g here
+-- and no more changes than what may, since there is no other answer
+pub answer-others : (known first after : Option Files) (names : FileNames) (Is : Files → Told → Type 0) (a : Answer) (log book : List ℕ)
+    → ((files : Files) (x y : Told) → Is files x → Is files y → x ≡ y)
+    → first ≡ known → WithFiles known (λ files. Gives names (Is files) (Ok a)) → WhereTold first after (MayChange (told_of names a).saved log book)
+    → WithFiles known (λ files. (what : Told) → Is files what → WhereTold known after (MayChange what.saved log book))
+answer-others None first after names Is a log book one e g h = tt
+answer-others (Some files) first after names Is a log book one e g h = λ what is.
+    subst (λ (t : Told). WhereTold (Some files) after (MayChange t.saved log book)) (one files (told_of names a) what g is)
+    (subst (λ (k : Option Files). WhereTold k after (MayChange (told_of names a).saved log book)) e h)
+
+-- ---- what is printed
+
+stops-free : (r : Refusal) (before now : ℕ) → SendStops before now r → IsFreeRefusal r
+stops-free WordsRefused before now s = absurd s
+stops-free (OutOfRange bad) before now s = absurd s
+stops-free SameName before now s = absurd s
+stops-free (StoreFailed role) before now s = absurd s
+stops-free (Missing role) before now s = absurd s
+stops-free (TooLong role) before now s = absurd s
+stops-free (ElfRefused e) before now s = absurd s
+stops-free (LogRefused e) before now s = absurd s
+stops-free (ProgramDiffers kept found) before now s = absurd s
+stops-free OutOfMemory before now s = tt
+stops-free WriteFailed before now s = tt
+stops-free (ReplayStopped e) before now s = absurd s
+
+own-out : (text : List ℕ) (r : Refusal) (before now : ℕ) (old new : Option (List ℕ)) → SendStops before now r → AppendsPart old new text → AppendsPart old new (own_out text r)
+own-out text WordsRefused before now old new s h = absurd s
+own-out text (OutOfRange bad) before now old new s h = absurd s
+own-out text SameName before now old new s h = absurd s
+own-out text (StoreFailed role) before now old new s h = absurd s
+own-out text (Missing role) before now old new s h = absurd s
+own-out text (TooLong role) before now old new s h = absurd s
+own-out text (ElfRefused e) before now old new s h = absurd s
+own-out text (LogRefused e) before now old new s h = absurd s
+own-out text (ProgramDiffers kept found) before now old new s h = absurd s
+own-out text OutOfMemory before now old new s h = h
+own-out text WriteFailed before now old new s h = h
+own-out text (ReplayStopped e) before now old new s h = absurd s
+
+-- sending to out stopped
+pub stopped-told : (names : FileNames) (what : Told) (r : Refusal) (status : ℕ) (out_old out_new err_old err_new : Option (List ℕ)) (faults faults_now before now : ℕ)
+    → AppendsPart out_old out_new what.out × SendStops faults faults_now r → ToldRefusal names r status err_old err_new before now
+    → Tells names what status out_old out_new err_old err_new before now
+stopped-told names what r status out_old out_new err_old err_new faults faults_now before now h told = inr (record {
+  refusal = r;
+  free = stops-free r faults faults_now h.1;
+  out = own-out what.out r faults faults_now out_old out_new h.1 h.0;
+  err_mid = err_old;
+  faults_mid = before;
+  own = part-none err_old (own_err what.saved what.err);
+  line = told;
+})
+
+-- a text is printed
+pub printed-told : (names : FileNames) (text : List ℕ) (out_old out_new err : Option (List ℕ)) (faults : ℕ)
+    → Appends out_old out_new text → Tells names (printed text) 0 out_old out_new err err faults faults
+printed-told names text out_old out_new err faults h = inl (record { status_is = refl; out = h; err = inl (appends-nothing err) })
 
 -- ---- a recording
 
--- out is as before
-pub tells-still : (words : List (String Global)) (what : Told) (status : ℕ) (out err_old err_new : Option (List ℕ)) (before now : ℕ)
-    → what.out ≡ [] → Tells words what status (Some []) (Some []) err_old err_new before now → Tells words what status out out err_old err_new before now
-tells-still words what status out err_old err_new before now e (inl d) =
-    inl (record { status_is = d.status_is; out = subst (λ (t : List ℕ). Appends out out t) (sym e) (appends-nothing out); err = d.err; summary = d.summary })
-tells-still words what status out err_old err_new before now e (inr s) =
-    inr (record { refusal = s.refusal; free = s.free; out = part-none out (own_out what s.refusal); err_mid = s.err_mid; faults_mid = s.faults_mid; own = s.own; line = s.line })
+save-free : (r : Refusal) (before now : Counts) → SaveRefusal before now r → IsFreeRefusal r
+save-free WordsRefused before now s = absurd s
+save-free (OutOfRange bad) before now s = absurd s
+save-free SameName before now s = absurd s
+save-free (StoreFailed role) before now s = tt
+save-free (Missing role) before now s = absurd s
+save-free (TooLong role) before now s = absurd s
+save-free (ElfRefused e) before now s = absurd s
+save-free (LogRefused e) before now s = absurd s
+save-free (ProgramDiffers kept found) before now s = absurd s
+save-free OutOfMemory before now s = tt
+save-free WriteFailed before now s = absurd s
+save-free (ReplayStopped e) before now s = absurd s
 
--- the same of what an answer gives, whatever the files are
-pub answer-told : (known : Option Files) (words : List (String Global)) (what : Files → Told) (a : Answer) (status : ℕ) (out_old out_new err_old err_new : Option (List ℕ)) (before now : ℕ)
-    → WithFiles known (λ files. Gives words (what files) (Ok a)) → Tells words (told_of words a) status out_old out_new err_old err_new before now
-    → WithFiles known (λ files. Tells words (what files) status out_old out_new err_old err_new before now)
-answer-told None words what a status out_old out_new err_old err_new before now g h = tt
-answer-told (Some files) words what a status out_old out_new err_old err_new before now g h =
-    subst (λ (t : Told). Tells words t status out_old out_new err_old err_new before now) g h
+-- saving stopped
+pub unsaved-told : (names : FileNames) (what : Told) (r : Refusal) (status : ℕ) (out err_old err_new : Option (List ℕ)) (first last : Counts) (before now : ℕ)
+    → SaveRefusal first last r → ToldRefusal names r status err_old err_new before now → Tells names what status out out err_old err_new before now
+unsaved-told names what r status out err_old err_new first last before now s told = inr (record {
+  refusal = r;
+  free = save-free r first last s;
+  out = part-none out (own_out what.out r);
+  err_mid = err_old;
+  faults_mid = before;
+  own = part-none err_old (own_err what.saved what.err);
+  line = told;
+})
+
+-- sending to err stopped
+pub half-told : (names : FileNames) (what : Recording) (r : Refusal) (status : ℕ) (out_old out_new err_old err_mid err_new : Option (List ℕ)) (faults middle now : ℕ)
+    → Appends out_old out_new what.out.items → AppendsPart err_old err_mid what.err.items × SendStops faults middle r → ToldRefusal names r status err_mid err_new middle now
+    → Tells names (told_of_recording what) status out_old out_new err_old err_new faults now
+half-told names what r status out_old out_new err_old err_mid err_new faults middle now out h told = inr (record {
+  refusal = r;
+  free = stops-free r faults middle h.1;
+  out = own-out what.out.items r faults middle out_old out_new h.1 (part-whole out_old out_new what.out.items out);
+  err_mid = err_mid;
+  faults_mid = middle;
+  own = h.0;
+  line = told;
+})
 
 -- two saves one after the other
-pub kept-both : (first middle last : Option Files) (bytes log book : List ℕ)
-    → WhereTold first middle (λ old new. new log ≡ Some bytes) → WhereTold first middle (SameElsewhere log)
-    → WhereTold middle last (λ old new. new book ≡ Some (0 ∷ [])) → WhereTold middle last (SameElsewhere book)
-    → WhereTold first last (KeptBoth bytes log book)
-kept-both None middle last bytes log book a b c d = tt
-kept-both (Some first) None last bytes log book a b c d = absurd a
-kept-both (Some first) (Some middle) None bytes log book a b c d = absurd c
-kept-both (Some first) (Some middle) (Some last) bytes log book a b c d = record {
+pub kept-both : (first middle last : Option Files) (saved : Saved) (log book : List ℕ)
+    → WhereTold first middle (λ old new. new log ≡ Some saved.log) → WhereTold first middle (SameElsewhere log)
+    → WhereTold middle last (λ old new. new book ≡ Some saved.book) → WhereTold middle last (SameElsewhere book)
+    → WhereTold first last (KeptBoth saved log book)
+kept-both None middle last saved log book a b c d = tt
+kept-both (Some first) None last saved log book a b c d = absurd a
+kept-both (Some first) (Some middle) None saved log book a b c d = absurd c
+kept-both (Some first) (Some middle) (Some last) saved log book a b c d = record {
   log_there = λ apart. d log apart ∙ a;
   book_there = c;
   others = λ name not_log not_book. d name not_book ∙ b name not_log;
 }
 
--- ---- the headline
+-- ---- before there is an answer
 
-free-status : (words : List (String Global)) (r : Refusal) (status : ℕ) (err_old err_new : Option (List ℕ)) (before now : ℕ)
-    → IsFreeRefusal r → ToldRefusal words r status err_old err_new before now → IsFree status
-free-status words (StoreFailed place) status err_old err_new before now o (inl h) = inl h.0
-free-status words OutOfMemory status err_old err_new before now o (inl h) = inr (inl h.0)
-free-status words WriteFailed status err_old err_new before now o (inl h) = inr (inr h.0)
-free-status words WordsRefused status err_old err_new before now o (inl h) = absurd o
-free-status words (SameName place) status err_old err_new before now o (inl h) = absurd o
-free-status words (Missing place) status err_old err_new before now o (inl h) = absurd o
-free-status words (TooLong place) status err_old err_new before now o (inl h) = absurd o
-free-status words (ProgramDiffers kept found) status err_old err_new before now o (inl h) = absurd o
-free-status words (EndDiffers said found) status err_old err_new before now o (inl h) = absurd o
-free-status words NotBuilt status err_old err_new before now o (inl h) = absurd o
-free-status words r status err_old err_new before now o (inr h) = inr (inl h.0)
+-- words that are refused
+pub words-answers : (known : Option Files) (status : ℕ) (out err_old err_new : Option (List ℕ)) (before now : ℕ)
+    → ToldRefusal no_names WordsRefused status err_old err_new before now
+    → WithFiles known (λ files. Answers no_names (λ what. what ≡ refused no_names WordsRefused) status out out err_old err_new before now)
+words-answers None status out err_old err_new before now h = tt
+words-answers (Some files) status out err_old err_new before now h = inl (refused no_names WordsRefused, refl, refused-told no_names WordsRefused status out err_old err_new before now h)
 
--- the answer to a replay of a recording is the run's text
-run-answer : Headline → (words : List (String Global)) (files : Files) (elf code : List ℕ) → ReplaysRun words files elf code → answer_told words files ≡ run_text code
-unfolding answer_told with_file
-run-answer law words files elf code r =
-    let log = file_of_run elf code in
-    let short : length log ≤ 268500992 = subst (λ (n : ℕ). n ≤ 268500992) (sym (size_of_file elf code)) (omega arith) in
-    ap (λ (b : Bool). cond b (replay_told words files) (cond (is_record words) (record_names (bytes_eq (name_at words 5) (name_at words 6)) words files) (refused words WordsRefused))) r.command
-    ∙ within (files (name_at words 2)) words 2 log 268500992 (λ bytes. replay_log words files bytes) r.log short
-    ∙ within (files (name_at words 3)) words 3 elf 67108864 (λ bytes. replay_of words log bytes) r.program r.small
-    ∙ law words elf code r.code_is r.exits
+pub words-kept : (known : Option Files) (status : ℕ) (log book : List ℕ)
+    → WithFiles known (λ files. IsFree status ⊎ AnAnswer (λ what. what ≡ refused no_names WordsRefused) (λ what. WhereTold known known (KeptFiles what.saved log book)))
+unfolding refused
+words-kept None status log book = tt
+words-kept (Some files) status log book = inr (refused no_names WordsRefused, refl, λ name. refl)
 
-prints-done : (words : List (String Global)) (code : List ℕ) (status : ℕ) (out_old out_new err_old err_new : Option (List ℕ)) (before now : ℕ)
-    → Tells words (run_text code) status out_old out_new err_old err_new before now → IsFree status ⊎ ((status ≡ 0) × Appends out_old out_new (run_text code).out)
-prints-done words code status out_old out_new err_old err_new before now (inl d) = inr (d.status_is, d.out)
-prints-done words code status out_old out_new err_old err_new before now (inr s) = inl (free-status words s.refusal status s.err_mid err_new s.faults_mid now s.free s.line)
+-- the line for want of memory names no file
+memory-names : (a b : FileNames) (status : ℕ) (err_old err_new : Option (List ℕ)) (before now : ℕ) → ToldRefusal a OutOfMemory status err_old err_new before now → ToldRefusal b OutOfMemory status err_old err_new before now
+unfolding line_of said_of
+memory-names a b status err_old err_new before now h = h
 
-pub prints-run : Headline → (known : Option Files) (words : List (String Global)) (status : ℕ) (out_old out_new err_old err_new : Option (List ℕ)) (before now : ℕ)
-    → WithFiles known (λ files. Tells words (answer_told words files) status out_old out_new err_old err_new before now)
-    → WithFiles known (λ files. PrintsRun words files status out_old out_new)
-prints-run law None words status out_old out_new err_old err_new before now h = tt
-prints-run law (Some files) words status out_old out_new err_old err_new before now h = λ elf code r.
-    prints-done words code status out_old out_new err_old err_new before now
-    (subst (λ (t : Told). Tells words t status out_old out_new err_old err_new before now) (run-answer law words files elf code r) h)
+-- no memory for the words
+pub memory-answers : (known : Option Files) (a b : FileNames) (Is : Files → Told → Type 0) (status : ℕ) (out err_old err_new : Option (List ℕ)) (before now : ℕ)
+    → ToldRefusal a OutOfMemory status err_old err_new before now → WithFiles known (λ files. Answers b (Is files) status out out err_old err_new before now)
+memory-answers None a b Is status out err_old err_new before now h = tt
+memory-answers (Some files) a b Is status out err_old err_new before now h = inr (OutOfMemory, tt, appends-nothing out, memory-names a b status err_old err_new before now h)

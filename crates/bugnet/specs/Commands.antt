@@ -1,133 +1,137 @@
--- What a command answers, by its words and the files that are there.
-use Rattle.std.specs.Prelude.{ℕ, ◌^◌, ◌==◌, ◌&&◌, not, nat_lt, nat_le, Bool, true, false, List, [], ◌++◌, length, Option, Some, None, if◌then◌else◌, codes, string_bytes, slice_get, slice_index}
-use Rattle.std.specs.Option.{option_map_or}
-use Rattle.std.specs.Str.{bytes_eq, all_ascii_digits}
-use Rattle.std.specs.Str.Parse.{digits_value}
-use Rattle.std.specs.declared.string.String.{String}
-use Rattle.std.specs.declared.alloc.Global.{Global}
+-- What a command answers, by its line and the files that are there. An answer is given by what it has to be: a log file is
+-- read by the grammar of its bytes, which is a relation. No command has two answers (`one_answer`).
+use Rattle.std.specs.Prelude.{◌≡◌, ◌≢◌, ℕ, nat_lt, Bool, true, false, List, [], ◌++◌, length, Option, Some, None, Result, Ok, Err}
+use Rattle.std.specs.Str.{bytes_eq}
 use Rattle.sha2.specs.Sha256.{sha256}
-use Rattle.bn_base.specs.declared.state.HartState.{HartState}
+use Rattle.bn_base.specs.Programs.{Program}
+use Rattle.bn_base.specs.Ranges.{first_bad}
 use Rattle.bn_base.specs.declared.end_mark.EndMark.{EndMark}
-use Rattle.rv_meaning.specs.declared.asks.Ask.{Ask}
-use Rattle.rv_meaning.specs.declared.asks.Want.{Want}
-use Rattle.rv_meaning.specs.declared.asks.Want.TheVariants.{System}
+use Rattle.bn_base.specs.declared.settings.BadSetting.{BadSetting}
+use Rattle.bn_base.specs.declared.settings.RawSettings.{RawSettings}
 use Rattle.bn_outside.specs.Files.{Files}
-use Rattle.bugnet.specs.SmallElf.{words_in, program_of}
-use Rattle.bugnet.specs.Rows.{start_state, turn_ask, exit_mark}
-use Rattle.bugnet.specs.Replayed.{Replayed, replayed}
-use Rattle.bugnet.specs.LogFile.{log_bytes, log_in}
-use Rattle.bugnet.specs.Refusals.{name_at, status_of, line_of}
-use Rattle.bugnet.specs.Texts.{begin_text, rows_text, end_text, summary_text}
-use Rattle.bugnet.specs.declared.log.Kept.{Kept}
-use Rattle.bugnet.specs.declared.interval.Outcome.{Outcome}
-use Rattle.bugnet.specs.declared.interval.Outcome.TheVariants.{Done, EndDiffers}
-use Rattle.bugnet.specs.declared.refusal.Refusal as why
-use Rattle.bugnet.specs.declared.refusal.Refusal.TheVariants as why_not
-
--- a status, what out and err gain, and the log file that is saved
-pub record Told : Type 0 where
-  pub status : ℕ
-  pub out : List ℕ
-  pub err : List ℕ
-  pub saved : Option (List ℕ)
-
--- a refusal
-unfoldable pub refused : List (String Global) → why.Refusal → Told
-refused words refusal = record { status = status_of refusal; out = []; err = line_of words refusal; saved = None }
-
--- ---- the two commands, by the bytes of their files
-
--- the end of a replay whose rows have this text
-unfoldable pub ended : List (String Global) → EndMark → List ℕ → Outcome → Told
-ended words mark text Done = record { status = 0; out = begin_text ++ text ++ end_text mark; err = []; saved = None }
-ended words mark text (EndDiffers found) =
-    record { status = 15; out = begin_text ++ text; err = line_of words (why_not.EndDiffers mark found); saved = None }
-
-abbrev pub printed : List (String Global) → Kept → Replayed → Told
-printed words kept r = ended words kept.mark (rows_text r.rows) r.outcome
-
-abbrev pub replay_words : List (String Global) → Kept → Option (List ℕ) → Told
-replay_words words kept None = refused words why_not.NotBuilt
-replay_words words kept (Some code) = printed words kept (replayed (program_of code) kept.mark kept.start kept.mark.ic)
-
-abbrev pub replay_same : Bool → List (String Global) → Kept → List ℕ → Told
-replay_same true words kept elf = replay_words words kept (words_in elf)
-replay_same false words kept elf = refused words (why_not.ProgramDiffers kept.digest (sha256 elf))
-
-abbrev pub replay_kept : List (String Global) → List ℕ → Option Kept → Told
-replay_kept words elf None = refused words why_not.NotBuilt
-replay_kept words elf (Some kept) = replay_same (bytes_eq (sha256 elf) kept.digest) words kept elf
-
--- the replay of a log file with a program file: the log is read, the digests are compared, the program is read
-unfoldable pub replay_of : List (String Global) → List ℕ → List ℕ → Told
-replay_of words log elf = replay_kept words elf (log_in log)
-
--- a run that makes this ask in its one turn
-abbrev pub recorded : List (String Global) → List ℕ → HartState → Want → Told
-recorded words digest s (System number args) =
-    record { status = 0; out = []; err = summary_text (exit_mark s).ic; saved = Some (log_bytes (record { digest = digest; start = start_state; mark = exit_mark s })) }
-recorded words digest s want = refused words why_not.NotBuilt
-
-abbrev pub record_ask : List (String Global) → List ℕ → Ask → Told
-record_ask words digest ask = recorded words digest ask.state ask.want
-
-abbrev pub record_words : List (String Global) → List ℕ → Option (List ℕ) → Told
-record_words words digest None = refused words why_not.NotBuilt
-record_words words digest (Some code) = record_ask words digest (turn_ask (program_of code) 100000 start_state)
-
--- the recording of a program file
-unfoldable pub record_of : List (String Global) → List ℕ → Told
-record_of words elf = record_words words (sha256 elf) (words_in elf)
+use Rattle.elf_loader.specs.Loaded.{image_of}
+use Rattle.elf_loader.specs.declared.error.ElfError.{ElfError}
+use Rattle.log_order.specs.Content.{Content, IsContent}
+use Rattle.log_file.specs.Layout.{file_bytes}
+use Rattle.log_file.specs.File.{IsRefusal}
+use Rattle.log_file.specs.declared.error.FileError.{FileError}
+use Rattle.log_file.specs.declared.error.FileError.TheVariants as file
+use Rattle.hart_replay.specs.Replay.{Outcome, Done, Refused, Replayed, Interval, interval_of, replayed}
+use Rattle.hart_replay.specs.declared.error.ReplayError.TheVariants.{NoInterval}
+use Rattle.run_model.specs.Runs.{seeded}
+use Rattle.bugnet.specs.Names.{FileNames, name_of}
+use Rattle.bugnet.specs.Refusals.{status_of, line_of}
+use Rattle.bugnet.specs.Texts.{begin_text, rows_text, end_text, list_text, check_text}
+use Rattle.bugnet.specs.Told.{Told, refused, printed}
+use Rattle.bugnet.specs.Recordings.{recorded}
+use Rattle.bugnet.specs.declared.names.Role.{Role}
+use Rattle.bugnet.specs.declared.names.Role.TheVariants as role
+use Rattle.bugnet.specs.declared.refusal.Refusal.TheVariants.{OutOfRange, SameName, Missing, TooLong, ElfRefused, LogRefused, ProgramDiffers, ReplayStopped}
 
 -- ---- files
 
-abbrev pub file_or : Option (List ℕ) → List (String Global) → ℕ → ℕ → (List ℕ → Told) → Told
-file_or None words place limit go = refused words (why_not.Missing place)
-file_or (Some bytes) words place limit go = if nat_lt limit (length bytes) then refused words (why_not.TooLong place) else go bytes
+-- the first where a test holds, else the second
+abbrev pub Either : Bool → Type 0 → Type 0 → Type 0
+Either true A B = A
+Either false A B = B
 
--- goes on with the bytes of the name at a place, where they are there and within the limit
-unfoldable pub with_file : Files → List (String Global) → ℕ → ℕ → (List ℕ → Told) → Told
-with_file files words place limit go = file_or (files (name_at words place)) words place limit go
+abbrev pub IsByFile : Option (List ℕ) → FileNames → Role → ℕ → (List ℕ → Told → Type 0) → Told → Type 0
+IsByFile None names r limit Go what = what ≡ refused names (Missing r)
+IsByFile (Some bytes) names r limit Go what = Either (nat_lt limit (length bytes)) (what ≡ refused names (TooLong r)) (Go bytes what)
 
-abbrev pub replay_log : List (String Global) → Files → List ℕ → Told
-replay_log words files log = with_file files words 3 67108864 (λ elf. replay_of words log elf)
+-- an answer that goes on with the bytes of a file, where it is there and within the limit
+unfoldable pub WithFile : Files → FileNames → Role → ℕ → (List ℕ → Told → Type 0) → Told → Type 0
+WithFile files names r limit Go what = IsByFile (files (name_of names r)) names r limit Go what
 
-abbrev pub replay_told : List (String Global) → Files → Told
-replay_told words files = with_file files words 2 268500992 (λ log. replay_log words files log)
+-- ---- logs
 
-abbrev pub record_told : List (String Global) → Files → Told
-record_told words files = with_file files words 4 67108864 (λ elf. record_of words elf)
+-- what the bytes of a log say, or why they are refused
+abbrev pub Reads : List ℕ → Result Content FileError → Type 0
+Reads bytes (Ok d) = IsContent d × (bytes ≡ file_bytes d)
+Reads bytes (Err e) = IsRefusal bytes e × (e ≢ file.OutOfMemory)
 
--- ---- words
+abbrev pub by_log : FileNames → (Content → Told) → Result Content FileError → Told
+by_log names go (Ok d) = go d
+by_log names go (Err e) = refused names (LogRefused e)
 
--- the word at a place is this text
-abbrev pub word_is : List (String Global) → ℕ → List ℕ → Bool
-word_is words place text = option_map_or (λ w. bytes_eq (string_bytes w) text) (slice_get words place) false
+-- an answer by what a log says
+pub record IsByLog (names : FileNames) (bytes : List ℕ) (go : Content → Told) (what : Told) : Type 0 where
+  pub says : Result Content FileError
+  pub reads : Reads bytes says
+  pub is : what ≡ by_log names go says
 
--- the word at a place is a name: it doesn't begin with '-'
-abbrev pub is_name : List (String Global) → ℕ → Bool
-is_name words place = not (slice_index (name_at words place) 0 == 45)
+abbrev pub list_of : Content → Told
+list_of d = printed (list_text d.records)
 
--- 1 to 20 decimal digits of a number below 2 ^ 64
-abbrev pub is_seed : List ℕ → Bool
-is_seed word = nat_le 1 (length word) && (nat_le (length word) 20 && (all_ascii_digits word && nat_lt (digits_value 10 word) (2 ^ 64)))
+abbrev pub check_of : Content → Told
+check_of d = printed (check_text d)
 
--- `replay LOG ELF 0 0`, after the program's own name
-abbrev pub is_replay : List (String Global) → Bool
-is_replay words = (length words == 6) && (word_is words 1 (codes "replay") && (word_is words 4 (codes "0") && (word_is words 5 (codes "0") && (is_name words 2 && is_name words 3))))
+-- ---- the replay of an interval
 
--- `record --seed N ELF LOG BOOK`, after the program's own name
-abbrev pub is_record : List (String Global) → Bool
-is_record words = (length words == 7) && (word_is words 1 (codes "record") && (word_is words 2 (codes "--seed") && (is_seed (name_at words 3) && (is_name words 4 && (is_name words 5 && is_name words 6)))))
+-- the end of a replay with this text so far
+unfoldable pub ended : FileNames → (hart interval : ℕ) → EndMark → List ℕ → Outcome → Told
+ended names hart interval mark text Done = printed (text ++ end_text hart interval mark)
+ended names hart interval mark text (Refused e) = record { status = status_of (ReplayStopped e); out = text; err = line_of names (ReplayStopped e); saved = None }
+
+abbrev pub interval_told : FileNames → (hart interval : ℕ) → Interval → Replayed → Told
+interval_told names hart interval v r = ended names hart interval v.mark (begin_text hart interval v.start.ic ++ rows_text r.rows) r.outcome
+
+abbrev pub replay_found : FileNames → (hart interval : ℕ) → Content → Program → Option Interval → Told
+replay_found names hart interval d i None = refused names (ReplayStopped (NoInterval hart interval))
+replay_found names hart interval d i (Some v) = interval_told names hart interval v (replayed i d.records hart interval)
+
+-- the replay of an interval of a log with a program
+abbrev pub replay_with : FileNames → (hart interval : ℕ) → Content → Program → Told
+replay_with names hart interval d i = replay_found names hart interval d i (interval_of hart interval d.records)
+
+abbrev pub replay_loaded : FileNames → (hart interval : ℕ) → Content → Result Program ElfError → Told
+replay_loaded names hart interval d (Err e) = refused names (ElfRefused e)
+replay_loaded names hart interval d (Ok i) = replay_with names hart interval d i
+
+abbrev pub replay_same : Bool → FileNames → (hart interval : ℕ) → List ℕ → Content → Told
+replay_same true names hart interval elf d = replay_loaded names hart interval d (image_of elf d.head.settings)
+replay_same false names hart interval elf d = refused names (ProgramDiffers d.head.digest (sha256 elf))
+
+-- the same with a program file: its digest is compared with the log's, and it is loaded with the log's settings
+abbrev pub replay_of : FileNames → (hart interval : ℕ) → List ℕ → Content → Told
+replay_of names hart interval elf d = replay_same (bytes_eq (sha256 elf) d.head.digest) names hart interval elf d
+
+-- ---- the commands
+
+abbrev pub IsList : Files → FileNames → Told → Type 0
+IsList files names what = WithFile files names role.Log 268500992 (λ log what. IsByLog names log list_of what) what
+
+abbrev pub IsCheck : Files → FileNames → Told → Type 0
+IsCheck files names what = WithFile files names role.Log 268500992 (λ log what. IsByLog names log check_of what) what
+
+abbrev pub IsReplayOf : Files → FileNames → (hart interval : ℕ) → List ℕ → Told → Type 0
+IsReplayOf files names hart interval log what =
+    WithFile files names role.Elf 67108864 (λ elf what. IsByLog names log (replay_of names hart interval elf) what) what
+
+abbrev pub IsReplay : Files → FileNames → (hart interval : ℕ) → Told → Type 0
+IsReplay files names hart interval what = WithFile files names role.Log 268500992 (λ log what. IsReplayOf files names hart interval log what) what
+
+-- a recording's input is that of a file, or empty
+abbrev pub IsByInput : Bool → Files → FileNames → (List ℕ → Told) → Told → Type 0
+IsByInput true files names go what = WithFile files names role.Input 16777216 (λ input what. what ≡ go input) what
+IsByInput false files names go what = what ≡ go []
+
+-- the recording of the seed's list of turns
+abbrev pub seeded_told : RawSettings → Program → (digest : List ℕ) → (seed : ℕ) → (input : List ℕ) → Told
+seeded_told c i digest seed input = recorded c i digest input (seeded c i input seed)
+
+abbrev pub IsByProgram : Result Program ElfError → Files → FileNames → RawSettings → (seed : ℕ) → Bool → List ℕ → Told → Type 0
+IsByProgram (Err e) files names c seed has_input digest what = what ≡ refused names (ElfRefused e)
+IsByProgram (Ok i) files names c seed has_input digest what = IsByInput has_input files names (seeded_told c i digest seed) what
 
 -- LOG and BOOK have to be two names
-abbrev pub record_names : Bool → List (String Global) → Files → Told
-record_names true words files = refused words (why_not.SameName 5)
-record_names false words files = record_told words files
+abbrev pub IsByNames : Bool → Files → FileNames → RawSettings → (seed : ℕ) → Bool → Told → Type 0
+IsByNames true files names c seed has_input what = what ≡ refused names SameName
+IsByNames false files names c seed has_input what = WithFile files names role.Elf 67108864 (λ elf what. IsByProgram (image_of elf c) files names c seed has_input (sha256 elf) what) what
 
--- what the program answers to its words, by the files that are there
-unfoldable pub answer_told : List (String Global) → Files → Told
-answer_told words files =
-    if is_replay words then replay_told words files else
-    if is_record words then record_names (bytes_eq (name_at words 5) (name_at words 6)) words files else
-    refused words why_not.WordsRefused
+abbrev pub IsBySettings : Option BadSetting → Files → FileNames → RawSettings → (seed : ℕ) → Bool → Told → Type 0
+IsBySettings (Some bad) files names c seed has_input what = what ≡ refused names (OutOfRange bad)
+IsBySettings None files names c seed has_input what = IsByNames (bytes_eq names.log names.book) files names c seed has_input what
+
+abbrev pub IsRecord : Files → FileNames → RawSettings → (seed : ℕ) → Bool → Told → Type 0
+IsRecord files names c seed has_input what = IsBySettings (first_bad c) files names c seed has_input what

@@ -1,58 +1,52 @@
 -- The headline: the log that a recording saves gives the recorded run's rows.
-use Rattle.std.specs.Prelude.{◌≡◌, ◌⊎◌, ℕ, ◌≤◌, true, List, [], ◌++◌, length, Option, Some, None}
+use Rattle.std.specs.Prelude.{◌≡◌, ◌⊎◌, ℕ, ◌≤◌, List, [], ◌++◌, length, Option, Some, None, Ok}
 use Rattle.std.specs.Io.KnownBytes.{Appends}
-use Rattle.std.specs.declared.string.String.{String}
-use Rattle.std.specs.declared.alloc.Global.{Global}
 use Rattle.sha2.specs.Sha256.{sha256}
-use Rattle.rv_meaning.specs.declared.asks.Ask.{Ask}
-use Rattle.bugnet.specs.SmallElf.{words_in, program_of}
-use Rattle.bugnet.specs.Rows.{start_state, turn_ask, exit_mark, rows_of, IsExit}
-use Rattle.bugnet.specs.LogFile.{log_bytes}
-use Rattle.bugnet.specs.Texts.{begin_text, rows_text, end_text}
+use Rattle.bn_base.specs.Programs.{Program}
+use Rattle.bn_base.specs.declared.settings.RawSettings.{RawSettings}
 use Rattle.bn_outside.specs.Files.{Files}
-use Rattle.bugnet.specs.Refusals.{name_at}
-use Rattle.bugnet.specs.Commands.{Told, replay_of, is_replay}
+use Rattle.command_words.specs.Words.{Line, ReplayLine}
+use Rattle.elf_loader.specs.Loaded.{image_of}
+use Rattle.hart_replay.specs.Replay.{Interval, interval_of}
+use Rattle.run_model.specs.Files.{kept_of, file_of}
+use Rattle.run_model.specs.Rows.{rows_in}
+use Rattle.run_model.specs.Runs.{start, run_of}
+use Rattle.file_laws.specs.Given.{IsRecording}
+use Rattle.bugnet.specs.Texts.{begin_text, rows_text, end_text}
+use Rattle.bugnet.specs.Told.{Told, printed}
+use Rattle.bugnet.specs.Answers.{IsAnswer}
 use Rattle.bugnet.specs.Run.{IsFree}
-use Rattle.bugnet.specs.declared.log.Kept.{Kept}
 
--- the ask of the one turn of a run of these code words
-abbrev pub run_ask : List ℕ → Ask
-run_ask code = turn_ask (program_of code) 100000 start_state
+-- an interval of a run: the settings, the program file and its program, the input, the list of turns, the hart and number
+pub record Part : Type 0 where
+  pub settings : RawSettings
+  pub elf : List ℕ
+  pub program : Program
+  pub input : List ℕ
+  pub turns : List ℕ
+  pub hart : ℕ
+  pub number : ℕ
 
--- what the run's log file says
-abbrev pub kept_of : List ℕ → List ℕ → Kept
-kept_of elf code = record { digest = sha256 elf; start = start_state; mark = exit_mark (run_ask code).state }
+-- the text of the run's own rows of an interval
+abbrev pub run_text : Part → Interval → List ℕ
+run_text p v = begin_text p.hart p.number v.start.ic ++ rows_text (rows_in p.settings p.program (start p.settings p.program p.input) p.turns p.hart p.number) ++ end_text p.hart p.number v.mark
 
--- the log file of the run of a program file with these code words
-abbrev pub file_of_run : List ℕ → List ℕ → List ℕ
-file_of_run elf code = log_bytes (kept_of elf code)
+-- a command replays an interval from the log file of a recording with its program file, and the log keeps the interval's Header
+pub record ReplaysRun (line : Option Line) (files : Files) (p : Part) (v : Interval) : Type 0 where
+  pub log_name : List ℕ
+  pub elf_name : List ℕ
+  pub command : line ≡ Some (ReplayLine log_name elf_name p.hart p.number)
+  pub program : files elf_name ≡ Some p.elf
+  pub small : length p.elf ≤ 67108864
+  pub loaded : image_of p.elf p.settings ≡ Ok p.program
+  pub recording : IsRecording p.settings p.program (sha256 p.elf) p.input p.turns
+  pub log : files log_name ≡ Some (file_of p.settings p.program (sha256 p.elf) p.input p.turns)
+  pub kept : interval_of p.hart p.number (kept_of p.settings (run_of p.settings p.program p.input p.turns)) ≡ Some v
 
--- the text of the run's own rows
-abbrev pub run_text : List ℕ → Told
-run_text code = record {
-  status = 0;
-  out = begin_text ++ rows_text (rows_of (program_of code) start_state 100000) ++ end_text (exit_mark (run_ask code).state);
-  err = [];
-  saved = None;
-}
-
--- for each program file whose run ends in an exit: the replay of its log file with it prints the run's rows
+-- its answer is the text of the recorded run's own rows, and it has no other
 abbrev pub Headline : Type 0
-Headline = (words : List (String Global)) (elf code : List ℕ)
-    → words_in elf ≡ Some code
-    → IsExit (run_ask code).want
-    → replay_of words (file_of_run elf code) elf ≡ run_text code
+Headline = (line : Option Line) (files : Files) (p : Part) (v : Interval) → ReplaysRun line files p v → (what : Told) → IsAnswer line files what → what ≡ printed (run_text p v)
 
--- a command replays a log file with a program file, where the log is the one that a recording of the program saves, and its run ends in an exit
-pub record ReplaysRun (words : List (String Global)) (files : Files) (elf code : List ℕ) : Type 0 where
-  pub command : is_replay words ≡ true
-  pub program : files (name_at words 3) ≡ Some elf
-  pub small : length elf ≤ 67108864
-  pub code_is : words_in elf ≡ Some code
-  pub exits : IsExit (run_ask code).want
-  pub log : files (name_at words 2) ≡ Some (file_of_run elf code)
-
--- then out gains the text of the recorded run's own rows, unless memory was wanting or the outside failed
-abbrev pub PrintsRun : List (String Global) → Files → ℕ → Option (List ℕ) → Option (List ℕ) → Type 0
-PrintsRun words files status out_old out_new =
-    (elf code : List ℕ) → ReplaysRun words files elf code → IsFree status ⊎ ((status ≡ 0) × Appends out_old out_new (run_text code).out)
+-- then out gains that text, unless memory was wanting or the outside failed
+abbrev pub PrintsRun : Option Line → Files → ℕ → Option (List ℕ) → Option (List ℕ) → Type 0
+PrintsRun line files status out_old out_new = (p : Part) (v : Interval) → ReplaysRun line files p v → IsFree status ⊎ ((status ≡ 0) × Appends out_old out_new (run_text p v))

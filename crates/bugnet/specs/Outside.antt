@@ -1,41 +1,87 @@
--- What the program does to the outside.
-use Rattle.std.specs.Prelude.{◌≡◌, ◌≢◌, ◌≤◌, ◌⊎◌, ℕ, List, [], ◌∷◌, length, Option, Some, None, Result, Ok, Err}
+-- What the parts of a command do to the outside.
+use Rattle.std.specs.Prelude.{◌≡◌, ◌≢◌, ◌≤◌, ◌<◌, ◌⊎◌, ℕ, List, [], length, Option, Some, None, Result, Ok, Err, IsSomeAnd}
 use Rattle.std.specs.Io.KnownBytes.{Appends}
-use Rattle.std.specs.declared.string.String.{String}
 use Rattle.std.specs.declared.vec.Vec.{Vec}
 use Rattle.std.specs.declared.alloc.Global.{Global}
 use Rattle.bn_outside.specs.Counts.{Counts, Rose}
 use Rattle.bn_outside.specs.Files.{Files}
 use Rattle.bn_outside.specs.Streams.{AppendsPart}
+use Rattle.bn_base.specs.Programs.{Program}
+use Rattle.bn_base.specs.declared.settings.RawSettings.{RawSettings}
+use Rattle.elf_loader.specs.Loaded.{image_of}
+use Rattle.elf_loader.specs.declared.error.ElfError.{ElfError}
+use Rattle.log_order.specs.Content.{Content, IsContent}
+use Rattle.log_file.specs.Layout.{file_bytes}
+use Rattle.log_file.specs.File.{IsRefusal}
+use Rattle.log_file.specs.declared.error.FileError.{FileError}
+use Rattle.log_file.specs.declared.error.FileError.TheVariants as file
+use Rattle.bugnet.specs.Names.{FileNames}
 use Rattle.bugnet.specs.Refusals.{status_of, line_of, IsOutside}
-use Rattle.bugnet.specs.Replayed.{Replayed, replayed}
-use Rattle.bugnet.specs.Commands.{Told, refused, printed, file_or}
-use Rattle.bugnet.specs.Texts.{summary_text}
+use Rattle.bugnet.specs.Told.{Told, Saved, refused, printed}
+use Rattle.bugnet.specs.Recordings.{end_status}
+use Rattle.bugnet.specs.Commands.{list_of, check_of, replay_with}
+use Rattle.bugnet.specs.declared.names.Role.{Role}
 use Rattle.bugnet.specs.declared.refusal.Refusal.{Refusal}
 use Rattle.bugnet.specs.declared.refusal.Refusal.TheVariants as why
 use Rattle.bugnet.specs.declared.answer.Answer.{Answer}
 use Rattle.bugnet.specs.declared.answer.Reading.{Reading}
-use Rattle.bugnet.specs.declared.answer.Answer.TheVariants.{Recorded, Interval}
+use Rattle.bugnet.specs.declared.answer.Recording.{Recording}
+use Rattle.bugnet.specs.declared.answer.Answer.TheVariants.{Recorded, Interval, Listed, Checked}
 
--- the replay of a log with its program
-abbrev pub replay_in : Reading → Replayed
-replay_in r = replayed r.image r.kept.mark r.kept.start r.kept.mark.ic
+-- ---- what is loaded
+
+-- where a store tells its files
+abbrev pub WithFiles : Option Files → (Files → Type 0) → Type 0
+WithFiles None P = Unit {0}
+WithFiles (Some files) P = P files
+
+-- a load of a file: its bytes, or why there are none
+abbrev pub FetchTells : Role → ℕ → Option (List ℕ) → Result (Vec ℕ Global) Refusal → Type 0
+FetchTells role limit there (Ok bytes) = (there ≡ Some bytes.items) × (length bytes.items ≤ limit)
+FetchTells role limit there (Err refusal) = IsOutside refusal ⊎ (((there ≡ None) × (refusal ≡ why.Missing role)) ⊎ (IsSomeAnd there (λ bytes. limit < length bytes) × (refusal ≡ why.TooLong role)))
+
+-- a log that was read, or why it is refused
+abbrev pub LogTells : List ℕ → Result Content Refusal → Type 0
+LogTells bytes (Ok d) = IsContent d × (bytes ≡ file_bytes d)
+LogTells bytes (Err refusal) = (refusal ≡ why.OutOfMemory) ⊎ ((e : FileError) × (refusal ≡ why.LogRefused e) × IsRefusal bytes e × (e ≢ file.OutOfMemory))
+
+-- a program that was loaded, or why it is refused
+abbrev pub ProgramTells : List ℕ → RawSettings → Result Program Refusal → Type 0
+ProgramTells bytes c (Ok i) = image_of bytes c ≡ Ok i
+ProgramTells bytes c (Err refusal) = (refusal ≡ why.OutOfMemory) ⊎ ((e : ElfError) × (refusal ≡ why.ElfRefused e) × (image_of bytes c ≡ Err e))
+
+-- ---- what is answered
+
+abbrev pub told_of_recording : Recording → Told
+told_of_recording r = record { status = end_status r.end; out = r.out.items; err = r.err.items; saved = Some (record { log = r.log.items; book = r.book.items }) }
+
+abbrev pub told_of_reading : FileNames → Reading → Told
+told_of_reading names r = replay_with names r.hart r.interval r.log r.image
 
 -- what an answer tells
-abbrev pub told_of : List (String Global) → Answer → Told
-told_of words (Recorded r) = record { status = 0; out = []; err = summary_text r.instructions; saved = Some r.log.items }
-told_of words (Interval r) = printed words r.kept (replay_in r)
+abbrev pub told_of : FileNames → Answer → Told
+told_of names (Recorded r) = told_of_recording r
+told_of names (Interval r) = told_of_reading names r
+told_of names (Listed d) = list_of d
+told_of names (Checked d) = check_of d
 
--- the result of a command is this one, or the store failed, or memory was wanting
-abbrev pub Gives : List (String Global) → Told → Result Answer Refusal → Type 0
-Gives words what (Ok answer) = told_of words answer ≡ what
-Gives words what (Err refusal) = IsOutside refusal ⊎ (refused words refusal ≡ what)
+-- an answer that saves nothing
+abbrev pub IsPrinted : Answer → Type 0
+IsPrinted (Recorded r) = ⊥
+IsPrinted (Interval r) = Unit {0}
+IsPrinted (Listed d) = Unit {0}
+IsPrinted (Checked d) = Unit {0}
+
+-- the result of a command is what the command has to answer, or the store failed, or memory was wanting
+abbrev pub Gives : FileNames → (Told → Type 0) → Result Answer Refusal → Type 0
+Gives names Is (Ok answer) = Is (told_of names answer)
+Gives names Is (Err refusal) = IsOutside refusal ⊎ Is (refused names refusal)
 
 -- each refusal by the store has a count that rose, and none is of a write
 abbrev pub RefusalCause : Counts → Counts → Refusal → Type 0
-RefusalCause before now (why.StoreFailed place) = Rose before.faults now.faults
-RefusalCause before now (why.Missing place) = Rose before.misses now.misses
-RefusalCause before now (why.TooLong place) = Rose before.longs now.longs
+RefusalCause before now (why.StoreFailed role) = Rose before.faults now.faults
+RefusalCause before now (why.Missing role) = Rose before.misses now.misses
+RefusalCause before now (why.TooLong role) = Rose before.longs now.longs
 RefusalCause before now why.WriteFailed = ⊥
 RefusalCause before now refusal = Unit {0}
 
@@ -46,16 +92,6 @@ ResultCause before now (Err refusal) = RefusalCause before now refusal
 -- no refusal by a store, or of a write
 abbrev pub IsOwn : {A : Type 0} → Result A Refusal → Type 0
 IsOwn result = (before now : Counts) → ResultCause before now result
-
--- where a store tells its files
-abbrev pub WithFiles : Option Files → (Files → Type 0) → Type 0
-WithFiles None P = Unit {0}
-WithFiles (Some files) P = P files
-
--- a load of the name at a place: its bytes, or the refusal, whatever would follow
-abbrev pub FetchTells : List (String Global) → ℕ → ℕ → Option (List ℕ) → Result (Vec ℕ Global) Refusal → Type 0
-FetchTells words place limit there (Ok bytes) = (there ≡ Some bytes.items) × (length bytes.items ≤ limit)
-FetchTells words place limit there (Err refusal) = (go : List ℕ → Told) → IsOutside refusal ⊎ (refused words refusal ≡ file_or there words place limit go)
 
 -- ---- what is printed
 
@@ -75,10 +111,10 @@ Sent old new before now text P (Ok value) = Appends old new text × P value
 Sent old new before now text P (Err refusal) = AppendsPart old new text × SendStops before now refusal
 
 -- a refusal was told, or its line found no memory
-abbrev pub ToldRefusal : List (String Global) → Refusal → ℕ → Option (List ℕ) → Option (List ℕ) → ℕ → ℕ → Type 0
-ToldRefusal words refusal status old new before now =
-    ((status ≡ status_of refusal) × Wrote old new before now (line_of words refusal))
-    ⊎ ((status ≡ 9) × Wrote old new before now (line_of words why.OutOfMemory))
+abbrev pub ToldRefusal : FileNames → Refusal → ℕ → Option (List ℕ) → Option (List ℕ) → ℕ → ℕ → Type 0
+ToldRefusal names refusal status old new before now =
+    ((status ≡ status_of refusal) × Wrote old new before now (line_of names refusal))
+    ⊎ ((status ≡ 9) × Wrote old new before now (line_of names why.OutOfMemory))
 
 -- ---- what is saved
 
@@ -90,25 +126,25 @@ SameFiles old new = (name : List ℕ) → new name ≡ old name
 abbrev pub SameBut : List ℕ → List ℕ → Files → Files → Type 0
 SameBut log book old new = (name : List ℕ) → name ≢ log → name ≢ book → new name ≡ old name
 
--- the log under its name, and under the book's a turn list of one turn of hart 0
-pub record KeptBoth (bytes log book : List ℕ) (old new : Files) : Type 0 where
-  pub log_there : log ≢ book → new log ≡ Some bytes
-  pub book_there : new book ≡ Some (0 ∷ [])
+-- the log under its name, and the turn list under the book's
+pub record KeptBoth (saved : Saved) (log book : List ℕ) (old new : Files) : Type 0 where
+  pub log_there : log ≢ book → new log ≡ Some saved.log
+  pub book_there : new book ≡ Some saved.book
   pub others : SameBut log book old new
 
 -- what was to be saved is saved, and nothing else
-abbrev pub KeptFiles : Option (List ℕ) → List ℕ → List ℕ → Files → Files → Type 0
+abbrev pub KeptFiles : Option Saved → List ℕ → List ℕ → Files → Files → Type 0
 KeptFiles None log book old new = SameFiles old new
-KeptFiles (Some bytes) log book old new = KeptBoth bytes log book old new
+KeptFiles (Some saved) log book old new = KeptBoth saved log book old new
 
 -- whatever happened, only the two names of what was to be saved may have changed, and none where nothing was
-abbrev pub MayChange : Option (List ℕ) → List ℕ → List ℕ → Files → Files → Type 0
+abbrev pub MayChange : Option Saved → List ℕ → List ℕ → Files → Files → Type 0
 MayChange None log book old new = SameFiles old new
-MayChange (Some bytes) log book old new = SameBut log book old new
+MayChange (Some saved) log book old new = SameBut log book old new
 
 -- why saving stopped: the store failed, or memory was wanting
 abbrev pub SaveRefusal : Counts → Counts → Refusal → Type 0
-SaveRefusal before now (why.StoreFailed place) = Rose before.faults now.faults
+SaveRefusal before now (why.StoreFailed role) = Rose before.faults now.faults
 SaveRefusal before now why.OutOfMemory = Unit {0}
 SaveRefusal before now refusal = ⊥
 

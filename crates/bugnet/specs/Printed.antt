@@ -1,22 +1,34 @@
 -- What a replay prints on out.
-use Rattle.std.specs.Prelude.{List, [], ◌∷◌, ◌++◌, ℕ, Option, Some, None}
+use Rattle.std.specs.Prelude.{List, [], ◌++◌, ℕ, Result, Ok, Err}
 use Rattle.bn_base.specs.declared.end_mark.EndMark.{EndMark}
-use Rattle.bn_base.specs.declared.row.Row.{Row}
+use Rattle.hart_replay.specs.Replay.{Outcome, Done, Refused, Replayed, Interval}
+use Rattle.hart_replay.specs.declared.error.ReplayError.{ReplayError}
+use Rattle.hart_replay.specs.declared.error.ReplayError.TheVariants as replay
 use Rattle.bugnet.specs.Texts.{begin_text, rows_text, end_text}
-use Rattle.bugnet.specs.Replayed.{Replayed}
-use Rattle.bugnet.specs.declared.interval.Outcome.{Outcome}
-use Rattle.bugnet.specs.declared.interval.Outcome.TheVariants.{Done, EndDiffers}
+use Rattle.bugnet.specs.declared.printing.Ending.{Ending}
+use Rattle.bugnet.specs.declared.printing.Ending.TheVariants as ending
+use Rattle.bugnet.specs.declared.refusal.Refusal.{Refusal}
+use Rattle.bugnet.specs.declared.refusal.Refusal.TheVariants as why
 
--- a row that may be there
-abbrev pub rows_in : Option Row → List Row
-rows_in None = []
-rows_in (Some row) = row ∷ []
+-- how a replay ended
+abbrev pub outcome_of : Ending → Outcome
+outcome_of ending.Done = Done
+outcome_of (ending.Stopped error) = Refused error
+
+-- the end that an error of a replay makes; want of memory is none
+abbrev pub ending_of : ReplayError → Result Ending Refusal
+ending_of replay.OutOfMemory = Err why.OutOfMemory
+ending_of error = Ok (ending.Stopped error)
 
 -- the line after the rows, where the end was reached
-abbrev pub end_of_interval : EndMark → Outcome → List ℕ
-end_of_interval mark Done = end_text mark
-end_of_interval mark (EndDiffers found) = []
+abbrev pub end_of_interval : (hart interval : ℕ) → EndMark → Outcome → List ℕ
+end_of_interval hart interval mark Done = end_text hart interval mark
+end_of_interval hart interval mark (Refused error) = []
+
+-- the rows that are left of a replay, and the line after them
+abbrev pub rest_text : (hart interval : ℕ) → EndMark → Replayed → List ℕ
+rest_text hart interval mark r = rows_text r.rows ++ end_of_interval hart interval mark r.outcome
 
 -- all that is printed
-abbrev pub interval_text : EndMark → Replayed → List ℕ
-interval_text mark r = begin_text ++ (rows_text r.rows ++ end_of_interval mark r.outcome)
+abbrev pub replay_text : (hart interval : ℕ) → Interval → Replayed → List ℕ
+replay_text hart interval v r = begin_text hart interval v.start.ic ++ rest_text hart interval v.mark r

@@ -1,60 +1,121 @@
 -- Why a command is refused: its status, and the line on err.
-use Rattle.std.specs.Prelude.{ℕ, ◌-◌, ◌^◌, false, List, [], ◌++◌, codes, string_bytes, slice_get, decimal}
-use Rattle.std.specs.Option.{option_map_or}
+use Rattle.std.specs.Prelude.{ℕ, ◌-◌, ◌^◌, false, List, ◌++◌, [], codes, decimal}
 use Rattle.std.specs.List.{flat_map}
 use Rattle.std.specs.Fmt.{digits, padded_integral, format_spec}
-use Rattle.std.specs.declared.string.String.{String}
-use Rattle.std.specs.declared.alloc.Global.{Global}
-use Rattle.bn_base.specs.declared.end_mark.EndMark.{EndMark}
-use Rattle.bn_base.specs.EndMarks.{reason_word}
+use Rattle.bn_base.specs.Ranges.{setting_name}
+use Rattle.bn_base.specs.declared.settings.BadSetting.{BadSetting}
 use Rattle.rv_text.specs.Instructions.{hex8}
+use Rattle.elf_loader.specs.declared.error.ElfError.{ElfError}
+use Rattle.elf_loader.specs.declared.error.ElfError.TheVariants as elf
+use Rattle.log_file.specs.declared.error.FileError.{FileError}
+use Rattle.log_file.specs.declared.error.FileError.TheVariants as file
+use Rattle.hart_replay.specs.declared.error.ReplayError.{ReplayError}
+use Rattle.hart_replay.specs.declared.error.ReplayError.TheVariants as replay
+use Rattle.bugnet.specs.Names.{FileNames, name_of}
+use Rattle.bugnet.specs.Marks.{mark_text, counted}
 use Rattle.bugnet.specs.declared.refusal.Refusal.{Refusal}
-use Rattle.bugnet.specs.declared.refusal.Refusal.TheVariants.{WordsRefused, SameName, StoreFailed, Missing, TooLong, ProgramDiffers, OutOfMemory, WriteFailed, EndDiffers, NotBuilt}
+use Rattle.bugnet.specs.declared.refusal.Refusal.TheVariants.{WordsRefused, OutOfRange, SameName, StoreFailed, Missing, TooLong, ElfRefused, LogRefused, ProgramDiffers, OutOfMemory, WriteFailed, ReplayStopped}
 
--- the word at a place, empty where there is none
-abbrev pub name_at : List (String Global) → ℕ → List ℕ
-name_at words place = option_map_or (λ w. string_bytes w) (slice_get words place) []
+-- ---- the status
 
--- the status of a refusal
+abbrev pub replay_status : ReplayError → ℕ
+replay_status (replay.NoInterval hart interval) = 14
+replay_status error = 15
+
 abbrev pub status_of : Refusal → ℕ
 status_of WordsRefused = 2
-status_of (SameName place) = 2
-status_of (StoreFailed place) = 3
-status_of (Missing place) = 4
-status_of (TooLong place) = 5
+status_of (OutOfRange bad) = 2
+status_of SameName = 2
+status_of (StoreFailed role) = 3
+status_of (Missing role) = 4
+status_of (TooLong role) = 5
+status_of (ElfRefused error) = 6
+status_of (LogRefused error) = 7
 status_of (ProgramDiffers kept found) = 8
 status_of OutOfMemory = 9
 status_of WriteFailed = 13
-status_of (EndDiffers said found) = 15
-status_of NotBuilt = 22
+status_of (ReplayStopped error) = replay_status error
+
+-- ---- the line
 
 -- a digest in hexadecimal
 unfoldable pub digest_text : List ℕ → List ℕ
 digest_text digest = flat_map (λ b. padded_integral (format_spec 32 0 4 2 (2 ^ 64 - 1)) false [] (digits 16 false b)) digest
 
--- a mark: its count, its reason and its value
-unfoldable pub mark_text : EndMark → List ℕ
-mark_text mark = decimal mark.ic ++ codes " " ++ reason_word mark.reason ++ codes " " ++ hex8 mark.value
+-- two numbers behind a word
+unfoldable pub pair_text : List ℕ → ℕ → ℕ → List ℕ
+pair_text word a b = word ++ decimal a ++ codes " " ++ decimal b
+
+-- two digests behind a word
+unfoldable pub digests_text : List ℕ → List ℕ → List ℕ → List ℕ
+digests_text word a b = word ++ digest_text a ++ codes " " ++ digest_text b
+
+-- why a program file is refused
+unfoldable pub elf_said : ElfError → List ℕ
+elf_said elf.NotElf = codes "elf: NotElf"
+elf_said (elf.Truncated at length) = pair_text (codes "elf: Truncated ") at length
+elf_said elf.NotRv32 = codes "elf: NotRv32"
+elf_said elf.NotStatic = codes "elf: NotStatic"
+elf_said elf.NeedsCompressed = codes "elf: NeedsCompressed"
+elf_said elf.NeedsE = codes "elf: NeedsE"
+elf_said (elf.TooMany count) = counted (codes "elf: TooMany ") count
+elf_said (elf.Outside segment) = counted (codes "elf: Outside ") segment
+elf_said (elf.SegmentsTouch first second) = pair_text (codes "elf: SegmentsTouch ") first second
+elf_said elf.NoSegment = codes "elf: NoSegment"
+elf_said (elf.EntryOutside entry) = codes "elf: EntryOutside " ++ hex8 entry
+elf_said elf.OutOfMemory = codes "out of memory"
+
+-- why a log is refused
+unfoldable pub log_said : FileError → List ℕ
+log_said (file.Short length) = counted (codes "log: Short ") length
+log_said file.BadMagic = codes "log: BadMagic"
+log_said (file.BadVersion found) = counted (codes "log: BadVersion ") found
+log_said (file.BadHead field value) = pair_text (codes "log: BadHead ") field value
+log_said (file.LengthDiffers said found) = pair_text (codes "log: LengthDiffers ") said found
+log_said (file.DigestDiffers kept found) = digests_text (codes "log: DigestDiffers ") kept found
+log_said (file.BadRecord at) = counted (codes "log: BadRecord ") at
+log_said (file.BadOrder at rule) = pair_text (codes "log: BadOrder ") at rule
+log_said file.OutOfMemory = codes "out of memory"
+
+-- why a replay stopped
+unfoldable pub replay_said : ReplayError → List ℕ
+replay_said (replay.NoInterval hart interval) = pair_text (codes "no interval ") hart interval
+replay_said (replay.LoadMissing hart ic addr) = pair_text (codes "replay: LoadMissing ") hart ic ++ (codes " " ++ hex8 addr)
+replay_said (replay.ScMissing hart ic) = pair_text (codes "replay: ScMissing ") hart ic
+replay_said (replay.RecordsLeft hart left) = pair_text (codes "replay: RecordsLeft ") hart left
+replay_said (replay.EndDiffers hart said found) = codes "replay: EndDiffers " ++ (decimal hart ++ codes " " ++ mark_text said ++ codes " " ++ mark_text found)
+replay_said replay.OutOfMemory = codes "out of memory"
 
 -- what the line says
-unfoldable pub said_of : List (String Global) → Refusal → List ℕ
-said_of words WordsRefused = codes "words refused"
-said_of words (SameName place) = codes "same name " ++ name_at words place
-said_of words (StoreFailed place) = codes "store failed: " ++ name_at words place
-said_of words (Missing place) = codes "missing: " ++ name_at words place
-said_of words (TooLong place) = codes "too long: " ++ name_at words place
-said_of words (ProgramDiffers kept found) = codes "program differs: " ++ digest_text kept ++ codes " " ++ digest_text found
-said_of words OutOfMemory = codes "out of memory"
-said_of words WriteFailed = codes "write failed"
-said_of words (EndDiffers said found) = codes "replay: EndDiffers 0 " ++ mark_text said ++ codes " " ++ mark_text found
-said_of words NotBuilt = codes "not built yet"
+unfoldable pub said_of : FileNames → Refusal → List ℕ
+said_of names WordsRefused = codes "words refused"
+said_of names (OutOfRange bad) = codes "setting " ++ setting_name bad.field ++ codes " " ++ decimal bad.value
+said_of names SameName = codes "same name " ++ names.log
+said_of names (StoreFailed role) = codes "store failed: " ++ name_of names role
+said_of names (Missing role) = codes "missing: " ++ name_of names role
+said_of names (TooLong role) = codes "too long: " ++ name_of names role
+said_of names (ElfRefused error) = elf_said error
+said_of names (LogRefused error) = log_said error
+said_of names (ProgramDiffers kept found) = digests_text (codes "program differs: ") kept found
+said_of names OutOfMemory = codes "out of memory"
+said_of names WriteFailed = codes "write failed"
+said_of names (ReplayStopped error) = replay_said error
 
 -- the whole line
-unfoldable pub line_of : List (String Global) → Refusal → List ℕ
-line_of words refusal = codes "bugnet: " ++ said_of words refusal ++ codes "\n"
+unfoldable pub line_of : FileNames → Refusal → List ℕ
+line_of names refusal = codes "bugnet: " ++ said_of names refusal ++ codes "\n"
 
--- a refusal that no file and no word explains: the store failed, or memory was wanting
+-- ---- what refusals come from
+
+-- neither words nor files explain it: the store failed, or memory was wanting
 abbrev pub IsOutside : Refusal → Type 0
-IsOutside (StoreFailed place) = Unit {0}
+IsOutside (StoreFailed role) = Unit {0}
 IsOutside OutOfMemory = Unit {0}
 IsOutside refusal = ⊥
+
+-- the same, or a write failed
+abbrev pub IsFreeRefusal : Refusal → Type 0
+IsFreeRefusal (StoreFailed role) = Unit {0}
+IsFreeRefusal OutOfMemory = Unit {0}
+IsFreeRefusal WriteFailed = Unit {0}
+IsFreeRefusal refusal = ⊥

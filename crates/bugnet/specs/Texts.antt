@@ -1,23 +1,79 @@
--- The texts of an interval and of a recording.
-use Rattle.std.specs.Prelude.{ℕ, List, ◌++◌, codes, decimal}
+-- The texts of intervals, logs and recordings.
+use Rattle.std.specs.Prelude.{ℕ, ◌+◌, List, [], ◌∷◌, ◌++◌, length, codes, decimal}
 use Rattle.std.specs.List.{flat_map}
 use Rattle.bn_base.specs.declared.end_mark.EndMark.{EndMark}
 use Rattle.bn_base.specs.declared.row.Row.{Row}
 use Rattle.rv_text.specs.Rows.{row_text}
-use Rattle.bugnet.specs.Refusals.{mark_text}
+use Rattle.log_record.specs.declared.record.Record.{Record}
+use Rattle.log_record.specs.declared.record.Record.TheVariants.{Header, FirstLoad, ScOk, ScFailed, Edge, End}
+use Rattle.log_record.specs.Spelling.{total}
+use Rattle.log_order.specs.Content.{Content}
+use Rattle.hart_replay.specs.Replay.{puts, nothing}
+use Rattle.bugnet.specs.Marks.{mark_text, counted}
+use Rattle.bugnet.specs.declared.texts.LogCounts.{LogCounts}
+
+-- ---- the replay of an interval
+
+-- the line before its rows
+unfoldable pub begin_text : ℕ → ℕ → ℕ → List ℕ
+begin_text hart interval ic = codes "interval " ++ decimal hart ++ codes " " ++ decimal interval ++ (codes " from " ++ decimal ic ++ codes "\n")
 
 -- the lines of rows
 unfoldable pub rows_text : List Row → List ℕ
 rows_text rows = flat_map row_text rows
 
--- the line before the rows of the first interval of hart 0
-unfoldable pub begin_text : List ℕ
-begin_text = codes "interval 0 0 from 0\n"
+-- the line after its rows
+unfoldable pub end_text : ℕ → ℕ → EndMark → List ℕ
+end_text hart interval mark = codes "end " ++ decimal hart ++ codes " " ++ decimal interval ++ (codes " " ++ mark_text mark ++ codes "\n")
 
--- the line after them
-unfoldable pub end_text : EndMark → List ℕ
-end_text mark = codes "end 0 0 " ++ mark_text mark ++ codes "\n"
+-- ---- a log
 
--- the line of a recording of one turn and this many instructions
-unfoldable pub summary_text : ℕ → List ℕ
-summary_text instructions = codes "bugnet: turns 1 instructions " ++ decimal instructions ++ codes " dropped 0 kept 161 end done\n"
+-- the line of an interval: its hart and number, the counts of its Header and of its End, and how it ended
+unfoldable pub interval_text : ℕ → ℕ → ℕ → EndMark → List ℕ
+interval_text hart interval ic mark = decimal hart ++ codes " " ++ decimal interval ++ (codes " " ++ decimal ic ++ codes " ") ++ (mark_text mark ++ codes "\n")
+
+-- the mark of a hart's first End in records
+abbrev pub mark_in : ℕ → List Record → EndMark
+mark_in hart rs = (puts hart rs nothing).mark
+
+-- the line of a record before others: only a Header has one
+abbrev pub record_text : Record → List Record → List ℕ
+record_text (Header hart interval ic pc x) rs = interval_text hart interval ic (mark_in hart rs)
+record_text (FirstLoad hart skip value) rs = []
+record_text (ScOk hart) rs = []
+record_text (ScFailed hart) rs = []
+record_text (Edge hart ic from from_ic) rs = []
+record_text (End hart mark) rs = []
+
+-- the lines of all intervals that have their Header there, in the order of these
+unfoldable pub list_text : List Record → List ℕ
+list_text [] = []
+list_text (r ∷ rs) = record_text r rs ++ list_text rs
+
+abbrev pub headers_of : Record → ℕ
+headers_of (Header hart interval ic pc x) = 1
+headers_of (FirstLoad hart skip value) = 0
+headers_of (ScOk hart) = 0
+headers_of (ScFailed hart) = 0
+headers_of (Edge hart ic from from_ic) = 0
+headers_of (End hart mark) = 0
+
+-- how many records are Headers
+abbrev pub header_count : List Record → ℕ
+header_count [] = 0
+header_count (r ∷ rs) = headers_of r + header_count rs
+
+-- the line of these counts of a log
+unfoldable pub check_line : LogCounts → List ℕ
+check_line n = counted (codes "ok records ") n.records ++ counted (codes " intervals ") n.intervals ++ (counted (codes " dropped ") n.dropped ++ counted (codes " bytes ") n.bytes ++ codes "\n")
+
+-- the line of a log: its records, its intervals, how many records were given up, and the bytes of those that are kept
+abbrev pub check_text : Content → List ℕ
+check_text d = check_line (record { records = length d.records; intervals = header_count d.records; dropped = d.dropped; bytes = total d.records })
+
+-- ---- a recording
+
+-- its line: turns, instructions, records given up, bytes kept, and how it ended
+unfoldable pub summary_text : (turns instructions dropped kept : ℕ) → (ending : List ℕ) → List ℕ
+summary_text turns instructions dropped kept ending = counted (codes "bugnet: turns ") turns ++ counted (codes " instructions ") instructions
+    ++ (counted (codes " dropped ") dropped ++ counted (codes " kept ") kept ++ (codes " end " ++ ending ++ codes "\n"))

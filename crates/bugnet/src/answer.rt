@@ -1,29 +1,72 @@
 // What a command answers, by the bytes that it has loaded.
-ghost use Rattle.std.specs.Prelude.{◌≡◌, ◌≤◌, Some, None, IfSome, length, vec_len};
-ghost use Rattle.std.specs.Option.{option_map};
-ghost use Rattle.bugnet.specs.Commands.{replay_words, replay_kept, replay_of, recorded, record_words, record_of};
-ghost use Rattle.bugnet.specs.Outside.{Gives, IsOwn};
+ghost use Rattle.std.specs.Prelude.{◌≡◌, ◌≢◌, IfOk};
+ghost use Rattle.sha2.specs.Sha256.{sha256};
+ghost use Rattle.bugnet.specs.Commands.{IsByLog, list_of, check_of, replay_loaded, replay_of};
+ghost use Rattle.bugnet.specs.Recordings.{end_status, end_word};
+ghost use Rattle.bugnet.specs.Outside.{Gives, IsOwn, LogTells, ProgramTells, IsPrinted};
 
-use crate::elf::{program_of, words_in};
-use crate::interval::{exit_mark, start_state, turn_ask};
-use crate::log::{Kept, digest_of, log_in, write_log};
+use crate::names::Names;
 use crate::refusal::Refusal;
-use bn_base::{HartState, Image};
-use rv_meaning::Want;
+use bn_base::{Image, Settings};
+use elf_loader::{ElfError, load};
+use log_file::{FileError, read_file};
+use log_order::KeptLog;
+use sha2::{Digest, Sha256};
 use std::alloc::Global;
 
-/// A recording: the bytes of its log file, and how many instructions were done.
-#[derive(Drop)]
-pub struct Recording {
-    pub log: Vec<u8>,
-    pub instructions: u64,
+/// How a run ended.
+#[derive(Clone, Copy, Debug, PartialEq, Eq, Drop)]
+pub enum RunEnd {
+    /// By no fault, and no hart met the limit.
+    Done,
+    /// By a fault.
+    Fault,
+    /// By no fault, and a hart met the limit.
+    Limit,
 }
 
-/// An interval to be replayed: the program, and what the log says.
+impl RunEnd {
+    /// The status that the program ends with.
+    pub fn status(&self) -> u8
+        ensures { result ≡ end_status self.now }
+    {
+        match self {
+            RunEnd::Done => 0,
+            RunEnd::Fault => 10,
+            RunEnd::Limit => 11,
+        }
+    }
+
+    /// The word for it.
+    #[tactic(auto, unfolding(crate::specs::Recordings::end_word))]
+    pub fn word(&self) -> &'static str
+        ensures { result.now ≡ end_word self.now }
+    {
+        match self {
+            RunEnd::Done => "done",
+            RunEnd::Fault => "fault",
+            RunEnd::Limit => "limit",
+        }
+    }
+}
+
+/// A recording that is to be told: how it ended, what out and err gain, and what is saved.
+#[derive(Drop)]
+pub struct Recording {
+    pub end: RunEnd,
+    pub out: Vec<u8>,
+    pub err: Vec<u8>,
+    pub log: Vec<u8>,
+    pub book: Vec<u8>,
+}
+
+/// An interval to be replayed: the program, the log, and the hart and number of the interval.
 #[derive(Drop)]
 pub struct Reading {
     pub image: Image,
-    pub kept: Kept,
+    pub log: KeptLog,
+    pub hart: u64,
+    pub interval: u64,
 }
 
 /// What a command answers that isn't refused.
@@ -31,124 +74,112 @@ pub struct Reading {
 pub enum Answer {
     Recorded(Recording),
     Interval(Reading),
+    Listed(KeptLog),
+    Checked(KeptLog),
 }
 
-// The replay of a log with the code words of its program.
-fn replay_words(
-    alloc: Global,
-    words: &[String],
-    kept: Kept,
-    code: Option<Vec<u32>>,
-) -> Result<Answer, Refusal>
-    requires { IfSome code (λ c. vec_len c ≤ 65536) }
-    ensures gives { Gives words.now (replay_words words.now kept (option_map (λ c. c.items) code)) result }
+/// The SHA-256 digest (FIPS 180-4).
+pub fn digest_of(bytes: &[u8]) -> [u8; 32]
+    ensures { result ≡ sha256 bytes.now }
+{
+    Sha256::digest(bytes)
+}
+
+// What a log file says.
+fn read_log(alloc: Global, bytes: &[u8]) -> Result<KeptLog, Refusal>
+    ensures says { LogTells bytes.now result }
     ensures own { IsOwn result }
 {
-    match code {
-        None => Err(Refusal::NotBuilt),
-        Some(code) => {
-            let image = program_of(alloc, code)?;
-            Ok(Answer::Interval(Reading { image, kept }))
-        }
+    match read_file(alloc, bytes) {
+        Ok(log) => Ok(log),
+        Err(FileError::OutOfMemory) => Err(Refusal::OutOfMemory),
+        Err(error) => Err(Refusal::LogRefused(error)),
     }
 }
 
-// The replay of what a log file says.
-fn replay_kept(
+/// The list of the intervals of a log.
+pub fn list_of(alloc: Global, names: &Names, log: &[u8]) -> Result<Answer, Refusal>
+    ensures gives { Gives names.now (IsByLog names.now log.now list_of) result }
+    ensures own { IsOwn result }
+    ensures prints { IfOk result IsPrinted }
+{
+    match read_log(alloc, log) {
+        Ok(log) => Ok(Answer::Listed(log)),
+        Err(refusal) => Err(refusal),
+    }
+}
+
+/// The counts of a log.
+pub fn check_of(alloc: Global, names: &Names, log: &[u8]) -> Result<Answer, Refusal>
+    ensures gives { Gives names.now (IsByLog names.now log.now check_of) result }
+    ensures own { IsOwn result }
+    ensures prints { IfOk result IsPrinted }
+{
+    match read_log(alloc, log) {
+        Ok(log) => Ok(Answer::Checked(log)),
+        Err(refusal) => Err(refusal),
+    }
+}
+
+/// Loads a program with these settings.
+pub fn load_program(alloc: Global, elf: &[u8], settings: &Settings) -> Result<Image, Refusal>
+    ensures loaded { ProgramTells elf.now settings.now result }
+    ensures own { IsOwn result }
+{
+    match load(alloc, elf, settings) {
+        Ok(image) => Ok(image),
+        Err(ElfError::OutOfMemory) => Err(Refusal::OutOfMemory),
+        Err(error) => Err(Refusal::ElfRefused(error)),
+    }
+}
+
+// The replay of an interval of a log with a program file.
+fn replay_log(
     alloc: Global,
-    words: &[String],
+    names: &Names,
     elf: &[u8],
-    kept: Option<Kept>,
+    log: KeptLog,
+    hart: u64,
+    interval: u64,
 ) -> Result<Answer, Refusal>
-    ensures gives { Gives words.now (replay_kept words.now elf.now kept) result }
+    ensures gives { Gives names.now (λ what. what ≡ replay_of names.now hart interval elf.now log) result }
     ensures own { IsOwn result }
+    ensures prints { IfOk result IsPrinted }
 {
-    match kept {
-        None => Err(Refusal::NotBuilt),
-        Some(kept) => {
-            let found = digest_of(elf);
-            if found == kept.digest {
-                let code = words_in(alloc, elf)?;
-                replay_words(alloc, words, kept, code)
-            } else {
-                Err(Refusal::ProgramDiffers {
-                    kept: kept.digest,
-                    found,
-                })
-            }
-        }
+    let found = digest_of(elf);
+    let head = *log.head();
+    if found != head.digest {
+        return Err(Refusal::ProgramDiffers {
+            kept: head.digest,
+            found,
+        });
+    }
+    match load_program(alloc, elf, &head.settings) {
+        Err(refusal) => Err(refusal),
+        Ok(image) => Ok(Answer::Interval(Reading {
+            image,
+            log,
+            hart,
+            interval,
+        })),
     }
 }
 
-/// The replay of a log file with a program file.
-#[tactic(auto, unfolding(crate::specs::Commands::replay_of))]
-pub fn replay_of(alloc: Global, words: &[String], log: &[u8], elf: &[u8]) -> Result<Answer, Refusal>
-    ensures gives { Gives words.now (replay_of words.now log.now elf.now) result }
-    ensures own { IsOwn result }
-{
-    let kept = log_in(alloc, log)?;
-    replay_kept(alloc, words, elf, kept)
-}
-
-// The recording of a run that makes this ask in its one turn.
-fn recorded(
+/// The replay of an interval of a log file with a program file.
+pub fn replay_of(
     alloc: Global,
-    words: &[String],
-    digest: [u8; 32],
-    state: &HartState,
-    want: &Want,
+    names: &Names,
+    elf: &[u8],
+    log: &[u8],
+    hart: u64,
+    interval: u64,
 ) -> Result<Answer, Refusal>
-    ensures gives { Gives words.now (recorded words.now digest state.now want.now) result }
+    ensures gives { Gives names.now (IsByLog names.now log.now (replay_of names.now hart interval elf.now)) result }
     ensures own { IsOwn result }
+    ensures prints { IfOk result IsPrinted }
 {
-    match want {
-        Want::System { .. } => {
-            let mark = exit_mark(state);
-            let start = start_state();
-            let log = write_log(
-                alloc,
-                &Kept {
-                    digest,
-                    start,
-                    mark,
-                },
-            )?;
-            Ok(Answer::Recorded(Recording {
-                log,
-                instructions: mark.ic,
-            }))
-        }
-        _ => Err(Refusal::NotBuilt),
+    match read_log(alloc, log) {
+        Ok(log) => replay_log(alloc, names, elf, log, hart, interval),
+        Err(refusal) => Err(refusal),
     }
-}
-
-// The recording of a program of code words.
-fn record_words(
-    alloc: Global,
-    words: &[String],
-    digest: [u8; 32],
-    code: Option<Vec<u32>>,
-) -> Result<Answer, Refusal>
-    requires { IfSome code (λ c. vec_len c ≤ 65536) }
-    ensures gives { Gives words.now (record_words words.now digest (option_map (λ c. c.items) code)) result }
-    ensures own { IsOwn result }
-{
-    match code {
-        None => Err(Refusal::NotBuilt),
-        Some(code) => {
-            let image = program_of(alloc, code)?;
-            let ask = turn_ask(&image, &start_state(), 100_000);
-            recorded(alloc, words, digest, &ask.state, &ask.want)
-        }
-    }
-}
-
-/// The recording of a program file.
-#[tactic(auto, unfolding(crate::specs::Commands::record_of))]
-pub fn record_of(alloc: Global, words: &[String], elf: &[u8]) -> Result<Answer, Refusal>
-    ensures gives { Gives words.now (record_of words.now elf.now) result }
-    ensures own { IsOwn result }
-{
-    let code = words_in(alloc, elf)?;
-    record_words(alloc, words, digest_of(elf), code)
 }

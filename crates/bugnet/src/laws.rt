@@ -1,11 +1,28 @@
-// What commands have to do with the files.
-ghost use Rattle.std.specs.Prelude.{◌≡◌, List, None, false};
-ghost use Rattle.std.specs.declared.string.String.{String};
-ghost use Rattle.std.specs.declared.alloc.Global.{Global};
-ghost use Rattle.bn_outside.specs.Files.{Files};
-ghost use Rattle.bugnet.specs.Commands.{is_record, answer_told};
+// What holds of answers.
+ghost use Rattle.bugnet.specs.Laws.{OneAnswer};
+ghost use Rattle.bugnet.specs.Headline.{Headline};
 
-/// Only a recording has anything to save, whatever the files are. So no other command changes one.
-pub fn only_recordings_save()
-    ensures { (words : List (String Global)) (files : Files) → is_record words ≡ false → (answer_told words files).saved ≡ None }
-{}
+use file_laws::logs_are_contents;
+use log_file::laws::{files_say_one_thing, logs_are_not_refused, refusals_are_unique};
+use replay_laws::the_log_suffices;
+
+/// No words have two answers, whatever the files are.
+pub fn one_answer()
+    ensures { OneAnswer }
+{
+    files_say_one_thing();
+    logs_are_not_refused();
+    refusals_are_unique();
+}
+
+/// The answer to the replay of an interval from the log file of a run is the text of the run's own
+/// rows, whatever the program, its input, the list of turns and the settings.
+pub fn headline()
+    ensures { Headline }
+{
+    files_say_one_thing();
+    logs_are_not_refused();
+    refusals_are_unique();
+    the_log_suffices();
+    logs_are_contents();
+}

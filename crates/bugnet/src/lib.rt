@@ -1,27 +1,29 @@
-//! Records a run of a program and replays its log.
+//! Records runs of programs and replays their logs.
 //!
-//! By now this is the thin path from the words of a command to the log and back: one hart that
-//! does quiet instructions and then exits, in one checkpoint interval. What comes later is
-//! refused as not built yet.
+//! [`run`] is the program but for the system: it takes its words, a store of files, a source and two
+//! sinks.
 #![tactic(auto)]
 
+mod acting;
 mod answer;
-mod commands;
-mod elf;
-mod interval;
 mod laws;
+mod lines;
 mod loading;
-mod log;
+mod logs;
+mod names;
+mod preparing;
 mod printing;
 mod program;
+mod recording;
 mod refusal;
 #[cfg(test)]
 mod tests;
 mod texts;
 
-pub use answer::{Answer, Reading, Recording};
-pub use interval::{Outcome, headline, log_suffices};
-pub use laws::only_recordings_save;
-pub use log::Kept;
+pub use answer::{Answer, Reading, Recording, RunEnd};
+pub use laws::{headline, one_answer};
+pub use names::{Names, Role};
+pub use printing::Ending;
 pub use program::run;
 pub use refusal::Refusal;
+pub use texts::{LogCounts, RunCounts};

@@ -1,44 +1,58 @@
-// What a command prints and saves.
-ghost use Rattle.std.specs.Prelude.{◌≡◌, ◌≤◌, ◌++◌, ◌∷◌, [], ℕ, OnOk, IfOk};
-ghost use Rattle.std.specs.Io.KnownBytes.{Appends};
-ghost use Rattle.bn_outside.specs.Counts.{Rose};
-ghost use Rattle.bn_outside.specs.Streams.{AppendsPart};
+// What a command prints.
+ghost use Rattle.std.specs.Prelude.{◌≡◌, ◌≤◌, ◌++◌, ℕ, drop};
 ghost use Rattle.rv_text.specs.Rows.{row_text};
 ghost use Rattle.bugnet.specs.Refusals.{line_of, status_of};
-ghost use Rattle.bugnet.specs.Texts.{rows_text, begin_text, end_text};
-ghost use Rattle.bugnet.specs.Rows.{built};
-ghost use Rattle.bugnet.specs.Replayed.{asked, rows_and};
-ghost use Rattle.bugnet.specs.Printed.{rows_in, end_of_interval, interval_text};
-ghost use Rattle.bugnet.specs.Outside.{replay_in, Wrote, Sent, ToldRefusal};
+ghost use Rattle.bugnet.specs.Texts.{rows_text, begin_text, list_text, check_line, check_text, record_text};
+ghost use Rattle.bugnet.specs.Printed.{outcome_of, ending_of, end_of_interval, rest_text};
+ghost use Rattle.bugnet.specs.Outside.{Wrote, Sent, ToldRefusal};
 
-use crate::answer::Reading;
-use crate::interval::{Outcome, asked, length_mark, next_of, row_of};
+use crate::logs::{header_count, next_mark, total};
+use crate::names::Names;
 use crate::refusal::Refusal;
-use crate::texts::{push_begin, push_end};
-use bn_base::{EndMark, HartState, Row};
+use crate::texts::{LogCounts, push_begin, push_check, push_end, push_interval};
+use bn_base::{EndMark, Row};
 use bn_outside::{Sink, send_all};
-use rv_meaning::Want;
+use hart_replay::{ReplayError, Replayer};
+use log_order::KeptLog;
+use log_record::Record;
 use rv_text::{Text, write_row};
 use std::alloc::Global;
+
+/// How the replay of an interval ended.
+#[derive(Clone, Copy, Debug, PartialEq, Eq, Drop)]
+pub enum Ending {
+    /// As its log says.
+    Done,
+    /// It can't go on, or ends otherwise.
+    Stopped(ReplayError),
+}
+
+/// Sends bytes.
+pub fn send_bytes<K: Sink>(sink: &mut K, bytes: &[u8]) -> Result<(), Refusal>
+    ensures sent { Sent (K.written sink.old) (K.written sink.new) (K.faults sink.old) (K.faults sink.new) bytes.now (λ _. Unit {0}) result }
+    ensures later { K.faults sink.old ≤ K.faults sink.new }
+{
+    match send_all(sink, bytes) {
+        Ok(()) => Ok(()),
+        Err(_) => Err(Refusal::WriteFailed),
+    }
+}
 
 /// Sends a text.
 pub fn send<K: Sink>(sink: &mut K, text: &Text) -> Result<(), Refusal>
     ensures sent { Sent (K.written sink.old) (K.written sink.new) (K.faults sink.old) (K.faults sink.new) text.now (λ _. Unit {0}) result }
     ensures later { K.faults sink.old ≤ K.faults sink.new }
 {
-    match send_all(sink, text.as_bytes()) {
-        Ok(()) => Ok(()),
-        Err(_) => Err(Refusal::WriteFailed),
-    }
+    send_bytes(sink, text.as_bytes())
 }
 
 /// Tells a refusal on err, and answers its status; 9 where its line finds no memory.
-pub fn refuse<X: Sink>(alloc: Global, words: &[String], refusal: &Refusal, err: &mut X) -> u8
-    ensures told { ToldRefusal words.now refusal.now result (X.written err.old) (X.written err.new) (X.faults err.old) (X.faults err.new) }
+pub fn refuse<X: Sink>(alloc: Global, names: &Names, refusal: &Refusal, err: &mut X) -> u8
+    ensures told { ToldRefusal names.now refusal.now result (X.written err.old) (X.written err.new) (X.faults err.old) (X.faults err.new) }
     ensures later { X.faults err.old ≤ X.faults err.new }
 {
     let mut line = Text::new(alloc);
-    match refusal.push_line(alloc, words, &mut line) {
+    match refusal.push_line(alloc, names, &mut line) {
         Ok(()) => {
             let _ = send_all(err, line.as_bytes());
             refusal.status()
@@ -50,104 +64,110 @@ pub fn refuse<X: Sink>(alloc: Global, words: &[String], refusal: &Refusal, err: 
     }
 }
 
-// Sends the line of a row, where there is one.
-fn send_row<O: Sink>(text: &mut Text, row: &Option<Row>, out: &mut O) -> Result<(), Refusal>
-    ensures sent { Sent (O.written out.old) (O.written out.new) (O.faults out.old) (O.faults out.new) (rows_text (rows_in row.now)) (λ _. Unit {0}) result }
+// ---- the replay of an interval
+
+// Sends the line of a row.
+fn send_row<O: Sink>(text: &mut Text, row: &Row, out: &mut O) -> Result<(), Refusal>
+    ensures sent { Sent (O.written out.old) (O.written out.new) (O.faults out.old) (O.faults out.new) (row_text row.now) (λ _. Unit {0}) result }
     ensures later { O.faults out.old ≤ O.faults out.new }
 {
-    match row {
-        None => Ok(()),
-        Some(row) => {
-            text.clear();
-            write_row(row, text)?;
-            send(out, text)
-        }
+    text.clear();
+    write_row(row, text)?;
+    send(out, text)
+}
+
+// The end that an error of a replay makes; want of memory is none.
+fn ending_of(error: ReplayError) -> Result<Ending, Refusal>
+    ensures { result ≡ ending_of error }
+{
+    match error {
+        ReplayError::OutOfMemory => Err(Refusal::OutOfMemory),
+        ReplayError::NoInterval { .. } => Ok(Ending::Stopped(error)),
+        ReplayError::LoadMissing { .. } => Ok(Ending::Stopped(error)),
+        ReplayError::ScMissing { .. } => Ok(Ending::Stopped(error)),
+        ReplayError::RecordsLeft { .. } => Ok(Ending::Stopped(error)),
+        ReplayError::EndDiffers { .. } => Ok(Ending::Stopped(error)),
     }
 }
 
-// Sends the row of an ask before the end of the interval, where it is done.
-fn send_last<O: Sink>(
-    text: &mut Text,
-    reading: &Reading,
-    state: &HartState,
-    want: &Want,
+// Sends the rows that are left of a replay, one by one.
+fn send_rows<O: Sink>(
+    alloc: Global,
+    replayer: &mut Replayer,
     out: &mut O,
-) -> Result<Outcome, Refusal>
-    ensures sent { let r = asked reading.now.image reading.now.kept.mark state.now (built reading.now.image state.now want.now) in
-        Sent (O.written out.old) (O.written out.new) (O.faults out.old) (O.faults out.new) (rows_text r.rows) (λ outcome. outcome ≡ r.outcome) result }
-    ensures later { O.faults out.old ≤ O.faults out.new }
-{
-    let (row, outcome) = asked(&reading.image, &reading.kept.mark, state, want);
-    match send_row(text, &row, out) {
-        Ok(()) => Ok(outcome),
-        Err(refusal) => Err(refusal),
-    }
-}
-
-// Sends the rows of an interval, one by one.
-fn send_rows<O: Sink>(alloc: Global, reading: &Reading, out: &mut O) -> Result<Outcome, Refusal>
-    ensures sent { let r = replay_in reading.now in
-        Sent (O.written out.old) (O.written out.new) (O.faults out.old) (O.faults out.new) (rows_text r.rows) (λ outcome. outcome ≡ r.outcome) result }
+) -> Result<Ending, Refusal>
+    ensures sent { let r = replayer.old.left in
+        Sent (O.written out.old) (O.written out.new) (O.faults out.old) (O.faults out.new) (rows_text r.rows) (λ ending. outcome_of ending ≡ r.outcome) result }
     ensures later { O.faults out.old ≤ O.faults out.new }
 {
     let mut text = Text::new(alloc);
-    let mut state = reading.kept.start;
-    for place in 0..reading.kept.mark.ic {
-        let _left = reading.kept.mark.ic - place;
-        match next_of(&reading.image, &state) {
-            Ok(after) => {
-                let row = Some(row_of(&reading.image, &state, &after));
-                match send_row(&mut text, &row, out) {
-                    Ok(()) => state = after,
-                    Err(refusal) => return Err(refusal),
-                }
-            }
-            Err(want) => return send_last(&mut text, reading, &state, &want, out),
+    'rows: loop {
+        match replayer.step() {
+            Ok(Some(row)) => match send_row(&mut text, &row, out) {
+                Ok(()) => (),
+                Err(refusal) => return Err(refusal),
+            },
+            Ok(None) => return Ok(Ending::Done),
+            Err(error) => return ending_of(error),
         }
     }
-    Ok(Outcome::EndDiffers(length_mark(&state)))
 }
 
 // Sends the line before the rows.
-fn send_begin<O: Sink>(alloc: Global, out: &mut O) -> Result<(), Refusal>
-    ensures sent { Sent (O.written out.old) (O.written out.new) (O.faults out.old) (O.faults out.new) begin_text (λ _. Unit {0}) result }
+fn send_begin<O: Sink>(
+    alloc: Global,
+    hart: u64,
+    interval: u64,
+    ic: u64,
+    out: &mut O,
+) -> Result<(), Refusal>
+    ensures sent { Sent (O.written out.old) (O.written out.new) (O.faults out.old) (O.faults out.new) (begin_text hart interval ic) (λ _. Unit {0}) result }
     ensures later { O.faults out.old ≤ O.faults out.new }
 {
     let mut text = Text::new(alloc);
-    push_begin(&mut text)?;
+    push_begin(&mut text, hart, interval, ic)?;
     send(out, &text)
 }
 
 // Sends the line after the rows, where the end was reached.
 fn send_end<O: Sink>(
     alloc: Global,
+    hart: u64,
+    interval: u64,
     mark: &EndMark,
-    outcome: &Outcome,
+    ending: &Ending,
     out: &mut O,
 ) -> Result<(), Refusal>
-    ensures sent { Sent (O.written out.old) (O.written out.new) (O.faults out.old) (O.faults out.new) (end_of_interval mark.now outcome.now) (λ _. Unit {0}) result }
+    ensures sent { Sent (O.written out.old) (O.written out.new) (O.faults out.old) (O.faults out.new) (end_of_interval hart interval mark.now (outcome_of ending.now)) (λ _. Unit {0}) result }
     ensures later { O.faults out.old ≤ O.faults out.new }
 {
-    match outcome {
-        Outcome::Done => {
+    match ending {
+        Ending::Done => {
             let mut text = Text::new(alloc);
-            push_end(&mut text, mark)?;
+            push_end(&mut text, hart, interval, mark)?;
             send(out, &text)
         }
-        Outcome::EndDiffers(_) => Ok(()),
+        Ending::Stopped(_) => Ok(()),
     }
 }
 
-// Sends the rows and the line after them.
-fn send_rest<O: Sink>(alloc: Global, reading: &Reading, out: &mut O) -> Result<Outcome, Refusal>
-    ensures sent { let r = replay_in reading.now in
-        Sent (O.written out.old) (O.written out.new) (O.faults out.old) (O.faults out.new) (rows_text r.rows ++ end_of_interval reading.now.kept.mark r.outcome) (λ outcome. outcome ≡ r.outcome) result }
+// Sends the rows that are left of a replay and the line after them.
+fn send_rest<O: Sink>(
+    alloc: Global,
+    hart: u64,
+    interval: u64,
+    mark: &EndMark,
+    replayer: &mut Replayer,
+    out: &mut O,
+) -> Result<Ending, Refusal>
+    ensures sent { let r = replayer.old.left in
+        Sent (O.written out.old) (O.written out.new) (O.faults out.old) (O.faults out.new) (rest_text hart interval mark.now r) (λ ending. outcome_of ending ≡ r.outcome) result }
     ensures later { O.faults out.old ≤ O.faults out.new }
 {
-    match send_rows(alloc, reading, out) {
+    match send_rows(alloc, replayer, out) {
         Err(refusal) => Err(refusal),
-        Ok(outcome) => match send_end(alloc, &reading.kept.mark, &outcome, out) {
-            Ok(()) => Ok(outcome),
+        Ok(ending) => match send_end(alloc, hart, interval, mark, &ending, out) {
+            Ok(()) => Ok(ending),
             Err(refusal) => Err(refusal),
         },
     }
@@ -156,15 +176,90 @@ fn send_rest<O: Sink>(alloc: Global, reading: &Reading, out: &mut O) -> Result<O
 /// Sends all that the replay of an interval prints, and answers how it ends.
 pub fn send_interval<O: Sink>(
     alloc: Global,
-    reading: &Reading,
+    hart: u64,
+    interval: u64,
+    mark: &EndMark,
+    replayer: &mut Replayer,
     out: &mut O,
-) -> Result<Outcome, Refusal>
-    ensures sent { let r = replay_in reading.now in
-        Sent (O.written out.old) (O.written out.new) (O.faults out.old) (O.faults out.new) (interval_text reading.now.kept.mark r) (λ outcome. outcome ≡ r.outcome) result }
+) -> Result<Ending, Refusal>
+    ensures sent { let r = replayer.old.left in
+        Sent (O.written out.old) (O.written out.new) (O.faults out.old) (O.faults out.new) (begin_text hart interval replayer.old.state.ic ++ rest_text hart interval mark.now r) (λ ending. outcome_of ending ≡ r.outcome) result }
     ensures later { O.faults out.old ≤ O.faults out.new }
 {
-    match send_begin(alloc, out) {
+    match send_begin(alloc, hart, interval, replayer.state().ic, out) {
         Err(refusal) => Err(refusal),
-        Ok(()) => send_rest(alloc, reading, out),
+        Ok(()) => send_rest(alloc, hart, interval, mark, replayer, out),
     }
+}
+
+// ---- a log
+
+// Sends the line of a record before those from a place on, where it has one.
+fn send_record<O: Sink>(
+    text: &mut Text,
+    entry: &Record,
+    records: &[Record],
+    next: usize,
+    out: &mut O,
+) -> Result<(), Refusal>
+    ensures sent { Sent (O.written out.old) (O.written out.new) (O.faults out.old) (O.faults out.new) (record_text entry.now (drop next records.now)) (λ _. Unit {0}) result }
+    ensures later { O.faults out.old ≤ O.faults out.new }
+{
+    match *entry {
+        Record::Header {
+            hart,
+            interval,
+            ic,
+            ..
+        } => {
+            let mark = next_mark(hart, records, next);
+            text.clear();
+            push_interval(text, u64::from(hart), interval, ic, &mark)?;
+            send(out, text)
+        }
+        Record::FirstLoad { .. } => Ok(()),
+        Record::ScOk { .. } => Ok(()),
+        Record::ScFailed { .. } => Ok(()),
+        Record::Edge { .. } => Ok(()),
+        Record::End { .. } => Ok(()),
+    }
+}
+
+/// Sends the lines of the intervals of a log, one by one.
+pub fn send_list<O: Sink>(alloc: Global, log: &KeptLog, out: &mut O) -> Result<(), Refusal>
+    ensures sent { Sent (O.written out.old) (O.written out.new) (O.faults out.old) (O.faults out.new) (list_text log.now.records) (λ _. Unit {0}) result }
+    ensures later { O.faults out.old ≤ O.faults out.new }
+{
+    let records = log.records();
+    let mut text = Text::new(alloc);
+    for place in 0..records.len() {
+        match send_record(&mut text, &records[place], records, place + 1, out) {
+            Ok(()) => (),
+            Err(refusal) => return Err(refusal),
+        }
+    }
+    Ok(())
+}
+
+// What is counted of a log.
+fn counts_of(log: &KeptLog) -> LogCounts
+    ensures { (check_text log.now ≡ check_line result) }
+{
+    let records = log.records();
+    LogCounts {
+        records: records.len() as u64,
+        intervals: header_count(records),
+        dropped: log.dropped(),
+        bytes: total(records),
+    }
+}
+
+/// Sends the line of a log.
+pub fn send_check<O: Sink>(alloc: Global, log: &KeptLog, out: &mut O) -> Result<(), Refusal>
+    ensures sent { Sent (O.written out.old) (O.written out.new) (O.faults out.old) (O.faults out.new) (check_text log.now) (λ _. Unit {0}) result }
+    ensures later { O.faults out.old ≤ O.faults out.new }
+{
+    let mut text = Text::new(alloc);
+    push_check(&mut text, &counts_of(log))?;
+    send(out, &text)
 }

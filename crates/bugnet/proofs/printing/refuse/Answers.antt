@@ -8,4 +8,4 @@ pub returns-clause-told : goal.returns-clause-told
 unfolding line_of said_of
 returns-clause-told g c =
     let sent = c.send_all-in-Err.ensures in
-    inr (refl, wrote (g.X.Sink.written c.args.err.now) (g.X.Sink.written c.send_all-in-Err.new.sink) (g.X.Sink.faults c.args.err.now) (g.X.Sink.faults c.send_all-in-Err.new.sink) (line_of c.args.words.now OutOfMemory) c.send_all-in-Err.result sent.ok sent.part sent.cause)
+    inr (refl, wrote (g.X.Sink.written c.args.err.now) (g.X.Sink.written c.send_all-in-Err.new.sink) (g.X.Sink.faults c.args.err.now) (g.X.Sink.faults c.send_all-in-Err.new.sink) (line_of c.args.names.now OutOfMemory) c.send_all-in-Err.result sent.ok sent.part sent.cause)

@@ -1,8 +1,10 @@
-use Rattle.std.proofs.Common.{◌-◌}
-use Rattle.bugnet.specs.Replayed.{replayed}
-use Rattle.bugnet.proofs.Prints.{SoFar}
-use Rattle.bugnet.specs.Outside.{replay_in}
+use Rattle.std.proofs.Common.{length}
+use Rattle.bugnet.proofs.Rows.{Stands}
 use Rattle.bugnet.proofs.printing.send_rows.Given as goal
 
-abbrev pub invariant-loop-place : goal.invariant-loop-place
-invariant-loop-place g l = SoFar (replay_in l.reading) (replayed l.reading.image l.reading.kept.mark l.state (l.reading.kept.mark.ic - l.place)) (g.O.Sink.written l.fn.out) (g.O.Sink.written l.out) (g.O.Sink.faults l.fn.out) (g.O.Sink.faults l.out)
+abbrev pub invariant-rows : goal.invariant-rows
+invariant-rows g l = Stands l.fn.replayer.left l.replayer.left (g.O.Sink.written l.fn.out) (g.O.Sink.written l.out) (g.O.Sink.faults l.fn.out) (g.O.Sink.faults l.out)
+
+-- the rows that are left
+abbrev pub decreases-rows : goal.decreases-rows
+decreases-rows g l = length l.replayer.left.rows

@@ -1,9 +1,0 @@
-use Rattle.std.proofs.Common.{◌≡◌, ◌++◌, ◌∷◌, ◌+◌, ◌-◌, ◌*◌, length, take}
-use Rattle.log_record.specs.Reading.{words_at}
-use Rattle.bugnet.proofs.log.registers_in.Given as goal
-
-abbrev pub invariant-loop-number : goal.invariant-loop-number
-invariant-loop-number l = record {
-  count : length l.contents ≡ 32;
-  read : take l.number l.contents ++ words_at (32 - l.number) (18 + 4 * l.number) l.header ≡ 0 ∷ words_at 31 22 l.header;
-}

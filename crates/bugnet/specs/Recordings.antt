@@ -1,0 +1,64 @@
+-- What a recording tells: the run of a list of turns.
+use Rattle.std.specs.Prelude.{ℕ, ◌+◌, nat_lt, ◌==◌, Bool, true, false, List, [], ◌∷◌, ◌++◌, length, Option, Some, None, codes, if◌then◌else◌}
+use Rattle.std.specs.List.{list_any}
+use Rattle.bn_base.specs.Programs.{Program}
+use Rattle.bn_base.specs.declared.end_mark.EndMark.{EndMark}
+use Rattle.bn_base.specs.declared.settings.RawSettings.{RawSettings}
+use Rattle.log_record.specs.Spelling.{total}
+use Rattle.run_model.specs.Turn.{Run}
+use Rattle.run_model.specs.Runs.{run_of}
+use Rattle.run_model.specs.Files.{kept_of, dropped_of, file_of}
+use Rattle.bus_core.specs.Bus.{marks}
+use Rattle.bugnet.specs.Texts.{summary_text}
+use Rattle.bugnet.specs.Told.{Told}
+use Rattle.bugnet.specs.declared.answer.RunEnd.{RunEnd}
+use Rattle.bugnet.specs.declared.answer.RunEnd.TheVariants as ends
+
+-- the last mark of each hart
+abbrev pub marks_of : RawSettings → Run → List (Option EndMark)
+marks_of c run = marks 0 c.harts run.harts
+
+abbrev pub count_of : Option EndMark → ℕ
+count_of None = 0
+count_of (Some mark) = mark.ic
+
+-- the sum of their counts
+abbrev pub instructions_of : List (Option EndMark) → ℕ
+instructions_of [] = 0
+instructions_of (mark ∷ marks) = count_of mark + instructions_of marks
+
+-- a fault's reason is above 16
+abbrev pub is_fault : Option EndMark → Bool
+is_fault None = false
+is_fault (Some mark) = nat_lt 16 mark.reason
+
+-- the reason of a limit is 7
+abbrev pub is_limit : Option EndMark → Bool
+is_limit None = false
+is_limit (Some mark) = mark.reason == 7
+
+-- how a run ended that left its harts with these marks: by a fault, else by the limit, else it is done
+abbrev pub end_by : List (Option EndMark) → RunEnd
+end_by marks = if list_any is_fault marks then ends.Fault else if list_any is_limit marks then ends.Limit else ends.Done
+
+abbrev pub end_status : RunEnd → ℕ
+end_status ends.Done = 0
+end_status ends.Fault = 10
+end_status ends.Limit = 11
+
+unfoldable pub end_word : RunEnd → List ℕ
+end_word ends.Done = codes "done"
+end_word ends.Fault = codes "fault"
+end_word ends.Limit = codes "limit"
+
+-- the recording of the run of a list of turns: out gains stream 1, err gains stream 2 and the summary, and the log and the list are saved
+unfoldable pub recorded : RawSettings → Program → (digest input b : List ℕ) → Told
+recorded c i digest input b =
+    let run = run_of c i input b in
+    let marks = marks_of c run in
+    record {
+      status = end_status (end_by marks);
+      out = run.machine.out;
+      err = run.machine.err ++ summary_text (length b) (instructions_of marks) (dropped_of c run) (total (kept_of c run)) (end_word (end_by marks));
+      saved = Some (record { log = file_of c i digest input b; book = b });
+    }

@@ -1,0 +1,25 @@
+-- What a command tells.
+use Rattle.std.specs.Prelude.{ℕ, List, [], Option, Some, None}
+use Rattle.bugnet.specs.Names.{FileNames}
+use Rattle.bugnet.specs.Refusals.{status_of, line_of}
+use Rattle.bugnet.specs.declared.refusal.Refusal.{Refusal}
+
+-- the log file and the turn list of a recording
+pub record Saved : Type 0 where
+  pub log : List ℕ
+  pub book : List ℕ
+
+-- a status, what out and err gain, and what is saved
+pub record Told : Type 0 where
+  pub status : ℕ
+  pub out : List ℕ
+  pub err : List ℕ
+  pub saved : Option Saved
+
+-- a refusal
+unfoldable pub refused : FileNames → Refusal → Told
+refused names refusal = record { status = status_of refusal; out = []; err = line_of names refusal; saved = None }
+
+-- a text on out
+abbrev pub printed : List ℕ → Told
+printed text = record { status = 0; out = text; err = []; saved = None }

@@ -1,0 +1,201 @@
+// What an answer does: it prints and saves.
+ghost use Rattle.std.specs.Prelude.{◌≡◌, ◌≢◌, ◌⊎◌, Some, None, OnOk, IfOk, IfErr};
+ghost use Rattle.hart_replay.specs.Replay.{interval_of};
+ghost use Rattle.hart_replay.specs.declared.error.ReplayError.TheVariants.{NoInterval};
+ghost use Rattle.bn_outside.specs.Counts.{Rose, NoneFell};
+ghost use Rattle.bn_outside.specs.Files.{WhereTold};
+ghost use Rattle.bugnet.specs.Commands.{list_of, check_of};
+ghost use Rattle.bugnet.specs.Logs.{IsBegun};
+ghost use Rattle.bugnet.specs.Outside.{told_of, told_of_reading, told_of_recording, KeptBoth, KeptFiles, IsPrinted, SameBut, MayChange, SaveStops};
+ghost use Rattle.bugnet.specs.Run.{IsFree, Tells};
+ghost use Rattle.bugnet.specs.declared.refusal.Refusal.TheVariants.{OutOfMemory, ReplayStopped};
+
+use crate::answer::{Answer, Reading, Recording};
+use crate::logs::interval_mark;
+use crate::names::{Names, Role};
+use crate::printing::{Ending, refuse, send_bytes, send_check, send_interval, send_list};
+use crate::refusal::Refusal;
+use bn_base::EndMark;
+use bn_outside::{SaveError, Sink, Store};
+use hart_replay::{ReplayError, Replayer};
+use log_order::KeptLog;
+use std::alloc::Global;
+
+// A replay before its first row, and the mark of its interval.
+#[derive(Drop)]
+struct Begun<'a> {
+    replayer: Replayer<'a>,
+    mark: EndMark,
+}
+
+// Begins the replay of an interval.
+fn begin(alloc: Global, reading: &Reading) -> Result<Begun<'_>, Refusal>
+    ensures begun { IfOk result (λ b. IsBegun reading.now b.replayer b.mark) }
+    ensures refused { IfErr result (λ r. ((r ≡ ReplayStopped (NoInterval reading.now.hart reading.now.interval)) × (interval_of reading.now.hart reading.now.interval reading.now.log.records ≡ None)) ⊎ (r ≡ OutOfMemory)) }
+{
+    match Replayer::begin(
+        alloc,
+        &reading.image,
+        &reading.log,
+        reading.hart,
+        reading.interval,
+    ) {
+        Err(ReplayError::OutOfMemory) => Err(Refusal::OutOfMemory),
+        Err(error) => Err(Refusal::ReplayStopped(error)),
+        Ok(replayer) => match interval_mark(reading.hart, reading.interval, reading.log.records()) {
+            Some(mark) => Ok(Begun { replayer, mark }),
+            None => unreachable!(),
+        },
+    }
+}
+
+// Prints an interval.
+fn print_interval<O: Sink, X: Sink>(
+    alloc: Global,
+    names: &Names,
+    reading: &Reading,
+    out: &mut O,
+    err: &mut X,
+) -> u8
+    ensures told { Tells names.now (told_of_reading names.now reading.now) result (O.written out.old) (O.written out.new) (X.written err.old) (X.written err.new) (X.faults err.old) (X.faults err.new) }
+    ensures write { result ≡ 13 → Rose (O.faults out.old) (O.faults out.new) ⊎ Rose (X.faults err.old) (X.faults err.new) }
+    ensures failed { result ≢ 3 }
+    ensures missing { result ≢ 4 }
+    ensures long { result ≢ 5 }
+{
+    match begin(alloc, reading) {
+        Err(refusal) => refuse(alloc, names, &refusal, err),
+        Ok(mut begun) => {
+            let mark = begun.mark;
+            match send_interval(
+                alloc,
+                reading.hart,
+                reading.interval,
+                &mark,
+                &mut begun.replayer,
+                out,
+            ) {
+                Ok(Ending::Done) => 0,
+                Ok(Ending::Stopped(error)) => {
+                    refuse(alloc, names, &Refusal::ReplayStopped(error), err)
+                }
+                Err(refusal) => refuse(alloc, names, &refusal, err),
+            }
+        }
+    }
+}
+
+// Prints the intervals of a log.
+fn print_list<O: Sink, X: Sink>(
+    alloc: Global,
+    names: &Names,
+    log: &KeptLog,
+    out: &mut O,
+    err: &mut X,
+) -> u8
+    ensures told { Tells names.now (list_of log.now) result (O.written out.old) (O.written out.new) (X.written err.old) (X.written err.new) (X.faults err.old) (X.faults err.new) }
+    ensures write { result ≡ 13 → Rose (O.faults out.old) (O.faults out.new) ⊎ Rose (X.faults err.old) (X.faults err.new) }
+    ensures failed { result ≢ 3 }
+    ensures missing { result ≢ 4 }
+    ensures long { result ≢ 5 }
+{
+    match send_list(alloc, log, out) {
+        Ok(()) => 0,
+        Err(refusal) => refuse(alloc, names, &refusal, err),
+    }
+}
+
+// Prints the counts of a log.
+fn print_check<O: Sink, X: Sink>(
+    alloc: Global,
+    names: &Names,
+    log: &KeptLog,
+    out: &mut O,
+    err: &mut X,
+) -> u8
+    ensures told { Tells names.now (check_of log.now) result (O.written out.old) (O.written out.new) (X.written err.old) (X.written err.new) (X.faults err.old) (X.faults err.new) }
+    ensures write { result ≡ 13 → Rose (O.faults out.old) (O.faults out.new) ⊎ Rose (X.faults err.old) (X.faults err.new) }
+    ensures failed { result ≢ 3 }
+    ensures missing { result ≢ 4 }
+    ensures long { result ≢ 5 }
+{
+    match send_check(alloc, log, out) {
+        Ok(()) => 0,
+        Err(refusal) => refuse(alloc, names, &refusal, err),
+    }
+}
+
+// Saves the log, and then the turn list.
+fn save<S: Store>(store: &mut S, names: &Names, recording: &Recording) -> Result<(), Refusal>
+    ensures kept { OnOk result (WhereTold (S.files store.old) (S.files store.new) (KeptBoth (record { log = recording.now.log.items; book = recording.now.book.items }) names.now.log names.now.book)) }
+    ensures others { WhereTold (S.files store.old) (S.files store.new) (SameBut names.now.log names.now.book) }
+    ensures later { NoneFell (S.counts store.old) (S.counts store.new) }
+    ensures cause { SaveStops (S.counts store.old) (S.counts store.new) result }
+{
+    match store.save(names.log, &recording.log) {
+        Ok(()) => match store.save(names.book, &recording.book) {
+            Ok(()) => Ok(()),
+            Err(SaveError::Failed) => Err(Refusal::StoreFailed(Role::Book)),
+            Err(SaveError::OutOfMemory) => Err(Refusal::OutOfMemory),
+        },
+        Err(SaveError::Failed) => Err(Refusal::StoreFailed(Role::Log)),
+        Err(SaveError::OutOfMemory) => Err(Refusal::OutOfMemory),
+    }
+}
+
+// Saves a recording, and tells the guest's streams and the summary.
+fn keep<S: Store, O: Sink, X: Sink>(
+    alloc: Global,
+    names: &Names,
+    recording: &Recording,
+    store: &mut S,
+    out: &mut O,
+    err: &mut X,
+) -> u8
+    ensures kept { IsFree result ⊎ WhereTold (S.files store.old) (S.files store.new) (KeptFiles (told_of_recording recording.now).saved names.now.log names.now.book) }
+    ensures others { WhereTold (S.files store.old) (S.files store.new) (SameBut names.now.log names.now.book) }
+    ensures later { NoneFell (S.counts store.old) (S.counts store.new) }
+    ensures told { Tells names.now (told_of_recording recording.now) result (O.written out.old) (O.written out.new) (X.written err.old) (X.written err.new) (X.faults err.old) (X.faults err.new) }
+    ensures failed { result ≡ 3 → Rose (S.counts store.old).faults (S.counts store.new).faults }
+    ensures missing { result ≢ 4 }
+    ensures long { result ≢ 5 }
+    ensures write { result ≡ 13 → Rose (O.faults out.old) (O.faults out.new) ⊎ Rose (X.faults err.old) (X.faults err.new) }
+{
+    match save(store, names, recording) {
+        Err(refusal) => refuse(alloc, names, &refusal, err),
+        Ok(()) => match send_bytes(out, &recording.out) {
+            Err(refusal) => refuse(alloc, names, &refusal, err),
+            Ok(()) => match send_bytes(err, &recording.err) {
+                Err(refusal) => refuse(alloc, names, &refusal, err),
+                Ok(()) => recording.end.status(),
+            },
+        },
+    }
+}
+
+/// Does what an answer says, and gives the status that the process ends with.
+pub fn act<S: Store, O: Sink, X: Sink>(
+    alloc: Global,
+    names: &Names,
+    answer: &Answer,
+    store: &mut S,
+    out: &mut O,
+    err: &mut X,
+) -> u8
+    ensures told { Tells names.now (told_of names.now answer.now) result (O.written out.old) (O.written out.new) (X.written err.old) (X.written err.new) (X.faults err.old) (X.faults err.new) }
+    ensures kept { IsFree result ⊎ WhereTold (S.files store.old) (S.files store.new) (KeptFiles (told_of names.now answer.now).saved names.now.log names.now.book) }
+    ensures others { WhereTold (S.files store.old) (S.files store.new) (MayChange (told_of names.now answer.now).saved names.now.log names.now.book) }
+    ensures still { IsPrinted answer.now → S.files store.new ≡ S.files store.old }
+    ensures later { NoneFell (S.counts store.old) (S.counts store.new) }
+    ensures failed { result ≡ 3 → Rose (S.counts store.old).faults (S.counts store.new).faults }
+    ensures missing { result ≢ 4 }
+    ensures long { result ≢ 5 }
+    ensures write { result ≡ 13 → Rose (O.faults out.old) (O.faults out.new) ⊎ Rose (X.faults err.old) (X.faults err.new) }
+{
+    match answer {
+        Answer::Interval(reading) => print_interval(alloc, names, reading, out, err),
+        Answer::Listed(log) => print_list(alloc, names, log, out, err),
+        Answer::Checked(log) => print_check(alloc, names, log, out, err),
+        Answer::Recorded(recording) => keep(alloc, names, recording, store, out, err),
+    }
+}

@@ -1,0 +1,69 @@
+// The names of the files of a command.
+ghost use Rattle.std.specs.Prelude.{◌≡◌, []};
+ghost use Rattle.bugnet.specs.Names.{no_names, name_of};
+
+use std::marker::Model;
+
+/// What a file is to a command.
+#[derive(Clone, Copy, Debug, PartialEq, Eq, Drop)]
+pub enum Role {
+    Elf,
+    Log,
+    Book,
+    Input,
+}
+
+/// The name of the file in each role; empty where the command has none.
+#[derive(Drop)]
+pub struct Names<'a> {
+    pub elf: &'a str,
+    pub log: &'a str,
+    pub book: &'a str,
+    pub input: &'a str,
+}
+
+impl<'a> Model for Names<'a> {
+    ghost use Rattle.bugnet.specs.Names.{FileNames};
+
+    ghost Value = { FileNames };
+
+    ghost view = { λ n. record { elf = n.elf.now; log = n.log.now; book = n.book.now; input = n.input.now } };
+}
+
+impl<'a> Names<'a> {
+    /// The names of no files.
+    pub fn none() -> Names<'a>
+        ensures { result ≡ no_names }
+    {
+        Names {
+            elf: "",
+            log: "",
+            book: "",
+            input: "",
+        }
+    }
+
+    /// The name of a log.
+    pub fn of_log(log: &'a str) -> Names<'a>
+        ensures { result ≡ record { elf = []; log = log.now; book = []; input = [] } }
+    {
+        Names {
+            elf: "",
+            log,
+            book: "",
+            input: "",
+        }
+    }
+
+    /// The name of the file in a role.
+    pub fn of(&self, role: Role) -> &'a str
+        ensures { result.now ≡ name_of self.now role }
+    {
+        match role {
+            Role::Elf => self.elf,
+            Role::Log => self.log,
+            Role::Book => self.book,
+            Role::Input => self.input,
+        }
+    }
+}

@@ -1,0 +1,145 @@
+// What a recording tests and loads before it runs.
+ghost use Rattle.std.specs.Prelude.{◌≡◌, false, []};
+ghost use Rattle.std.specs.Str.{bytes_eq};
+ghost use Rattle.sha2.specs.Sha256.{sha256};
+ghost use Rattle.bn_outside.specs.Counts.{NoneFell};
+ghost use Rattle.elf_loader.specs.Loaded.{image_of};
+ghost use Rattle.bugnet.specs.Commands.{seeded_told, IsByInput, IsByProgram, IsByNames, IsRecord};
+ghost use Rattle.bugnet.specs.Outside.{Gives, IsOwn, ResultCause, WithFiles};
+
+use crate::answer::{Answer, digest_of, load_program};
+use crate::loading::{ELF_LIMIT, INPUT_LIMIT, fetch};
+use crate::names::{Names, Role};
+use crate::recording::record_run;
+use crate::refusal::Refusal;
+use bn_base::{RawSettings, Settings};
+use bn_outside::Store;
+use run_model::Start;
+use std::alloc::Global;
+
+// The recording from a start.
+fn record_start(alloc: Global, names: &Names, start: &Start, seed: u64) -> Result<Answer, Refusal>
+    ensures gives { Gives names.now (λ what. what ≡ seeded_told start.now.settings start.now.image start.now.digest seed start.now.input.items) result }
+    ensures own { IsOwn result }
+{
+    let recording = record_run(alloc, start, seed)?;
+    Ok(Answer::Recorded(recording))
+}
+
+// Loads the input, where there is one, and records from a start whose own input is empty.
+fn record_input<S: Store>(
+    alloc: Global,
+    names: &Names,
+    mut start: Start,
+    seed: u64,
+    has_input: bool,
+    store: &mut S,
+) -> Result<Answer, Refusal>
+    requires { start.input.items ≡ [] }
+    ensures told { WithFiles (S.files store.old) (λ files. Gives names.now (IsByInput has_input files names.now (seeded_told start.settings start.image start.digest seed)) result) }
+    ensures same { S.files store.new ≡ S.files store.old }
+    ensures later { NoneFell (S.counts store.old) (S.counts store.new) }
+    ensures cause { ResultCause (S.counts store.old) (S.counts store.new) result }
+{
+    if !has_input {
+        return record_start(alloc, names, &start, seed);
+    }
+    match fetch(alloc, names, store, Role::Input, INPUT_LIMIT) {
+        Err(refusal) => Err(refusal),
+        Ok(input) => {
+            start.input = input;
+            record_start(alloc, names, &start, seed)
+        }
+    }
+}
+
+// Loads a program from its bytes, and records it.
+fn record_program<S: Store>(
+    alloc: Global,
+    names: &Names,
+    elf: &[u8],
+    settings: &Settings,
+    seed: u64,
+    has_input: bool,
+    store: &mut S,
+) -> Result<Answer, Refusal>
+    ensures told { WithFiles (S.files store.old) (λ files. Gives names.now (IsByProgram (image_of elf.now settings.now) files names.now settings.now seed has_input (sha256 elf.now)) result) }
+    ensures same { S.files store.new ≡ S.files store.old }
+    ensures later { NoneFell (S.counts store.old) (S.counts store.new) }
+    ensures cause { ResultCause (S.counts store.old) (S.counts store.new) result }
+{
+    match load_program(alloc, elf, settings) {
+        Err(refusal) => Err(refusal),
+        Ok(image) => {
+            let start = Start {
+                image,
+                settings: *settings,
+                input: Vec::new(alloc),
+                digest: digest_of(elf),
+            };
+            record_input(alloc, names, start, seed, has_input, store)
+        }
+    }
+}
+
+// Loads a program file, and records it.
+fn record_elf<S: Store>(
+    alloc: Global,
+    names: &Names,
+    settings: &Settings,
+    seed: u64,
+    has_input: bool,
+    store: &mut S,
+) -> Result<Answer, Refusal>
+    ensures told { WithFiles (S.files store.old) (λ files. Gives names.now (IsByNames false files names.now settings.now seed has_input) result) }
+    ensures same { S.files store.new ≡ S.files store.old }
+    ensures later { NoneFell (S.counts store.old) (S.counts store.new) }
+    ensures cause { ResultCause (S.counts store.old) (S.counts store.new) result }
+{
+    match fetch(alloc, names, store, Role::Elf, ELF_LIMIT) {
+        Err(refusal) => Err(refusal),
+        Ok(elf) => record_program(alloc, names, &elf, settings, seed, has_input, store),
+    }
+}
+
+// Records, where LOG and BOOK are two names.
+fn record_named<S: Store>(
+    alloc: Global,
+    names: &Names,
+    settings: &Settings,
+    seed: u64,
+    has_input: bool,
+    store: &mut S,
+) -> Result<Answer, Refusal>
+    ensures told { WithFiles (S.files store.old) (λ files. Gives names.now (IsByNames (bytes_eq names.now.log names.now.book) files names.now settings.now seed has_input) result) }
+    ensures same { S.files store.new ≡ S.files store.old }
+    ensures later { NoneFell (S.counts store.old) (S.counts store.new) }
+    ensures cause { ResultCause (S.counts store.old) (S.counts store.new) result }
+{
+    if names.log == names.book {
+        Err(Refusal::SameName)
+    } else {
+        record_elf(alloc, names, settings, seed, has_input, store)
+    }
+}
+
+/// Tests the settings and the names, loads the program and its input, and records the run by the
+/// turns that the seed chooses.
+pub fn record_files<S: Store>(
+    alloc: Global,
+    names: &Names,
+    settings: &RawSettings,
+    seed: u64,
+    has_input: bool,
+    store: &mut S,
+) -> Result<Answer, Refusal>
+    ensures told { WithFiles (S.files store.old) (λ files. Gives names.now (IsRecord files names.now settings.now seed has_input) result) }
+    ensures same { S.files store.new ≡ S.files store.old }
+    ensures later { NoneFell (S.counts store.old) (S.counts store.new) }
+    ensures cause { ResultCause (S.counts store.old) (S.counts store.new) result }
+{
+    match Settings::checked(settings) {
+        Err(bad) => Err(Refusal::OutOfRange(bad)),
+        Ok(settings) => record_named(alloc, names, &settings, seed, has_input, store),
+    }
+}

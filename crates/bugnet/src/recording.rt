@@ -1,0 +1,170 @@
+// The recording of a run.
+ghost use Rattle.std.specs.Prelude.{◌≡◌, ◌≤◌, ◌<◌, ◌++◌, ◌^◌, List, ℕ, length, map, IfOk};
+ghost use Rattle.std.specs.List.{flat_map, list_any};
+ghost use Rattle.log_record.specs.Spelling.{bytes_of};
+ghost use Rattle.log_file.specs.Layout.{spelling};
+ghost use Rattle.bn_outside.specs.declared.turn_row.TurnRow.{TurnRow};
+ghost use Rattle.bugnet.specs.Commands.{seeded_told};
+ghost use Rattle.bugnet.specs.Recordings.{count_of, instructions_of, is_fault, is_limit, end_by, end_word};
+ghost use Rattle.bugnet.specs.Texts.{summary_text};
+ghost use Rattle.bugnet.specs.Outside.{told_of_recording};
+ghost use Rattle.bugnet.specs.Keeping.{IsRecordingOf};
+
+use crate::answer::{Recording, RunEnd};
+use crate::texts::{RunCounts, push_summary};
+use bn_base::EndMark;
+use bn_base::end_mark::{FAULT, LIMIT};
+use bn_outside::{Book, FullBook};
+use bus_core::Closed;
+use hart_worker::{rows_name_their_harts, run_seeded};
+use log_file::write_file;
+use log_record::Head;
+use log_ring::Ring;
+use run_model::Start;
+use rv_text::Text;
+use std::alloc::{AllocError, Global};
+
+// The count of a mark.
+fn count_of(mark: &Option<EndMark>) -> u64
+    ensures { result ≡ count_of mark.now }
+{
+    match mark {
+        Some(mark) => mark.ic,
+        None => 0,
+    }
+}
+
+// The sum of the counts of marks.
+fn instructions_of(marks: &[Option<EndMark>]) -> u128
+    ensures { result ≡ instructions_of marks.now }
+{
+    let mut sum = 0;
+    for place in 0..marks.len() {
+        sum += u128::from(count_of(&marks[place]));
+    }
+    sum
+}
+
+fn is_fault(mark: &Option<EndMark>) -> bool
+    ensures { result ≡ is_fault mark.now }
+{
+    match mark {
+        Some(mark) => mark.reason > FAULT,
+        None => false,
+    }
+}
+
+fn is_limit(mark: &Option<EndMark>) -> bool
+    ensures { result ≡ is_limit mark.now }
+{
+    match mark {
+        Some(mark) => mark.reason == LIMIT,
+        None => false,
+    }
+}
+
+fn any_fault(marks: &[Option<EndMark>]) -> bool
+    ensures { result ≡ list_any is_fault marks.now }
+{
+    marks.iter().any(|mark| is_fault(mark))
+}
+
+fn any_limit(marks: &[Option<EndMark>]) -> bool
+    ensures { result ≡ list_any is_limit marks.now }
+{
+    marks.iter().any(|mark| is_limit(mark))
+}
+
+// How a run ended that left its harts with these marks.
+fn end_by(marks: &[Option<EndMark>]) -> RunEnd
+    ensures { result ≡ end_by marks.now }
+{
+    if any_fault(marks) {
+        RunEnd::Fault
+    } else if any_limit(marks) {
+        RunEnd::Limit
+    } else {
+        RunEnd::Done
+    }
+}
+
+// The log file of what a ring keeps.
+fn log_of(alloc: Global, start: &Start, ring: &Ring) -> Result<Vec<u8>, AllocError>
+    requires { ring.now.size ≡ start.now.settings.log_size }
+    ensures { IfOk result (λ log. log.items ≡ spelling (record { settings = start.now.settings; digest = start.now.digest }) ring.now.dropped (flat_map bytes_of ring.now.records)) }
+{
+    let records = ring.copy(alloc)?;
+    let head = Head {
+        settings: start.settings,
+        digest: start.digest,
+    };
+    write_file(alloc, &head, ring.dropped(), &records)
+}
+
+// The list of turns that a book tells: a byte for each, the number of its hart.
+fn list_of(alloc: Global, book: &FullBook) -> Result<Vec<u8>, AllocError>
+    ensures { IfOk result (λ list. list.items ≡ map (λ (r : TurnRow). r.hart) book.now.rows) }
+{
+    let mut list = Vec::new(alloc);
+    match book.rows() {
+        Some(rows) => {
+            for row in rows {
+                list.push(row.hart)?;
+            }
+            Ok(list)
+        }
+        None => unreachable!(),
+    }
+}
+
+// Stream 2 of a run, and the line of its recording.
+fn err_of(
+    alloc: Global,
+    mut err: Vec<u8>,
+    counts: &RunCounts,
+    end: &RunEnd,
+) -> Result<Vec<u8>, AllocError>
+    ensures { IfOk result (λ text. text.items ≡ err.items ++ summary_text counts.now.turns counts.now.instructions counts.now.dropped counts.now.kept (end_word end.now)) }
+{
+    let mut line = Text::new(alloc);
+    push_summary(&mut line, counts, end.word())?;
+    err.extend_from_slice(line.as_bytes())?;
+    Ok(err)
+}
+
+// The recording of a closed run.
+fn recording_of(
+    alloc: Global,
+    start: &Start,
+    closed: Closed<FullBook>,
+) -> Result<Recording, AllocError>
+    requires { closed.ring.size ≡ start.now.settings.log_size }
+    ensures { IfOk result (λ r. IsRecordingOf start.now closed r) }
+{
+    let end = end_by(&closed.ends);
+    let counts = RunCounts {
+        turns: closed.turns,
+        instructions: instructions_of(&closed.ends),
+        dropped: closed.ring.dropped(),
+        kept: closed.ring.len() as u64,
+    };
+    let log = log_of(alloc, start, &closed.ring)?;
+    let book = list_of(alloc, &closed.book)?;
+    let err = err_of(alloc, closed.err, &counts, &end)?;
+    Ok(Recording {
+        end,
+        out: closed.out,
+        err,
+        log,
+        book,
+    })
+}
+
+/// The recording of the run by the turns that a number chooses. The only error is want of memory.
+pub fn record_run(alloc: Global, start: &Start, seed: u64) -> Result<Recording, AllocError>
+    ensures { IfOk result (λ r. told_of_recording r ≡ seeded_told start.now.settings start.now.image start.now.digest seed start.now.input.items) }
+{
+    rows_name_their_harts();
+    let closed = run_seeded(alloc, start, FullBook::new(alloc), seed)?;
+    recording_of(alloc, start, closed)
+}
