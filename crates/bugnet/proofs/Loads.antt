@@ -1,5 +1,5 @@
 -- What a command answers after its loads.
-use Rattle.std.proofs.Common.{◌≡◌, ℕ, ◌≤◌, ◌<◌, length, List, Option, Some, None, ◌∙◌, ap, subst, sym, refl, arith, true, false, Bool, nat_lt, inl, inr, ◌⊎◌, Vec, Global}
+use Rattle.std.proofs.Common.{◌≡◌, ℕ, ◌≤◌, ◌<◌, length, List, Option, Some, None, ap, subst, sym, refl, arith, true, false, Bool, nat_lt, inl, inr, ◌⊎◌, Vec, Global}
 use Rattle.std.specs.Prelude.{Result, Ok, Err, IsSomeAnd}
 use Rattle.std.proofs.lemmas.Bool.Decides.{nat_tests}
 use Rattle.bn_outside.specs.Files.{Files}
@@ -10,7 +10,6 @@ use Rattle.bn_base.specs.declared.settings.RawSettings.{RawSettings}
 use Rattle.elf_loader.specs.Loaded.{image_of}
 use Rattle.elf_loader.specs.declared.error.ElfError.{ElfError}
 use Rattle.log_order.specs.Content.{Content}
-use Rattle.log_file.specs.declared.error.FileError.{FileError}
 use Rattle.bugnet.specs.Names.{FileNames, name_of}
 use Rattle.bugnet.specs.Refusals.{IsOutside}
 use Rattle.bugnet.specs.Told.{Told, refused}
@@ -20,7 +19,7 @@ use Rattle.bugnet.specs.declared.names.Role.{Role}
 use Rattle.bugnet.specs.declared.names.Role.TheVariants.{Input}
 use Rattle.bugnet.specs.declared.answer.Answer.{Answer}
 use Rattle.bugnet.specs.declared.refusal.Refusal.{Refusal}
-use Rattle.bugnet.specs.declared.refusal.Refusal.TheVariants.{Missing, TooLong, LogRefused, OutOfMemory}
+use Rattle.bugnet.specs.declared.refusal.Refusal.TheVariants.{Missing, TooLong}
 
 -- the first or the second by what the test says
 pub on_true : (b : Bool) (A B : Type 0) → b ≡ true → A → Either b A B

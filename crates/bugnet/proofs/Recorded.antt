@@ -1,5 +1,5 @@
 -- What is recorded of a closed run is what is told of its list of turns.
-use Rattle.std.proofs.Common.{◌≡◌, ℕ, ◌+◌, ◌-◌, true, List, ◌++◌, length, Option, Some, ◌∙◌, ap, refl, arith}
+use Rattle.std.proofs.Common.{◌≡◌, ℕ, true, List, ◌++◌, length, Option, Some, ◌∙◌, ap, refl, arith}
 use Rattle.std.specs.Prelude.{Result, Ok, Err, IfOk, map}
 use Rattle.std.specs.List.{flat_map}
 use Rattle.bn_base.specs.Programs.{Program}

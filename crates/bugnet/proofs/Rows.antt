@@ -1,6 +1,5 @@
 -- The rows of a replay, sent one after another.
-use Rattle.std.proofs.Common.{◌≡◌, ℕ, ◌≤◌, List, [], ◌∷◌, Option, Some, None, ◌∙◌, ap, subst, sym, refl, ◌++◌, inl, inr, ◌⊎◌, arith}
-use Rattle.std.specs.Prelude.{Result, Ok, Err}
+use Rattle.std.proofs.Common.{◌≡◌, ℕ, ◌≤◌, List, [], ◌∷◌, Option, ◌∙◌, ap, subst, sym, refl, ◌++◌, inl, inr, ◌⊎◌, arith}
 use Rattle.std.specs.Io.KnownBytes.{Appends}
 use Rattle.bn_base.specs.declared.row.Row.{Row}
 use Rattle.bn_outside.specs.Streams.{AppendsPart}
@@ -13,7 +12,6 @@ use Rattle.bugnet.specs.Texts.{rows_text}
 use Rattle.bn_base.specs.declared.end_mark.EndMark.{EndMark}
 use Rattle.bugnet.specs.Printed.{outcome_of, ending_of, end_of_interval}
 use Rattle.bugnet.specs.Outside.{Sent, SendStops}
-use Rattle.bugnet.specs.declared.printing.Ending.{Ending}
 use Rattle.bugnet.specs.declared.printing.Ending.TheVariants as ending
 use Rattle.bugnet.specs.declared.refusal.Refusal.{Refusal}
 use Rattle.bugnet.proofs.Prints.{SoFar, so_far-none, so_far-more, so_far-done, so_far-stopped, so_far-ends, part-behind, stops-later}

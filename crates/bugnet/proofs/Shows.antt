@@ -1,5 +1,5 @@
 -- What is told of the replay of an interval.
-use Rattle.std.proofs.Common.{◌≡◌, ◌≤◌, ℕ, List, [], ◌++◌, Option, Some, None, ◌∙◌, ap, subst, sym, refl, inl, inr, ◌⊎◌, append_assoc}
+use Rattle.std.proofs.Common.{◌≡◌, ℕ, List, [], ◌++◌, Option, Some, None, ◌∙◌, ap, subst, sym, refl, inl, inr, ◌⊎◌, append_assoc}
 use Rattle.std.specs.Io.KnownBytes.{Appends}
 use Rattle.std.proofs.lemmas.List.{append-nil}
 use Rattle.bn_base.specs.declared.end_mark.EndMark.{EndMark}
@@ -12,7 +12,7 @@ use Rattle.hart_replay.specs.declared.error.ReplayError.{ReplayError}
 use Rattle.hart_replay.specs.declared.error.ReplayError.TheVariants.{NoInterval}
 use Rattle.bugnet.specs.Names.{FileNames}
 use Rattle.bugnet.specs.Texts.{begin_text, end_text, rows_text}
-use Rattle.bugnet.specs.Told.{Told, Saved, refused, printed}
+use Rattle.bugnet.specs.Told.{Told, Saved, refused}
 use Rattle.bugnet.specs.Printed.{outcome_of, end_of_interval, rest_text}
 use Rattle.bugnet.specs.Commands.{ended, replay_found}
 use Rattle.bugnet.specs.Logs.{IsBegun}

@@ -1,37 +1,35 @@
 -- The answer to the replay of a recorded interval is the text of the run's own rows.
-use Rattle.std.proofs.Common.{◌≡◌, ℕ, ◌+◌, ◌<◌, ◌≤◌, ◌^◌, Bool, true, false, List, [], ◌++◌, length, nat_lt, Option, Some, None, ◌∙◌, ap, subst, sym, refl, arith, inl, inr, ◌⊎◌, length-append}
-use Rattle.std.specs.Prelude.{Result, Ok, Err}
+use Rattle.std.proofs.Common.{◌≡◌, ℕ, ◌+◌, ◌<◌, ◌≤◌, ◌^◌, Bool, true, List, ◌++◌, length, nat_lt, Option, Some, None, ◌∙◌, ap, subst, refl, arith, inl, inr, ◌⊎◌, length-append}
+use Rattle.std.specs.Prelude.{Result, Ok}
 use Rattle.std.specs.Io.KnownBytes.{Appends}
 use Rattle.std.specs.Str.{bytes_eq}
 use Rattle.std.specs.List.{flat_map}
 use Rattle.std.proofs.lemmas.Slice.Eq.{bytes_eq-Decides}
-use Rattle.std.proofs.lemmas.Bool.Decides.{nat_tests}
 use Rattle.sha2.specs.Sha256.{sha256}
 use Rattle.sha2.proofs.Facts256.{length-sha256}
 use Rattle.bn_base.specs.Programs.{Program}
 use Rattle.bn_base.specs.declared.settings.RawSettings.{RawSettings}
 use Rattle.bn_outside.specs.Files.{Files}
 use Rattle.command_words.specs.Words.{Line, ReplayLine}
-use Rattle.elf_loader.specs.Loaded.{image_of}
 use Rattle.elf_loader.specs.declared.error.ElfError.{ElfError}
 use Rattle.le_numbers.specs.Numbers.{number_bytes}
 use Rattle.log_record.specs.Spelling.{bytes_of, total}
 use Rattle.log_order.specs.Content.{Content, IsContent}
 use Rattle.log_file.specs.Layout.{magic, settings_bytes, signed_bytes, file_bytes}
 use Rattle.log_file.specs.declared.error.FileError.{FileError}
-use Rattle.hart_replay.specs.Replay.{Done, Replayed, Interval, interval_of, replayed}
-use Rattle.run_model.specs.Files.{kept_of, content_of, file_of}
+use Rattle.hart_replay.specs.Replay.{Done, Replayed, Interval, replayed}
+use Rattle.run_model.specs.Files.{content_of}
 use Rattle.run_model.specs.Rows.{rows_in}
 use Rattle.run_model.specs.Runs.{start, run_of}
 use Rattle.replay_laws.specs.Law.{LogSuffices}
 use Rattle.file_laws.specs.Laws.{LogsAreContents}
-use Rattle.bugnet.specs.Names.{FileNames, name_of}
-use Rattle.bugnet.specs.Told.{Told, refused, printed}
+use Rattle.bugnet.specs.Names.{FileNames}
+use Rattle.bugnet.specs.Told.{Told, printed}
 use Rattle.bugnet.specs.Commands.{IsByFile, WithFile, by_log, IsByLog, replay_same, replay_loaded, replay_found, replay_of, interval_told, ended, IsReplayOf, IsReplay}
 use Rattle.bugnet.specs.Answers.{names_in, IsAnswer}
 use Rattle.bugnet.specs.Headline.{Part, run_text, ReplaysRun, Headline, PrintsRun}
 use Rattle.bugnet.specs.Outside.{WithFiles}
-use Rattle.bugnet.specs.Run.{IsFree, Done as Finished, Tells, AnAnswer, StoppedEarly, Answers}
+use Rattle.bugnet.specs.Run.{IsFree, Tells, Answers}
 use Rattle.bugnet.specs.declared.names.Role.{Role}
 use Rattle.bugnet.specs.declared.names.Role.TheVariants as role
 use Rattle.bugnet.proofs.Loads.{fits, of_false}

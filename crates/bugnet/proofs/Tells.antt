@@ -1,32 +1,17 @@
 -- What a whole call of the program does, from what its parts do.
-use Rattle.std.proofs.Common.{◌≡◌, ◌≢◌, ◌≤◌, ℕ, Bool, List, [], ◌∷◌, ◌++◌, length, Option, Some, None, ◌∙◌, ap, subst, sym, refl, inl, inr, ◌⊎◌, append_assoc}
-use Rattle.std.specs.Prelude.{Result, Ok, Err}
+use Rattle.std.proofs.Common.{◌≡◌, ℕ, List, [], Option, Some, None, ◌∙◌, subst, sym, refl, inl, inr, ◌⊎◌}
+use Rattle.std.specs.Prelude.{Ok, Err}
 use Rattle.std.specs.Io.KnownBytes.{Appends}
-use Rattle.std.proofs.lemmas.List.{append-nil}
-use Rattle.bn_base.specs.declared.end_mark.EndMark.{EndMark}
-use Rattle.bn_base.specs.declared.state.HartState.{HartState}
-use Rattle.bn_outside.specs.Counts.{Counts, Rose}
+use Rattle.bn_outside.specs.Counts.{Counts}
 use Rattle.bn_outside.specs.Files.{Files, WhereTold, SameElsewhere}
 use Rattle.bn_outside.specs.Streams.{AppendsPart}
-use Rattle.hart_replay.specs.Coming.{Replaying}
-use Rattle.hart_replay.specs.Replay.{Outcome, Done, Refused, Replayed, Interval}
-use Rattle.hart_replay.specs.declared.error.ReplayError.{ReplayError}
-use Rattle.hart_replay.specs.declared.error.ReplayError.TheVariants.{NoInterval}
-use Rattle.hart_replay.specs.Replay.{interval_of}
 use Rattle.bugnet.specs.Names.{FileNames, no_names}
-use Rattle.bugnet.specs.Refusals.{status_of, line_of, said_of, IsOutside, IsFreeRefusal}
-use Rattle.bugnet.specs.Texts.{begin_text, end_text, rows_text}
+use Rattle.bugnet.specs.Refusals.{line_of, said_of, IsOutside, IsFreeRefusal}
 use Rattle.bugnet.specs.Told.{Told, Saved, refused, printed}
-use Rattle.bugnet.specs.Printed.{outcome_of, end_of_interval, rest_text}
-use Rattle.bugnet.specs.Commands.{ended, replay_found, list_of, check_of}
-use Rattle.bugnet.specs.Logs.{IsBegun}
-use Rattle.bugnet.specs.Outside.{SendStops, ToldRefusal, WithFiles, Gives, told_of, told_of_reading, told_of_recording, SameFiles, KeptBoth, KeptFiles, MayChange, SaveRefusal}
-use Rattle.bugnet.specs.Run.{IsFree, Tells, own_err, own_out, AnAnswer, StoppedEarly, Answers}
+use Rattle.bugnet.specs.Outside.{SendStops, ToldRefusal, WithFiles, Gives, told_of, told_of_recording, SameFiles, KeptBoth, KeptFiles, MayChange, SaveRefusal}
+use Rattle.bugnet.specs.Run.{IsFree, Tells, own_err, own_out, AnAnswer, Answers}
 use Rattle.bugnet.specs.declared.answer.Answer.{Answer}
-use Rattle.bugnet.specs.declared.answer.Reading.{Reading}
 use Rattle.bugnet.specs.declared.answer.Recording.{Recording}
-use Rattle.bugnet.specs.declared.printing.Ending.{Ending}
-use Rattle.bugnet.specs.declared.printing.Ending.TheVariants as ending
 use Rattle.bugnet.specs.declared.refusal.Refusal.{Refusal}
 use Rattle.bugnet.specs.declared.refusal.Refusal.TheVariants.{WordsRefused, OutOfRange, SameName, StoreFailed, Missing, TooLong, ElfRefused, LogRefused, ProgramDiffers, OutOfMemory, WriteFailed, ReplayStopped}
 use Rattle.bugnet.proofs.Prints.{appends-nothing, part-none, part-whole}

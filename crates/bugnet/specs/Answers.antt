@@ -1,5 +1,5 @@
 -- What the program answers to its words.
-use Rattle.std.specs.Prelude.{◌≡◌, List, [], ℕ, Option, Some, None, is_some, unwrap_or}
+use Rattle.std.specs.Prelude.{◌≡◌, [], Option, Some, None, is_some, unwrap_or}
 use Rattle.bn_outside.specs.Files.{Files}
 use Rattle.command_words.specs.Words.{Line, RecordLine, ReplayLine, ListLine, CheckLine}
 use Rattle.bugnet.specs.Names.{FileNames, no_names}

@@ -1,5 +1,5 @@
 -- What a recording has of a closed run.
-use Rattle.std.specs.Prelude.{◌≡◌, ◌++◌, length, map}
+use Rattle.std.specs.Prelude.{◌≡◌, ◌++◌, map}
 use Rattle.std.specs.List.{flat_map}
 use Rattle.bn_outside.specs.Books.{BookState}
 use Rattle.bn_outside.specs.declared.turn_row.TurnRow.{TurnRow}

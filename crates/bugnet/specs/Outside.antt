@@ -1,5 +1,5 @@
 -- What the parts of a command do to the outside.
-use Rattle.std.specs.Prelude.{◌≡◌, ◌≢◌, ◌≤◌, ◌<◌, ◌⊎◌, ℕ, List, [], length, Option, Some, None, Result, Ok, Err, IsSomeAnd}
+use Rattle.std.specs.Prelude.{◌≡◌, ◌≢◌, ◌≤◌, ◌<◌, ◌⊎◌, ℕ, List, length, Option, Some, None, Result, Ok, Err, IsSomeAnd}
 use Rattle.std.specs.Io.KnownBytes.{Appends}
 use Rattle.std.specs.declared.vec.Vec.{Vec}
 use Rattle.std.specs.declared.alloc.Global.{Global}
@@ -17,7 +17,7 @@ use Rattle.log_file.specs.declared.error.FileError.{FileError}
 use Rattle.log_file.specs.declared.error.FileError.TheVariants as file
 use Rattle.bugnet.specs.Names.{FileNames}
 use Rattle.bugnet.specs.Refusals.{status_of, line_of, IsOutside}
-use Rattle.bugnet.specs.Told.{Told, Saved, refused, printed}
+use Rattle.bugnet.specs.Told.{Told, Saved, refused}
 use Rattle.bugnet.specs.Recordings.{end_status}
 use Rattle.bugnet.specs.Commands.{list_of, check_of, replay_with}
 use Rattle.bugnet.specs.declared.names.Role.{Role}

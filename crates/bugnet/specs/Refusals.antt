@@ -3,7 +3,6 @@ use Rattle.std.specs.Prelude.{ℕ, ◌-◌, ◌^◌, false, List, ◌++◌, [], 
 use Rattle.std.specs.List.{flat_map}
 use Rattle.std.specs.Fmt.{digits, padded_integral, format_spec}
 use Rattle.bn_base.specs.Ranges.{setting_name}
-use Rattle.bn_base.specs.declared.settings.BadSetting.{BadSetting}
 use Rattle.rv_text.specs.Instructions.{hex8}
 use Rattle.elf_loader.specs.declared.error.ElfError.{ElfError}
 use Rattle.elf_loader.specs.declared.error.ElfError.TheVariants as elf

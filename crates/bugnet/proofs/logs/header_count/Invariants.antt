@@ -1,5 +1,3 @@
-use Rattle.std.proofs.Common.{◌≡◌, ◌+◌, ◌≤◌, drop}
-use Rattle.bugnet.specs.Texts.{header_count}
 use Rattle.bugnet.proofs.Counts.{Counting}
 use Rattle.bugnet.proofs.logs.header_count.Given as goal
 

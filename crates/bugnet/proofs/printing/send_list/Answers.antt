@@ -1,4 +1,4 @@
-use Rattle.std.proofs.Common.{◌≡◌, ◌+◌, List, ℕ, drop, subst, ◌++◌}
+use Rattle.std.proofs.Common.{◌+◌, List, ℕ, drop, subst, ◌++◌}
 use Rattle.log_record.specs.declared.record.Record.{Record}
 use Rattle.bn_outside.specs.Streams.{AppendsPart}
 use Rattle.std.specs.Io.KnownBytes.{Appends}

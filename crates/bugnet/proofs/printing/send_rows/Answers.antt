@@ -7,7 +7,7 @@ use Rattle.bugnet.specs.Printed.{outcome_of}
 use Rattle.bugnet.specs.Outside.{Sent}
 use Rattle.bugnet.specs.declared.printing.Ending.{Ending}
 use Rattle.bugnet.specs.declared.refusal.Refusal.{Refusal}
-use Rattle.bugnet.proofs.Rows.{stands-none, stands-more, stands-stopped, stands-done, stands-refused}
+use Rattle.bugnet.proofs.Rows.{stands-more, stands-stopped, stands-done, stands-refused}
 use Rattle.bugnet.proofs.printing.send_rows.Goals as goal
 
 pub rows-preserved : goal.rows-preserved

@@ -1,5 +1,5 @@
-use Rattle.std.proofs.Common.{List, ℕ, ◌⊎◌, Some, subst}
-use Rattle.bn_outside.specs.Files.{Files, WhereTold}
+use Rattle.std.proofs.Common.{◌⊎◌, Some, subst}
+use Rattle.bn_outside.specs.Files.{WhereTold}
 use Rattle.command_words.specs.Words.{seen}
 use Rattle.bugnet.specs.Names.{FileNames}
 use Rattle.bugnet.specs.Told.{Told}

@@ -1,7 +1,7 @@
-use Rattle.std.proofs.Common.{Option, sym, ap, ◌∙◌, subst, ◌⊎◌, ◌≡◌, Some, None}
-use Rattle.std.specs.Prelude.{Result, Ok, Err}
-use Rattle.bn_outside.specs.Files.{Files, WhereTold}
-use Rattle.command_words.specs.Words.{Line, command_in, seen}
+use Rattle.std.proofs.Common.{Option, sym, ap, ◌∙◌, subst, ◌⊎◌, ◌≡◌, None}
+use Rattle.std.specs.Prelude.{Err}
+use Rattle.bn_outside.specs.Files.{WhereTold}
+use Rattle.command_words.specs.Words.{Line, command_in}
 use Rattle.command_words.specs.declared.error.WordsError.{WordsError}
 use Rattle.bugnet.specs.Names.{FileNames, no_names}
 use Rattle.bugnet.specs.Answers.{names_by, IsAnswer}
