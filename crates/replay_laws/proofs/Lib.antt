@@ -21,3 +21,4 @@ pub mod Numbered
 pub mod Whole
 pub mod Worked
 pub mod Warmth
+pub mod Differing

@@ -1,3 +1,4 @@
 pub mod Law
 pub mod Known
 pub mod Examples
+pub mod Differing

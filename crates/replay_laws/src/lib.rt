@@ -3,6 +3,7 @@
 #![tactic(auto)]
 
 ghost use Rattle.replay_laws.specs.Known.{WarmWordsStayKnown};
+ghost use Rattle.replay_laws.specs.Differing.{EndsThatDifferAreTold};
 ghost use Rattle.replay_laws.specs.Law.{LogSuffices, RowsStandTogether, RowsAreCounted};
 
 mod examples;
@@ -49,3 +50,11 @@ pub fn the_rows_of_a_hart_are_counted()
 pub fn warm_words_stay_known()
     ensures { WarmWordsStayKnown }
 {}
+
+/// Where the replay of an interval ends otherwise than its End says, the outcome has the End's own mark
+/// and another that differs from it. So it is for every log and every program.
+pub fn ends_that_differ_are_told()
+    ensures { EndsThatDifferAreTold }
+{
+    each_instruction_is_counted_or_asks();
+}
