@@ -9,3 +9,4 @@ mod Single
 mod Suffices
 mod Sums
 mod Recorded
+mod Tested

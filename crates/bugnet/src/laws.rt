@@ -1,8 +1,9 @@
 // What holds of answers.
-ghost use Rattle.bugnet.specs.Laws.{OneAnswer};
+ghost use Rattle.bugnet.specs.Laws.{OneAnswer, SeedsAreWhole};
 ghost use Rattle.bugnet.specs.Headline.{Headline};
 
 use file_laws::logs_are_contents;
+use hart_worker::seeded_lists_end;
 use log_file::laws::{files_say_one_thing, logs_are_not_refused, refusals_are_unique};
 use replay_laws::the_log_suffices;
 
@@ -25,4 +26,12 @@ pub fn headline()
     refusals_are_unique();
     the_log_suffices();
     logs_are_contents();
+}
+
+/// The list of turns that a recording saves is legal and finished: it is a seed's, and the settings
+/// were tested.
+pub fn seeds_are_whole()
+    ensures { SeedsAreWhole }
+{
+    seeded_lists_end();
 }

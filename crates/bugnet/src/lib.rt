@@ -21,7 +21,7 @@ mod tests;
 mod texts;
 
 pub use answer::{Answer, Reading, Recording, RunEnd};
-pub use laws::{headline, one_answer};
+pub use laws::{headline, one_answer, seeds_are_whole};
 pub use names::{Names, Role};
 pub use printing::Ending;
 pub use program::run;
