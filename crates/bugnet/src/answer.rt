@@ -72,9 +72,13 @@ pub struct Reading {
 /// What a command answers that isn't refused.
 #[derive(Drop)]
 pub enum Answer {
+    /// A recording is saved and told.
     Recorded(Recording),
+    /// An interval is replayed and printed.
     Interval(Reading),
+    /// The intervals of a log are listed.
     Listed(KeptLog),
+    /// What a log has is counted.
     Checked(KeptLog),
 }
 

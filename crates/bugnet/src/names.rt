@@ -7,9 +7,13 @@ use std::marker::Model;
 /// What a file is to a command.
 #[derive(Clone, Copy, Debug, PartialEq, Eq, Drop)]
 pub enum Role {
+    /// The program.
     Elf,
+    /// The log of a recording.
     Log,
+    /// The list of a recording's turns.
     Book,
+    /// What the program reads as its input.
     Input,
 }
 

@@ -20,9 +20,12 @@ pub fn program(alloc: Global, words: &[u32]) -> Result<Vec<u8>, AllocError> {
     for word in words {
         bytes.extend_from_slice(word.to_le_bytes().as_slice())?;
     }
-    let size = (bytes.len() - HEADERS.len()) % 256;
-    bytes[68] = size as u8;
-    bytes[72] = size as u8;
+    let size = (words.len() % 64) as u8 * 4;
+    for place in [68, 72] {
+        if place < bytes.len() {
+            bytes[place] = size;
+        }
+    }
     Ok(bytes)
 }
 
@@ -84,8 +87,19 @@ impl Machine {
         ))
     }
 
+    // Whether a file is there and has these bytes.
+    pub fn holds(&self, name: &str, bytes: &[u8]) -> bool {
+        match self.store.bytes(name) {
+            Some(found) => found == bytes,
+            None => false,
+        }
+    }
+
     // How many bytes a file has; none where it isn't there.
     pub fn size(&self, name: &str) -> Option<usize> {
-        self.store.bytes(name).map(|bytes| bytes.len())
+        match self.store.bytes(name) {
+            Some(found) => Some(found.len()),
+            None => None,
+        }
     }
 }

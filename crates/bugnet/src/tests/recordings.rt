@@ -45,8 +45,8 @@ fn a_recording_saves_its_log_and_its_turns(rt: HostRuntime) -> Result<(), Fail> 
         "bugnet: turns 1 instructions 3 dropped 0 kept 161 end done\n",
         285,
     )?;
-    assert_eq!(rt; machine.store.bytes("LOG"), Some(LOG.as_slice()));
-    assert_eq!(rt; machine.store.bytes("BOOK"), Some([0].as_slice()));
+    assert!(rt; machine.holds("LOG", &LOG));
+    assert!(rt; machine.holds("BOOK", &[0]));
     assert_eq!(rt; machine.size("ELF"), Some(96));
     Ok(())
 }
@@ -162,14 +162,8 @@ fn each_hart_is_replayed_by_itself(rt: HostRuntime) -> Result<(), Fail> {
         "bugnet", "record", "--harts", "2", "--line", "4", "--seed", "0", "ELF", "LOG", "BOOK",
     ];
     assert_eq!(rt; machine.run(&record)?, 0);
-    // The first draw of seed 0 chooses hart 1.
-    assert_eq!(rt; machine.size("BOOK"), Some(5));
-    assert!(rt;
-        machine
-            .store
-            .bytes("BOOK")
-            .is_some_and(|book| book.first() == Some(&1))
-    );
+    // The draws of seed 0 choose these harts; the first is hart 1.
+    assert!(rt; machine.holds("BOOK", &[1, 0, 1, 0, 0]));
     let first = "interval 0 0 from 0\n\
 0 0 00010054 00020437 lui s0,0x20 | s0=00020000\n\
 0 1 00010058 00051a63 bne a0,zero,0001006c\n\

@@ -91,8 +91,13 @@ fn a_missing_file_is_told_by_its_name(rt: HostRuntime) -> Result<(), Fail> {
 #[test]
 fn an_input_past_its_limit_is_too_long(rt: HostRuntime) -> Result<(), Fail> {
     let mut machine = Machine::with(rt.alloc(), &EXIT_5)?;
-    let mut input = Vec::new(rt.alloc());
-    input.resize(16_777_217, 0)?;
+    // A byte, doubled 24 times, and one more.
+    let mut input = Vec::from_slice(rt.alloc(), &[0])?;
+    for _doubling in 0..24usize {
+        let more = input.to_vec(rt.alloc())?;
+        input.extend_from_slice(&more)?;
+    }
+    input.push(0)?;
     machine.store.put("IN", &input)?;
     let record = [
         "bugnet", "record", "--seed", "1", "--input", "IN", "ELF", "LOG", "BOOK",
