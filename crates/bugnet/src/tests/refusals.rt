@@ -143,8 +143,9 @@ fn a_program_file_is_refused_by_its_kind(rt: HostRuntime) -> Result<(), Fail> {
     machine.store.put("ELF", b"")?;
     check_refused(&rt, &mut machine, &RECORD, 6, "bugnet: elf: NotElf\n")?;
     // The last code word isn't there.
-    let whole = program(alloc, &EXIT_5)?;
-    machine.store.put("ELF", &whole[..92])?;
+    let mut cut = program(alloc, &EXIT_5)?;
+    cut.truncate(92);
+    machine.store.put("ELF", &cut)?;
     check_refused(
         &rt,
         &mut machine,
@@ -153,8 +154,10 @@ fn a_program_file_is_refused_by_its_kind(rt: HostRuntime) -> Result<(), Fail> {
         "bugnet: elf: Truncated 96 92\n",
     )?;
     // The entry is 0x10060, the word behind the last.
-    let mut bent = whole;
-    bent[24] = 0x60;
+    let mut bent = program(alloc, &EXIT_5)?;
+    if let Some(byte) = bent.get_mut(24) {
+        *byte = 0x60;
+    }
     machine.store.put("ELF", &bent)?;
     check_refused(
         &rt,
