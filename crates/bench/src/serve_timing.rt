@@ -23,7 +23,12 @@ fn beginning(alloc: Global, harts: HartId) -> anyhow::Result<Start> {
 }
 
 // Serves so many asks, of the harts in turn.
-fn serve(bus: &mut Bus<LeanBook>, code: &DecodedImage, harts: HartId, count: u64) -> anyhow::Result<()> {
+fn serve(
+    bus: &mut Bus<LeanBook>,
+    code: &DecodedImage,
+    harts: HartId,
+    count: u64,
+) -> anyhow::Result<()> {
     let mut hart = 0;
     for _ in 0..count {
         if !bus.live(hart) {
@@ -50,7 +55,9 @@ fn timed(rt: &HostRuntime, harts: HartId, count: u64) -> anyhow::Result<()> {
     let closed = bus.close();
     let kept = closed.ring.len();
     let dropped = closed.ring.dropped();
-    println!(rt; "serve {harts} harts: {rate} asks a second, kept {kept} bytes, dropped {dropped} records")?;
+    println!(rt;
+        "serve {harts} harts: {rate} asks a second, kept {kept} bytes, dropped {dropped} records"
+    )?;
     Ok(())
 }
 
