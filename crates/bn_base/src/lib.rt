@@ -12,8 +12,6 @@ pub mod row;
 pub mod segment;
 pub mod settings;
 pub mod state;
-#[cfg(test)]
-mod tests;
 
 pub use end_mark::EndMark;
 pub use fault::Fault;

@@ -35,6 +35,7 @@ pub use meet_gate::MeetGate;
 pub use memory_sink::MemorySink;
 pub use memory_source::MemorySource;
 pub use memory_store::MemoryStore;
+pub use patience::Patience;
 pub use sink::Sink;
 pub use source::Source;
 pub use store::{LoadError, SaveError, Store};
@@ -45,6 +46,3 @@ pub use turn_row::TurnRow;
 #[derive(Clone, Copy, Debug, Drop, PartialEq, Eq, Error)]
 #[error("the read or write failed")]
 pub struct Failed;
-
-#[cfg(test)]
-mod tests;

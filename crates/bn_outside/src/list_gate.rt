@@ -35,12 +35,8 @@ impl ListGate {
         ListGate::with_patience(alloc, list, MOST_YIELDS)
     }
 
-    // The same, with waits of at most so many yields.
-    pub(crate) fn with_patience(
-        alloc: Global,
-        list: &[HartId],
-        yields: u32,
-    ) -> Result<Self, AllocError>
+    /// The same, with waits of at most so many yields.
+    pub fn with_patience(alloc: Global, list: &[HartId], yields: u32) -> Result<Self, AllocError>
         ensures { IfOk result (λ gate. gate ≡ list.now) }
     {
         Ok(ListGate {

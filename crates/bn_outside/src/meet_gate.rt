@@ -37,8 +37,8 @@ impl MeetGate {
         MeetGate::with_patience(harts, MOST_YIELDS)
     }
 
-    // The same, with waits of at most so many yields.
-    pub(crate) fn with_patience(harts: u8, yields: u32) -> Self
+    /// The same, with waits of at most so many yields.
+    pub fn with_patience(harts: u8, yields: u32) -> Self
         ensures { result ≡ harts }
     {
         MeetGate {

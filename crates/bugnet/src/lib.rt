@@ -16,8 +16,6 @@ mod printing;
 mod program;
 mod recording;
 mod refusal;
-#[cfg(test)]
-mod tests;
 mod texts;
 
 pub use answer::{Answer, Reading, Recording, RunEnd};

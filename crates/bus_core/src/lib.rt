@@ -5,8 +5,6 @@ mod bus;
 mod closed;
 mod ends;
 mod serving;
-#[cfg(test)]
-mod tests;
 mod turn;
 
 pub use bus::Bus;

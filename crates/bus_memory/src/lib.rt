@@ -6,7 +6,5 @@ mod first;
 pub mod memory;
 mod page;
 mod range;
-#[cfg(test)]
-mod tests;
 
 pub use memory::Memory;

@@ -10,8 +10,6 @@ mod error;
 mod examples;
 mod found;
 mod reading;
-#[cfg(test)]
-mod tests;
 
 pub use commands::{Command, Recording};
 pub use error::WordsError;

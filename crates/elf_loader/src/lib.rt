@@ -9,8 +9,6 @@ mod flags;
 pub mod laws;
 mod loading;
 mod program_header;
-#[cfg(test)]
-mod tests;
 
 pub use error::ElfError;
 pub use loading::load;

@@ -16,8 +16,6 @@
 pub mod cache;
 pub mod laws;
 pub mod line;
-#[cfg(test)]
-mod tests;
 pub mod warm;
 
 pub use cache::Cache;

@@ -8,8 +8,6 @@ mod page;
 mod pending;
 pub mod replayer;
 mod scan;
-#[cfg(test)]
-mod tests;
 mod words;
 
 pub use error::ReplayError;

@@ -2,7 +2,5 @@
 #![tactic(auto)]
 
 mod fetched;
-#[cfg(test)]
-mod tests;
 
 pub use fetched::Fetched;

@@ -5,8 +5,6 @@ mod choosing;
 mod error;
 mod laws;
 mod runs;
-#[cfg(test)]
-mod tests;
 mod turns;
 
 pub use error::TurnError;

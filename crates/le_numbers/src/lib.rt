@@ -3,8 +3,6 @@
 
 pub mod laws;
 pub mod reading;
-#[cfg(test)]
-mod tests;
 pub mod writing;
 
 pub use reading::{read_u16, read_u32, read_u64};

@@ -2,14 +2,10 @@
 #![tactic(auto)]
 
 pub mod error;
-#[cfg(test)]
-mod first_log;
 pub mod head;
 pub mod laws;
 pub mod reading;
 pub mod splitting;
-#[cfg(test)]
-mod tests;
 pub mod writing;
 
 pub use error::FileError;

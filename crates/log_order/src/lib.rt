@@ -3,8 +3,6 @@
 
 pub mod kept_log;
 pub mod laws;
-#[cfg(test)]
-mod tests;
 pub mod view;
 pub mod walk;
 

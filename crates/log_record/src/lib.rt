@@ -6,8 +6,6 @@ pub mod head;
 pub mod laws;
 pub mod reading;
 pub mod record;
-#[cfg(test)]
-mod tests;
 pub mod writing;
 
 pub use bytes::Bytes;

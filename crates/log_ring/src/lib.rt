@@ -3,7 +3,5 @@
 
 pub mod laws;
 pub mod ring;
-#[cfg(test)]
-mod tests;
 
 pub use ring::Ring;

@@ -155,5 +155,3 @@ impl Shadow {
     }
 }
 
-#[cfg(test)]
-mod tests;

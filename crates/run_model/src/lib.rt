@@ -14,8 +14,6 @@ mod race;
 mod records;
 mod span;
 mod start;
-#[cfg(test)]
-mod tests;
 mod trace;
 mod turning;
 

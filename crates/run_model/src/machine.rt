@@ -19,8 +19,6 @@ ghost use Rattle.run_model.specs.Parts.{MachineParts, IsMachine, IsPlanned, IsSa
 
 mod bytes;
 mod reservations;
-#[cfg(test)]
-mod tests;
 
 use crate::span::{Span, loading, word_count};
 use bn_base::{Addr, HartId, Ic, Image, Settings};

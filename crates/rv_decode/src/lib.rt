@@ -12,8 +12,6 @@ mod instr;
 mod kinds;
 mod laws;
 mod name;
-#[cfg(test)]
-mod tests;
 
 pub use decoding::decode;
 pub use encoding::encode;

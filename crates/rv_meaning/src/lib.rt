@@ -14,13 +14,10 @@ mod replies;
 mod steps;
 mod words;
 
-pub use access::{loaded_value, stored_word};
+pub use access::{is_aligned, loaded_value, stored_word};
 pub use ahead::DecodedImage;
 pub use amo::AmoOp;
 pub use asks::{Ask, Reply, Want};
 pub use interpreter::{quiet_run, quiet_run_in_place};
 pub use laws::{each_ask_is_orderly, each_instruction_is_counted_or_asks, registers_stay_words};
 pub use replies::{absorb, absorb_in_place};
-
-#[cfg(test)]
-mod tests;

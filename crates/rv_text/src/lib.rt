@@ -9,8 +9,6 @@ mod instructions;
 mod names;
 mod operands;
 mod rows;
-#[cfg(test)]
-mod tests;
 mod text;
 
 pub use instructions::write_instr;

@@ -5,8 +5,6 @@
 pub mod effect;
 pub mod kernel;
 mod ranges;
-#[cfg(test)]
-mod tests;
 
 ghost use Rattle.std.specs.Prelude.{◌≡◌, ◌≤◌, ◌<◌, ◌-◌, ◌^◌, ℕ, slice_index};
 ghost use Rattle.bn_base.specs.Programs.{Program};

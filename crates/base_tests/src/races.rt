@@ -1,0 +1,91 @@
+ghost use Rattle.std.specs.Prelude.{◌≡◌, ◌+◌, ◌*◌, ◌<◌, ◌≤◌, ◌^◌, ◌%◌, ℕ, IfOk, OnOk};
+ghost use Rattle.race_log.specs.Stands.{harts_of, next_turn, next_count};
+
+use bn_base::{HartId, Ic, RawSettings, Settings};
+use race_log::Mode::{self, Read, Write};
+use race_log::Shadow;
+use std::alloc::Global;
+use std::process::Abort;
+use std::test::Fail;
+
+// A word's address; the other words follow it.
+const A: u32 = 0x20000;
+
+fn three_harts(rt: &impl Abort, alloc: Global) -> Result<Shadow, Fail>
+    ensures harts { IfOk result (λ s. harts_of s ≡ 3) }
+    ensures turn { IfOk result (λ s. next_turn s ≡ 0) }
+    ensures counts { IfOk result (λ s. (h : ℕ) → next_count s h ≡ 0) }
+{
+    let raw = RawSettings {
+        harts: 3,
+        ..RawSettings::default()
+    };
+    let settings = Settings::checked(&raw).expect(rt, "settings in range");
+    assert_eq!(rt; settings.harts(), 3);
+    Ok(Shadow::new(alloc, &settings)?)
+}
+
+// One access, whose count is above all counts so far, and the sources of the edges into it.
+fn step(
+    rt: &impl Abort,
+    shadow: &mut Shadow,
+    hart: HartId,
+    ic: Ic,
+    turn: u64,
+    first: u32,
+    count: u32,
+    mode: Mode,
+    sources: &[(HartId, Ic)],
+) -> Result<(), Fail>
+    requires hart { hart < harts_of shadow.old }
+    requires ic { ic < 2 ^ 41 }
+    requires aligned { first % 4 ≡ 0 }
+    requires range { first + 4 * count ≤ 2 ^ 32 }
+    requires turns { next_turn shadow.old ≤ turn }
+    requires counts { (h : ℕ) → next_count shadow.old h ≤ ic }
+    ensures harts { harts_of shadow.new ≡ harts_of shadow.old }
+    ensures turn { OnOk result (next_turn shadow.new ≡ turn + 1) }
+    ensures counts { (h : ℕ) → next_count shadow.new h ≤ ic + 1 }
+{
+    shadow.reserve(first, count)?;
+    let edges = shadow.access(hart, ic, turn, first, count, mode);
+    assert_eq!(rt; edges.count(), sources.len());
+    for (i, source) in sources.iter().enumerate() {
+        assert!(rt; edges.get(i) == Some(*source));
+    }
+    assert!(rt; edges.get(sources.len()).is_none());
+    Ok(())
+}
+
+#[test]
+fn a_hart_with_a_lower_count_follows(rt: HostRuntime) -> Result<(), Fail> {
+    let mut shadow = three_harts(&rt, rt.alloc())?;
+    shadow.reserve(A, 2)?;
+    let none = shadow.access(0, 4, 0, A, 2, Write);
+    assert_eq!(rt; none.count(), 0);
+    shadow.reserve(A + 4, 2)?;
+    let one = shadow.access(1, 3, 1, A + 4, 2, Read);
+    assert!(rt; one.get(0) == Some((0, 4)));
+    assert!(rt; shadow.times(1).covers(0, 4));
+    assert!(rt; !shadow.times(0).covers(1, 3));
+    Ok(())
+}
+
+#[test]
+fn three_harts_share_four_words(rt: HostRuntime) -> Result<(), Fail> {
+    let mut shadow = three_harts(&rt, rt.alloc())?;
+    let s = &mut shadow;
+    step(&rt, s, 0, 4, 0, A, 2, Write, &[])?;
+    step(&rt, s, 1, 5, 1, A + 4, 2, Read, &[(0, 4)])?;
+    step(&rt, s, 1, 6, 2, A + 12, 1, Write, &[])?;
+    // The edge from hart 1 implies the one from hart 0.
+    step(&rt, s, 2, 7, 3, A, 4, Read, &[(1, 6)])?;
+    step(&rt, s, 0, 8, 4, A + 4, 2, Write, &[(2, 7)])?;
+    step(&rt, s, 1, 9, 5, A, 1, Read, &[])?;
+    step(&rt, s, 0, 10, 6, A, 1, Write, &[(1, 9)])?;
+    // Two readers, and a writer after both.
+    step(&rt, s, 1, 11, 7, A + 8, 1, Read, &[(0, 8)])?;
+    step(&rt, s, 2, 12, 8, A + 8, 1, Read, &[(0, 8)])?;
+    step(&rt, s, 0, 13, 9, A + 8, 1, Write, &[(2, 12), (1, 11)])?;
+    step(&rt, s, 2, 14, 10, A, 4, Write, &[(0, 13)])
+}

@@ -1,0 +1,110 @@
+ghost use Rattle.std.specs.Prelude.{◌<◌, IsTrue, length};
+ghost use Rattle.log_record.specs.Spelling.{is_marked};
+
+use bn_base::{EndMark, Registers};
+use log_record::{Record, read, size, write};
+use std::process::Abort;
+use std::test::*;
+
+// A record is written as these bytes, and read from them, but not from fewer.
+fn check(rt: &impl Abort, entry: Record, bytes: &[u8])
+    requires marked { IsTrue (is_marked entry) }
+    requires some { 0 < length bytes.now }
+{
+    assert_eq!(rt; write(&entry).as_slice(), bytes);
+    assert_eq!(rt; read(bytes), Some((entry, bytes.len())));
+    assert_eq!(rt; read(&bytes[..bytes.len() - 1]), None);
+    assert_eq!(rt; size(bytes[0]), Some(bytes.len()));
+}
+
+#[test]
+fn records_have_these_bytes(rt: HostRuntime) {
+    let first_load = Record::FirstLoad {
+        hart: 7,
+        skip: 0x0403_0201,
+        value: 0xdead_beef,
+    };
+    check(&rt, first_load, &[2, 7, 1, 2, 3, 4, 0xef, 0xbe, 0xad, 0xde]);
+    check(&rt, Record::ScOk { hart: 5 }, &[3, 5]);
+    check(&rt, Record::ScFailed { hart: 6 }, &[4, 6]);
+    let edge = Record::Edge {
+        hart: 1,
+        ic: 0x0706_0504_0302_0100,
+        from: 2,
+        from_ic: 0x1716_1514_1312_1110,
+    };
+    let bytes = [
+        5, 1, 0, 1, 2, 3, 4, 5, 6, 7, 2, 16, 17, 18, 19, 20, 21, 22, 23,
+    ];
+    check(&rt, edge, &bytes);
+    let mark = EndMark {
+        ic: 3,
+        reason: 3,
+        value: 5,
+    };
+    let end = Record::End { hart: 0, mark };
+    check(&rt, end, &[6, 0, 3, 0, 0, 0, 0, 0, 0, 0, 3, 5, 0, 0, 0]);
+}
+
+// A Header has the number of the interval, the count, the pc and x1 to x31; x0 has no bytes.
+#[test]
+fn headers_leave_x0_out(rt: HostRuntime) {
+    let mut contents = [0; 32];
+    contents[1] = 0x0102;
+    contents[31] = 0x0304;
+    let header = Record::Header {
+        hart: 3,
+        interval: 5,
+        ic: 6,
+        pc: 0x0001_0054,
+        x: Registers::new(contents),
+    };
+    let mut bytes = [0; 146];
+    bytes[0] = 1;
+    bytes[1] = 3;
+    bytes[2] = 5;
+    bytes[10] = 6;
+    bytes[18] = 0x54;
+    bytes[20] = 1;
+    bytes[22] = 2;
+    bytes[23] = 1;
+    bytes[142] = 4;
+    bytes[143] = 3;
+    check(&rt, header, &bytes);
+}
+
+// Which reasons are known, and which of them may have a value other than 0.
+#[test]
+fn reasons_are_these(rt: HostRuntime) {
+    let known = [1, 2, 3, 4, 5, 7, 17, 18, 19, 20, 21, 22, 23, 24, 25];
+    let valued = [2, 3, 4, 17, 19, 20, 21, 22, 23, 24, 25];
+    for reason in 0..=255u8 {
+        let mut bytes = [6, 0, 3, 0, 0, 0, 0, 0, 0, 0, reason, 0, 0, 0, 0];
+        assert_eq!(rt;
+            read(&bytes).is_some(),
+            known.contains(&reason),
+            "reason {reason}"
+        );
+        bytes[14] = 1;
+        assert_eq!(rt;
+            read(&bytes).is_some(),
+            valued.contains(&reason),
+            "reason {reason}, value 2^24"
+        );
+    }
+}
+
+#[test]
+fn no_record_has_another_tag(rt: HostRuntime) {
+    assert_eq!(rt; size(0), None);
+    assert_eq!(rt; size(7), None);
+    assert_eq!(rt; read(&[0; 146]), None);
+    assert_eq!(rt; read(&[7; 146]), None);
+    assert_eq!(rt; read(&[]), None);
+}
+
+// The size of a record in memory, which docs/FORMAT.md states.
+#[test]
+fn records_have_this_size_in_memory(rt: HostRuntime) {
+    assert_eq!(rt; size_of::<Record>(), 160);
+}

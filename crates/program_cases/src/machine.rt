@@ -1,0 +1,58 @@
+// The program on a store whose files stay.
+use bn_outside::{MemorySink, MemorySource, MemoryStore};
+use bugnet::run;
+use std::alloc::{AllocError, Global};
+
+/// What calls of the program meet and leave.
+#[derive(Drop)]
+pub struct Machine {
+    alloc: Global,
+    pub store: MemoryStore,
+    /// The writes of the next call's out that fail.
+    pub failing: Vec<u64>,
+    pub out: MemorySink,
+    pub err: MemorySink,
+}
+
+impl Machine {
+    /// A machine with no file, whose store fails at these of its calls.
+    pub fn new(alloc: Global, failing: Vec<u64>) -> Machine {
+        Machine {
+            alloc,
+            store: MemoryStore::new(alloc, failing),
+            failing: Vec::new(alloc),
+            out: MemorySink::new(alloc, Vec::new(alloc)),
+            err: MemorySink::new(alloc, Vec::new(alloc)),
+        }
+    }
+
+    /// The bytes of a file; none where it isn't there.
+    pub fn file(&self, name: &str) -> Result<Vec<u8>, AllocError> {
+        match self.store.bytes(name) {
+            Some(bytes) => bytes.to_vec(self.alloc),
+            None => Ok(Vec::new(self.alloc)),
+        }
+    }
+
+    /// Runs the program, with empty outputs and no input.
+    pub fn run(&mut self, words: &[&str]) -> Result<u8, AllocError> {
+        let mut owned = Vec::new(self.alloc);
+        owned.push(String::from_str(self.alloc, "bugnet")?)?;
+        for word in words {
+            owned.push(String::from_str(self.alloc, word)?)?;
+        }
+        let failing = self.failing.to_vec(self.alloc)?;
+        self.failing.clear();
+        let mut input = MemorySource::new(Vec::new(self.alloc), Vec::new(self.alloc));
+        self.out = MemorySink::new(self.alloc, failing);
+        self.err = MemorySink::new(self.alloc, Vec::new(self.alloc));
+        Ok(run(
+            self.alloc,
+            &owned,
+            &mut self.store,
+            &mut input,
+            &mut self.out,
+            &mut self.err,
+        ))
+    }
+}
