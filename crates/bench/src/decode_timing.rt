@@ -1,4 +1,5 @@
 // The decoder: words per second.
+use crate::rate::rate_since;
 use rv_decode::decode;
 use std::time::Instant;
 
@@ -37,9 +38,7 @@ fn many(count: u64) -> u64 {
 pub fn decoding(rt: &HostRuntime, count: u64) -> anyhow::Result<()> {
     let clock = Instant::now(rt)?;
     let found = many(count);
-    let micros = clock.elapsed(rt)?.as_micros();
-    let spent = u64::try_from(micros).unwrap_or(u64::MAX).max(1);
-    let rate = count.saturating_mul(1_000_000) / spent;
+    let rate = rate_since(rt, clock, count)?;
     println!(rt; "decode {count} words: {rate} a second, {found} instructions")?;
     Ok(())
 }

@@ -2,6 +2,7 @@
 ghost use Rattle.std.specs.Prelude.{IsTrue};
 ghost use Rattle.log_record.specs.Spelling.{is_marked};
 
+use crate::rate::rate_since;
 use bn_base::{EndMark, RawSettings, Settings};
 use log_file::{read_file, write_file};
 use log_record::{Head, Record, write};
@@ -35,12 +36,6 @@ fn kept(alloc: Global, count: u64) -> Result<Vec<u8>, AllocError> {
     Ok(bytes)
 }
 
-// Bytes per second.
-fn rate(bytes: usize, micros: u128) -> u64 {
-    let spent = u64::try_from(micros).unwrap_or(u64::MAX).max(1);
-    (bytes as u64).saturating_mul(1_000_000) / spent
-}
-
 /// Times the writing and the reading of a log file with so many first loads, 10 bytes each.
 pub fn files(rt: &HostRuntime, count: u64) -> anyhow::Result<()> {
     let raw = RawSettings {
@@ -61,10 +56,10 @@ pub fn files(rt: &HostRuntime, count: u64) -> anyhow::Result<()> {
     };
     let clock = Instant::now(rt)?;
     let file = write_file(rt.alloc(), &head, 1, &records)?;
-    let written = rate(file.len(), clock.elapsed(rt)?.as_micros());
+    let written = rate_since(rt, clock, file.len() as u64)?;
     let clock = Instant::now(rt)?;
     let log = read_file(rt.alloc(), &file);
-    let read = rate(file.len(), clock.elapsed(rt)?.as_micros());
+    let read = rate_since(rt, clock, file.len() as u64)?;
     match log {
         Ok(log) => {
             let found = log.records().len();

@@ -16,6 +16,7 @@ mod decode_timing;
 mod file_timing;
 mod meaning_timing;
 mod race_timing;
+mod rate;
 mod replay_timing;
 mod ring_timing;
 mod serve_timing;

@@ -2,6 +2,7 @@
 ghost use Rattle.std.specs.Prelude.{◌≡◌, ◌≤◌, ◌*◌, IfSome, IsTrue, vec_len};
 ghost use Rattle.rv_meaning.specs.Orderly.{is_reply_to};
 
+use crate::rate::rate_since;
 use bn_base::{HartState, Image, Register, Registers, Segment, Settings};
 use rv_meaning::{DecodedImage, Reply, Want, absorb_in_place, quiet_run_in_place};
 use std::alloc::{AllocError, Global};
@@ -130,10 +131,8 @@ fn new_memory(alloc: Global) -> Result<Vec<u32>, AllocError> {
 
 // Prints how fast a hart came to this state.
 fn tell(rt: &HostRuntime, kind: &str, state: &HartState, clock: Instant) -> anyhow::Result<()> {
-    let micros = clock.elapsed(rt)?.as_micros();
-    let spent = u64::try_from(micros).unwrap_or(u64::MAX).max(1);
     let done = state.ic;
-    let rate = done.saturating_mul(1_000_000) / spent;
+    let rate = rate_since(rt, clock, done)?;
     let sum = sum_of(state);
     println!(rt; "{kind} {done} instructions: {rate} a second, state {sum}")?;
     Ok(())

@@ -2,6 +2,7 @@
 ghost use Rattle.std.specs.Prelude.{◌≡◌, ◌≤◌, ◌<◌, ◌+◌, ◌^◌, ℕ};
 ghost use Rattle.race_log.specs.Stands.{harts_of, next_turn, next_count};
 
+use crate::rate::rate_since;
 use bn_base::{RawSettings, Settings};
 use race_log::{Mode, Shadow};
 use std::alloc::AllocError;
@@ -93,9 +94,7 @@ fn timed(rt: &HostRuntime, harts: u64, accesses: u64, words: u32) -> anyhow::Res
     let mut shadow = Shadow::new(rt.alloc(), &settings)?;
     let clock = Instant::now(rt)?;
     let edges = many(&mut shadow, settings.harts(), accesses, words, 4)?;
-    let micros = clock.elapsed(rt)?.as_micros();
-    let spent = u64::try_from(micros).unwrap_or(u64::MAX).max(1);
-    let rate = accesses.saturating_mul(1_000_000) / spent;
+    let rate = rate_since(rt, clock, accesses)?;
     let used = resident(rt).saturating_sub(before) / words as u64;
     println!(rt;
         "harts {harts} words {words}: {rate} accesses a second, {edges} edges, {used} bytes a word"

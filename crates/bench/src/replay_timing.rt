@@ -3,6 +3,7 @@ ghost use Rattle.std.specs.Prelude.{◌≤◌, IsTrue};
 ghost use Rattle.log_record.specs.Spelling.{is_marked};
 
 use crate::meaning_timing::{MIXED, program, start, sum_of, timed_decoded};
+use crate::rate::rate_since;
 use bn_base::end_mark::LIMIT;
 use bn_base::{Addr, EndMark, RawSettings, Register, Row, Settings};
 use hart_replay::{ReplayError, Replayer};
@@ -123,9 +124,7 @@ fn timed(rt: &HostRuntime, replayer: &mut Replayer, count: u64) -> anyhow::Resul
             None => break,
         }
     }
-    let micros = clock.elapsed(rt)?.as_micros();
-    let spent = u64::try_from(micros).unwrap_or(u64::MAX).max(1);
-    let rate = rows.saturating_mul(1_000_000) / spent;
+    let rate = rate_since(rt, clock, rows)?;
     let sum = sum_of(replayer.state());
     println!(rt; "replay {rows} rows: {rate} a second, told {told}, state {sum}")?;
     Ok(())

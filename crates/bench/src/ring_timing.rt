@@ -2,6 +2,7 @@
 ghost use Rattle.std.specs.Prelude.{◌≡◌, ◌+◌, ◌<◌, ◌^◌, IsTrue, length};
 ghost use Rattle.log_record.specs.Spelling.{is_marked};
 
+use crate::rate::rate_since;
 use log_record::Record;
 use log_ring::Ring;
 use std::time::Instant;
@@ -35,9 +36,7 @@ pub fn records(rt: &HostRuntime, count: u64) -> anyhow::Result<()>
     append_all(&mut ring, &load, FULL);
     let clock = Instant::now(rt)?;
     append_all(&mut ring, &load, count);
-    let micros = clock.elapsed(rt)?.as_micros();
-    let spent = u64::try_from(micros).unwrap_or(u64::MAX).max(1);
-    let rate = count.saturating_mul(1_000_000) / spent;
+    let rate = rate_since(rt, clock, count)?;
     let dropped = ring.dropped();
     println!(rt; "ring {count} first loads: {rate} a second, {dropped} given up")?;
     Ok(())

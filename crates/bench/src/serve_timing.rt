@@ -1,5 +1,6 @@
 // Served asks: how many a second, of one hart and of eight that take turns.
 use crate::meaning_timing::{MIXED, program};
+use crate::rate::rate_since;
 use bn_base::{HartId, RawSettings, Settings};
 use bn_outside::LeanBook;
 use bus_core::Bus;
@@ -49,9 +50,7 @@ fn timed(rt: &HostRuntime, harts: HartId, count: u64) -> anyhow::Result<()> {
     let mut bus = Bus::new(rt.alloc(), &start, LeanBook)?;
     let clock = Instant::now(rt)?;
     serve(&mut bus, &code, harts, count)?;
-    let micros = clock.elapsed(rt)?.as_micros();
-    let spent = u64::try_from(micros).unwrap_or(u64::MAX).max(1);
-    let rate = count.saturating_mul(1_000_000) / spent;
+    let rate = rate_since(rt, clock, count)?;
     let closed = bus.close();
     let kept = closed.ring.len();
     let dropped = closed.ring.dropped();

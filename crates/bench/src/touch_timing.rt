@@ -1,6 +1,7 @@
 // A hart's cache: touches per second, to words that stay and to words that go.
 ghost use Rattle.std.specs.Prelude.{◌≡◌, ◌+◌, ◌<◌, ◌≤◌, ◌^◌};
 
+use crate::rate::rate_since;
 use bn_base::Settings;
 use first_load_bits::{Cache, Warm};
 use std::time::Instant;
@@ -34,9 +35,7 @@ fn timed(rt: &HostRuntime, touches: u64, words: u32) -> anyhow::Result<()>
     let mut cache = Cache::new(rt.alloc(), &settings)?;
     let clock = Instant::now(rt)?;
     let warm = many(&mut cache, touches, words);
-    let micros = clock.elapsed(rt)?.as_micros();
-    let spent = u64::try_from(micros).unwrap_or(u64::MAX).max(1);
-    let rate = touches.saturating_mul(1_000_000) / spent;
+    let rate = rate_since(rt, clock, touches)?;
     println!(rt; "cache {touches} touches of {words} words: {rate} a second, {warm} warm")?;
     Ok(())
 }
