@@ -1,5 +1,5 @@
 -- What a store holds: a map from names to bytes, where the store tells it.
-use Rattle.std.specs.Prelude.{◌≡◌, ◌≢◌, ℕ, ◌<◌, List, length, Option, Some, None, Result, Ok, Err, IsSomeAnd, Vec, ⊤}
+use Rattle.std.specs.Prelude.{◌≡◌, ◌≢◌, ℕ, ◌<◌, ◌≤◌, List, length, Option, Some, None, Result, Ok, Err, IsSomeAnd, Vec, ⊤}
 use Rattle.bn_outside.specs.declared.store.LoadError.{LoadError}
 use Rattle.bn_outside.specs.declared.store.LoadError.TheVariants as load
 
@@ -7,13 +7,14 @@ use Rattle.bn_outside.specs.declared.store.LoadError.TheVariants as load
 abbrev pub Files : Type 0
 Files = List ℕ → Option (List ℕ)
 
--- what the answer of a load with a limit says of the bytes under its name
+-- what the answer of a load with a limit says of the bytes under its name: they are there, aren't, or are too many, and
+-- where memory is wanting they are there and fit the limit
 abbrev pub LoadTells : {A : Type 0} → Option (List ℕ) → ℕ → Result (Vec ℕ A) LoadError → Type 0
 LoadTells there limit (Ok bytes) = there ≡ Some bytes.items
 LoadTells there limit (Err load.Missing) = there ≡ None
 LoadTells there limit (Err load.TooLong) = IsSomeAnd there (λ bytes. limit < length bytes)
 LoadTells there limit (Err load.Failed) = ⊤
-LoadTells there limit (Err load.OutOfMemory) = ⊤
+LoadTells there limit (Err load.OutOfMemory) = IsSomeAnd there (λ bytes. length bytes ≤ limit)
 
 -- a store that told its map before a call tells it after the call too, and the two maps are related
 abbrev pub WhereTold : Option Files → Option Files → (Files → Files → Type 0) → Type 0

@@ -62,8 +62,9 @@ pub fn send_all<K: Sink>(sink: &mut K, text: &[u8]) -> Result<(), Failed>
 
 /// Reads all bytes that a source has left, where they are at most `limit`.
 ///
-/// It stops once more than `limit` bytes have come. `Failed` comes only where a read failed. After
-/// a refusal some of the bytes that were left are gone.
+/// It stops once more than `limit` bytes have come. `Failed` comes only where a read failed, and
+/// memory is wanting only where some bytes were left and some may come. After a refusal some of the
+/// bytes that were left are gone.
 pub fn read_to_end<I: Source>(
     alloc: Global,
     source: &mut I,
@@ -78,6 +79,8 @@ pub fn read_to_end<I: Source>(
     ensures later { I.faults source.old ≤ I.faults source.new }
     ensures cause { result ≡ Err ReadError.Failed →
         Rose (I.faults source.old) (I.faults source.new) }
+    ensures wanting { result ≡ Err ReadError.OutOfMemory →
+        (0 < limit) × IfSome (I.left source.old) (λ left. 0 < length left) }
 {
     let mut bytes = Vec::new(alloc);
     let mut piece = [0u8; PIECE];

@@ -1,5 +1,5 @@
 // A sink in memory.
-ghost use Rattle.std.specs.Prelude.{◌≡◌, ◌≤◌, ◌<◌, ◌++◌, take, min, Some, IfOk, IsErr, OnErr, length};
+ghost use Rattle.std.specs.Prelude.{◌≡◌, ◌≤◌, ◌<◌, ◌++◌, ◌⊎◌, take, min, Some, IfOk, IsErr, OnErr, length};
 ghost use Rattle.bn_outside.specs.Counts.{Rose, counted};
 ghost use Rattle.bn_outside.specs.Calls.{NextFails, after_call};
 ghost use Rattle.bn_outside.specs.InMemory.{empty_sink};
@@ -10,7 +10,7 @@ use std::alloc::Global;
 use std::marker::Model;
 
 /// A sink that keeps what it is given. The writes whose numbers are listed fail; the first write has
-/// the number 1. Beside them a write fails for want of memory alone.
+/// the number 1. Beside them a write fails for want of memory alone, where it has bytes to keep.
 #[derive(Drop)]
 pub struct MemorySink {
     written: Vec<u8>,
@@ -80,6 +80,9 @@ impl Sink for MemorySink {
         // A listed call fails, and one that does not fail takes all that it may.
         ensures listed { NextFails self.old.calls → IsErr result }
         ensures count { IfOk result (λ n. n ≡ min self.old.most (length piece.now)) }
+
+        // A piece with no byte needs no memory.
+        ensures wanting { OnErr result (NextFails self.old.calls ⊎ (0 < length piece.now)) }
 
         // All else stays.
         ensures ok { IfOk result (λ n. self.new ≡ record self.old {

@@ -62,9 +62,9 @@ pub trait Store {
 
     /// The bytes under `name`, where they are at most `limit`.
     ///
-    /// Whatever the answer, the files are as before. `Missing` and `TooLong` are the truth about
-    /// the name where the store tells its files, and each refusal but want of memory comes only in
-    /// a call that counted it.
+    /// Whatever the answer, the files are as before. Where the store tells its files, `Missing` and
+    /// `TooLong` are the truth about the name, and memory is wanting only for bytes that are there
+    /// and fit the limit. Each refusal but want of memory comes only in a call that counted it.
     fn load(&mut self, alloc: Global, name: &str, limit: usize) -> Result<Vec<u8>, LoadError>
         ensures bound { IfOk result (λ bytes. vec_len bytes ≤ limit) }
         ensures told { IfSome (files self.old) (λ known. LoadTells (known name.now) limit result) }

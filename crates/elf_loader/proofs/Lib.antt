@@ -4,4 +4,5 @@ pub mod Laid
 pub mod Memory
 pub mod Order
 pub mod Refused
+pub mod Typed
 pub mod Words

@@ -103,6 +103,11 @@ loaded bytes s headers hs m r f n = rw (refusal_then bytes s headers hs m r, f, 
 pub record IsLoaded (bytes : List ℕ) (s : RawSettings) (p : Program) : Type 0 where
   pub taken : segment_refusal (length bytes) s.memory (segments bytes) ≡ None
   pub program : p ≡ program_of bytes s
+  pub code : starts_outside (program_of bytes s) ≡ false
+
+when_none : (b : Bool) (e : ElfError) → when b e ≡ None → b ≡ false
+when_none true e none = absurd cc
+when_none false e none = refl
 
 unless_ok : (r : Option ElfError) (q p : Program) → unless r q ≡ Ok p → (r ≡ None) × (p ≡ q)
 unless_ok None q p e = (refl, cc)
@@ -115,4 +120,5 @@ is_loaded bytes s p e =
     let after_header = or_both (header_refusal bytes) _ whole.0 in
     let after_table = or_both (when (list_any is_interpreter (table bytes)) NotStatic) _ after_header.1 in
     let after_segments = or_both (segment_refusal (length bytes) s.memory (segments bytes)) _ after_table.1 in
-    record { taken = after_segments.0; program = whole.1 }
+    let after_entry = or_both (when (starts_outside (program_of bytes s)) (EntryOutside (program_of bytes s).entry)) _ after_segments.1 in
+    record { taken = after_segments.0; program = whole.1; code = when_none _ _ after_entry.0 }

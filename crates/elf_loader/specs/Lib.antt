@@ -2,3 +2,4 @@ pub mod Headers
 pub mod Segments
 pub mod Loaded
 pub mod Held
+pub mod Laws

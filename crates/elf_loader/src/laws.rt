@@ -7,6 +7,9 @@ ghost use Rattle.elf_loader.specs.declared.program_header.ProgramHeader.{Program
 ghost use Rattle.elf_loader.specs.Segments.{is_segment, segments, memory_end, touches, share};
 ghost use Rattle.elf_loader.specs.Loaded.{image_of};
 ghost use Rattle.elf_loader.specs.Held.{HoldsSegment, HoldsNothing, highest};
+ghost use Rattle.elf_loader.specs.Laws.{LoadedProgramsAreImages};
+
+use le_numbers::laws::read_numbers_are_written;
 
 /// A segment touches exactly the aligned words that have one of its bytes.
 pub fn segments_touch_the_words_of_their_bytes()
@@ -32,3 +35,12 @@ pub fn memory_holds_nothing_else()
 pub fn heap_begins_after_the_highest_segment()
     ensures { (bytes : List ℕ) (s : RawSettings) (p : Program) → IsSetting s → image_of bytes s ≡ Ok p → heap_start p ≡ (highest (segments bytes) + 4095) / 4096 * 4096 }
 {}
+
+/// The program of a file's bytes is one as its type has it, for settings in range: its segments are
+/// whole aligned words that stand apart in the mapped addresses, its words have 32 bits, and its
+/// entry is the address of a code word.
+pub fn loaded_programs_are_images()
+    ensures { LoadedProgramsAreImages }
+{
+    read_numbers_are_written();
+}

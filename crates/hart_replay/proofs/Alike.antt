@@ -1,5 +1,5 @@
 -- Sides that tell the same have the same to come.
-use Rattle.std.proofs.Common.{◌≡◌, ℕ, zero, suc, ◌+◌, ◌-◌, Bool, true, false, cond, not, Option, Some, None, List, [], ◌∷◌, ◌++◌, take, length, slice_index, refl, sym, subst, ◌∙◌, ap, arith, add_assoc, add-zero}
+use Rattle.std.proofs.Common.{◌≡◌, ℕ, zero, suc, ◌+◌, ◌-◌, Bool, true, false, cond, not, Option, Some, None, List, [], ◌∷◌, take, length, slice_index, refl, sym, subst, ◌∙◌, ap, add_assoc, add-zero}
 use Rattle.std.specs.Prelude.{◌==◌, ◌&&◌, ◌||◌, nat_lt}
 use Rattle.bn_base.specs.Faults.{fault_number}
 use Rattle.bn_base.specs.Programs.{Program}
@@ -9,7 +9,6 @@ use Rattle.bn_base.specs.declared.state.HartState.{HartState}
 use Rattle.rv_meaning.specs.Access.{stored_word, amo_result}
 use Rattle.rv_meaning.specs.Execute.{Step, Quiet, Asks, step, absorbed}
 use Rattle.rv_meaning.specs.Words.{aligned}
-use Rattle.rv_meaning.specs.declared.asks.Ask.{Ask}
 use Rattle.rv_meaning.specs.declared.asks.Want.{Want}
 use Rattle.rv_meaning.specs.declared.asks.Want.TheVariants.{Load, Store, LoadReserved, StoreConditional, Amo, System, Cut, Faulted}
 use Rattle.rv_meaning.specs.declared.asks.Reply.{Reply}
@@ -17,7 +16,7 @@ use Rattle.rv_meaning.specs.declared.asks.Reply.TheVariants.{Word, Stored, Answe
 use Rattle.rv_meaning.specs.declared.asks.Reply.TheVariants as replies
 use Rattle.hart_rows.specs.Rows.{row_of, call_row, fault_row, at_address, known}
 use Rattle.hart_replay.specs.declared.error.ReplayError.TheVariants.{RecordsLeft, EndDiffers, ScMissing}
-use Rattle.hart_replay.specs.Replay.{Outcome, Done, Refused, Replayed, Interval, Position, Next, On, Stop, logged, taken_from, slot, or_else, word_for, missing, after_ask, after_sc, ask_step, one_step, left_over, found, finish, fault_end, ended, call_reason, system_step}
+use Rattle.hart_replay.specs.Replay.{Outcome, Done, Refused, Replayed, Next, On, Stop, logged, taken_from, slot, or_else, word_for, missing, after_ask, after_sc, ask_step, one_step, left_over, found, finish, fault_end, ended, call_reason}
 use Rattle.hart_replay.specs.Coming.{with_rows, without_rows, to_come}
 use Rattle.hart_replay.specs.Sides.{Side, Alike, interval_at, position_at, later}
 

@@ -1,6 +1,6 @@
 -- One instruction, done or asked.
-use Rattle.std.proofs.Common.{◌≡◌, ℕ, ◌+◌, ◌<◌, Bool, true, false, Option, Some, None, List, [], ◌∷◌, refl, sym, ◌∙◌, ap, arith, inl, inr, subst}
-use Rattle.std.specs.Prelude.{◌==◌, ◌&&◌, ◌||◌, ◌⊎◌, not, nat_lt, IsTrue}
+use Rattle.std.proofs.Common.{◌≡◌, ℕ, ◌+◌, ◌<◌, Bool, true, false, Option, Some, None, [], ◌∷◌, refl, sym, ◌∙◌, ap, inl, inr, subst}
+use Rattle.std.specs.Prelude.{◌==◌, ◌&&◌, ◌||◌, ◌⊎◌, not, IsTrue}
 use Rattle.std.proofs.lemmas.Bool.{lt-ltb, false≢true}
 use Rattle.bn_base.specs.Faults.{fault_number}
 use Rattle.bn_base.specs.Programs.{Program}
@@ -18,9 +18,8 @@ use Rattle.hart_rows.specs.declared.fetched.Fetched.{Fetched}
 use Rattle.hart_replay.specs.declared.error.ReplayError.{ReplayError}
 use Rattle.hart_replay.specs.declared.error.ReplayError.TheVariants.{EndDiffers}
 use Rattle.hart_replay.specs.Replay.{Refused, Replayed, Interval, Position, Next, On, Outcome, ended, fault_end, finish, found, left_over, one_step, ask_step}
-use Rattle.hart_replay.specs.Coming.{without_rows}
-use Rattle.hart_replay.specs.Sides.{Side, interval_at, position_at, later, Alike, Does, fault_in, outcome_of}
-use Rattle.std.specs.Prelude.{Result, Ok, Err}
+use Rattle.hart_replay.specs.Sides.{Side, interval_at, position_at, later, Alike, Does, fault_in}
+use Rattle.std.specs.Prelude.{Result, Ok}
 use Rattle.bn_base.specs.declared.end_mark.EndMark.{EndMark}
 
 -- a run of at most one instruction did it, or asks

@@ -1,15 +1,15 @@
 -- An instruction that a replay did is the one that the definition gives.
-use Rattle.std.proofs.Common.{◌≡◌, ℕ, zero, suc, ◌+◌, ◌-◌, ◌*◌, ◌/◌, ◌^◌, ◌<◌, Bool, true, false, cond, Option, Some, None, List, [], ◌∷◌, take, length, if◌then◌else◌, refl, sym, subst, ◌∙◌, ap, arith, inl, inr, add-zero}
-use Rattle.std.specs.Prelude.{◌==◌, Result, Ok, Err, IfOk, IfErr}
+use Rattle.std.proofs.Common.{◌≡◌, ℕ, suc, ◌+◌, ◌-◌, ◌/◌, ◌^◌, ◌<◌, Bool, true, false, Option, Some, None, List, [], ◌∷◌, length, if◌then◌else◌, refl, sym, subst, ◌∙◌, ap, arith, inl, inr, add-zero}
+use Rattle.std.specs.Prelude.{◌==◌, ◌||◌, is_some, Result, Ok, Err, IfOk, IfErr}
 use Rattle.bn_base.specs.Programs.{Program}
 use Rattle.bn_base.specs.declared.end_mark.EndMark.{EndMark}
 use Rattle.bn_base.specs.declared.row.Row.{Row}
 use Rattle.bn_base.specs.declared.state.HartState.{HartState}
-use Rattle.rv_meaning.specs.Access.{stored_word, amo_result}
+use Rattle.rv_meaning.specs.Access.{stored_word}
 use Rattle.rv_meaning.specs.Execute.{absorbed, after, count_up}
 use Rattle.rv_meaning.specs.Words.{aligned}
 use Rattle.rv_meaning.specs.declared.asks.Want.{Want}
-use Rattle.rv_meaning.specs.declared.asks.Want.TheVariants.{Load, Store, LoadReserved, StoreConditional, Amo, System, Cut, Faulted}
+use Rattle.rv_meaning.specs.declared.asks.Want.TheVariants.{Store, StoreConditional}
 use Rattle.rv_meaning.specs.declared.asks.Reply.{Reply}
 use Rattle.rv_meaning.specs.declared.asks.Reply.TheVariants.{Word, Stored}
 use Rattle.rv_meaning.specs.declared.asks.Reply.TheVariants as replies
@@ -20,7 +20,7 @@ use Rattle.hart_replay.specs.declared.error.ReplayError.TheVariants.{LoadMissing
 use Rattle.hart_replay.specs.Replay.{Refused, Next, Stop, logged, taken_from, slot, or_else, word_for, missing, after_ask, after_sc, ask_step}
 use Rattle.hart_replay.specs.Scans.{Pending, due, met, IsWaiting, first_of, rest_of}
 use Rattle.hart_replay.specs.Pages.{Frame, word_at}
-use Rattle.hart_replay.specs.Sides.{Side, Alike, Goes, word_count, rows_below, side, interval_at, position_at, later, word_due, Keeps, Does}
+use Rattle.hart_replay.specs.Sides.{Side, Alike, Goes, word_count, rows_below, side, interval_at, position_at, word_due, Keeps, KeepsWord, Does}
 use Rattle.hart_replay.proofs.Places.{logged-due, logged-met, left-met, slot-first, slot-rest, length-rest}
 use Rattle.hart_replay.proofs.KnownRows.{known_word, known_put}
 use Rattle.hart_replay.proofs.Alike.{moved, tried_once}
@@ -112,11 +112,12 @@ Kept mid new k reply load store told r =
 keep_does : (a : Side) (n : Next) (mid new : Course) (k : Want) (reply : Reply) (load store : Option (ℕ × ℕ)) (told : ℕ × ℕ) (r : Result Row ReplayError)
     → ((row : Row) → row ≡ row_of mid.hart mid.image.now mid.state (after k reply mid.state) load store → Keeps mid.words told new.words → Goes a n row (after k reply mid.state) false (side mid.loads mid.conditionals new.words))
     → (after k reply mid.state).ic ≡ count_up mid.state.ic
+    → KeepsWord n
     → Kept mid new k reply load store told r
     → Does a n mid.state r new.state new.called (side_of new)
-keep_does a n mid new k reply load store told (Ok row) goes up kept =
+keep_does a n mid new k reply load store told (Ok row) goes up tells kept =
     subst (λ (c : Course). Goes a n row c.state c.called (side_of c) × (c.state.ic ≡ count_up mid.state.ic)) (sym kept.0.2) (goes row kept.0.0 kept.0.1, up)
-keep_does a n mid new k reply load store told (Err e) goes up kept = (inr kept.1.0, ap (λ (c : Course). c.state) kept.1.1)
+keep_does a n mid new k reply load store told (Err e) goes up tells kept = (inr (kept.1.0, tells), ap (λ (c : Course). c.state) kept.1.1)
 
 abbrev pub met_course : Course → Course
 met_course c = record c { loads = met c.loads.skipped c.loads.loads }
@@ -125,14 +126,17 @@ pub loading_does : (old mid new : Course) (k : Want) (w x : ℕ) (reply : ℕ �
     → w < 2 ^ 32 → IsWaiting old.loads.skipped old.loads.loads → word_due old.loads (word_at old.words (w / 4)) ≡ Some x → mid ≡ met_course old
     → ((s : HartState) → (after k (reply x) s).ic ≡ count_up s.ic)
     → ((v : ℕ) (o : Option ℕ) → at_address (aligned v) (store x) (at_address (aligned v) (load x) o) ≡ at_address (aligned v) (Some (w, told)) o)
+    → (is_some (load x) || is_some (store x)) ≡ true
     → Kept mid new k (reply x) (load x) (store x) (w, told) r
     → Does (side_of old) (by_word old k w reply load store (word_for (interval_at old.state old.mark (side_of old)) (position_at old.state old.called (side_of old)) w)) old.state r new.state new.called (side_of new)
-loading_does old mid new k w x reply load store told r fits waits is e up words kept =
+loading_does old mid new k w x reply load store told r fits waits is e up words tells kept =
+    let known_now = word_looked_up old.state old.state old.mark old.called old.loads old.conditionals old.words w (Some x) fits waits is in
     keep_does (side_of old) _ (met_course old) new k (reply x) (load x) (store x) (w, told) r
     (λ row same puts. load_goes old.image.now old.hart old.mark old.state old.called old.loads old.conditionals old.words k w x reply load store _ new.words row (after k (reply x) old.state)
-    (word_looked_up old.state old.state old.mark old.called old.loads old.conditionals old.words w (Some x) fits waits is) refl (sym same) waits
+    known_now refl (sym same) waits
     (λ v. words v (known (aligned v) (rows_below old.words word_count)) ∙ known_put old.words new.words w told v fits puts))
     (up old.state)
+    (subst (λ (o : Option ℕ). KeepsWord (by_word old k w reply load store o)) (sym known_now) tells)
     (subst (λ (m : Course). Kept m new k (reply x) (load x) (store x) (w, told) r) e kept)
 
 pub missing_does : (old mid : Course) (k : Want) (w : ℕ) (reply : ℕ → Reply) (load store : ℕ → Option (ℕ × ℕ)) (e : ReplayError)
@@ -151,7 +155,7 @@ storing_does old new w width y r fits full kept =
     subst (λ (b : Bool). Does (side_of old) (elim b as (λ z. Next) [ true ↦ after_ask old.image.now old.hart (position_at old.state old.called (side_of old)) (record { state = old.state; want = Store w width y }) Stored 0 None (Some (w, y)) | false ↦ by_word old (Store w width y) w (λ z. Stored) (λ z. None) (λ z. Some (w, stored_word w width y z)) (word_for (interval_at old.state old.mark (side_of old)) (position_at old.state old.called (side_of old)) w) ]) old.state r new.state new.called (side_of new)) (sym full)
     (keep_does (side_of old) (after_ask old.image.now old.hart (position_at old.state old.called (side_of old)) (record { state = old.state; want = Store w width y }) Stored 0 None (Some (w, y))) old new (Store w width y) Stored None (Some (w, y)) (w, y) r
     (λ row same puts. (refl, refl, ap (λ (z : Row). z ∷ []) (sym same), store_alike old.loads old.conditionals old.words new.words (row_of old.hart old.image.now old.state (after (Store w width y) Stored old.state) None (Some (w, y))) (λ v. known_put old.words new.words w y v fits puts)))
-    refl kept)
+    refl refl kept)
 
 -- a store of a part of a word
 pub part_does : (old : Course) (w width y : ℕ) (s : HartState) (r : Result Row ReplayError) (t : HartState) (called : Bool) (b : Side) → (width == 4) ≡ false
@@ -171,5 +175,6 @@ trying_does old mid new w rd y r fits is e kept =
     subst (λ (o : Option Bool). Does (side_of old) (elim o as (λ z. Next) [ None ↦ Stop (Refused (ScMissing old.hart old.state.ic)) | Some g ↦ after_sc old.image.now old.hart (position_at old.state old.called (side_of old)) (record { state = old.state; want = StoreConditional w rd y }) g w y ]) old.state r new.state new.called (side_of new)) (sym (slot-first old.conditionals ∙ is))
     (keep_does (side_of old) (after_sc old.image.now old.hart (position_at old.state old.called (side_of old)) (record { state = old.state; want = StoreConditional w rd y }) true w y) (tried_course old) new (StoreConditional w rd y) replies.ScOk None (Some (w, y)) (w, y) r
     (λ row same puts. (refl, refl, ap (λ (z : Row). z ∷ []) (sym same), try_alike old.loads old.conditionals old.words new.words (row_of old.hart old.image.now old.state (after (StoreConditional w rd y) replies.ScOk old.state) None (Some (w, y))) (λ v. known_put old.words new.words w y v fits puts)))
+    refl
     refl
     (subst (λ (m : Course). Kept m new (StoreConditional w rd y) replies.ScOk None (Some (w, y)) (w, y) r) e kept))

@@ -16,9 +16,9 @@ use Rattle.rv_meaning.specs.declared.asks.Reply.TheVariants.{Word, Stored, Answe
 use Rattle.rv_meaning.specs.declared.asks.Reply.TheVariants as replies
 use Rattle.hart_rows.specs.Rows.{row_of, call_row, fault_row}
 use Rattle.hart_replay.specs.declared.error.ReplayError.TheVariants.{EndDiffers, ScMissing}
-use Rattle.hart_replay.specs.Replay.{Outcome, Refused, Replayed, Interval, Position, Next, On, Stop, slot, word_for, missing, after_ask, after_sc, ask_step, one_step, found, call_reason, steps, finish, onto, left_over, fault_end, ended, first, interval_from, Logged, puts, nothing, interval_of, replayed, replayed_in}
-use Rattle.hart_replay.specs.Coming.{after_row, reply_in, with_rows, without_rows, to_come, over, Replaying, Begins}
-use Rattle.hart_replay.specs.Sides.{Side, Alike, Goes, interval_at, position_at, later, side, side_to_come, left_by, Does}
+use Rattle.hart_replay.specs.Replay.{Outcome, Refused, Replayed, Interval, Position, Next, On, Stop, missing, after_ask, after_sc, ask_step, one_step, found, call_reason, steps, finish, onto, left_over, fault_end, ended, first, interval_from, Logged, puts, nothing, interval_of, replayed_in}
+use Rattle.hart_replay.specs.Coming.{after_row, reply_in, with_rows, without_rows, to_come, over, Replaying, Begins, a_word_comes}
+use Rattle.hart_replay.specs.Sides.{Side, Goes, interval_at, position_at, later, side, side_to_come, left_by, KeepsWord, Does}
 use Rattle.std.specs.Borrow.{Bor}
 use Rattle.std.specs.Prelude.{Result, Ok, Err, drop, ◌⊎◌}
 use Rattle.std.proofs.Common.{inl, inr}
@@ -63,6 +63,22 @@ pub stopped : (i : Program) (h : ℕ) (m : EndMark) (s : HartState) (c : Bool) (
 stopped i h m s c a o lt e =
     let count : m.ic - s.ic ≡ suc (m.ic - s.ic - 1) = omega (arith, lt) in
     ap (λ n. to_come i h (interval_at s m a) n (position_at s c a)) count ∙ stop_only i h (m.ic - s.ic - 1) (interval_at s m a) _ o e
+
+-- where the next row tells a word, the first row that is to come does
+keeps_first : (i : Program) (h n : ℕ) (v : Interval) (x : Next) → KeepsWord x
+    → a_word_comes (elim x as (λ u. Replayed) [ On q ↦ with_rows (take 1 q.rows) (to_come i h v n q) | Stop o ↦ record { rows = []; outcome = o } ]).rows ≡ true
+keeps_first i h n v (Stop o) tells = absurd tells
+keeps_first i h n v (On q) tells = by_rows q.rows tells (to_come i h v n q).rows
+  where
+    by_rows : (rs : List Row) → a_word_comes rs ≡ true → (more : List Row) → a_word_comes (take 1 rs ++ more) ≡ true
+    by_rows [] none more = absurd cc
+    by_rows (r ∷ rs) tells more = tells
+
+pub kept_first : (i : Program) (h : ℕ) (m : EndMark) (s : HartState) (c : Bool) (a : Side) → s.ic < m.ic
+    → KeepsWord (one_step i h (interval_at s m a) (position_at s c a)) → a_word_comes (side_to_come i h m s c a).rows ≡ true
+kept_first i h m s c a lt tells =
+    let count : m.ic - s.ic ≡ suc (m.ic - s.ic - 1) = omega (arith, lt) in
+    ap (λ n. a_word_comes (to_come i h (interval_at s m a) n (position_at s c a)).rows) count ∙ keeps_first i h (m.ic - s.ic - 1) (interval_at s m a) _ tells
 
 -- at the mark's count the end is to come
 pub at_end : (i : Program) (h : ℕ) (m : EndMark) (s : HartState) (c : Bool) (a : Side) → m.ic ≤ s.ic → side_to_come i h m s c a ≡ to_come i h (interval_at s m a) 0 (position_at s c a)
@@ -280,15 +296,27 @@ stepped_on o n ended now row view none lt fits does same =
 pub stepped_out : (o n : Course) (ended : Option (Result (Unit {0}) ReplayError)) (now : Replaying) (e : ReplayError) → seen_as o ended ≡ now → ended ≡ None → o.state.ic < o.mark.ic
     → Does (side_of o) (one_step o.image.now o.hart (interval_at o.state o.mark (side_of o)) (position_at o.state o.called (side_of o))) o.state (Err e) n.state n.called (side_of n) → SamePlan o n
     → ((now.left ≡ over (Refused e)) ⊎ (e ≡ OutOfMemory)) × (◌≡◌ {A = Replaying} (record { program = n.image.now; state = n.state; left = over (Refused e) }) (record { program = now.program; state = now.state; left = over (Refused e) }))
+    × ((now.left ≡ over (Refused e)) ⊎ (a_word_comes now.left.rows ≡ true))
 stepped_out o n ended now e view none lt does same =
-    subst (λ (r : Replaying). ((r.left ≡ over (Refused e)) ⊎ (e ≡ OutOfMemory)) × (◌≡◌ {A = Replaying} (record { program = n.image.now; state = n.state; left = over (Refused e) }) (record { program = r.program; state = r.state; left = over (Refused e) }))) view (
+    subst (λ (r : Replaying). ((r.left ≡ over (Refused e)) ⊎ (e ≡ OutOfMemory)) × (◌≡◌ {A = Replaying} (record { program = n.image.now; state = n.state; left = over (Refused e) }) (record { program = r.program; state = r.state; left = over (Refused e) })) × ((r.left ≡ over (Refused e)) ⊎ (a_word_comes r.left.rows ≡ true))) view (
       by_answer does.0,
       ap (λ (b : Bor Program). record { program = b.now; state = n.state; left = over (Refused e) }) same.0 ∙ ap (λ (s : HartState). record { program = o.image.now; state = s; left = over (Refused e) }) does.1,
+      by_row does.0,
     )
   where
-    by_answer : (one_step o.image.now o.hart (interval_at o.state o.mark (side_of o)) (position_at o.state o.called (side_of o)) ≡ Stop (Refused e)) ⊎ (e ≡ OutOfMemory) → (left_by ended (course_to_come o) ≡ over (Refused e)) ⊎ (e ≡ OutOfMemory)
-    by_answer (inl a) = inl (ap (λ (x : Option (Result (Unit {0}) ReplayError)). left_by x (course_to_come o)) none ∙ stopped o.image.now o.hart o.mark o.state o.called (side_of o) (Refused e) lt a)
-    by_answer (inr a) = inr a
+    next : Next
+    next = one_step o.image.now o.hart (interval_at o.state o.mark (side_of o)) (position_at o.state o.called (side_of o))
+
+    all : left_by ended (course_to_come o) ≡ course_to_come o
+    all = ap (λ (x : Option (Result (Unit {0}) ReplayError)). left_by x (course_to_come o)) none
+
+    by_answer : (next ≡ Stop (Refused e)) ⊎ ((e ≡ OutOfMemory) × KeepsWord next) → (left_by ended (course_to_come o) ≡ over (Refused e)) ⊎ (e ≡ OutOfMemory)
+    by_answer (inl a) = inl (all ∙ stopped o.image.now o.hart o.mark o.state o.called (side_of o) (Refused e) lt a)
+    by_answer (inr a) = inr a.0
+
+    by_row : (next ≡ Stop (Refused e)) ⊎ ((e ≡ OutOfMemory) × KeepsWord next) → (left_by ended (course_to_come o) ≡ over (Refused e)) ⊎ (a_word_comes (left_by ended (course_to_come o)).rows ≡ true)
+    by_row (inl a) = inl (all ∙ stopped o.image.now o.hart o.mark o.state o.called (side_of o) (Refused e) lt a)
+    by_row (inr a) = inr (ap (λ (x : Replayed). a_word_comes x.rows) all ∙ kept_first o.image.now o.hart o.mark o.state o.called (side_of o) lt a.1)
 
 -- it begins
 pub begins : (i : Program) (h c : ℕ) (records rs : List Record) (start : Start) (m : EndMark) (lo : Pending) (co : List Bool) (pages : List (ℕ × Frame)) → rs ≡ records

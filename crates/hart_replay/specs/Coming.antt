@@ -1,7 +1,6 @@
 -- What is still to come of a replay, and what of it a caller sees.
-use Rattle.std.specs.Prelude.{◌≡◌, ℕ, zero, suc, ◌+◌, ◌-◌, ◌*◌, ◌^◌, ◌⊎◌, Bool, List, [], ◌∷◌, ◌++◌, take, length, Option, Some, None, Result, Ok, Err}
+use Rattle.std.specs.Prelude.{◌≡◌, ℕ, zero, suc, ◌⊎◌, ◌||◌, Bool, true, false, List, [], ◌∷◌, ◌++◌, take, Option, Some, None, is_some, Result, Ok, Err}
 use Rattle.bn_base.specs.Programs.{Program}
-use Rattle.bn_base.specs.declared.end_mark.EndMark.{EndMark}
 use Rattle.bn_base.specs.declared.row.Row.{Row}
 use Rattle.bn_base.specs.declared.state.HartState.{HartState}
 use Rattle.rv_meaning.specs.Execute.{Quiet, Asks, step, absorbed}
@@ -11,8 +10,8 @@ use Rattle.rv_meaning.specs.declared.asks.Reply.{Reply}
 use Rattle.rv_meaning.specs.declared.asks.Reply.TheVariants.{Word, Stored, ScOk, ScFailed, Answer, Over}
 use Rattle.log_record.specs.declared.record.Record.{Record}
 use Rattle.hart_replay.specs.declared.error.ReplayError.{ReplayError}
-use Rattle.hart_replay.specs.declared.error.ReplayError.TheVariants.{NoInterval, OutOfMemory}
-use Rattle.hart_replay.specs.Replay.{Outcome, Done, Refused, Replayed, Interval, Position, Next, On, Stop, one_step, ended, interval_of, replayed}
+use Rattle.hart_replay.specs.declared.error.ReplayError.TheVariants.{OutOfMemory}
+use Rattle.hart_replay.specs.Replay.{Outcome, Done, Refused, Replayed, Interval, Position, On, Stop, one_step, ended, interval_of, replayed}
 
 -- ---- the state by the rows
 
@@ -80,9 +79,18 @@ pub record Begins (i : Program) (h c : ℕ) (records : List Record) (r : Replayi
   pub state : r.state ≡ interval.start
   pub left : r.left ≡ replayed i records h c
 
+-- whether a row tells a word of memory, which the replay keeps
+abbrev pub tells_word : Row → Bool
+tells_word r = is_some r.load || is_some r.store
+
+-- whether the first of some rows does
+abbrev pub a_word_comes : List Row → Bool
+a_word_comes [] = false
+a_word_comes (r ∷ rs) = tells_word r
+
 -- what a step does: it gives the first row that is left, or none where the replay is done, or the outcome; want of memory
--- may come at any row
+-- may come instead, but only where the first row that is left tells a word
 abbrev pub Stepped : Replaying → Result (Option Row) ReplayError → Replaying → Type 0
 Stepped old (Ok None) new = (old.left ≡ over Done) × (new ≡ old)
 Stepped old (Ok (Some row)) new = (old.left ≡ with_rows (row ∷ []) new.left) × (new.state ≡ after_row old.program old.state row) × (new.program ≡ old.program)
-Stepped old (Err e) new = ((old.left ≡ over (Refused e)) ⊎ (e ≡ OutOfMemory)) × (new ≡ record old { left = over (Refused e) })
+Stepped old (Err e) new = ((old.left ≡ over (Refused e)) ⊎ (e ≡ OutOfMemory)) × (new ≡ record old { left = over (Refused e) }) × ((old.left ≡ over (Refused e)) ⊎ (a_word_comes old.left.rows ≡ true))

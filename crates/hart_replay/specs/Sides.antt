@@ -1,12 +1,12 @@
 -- What a replay knows from its log and its rows, and when two such sides tell the same.
-use Rattle.std.specs.Prelude.{◌≡◌, ℕ, zero, suc, ◌+◌, ◌-◌, ◌*◌, ◌/◌, ◌^◌, ◌≤◌, ◌==◌, ◌⊎◌, if◌then◌else◌, Bool, true, false, List, [], ◌∷◌, take, length, Option, Some, None, Result, Ok, Err}
+use Rattle.std.specs.Prelude.{◌≡◌, ℕ, zero, suc, ◌+◌, ◌-◌, ◌*◌, ◌/◌, ◌^◌, ◌==◌, ◌⊎◌, if◌then◌else◌, Bool, true, false, List, [], ◌∷◌, take, length, Option, Some, None, Result, Ok, Err}
 use Rattle.bn_base.specs.Programs.{Program}
 use Rattle.bn_base.specs.declared.end_mark.EndMark.{EndMark}
 use Rattle.bn_base.specs.declared.row.Row.{Row}
 use Rattle.bn_base.specs.declared.state.HartState.{HartState}
 use Rattle.rv_meaning.specs.Execute.{count_up}
 use Rattle.rv_meaning.specs.Words.{aligned}
-use Rattle.hart_rows.specs.Rows.{at_address, known}
+use Rattle.hart_rows.specs.Rows.{known}
 use Rattle.bn_base.specs.declared.fault.Fault.{Fault}
 use Rattle.rv_meaning.specs.declared.asks.Reply.{Reply}
 use Rattle.rv_meaning.specs.declared.asks.Reply.TheVariants.{Answer, Over}
@@ -17,7 +17,7 @@ use Rattle.hart_replay.specs.declared.error.ReplayError.TheVariants.{OutOfMemory
 use Rattle.hart_replay.specs.Replay.{Outcome, Done, Refused, Replayed, Interval, Position, Next, On, Stop, logged, taken_from, slot, or_else}
 use Rattle.hart_replay.specs.Scans.{Pending, due}
 use Rattle.hart_replay.specs.Pages.{Frame, word_at}
-use Rattle.hart_replay.specs.Coming.{over, to_come}
+use Rattle.hart_replay.specs.Coming.{over, to_come, a_word_comes}
 
 -- the log's part, with how much of it is met, and the rows
 pub record Side : Type 0 where
@@ -88,10 +88,16 @@ abbrev pub rows_of : Option Row → List Row
 rows_of None = []
 rows_of (Some row) = row ∷ []
 
--- an instruction at state s did what the definition says: it went on with a row, or stopped; want of memory may come instead
+-- the next instruction is done, and its row tells a word
+abbrev pub KeepsWord : Next → Type 0
+KeepsWord (On q) = a_word_comes q.rows ≡ true
+KeepsWord (Stop o) = ⊥
+
+-- an instruction at state s did what the definition says: it went on with a row, or stopped; want of memory may come
+-- instead of a row that tells a word, and of nothing else
 abbrev pub Does : Side → Next → HartState → Result Row ReplayError → HartState → Bool → Side → Type 0
 Does a n s (Ok row) t called b = Goes a n row t called b × (t.ic ≡ count_up s.ic)
-Does a n s (Err e) t called b = ((n ≡ Stop (Refused e)) ⊎ (e ≡ OutOfMemory)) × (t ≡ s)
+Does a n s (Err e) t called b = ((n ≡ Stop (Refused e)) ⊎ ((e ≡ OutOfMemory) × KeepsWord n)) × (t ≡ s)
 
 abbrev pub IsSystem : Want → Type 0
 IsSystem (Load a w s rd) = ⊥

@@ -1,6 +1,6 @@
 //! The replay of one interval, row by row.
-ghost use Rattle.std.specs.Prelude.{◌≡◌, ◌⊎◌, None, IfOk, IfErr};
-ghost use Rattle.hart_replay.specs.declared.error.ReplayError.TheVariants.{NoInterval, OutOfMemory};
+ghost use Rattle.std.specs.Prelude.{◌≡◌, None, IfOk, IfErr};
+ghost use Rattle.hart_replay.specs.declared.error.ReplayError.TheVariants.{NoInterval};
 ghost use Rattle.hart_replay.specs.Replay.{interval_of};
 ghost use Rattle.hart_replay.specs.Coming.{Begins, Stepped};
 
@@ -39,7 +39,7 @@ impl<'a> Model for Replayer<'a> {
 
 impl<'a> Replayer<'a> {
     /// The replay of an interval of a hart, before its first row. NoInterval comes exactly where the
-    /// log keeps no Header of that hart and interval.
+    /// log keeps no Header of that hart and interval, and no other error: no memory is taken yet.
     pub fn begin(
         alloc: Global,
         image: &'a Image,
@@ -48,7 +48,7 @@ impl<'a> Replayer<'a> {
         interval: u64,
     ) -> Result<Replayer<'a>, ReplayError>
         ensures begins { IfOk result (λ r. Begins image.now hart interval log.now.records r) }
-        ensures refused { IfErr result (λ e. ((e ≡ NoInterval hart interval) × (interval_of hart interval log.now.records ≡ None)) ⊎ (e ≡ OutOfMemory)) }
+        ensures refused { IfErr result (λ e. (e ≡ NoInterval hart interval) × (interval_of hart interval log.now.records ≡ None)) }
     {
         let records = log.records();
         match find(hart, interval, records) {
@@ -73,8 +73,9 @@ impl<'a> Replayer<'a> {
     ///
     /// The errors are those of the definition, and come after the rows before them: a word that
     /// neither the log nor an earlier row tells, a store-conditional without a record, an end that
-    /// isn't the log's, and records that are left. OutOfMemory may come at any row. After `None` or
-    /// an error it answers the same again, and the state stays.
+    /// isn't the log's, and records that are left. OutOfMemory comes only in place of a row that
+    /// tells a word of memory, which is kept. After `None` or an error it answers the same again, and
+    /// the state stays.
     pub fn step(&mut self) -> Result<Option<Row>, ReplayError>
         ensures { Stepped self.old result self.new }
     {

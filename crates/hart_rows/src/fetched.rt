@@ -3,7 +3,7 @@ ghost use Rattle.std.specs.Prelude.{◌≡◌, ℕ};
 ghost use Rattle.bn_base.specs.Programs.{Program};
 ghost use Rattle.bn_base.specs.declared.state.HartState.{HartState};
 ghost use Rattle.hart_rows.specs.Rows.{instruction_in, row_of, call_row, fault_row};
-ghost use Rattle.hart_rows.specs.Lookups.{destination, written_to, fetched};
+ghost use Rattle.hart_rows.specs.Lookups.{destination, written_to, fetched, done_row, called_row, faulted_row};
 
 use bn_base::{Addr, Fault, HartId, HartState, Ic, Image, Register, Registers, Row};
 use rv_decode::decode;
@@ -60,7 +60,8 @@ impl Fetched {
     /// Its row once it is done, by the registers after it and the words that it loaded and stored:
     /// byte addresses, with the whole aligned words.
     pub fn row(&self, x: &Registers, load: Option<(Addr, u32)>, store: Option<(Addr, u32)>) -> Row
-        ensures { (h : ℕ) (i : Program) (before after : HartState) → self.now ≡ fetched h i before → x.now ≡ after.x → result ≡ row_of h i before after load store }
+        ensures fields { result ≡ done_row self.now x.now load store }
+        ensures looked_up { (h : ℕ) (i : Program) (before after : HartState) → self.now ≡ fetched h i before → x.now ≡ after.x → result ≡ row_of h i before after load store }
     {
         Row {
             hart: self.hart,
@@ -76,7 +77,8 @@ impl Fetched {
 
     /// Its row as a system call, with the register that the call wrote: a0 where it goes on.
     pub fn call_row(&self, reg: Option<(Register, u32)>) -> Row
-        ensures { (h : ℕ) (i : Program) (before : HartState) → self.now ≡ fetched h i before → result ≡ call_row h i before reg }
+        ensures fields { result ≡ called_row self.now reg }
+        ensures looked_up { (h : ℕ) (i : Program) (before : HartState) → self.now ≡ fetched h i before → result ≡ call_row h i before reg }
     {
         Row {
             hart: self.hart,
@@ -92,7 +94,8 @@ impl Fetched {
 
     /// Its row where it faults.
     pub fn fault_row(&self, kind: Fault, value: u32) -> Row
-        ensures { (h : ℕ) (i : Program) (before : HartState) → self.now ≡ fetched h i before → result ≡ fault_row h i before kind value }
+        ensures fields { result ≡ faulted_row self.now kind value }
+        ensures looked_up { (h : ℕ) (i : Program) (before : HartState) → self.now ≡ fetched h i before → result ≡ fault_row h i before kind value }
     {
         Row {
             hart: self.hart,

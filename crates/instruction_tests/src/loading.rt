@@ -256,6 +256,13 @@ fn errors_say_what_is_wrong(rt: HostRuntime) -> Result<(), Fail> {
             ElfError::EntryOutside { entry: 0x10056 },
             "the entry 00010056 is no code",
         ),
+        (
+            ElfError::SegmentsTouch {
+                first: 1,
+                second: 2,
+            },
+            "segments 1 and 2 touch",
+        ),
     ];
     for (error, text) in texts {
         assert_eq!(rt; format!(in rt.alloc(); "{error}")?.as_str(), text);

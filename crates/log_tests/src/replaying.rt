@@ -456,3 +456,55 @@ fn the_state_is_that_after_the_rows(rt: HostRuntime) {
     assert_eq!(rt; replayer.state().ic, 1);
     assert_eq!(rt; replayer.state().x.get(Register::new(10)), 5);
 }
+
+// Each error with its text.
+const TEXTS: [(ReplayError, &str); 6] = [
+    (
+        ReplayError::NoInterval {
+            hart: 3,
+            interval: 7,
+        },
+        "no interval 7 of hart 3",
+    ),
+    (
+        ReplayError::LoadMissing {
+            hart: 3,
+            ic: 7,
+            addr: 0x10056,
+        },
+        "hart 3 at 7: no word for address 00010056",
+    ),
+    (
+        ReplayError::ScMissing { hart: 3, ic: 7 },
+        "hart 3 at 7: no record of a store-conditional",
+    ),
+    (
+        ReplayError::RecordsLeft { hart: 3, left: 7 },
+        "hart 3: 7 records left",
+    ),
+    (
+        ReplayError::EndDiffers {
+            hart: 3,
+            said: EndMark {
+                ic: 7,
+                reason: 1,
+                value: 0,
+            },
+            found: EndMark {
+                ic: 8,
+                reason: 2,
+                value: 9,
+            },
+        },
+        "hart 3: another end",
+    ),
+    (ReplayError::OutOfMemory, "out of memory"),
+];
+
+#[test]
+fn errors_say_what_is_wrong(rt: HostRuntime) -> Result<(), AllocError> {
+    for (error, text) in TEXTS {
+        assert_eq!(rt; format!(in rt.alloc(); "{error}")?.as_str(), text);
+    }
+    Ok(())
+}

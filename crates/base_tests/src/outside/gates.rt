@@ -58,6 +58,47 @@ fn harts_meet_before_one_passes(rt: HostRuntime) -> Result<(), Fail> {
     Ok(())
 }
 
+// One pass of a hart, which is counted once it is let pass.
+fn pass_counted(gate: &MeetGate, hart: HartId, passed: &AtomicU64) {
+    gate.pass(hart);
+    passed.fetch_add(1, Ordering::SeqCst);
+}
+
+// Waits until a pass is counted, and then lets hart 1 come: whether all had met before it came.
+fn come_last(gate: &MeetGate, passed: &AtomicU64) -> bool {
+    for _ in 0..10_000_000 {
+        if passed.load(Ordering::SeqCst) > 0 {
+            break;
+        }
+        thread::yield_now();
+    }
+    let met = gate.met();
+    gate.pass(1);
+    met
+}
+
+#[test]
+fn a_hart_that_comes_twice_is_one(rt: HostRuntime) -> Result<(), Fail> {
+    let gate = MeetGate::new(2);
+    let passed = AtomicU64::new(0);
+    let met = thread::map_indices(
+        &rt,
+        rt.alloc(),
+        3,
+        &|worker| {
+            if worker == 2 {
+                return come_last(&gate, &passed);
+            }
+            pass_counted(&gate, 0, &passed);
+            false
+        },
+    )?;
+    assert!(rt; met.iter().all(|met| !*met));
+    assert!(rt; gate.met());
+    assert_eq!(rt; passed.load(Ordering::SeqCst), 2);
+    Ok(())
+}
+
 #[test]
 fn harts_that_come_late_have_not_met(rt: HostRuntime) {
     let digits = AtomicU64::new(0);

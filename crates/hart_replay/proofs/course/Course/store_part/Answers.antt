@@ -9,7 +9,7 @@ pub returns-in-Ok-clause-answer : goal.returns-in-Ok-clause-answer
 returns-in-Ok-clause-answer c =
     let w = c.args.addr in
     part_does c.args.self.now w c.args.width c.args.value c.args.self.now.state c.keep.result c.keep.new.self.state c.keep.new.self.called (side_of c.keep.new.self) c.requires.part (loading_does c.args.self.now c.load_word.new.self c.keep.new.self (Store w c.args.width c.args.value) w c.in-Ok.word (λ x. Stored) (λ x. None) (λ x. Some (w, stored_word w c.args.width c.args.value x)) (stored_word w c.args.width c.args.value c.in-Ok.word) c.keep.result
-    (omega (arith, c.ranges.addr.fits)) c.in-Ok.ensures.waits c.in-Ok.ensures.ok c.in-Ok.ensures.rest (λ s. refl) (λ v o. refl) (subst (λ (z : ℕ). Kept c.load_word.new.self c.keep.new.self (Store w c.args.width c.args.value) Stored None (Some (w, z)) (w, z) c.keep.result) c.stored_word.ensures (c.keep.ensures.ok, c.keep.ensures.err)))
+    (omega (arith, c.ranges.addr.fits)) c.in-Ok.ensures.waits c.in-Ok.ensures.ok c.in-Ok.ensures.rest (λ s. refl) (λ v o. refl) refl (subst (λ (z : ℕ). Kept c.load_word.new.self c.keep.new.self (Store w c.args.width c.args.value) Stored None (Some (w, z)) (w, z) c.keep.result) c.stored_word.ensures (c.keep.ensures.ok, c.keep.ensures.err)))
 
 pub returns-in-Err-clause-answer : goal.returns-in-Err-clause-answer
 returns-in-Err-clause-answer c =
