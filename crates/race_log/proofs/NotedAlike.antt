@@ -2,7 +2,7 @@
 use Rattle.std.proofs.Common.{◌≡◌, ℕ, zero, suc, ◌<◌, Bool, true, false, List, [], ◌∷◌, map, ◌⊎◌, inl, inr, refl, sym, ◌∙◌, ap, subst}
 use Rattle.std.specs.Prelude.{Option, Some, None, slice_get, slice_index, cond, nat_eq, All, Vec}
 use Rattle.std.specs.Global.{Global}
-use Rattle.std.specs.HashMap.{get}
+use Rattle.std.specs.Map.{lookup}
 use Rattle.vector_time.specs.declared.times.Times.{Times}
 use Rattle.vector_time.specs.Times.{counts_in}
 use Rattle.race_log.specs.declared.shadow.Shadow.{Shadow}
@@ -48,10 +48,10 @@ kept_by true v o p e = refl
 kept_by false v o p e = e
 
 kept_same : (words : KeptWords) (word : ℕ) → map noted_access (kept_in words word) ≡ found (look (nat_eq word) (map noted_word (entries_of words)))
+unfolding found look
 kept_same words word = over words.words.entries
   where
     over : (es : List (ℕ × Vec Kept Global)) → map noted_access (items_of (lookup (nat_eq word) es)) ≡ found (look (nat_eq word) (map noted_word (map (λ (e : ℕ × Vec Kept Global). (e.0, e.1.items)) es)))
-    unfolding found look
     over [] = refl
     over (e ∷ es) = kept_by (nat_eq word e.0) e.1 (lookup (nat_eq word) es) (look (nat_eq word) (map noted_word (map (λ (e : ℕ × Vec Kept Global). (e.0, e.1.items)) es))) (over es)
 

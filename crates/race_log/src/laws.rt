@@ -115,7 +115,6 @@ pub fn known_accesses_may_go()
 {}
 
 /// What a shadow notes decides for which runs it stands.
-#[tactic(auto, using(crate::proofs::NotedAlike::notes))]
 pub fn notes_decide()
     ensures { NotesDecide }
 {}
