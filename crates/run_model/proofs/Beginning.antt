@@ -36,14 +36,14 @@ empty_is log size e none = record { holds = subst (λ (r : Held). Holds r []) (s
 pub trace_begins : (c : RawSettings) (i : Program) (n : ℕ) (old : Log) (t : Trace) (input : List ℕ) → n ≡ c.harts → AreFirst c i n old t.harts.items t.log → IsLog old [] → AreCaches c t.caches (λ k. []) → Stands [] everyone t.shadow
     → IsTrace c t (start c i input)
 trace_begins c i n old t input e first empty caches shadow =
-  let log : IsLog t.log (first_headers c i 0 c.harts) = subst (λ (m : ℕ). IsLog t.log (first_headers c i 0 m)) e (first.log [] empty) in
-  record {
-  harts = first.each;
-  caches = caches;
-  shadow = shadow;
-  log = log;
-  bytes = log.bytes ∙ headers_have c i 0 c.harts;
-}
+    let log : IsLog t.log (first_headers c i 0 c.harts) = subst (λ (m : ℕ). IsLog t.log (first_headers c i 0 m)) e (first.log [] empty) in
+    record {
+      harts = first.each;
+      caches = caches;
+      shadow = shadow;
+      log = log;
+      bytes = log.bytes ∙ headers_have c i 0 c.harts;
+    }
 
 -- each hart can have one turn more than its limit
 all_first : (c : RawSettings) (i : Program) (n : ℕ) (f : ℕ → Hart) → ((k : ℕ) → k < n → f k ≡ first_hart c i k) → all_left c n f ≡ n * (c.limit + 1)

@@ -1,5 +1,5 @@
 -- How many bytes records have.
-use Rattle.std.proofs.Common.{◌≡◌, ℕ, zero, suc, ◌+◌, ◌*◌, List, [], ◌∷◌, ◌++◌, length, drop, refl, ap, ◌∙◌, arith, length-append}
+use Rattle.std.proofs.Common.{◌≡◌, ℕ, zero, suc, ◌+◌, ◌*◌, List, [], ◌∷◌, ◌++◌, length, drop, refl, ap, arith, length-append}
 use Rattle.std.specs.List.{flat_map}
 use Rattle.le_numbers.specs.Numbers.{number_bytes}
 use Rattle.bn_base.specs.declared.end_mark.EndMark.{EndMark}

@@ -20,7 +20,7 @@ use Rattle.run_model.specs.declared.span.Span.{Span}
 use Rattle.run_model.specs.declared.trace.Trace.{Trace}
 use Rattle.run_model.specs.Machine.{Machine, answer, call_of}
 use Rattle.run_model.specs.Turn.{is_orderly, span_of, next_of, loading, hart_after, harts_after, other_after, skipped_after}
-use Rattle.run_model.specs.Counts.{IsFit, IsRested, MovesOn, AskMovesOn, turns_left, is_there, is_loading}
+use Rattle.run_model.specs.Counts.{IsRested, MovesOn, AskMovesOn, turns_left, is_there, is_loading}
 use Rattle.run_model.specs.EachCache.{steps_in, touched_word, touches}
 use Rattle.run_model.specs.Harts.{AreHarts, hart_in, all_left}
 use Rattle.run_model.specs.Logs.{taken}

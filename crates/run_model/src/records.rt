@@ -71,11 +71,11 @@ fn append_edge(log: &mut Log, hart: HartId, ic: Ic, edges: &Edges, i: usize)
     match edges.get(i) {
         None => unreachable!(),
         Some((from, from_ic)) => log.append(&Record::Edge {
-                hart,
-                ic,
-                from,
-                from_ic,
-            }),
+            hart,
+            ic,
+            from,
+            from_ic,
+        }),
     }
 }
 
@@ -98,10 +98,10 @@ pub fn append_load(log: &mut Log, load: Option<Warm>, hart: HartId, skipped: u32
 {
     if let Some(Warm::Cold) = load {
         log.append(&Record::FirstLoad {
-                hart,
-                skip: skipped,
-                value: word,
-            });
+            hart,
+            skip: skipped,
+            value: word,
+        });
     }
 }
 
@@ -126,9 +126,9 @@ pub fn append_end(log: &mut Log, hart: HartId, ic: Ic, reason: u8, value: u32)
     ensures took { Took log.old 1 log.new }
 {
     log.append(&Record::End {
-            hart,
-            mark: EndMark { ic, reason, value },
-        });
+        hart,
+        mark: EndMark { ic, reason, value },
+    });
 }
 
 /// Appends the Header of the interval that a hart begins in a state.
@@ -138,12 +138,12 @@ pub fn append_header(log: &mut Log, hart: HartId, number: u64, state: &HartState
     ensures took { Took log.old 1 log.new }
 {
     log.append(&Record::Header {
-            hart,
-            interval: number,
-            ic: state.ic,
-            pc: state.pc,
-            x: state.x,
-        });
+        hart,
+        interval: number,
+        ic: state.ic,
+        pc: state.pc,
+        x: state.x,
+    });
 }
 
 /// Appends the End of an interval that a turn ends, and the Header of the one that it begins, by its
