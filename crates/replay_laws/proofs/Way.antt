@@ -21,6 +21,7 @@ pub record Sound (c : RawSettings) (i : Program) : Type 0 where
   pub passing : (s : HartState) (w : Want) → step i s ≡ Asks w → (is_cut w ≡ false) × (passes i w ≡ true)
   pub orderly : (n : ℕ) (s : HartState) → s.ic + n < 2 ^ 64 → orderly i s.ic n (ask_of i n s) ≡ true
   pub limit : c.limit < 2 ^ 63
+  pub format : c.format ≡ 1
 
 -- p with another state, rows and flag
 abbrev pub moved : Position → HartState → List Row → Bool → Position
