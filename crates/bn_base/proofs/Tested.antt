@@ -4,7 +4,7 @@ use Rattle.std.specs.Prelude.{Option, None}
 use Rattle.std.specs.Int.{is_power_of_two}
 use Rattle.bn_base.specs.declared.settings.RawSettings.{RawSettings}
 use Rattle.bn_base.specs.declared.settings.BadSetting.{BadSetting}
-use Rattle.bn_base.specs.Ranges.{is_between, is_small_power, is_memory_size, bad_or, first_bad, IsSetting}
+use Rattle.bn_base.specs.Ranges.{is_between, is_small_power, is_memory_size, most_harts, bad_or, first_bad, IsSetting}
 
 -- where nothing is bad, the first test holds and nothing later is bad
 pub none_bad : (test : Bool) (bad : BadSetting) (later : Option BadSetting) → bad_or test bad later ≡ None → (test ≡ true) × (later ≡ None)
@@ -31,7 +31,10 @@ in_range s bad =
     let h6 = none_bad _ _ _ h5.1 in
     let h7 = none_bad _ _ _ h6.1 in
     let h8 = none_bad _ _ _ h7.1 in
-    let harts = below 1 8 s.harts h1.0 in
+    let h9 = none_bad _ _ _ h8.1 in
+    let h10 = none_bad _ _ _ h9.1 in
+    let h11 = none_bad _ _ _ h10.1 in
+    let harts = below 1 (most_harts s) s.harts h1.0 in
     let interval = below 1 10000000 s.interval h2.0 in
     let limit = below 1 (2 ^ 40) s.limit h3.0 in
     let log_size = below 16384 (2 ^ 28) s.log_size h4.0 in
@@ -39,6 +42,7 @@ in_range s bad =
     let sets = power 1024 s.sets h6.0 in
     let ways = below 1 16 s.ways h7.0 in
     let line = power 16 s.line h8.0 in
+    let format = below 1 1 s.format h9.0 in
     record {
       harts_low = harts.0;
       harts_high = harts.1;
@@ -59,4 +63,8 @@ in_range s bad =
       line_low = line.0;
       line_high = line.1;
       line_power = line.2;
+      format_low = format.0;
+      format_high = format.1;
+      second_sets = h10.0;
+      second_ways = h11.0;
     }

@@ -11,6 +11,7 @@ reason_word r =
     if r == 3 then codes "exit" else
     if r == 4 then codes "group" else
     if r == 5 then codes "stopped" else
+    if r == 6 then codes "guard" else
     if r == 7 then codes "limit" else
     if r == 17 then fault_name Illegal else
     if r == 18 then fault_name Breakpoint else

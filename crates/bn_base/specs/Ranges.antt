@@ -1,12 +1,12 @@
 -- The ranges of the settings.
-use Rattle.std.specs.Prelude.{ℕ, ◌+◌, ◌%◌, ◌^◌, ◌==◌, ◌≡◌, ◌≤◌, Bool, true, false, ◌&&◌, nat_le, List, [], ◌∷◌, codes, if◌then◌else◌, Option, Some, None, Result, Ok, Err, IsTrue}
+use Rattle.std.specs.Prelude.{ℕ, ◌%◌, ◌^◌, ◌==◌, ◌≡◌, ◌≤◌, Bool, true, false, ◌&&◌, nat_le, List, [], ◌∷◌, codes, if◌then◌else◌, Option, Some, None, Result, Ok, Err, IsTrue}
 use Rattle.std.specs.Int.{is_power_of_two}
 use Rattle.bn_base.specs.declared.settings.RawSettings.{RawSettings}
 use Rattle.bn_base.specs.declared.settings.BadSetting.{BadSetting}
 
 -- one hart, and room for most programs
 abbrev pub default_settings : RawSettings
-default_settings = record { harts = 1; interval = 100000; limit = 1000000000; log_size = 1048576; memory = 1048576; sets = 64; ways = 4; line = 8 }
+default_settings = record { harts = 1; interval = 100000; limit = 1000000000; log_size = 1048576; memory = 1048576; sets = 64; ways = 4; line = 8; format = 1; sets2 = 0; ways2 = 0 }
 
 -- from low to high
 abbrev pub is_between : ℕ → ℕ → ℕ → Bool
@@ -20,17 +20,36 @@ is_small_power high value = is_between 1 high value && is_power_of_two value
 abbrev pub is_memory_size : ℕ → Bool
 is_memory_size value = is_between 65536 (2 ^ 26) value && (value % 4096 == 0)
 
--- the settings one after another, each with whether it is in range
-abbrev pub tested : RawSettings → List (ℕ × Bool)
+-- the most harts: with format 2 there are 16, with any other 8
+abbrev pub most_harts : RawSettings → ℕ
+most_harts s = if s.format == 2 then 16 else 8
+
+-- the caches have no second level
+abbrev pub is_second_sets : RawSettings → Bool
+is_second_sets s = s.sets2 == 0
+
+-- nor ways of one
+abbrev pub is_second_ways : RawSettings → Bool
+is_second_ways s = s.ways2 == 0
+
+-- a setting: its field's number, its value, and whether it is in range
+abbrev pub setting : ℕ → ℕ → Bool → ℕ × ℕ × Bool
+setting field value fine = (field, value, fine)
+
+-- the settings in the order in which they are tested; field 9 is no setting
+abbrev pub tested : RawSettings → List (ℕ × ℕ × Bool)
 tested s =
-    (s.harts, is_between 1 8 s.harts)
-    ∷ (s.interval, is_between 1 10000000 s.interval)
-    ∷ (s.limit, is_between 1 (2 ^ 40) s.limit)
-    ∷ (s.log_size, is_between 16384 (2 ^ 28) s.log_size)
-    ∷ (s.memory, is_memory_size s.memory)
-    ∷ (s.sets, is_small_power 1024 s.sets)
-    ∷ (s.ways, is_between 1 16 s.ways)
-    ∷ (s.line, is_small_power 16 s.line)
+    setting 1 s.harts (is_between 1 (most_harts s) s.harts)
+    ∷ setting 2 s.interval (is_between 1 10000000 s.interval)
+    ∷ setting 3 s.limit (is_between 1 (2 ^ 40) s.limit)
+    ∷ setting 4 s.log_size (is_between 16384 (2 ^ 28) s.log_size)
+    ∷ setting 5 s.memory (is_memory_size s.memory)
+    ∷ setting 6 s.sets (is_small_power 1024 s.sets)
+    ∷ setting 7 s.ways (is_between 1 16 s.ways)
+    ∷ setting 8 s.line (is_small_power 16 s.line)
+    ∷ setting 10 s.format (is_between 1 1 s.format)
+    ∷ setting 11 s.sets2 (is_second_sets s)
+    ∷ setting 12 s.ways2 (is_second_ways s)
     ∷ []
 
 -- what is bad of a setting and those after it
@@ -38,14 +57,13 @@ abbrev pub bad_or : Bool → BadSetting → Option BadSetting → Option BadSett
 bad_or true bad later = later
 bad_or false bad later = Some bad
 
--- the first that is out of range, where the list begins with the setting of that place
-abbrev pub first_bad_from : ℕ → List (ℕ × Bool) → Option BadSetting
-first_bad_from field [] = None
-first_bad_from field (test ∷ rest) = bad_or test.1 (record { field = field; value = test.0 }) (first_bad_from (field + 1) rest)
+-- the first that is out of range
+abbrev pub first_bad_of : List (ℕ × ℕ × Bool) → Option BadSetting
+first_bad_of [] = None
+first_bad_of (test ∷ rest) = bad_or test.2 (record { field = test.0; value = test.1 }) (first_bad_of rest)
 
--- the first setting that is out of range, by its place counted from 1
 abbrev pub first_bad : RawSettings → Option BadSetting
-first_bad s = first_bad_from 1 (tested s)
+first_bad s = first_bad_of (tested s)
 
 -- the settings, or what is bad of them
 abbrev pub checked_by : Option BadSetting → RawSettings → Result RawSettings BadSetting
@@ -55,7 +73,7 @@ checked_by (Some bad) s = Err bad
 abbrev pub checked : RawSettings → Result RawSettings BadSetting
 checked s = checked_by (first_bad s) s
 
--- the name of a setting by its place
+-- the name of a setting by its field's number
 unfoldable pub setting_name : ℕ → List ℕ
 setting_name field =
     if field == 1 then codes "harts" else
@@ -66,12 +84,15 @@ setting_name field =
     if field == 6 then codes "sets" else
     if field == 7 then codes "ways" else
     if field == 8 then codes "line" else
+    if field == 10 then codes "format" else
+    if field == 11 then codes "sets2" else
+    if field == 12 then codes "ways2" else
     codes "-"
 
 -- settings that are in range
 pub record IsSetting (s : RawSettings) : Type 0 where
   pub harts_low : 1 ≤ s.harts
-  pub harts_high : s.harts ≤ 8
+  pub harts_high : s.harts ≤ most_harts s
   pub interval_low : 1 ≤ s.interval
   pub interval_high : s.interval ≤ 10000000
   pub limit_low : 1 ≤ s.limit
@@ -89,3 +110,7 @@ pub record IsSetting (s : RawSettings) : Type 0 where
   pub line_low : 1 ≤ s.line
   pub line_high : s.line ≤ 16
   pub line_power : IsTrue (is_power_of_two s.line)
+  pub format_low : 1 ≤ s.format
+  pub format_high : s.format ≤ 1
+  pub second_sets : IsTrue (is_second_sets s)
+  pub second_ways : IsTrue (is_second_ways s)

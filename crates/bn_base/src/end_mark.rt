@@ -30,6 +30,10 @@ pub const GROUP: u8 = 4;
 /// The run was ended by another hart. The value is 0.
 pub const STOPPED: u8 = 5;
 
+/// The log's guard, ahead of an ask: too much of the log would lie behind the interval's Header. The
+/// value is 0, and the hart goes on. Logs of version 1 have no such mark.
+pub const GUARD: u8 = 6;
+
 /// The hart has done as many instructions as it may. The value is 0.
 pub const LIMIT: u8 = 7;
 
@@ -39,7 +43,7 @@ pub const FAULT: u8 = 16;
 impl EndMark {
     /// The mark of a fault.
     pub fn of_fault(ic: Ic, fault: Fault, value: u32) -> EndMark
-        ensures { result ≡ record { ic = ic; reason = FAULT + fault_number fault; value = value } }
+        ensures { result ≡ record { ic = ic; reason = 16 + fault_number fault; value = value } }
     {
         EndMark {
             ic,
@@ -48,8 +52,8 @@ impl EndMark {
         }
     }
 
-    /// The word for its reason: `length`, `call`, `exit`, `group`, `stopped`, `limit` or the
-    /// fault's name, and `-` for any other code.
+    /// The word for its reason: `length`, `call`, `exit`, `group`, `stopped`, `guard`, `limit` or
+    /// the fault's name, and `-` for any other code.
     #[tactic(auto, unfolding(crate::specs::EndMarks::reason_word, crate::specs::Faults::fault_name))]
     pub fn word(&self) -> &'static str
         ensures { result.now ≡ reason_word self.now.reason }
@@ -60,6 +64,7 @@ impl EndMark {
             3 => "exit",
             4 => "group",
             5 => "stopped",
+            6 => "guard",
             7 => "limit",
             17 => Fault::Illegal.name(),
             18 => Fault::Breakpoint.name(),
@@ -74,3 +79,15 @@ impl EndMark {
         }
     }
 }
+
+/// The codes of the reasons are those of the log file (docs/FORMAT.md).
+pub fn reasons_have_these_codes()
+    ensures length { LENGTH ≡ 1 }
+    ensures call { CALL ≡ 2 }
+    ensures exit { EXIT ≡ 3 }
+    ensures group { GROUP ≡ 4 }
+    ensures stopped { STOPPED ≡ 5 }
+    ensures guard { GUARD ≡ 6 }
+    ensures limit { LIMIT ≡ 7 }
+    ensures fault { FAULT ≡ 16 }
+{}

@@ -23,7 +23,7 @@ pub use register::Register;
 pub use registers::Registers;
 pub use row::Row;
 pub use segment::Segment;
-pub use settings::{BadSetting, RawSettings, Settings};
+pub use settings::{BadSetting, HARTS, RawSettings, Settings};
 pub use state::HartState;
 
 /// The number of a hart (a hardware thread of RISC-V), counted from 0.

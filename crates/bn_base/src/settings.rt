@@ -1,10 +1,13 @@
 // What a recording is set to.
 ghost use Rattle.std.specs.Prelude.{◌≡◌, ◌<◌, ◌≤◌, ◌*◌, ◌^◌, ◌%◌, ℕ, IsTrue, IfSome};
 ghost use Rattle.std.specs.Int.{is_power_of_two};
-ghost use Rattle.bn_base.specs.Ranges.{is_between, is_small_power, is_memory_size, checked, first_bad, setting_name, IsSetting};
+ghost use Rattle.bn_base.specs.Ranges.{is_between, is_small_power, is_memory_size, most_harts, checked, first_bad, setting_name, IsSetting};
 
 use std::marker::Model;
 use thiserror::Error;
+
+/// How many harts times, reservations and lists of reservations have room for.
+pub const HARTS: usize = 16;
 
 /// Settings as they were given, in range or not.
 #[derive(Clone, Copy, Debug, PartialEq, Eq, Drop)]
@@ -25,9 +28,16 @@ pub struct RawSettings {
     pub ways: u64,
     /// The number of words in a line.
     pub line: u64,
+    /// The version of the log file.
+    pub format: u64,
+    /// The number of sets of the second level of each hart's cache; 0 where it has none.
+    pub sets2: u64,
+    /// The number of lines in a set of the second level; 0 where there is none.
+    pub ways2: u64,
 }
 
-/// The first setting that is out of range, by its place in `RawSettings`, counted from 1.
+/// The first setting that is out of range, in the order of `RawSettings`. Its field's number is its
+/// place there counted from 1, up to line, 8; format has 10, sets2 11 and ways2 12.
 #[derive(Clone, Copy, Debug, PartialEq, Eq, Drop, Error)]
 #[error("setting {field} is out of range: {value}")]
 pub struct BadSetting {
@@ -47,6 +57,9 @@ pub struct BadSetting {
 /// | sets | a power of two, 1 to 1,024 |
 /// | ways | 1 to 16 |
 /// | line | a power of two, 1 to 16 |
+/// | format | 1 |
+/// | sets2 | 0 |
+/// | ways2 | 0 |
 #[derive(Clone, Copy, Debug, PartialEq, Eq, Drop)]
 pub struct Settings {
     raw: RawSettings,
@@ -72,7 +85,8 @@ impl Default for RawSettings {
     ghost is_default = { λ s. s ≡ default_settings };
 
     /// One hart, intervals of 100,000 instructions, a limit of 10^9 instructions, 1 MiB of log,
-    /// 1 MiB of memory, and a cache of 64 sets of 4 lines of 8 words.
+    /// 1 MiB of memory, a cache of 64 sets of 4 lines of 8 words with no second level, and log
+    /// files of version 1.
     fn default() -> RawSettings {
         RawSettings {
             harts: 1,
@@ -83,6 +97,9 @@ impl Default for RawSettings {
             sets: 64,
             ways: 4,
             line: 8,
+            format: 1,
+            sets2: 0,
+            ways2: 0,
         }
     }
 }
@@ -101,7 +118,8 @@ impl Default for Settings {
 }
 
 impl BadSetting {
-    /// The name of the setting, as it is given on a command line; `-` for a field that isn't 1 to 8.
+    /// The name of the setting, as it is given on a command line; `-` for a field that no
+    /// setting has.
     #[tactic(auto, unfolding(crate::specs::Ranges::setting_name))]
     pub fn name(&self) -> &'static str
         ensures { result.now ≡ setting_name self.now.field }
@@ -115,6 +133,9 @@ impl BadSetting {
             6 => "sets",
             7 => "ways",
             8 => "line",
+            10 => "format",
+            11 => "sets2",
+            12 => "ways2",
             _ => "-",
         }
     }
@@ -141,6 +162,13 @@ fn is_memory_size(value: u64) -> bool
     is_between(65_536, 1 << 26, value) && value % 4096 == 0
 }
 
+// The most harts that the settings can have.
+fn most_harts(raw: &RawSettings) -> u64
+    ensures { result ≡ most_harts raw.now }
+{
+    if raw.format == 2 { 16 } else { 8 }
+}
+
 fn bad(field: u8, value: u64) -> Option<BadSetting>
     ensures { result ≡ Some (record { field = field; value = value }) }
 {
@@ -151,7 +179,7 @@ fn bad(field: u8, value: u64) -> Option<BadSetting>
 fn first_bad(raw: &RawSettings) -> Option<BadSetting>
     ensures { result ≡ first_bad raw.now }
 {
-    if !is_between(1, 8, raw.harts) {
+    if !is_between(1, most_harts(raw), raw.harts) {
         return bad(1, raw.harts);
     }
     if !is_between(1, 10_000_000, raw.interval) {
@@ -174,6 +202,15 @@ fn first_bad(raw: &RawSettings) -> Option<BadSetting>
     }
     if !is_small_power(16, raw.line) {
         return bad(8, raw.line);
+    }
+    if !is_between(1, 1, raw.format) {
+        return bad(10, raw.format);
+    }
+    if raw.sets2 != 0 {
+        return bad(11, raw.sets2);
+    }
+    if raw.ways2 != 0 {
+        return bad(12, raw.ways2);
     }
     None
 }
@@ -202,6 +239,9 @@ impl Settings {
         ensures value { result ≡ self.now.harts }
         ensures low { 1 ≤ result }
         ensures high { result ≤ 8 }
+        // Whatever the format, and with format 1.
+        ensures room { result ≤ HARTS }
+        ensures few { self.now.format ≡ 1 → result ≤ 8 }
     {
         self.raw.harts as u8
     }
@@ -268,5 +308,29 @@ impl Settings {
         ensures high { result ≤ 16 }
     {
         self.raw.line as u32
+    }
+
+    /// The version of the log file.
+    pub fn format(&self) -> u8
+        ensures value { result ≡ self.now.format }
+        ensures one { result ≡ 1 }
+    {
+        self.raw.format as u8
+    }
+
+    /// The number of sets of the second level of each hart's cache; 0, since it has none.
+    pub fn second_sets(&self) -> u32
+        ensures value { result ≡ self.now.sets2 }
+        ensures none { result ≡ 0 }
+    {
+        self.raw.sets2 as u32
+    }
+
+    /// The number of lines in a set of the second level; 0, since there is none.
+    pub fn second_ways(&self) -> u32
+        ensures value { result ≡ self.now.ways2 }
+        ensures none { result ≡ 0 }
+    {
+        self.raw.ways2 as u32
     }
 }

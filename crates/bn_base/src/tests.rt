@@ -13,7 +13,10 @@ fn with(field: u8, value: u64) -> RawSettings {
         5 => raw.memory = value,
         6 => raw.sets = value,
         7 => raw.ways = value,
-        _ => raw.line = value,
+        8 => raw.line = value,
+        10 => raw.format = value,
+        11 => raw.sets2 = value,
+        _ => raw.ways2 = value,
     }
     raw
 }
@@ -33,6 +36,9 @@ fn each_range_has_these_ends(rt: HostRuntime) {
         (7, 1, 16, 0, 17),
         (8, 1, 16, 0, 32),
         (8, 2, 8, 3, 12),
+        (10, 1, 1, 0, 2),
+        (11, 0, 0, 1, 64),
+        (12, 0, 0, 1, 4),
     ];
     for (field, low, high, under, over) in table {
         assert!(rt;
@@ -115,7 +121,7 @@ fn marks_have_words(rt: HostRuntime) {
     assert_eq!(rt; (mark.reason, mark.word()), (21, "LoadOutside"));
     let unknown = EndMark {
         ic: 0,
-        reason: 6,
+        reason: 8,
         value: 0,
     };
     assert_eq!(rt; unknown.word(), "-");
