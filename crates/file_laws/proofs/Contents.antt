@@ -149,12 +149,12 @@ turn_worded laws c i run k setting image known w there live o =
     let answers = answer_well c i run.machine k ask asks (passed i h.state.ic (budget c h) ask o) w.machine in
     let on = laws.turns.moves c i run.machine h k ask (omega (arith, setting.limit_high)) (known.fit k).fit live o in
     let so = next_ends call c h ask.want answered.reply s.ic setting.interval_low in
-    subst (λ (x : Served). Worded c x.run) (sym (served c i run k ask setting o))
+    subst (λ (x : Served). Worded c x.run) (sym (served laws.turns c i run k ask setting o))
     (worded_after laws c run k ask call answered (span_of call ask.want answered.reply) next s setting known w there on so (state_after ask answered.reply answers.reply asks) answers.machine
     (end_word ask.want c i run.machine h answered.reply s.ic asks.want w.machine answers.reply))
 
-one_turn : (c : RawSettings) (i : Program) (run : Run) (k : ℕ) → IsSetting c → is_orderly c i (run.harts k) (ask_at c i (run.harts k)) ≡ true → (turn c i run k).turns ≡ run.turns + 1
-one_turn c i run k setting o = ap (λ (x : Served). x.run.turns) (served c i run k (ask_at c i (run.harts k)) setting o)
+one_turn : Laws → (c : RawSettings) (i : Program) (run : Run) (k : ℕ) → IsSetting c → is_orderly c i (run.harts k) (ask_at c i (run.harts k)) ≡ true → (turn c i run k).turns ≡ run.turns + 1
+one_turn laws c i run k setting o = ap (λ (x : Served). x.run.turns) (served laws c i run k (ask_at c i (run.harts k)) setting o)
 
 -- ---- the turns of a legal list
 
@@ -178,7 +178,7 @@ turns_after laws c i run (k ∷ ks) n setting image a e =
     let next : After c (n + 1) (turn c i run k) = record {
       known = turn_kept laws.turns c i run k (ask_at c i (run.harts k)) setting a.known there live.1 o;
       words = turn_worded laws c i run k setting image a.known a.words there live.1 o;
-      count = omega (arith, one_turn c i run k setting o, a.count);
+      count = omega (arith, one_turn laws.turns c i run k setting o, a.count);
     } in
     let z : n + 1 + length ks ≡ n + suc (length ks) = omega arith in
     subst (λ (m : ℕ). After c m (run_from c i (turn c i run k) ks)) z (turns_after laws c i (turn c i run k) ks (n + 1) setting image next first.1)

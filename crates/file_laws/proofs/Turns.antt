@@ -12,7 +12,6 @@ use Rattle.bn_base.specs.declared.state.HartState.{HartState}
 use Rattle.rv_meaning.specs.Execute.{absorbed}
 use Rattle.rv_meaning.specs.declared.asks.Ask.{Ask}
 use Rattle.rv_meaning.specs.declared.asks.Reply.{Reply}
-use Rattle.rv_meaning.specs.declared.asks.Want.{Want}
 use Rattle.rv_meaning.specs.declared.asks.Reply.TheVariants as replies
 use Rattle.first_load_bits.specs.declared.warm.Warm.{Warm}
 use Rattle.first_load_bits.specs.declared.warm.Warm.TheVariants as answers
@@ -27,8 +26,9 @@ use Rattle.run_model.specs.declared.next.Next.{Next}
 use Rattle.run_model.specs.declared.next.Next.TheVariants.{GoesOn, NewInterval, HartOver, RunOver}
 use Rattle.run_model.specs.declared.span.Span.{Span}
 use Rattle.run_model.specs.Machine.{Answered, answer, call_of}
-use Rattle.run_model.specs.Turn.{Run, Served, serve, serve_call, served_if, is_guarded, after_ask, span_of, next_of, loading, warmth, skipped_after, word_before, budget, point_of, points_after, edge_records, load_record, sc_record, next_records, stopped_records, run_over_records, hart_after, other_after, harts_after, is_orderly, mark}
+use Rattle.run_model.specs.Turn.{Run, Served, serve, serve_call, served_if, after_ask, span_of, next_of, loading, warmth, skipped_after, word_before, budget, point_of, points_after, edge_records, load_record, sc_record, next_records, stopped_records, run_over_records, hart_after, other_after, harts_after, is_orderly, mark}
 use Rattle.run_model.specs.Counts.{IsFit, IsRested, is_there, is_on, MovesOn, EachTurnMovesOn, EachTurnFits, OthersStayFit}
+use Rattle.run_model.specs.Guards.{FormatOneIsUnguarded}
 use Rattle.file_laws.specs.Recorded.{counts_of}
 use Rattle.file_laws.proofs.Views.{OrderLaws, Views, IsOpen, IsView, Took, took_none, took_both, took_edges, took_load, took_conditional, open_later, AreSources}
 use Rattle.file_laws.proofs.Nexts.{EndsAs, IsWithin, next_ends, took_next}
@@ -42,6 +42,7 @@ pub record Laws : Type 0 where
   pub moves : EachTurnMovesOn
   pub fits : EachTurnFits
   pub others : OthersStayFit
+  pub guards : FormatOneIsUnguarded
 
 -- what holds of a run all of whose asks were orderly: the records keep the rules, and leave the view of each hart that the
 -- hart has
@@ -318,16 +319,12 @@ after_kept laws c run k ask call answered span next s setting known there live o
       points = points_on span k ask.state.ic run.turns c.harts (counts_of run) later run.points known.points count_on there (λ p. omega (arith, on.accessed p, own_count c run k ask next s bytes));
     }
 
--- with format 1 no ask is guarded
-unguarded : (c : RawSettings) (run : Run) (k : ℕ) (want : Want) → c.format ≡ 1 → is_guarded c run k want ≡ false
-unguarded c run k want e = rw e refl
-
 pub format_is_1 : (c : RawSettings) → IsSetting c → c.format ≡ 1
 format_is_1 c setting = omega (arith, setting.format_low, setting.format_high)
 
-pub served : (c : RawSettings) (i : Program) (run : Run) (k : ℕ) (ask : Ask) → IsSetting c → is_orderly c i (run.harts k) ask ≡ true → serve c i run k ask ≡ serve_call c run k ask false (call_of i run.machine ask.want)
+pub served : Laws → (c : RawSettings) (i : Program) (run : Run) (k : ℕ) (ask : Ask) → IsSetting c → is_orderly c i (run.harts k) ask ≡ true → serve c i run k ask ≡ serve_call c run k ask false (call_of i run.machine ask.want)
 unfolding serve
-served c i run k ask setting o = ap (λ (b : Bool). served_if b c i run k ask) o ∙ ap (λ (g : Bool). serve_call c run k ask g (call_of i run.machine ask.want)) (unguarded c run k ask.want (format_is_1 c setting))
+served laws c i run k ask setting o = ap (λ (b : Bool). served_if b c i run k ask) o ∙ ap (λ (g : Bool). serve_call c run k ask g (call_of i run.machine ask.want)) (laws.guards.asks c run k ask.want (format_is_1 c setting))
 
 -- a live hart's orderly ask is recorded
 pub turn_kept : Laws → (c : RawSettings) (i : Program) (run : Run) (k : ℕ) (ask : Ask) → IsSetting c → Recording c run → k < c.harts → (run.harts k).live ≡ true → is_orderly c i (run.harts k) ask ≡ true → Recording c (serve c i run k ask).run
@@ -339,4 +336,4 @@ turn_kept laws c i run k ask setting known there live o =
     let next : Next = next_of c call h ask.want answered.reply s.ic in
     let on = laws.moves c i run.machine h k ask (omega (arith, setting.limit_high)) (known.fit k).fit live o in
     let so = next_ends call c h ask.want answered.reply s.ic setting.interval_low in
-    subst (λ (x : Served). Recording c x.run) (sym (served c i run k ask setting o)) (after_kept laws c run k ask call answered (span_of call ask.want answered.reply) next s setting known there live on so)
+    subst (λ (x : Served). Recording c x.run) (sym (served laws c i run k ask setting o)) (after_kept laws c run k ask call answered (span_of call ask.want answered.reply) next s setting known there live on so)

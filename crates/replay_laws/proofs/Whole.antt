@@ -19,8 +19,9 @@ use Rattle.run_model.specs.declared.next.Next.{Next}
 use Rattle.run_model.specs.declared.next.Next.TheVariants.{GoesOn, NewInterval, HartOver, RunOver}
 use Rattle.run_model.specs.Turn.{Run, other_after, serve, served_if, serve_call, turn, ask_at, budget}
 use Rattle.run_model.specs.Machine.{call_of}
-use Rattle.replay_laws.proofs.FormatOne.{unguarded, rows_first}
+use Rattle.replay_laws.proofs.FormatOne.{rows_first}
 use Rattle.run_model.specs.Files.{kept_of, IsEndOf}
+use Rattle.run_model.specs.Guards.{FormatOneIsUnguarded}
 use Rattle.run_model.specs.Runs.{start, run_of, run_from, legal_from, any_live}
 use Rattle.run_model.specs.Rows.{rows_in, rows_of, turn_rows}
 use Rattle.replay_laws.specs.Law.{LogSuffices, EndsSuffice, RowsStandTogether, RowsAreCounted, IsWhole, end_of}
@@ -41,7 +42,7 @@ unfolding serve
 turn_is c i run k z f =
     let ask = ask_at c i (run.harts k) in
     ap (λ (x : Bool). (served_if x c i run k ask).run) (z.orderly (budget c (run.harts k)) (run.harts k).state (omega (arith, f.within, z.limit)))
-    ∙ ap (λ (b : Bool). (serve_call c run k ask b (call_of i run.machine ask.want)).run) (unguarded c run k ask.want z.format)
+    ∙ ap (λ (b : Bool). (serve_call c run k ask b (call_of i run.machine ask.want)).run) (z.guards.asks c run k ask.want z.format)
 
 -- a hart that is live is fit
 abbrev Early : RawSettings → Hart → Type 0
@@ -109,7 +110,7 @@ same_runs c i h n z (k ∷ ks) run a l f =
     record {
       runs = ap (λ x. run_from c i x ks) is ∙ rest.runs;
       legal = (less_of k c.harts q.0, q.1, rest.legal);
-      rows = rows_first c i run k h n (rows_in c i (turn c i run k) ks h n) z.format ∙ ap (λ (x : List Row). rows_if (k == h && ((run.harts h).number == n)) (turn_rows c i run h) x) (ap (λ x. rows_in c i x ks h n) is ∙ rest.rows);
+      rows = rows_first z.guards c i run k h n (rows_in c i (turn c i run k) ks h n) z.format ∙ ap (λ (x : List Row). rows_if (k == h && ((run.harts h).number == n)) (turn_rows c i run h) x) (ap (λ x. rows_in c i x ks h n) is ∙ rest.rows);
       all = ap (λ (x : List Row). rows_if (k == h) (turn_rows c i run h) x) (ap (λ x. rows_of c i x ks h) is ∙ rest.all);
     }
 
@@ -119,18 +120,19 @@ drop_front : (xs ys : List Record) → drop (length xs) (xs ++ ys) ≡ ys
 drop_front [] ys = refl
 drop_front (x ∷ xs) ys = drop_front xs ys
 
--- what the laws stand on: what is known of instructions
+-- what the laws stand on: what is known of instructions, and of guards
 pub record Known : Type 0 where
   pub counts : (i : Program) (s t : HartState) → step i s ≡ Quiet t → t.ic ≡ count_up s.ic
   pub passing : (i : Program) (s : HartState) (w : Want) → step i s ≡ Asks w → (is_cut w ≡ false) × (passes i w ≡ true)
   pub orderly : (i : Program) (budget : ℕ) (s : HartState) → s.ic + budget < 2 ^ 64 → orderly i s.ic budget (ask_of i budget s) ≡ true
+  pub guards : FormatOneIsUnguarded
 
 -- and that what is kept is a suffix
 abbrev pub KeepsSuffix : Type 0
 KeepsSuffix = (size : ℕ) (rs : List Record) → (front : List Record) × (rs ≡ front ++ kept size rs)
 
 sound : (c : RawSettings) (i : Program) → Known → c.format ≡ 1 → c.limit < 2 ^ 63 → Sound c i
-sound c i z format limit = record { format = format; counts = z.counts i; passing = z.passing i; orderly = z.orderly i; limit = limit }
+sound c i z format limit = record { counts = z.counts i; passing = z.passing i; orderly = z.orderly i; limit = limit; format = format; guards = z.guards }
 
 same_whole : (c : RawSettings) (i : Program) (input b : List ℕ) (h n : ℕ) → Sound c i → IsWhole c i input b → Same c i h n b (start c i input)
 same_whole c i input b h n z whole =

@@ -1,4 +1,4 @@
--- What a kept log says of the run that it was recorded of.
+-- What the last records of a run, as those that its log keeps, say of it.
 use Rattle.std.specs.Prelude.{ℕ, ◌≡◌, ◌+◌, ◌-◌, ◌<◌, ◌^◌, nat_lt, true, List, length, map, take, drop, Some, if◌then◌else◌}
 use Rattle.std.specs.List.{range_with_len}
 use Rattle.bn_base.specs.Programs.{Program}

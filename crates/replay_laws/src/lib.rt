@@ -13,6 +13,7 @@ pub use examples::{
     a_fault_is_replayed, a_filled_word_is_loaded_again, the_last_interval_is_replayed,
 };
 use log_ring::laws::a_suffix_is_kept;
+use run_model::format_1_is_unguarded;
 use rv_meaning::{each_ask_is_orderly, each_instruction_is_counted_or_asks};
 
 /// Log sufficiency: for every program, input, cache and interval length, every list of turns that
@@ -24,6 +25,7 @@ pub fn ends_suffice()
 {
     each_instruction_is_counted_or_asks();
     each_ask_is_orderly();
+    format_1_is_unguarded();
 }
 
 /// So it is of what the log keeps, which is such an end.
@@ -41,6 +43,7 @@ pub fn the_rows_of_an_interval_stand_together()
 {
     each_instruction_is_counted_or_asks();
     each_ask_is_orderly();
+    format_1_is_unguarded();
 }
 
 /// The rows of a hart have its counts, one after another from 0.
@@ -49,14 +52,16 @@ pub fn the_rows_of_a_hart_are_counted()
 {
     each_instruction_is_counted_or_asks();
     each_ask_is_orderly();
+    format_1_is_unguarded();
 }
 
 /// What a hart knows of the words that are warm to it stays true, through its own turns up to the
 /// interval's end and through those of the other harts: the reason why first loads suffice.
-#[tactic(auto, using(crate::proofs::Warmth::warm_words))]
 pub fn warm_words_stay_known()
     ensures { WarmWordsStayKnown }
-{}
+{
+    format_1_is_unguarded();
+}
 
 /// Where the replay of an interval ends otherwise than its End says, the outcome has the End's own mark
 /// and another that differs from it. So it is for every log and every program.
