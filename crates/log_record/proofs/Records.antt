@@ -6,10 +6,11 @@ use Rattle.std.proofs.lemmas.Bool.{ne_eqb}
 use Rattle.std.proofs.lemmas.List.{drop-drop, append_cancel_left}
 use Rattle.le_numbers.specs.Numbers.{number_at, number_bytes, AreBytes}
 use Rattle.le_numbers.specs.Laws.{AreRead as NumbersAreRead, AreWritten as NumbersAreWritten, Fit}
+use Rattle.bn_base.specs.declared.end_mark.EndMark.{EndMark}
 use Rattle.log_record.specs.declared.record.Record.{Record}
 use Rattle.log_record.specs.declared.record.Record.TheVariants.{Header, FirstLoad, ScOk, ScFailed, Edge, End}
-use Rattle.log_record.specs.Spelling.{size_of, bytes_of, is_marked, FitsFields, Fits, BeginsWith}
-use Rattle.log_record.specs.Laws.{TellTheirSize, AreRead, AreWritten, BeginNoOther}
+use Rattle.log_record.specs.Spelling.{size_of, bytes_of, is_mark, is_marked, FitsFields, BeginsWith}
+use Rattle.log_record.specs.Laws.{TellTheirSize, AreRead, AreWritten, BeginNoOther, FitLater}
 use Rattle.log_record.specs.Reading.{words_at, header_in, first_load_in, edge_in, end_in, record_in}
 use Rattle.log_record.proofs.Words.{drop-words_at, length-words_at, words_at-small, words_at-written}
 
@@ -223,23 +224,39 @@ stands_size n bytes r within parts = omega (arith, ap length parts, length-appen
 marked : (b : Bool) → b ≡ true → IsTrue b
 marked b e = grind arith
 
-pub read_found : AreWritten → (bytes : List ℕ) (r : Record) (n : ℕ) → AreBytes bytes → some n ≡ size_of (slice_index bytes 0) → n ≤ length bytes → r ≡ record_in bytes → is_marked r ≡ true
-    → BeginsWith bytes r n
-read_found written bytes r n are size within is mark =
+pub read_found : AreWritten → (format : ℕ) (bytes : List ℕ) (r : Record) (n : ℕ) → AreBytes bytes → some n ≡ size_of (slice_index bytes 0) → n ≤ length bytes → r ≡ record_in bytes → is_marked format r ≡ true
+    → BeginsWith format bytes r n
+read_found written format bytes r n are size within is mark =
     let stands = written n bytes are (sym size) within in
     let parts : bytes ≡ bytes_of r ++ drop n bytes = subst (λ (q : Record). bytes ≡ bytes_of q ++ drop n bytes) (sym is) stands.1 in
-    record { fits = record { fields = subst FitsFields (sym is) stands.0; mark = marked (is_marked r) mark }; size = stands_size n bytes r within parts; parts = parts }
+    record { fits = record { fields = subst FitsFields (sym is) stands.0; mark = marked (is_marked format r) mark }; size = stands_size n bytes r within parts; parts = parts }
 
-pub read_only : TellTheirSize → AreRead → (bytes : List ℕ) (r : Record) (n : ℕ) (s : Record) (rest : List ℕ) → Fits s → bytes ≡ bytes_of s ++ rest → some n ≡ size_of (slice_index bytes 0) → r ≡ record_in bytes
+pub read_only : TellTheirSize → AreRead → (bytes : List ℕ) (r : Record) (n : ℕ) (s : Record) (rest : List ℕ) → FitsFields s → bytes ≡ bytes_of s ++ rest → some n ≡ size_of (slice_index bytes 0) → r ≡ record_in bytes
     → some {A = Record × ℕ} (r, n) ≡ some {A = Record × ℕ} (s, length (bytes_of s))
 read_only tell read bytes r n s rest fits q size is =
-    let one = one_stands tell read bytes s rest n fits.fields q size in
+    let one = one_stands tell read bytes s rest n fits q size in
     let same : r ≡ s = is ∙ one.same in
     let size_is = one.size in
     cc
 
-pub read_none : {A : Type 0} → TellTheirSize → AreRead → (bytes : List ℕ) (s : Record) (rest : List ℕ) (n : ℕ) → Fits s → bytes ≡ bytes_of s ++ rest → some n ≡ size_of (slice_index bytes 0) → (OneStands bytes s n → ⊥) → A
-read_none tell read bytes s rest n fits q size against = absurd (against (one_stands tell read bytes s rest n fits.fields q size))
+pub read_none : {A : Type 0} → TellTheirSize → AreRead → (bytes : List ℕ) (s : Record) (rest : List ℕ) (n : ℕ) → FitsFields s → bytes ≡ bytes_of s ++ rest → some n ≡ size_of (slice_index bytes 0) → (OneStands bytes s n → ⊥) → A
+read_none tell read bytes s rest n fits q size against = absurd (against (one_stands tell read bytes s rest n fits q size))
 
-pub unmarked : (r : Record) → IsTrue (is_marked r) → is_marked r ≡ false → ⊥
-unmarked r is isnt = grind arith
+pub unmarked : (format : ℕ) (r : Record) → IsTrue (is_marked format r) → is_marked format r ≡ false → ⊥
+unmarked format r is isnt = grind arith
+
+-- ---- what a log of version 1 has, one of version 2 has too
+
+later_mark : (mark : EndMark) → IsTrue (is_mark 1 mark) → IsTrue (is_mark 2 mark)
+later_mark mark is = grind arith
+
+later_marked : (r : Record) → IsTrue (is_marked 1 r) → IsTrue (is_marked 2 r)
+later_marked (Header h n ic pc x) is = is
+later_marked (FirstLoad h skip value) is = is
+later_marked (ScOk h) is = is
+later_marked (ScFailed h) is = is
+later_marked (Edge h ic s j) is = is
+later_marked (End h mark) is = later_mark mark is
+
+pub fit_later : FitLater
+fit_later r fits = record { fields = fits.fields; mark = later_marked r fits.mark }

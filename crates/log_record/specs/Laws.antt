@@ -2,7 +2,7 @@
 use Rattle.std.specs.Prelude.{ℕ, ◌≡◌, ◌≤◌, List, ◌++◌, length, drop, Some, slice_index}
 use Rattle.le_numbers.specs.Numbers.{AreBytes}
 use Rattle.log_record.specs.declared.record.Record.{Record}
-use Rattle.log_record.specs.Spelling.{size_of, bytes_of, FitsFields}
+use Rattle.log_record.specs.Spelling.{size_of, bytes_of, FitsFields, Fits}
 use Rattle.log_record.specs.Reading.{record_in}
 
 -- the first byte of a record's bytes tells how many they are, whatever follows
@@ -20,3 +20,7 @@ AreWritten = (n : ℕ) (bytes : List ℕ) → AreBytes bytes → size_of (slice_
 -- no record's bytes begin another's
 abbrev pub BeginNoOther : Type 0
 BeginNoOther = (r s : Record) (x y : List ℕ) → FitsFields r → FitsFields s → bytes_of r ++ x ≡ bytes_of s ++ y → (r ≡ s) × (x ≡ y)
+
+-- what a log of version 1 has, one of version 2 has too
+abbrev pub FitLater : Type 0
+FitLater = (r : Record) → Fits 1 r → Fits 2 r

@@ -48,22 +48,22 @@ bytes_of (End h mark) = 6 ∷ h ∷ number_bytes 8 mark.ic ++ mark.reason ∷ nu
 abbrev pub has_value : ℕ → Bool
 has_value reason = reason == 2 || reason == 3 || reason == 4 || (nat_lt 16 reason && nat_le reason 25 && not (reason == 18))
 
--- the reasons of an end whose value is 0: the full length, a stop by another hart, the limit, and the breakpoint
-abbrev pub has_no_value : ℕ → Bool
-has_no_value reason = reason == 1 || reason == 5 || reason == 7 || reason == 18
+-- the reasons of an end whose value is 0: the full length, a stop by another hart, the limit, and the breakpoint; in a log of version 2 also the guard
+abbrev pub has_no_value : ℕ → ℕ → Bool
+has_no_value format reason = reason == 1 || reason == 5 || reason == 7 || reason == 18 || ((format == 2) && (reason == 6))
 
--- an interval can end so
-abbrev pub is_mark : EndMark → Bool
-is_mark mark = has_value mark.reason || (has_no_value mark.reason && (mark.value == 0))
+-- an interval can end so in a log of this version
+abbrev pub is_mark : ℕ → EndMark → Bool
+is_mark format mark = has_value mark.reason || (has_no_value format mark.reason && (mark.value == 0))
 
 -- the mark of an End is one of those; other records have none
-abbrev pub is_marked : Record → Bool
-is_marked (Header h n ic pc x) = true
-is_marked (FirstLoad h skip value) = true
-is_marked (ScOk h) = true
-is_marked (ScFailed h) = true
-is_marked (Edge h ic s j) = true
-is_marked (End h mark) = is_mark mark
+abbrev pub is_marked : ℕ → Record → Bool
+is_marked format (Header h n ic pc x) = true
+is_marked format (FirstLoad h skip value) = true
+is_marked format (ScOk h) = true
+is_marked format (ScFailed h) = true
+is_marked format (Edge h ic s j) = true
+is_marked format (End h mark) = is_mark format mark
 
 -- the contents of the registers: 32 words, the first 0
 pub record AreRegisters (x : List ℕ) : Type 0 where
@@ -81,17 +81,17 @@ FitsFields (ScFailed h) = h < 256
 FitsFields (Edge h ic s j) = (h < 256) × (ic < 2 ^ 64) × (s < 256) × (j < 2 ^ 64)
 FitsFields (End h mark) = (h < 256) × (mark.ic < 2 ^ 64) × (mark.reason < 256) × (mark.value < 2 ^ 32)
 
--- the log has such a record
-pub record Fits (r : Record) : Type 0 where
+-- a log of this version has such a record
+pub record Fits (format : ℕ) (r : Record) : Type 0 where
   pub fields : FitsFields r
-  pub mark : IsTrue (is_marked r)
+  pub mark : IsTrue (is_marked format r)
 
 -- how many bytes records have together
 abbrev pub total : List Record → ℕ
 total rs = length (flat_map bytes_of rs)
 
--- the bytes begin with those of a record, which has so many
-pub record BeginsWith (bytes : List ℕ) (r : Record) (n : ℕ) : Type 0 where
-  pub fits : Fits r
+-- the bytes begin with those of a record that a log of this version has, and which has so many
+pub record BeginsWith (format : ℕ) (bytes : List ℕ) (r : Record) (n : ℕ) : Type 0 where
+  pub fits : Fits format r
   pub size : n ≡ length (bytes_of r)
   pub parts : bytes ≡ bytes_of r ++ drop n bytes

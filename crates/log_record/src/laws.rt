@@ -2,7 +2,7 @@
 ghost use Rattle.std.specs.Prelude.{◌≡◌, Some, length};
 ghost use Rattle.log_record.specs.declared.record.Record.{Record};
 ghost use Rattle.log_record.specs.Spelling.{size_of, tag_of, bytes_of, FitsFields};
-ghost use Rattle.log_record.specs.Laws.{TellTheirSize, AreRead, AreWritten, BeginNoOther};
+ghost use Rattle.log_record.specs.Laws.{TellTheirSize, AreRead, AreWritten, BeginNoOther, FitLater};
 
 use le_numbers::laws::{
     numbers_have_their_width, read_numbers_are_written, written_numbers_are_read,
@@ -37,3 +37,8 @@ pub fn no_record_begins_another()
 {
     written_records_are_read();
 }
+
+/// A record that a log of version 1 has, one of version 2 has too.
+pub fn records_fit_later_versions()
+    ensures { FitLater }
+{}

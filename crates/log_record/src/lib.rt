@@ -12,6 +12,6 @@ pub mod writing;
 
 pub use bytes::Bytes;
 pub use head::Head;
-pub use reading::{read, size};
+pub use reading::{read, read_as, size};
 pub use record::Record;
 pub use writing::write;

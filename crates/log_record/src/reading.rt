@@ -6,7 +6,7 @@ ghost use Rattle.log_record.specs.Reading.{words_at, header_in, first_load_in, e
 
 use crate::laws::{read_records_are_written, tags_tell_sizes, written_records_are_read};
 use crate::record::Record;
-use bn_base::end_mark::{CALL, EXIT, FAULT, GROUP, LENGTH, LIMIT, STOPPED};
+use bn_base::end_mark::{CALL, EXIT, FAULT, GROUP, GUARD, LENGTH, LIMIT, STOPPED};
 use bn_base::{EndMark, Registers};
 use le_numbers::{read_u32, read_u64};
 
@@ -42,26 +42,27 @@ fn has_value(reason: u8) -> bool
     }
 }
 
-fn has_no_value(reason: u8) -> bool
-    ensures { result ≡ has_no_value reason }
+fn has_no_value(format: u8, reason: u8) -> bool
+    ensures { result ≡ has_no_value format reason }
 {
     match reason {
         LENGTH | STOPPED | LIMIT => true,
+        GUARD => format == 2,
         _ => reason == BREAKPOINT,
     }
 }
 
-fn is_mark(mark: &EndMark) -> bool
-    ensures { result ≡ is_mark mark.now }
+fn is_mark(format: u8, mark: &EndMark) -> bool
+    ensures { result ≡ is_mark format mark.now }
 {
-    has_value(mark.reason) || (has_no_value(mark.reason) && mark.value == 0)
+    has_value(mark.reason) || (has_no_value(format, mark.reason) && mark.value == 0)
 }
 
-fn is_marked(entry: &Record) -> bool
-    ensures { result ≡ is_marked entry.now }
+fn is_marked(format: u8, entry: &Record) -> bool
+    ensures { result ≡ is_marked format entry.now }
 {
     match entry {
-        Record::End { mark, .. } => is_mark(mark),
+        Record::End { mark, .. } => is_mark(format, mark),
         _ => true,
     }
 }
@@ -148,13 +149,14 @@ fn record_in(bytes: &[u8], size: usize) -> Record
     }
 }
 
-/// The record at the front of some bytes, and how many bytes it has. Others may follow it. `None`
-/// comes exactly where no record's bytes are at the front.
-pub fn read(bytes: &[u8]) -> Option<(Record, usize)>
+/// The record of a log of this version that is at the front of some bytes, and how many bytes it
+/// has. Others may follow it. `None` comes exactly where no such record's bytes are at the front.
+/// Version 2 has one more reason of an End, the guard's.
+pub fn read_as(format: u8, bytes: &[u8]) -> Option<(Record, usize)>
     // What is read stands there.
-    ensures found { IfSome result (λ x. BeginsWith bytes.now x.0 x.1) }
+    ensures found { IfSome result (λ x. BeginsWith format bytes.now x.0 x.1) }
     // What stands there is read, whatever follows it.
-    ensures only { (r : Record) (rest : List ℕ) → Fits r → bytes.now ≡ bytes_of r ++ rest → result ≡ Some (r, length (bytes_of r)) }
+    ensures only { (r : Record) (rest : List ℕ) → Fits format r → bytes.now ≡ bytes_of r ++ rest → result ≡ Some (r, length (bytes_of r)) }
 {
     tags_tell_sizes();
     written_records_are_read();
@@ -165,9 +167,18 @@ pub fn read(bytes: &[u8]) -> Option<(Record, usize)>
         return None;
     }
     let entry = record_in(bytes, size);
-    if is_marked(&entry) {
+    if is_marked(format, &entry) {
         Some((entry, size))
     } else {
         None
     }
+}
+
+/// The record of a log of version 1 that is at the front of some bytes, and how many bytes it has.
+/// `None` comes exactly where no such record's bytes are at the front.
+pub fn read(bytes: &[u8]) -> Option<(Record, usize)>
+    ensures found { IfSome result (λ x. BeginsWith 1 bytes.now x.0 x.1) }
+    ensures only { (r : Record) (rest : List ℕ) → Fits 1 r → bytes.now ≡ bytes_of r ++ rest → result ≡ Some (r, length (bytes_of r)) }
+{
+    read_as(1, bytes)
 }

@@ -8,7 +8,7 @@ use std::test::*;
 
 // A record is written as these bytes, and read from them, but not from fewer.
 fn check(rt: &impl Abort, entry: Record, bytes: &[u8])
-    requires marked { IsTrue (is_marked entry) }
+    requires marked { IsTrue (is_marked 2 entry) }
     requires some { 0 < length bytes.now }
 {
     assert_eq!(rt; write(&entry).as_slice(), bytes);

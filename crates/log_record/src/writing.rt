@@ -62,11 +62,12 @@ fn edge(hart: HartId, ic: Ic, from: HartId, from_ic: Ic) -> Bytes
 }
 
 /// The bytes of a record: the tag, the hart and the fields in their order, each number with its
-/// least significant byte first. The mark of an End is one that an interval can have.
+/// least significant byte first. The mark of an End is one that an interval can have, in a log of
+/// version 1 or 2.
 pub fn write(entry: &Record) -> Bytes
-    requires { IsTrue (is_marked entry.now) }
+    requires { IsTrue (is_marked 2 entry.now) }
     ensures bytes { result ≡ bytes_of entry.now }
-    ensures fits { Fits entry.now }
+    ensures fits { Fits 2 entry.now }
 {
     match entry {
         Record::Header {
