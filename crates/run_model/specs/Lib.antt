@@ -5,6 +5,7 @@ pub mod Rows
 pub mod Files
 pub mod Logs
 pub mod Counts
+pub mod Guards
 pub mod Harts
 pub mod Plain
 pub mod Parts
