@@ -10,7 +10,8 @@ ghost use Rattle.replay_laws.specs.Splits.{GuardedTurnsSplit};
 mod examples;
 
 pub use examples::{
-    a_fault_is_replayed, a_filled_word_is_loaded_again, the_last_interval_is_replayed,
+    a_fault_is_replayed, a_filled_word_is_loaded_again, a_guarded_load_is_replayed,
+    a_late_fault_is_replayed, the_last_interval_is_replayed,
 };
 use log_ring::laws::a_suffix_is_kept;
 use run_model::format_1_is_unguarded;
