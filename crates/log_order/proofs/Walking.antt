@@ -61,22 +61,22 @@ pub late_done : (place : ℕ) (harts : List HartView) (records : List Record) (k
 unfolding late_edge
 late_done place harts records k whole le so_far = sym so_far ∙ ap (late_edge harts place) (drop_all k records le)
 
--- the first of eight like views
-pub first_views : (count : ℕ) (v : HartView) → count ≤ 8 → take count (replicate 8 v) ≡ replicate count v
-first_views count v le = take-replicate count 8 v le
+-- the first of sixteen like views
+pub first_views : (count : ℕ) (v : HartView) → count ≤ 16 → take count (replicate 16 v) ≡ replicate count v
+first_views count v le = take-replicate count 16 v le
 
-pub broken_early : (t : Terms) (count : ℕ) (all : Bool) (records : List Record) (v : HartView) (found : OrderBreak) → count ≤ 8 → v ≡ fresh all
-    → after_all t 0 (take count (replicate 8 v)) records ≡ Err found → Some found ≡ broken t count all records
+pub broken_early : (t : Terms) (count : ℕ) (all : Bool) (records : List Record) (v : HartView) (found : OrderBreak) → count ≤ 16 → v ≡ fresh all
+    → after_all t 0 (take count (replicate 16 v)) records ≡ Err found → Some found ≡ broken t count all records
 unfolding broken
 broken_early t count all records v found le is e =
-    let start : take count (replicate 8 v) ≡ replicate count (fresh all) = first_views count v le ∙ ap (replicate count) is in
+    let start : take count (replicate 16 v) ≡ replicate count (fresh all) = first_views count v le ∙ ap (replicate count) is in
     let ran : after_all t 0 (replicate count (fresh all)) records ≡ Err found = ap (λ (hs : List HartView). after_all t 0 hs records) (sym start) ∙ e in
     rw ran refl
 
-pub broken_ended : (t : Terms) (count : ℕ) (all : Bool) (records : List Record) (v : HartView) (harts : List HartView) (result : Option OrderBreak) → count ≤ 8 → v ≡ fresh all
-    → after_all t 0 (take count (replicate 8 v)) records ≡ Ok harts → result ≡ ended all harts records → result ≡ broken t count all records
+pub broken_ended : (t : Terms) (count : ℕ) (all : Bool) (records : List Record) (v : HartView) (harts : List HartView) (result : Option OrderBreak) → count ≤ 16 → v ≡ fresh all
+    → after_all t 0 (take count (replicate 16 v)) records ≡ Ok harts → result ≡ ended all harts records → result ≡ broken t count all records
 unfolding broken
 broken_ended t count all records v harts result le is e end =
-    let start : take count (replicate 8 v) ≡ replicate count (fresh all) = first_views count v le ∙ ap (replicate count) is in
+    let start : take count (replicate 16 v) ≡ replicate count (fresh all) = first_views count v le ∙ ap (replicate count) is in
     let ran : after_all t 0 (replicate count (fresh all)) records ≡ Ok harts = ap (λ (hs : List HartView). after_all t 0 hs records) (sym start) ∙ e in
     rw ran end

@@ -1,5 +1,5 @@
 -- What may follow where more is known may follow where less is.
-use Rattle.std.proofs.Common.{◌≡◌, ℕ, ◌+◌, ◌≤◌, ◌^◌, max, Bool, true, false, not, ◌&&◌, ◌||◌, Option, Some, None, Result, Ok, Err, refl, subst, arith}
+use Rattle.std.proofs.Common.{◌≡◌, ℕ, ◌+◌, ◌≤◌, ◌^◌, max, Bool, true, false, not, ◌&&◌, Option, Some, None, Result, Ok, Err, refl, subst, arith}
 use Rattle.std.specs.Prelude.{nat_lt, nat_le, ◌==◌, if◌then◌else◌}
 use Rattle.bn_base.specs.declared.end_mark.EndMark.{EndMark}
 use Rattle.log_record.specs.declared.record.Record.{Record}
@@ -8,7 +8,7 @@ use Rattle.log_order.specs.declared.view.Terms.{Terms}
 use Rattle.log_order.specs.declared.view.Phase.{Phase}
 use Rattle.log_order.specs.declared.view.Phase.TheVariants.{Unknown, Awaiting, Open, Done}
 use Rattle.log_order.specs.declared.view.HartView.{HartView}
-use Rattle.log_order.specs.Rules.{takes_header, takes_other, is_number, is_awaited, has_edge, has_end, next_number, phase_after, after_header, after_edge, after_end, after_other, after_one, is_over}
+use Rattle.log_order.specs.Rules.{takes_header, takes_other, is_number, is_awaited, has_edge, has_end, next_number, goes_on, phase_after, after_header, after_edge, after_end, after_other, after_one, is_over}
 use Rattle.log_order.specs.Weak.{IsWeakNumber, IsWeakPhase, IsWeak}
 
 passes : {X : Type 0} (b : Bool) (e : ℕ) (x : Result X ℕ) (y : X) → (if b then Err e else x) ≡ Ok y → (b ≡ false) × (x ≡ Ok y)
@@ -172,11 +172,11 @@ weak_end t w v u mark k h =
       new,
       rw (takes, low, c.0, d.0, within) refl,
       subst (λ (x : HartView). IsWeak new x) is (record {
-        phase = weak_choice (mark.reason == 1 || mark.reason == 2) w.phase v.phase mark.ic k.phase;
+        phase = weak_choice (goes_on mark.reason) w.phase v.phase mark.ic k.phase;
         seen = k.seen;
         met = λ y. refl;
         last = refl;
-        over = λ y z. over_choice (mark.reason == 1 || mark.reason == 2) w.phase v.phase mark.ic y;
+        over = λ y z. over_choice (goes_on mark.reason) w.phase v.phase mark.ic y;
       }),
     )
 

@@ -16,11 +16,11 @@ pub record Content : Type 0 where
 abbrev pub content : Head → ℕ → List Record → Content
 content head dropped records = record { head = head; dropped = dropped; records = records }
 
--- a log can say so: its settings are in range, its numbers fit, its records have at most log-size bytes and are in order
+-- a log can say so: its settings are in range, its numbers fit, its version has its records, and these have at most log-size bytes and are in order
 pub record IsContent (c : Content) : Type 0 where
   pub settings : IsSetting c.head.settings
   pub digest : length c.head.digest ≡ 32
   pub dropped : c.dropped < 2 ^ 64
-  pub fit : AllByRecursion Fits c.records
+  pub fit : AllByRecursion (Fits c.head.settings.format) c.records
   pub bound : total c.records ≤ c.head.settings.log_size
   pub order : broken_by c.head.settings c.dropped c.records ≡ None

@@ -55,9 +55,13 @@ next_number (Awaiting next count) = None
 next_number (Open next since) = Some next
 next_number Done = None
 
--- where an End leaves its hart: after reasons length (1) and call (2) it awaits a Header, else it is done
+-- the reasons after which a hart goes on: length (1), call (2) and guard (6)
+abbrev pub goes_on : ℕ → Bool
+goes_on reason = reason == 1 || reason == 2 || reason == 6
+
+-- where an End leaves its hart: after such a reason it awaits a Header, else it is done
 abbrev pub phase_after : Phase → EndMark → Phase
-phase_after phase mark = if mark.reason == 1 || mark.reason == 2 then Awaiting (next_number phase) mark.ic else Done
+phase_after phase mark = if goes_on mark.reason then Awaiting (next_number phase) mark.ic else Done
 
 -- the hart after its Header with this number and count, or the lowest rule that the Header breaks
 unfoldable pub after_header : Terms → HartView → ℕ → ℕ → Result HartView ℕ

@@ -10,7 +10,7 @@ use log_record::{Head, Record};
 use std::marker::Model;
 
 /// What a log says: its head, how many records were given up before those that it keeps, and these
-/// records, which have at most log-size bytes and are in order.
+/// records, which logs of its version have, and which have at most log-size bytes and are in order.
 #[derive(Drop)]
 pub struct KeptLog {
     head: Head,
@@ -29,10 +29,10 @@ impl Model for KeptLog {
 }
 
 impl KeptLog {
-    /// The log with this head, so many dropped records and these kept ones, which have at most
-    /// log-size bytes. The error tells where they break the order first.
+    /// The log with this head, so many dropped records and these kept ones, which logs of its
+    /// version have, and which have at most log-size bytes. The error tells where they break the order first.
     pub fn checked(head: Head, dropped: u64, records: Vec<Record>) -> Result<KeptLog, OrderBreak>
-        requires fit { AllByRecursion Fits records.items }
+        requires fit { AllByRecursion (Fits head.settings.format) records.items }
         requires bound { total records.items ≤ head.settings.log_size }
         ensures ok { IfOk result (λ k. k ≡ content head dropped records.items) }
         ensures err { IfErr result (λ b. broken_by head.settings dropped records.items ≡ Some b) }

@@ -2,7 +2,7 @@
 ghost use Rattle.std.specs.Prelude.{◌≡◌};
 ghost use Rattle.log_order.specs.Rules.{takes_header, takes_other, is_awaited, has_edge, has_end, next_number, phase_after, after_header, after_edge, after_end, after_other, after_one, fresh, is_over, is_unfinished};
 
-use bn_base::end_mark::{CALL, LENGTH, LIMIT};
+use bn_base::end_mark::{CALL, GUARD, LENGTH, LIMIT};
 use bn_base::{EndMark, Ic};
 use log_record::Record;
 
@@ -114,7 +114,7 @@ impl Phase {
     fn after_end(self, mark: &EndMark) -> Phase
         ensures { result ≡ phase_after self mark.now }
     {
-        if mark.reason == LENGTH || mark.reason == CALL {
+        if mark.reason == LENGTH || mark.reason == CALL || mark.reason == GUARD {
             Phase::Awaiting {
                 next: self.next_number(),
                 ic: mark.ic,

@@ -1,12 +1,13 @@
 // The first break of the order of records.
 ghost use Rattle.std.specs.Prelude.{◌≡◌, ◌<◌, ◌≤◌, ◌^◌, ◌==◌};
 ghost use Rattle.std.specs.List.{list_any};
+ghost use Rattle.bn_base.specs.declared.settings.TheConstants.{HARTS};
 ghost use Rattle.log_record.specs.Spelling.{total};
 ghost use Rattle.log_order.specs.Rules.{is_unfinished};
 ghost use Rattle.log_order.specs.Order.{has_source, step, Steps, after_all, is_late, late_edge, ended, broken, broken_by, terms_of};
 
 use crate::view::{HartView, Terms};
-use bn_base::Settings;
+use bn_base::{HARTS, Settings};
 use log_record::Record;
 
 /// Where the order of records is broken first, and by which rule.
@@ -17,9 +18,6 @@ pub struct OrderBreak {
     /// The rule, 1 to 7.
     pub rule: u64,
 }
-
-// The most harts that a recording has.
-const MOST_HARTS: usize = 8;
 
 impl Terms {
     /// What of the settings the order depends on.
@@ -142,11 +140,11 @@ fn ended(all: bool, harts: &[HartView], records: &[Record]) -> Option<OrderBreak
 
 #[tactic(auto, unfolding(crate::specs::Order::broken))]
 fn broken(terms: &Terms, count: usize, all: bool, records: &[Record]) -> Option<OrderBreak>
-    requires count { count ≤ 8 }
+    requires count { count ≤ HARTS }
     requires size { total records.now < 2 ^ 63 }
     ensures { result ≡ broken terms.now count all records.now }
 {
-    let mut views = [HartView::fresh(all); MOST_HARTS];
+    let mut views = [HartView::fresh(all); HARTS];
     let harts = &mut views[..count];
     match after_all(terms, harts, records) {
         Err(found) => Some(found),

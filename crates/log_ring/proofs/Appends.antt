@@ -11,7 +11,7 @@ use Rattle.log_ring.specs.Kept.{kept, Held, held, Holds, GivesUp}
 use Rattle.log_ring.proofs.Cuts.{records_in-bytes, whole_of}
 use Rattle.log_ring.proofs.Fitting.{kept-suffix, kept-kept, kept-append}
 
-all-push : (rs : List Record) (r : Record) → AllByRecursion Fits rs → Fits r → AllByRecursion Fits (rs ++ r ∷ [])
+all-push : (rs : List Record) (r : Record) → AllByRecursion (Fits 2) rs → Fits 2 r → AllByRecursion (Fits 2) (rs ++ r ∷ [])
 all-push [] r fit one = (one, tt)
 all-push (x ∷ rs) r fit one = (fit.0, all-push rs r fit.1 one)
 
@@ -20,7 +20,7 @@ flat_map-push [] r = append-nil (bytes_of r)
 flat_map-push (x ∷ rs) r = ap (λ (t : List ℕ). bytes_of x ++ t) (flat_map-push rs r) ∙ sym (append_assoc (bytes_of x) (flat_map bytes_of rs) (bytes_of r))
 
 -- bytes of whole records with one record more
-pub pushed_whole : TellTheirSize → AreRead → (xs ys : List ℕ) (r : Record) → IsWhole xs → Fits r → ys ≡ xs ++ bytes_of r → (IsWhole ys) × (records_in ys ≡ records_in xs ++ r ∷ [])
+pub pushed_whole : TellTheirSize → AreRead → (xs ys : List ℕ) (r : Record) → IsWhole xs → Fits 2 r → ys ≡ xs ++ bytes_of r → (IsWhole ys) × (records_in ys ≡ records_in xs ++ r ∷ [])
 pushed_whole tell read xs ys r whole fits e =
     let fit = all-push (records_in xs) r whole.fit fits in
     let joined : flat_map bytes_of (records_in xs ++ r ∷ []) ≡ ys = flat_map-push (records_in xs) r ∙ ap (λ (t : List ℕ). t ++ bytes_of r) whole.joined ∙ sym e in
@@ -54,7 +54,7 @@ pub record Pushed (old : Held) (r : Record) (b : Buffer ℕ) (m : ℕ) : Type 0 
   pub count : m + length (records_in b.items) ≡ length old.records + 1
 
 pub pushed : TellTheirSize → AreRead → (old : Held) (xs : List ℕ) (dropped capacity size room m : ℕ) (mid b : Buffer ℕ) (text : List ℕ) (r : Record)
-    → held (records_in xs) dropped capacity ≡ old → Fits r → text ≡ bytes_of r → size ≡ length text → room ≡ capacity - size → size ≤ capacity
+    → held (records_in xs) dropped capacity ≡ old → Fits 2 r → text ≡ bytes_of r → size ≡ length text → room ≡ capacity - size → size ≤ capacity
     → IsWhole mid.items → mid.capacity ≡ capacity → records_in mid.items ≡ kept room (records_in xs) → length mid.items ≤ room → m + length (records_in mid.items) ≡ length (records_in xs)
     → b ≡ buffer (keep_last mid.capacity (mid.items ++ text)) mid.capacity → Pushed old r b m
 pushed tell read old xs dropped capacity size room m mid b text r view fits text_is size_is room_is within whole mid_capacity mid_records mid_room count out =

@@ -49,7 +49,7 @@ first_byte (b ∷ bytes) tag e = cc
 
 -- by the laws of records: the first byte of a record tells how many they are, and its fields make the record
 module _ (tell : TellTheirSize) (read : AreRead) where
-  cut-bytes : (count : ℕ) (rs : List Record) → AllByRecursion Fits rs → length (flat_map bytes_of rs) ≤ count → cut count (flat_map bytes_of rs) ≡ rs
+  cut-bytes : (count : ℕ) (rs : List Record) → AllByRecursion (Fits 2) rs → length (flat_map bytes_of rs) ≤ count → cut count (flat_map bytes_of rs) ≡ rs
   cut-bytes count [] fit enough = cut-nil count
   cut-bytes zero (r ∷ rs) fit enough = absurd (omega (arith, two_bytes r, length-append (bytes_of r) (flat_map bytes_of rs)))
   cut-bytes (suc count) (r ∷ rs) fit enough =
@@ -61,15 +61,15 @@ module _ (tell : TellTheirSize) (read : AreRead) where
       cut-suc count bytes (omega arith)
       ∙ ap₂ (λ (x : Record) (xs : List Record). x ∷ xs) (read r (flat_map bytes_of rs) fit.0.fields) (ap (cut count) next ∙ cut-bytes count rs fit.1 (omega arith))
 
-  pub records_in-bytes : (bytes : List ℕ) (rs : List Record) → AllByRecursion Fits rs → flat_map bytes_of rs ≡ bytes → records_in bytes ≡ rs
+  pub records_in-bytes : (bytes : List ℕ) (rs : List Record) → AllByRecursion (Fits 2) rs → flat_map bytes_of rs ≡ bytes → records_in bytes ≡ rs
   records_in-bytes bytes rs fit e = ap records_in (sym e) ∙ cut-bytes (length (flat_map bytes_of rs)) rs fit (omega arith)
 
-  pub whole_of : (bytes : List ℕ) (rs : List Record) → AllByRecursion Fits rs → flat_map bytes_of rs ≡ bytes → IsWhole bytes
+  pub whole_of : (bytes : List ℕ) (rs : List Record) → AllByRecursion (Fits 2) rs → flat_map bytes_of rs ≡ bytes → IsWhole bytes
   whole_of bytes rs fit e =
       let same = records_in-bytes bytes rs fit e in
-      record { fit = subst (AllByRecursion Fits) (sym same) fit; joined = ap (flat_map bytes_of) same ∙ e }
+      record { fit = subst (AllByRecursion (Fits 2)) (sym same) fit; joined = ap (flat_map bytes_of) same ∙ e }
 
-  first_of : (bytes : List ℕ) (rs : List Record) → 0 < length bytes → records_in bytes ≡ rs → AllByRecursion Fits rs → flat_map bytes_of rs ≡ bytes → First bytes
+  first_of : (bytes : List ℕ) (rs : List Record) → 0 < length bytes → records_in bytes ≡ rs → AllByRecursion (Fits 2) rs → flat_map bytes_of rs ≡ bytes → First bytes
   first_of bytes [] some same fit e = absurd (omega (arith, ap length e))
   first_of bytes (r ∷ rs) some same fit e =
       let parts : bytes ≡ bytes_of r ++ flat_map bytes_of rs = sym e in
@@ -110,7 +110,7 @@ pub records_in-nil : records_in [] ≡ []
 records_in-nil = cut-nil 0
 
 pub whole_nil : IsWhole []
-whole_nil = record { fit = subst (AllByRecursion Fits) (sym records_in-nil) tt; joined = ap (flat_map bytes_of) records_in-nil }
+whole_nil = record { fit = subst (AllByRecursion (Fits 2)) (sym records_in-nil) tt; joined = ap (flat_map bytes_of) records_in-nil }
 
 -- no more records than half of the bytes
 pub total-records_in : (bytes : List ℕ) → IsWhole bytes → length (flat_map bytes_of (records_in bytes)) ≡ length bytes

@@ -15,9 +15,9 @@ cut (suc count) (tag ∷ bytes) = record_in (tag ∷ bytes) ∷ cut count (drop 
 abbrev pub records_in : List ℕ → List Record
 records_in bytes = cut (length bytes) bytes
 
--- the bytes are those of whole records
+-- the bytes are those of whole records, as logs of version 2 have them
 pub record IsWhole (bytes : List ℕ) : Type 0 where
-  pub fit : AllByRecursion Fits (records_in bytes)
+  pub fit : AllByRecursion (Fits 2) (records_in bytes)
   pub joined : flat_map bytes_of (records_in bytes) ≡ bytes
 
 -- the first of them has so many bytes, and behind them are whole records too

@@ -126,17 +126,17 @@ impl Ring {
     /// The bytes of its records, the oldest first.
     pub fn copy(&self, alloc: Global) -> Result<Vec<u8>, AllocError>
         ensures bytes { IfOk result (λ v. v.items ≡ flat_map bytes_of self.now.records) }
-        ensures fit { AllByRecursion Fits self.now.records }
+        ensures fit { AllByRecursion (Fits 2) self.now.records }
         ensures bound { total self.now.records ≤ self.now.size }
     {
         let _within = self.bytes.len();
         self.bytes.to_vec(alloc)
     }
 
-    /// Appends a record, for which the fewest oldest ones are given up, at most 73. Fewer than 2^60
-    /// have been appended before. It takes no memory.
+    /// Appends a record of a log of version 1 or 2, for which the fewest oldest ones are given up,
+    /// at most 73. Fewer than 2^60 have been appended before. It takes no memory.
     pub fn append(&mut self, entry: &Record)
-        requires marked { IsTrue (is_marked entry.now) }
+        requires marked { IsTrue (is_marked 2 entry.now) }
         requires count { self.old.dropped + length self.old.records < 2 ^ 60 }
         ensures latest { self.new.records ≡ kept self.old.size (self.old.records ++ entry.now ∷ []) }
         ensures given_up { GivesUp self.old entry.now self.new }

@@ -7,7 +7,7 @@ use log_record::Record;
 use std::test::*;
 
 fn header(interval: u64) -> Record
-    ensures { IsTrue (is_marked result) }
+    ensures { IsTrue (is_marked 2 result) }
 {
     Record::Header {
         hart: 0,
@@ -20,7 +20,7 @@ fn header(interval: u64) -> Record
 
 // Appends the same record so many times.
 fn append_all(ring: &mut Ring, entry: &Record, count: u32)
-    requires marked { IsTrue (is_marked entry.now) }
+    requires marked { IsTrue (is_marked 2 entry.now) }
     requires few { ring.old.dropped + length ring.old.records + count < 2 ^ 60 }
     ensures { ring.new.dropped + length ring.new.records ≡ ring.old.dropped + length ring.old.records + count }
 {

@@ -3,4 +3,4 @@
 
 mod times;
 
-pub use times::{HARTS, Times};
+pub use times::Times;

@@ -1,10 +1,7 @@
 ghost use Rattle.std.specs.Prelude.{◌≡◌, ◌<◌, ◌↔◌, ◌==◌, ℕ, IsTrue, length, max, if◌then◌else◌};
-ghost use Rattle.vector_time.specs.declared.times.TheConstants.{HARTS};
+ghost use Rattle.bn_base.specs.declared.settings.TheConstants.{HARTS};
 
-use bn_base::{HartId, Ic};
-
-/// How many harts there can be.
-pub const HARTS: usize = 8;
+use bn_base::{HARTS, HartId, Ic};
 
 /// For each hart, how many of its points are known to be before.
 ///
