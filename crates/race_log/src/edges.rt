@@ -1,8 +1,7 @@
 ghost use Rattle.std.specs.Prelude.{◌≡◌, ◌<◌, ◌++◌, ◌∷◌, [], length, slice_get};
 
-use bn_base::{HartId, Ic};
+use bn_base::{HARTS, HartId, Ic};
 use std::marker::Model;
-use vector_time::HARTS;
 
 /// The points that the edges into one point come from, by hart and count, the latest first.
 #[derive(Drop)]
@@ -13,7 +12,7 @@ pub struct Edges {
 
 impl Model for Edges {
     ghost use Rattle.std.specs.Prelude.{◌≡◌, ◌≤◌, ℕ, List, length, take};
-    ghost use Rattle.vector_time.specs.declared.times.TheConstants.{HARTS};
+    ghost use Rattle.bn_base.specs.declared.settings.TheConstants.{HARTS};
 
     ghost Value = { List (ℕ × ℕ) };
 

@@ -1,5 +1,5 @@
 ghost use Rattle.std.specs.Prelude.{◌<◌};
-ghost use Rattle.vector_time.specs.declared.times.TheConstants.{HARTS};
+ghost use Rattle.bn_base.specs.declared.settings.TheConstants.{HARTS};
 
 use crate::mode::Mode;
 use bn_base::{HartId, Ic};

@@ -1,6 +1,6 @@
 ghost use Rattle.std.specs.Prelude.{◌≡◌, ◌+◌, ◌*◌, ◌<◌, ◌≤◌, ◌^◌, ℕ, None, length};
 ghost use Rattle.vector_time.specs.Times.{count_of};
-ghost use Rattle.vector_time.specs.declared.times.TheConstants.{HARTS};
+ghost use Rattle.bn_base.specs.declared.settings.TheConstants.{HARTS};
 ghost use Rattle.race_log.specs.Search.{gathered, latest, newer, sources, counts_after};
 ghost use Rattle.race_log.specs.Words.{kept_in};
 

@@ -1,6 +1,6 @@
 ghost use Rattle.std.specs.Prelude.{◌≡◌, ◌+◌, ◌*◌, ◌<◌, ◌≤◌, ◌^◌, ◌%◌, ◌==◌, ◌↔◌, ℕ, Bool, List, [], All, Contains, IfOk, OnOk, OnErr, IsTrue, Some, None, length, vec_len, if◌then◌else◌, ◌≢◌};
 ghost use Rattle.std.specs.Option.{ForSome};
-ghost use Rattle.vector_time.specs.declared.times.TheConstants.{HARTS};
+ghost use Rattle.bn_base.specs.declared.settings.TheConstants.{HARTS};
 ghost use Rattle.race_log.specs.Words.{HasRoom};
 
 use crate::edges::Edges;
