@@ -74,7 +74,7 @@ abbrev pub and_then : {X Y : Type 0} → Option X → (X → Option Y) → Optio
 and_then None f = None
 and_then (Some x) f = f x
 
--- the settings
+-- the settings, of which the last three have no option
 abbrev pub settings_in : List Row → Option RawSettings
 settings_in rows =
     and_then (number_or default_settings.harts (codes "harts") rows) (λ harts.
@@ -85,7 +85,7 @@ settings_in rows =
     and_then (number_or default_settings.sets (codes "sets") rows) (λ sets.
     and_then (number_or default_settings.ways (codes "ways") rows) (λ ways.
     and_then (number_or default_settings.line (codes "line") rows) (λ line.
-    Some (record { harts = harts; interval = interval; limit = limit; log_size = log_size; memory = memory; sets = sets; ways = ways; line = line })))))))))
+    Some (record default_settings { harts = harts; interval = interval; limit = limit; log_size = log_size; memory = memory; sets = sets; ways = ways; line = line })))))))))
 
 abbrev pub recording_in : List Row → Option RecordingLine
 recording_in rows =

@@ -59,6 +59,7 @@ fn settings_in(matches: &ArgMatches<'_>) -> Option<RawSettings>
         sets,
         ways,
         line,
+        ..default
     })
 }
 

@@ -1,14 +1,14 @@
 -- A file that is written is read again.
 use Rattle.std.proofs.Common.{◌≡◌, ℕ, ◌+◌, ◌-◌, ◌%◌, ◌^◌, ◌<◌, ◌≤◌, List, ◌++◌, length, take, drop, length-drop, length-append, Result, Ok, Err, Option, Some, None, refl, sym, ap, subst, ◌∙◌, arith, inl, inr}
-use Rattle.std.specs.Prelude.{IsTrue, true, IfOk, IfErr, MatchResult}
-use Rattle.std.specs.List.{flat_map}
-use Rattle.std.proofs.lemmas.Bool.{eq-eqb, le-ltb}
+use Rattle.std.specs.Prelude.{IsTrue, Bool, true, ◌==◌, if◌then◌else◌, IfOk, IfErr, MatchResult}
+use Rattle.std.specs.List.{flat_map, AllByRecursion}
+use Rattle.std.proofs.lemmas.Bool.{eq-eqb, eqb-true, le-ltb}
 use Rattle.std.proofs.lemmas.List.{drop-drop, take_at, drop_at}
 use Rattle.std.proofs.lemmas.Slice.Eq.{bytes_eq-Decides}
 use Rattle.sha2.specs.Sha256.{sha256}
 use Rattle.sha2.proofs.Facts256.{length-sha256}
 use Rattle.bn_base.specs.declared.settings.RawSettings.{RawSettings}
-use Rattle.bn_base.specs.Ranges.{IsSetting, is_between, is_small_power, is_memory_size, first_bad}
+use Rattle.bn_base.specs.Ranges.{IsSetting, is_between, is_small_power, is_memory_size, most_harts, is_second_sets, is_second_ways, first_bad}
 use Rattle.std.specs.Int.{is_power_of_two}
 use Rattle.le_numbers.specs.Numbers.{number_at, number_bytes}
 use Rattle.le_numbers.specs.Laws.{HaveTheirWidth, AreRead}
@@ -29,6 +29,45 @@ use Rattle.log_file.specs.Laws.{SayOneThing, AreNotRefused}
 use Rattle.log_file.proofs.Rows.{ArePrefixFree, no_stop, one_row}
 use Rattle.log_file.proofs.Heads.{spelled, signed_is_spelled}
 
+-- settings in range are those of version 1
+pub only_first : (s : RawSettings) → IsSetting s → s.format ≡ 1
+only_first s is = omega (arith, is.format_low, is.format_high)
+
+few_harts : (s : RawSettings) → IsSetting s → s.harts ≤ 8
+few_harts s is = subst (λ (f : ℕ). s.harts ≤ (if f == 2 then 16 else 8)) (only_first s is) is.harts_high
+
+truth : (b : Bool) → IsTrue b → b ≡ true
+truth b is = grind arith
+
+fit_first : (c : Content) → IsContent c → AllByRecursion (Fits 1) c.records
+fit_first c is = subst (λ (f : ℕ). AllByRecursion (Fits f) c.records) (only_first c.head.settings is.settings) is.fit
+
+-- the settings with the last fields as each file of version 1 has them
+abbrev first_fields : RawSettings → ℕ → ℕ → ℕ → RawSettings
+first_fields s format sets2 ways2 = record {
+  harts = s.harts;
+  interval = s.interval;
+  limit = s.limit;
+  log_size = s.log_size;
+  memory = s.memory;
+  sets = s.sets;
+  ways = s.ways;
+  line = s.line;
+  format = format;
+  sets2 = sets2;
+  ways2 = ways2;
+}
+
+same_fields : (s : RawSettings) → IsSetting s → first_fields s 1 0 0 ≡ s
+same_fields s is =
+    let one = only_first s is in
+    let sets : s.sets2 ≡ 0 = eqb-true s.sets2 0 (truth _ is.second_sets) in
+    let ways : s.ways2 ≡ 0 = eqb-true s.ways2 0 (truth _ is.second_ways) in
+    ap (λ (x : ℕ). first_fields s x 0 0) (sym one) ∙ ap (λ (x : ℕ). first_fields s s.format x 0) (sym sets) ∙ ap (λ (x : ℕ). first_fields s s.format s.sets2 x) (sym ways)
+
+abbrev head_with : List ℕ → RawSettings → Head
+head_with digest s = record { settings = s; digest = digest }
+
 -- what stands at the places of the fields
 pub record Again (bytes : List ℕ) (h : Head) (dropped n : ℕ) (rest : List ℕ) : Type 0 where
   pub begins : take 8 bytes ≡ magic
@@ -42,7 +81,7 @@ pub spelled_again : AreRead → (h : Head) (dropped n : ℕ) (rest bytes : List 
 unfolding spelled magic
 spelled_again read h dropped n rest bytes is len small fits e =
     let s8 = read 4 8 1 bytes _ (omega arith) (ap (drop 8) e) in
-    let s12 = read 4 12 h.settings.harts bytes _ (omega (arith, is.harts_high)) s8.1 in
+    let s12 = read 4 12 h.settings.harts bytes _ (omega (arith, few_harts h.settings is)) s8.1 in
     let s16 = read 4 16 h.settings.interval bytes _ (omega (arith, is.interval_high)) s12.1 in
     let s20 = read 8 20 h.settings.limit bytes _ (omega (arith, is.limit_high)) s16.1 in
     let s28 = read 4 28 h.settings.log_size bytes _ (omega (arith, is.log_size_high)) s20.1 in
@@ -54,10 +93,11 @@ spelled_again read h dropped n rest bytes is len small fits e =
     let later = sym (drop-drop 32 48 bytes) ∙ ap (drop 32) s44.1 ∙ drop_at h.digest _ 32 len in
     let s80 = read 8 80 dropped bytes _ small later in
     let s88 = read 4 88 n bytes rest fits s80.1 in
+    let fields : head_in bytes ≡ head_with h.digest (first_fields h.settings 1 0 0) = rw (s12.0, s16.0, s20.0, s28.0, s32.0, s36.0, s40.0, s44.0, digest) refl in
     record {
       begins = ap (take 8) e;
       version = s8.0;
-      head = rw (s12.0, s16.0, s20.0, s28.0, s32.0, s36.0, s40.0, s44.0, digest) refl;
+      head = fields ∙ ap (head_with h.digest) (same_fields h.settings is);
       dropped_is = s80.0;
       n_is = s88.0;
       rest_is = s88.1;
@@ -122,7 +162,7 @@ memory value l h p = grind arith
 none_bad : (s : RawSettings) → IsSetting s → first_bad s ≡ None
 none_bad s is =
     rw (
-      between 1 8 s.harts is.harts_low is.harts_high,
+      between 1 (most_harts s) s.harts is.harts_low is.harts_high,
       between 1 10000000 s.interval is.interval_low is.interval_high,
       between 1 (2 ^ 40) s.limit is.limit_low is.limit_high,
       between 16384 (2 ^ 28) s.log_size is.log_size_low is.log_size_high,
@@ -130,6 +170,9 @@ none_bad s is =
       power 1024 s.sets is.sets_low is.sets_high is.sets_power,
       between 1 16 s.ways is.ways_low is.ways_high,
       power 16 s.line is.line_low is.line_high is.line_power,
+      between 1 1 s.format is.format_low is.format_high,
+      truth (is_second_sets s) is.second_sets,
+      truth (is_second_ways s) is.second_ways,
     ) refl
 
 faultless : (signed : List ℕ) → take 8 signed ≡ magic → number_at 4 8 signed ≡ 1 → first_bad (settings_in signed) ≡ None → size_in signed ≤ (settings_in signed).log_size → size_in signed ≡ length signed - 92
@@ -153,7 +196,7 @@ no_fault_again read c is =
 
 -- ---- the records
 
-pub some_bytes : (r : Record) → Fits r → 0 < length (bytes_of r)
+pub some_bytes : (r : Record) → Fits 1 r → 0 < length (bytes_of r)
 some_bytes (Header h n ic pc x) fits = omega arith
 some_bytes (FirstLoad h skip value) fits = omega arith
 some_bytes (ScOk h) fits = omega arith
@@ -161,7 +204,7 @@ some_bytes (ScFailed h) fits = omega arith
 some_bytes (Edge h ic s j) fits = omega arith
 some_bytes (End h mark) fits = omega arith
 
-pub records_free : BeginNoOther → ArePrefixFree bytes_of Fits
+pub records_free : BeginNoOther → ArePrefixFree bytes_of (Fits 1)
 records_free alone = record { some = some_bytes; one = λ r s x y fr fs e. alone r s x y fr.fields fs.fields e }
 
 abbrev unbroken : Option OrderBreak
@@ -183,9 +226,9 @@ records_fault_again alone c is (BadVersion found) x = absurd x
 records_fault_again alone c is (BadHead field value) x = absurd x
 records_fault_again alone c is (LengthDiffers said found) x = absurd x
 records_fault_again alone c is (DigestDiffers kept found) x = absurd x
-records_fault_again alone c is (BadRecord place) x = absurd (no_stop bytes_of Fits (records_free alone) c.records x.before x.rest is.fit x.fit x.parts x.more x.none)
+records_fault_again alone c is (BadRecord place) x = absurd (no_stop bytes_of (Fits 1) (records_free alone) c.records x.before x.rest (fit_first c is) x.fit x.parts x.more x.none)
 records_fault_again alone c is (BadOrder place rule) x =
-    let same = one_row bytes_of Fits (records_free alone) c.records x.records is.fit x.fit x.parts in
+    let same = one_row bytes_of (Fits 1) (records_free alone) c.records x.records (fit_first c is) x.fit x.parts in
     absurd (no_break (order_break place rule) (sym is.order ∙ ap (broken_by c.head.settings c.dropped) same ∙ x.first))
 records_fault_again alone c is OutOfMemory x = refl
 
@@ -239,7 +282,7 @@ one_content read alone c d ic id e =
     let b = content_again read d id in
     let head : c.head ≡ d.head = sym a.head ∙ ap head_in s ∙ b.head in
     let dropped : c.dropped ≡ d.dropped = sym a.dropped_is ∙ ap dropped_in s ∙ b.dropped_is in
-    let rs = one_row bytes_of Fits (records_free alone) c.records d.records ic.fit id.fit (sym a.rest_is ∙ ap (drop 92) s ∙ b.rest_is) in
+    let rs = one_row bytes_of (Fits 1) (records_free alone) c.records d.records (fit_first c ic) (fit_first d id) (sym a.rest_is ∙ ap (drop 92) s ∙ b.rest_is) in
     ap (λ (h : Head). content h c.dropped c.records) head ∙ ap (λ (n : ℕ). content d.head n c.records) dropped ∙ ap (content d.head d.dropped) rs
 
 -- a file is read as the log whose spelling it is, since it is that of no other, and has no cause for a refusal

@@ -21,16 +21,16 @@ pub record HasFields (signed : List ℕ) (c : Content) : Type 0 where
 pub record NoRecord (bytes : List ℕ) (place : ℕ) : Type 0 where
   pub before : List Record
   pub rest : List ℕ
-  pub fit : AllByRecursion Fits before
+  pub fit : AllByRecursion (Fits 1) before
   pub parts : bytes ≡ flat_map bytes_of before ++ rest
   pub place_is : place ≡ total before
   pub more : 0 < length rest
-  pub none : (r : Record) (y : List ℕ) → Fits r → rest ≡ bytes_of r ++ y → ⊥
+  pub none : (r : Record) (y : List ℕ) → Fits 1 r → rest ≡ bytes_of r ++ y → ⊥
 
 -- the bytes are those of records, which break the order first there
 pub record BreaksOrder (head : Head) (dropped : ℕ) (bytes : List ℕ) (place rule : ℕ) : Type 0 where
   pub records : List Record
-  pub fit : AllByRecursion Fits records
+  pub fit : AllByRecursion (Fits 1) records
   pub parts : bytes ≡ flat_map bytes_of records
   pub first : broken_by head.settings dropped records ≡ Some (order_break place rule)
 

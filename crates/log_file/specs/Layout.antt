@@ -30,7 +30,7 @@ spelling head dropped records = signed_bytes head dropped records ++ sha256 (sig
 abbrev pub file_bytes : Content → List ℕ
 file_bytes c = spelling c.head c.dropped (flat_map bytes_of c.records)
 
--- the settings at their places
+-- the settings at their places; a file of version 1 has no others
 abbrev pub settings_in : List ℕ → RawSettings
 settings_in bytes = record {
   harts = number_at 4 12 bytes;
@@ -41,6 +41,9 @@ settings_in bytes = record {
   sets = number_at 4 36 bytes;
   ways = number_at 4 40 bytes;
   line = number_at 4 44 bytes;
+  format = 1;
+  sets2 = 0;
+  ways2 = 0;
 }
 
 -- the program's digest at its place

@@ -35,6 +35,9 @@ fn settings_in(bytes: &[u8]) -> RawSettings
         sets: read_u32(bytes, 36) as u64,
         ways: read_u32(bytes, 40) as u64,
         line: read_u32(bytes, 44) as u64,
+        format: 1,
+        sets2: 0,
+        ways2: 0,
     }
 }
 

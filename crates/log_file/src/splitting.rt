@@ -12,7 +12,7 @@ use std::alloc::Global;
 
 // How many records these bytes are, by the tags alone.
 fn count(bytes: &[u8]) -> usize
-    ensures { (rs : List Record) → AllByRecursion Fits rs → bytes.now ≡ flat_map bytes_of rs → result ≡ length rs }
+    ensures { (rs : List Record) → AllByRecursion (Fits 1) rs → bytes.now ≡ flat_map bytes_of rs → result ≡ length rs }
 {
     tags_tell_sizes();
     let mut count = 0;
@@ -29,10 +29,10 @@ fn count(bytes: &[u8]) -> usize
     count
 }
 
-/// The records whose bytes these are. The error tells the first place where a record should begin
+/// The records of a log of version 1 whose bytes these are. The error tells the first place where a record should begin
 /// and none does.
 pub fn split(alloc: Global, bytes: &[u8]) -> Result<Vec<Record>, FileError>
-    ensures fit { IfOk result (λ v. AllByRecursion Fits v.items) }
+    ensures fit { IfOk result (λ v. AllByRecursion (Fits 1) v.items) }
     ensures parts { IfOk result (λ v. bytes.now ≡ flat_map bytes_of v.items) }
     ensures refused { IfErr result (λ e. IsSplitError bytes.now e) }
 {

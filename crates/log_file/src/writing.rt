@@ -26,8 +26,8 @@ fn settings_part(alloc: Global, settings: &Settings) -> Result<Vec<u8>, AllocErr
     Ok(out)
 }
 
-/// The file with this head, so many dropped records and the bytes of these kept ones, at most
-/// log-size bytes.
+/// The file of version 1 with this head, so many dropped records and the bytes of these kept ones,
+/// at most log-size bytes.
 #[tactic(auto, unfolding(crate::specs::Layout::signed_bytes))]
 pub fn write_file(
     alloc: Global,
@@ -35,7 +35,8 @@ pub fn write_file(
     dropped: u64,
     records: &[u8],
 ) -> Result<Vec<u8>, AllocError>
-    requires { length records.now ≤ head.now.settings.log_size }
+    requires format { head.now.settings.format ≡ 1 }
+    requires bound { length records.now ≤ head.now.settings.log_size }
     ensures { IfOk result (λ v. v.items ≡ spelling head.now dropped records.now) }
 {
     let _bound = head.settings.log_size();

@@ -9,7 +9,7 @@ abbrev pub invariant-loop-at : goal.invariant-loop-at
 invariant-loop-at l = record {
   few : l.count ≤ l.at;
   near : l.at ≤ length l.bytes + 146;
-  counted : (rs : List Record) → AllByRecursion Fits rs → l.bytes ≡ flat_map bytes_of rs → Counted l.bytes rs l.at l.count;
+  counted : (rs : List Record) → AllByRecursion (Fits 1) rs → l.bytes ≡ flat_map bytes_of rs → Counted l.bytes rs l.at l.count;
 }
 
 abbrev pub decreases-loop-at : goal.decreases-loop-at

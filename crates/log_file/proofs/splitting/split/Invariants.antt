@@ -5,7 +5,7 @@ use Rattle.log_file.proofs.splitting.split.Given as goal
 
 abbrev pub invariant-loop-rest : goal.invariant-loop-rest
 invariant-loop-rest l = record {
-  fit : AllByRecursion Fits l.records.items;
+  fit : AllByRecursion (Fits 1) l.records.items;
   parts : l.bytes ≡ flat_map bytes_of l.records.items ++ l.rest;
 }
 
