@@ -24,6 +24,7 @@ fn row_of(hart: HartId) -> TurnRow {
             want: Want::Cut,
         },
         reply: Reply::Went,
+        guarded: false,
     }
 }
 
