@@ -3,6 +3,7 @@ pub mod Turn
 pub mod Runs
 pub mod Rows
 pub mod Files
+pub mod Taken
 pub mod Logs
 pub mod Counts
 pub mod Guards

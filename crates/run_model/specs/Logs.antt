@@ -1,16 +1,13 @@
 -- A log that takes records, and the ones that it takes.
-use Rattle.std.specs.Prelude.{◌≡◌, ℕ, ◌+◌, List, length, Bool, true}
+use Rattle.std.specs.Prelude.{◌≡◌, ℕ, ◌+◌, List, Bool, true}
 use Rattle.log_record.specs.declared.record.Record.{Record}
 use Rattle.log_record.specs.Spelling.{is_mark, total}
-use Rattle.log_ring.specs.Kept.{Held, Holds}
+use Rattle.log_ring.specs.Kept.{Holds}
+pub use Rattle.run_model.specs.Taken.{taken}
 use Rattle.run_model.specs.declared.log.Log.{Log}
 use Rattle.run_model.specs.declared.next.Next.{Next}
 use Rattle.run_model.specs.declared.next.Next.TheVariants.{GoesOn, NewInterval, HartOver, RunOver}
 use Rattle.run_model.specs.Turn.{mark}
-
--- how many records a ring took
-abbrev pub taken : Held → ℕ
-taken ring = ring.dropped + length ring.records
 
 -- a log that took these records: its ring keeps what has room of them, and it counts the bytes of all
 pub record IsLog (log : Log) (rs : List Record) : Type 0 where

@@ -1,8 +1,9 @@
 // The records of a turn, and the log that takes them.
-ghost use Rattle.std.specs.Prelude.{◌≡◌, ◌≤◌, ◌<◌, ◌+◌, ◌^◌, ◌∷◌, ◌++◌, [], ℕ, List, length, take, IsTrue};
+ghost use Rattle.std.specs.Prelude.{◌≡◌, ◌≤◌, ◌<◌, ◌+◌, ◌*◌, ◌^◌, ◌∷◌, ◌++◌, [], ℕ, List, length, take, IsTrue, IfOk};
 ghost use Rattle.log_record.specs.declared.record.Record.{Record};
 ghost use Rattle.log_record.specs.declared.record.Record.TheVariants.{End};
-ghost use Rattle.log_record.specs.Spelling.{is_mark};
+ghost use Rattle.log_record.specs.Spelling.{bytes_of, is_mark, is_marked};
+ghost use Rattle.log_ring.specs.Kept.{held};
 ghost use Rattle.run_model.specs.Turn.{edges_from, load_record, sc_record, header, mark, next_records};
 ghost use Rattle.run_model.specs.Logs.{taken, Took, IsLog, is_marked_next};
 
@@ -11,8 +12,54 @@ use crate::next::Next;
 use bn_base::{EndMark, HartId, HartState, Ic};
 use first_load_bits::Warm;
 use log_record::Record;
+use log_ring::Ring;
 use race_log::Edges;
 use rv_meaning::Reply;
+use std::alloc::{AllocError, Global};
+
+// How many bytes a record has.
+fn size_of(entry: &Record) -> u64
+    ensures value { result ≡ length (bytes_of entry.now) }
+    ensures most { result ≤ 146 }
+{
+    match entry {
+        Record::Header { x, .. } => {
+            let _others = x.others();
+            146
+        }
+        Record::FirstLoad { .. } => 10,
+        Record::ScOk { .. } => 2,
+        Record::ScFailed { .. } => 2,
+        Record::Edge { .. } => 19,
+        Record::End { .. } => 15,
+    }
+}
+
+impl Log {
+    /// A log that keeps up to `size` bytes of records, and took none yet. The only error is want of
+    /// memory.
+    pub fn new(alloc: Global, size: usize) -> Result<Log, AllocError>
+        requires { 146 ≤ size }
+        ensures ring { IfOk result (λ l. l.ring ≡ held [] 0 size) }
+        ensures bytes { IfOk result (λ l. l.bytes ≡ 0) }
+    {
+        Ok(Log {
+            ring: Ring::new(alloc, size)?,
+            bytes: 0,
+        })
+    }
+
+    /// Takes a record. It takes no memory.
+    pub fn append(&mut self, entry: &Record)
+        requires marked { IsTrue (is_marked 2 entry.now) }
+        requires room { taken self.old.ring < 2 ^ 56 }
+        ensures holds { (rs : List Record) → IsLog self.old rs → IsLog self.new (rs ++ entry.now ∷ []) }
+        ensures took { Took self.old 1 self.new }
+    {
+        self.bytes += size_of(entry);
+        self.ring.append(entry);
+    }
+}
 
 // Appends the Edge into instruction `ic` of a hart from source number `i`.
 fn append_edge(log: &mut Log, hart: HartId, ic: Ic, edges: &Edges, i: usize)
