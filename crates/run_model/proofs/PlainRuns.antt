@@ -40,13 +40,16 @@ pub record Traced (c : RawSettings) (run : Run) (k : ℕ) (ask : Ask) (call : Op
   pub log : IsLog t.log (run.stream ++ edge_records (point_of k ask.state.ic turns (span_of call ask.want reply)) run.points ++ load_record load k g.skipped word ++ sc_record reply k
       ++ next_records (next_of c call h ask.want reply (absorbed ask reply).ic) k h.number (absorbed ask reply) ++ run_over_records (next_of c call h ask.want reply (absorbed ask reply).ic) k n run.harts)
 
+as_many : (a b more : ℕ) → a ≡ b → b + more ≡ a + more
+as_many a b more e = ap (λ (n : ℕ). n + more) (sym e)
+
 traced_is : (c : RawSettings) (run : Run) (k : ℕ) (ask : Ask) (call : Option Plan) (t : Trace)
     → Traced c run k ask call run.turns c.harts (run.harts k) (run.harts k) (warmth c (loading ask.want) (run.events k)) (word_before run.machine.memory (loading ask.want)) (answer c call run.machine k ask).reply t
     → run.bytes ≡ total run.stream → IsTrace c t (serve_call c run k ask false call).run
 traced_is c run k ask call t e before =
     let after = (serve_call c run k ask false call).run in
     let log : IsLog t.log after.stream = subst (λ (rs : List Record). IsLog t.log rs) (six_lists run.stream _ _ _ _ _) e.log in
-    let bytes : t.log.bytes ≡ after.bytes = log.bytes ∙ total_append run.stream _ ∙ ap (λ (n : ℕ). n + _) (sym before) in
+    let bytes : t.log.bytes ≡ after.bytes = log.bytes ∙ total_append run.stream _ ∙ as_many run.bytes (total run.stream) _ before in
     let h = run.harts k in
     let reply = (answer c call run.machine k ask).reply in
     let s = absorbed ask reply in
