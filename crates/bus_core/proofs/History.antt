@@ -6,17 +6,19 @@ use Rattle.rv_meaning.specs.declared.asks.Ask.{Ask}
 use Rattle.rv_meaning.specs.declared.asks.Reply.{Reply}
 use Rattle.bn_outside.specs.declared.turn_row.TurnRow.{TurnRow}
 use Rattle.run_model.specs.declared.start.Start.{Start}
-use Rattle.run_model.specs.Plain.{PlainParts, IsRun}
-use Rattle.run_model.specs.Turn.{Run, serve, served_if, is_orderly, halted}
+use Rattle.run_model.specs.Plain.{PlainParts, IsRun, everyone}
+use Rattle.run_model.specs.Turn.{Run, serve, is_orderly, halted}
 use Rattle.run_model.specs.Turning.{is_alive}
+use Rattle.race_log.specs.Noted.{NotesDecide}
 use Rattle.run_laws.specs.History.{after_rows, are_orderly}
 use Rattle.bus_core.specs.Bus.{Seen, seen, IsState, IsHistory, AreTold, began_of, first_run, run_after, halted_if, row}
 use Rattle.bus_core.proofs.Rows.{after_snoc, lawful_snoc, orderly_snoc, not_both, live_as, none_alive}
 
 -- what one ask that was served says of the machine before and after it
-pub record Serves (p q : PlainParts) (k : ℕ) (ask : Ask) (o : Bool) (reply : Reply) : Type 0 where
+pub record Serves (p q : PlainParts) (k : ℕ) (ask : Ask) (o : Bool) (reply : Reply) (guarded : Bool) : Type 0 where
   pub same : q.start ≡ p.start
   pub replies : (run : Run) → IsRun p run → reply ≡ (serve p.start.settings p.start.image run k ask).reply
+  pub flags : (run : Run) → IsRun p run → guarded ≡ (serve p.start.settings p.start.image run k ask).guarded
   pub runs : (run : Run) → IsRun p run → IsRun q (serve p.start.settings p.start.image run k ask).run
   pub asks : (run : Run) → IsRun p run → o ≡ is_orderly p.start.settings p.start.image (run.harts k) ask
 
@@ -24,26 +26,26 @@ false_true : true ≡ false → ⊥
 false_true e = cc
 
 -- a row more, of a bus that wasn't halted
-row_more : (p q : PlainParts) (d d' o : Bool) (rows : List TurnRow) (k : ℕ) (ask : Ask) (reply : Reply) → length p.trace.harts.items ≡ p.start.settings.harts → is_alive p k ≡ true → Serves p q k ask o reply → d' ≡ (d || not o)
-    → IsHistory p false d rows → IsHistory q false d' (rows ++ row k ask reply ∷ [])
-row_more p q d d' o rows k ask reply len live s ed h =
+row_more : (p q : PlainParts) (d d' o : Bool) (rows : List TurnRow) (k : ℕ) (ask : Ask) (reply : Reply) (guarded : Bool) → length p.trace.harts.items ≡ p.start.settings.harts → is_alive p k ≡ true → Serves p q k ask o reply guarded → d' ≡ (d || not o)
+    → IsHistory p false d rows → IsHistory q false d' (rows ++ row k ask reply guarded ∷ [])
+row_more p q d d' o rows k ask reply guarded len live s ed h =
     let c = p.start.settings in let i = p.start.image in
     let first = first_run (began_of p.start) in
     let run = after_rows c i first rows in
-    let r = row k ask reply in
+    let r = row k ask reply guarded in
     record {
       told = subst (λ (t : Start). AreTold (began_of t) d' (rows ++ r ∷ [])) (sym s.same) (record {
-        lawful = lawful_snoc c i first rows r h.told.lawful (live_as c run p.trace.harts.items k h.run.trace.harts len live) (s.replies run h.run);
+        lawful = lawful_snoc c i first rows r h.told.lawful (live_as c run p.trace.harts.items k h.run.trace.harts len live) (s.replies run h.run) (s.flags run h.run);
         orderly = not_both (are_orderly c i first rows) (is_orderly c i (run.harts k) ask) d o d' h.told.orderly (s.asks run h.run) ed ∙ sym (ap not (orderly_snoc c i first rows r));
       });
       run = subst (λ (t : Start). IsRun q (run_after (began_of t) false (rows ++ r ∷ []))) (sym s.same)
           (subst (λ (x : Run). IsRun q x) (sym (after_snoc c i first rows r)) (s.runs run h.run));
     }
 
-pub history_more : (p q : PlainParts) (h d d' o : Bool) (rows : List TurnRow) (k : ℕ) (ask : Ask) (reply : Reply) → length p.trace.harts.items ≡ p.start.settings.harts → is_alive p k ≡ true → Serves p q k ask o reply → d' ≡ (d || not o)
-    → IsHistory p h d rows → IsHistory q h d' (rows ++ row k ask reply ∷ [])
-history_more p q true d d' o rows k ask reply len live s ed is = absurd (false_true (none_alive p.trace.harts.items (after_rows p.start.settings p.start.image (first_run (began_of p.start)) rows).harts k is.run.trace.harts live))
-history_more p q false d d' o rows k ask reply len live s ed is = row_more p q d d' o rows k ask reply len live s ed is
+pub history_more : (p q : PlainParts) (h d d' o : Bool) (rows : List TurnRow) (k : ℕ) (ask : Ask) (reply : Reply) (guarded : Bool) → length p.trace.harts.items ≡ p.start.settings.harts → is_alive p k ≡ true → Serves p q k ask o reply guarded → d' ≡ (d || not o)
+    → IsHistory p h d rows → IsHistory q h d' (rows ++ row k ask reply guarded ∷ [])
+history_more p q true d d' o rows k ask reply guarded len live s ed is = absurd (false_true (none_alive p.trace.harts.items (after_rows p.start.settings p.start.image (first_run (began_of p.start)) rows).harts k is.run.trace.harts live))
+history_more p q false d d' o rows k ask reply guarded len live s ed is = row_more p q d d' o rows k ask reply guarded len live s ed is
 
 -- ---- other changes
 
@@ -66,45 +68,31 @@ history_same p q h d rows same stays is = record {
   run = subst (λ (t : Start). IsRun q (run_after (began_of t) h rows)) (sym same) (stays _ is.run);
 }
 
--- ---- runs of which the machine, the harts and the caches are known
+-- ---- what is seen of a bus
 
--- a run with another's points and records
-abbrev pub hybrid : Run → Run → Run
-hybrid run other = record run { points = other.points; stream = other.stream }
-
-pub hybrid_is : (p : PlainParts) (h d : Bool) (rows told : List TurnRow) (run : Run) → IsHistory p h d rows → IsState (seen p h d told) run → IsRun p (hybrid run (run_after (began_of p.start) h rows))
-hybrid_is p h d rows told run is state = record {
-  machine = state.machine;
-  trace = record {
-    harts = state.harts;
-    caches = state.caches;
-    shadow = is.run.trace.shadow;
-    log = is.run.trace.log;
-  };
-  turns = state.turns;
+-- what is seen of it stands for the runs that its parts stand for
+pub state_is : (p : PlainParts) (h d : Bool) (told : List TurnRow) (run : Run) → IsRun p run → IsState (seen p h d told) run
+state_is p h d told run is = record {
+  machine = is.machine;
+  harts = is.trace.harts;
+  caches = is.trace.caches;
+  points = record { shadow = p.trace.shadow; same = refl; stands = is.trace.shadow };
+  log = is.trace.log.holds;
+  counted = is.trace.log.bytes;
+  bytes = is.trace.bytes;
+  turns = is.turns;
 }
 
-pub state_is : (p : PlainParts) (h d : Bool) (told : List TurnRow) (run : Run) → IsRun p run → IsState (seen p h d told) run
-state_is p h d told run is = record { machine = is.machine; harts = is.trace.harts; caches = is.trace.caches; turns = is.turns }
-
-reply_by : (o : Bool) (c : RawSettings) (i : Program) (run other : Run) (k : ℕ) (ask : Ask) → (served_if o c i (hybrid run other) k ask).reply ≡ (served_if o c i run k ask).reply
-reply_by true c i run other k ask = refl
-reply_by false c i run other k ask = refl
-
-pub hybrid_reply : (c : RawSettings) (i : Program) (run other : Run) (k : ℕ) (ask : Ask) → (serve c i (hybrid run other) k ask).reply ≡ (serve c i run k ask).reply
-unfolding serve
-hybrid_reply c i run other k ask = reply_by (is_orderly c i (run.harts k) ask) c i run other k ask
-
-state_by : (o : Bool) (c : RawSettings) (i : Program) (s : Seen) (run other : Run) (k : ℕ) (ask : Ask) → IsState s (served_if o c i (hybrid run other) k ask).run → IsState s (served_if o c i run k ask).run
-state_by true c i s run other k ask is = record { machine = is.machine; harts = is.harts; caches = is.caches; turns = is.turns }
-state_by false c i s run other k ask is = record { machine = is.machine; harts = is.harts; caches = is.caches; turns = is.turns }
-
-pub hybrid_state : (c : RawSettings) (i : Program) (s : Seen) (run other : Run) (k : ℕ) (ask : Ask) → IsState s (serve c i (hybrid run other) k ask).run → IsState s (serve c i run k ask).run
-unfolding serve
-hybrid_state c i s run other k ask is = state_by (is_orderly c i (run.harts k) ask) c i s run other k ask is
-
-pub hybrid_halted : (s : Seen) (run other : Run) → IsState s (halted (hybrid run other)) → IsState s (halted run)
-hybrid_halted s run other is = record { machine = is.machine; harts = is.harts; caches = is.caches; turns = is.turns }
-
-pub hybrid_same : (s : Seen) (run other : Run) → IsState s (hybrid run other) → IsState s run
-hybrid_same s run other is = record { machine = is.machine; harts = is.harts; caches = is.caches; turns = is.turns }
+-- and for no others
+pub run_is : NotesDecide → (p : PlainParts) (h d : Bool) (told : List TurnRow) (run : Run) → IsState (seen p h d told) run → IsRun p run
+run_is decide p h d told run is = record {
+  machine = is.machine;
+  trace = record {
+    harts = is.harts;
+    caches = is.caches;
+    shadow = decide is.points.shadow p.trace.shadow is.points.same run.points everyone is.points.stands;
+    log = record { holds = is.log; bytes = is.counted };
+    bytes = is.bytes;
+  };
+  turns = is.turns;
+}

@@ -5,6 +5,7 @@ use Rattle.std.proofs.lemmas.Option.{get_or_from_slice_get}
 use Rattle.std.specs.Global.{Global}
 use Rattle.std.proofs.lemmas.List.{take_more, map-append}
 use Rattle.bn_base.specs.declared.end_mark.EndMark.{EndMark}
+use Rattle.bn_base.specs.declared.settings.TheConstants.{HARTS}
 use Rattle.run_model.specs.declared.hart.Hart.{Hart}
 use Rattle.run_model.specs.Harts.{AreHarts, hart_in, no_hart}
 use Rattle.run_model.specs.Runs.{any_live}
@@ -14,7 +15,7 @@ use Rattle.bus_core.specs.Bus.{marks}
 pub record AreMarked (n : ℕ) (hs : List Hart) (marks : Vec (Option EndMark) Global) : Type 0 where
   pub items : marks.items ≡ map (λ (h : Hart). h.mark) (take n hs)
   pub len : vec_len marks ≡ n
-  pub room : 8 ≤ vec_capacity marks
+  pub room : HARTS ≤ vec_capacity marks
 
 pub mark_more : (hs : List Hart) (n : ℕ) (x : Hart) (old new : List (Option EndMark)) → n < length hs → x ≡ get_or hs n x → old ≡ map (λ (h : Hart). h.mark) (take n hs) → new ≡ old ++ x.mark ∷ []
     → new ≡ map (λ (h : Hart). h.mark) (take (n + 1) hs)

@@ -15,9 +15,9 @@ after_snoc c i run [] r = refl
 after_snoc c i run (x ∷ rows) r = after_snoc c i (serve c i run x.hart x.ask).run rows r
 
 pub lawful_snoc : (c : RawSettings) (i : Program) (run : Run) (rows : List TurnRow) (r : TurnRow) → IsLawful c i run rows → is_live c (after_rows c i run rows) r.hart ≡ true
-    → r.reply ≡ (serve c i (after_rows c i run rows) r.hart r.ask).reply → IsLawful c i run (rows ++ r ∷ [])
-lawful_snoc c i run [] r lawful live same = (live, same, tt)
-lawful_snoc c i run (x ∷ rows) r lawful live same = (lawful.0, lawful.1, lawful_snoc c i (serve c i run x.hart x.ask).run rows r lawful.2 live same)
+    → r.reply ≡ (serve c i (after_rows c i run rows) r.hart r.ask).reply → r.guarded ≡ (serve c i (after_rows c i run rows) r.hart r.ask).guarded → IsLawful c i run (rows ++ r ∷ [])
+lawful_snoc c i run [] r lawful live same flag = (live, same, flag, tt)
+lawful_snoc c i run (x ∷ rows) r lawful live same flag = (lawful.0, lawful.1, lawful.2, lawful_snoc c i (serve c i run x.hart x.ask).run rows r lawful.3 live same flag)
 
 pub orderly_snoc : (c : RawSettings) (i : Program) (run : Run) (rows : List TurnRow) (r : TurnRow) → are_orderly c i run (rows ++ r ∷ []) ≡ (are_orderly c i run rows && is_orderly c i ((after_rows c i run rows).harts r.hart) r.ask)
 orderly_snoc c i run [] r = last (is_orderly c i (run.harts r.hart) r.ask)

@@ -6,11 +6,11 @@ use Rattle.bn_base.specs.declared.settings.RawSettings.{RawSettings}
 use Rattle.rv_meaning.specs.declared.asks.Ask.{Ask}
 use Rattle.system_calls.specs.declared.effect.Plan.{Plan}
 use Rattle.run_model.specs.Machine.{call_of}
-use Rattle.run_model.specs.Turn.{Run, serve, serve_call, serve_disorderly, served_if, is_orderly}
+use Rattle.run_model.specs.Turn.{Run, serve, serve_call, serve_disorderly, served_if, is_orderly, is_guarded}
 
-pub served_orderly : (c : RawSettings) (i : Program) (run : Run) (k : ℕ) (ask : Ask) (call : Option Plan) → call ≡ call_of i run.machine ask.want → is_orderly c i (run.harts k) ask ≡ true → serve_call c run k ask call ≡ serve c i run k ask
+pub served_orderly : (c : RawSettings) (i : Program) (run : Run) (k : ℕ) (ask : Ask) (call : Option Plan) → call ≡ call_of i run.machine ask.want → is_orderly c i (run.harts k) ask ≡ true → serve_call c run k ask (is_guarded c run k ask.want) call ≡ serve c i run k ask
 unfolding serve
-served_orderly c i run k ask call ec o = ap (λ (x : Option Plan). serve_call c run k ask x) ec ∙ sym (ap (λ (b : Bool). served_if b c i run k ask) o)
+served_orderly c i run k ask call ec o = ap (λ (x : Option Plan). serve_call c run k ask (is_guarded c run k ask.want) x) ec ∙ sym (ap (λ (b : Bool). served_if b c i run k ask) o)
 
 pub served_disorderly : (c : RawSettings) (i : Program) (run : Run) (k : ℕ) (ask : Ask) → is_orderly c i (run.harts k) ask ≡ false → serve_disorderly run ≡ serve c i run k ask
 unfolding serve

@@ -5,11 +5,16 @@ use Rattle.bn_base.specs.declared.end_mark.EndMark.{EndMark}
 use Rattle.bn_base.specs.declared.settings.RawSettings.{RawSettings}
 use Rattle.rv_meaning.specs.declared.asks.Ask.{Ask}
 use Rattle.rv_meaning.specs.declared.asks.Reply.{Reply}
+use Rattle.log_record.specs.Spelling.{total}
 use Rattle.log_ring.specs.Kept.{Held, Holds}
+use Rattle.race_log.specs.Points.{Point}
+use Rattle.race_log.specs.declared.shadow.Shadow.{Shadow}
+use Rattle.race_log.specs.Stands.{Stands}
+use Rattle.race_log.specs.Noted.{Noted, noted}
 use Rattle.bn_outside.specs.declared.turn_row.TurnRow.{TurnRow}
 use Rattle.run_model.specs.declared.hart.Hart.{Hart}
 use Rattle.run_model.specs.declared.start.Start.{Start}
-use Rattle.run_model.specs.Plain.{PlainParts, IsRun}
+use Rattle.run_model.specs.Plain.{PlainParts, IsRun, everyone}
 use Rattle.run_model.specs.Parts.{MachineParts, IsMachine}
 use Rattle.first_load_bits.specs.Stands.{Contents}
 use Rattle.run_model.specs.EachCache.{AreCaches}
@@ -29,7 +34,8 @@ abbrev pub began_of : Start → Began
 began_of s = record { image = s.image; settings = s.settings; input = s.input.items; digest = s.digest }
 
 -- what is seen of a bus: what it began with, the rows that its book tells, whether it was halted, whether an ask that
--- isn't orderly was served, the machine, the harts, their caches, and how many turns it took
+-- isn't orderly was served, the machine, the harts, their caches, what the race log notes, the ring of kept records and how
+-- many bytes the log took, and how many turns
 pub record Seen : Type 0 where
   pub began : Began
   pub rows : List TurnRow
@@ -38,16 +44,29 @@ pub record Seen : Type 0 where
   pub machine : MachineParts
   pub harts : List Hart
   pub caches : List Contents
+  pub notes : Noted
+  pub ring : Held
+  pub bytes : ℕ
   pub turns : ℕ
 
 abbrev pub seen : PlainParts → (halted disordered : Bool) → List TurnRow → Seen
-seen p halted disordered rows = record { began = began_of p.start; rows = rows; halted = halted; disordered = disordered; machine = p.machine; harts = p.trace.harts.items; caches = p.trace.caches; turns = p.turns }
+seen p halted disordered rows = record { began = began_of p.start; rows = rows; halted = halted; disordered = disordered; machine = p.machine; harts = p.trace.harts.items; caches = p.trace.caches; notes = noted p.trace.shadow; ring = p.trace.log.ring; bytes = p.trace.log.bytes; turns = p.turns }
 
--- the machine, the harts and their caches are those of the run
+-- a shadow that notes these stands for the points
+pub record AreNotes (notes : Noted) (points : List Point) : Type 0 where
+  pub shadow : Shadow
+  pub same : noted shadow ≡ notes
+  pub stands : Stands points everyone shadow
+
+-- all of it is that of the run: what a bus does next stands on no more than this
 pub record IsState (s : Seen) (run : Run) : Type 0 where
   pub machine : IsMachine s.began.input s.machine run.machine
   pub harts : AreHarts s.harts run.harts
   pub caches : AreCaches s.began.settings s.caches run.events
+  pub points : AreNotes s.notes run.points
+  pub log : Holds s.ring run.stream
+  pub counted : s.bytes ≡ total run.stream
+  pub bytes : s.bytes ≡ run.bytes
   pub turns : s.turns ≡ run.turns
 
 -- ---- runs of a bus
@@ -71,8 +90,11 @@ served_run b run hart ask = (serve b.settings b.image run hart ask).run
 abbrev pub served_reply : Began → Run → ℕ → Ask → Reply
 served_reply b run hart ask = (serve b.settings b.image run hart ask).reply
 
-abbrev pub row : ℕ → Ask → Reply → TurnRow
-row hart ask reply = record { hart = hart; ask = ask; reply = reply }
+abbrev pub served_guarded : Began → Run → ℕ → Ask → Bool
+served_guarded b run hart ask = (serve b.settings b.image run hart ask).guarded
+
+abbrev pub row : ℕ → Ask → Reply → Bool → TurnRow
+row hart ask reply guarded = record { hart = hart; ask = ask; reply = reply; guarded = guarded }
 
 -- the rows are lawful, and tell whether all asks were orderly
 pub record AreTold (b : Began) (disordered : Bool) (rows : List TurnRow) : Type 0 where

@@ -1,22 +1,20 @@
 // The last marks of the harts.
 ghost use Rattle.std.specs.Prelude.{◌≡◌, ◌≤◌, not, ◌&&◌, map, length, vec_len, vec_capacity, IfOk};
+ghost use Rattle.bn_base.specs.declared.settings.TheConstants.{HARTS};
 ghost use Rattle.run_model.specs.declared.hart.Hart.{Hart};
 ghost use Rattle.run_model.specs.Harts.{hart_in};
 ghost use Rattle.run_model.specs.Runs.{any_live};
 
-use bn_base::EndMark;
+use bn_base::{EndMark, HARTS};
 use run_model::Hart;
 use std::alloc::{AllocError, Global};
-
-// The most harts that there are.
-const HARTS: usize = 8;
 
 /// Room for the last marks of all harts, found ahead.
 #[derive(Drop)]
 pub struct Ends {
     marks: Vec<Option<EndMark>>,
     ghost none: { vec_len marks ≡ 0 },
-    ghost room: { 8 ≤ vec_capacity marks },
+    ghost room: { HARTS ≤ vec_capacity marks },
 }
 
 impl Ends {
@@ -29,7 +27,7 @@ impl Ends {
 
     /// The last mark of each hart; None before one.
     pub fn of(self, harts: &Vec<Hart>) -> Vec<Option<EndMark>>
-        requires { length harts.now.items ≤ 8 }
+        requires { length harts.now.items ≤ HARTS }
         ensures { result.items ≡ map (λ (h : Hart). h.mark) harts.now.items }
     {
         let mut marks = self.marks;

@@ -5,7 +5,7 @@ ghost use Rattle.run_model.specs.Harts.{hart_in};
 ghost use Rattle.run_model.specs.Runs.{is_live, is_over, most_turns};
 ghost use Rattle.run_model.specs.Turn.{Run, budget, halted, is_orderly};
 ghost use Rattle.bn_outside.specs.declared.turn_row.TurnRow.{TurnRow};
-ghost use Rattle.bus_core.specs.Bus.{began_of, first_run, run_after, served_run, served_reply, row, live_in, marks, IsState, IsTold, IsLogged};
+ghost use Rattle.bus_core.specs.Bus.{began_of, first_run, run_after, served_run, served_reply, served_guarded, row, live_in, marks, IsState, IsTold, IsLogged};
 
 use crate::bus::Bus;
 use crate::closed::Closed;
@@ -13,6 +13,7 @@ use crate::ends::{Ends, any_live, is_finished};
 use crate::turn::take;
 use bn_base::{HartId, HartState};
 use bn_outside::{Book, TurnRow};
+use race_log::notes_decide;
 use run_model::{Plain, Start};
 use rv_meaning::{Ask, Reply};
 use std::alloc::{AllocError, Global};
@@ -80,17 +81,18 @@ impl<B: Book> Bus<B> {
         self.plain.state(hart)
     }
 
-    /// Serves what a live hart asks: reply and next state are those of the definition, from the state that
-    /// the bus held, and the book has the row. An ask that isn't orderly, which no hart makes by itself,
+    /// Serves what a live hart asks: the reply, whether the ask was guarded, and the next state are those of
+    /// the definition, from the state that the bus held, and the book has the row. An ask that isn't orderly, which no hart makes by itself,
     /// ends all and is answered with `Over`.
     ///
     /// All memory is found first. On `Err`, for want of it, nothing has changed: served again, the ask has
     /// the same reply and leaves the same.
-    pub fn serve(&mut self, hart: HartId, ask: &Ask) -> Result<Reply, AllocError>
+    pub fn serve(&mut self, hart: HartId, ask: &Ask) -> Result<(Reply, bool), AllocError>
         requires { live_in self.old hart ≡ true }
-        ensures reply { IfOk result (λ r. (run : Run) → IsState self.old run → r ≡ served_reply self.old.began run hart ask.now) }
+        ensures reply { IfOk result (λ r. (run : Run) → IsState self.old run → r.0 ≡ served_reply self.old.began run hart ask.now) }
+        ensures guarded { IfOk result (λ r. (run : Run) → IsState self.old run → r.1 ≡ served_guarded self.old.began run hart ask.now) }
         ensures state { OnOk result ((run : Run) → IsState self.old run → IsState self.new (served_run self.old.began run hart ask.now)) }
-        ensures told { IfOk result (λ r. B.tells ≡ true → self.new.rows ≡ self.old.rows ++ row hart ask.now r ∷ []) }
+        ensures told { IfOk result (λ r. B.tells ≡ true → self.new.rows ≡ self.old.rows ++ row hart ask.now r.0 r.1 ∷ []) }
         ensures disordered { OnOk result ((run : Run) → IsState self.old run → self.new.disordered ≡ (self.old.disordered || not (is_orderly self.old.began.settings self.old.began.image (run.harts hart) ask.now))) }
         ensures refused { OnErr result ((run : Run) → IsState self.old run → IsState self.new run) }
         ensures kept { OnErr result ((self.new.rows ≡ self.old.rows) × (self.new.disordered ≡ self.old.disordered)) }
@@ -98,10 +100,11 @@ impl<B: Book> Bus<B> {
         ensures began { self.new.began ≡ self.old.began }
         ensures halted { self.new.halted ≡ self.old.halted }
     {
+        notes_decide();
         let orderly = self.plain.is_orderly(hart, ask);
-        let reply = take(&mut self.plain, &mut self.book, hart, ask, orderly)?;
+        let served = take(&mut self.plain, &mut self.book, hart, ask, orderly)?;
         self.disordered = self.disordered || !orderly;
-        Ok(reply)
+        Ok(served)
     }
 
     /// No hart is live any more; nothing else changes.
@@ -112,6 +115,7 @@ impl<B: Book> Bus<B> {
         ensures rows { self.new.rows ≡ self.old.rows }
         ensures disordered { self.new.disordered ≡ self.old.disordered }
     {
+        notes_decide();
         self.plain.halt();
         self.halted = true;
     }

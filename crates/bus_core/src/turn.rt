@@ -18,17 +18,19 @@ fn take_orderly<B: Book>(
     book: &mut B,
     hart: HartId,
     ask: &Ask,
-) -> Result<Reply, AllocError>
+) -> Result<(Reply, bool), AllocError>
     requires alive { is_alive (parts plain.old) hart ≡ true }
     requires orderly { IsTrue (is_orderly (parts plain.old).start.settings (parts plain.old).start.image (hart_in (parts plain.old).trace.harts.items hart) ask.now) }
     requires meant { (run : Run) → IsRun (parts plain.old) run → is_orderly (parts plain.old).start.settings (parts plain.old).start.image (run.harts hart) ask.now ≡ true }
-    ensures reply { IfOk result (λ r. (run : Run) → IsRun (parts plain.old) run → r ≡ (serve (parts plain.old).start.settings (parts plain.old).start.image run hart ask.now).reply) }
+    ensures reply { IfOk result (λ r. (run : Run) → IsRun (parts plain.old) run → r.0 ≡ (serve (parts plain.old).start.settings (parts plain.old).start.image run hart ask.now).reply) }
+    ensures guarded { IfOk result (λ r. (run : Run) → IsRun (parts plain.old) run → r.1 ≡ (serve (parts plain.old).start.settings (parts plain.old).start.image run hart ask.now).guarded) }
     ensures run { OnOk result ((run : Run) → IsRun (parts plain.old) run → IsRun (parts plain.new) (serve (parts plain.old).start.settings (parts plain.old).start.image run hart ask.now).run) }
     ensures refused { OnErr result ((run : Run) → IsRun (parts plain.old) run → IsRun (parts plain.new) run) }
     ensures start { (parts plain.new).start ≡ (parts plain.old).start }
-    ensures told { IfOk result (λ r. B.tells ≡ true → B.told book.new ≡ B.told book.old ++ row hart ask.now r ∷ []) }
+    ensures told { IfOk result (λ r. B.tells ≡ true → B.told book.new ≡ B.told book.old ++ row hart ask.now r.0 r.1 ∷ []) }
     ensures kept { OnErr result (B.told book.new ≡ B.told book.old) }
 {
+    let guarded = plain.is_guarded(hart, ask);
     let call = plain.prepare(ask)?;
     book.room()?;
     let reply = plain.apply(hart, ask, call);
@@ -36,8 +38,9 @@ fn take_orderly<B: Book>(
         hart,
         ask: *ask,
         reply,
+        guarded,
     });
-    Ok(reply)
+    Ok((reply, guarded))
 }
 
 // Serves an ask that isn't orderly: it ends all.
@@ -46,14 +49,15 @@ fn take_disorderly<B: Book>(
     book: &mut B,
     hart: HartId,
     ask: &Ask,
-) -> Result<Reply, AllocError>
+) -> Result<(Reply, bool), AllocError>
     requires alive { is_alive (parts plain.old) hart ≡ true }
     requires meant { (run : Run) → IsRun (parts plain.old) run → is_orderly (parts plain.old).start.settings (parts plain.old).start.image (run.harts hart) ask.now ≡ false }
-    ensures reply { IfOk result (λ r. (run : Run) → IsRun (parts plain.old) run → r ≡ (serve (parts plain.old).start.settings (parts plain.old).start.image run hart ask.now).reply) }
+    ensures reply { IfOk result (λ r. (run : Run) → IsRun (parts plain.old) run → r.0 ≡ (serve (parts plain.old).start.settings (parts plain.old).start.image run hart ask.now).reply) }
+    ensures guarded { IfOk result (λ r. (run : Run) → IsRun (parts plain.old) run → r.1 ≡ (serve (parts plain.old).start.settings (parts plain.old).start.image run hart ask.now).guarded) }
     ensures run { OnOk result ((run : Run) → IsRun (parts plain.old) run → IsRun (parts plain.new) (serve (parts plain.old).start.settings (parts plain.old).start.image run hart ask.now).run) }
     ensures refused { OnErr result ((run : Run) → IsRun (parts plain.old) run → IsRun (parts plain.new) run) }
     ensures start { (parts plain.new).start ≡ (parts plain.old).start }
-    ensures told { IfOk result (λ r. B.tells ≡ true → B.told book.new ≡ B.told book.old ++ row hart ask.now r ∷ []) }
+    ensures told { IfOk result (λ r. B.tells ≡ true → B.told book.new ≡ B.told book.old ++ row hart ask.now r.0 r.1 ∷ []) }
     ensures kept { OnErr result (B.told book.new ≡ B.told book.old) }
 {
     book.room()?;
@@ -63,8 +67,9 @@ fn take_disorderly<B: Book>(
         hart,
         ask: *ask,
         reply,
+        guarded: false,
     });
-    Ok(reply)
+    Ok((reply, false))
 }
 
 /// Serves an ask, orderly or not: the machine's turn, and the book's row. On `Err`, for want of memory,
@@ -75,15 +80,16 @@ pub fn take<B: Book>(
     hart: HartId,
     ask: &Ask,
     orderly: bool,
-) -> Result<Reply, AllocError>
+) -> Result<(Reply, bool), AllocError>
     requires alive { is_alive (parts plain.old) hart ≡ true }
     requires orderly { orderly ≡ is_orderly (parts plain.old).start.settings (parts plain.old).start.image (hart_in (parts plain.old).trace.harts.items hart) ask.now }
     requires meant { (run : Run) → IsRun (parts plain.old) run → orderly ≡ is_orderly (parts plain.old).start.settings (parts plain.old).start.image (run.harts hart) ask.now }
-    ensures reply { IfOk result (λ r. (run : Run) → IsRun (parts plain.old) run → r ≡ (serve (parts plain.old).start.settings (parts plain.old).start.image run hart ask.now).reply) }
+    ensures reply { IfOk result (λ r. (run : Run) → IsRun (parts plain.old) run → r.0 ≡ (serve (parts plain.old).start.settings (parts plain.old).start.image run hart ask.now).reply) }
+    ensures guarded { IfOk result (λ r. (run : Run) → IsRun (parts plain.old) run → r.1 ≡ (serve (parts plain.old).start.settings (parts plain.old).start.image run hart ask.now).guarded) }
     ensures run { OnOk result ((run : Run) → IsRun (parts plain.old) run → IsRun (parts plain.new) (serve (parts plain.old).start.settings (parts plain.old).start.image run hart ask.now).run) }
     ensures refused { OnErr result ((run : Run) → IsRun (parts plain.old) run → IsRun (parts plain.new) run) }
     ensures start { (parts plain.new).start ≡ (parts plain.old).start }
-    ensures told { IfOk result (λ r. B.tells ≡ true → B.told book.new ≡ B.told book.old ++ row hart ask.now r ∷ []) }
+    ensures told { IfOk result (λ r. B.tells ≡ true → B.told book.new ≡ B.told book.old ++ row hart ask.now r.0 r.1 ∷ []) }
     ensures kept { OnErr result (B.told book.new ≡ B.told book.old) }
 {
     if orderly {

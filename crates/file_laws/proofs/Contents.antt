@@ -1,6 +1,6 @@
 -- What is kept of a recording is what a log says.
 use Rattle.std.proofs.Common.{◌≡◌, ℕ, zero, suc, ◌+◌, ◌-◌, ◌*◌, ◌%◌, ◌<◌, ◌≤◌, ◌^◌, Bool, true, false, nat_lt, Option, Some, None, List, [], ◌∷◌, ◌++◌, length, replicate, set, refl, sym, ◌∙◌, ap, subst, arith, inl, inr, mod-lt, pow_pos, mul-le-mul}
-use Rattle.std.specs.Prelude.{slice_set, IsTrue}
+use Rattle.std.specs.Prelude.{◌==◌, if◌then◌else◌, slice_set, IsTrue}
 use Rattle.std.specs.List.{AllByRecursion}
 use Rattle.std.proofs.lemmas.Bool.Decides.{eqb_tells}
 use Rattle.std.proofs.lemmas.List.{length-append}
@@ -34,7 +34,7 @@ use Rattle.file_laws.proofs.Machines.{HoldsMachine, IsWordState, EndIsWord, answ
 use Rattle.file_laws.proofs.Nexts.{EndsAs, next_ends}
 use Rattle.file_laws.proofs.Few.{EdgesFall, few_edges}
 use Rattle.file_laws.proofs.Fields.{header_fits, edge_records_fit, load_fits, conditional_fits, next_fits, over_fits, load_few, conditional_few, next_few, over_few}
-use Rattle.file_laws.proofs.Turns.{Laws, Recording, all_both, own_hart, own_is, other_is, own_state, other_state, turn_within, served, turn_kept}
+use Rattle.file_laws.proofs.Turns.{Laws, Recording, all_both, own_hart, own_is, other_is, own_state, other_state, turn_within, format_is_1, served, turn_kept}
 use Rattle.file_laws.proofs.Rows.{SuffixIsKept, both, below_of, last_part}
 
 abbrev pub AsksAreOrderly : Type 0
@@ -51,8 +51,16 @@ pub record AllLaws : Type 0 where
 pub record Worded (c : RawSettings) (run : Run) : Type 0 where
   pub states : (k : ℕ) → k < c.harts → IsWordState (run.harts k).state
   pub machine : HoldsMachine run.machine
-  pub fits : AllByRecursion Fits run.stream
-  pub few : length run.stream ≤ 8 + 20 * run.turns
+  pub fits : AllByRecursion (Fits 1) run.stream
+  pub few : length run.stream ≤ 16 + 40 * run.turns
+
+-- there are at most 16 harts
+by_format : (b : Bool) → (if b then 16 else 8) ≤ 16
+by_format true = omega arith
+by_format false = omega arith
+
+few_harts : (c : RawSettings) → IsSetting c → c.harts ≤ 16
+few_harts c setting = omega (arith, setting.harts_high, by_format (c.format == 2))
 
 -- ---- a turn
 
@@ -73,11 +81,11 @@ own_point (Some x) k asked turns p e small low = let hart : k ≡ p.hart = hart_
     count_of_some : (q r : Point) → ◌≡◌ {A = Option Point} (Some q) (Some r) → q.count ≡ r.count
     count_of_some q r e = ap (λ (x : Point). x.count) (same_point q r e)
 
-states_on : (c : RawSettings) (run : Run) (k : ℕ) (ask : Ask) (next : Next) (s : HartState) → ((j : ℕ) → j < c.harts → IsWordState (run.harts j).state) → IsWordState s → (j : ℕ) → j < c.harts
-    → IsWordState (harts_after next k (own_hart c run k ask next s) run.harts j).state
-states_on c run k ask next s states w j within = elim (eqb_tells j k) [
-  | inl p ↦ subst IsWordState (sym (ap (λ (h : Hart). h.state) (own_is next k j (own_hart c run k ask next s) run.harts p.0) ∙ own_state next s _ (run.harts k))) w
-  | inr p ↦ subst IsWordState (sym (ap (λ (h : Hart). h.state) (other_is next k j (own_hart c run k ask next s) run.harts p.0) ∙ other_state next (run.harts j))) (states j within)
+states_on : (c : RawSettings) (run : Run) (k : ℕ) (ask : Ask) (next : Next) (s : HartState) (bytes : ℕ) → ((j : ℕ) → j < c.harts → IsWordState (run.harts j).state) → IsWordState s → (j : ℕ) → j < c.harts
+    → IsWordState (harts_after next k (own_hart c run k ask next s bytes) run.harts j).state
+states_on c run k ask next s bytes states w j within = elim (eqb_tells j k) [
+  | inl p ↦ subst IsWordState (sym (ap (λ (h : Hart). h.state) (own_is next k j (own_hart c run k ask next s bytes) run.harts p.0) ∙ own_state next s _ bytes (run.harts k))) w
+  | inr p ↦ subst IsWordState (sym (ap (λ (h : Hart). h.state) (other_is next k j (own_hart c run k ask next s bytes) run.harts p.0) ∙ other_state next (run.harts j))) (states j within)
 ]
 
 five_parts : (a e l s n o : List Record) → length (a ++ (e ++ (l ++ (s ++ (n ++ o))))) ≡ length a + (length e + (length l + (length s + (length n + length o))))
@@ -88,7 +96,7 @@ worded_after : AllLaws → (c : RawSettings) (run : Run) (k : ℕ) (ask : Ask) (
     → Worded c (after_ask c run k ask call answered span next s)
 worded_after laws c run k ask call answered span next s setting known w there on so state machine value =
     let h = run.harts k in
-    let fit = known.fit k in
+    let fit = (known.fit k).fit in
     let within = turn_within c h ask.state.ic s.ic next span (loading ask.want) fit on in
     let point = point_of k ask.state.ic run.turns span in
     let load = warmth c (loading ask.want) (run.events k) in
@@ -98,24 +106,25 @@ worded_after laws c run k ask call answered span next s setting known w there on
     let cs = sc_record answered.reply k in
     let ns = next_records next k h.number s in
     let os = run_over_records next k c.harts run.harts in
-    let small : k < 256 = omega (arith, there, setting.harts_high) in
+    let harts = few_harts c setting in
+    let small : k < 256 = omega (arith, there, harts) in
     let asked : ask.state.ic < 2 ^ 64 = omega (arith, on.low, within.limit, setting.limit_high) in
     let low : s.ic < 2 ^ 64 = omega (arith, within.limit, setting.limit_high) in
-    let number : h.number + 1 < 2 ^ 64 = omega (arith, fit.number, within.low, within.limit, setting.limit_high) in
+    let number : h.number + 1 < 2 ^ 64 = omega (arith, fit.number, fit.limit, within.low, within.limit, setting.limit_high) in
     let skipped : h.skipped < 2 ^ 32 = omega (arith, fit.skipped, fit.interval, setting.interval_high) in
-    let limits : (j : ℕ) → counts_of run j ≤ c.limit = λ j. (known.fit j).limit in
-    let counts : (j : ℕ) → (run.harts j).state.ic < 2 ^ 64 = λ j. omega (arith, (known.fit j).limit, setting.limit_high) in
-    let edges_fit = edge_records_fit laws.turns.listed point run.points c.harts c.limit (counts_of run) known.points limits (λ p e. own_point span k ask.state.ic run.turns p e small asked) (omega (arith, setting.harts_high)) (omega (arith, setting.limit_high)) in
+    let limits : (j : ℕ) → counts_of run j ≤ c.limit = λ j. (known.fit j).fit.limit in
+    let counts : (j : ℕ) → (run.harts j).state.ic < 2 ^ 64 = λ j. omega (arith, (known.fit j).fit.limit, setting.limit_high) in
+    let edges_fit = edge_records_fit laws.turns.listed point run.points c.harts c.limit (counts_of run) known.points limits (λ p e. own_point span k ask.state.ic run.turns p e small asked) (omega (arith, harts)) (omega (arith, setting.limit_high)) in
     record {
-      states = states_on c run k ask next s w.states state;
+      states = states_on c run k ask next s (after_ask c run k ask call answered span next s).bytes w.states state;
       machine = machine;
-      fits = all_both Fits run.stream (es ++ (ls ++ (cs ++ (ns ++ os)))) w.fits
-          (all_both Fits es (ls ++ (cs ++ (ns ++ os))) edges_fit
-          (all_both Fits ls (cs ++ (ns ++ os)) (load_fits load k h.skipped word small skipped (word_loaded (loading ask.want) run.machine.memory w.machine.memory))
-          (all_both Fits cs (ns ++ os) (conditional_fits answered.reply k small)
-          (all_both Fits ns os (next_fits next c h k h.number s small number low state so value on.marked) (over_fits next k c.harts run.harts (omega (arith, setting.harts_high)) counts)))));
+      fits = all_both (Fits 1) run.stream (es ++ (ls ++ (cs ++ (ns ++ os)))) w.fits
+          (all_both (Fits 1) es (ls ++ (cs ++ (ns ++ os))) edges_fit
+          (all_both (Fits 1) ls (cs ++ (ns ++ os)) (load_fits load k h.skipped word small skipped (word_loaded (loading ask.want) run.machine.memory w.machine.memory))
+          (all_both (Fits 1) cs (ns ++ os) (conditional_fits answered.reply k small)
+          (all_both (Fits 1) ns os (next_fits next c h k h.number s small number low state so value on.marked) (over_fits next k c.harts run.harts (omega (arith, harts)) counts)))));
       few = (let edges : length es ≤ c.harts = few_edges laws.turns.listed laws.fall point run.points c.harts c.limit (counts_of run) known.points limits in
-          omega (arith, five_parts run.stream es ls cs ns os, w.few, edges, load_few load k h.skipped word, conditional_few answered.reply k, next_few next k h.number s, over_few next k c.harts run.harts, setting.harts_high));
+          omega (arith, five_parts run.stream es ls cs ns os, w.few, edges, load_few load k h.skipped word, conditional_few answered.reply k, next_few next k h.number s, over_few next k c.harts run.harts, harts));
     }
 
 budget_limit : (c : RawSettings) (h : Hart) → budget c h ≤ c.limit - h.state.ic
@@ -138,14 +147,14 @@ turn_worded laws c i run k setting image known w there live o =
     let state = w.states k there in
     let asks = asks_well laws.keep i (code_words i image.words) (budget c h) h.state state.registers state.formed in
     let answers = answer_well c i run.machine k ask asks (passed i h.state.ic (budget c h) ask o) w.machine in
-    let on = laws.turns.moves c i run.machine h k ask (omega (arith, setting.limit_high)) (known.fit k) live o in
+    let on = laws.turns.moves c i run.machine h k ask (omega (arith, setting.limit_high)) (known.fit k).fit live o in
     let so = next_ends call c h ask.want answered.reply s.ic setting.interval_low in
-    subst (λ (x : Served). Worded c x.run) (sym (served c i run k ask o))
+    subst (λ (x : Served). Worded c x.run) (sym (served laws.turns c i run k ask setting o))
     (worded_after laws c run k ask call answered (span_of call ask.want answered.reply) next s setting known w there on so (state_after ask answered.reply answers.reply asks) answers.machine
     (end_word ask.want c i run.machine h answered.reply s.ic asks.want w.machine answers.reply))
 
-one_turn : (c : RawSettings) (i : Program) (run : Run) (k : ℕ) → is_orderly c i (run.harts k) (ask_at c i (run.harts k)) ≡ true → (turn c i run k).turns ≡ run.turns + 1
-one_turn c i run k o = ap (λ (x : Served). x.run.turns) (served c i run k (ask_at c i (run.harts k)) o)
+one_turn : Laws → (c : RawSettings) (i : Program) (run : Run) (k : ℕ) → IsSetting c → is_orderly c i (run.harts k) (ask_at c i (run.harts k)) ≡ true → (turn c i run k).turns ≡ run.turns + 1
+one_turn laws c i run k setting o = ap (λ (x : Served). x.run.turns) (served laws c i run k (ask_at c i (run.harts k)) setting o)
 
 -- ---- the turns of a legal list
 
@@ -165,11 +174,11 @@ turns_after laws c i run (k ∷ ks) n setting image a e =
     let first = live_by (is_live c run k) (legal_from c i (turn c i run k) ks) e in
     let live = both (nat_lt k c.harts) (run.harts k).live first.0 in
     let there = below_of k c.harts live.0 in
-    let o = ordered laws.asks c i (run.harts k) (omega (arith, setting.limit_high)) (a.known.fit k) in
+    let o = ordered laws.asks c i (run.harts k) (omega (arith, setting.limit_high)) (a.known.fit k).fit in
     let next : After c (n + 1) (turn c i run k) = record {
       known = turn_kept laws.turns c i run k (ask_at c i (run.harts k)) setting a.known there live.1 o;
       words = turn_worded laws c i run k setting image a.known a.words there live.1 o;
-      count = omega (arith, one_turn c i run k o, a.count);
+      count = omega (arith, one_turn laws.turns c i run k setting o, a.count);
     } in
     let z : n + 1 + length ks ≡ n + suc (length ks) = omega arith in
     subst (λ (m : ℕ). After c m (run_from c i (turn c i run k) ks)) z (turns_after laws c i (turn c i run k) ks (n + 1) setting image next first.1)
@@ -193,11 +202,11 @@ start_registers k n top p q r = set_words (set (set (replicate 32 0) 10 k) 11 n)
 
 start_words : (c : RawSettings) (i : Program) (k : ℕ) → IsSetting c → IsImage i → k < 2 ^ 32 → IsWordState (start_state c i k)
 start_words c i k setting image small = record {
-  registers = start_registers k c.harts ((i.memory + 2 ^ 32 - 65536 * k) % 2 ^ 32) small (omega (arith, setting.harts_high)) (mod-lt (i.memory + 2 ^ 32 - 65536 * k) (pow_pos 32));
+  registers = start_registers k c.harts ((i.memory + 2 ^ 32 - 65536 * k) % 2 ^ 32) small (omega (arith, few_harts c setting)) (mod-lt (i.memory + 2 ^ 32 - 65536 * k) (pow_pos 32));
   formed = record { pc = image.entry; count = refl; zero_first = refl };
 }
 
-headers_fit : (c : RawSettings) (i : Program) (k m : ℕ) → IsSetting c → IsImage i → k + m ≤ 256 → AllByRecursion Fits (first_headers c i k m)
+headers_fit : (c : RawSettings) (i : Program) (k m : ℕ) → IsSetting c → IsImage i → k + m ≤ 256 → AllByRecursion (Fits 1) (first_headers c i k m)
 headers_fit c i k zero setting image within = tt
 headers_fit c i k (suc m) setting image within =
     (header_fits k 0 (start_state c i k) (omega (arith, within)) (omega arith) (omega arith) (start_words c i k setting image (omega (arith, within))), headers_fit c i (k + 1) m setting image (omega (arith, within)))
@@ -208,10 +217,10 @@ headers_count c i k (suc m) = ap suc (headers_count c i (k + 1) m)
 
 pub start_worded : (c : RawSettings) (i : Program) (input : List ℕ) → IsSetting c → IsImage i → Worded c (start c i input)
 start_worded c i input setting image = record {
-  states = λ k there. start_words c i k setting image (omega (arith, there, setting.harts_high));
+  states = λ k there. start_words c i k setting image (omega (arith, there, few_harts c setting));
   machine = record { memory = first_words i image.words; brk = heap_word i image.program };
-  fits = headers_fit c i 0 c.harts setting image (omega (arith, setting.harts_high));
-  few = omega (arith, headers_count c i 0 c.harts, setting.harts_high);
+  fits = headers_fit c i 0 c.harts setting image (omega (arith, few_harts c setting));
+  few = omega (arith, headers_count c i 0 c.harts, few_harts c setting);
 }
 
 -- ---- the content
@@ -219,7 +228,7 @@ start_worded c i input setting image = record {
 abbrev pub KeptFit : Type 0
 KeptFit = (size : ℕ) (rs : List Record) → total (kept size rs) ≤ size
 
-turns_bound : (harts limit : ℕ) → harts ≤ 8 → limit ≤ 2 ^ 40 → harts * (limit + 1) ≤ 8 * (2 ^ 40 + 1)
+turns_bound : (harts limit : ℕ) → harts ≤ 16 → limit ≤ 2 ^ 40 → harts * (limit + 1) ≤ 16 * (2 ^ 40 + 1)
 turns_bound harts limit h l = (let up : limit + 1 ≤ 2 ^ 40 + 1 = omega (arith, l) in mul-le-mul h up)
 
 pub is_content : SuffixIsKept → KeptFit → (c : RawSettings) (digest : List ℕ) (n : ℕ) (run : Run) → IsSetting c → length digest ≡ 32 → After c n run → n ≤ most_turns c → broken_by c (dropped_of c run) (kept_of c run) ≡ None
@@ -229,8 +238,8 @@ is_content suffix bound c digest n run setting size a few order =
     record {
       settings = setting;
       digest = size;
-      dropped = omega (arith, a.words.few, a.count, few, turns_bound c.harts c.limit setting.harts_high setting.limit_high);
-      fit = last_part Fits part.0 (kept_of c run) (subst (AllByRecursion Fits) part.1 a.words.fits);
+      dropped = omega (arith, a.words.few, a.count, few, turns_bound c.harts c.limit (few_harts c setting) setting.limit_high);
+      fit = subst (λ (format : ℕ). AllByRecursion (Fits format) (kept_of c run)) (sym (format_is_1 c setting)) (last_part (Fits 1) part.0 (kept_of c run) (subst (AllByRecursion (Fits 1)) part.1 a.words.fits));
       bound = bound c.log_size run.stream;
       order = order;
     }

@@ -1,5 +1,5 @@
--- The records of a turn fit their fields, and are few.
-use Rattle.std.proofs.Common.{◌≡◌, ℕ, zero, suc, ◌+◌, ◌<◌, ◌≤◌, ◌^◌, Bool, true, false, not, ◌&&◌, Option, Some, None, List, [], ◌∷◌, length, slice_index, refl, ap, arith}
+-- The records of a turn fit their fields, with format 1, and are few.
+use Rattle.std.proofs.Common.{◌≡◌, ℕ, zero, suc, ◌+◌, ◌<◌, ◌≤◌, ◌^◌, Bool, true, false, not, ◌&&◌, ◌||◌, Option, Some, None, List, [], ◌∷◌, length, slice_index, refl, sym, ◌∙◌, ap, arith}
 use Rattle.std.specs.Prelude.{◌==◌}
 use Rattle.std.specs.List.{AllByRecursion}
 use Rattle.bn_base.specs.declared.settings.RawSettings.{RawSettings}
@@ -12,7 +12,7 @@ use Rattle.first_load_bits.specs.declared.warm.Warm.TheVariants as answers
 use Rattle.race_log.specs.Points.{Point}
 use Rattle.log_record.specs.declared.record.Record.{Record}
 use Rattle.log_record.specs.declared.record.Record.TheVariants.{End}
-use Rattle.log_record.specs.Spelling.{Fits, AreRegisters, is_mark}
+use Rattle.log_record.specs.Spelling.{Fits, AreRegisters, has_value, is_mark}
 use Rattle.run_model.specs.declared.hart.Hart.{Hart}
 use Rattle.run_model.specs.declared.next.Next.{Next}
 use Rattle.run_model.specs.declared.next.Next.TheVariants.{GoesOn, NewInterval, HartOver, RunOver}
@@ -33,53 +33,57 @@ are_registers : (x : List ℕ) → length x ≡ 32 → slice_index x 0 ≡ 0 →
 are_registers [] count first words = cc
 are_registers (y ∷ ys) count first words = record { others = ys; zero_first = ap (λ (n : ℕ). n ∷ ys) first; count = omega (arith, count); are_words = all_words ys (λ r. words (suc r)) }
 
-pub header_fits : (k number : ℕ) (s : HartState) → k < 256 → number < 2 ^ 64 → s.ic < 2 ^ 64 → IsWordState s → Fits (header k number s)
+pub header_fits : (k number : ℕ) (s : HartState) → k < 256 → number < 2 ^ 64 → s.ic < 2 ^ 64 → IsWordState s → Fits 1 (header k number s)
 header_fits k number s small few low w = record { fields = (small, few, low, w.formed.pc, are_registers s.x w.formed.count w.formed.zero_first w.registers); mark = refl }
 
 -- ---- Edges
 
-edges_fit : (n limit k ic : ℕ) (ss : List (ℕ × ℕ)) → k < 256 → ic < 2 ^ 64 → n ≤ 256 → limit ≤ 2 ^ 64 → AreSources n limit k ss → AllByRecursion Fits (edges_from k ic ss)
+edges_fit : (n limit k ic : ℕ) (ss : List (ℕ × ℕ)) → k < 256 → ic < 2 ^ 64 → n ≤ 256 → limit ≤ 2 ^ 64 → AreSources n limit k ss → AllByRecursion (Fits 1) (edges_from k ic ss)
 edges_fit n limit k ic [] small low harts high a = tt
 edges_fit n limit k ic (s ∷ ss) small low harts high a =
     (record { fields = (small, low, omega (arith, a.0.hart, harts), omega (arith, a.0.below, high)); mark = refl }, edges_fit n limit k ic ss small low harts high a.1)
 
 pub edge_records_fit : ListedEdges → (point : Option Point) (points : List Point) (n limit : ℕ) (counts : ℕ → ℕ) → ArePoints n counts points → ((s : ℕ) → counts s ≤ limit)
-    → ((p : Point) → point ≡ Some p → (p.hart < 256) × (p.count < 2 ^ 64)) → n ≤ 256 → limit ≤ 2 ^ 64 → AllByRecursion Fits (edge_records point points)
+    → ((p : Point) → point ≡ Some p → (p.hart < 256) × (p.count < 2 ^ 64)) → n ≤ 256 → limit ≤ 2 ^ 64 → AllByRecursion (Fits 1) (edge_records point points)
 edge_records_fit listed None points n limit counts are high own harts low = tt
 edge_records_fit listed (Some p) points n limit counts are high own harts low = (let o = own p refl in edges_fit n limit p.hart p.count _ o.0 o.1 harts low (sources_are listed points p n limit counts are high))
 
 -- ---- the others
 
-pub load_fits : (load : Option Warm) (k skipped word : ℕ) → k < 256 → skipped < 2 ^ 32 → word < 2 ^ 32 → AllByRecursion Fits (load_record load k skipped word)
+pub load_fits : (load : Option Warm) (k skipped word : ℕ) → k < 256 → skipped < 2 ^ 32 → word < 2 ^ 32 → AllByRecursion (Fits 1) (load_record load k skipped word)
 load_fits (Some answers.Cold) k skipped word small few w = (record { fields = (small, few, w); mark = refl }, tt)
 load_fits (Some answers.Warm) k skipped word small few w = tt
 load_fits None k skipped word small few w = tt
 
-pub conditional_fits : (reply : Reply) (k : ℕ) → k < 256 → AllByRecursion Fits (sc_record reply k)
+pub conditional_fits : (reply : Reply) (k : ℕ) → k < 256 → AllByRecursion (Fits 1) (sc_record reply k)
 conditional_fits replies.ScOk k small = (record { fields = small; mark = refl }, tt)
 conditional_fits replies.ScFailed k small = (record { fields = small; mark = refl }, tt)
 conditional_fits reply k small = tt
 
-end_fits : (k ic reason value : ℕ) → k < 256 → ic < 2 ^ 64 → reason < 256 → value < 2 ^ 32 → is_mark (mark ic reason value) ≡ true → Fits (End k (mark ic reason value))
-end_fits k ic reason value small low r v m = record { fields = (small, low, r, v); mark = m }
+-- a mark that isn't the guard's is one of format 1
+plain_mark : (ic reason value : ℕ) → (reason == 6) ≡ false → is_mark 2 (mark ic reason value) ≡ is_mark 1 (mark ic reason value)
+plain_mark ic reason value e = ap (λ (b : Bool). has_value reason || ((reason == 1 || reason == 5 || reason == 7 || reason == 18 || b) && (value == 0))) e
+
+end_fits : (k ic reason value : ℕ) → k < 256 → ic < 2 ^ 64 → reason < 256 → value < 2 ^ 32 → (reason == 6) ≡ false → is_mark 2 (mark ic reason value) ≡ true → Fits 1 (End k (mark ic reason value))
+end_fits k ic reason value small low r v u m = record { fields = (small, low, r, v); mark = sym (plain_mark ic reason value u) ∙ m }
 
 pub next_fits : (next : Next) (c : RawSettings) (h : Hart) (k number : ℕ) (s : HartState) → k < 256 → number + 1 < 2 ^ 64 → s.ic < 2 ^ 64 → IsWordState s → EndsAs c h s.ic next → EndIsWord next → is_marked_next next ≡ true
-    → AllByRecursion Fits (next_records next k number s)
+    → AllByRecursion (Fits 1) (next_records next k number s)
 next_fits GoesOn c h k number s small few low w so value m = tt
-next_fits (NewInterval reason v) c h k number s small few low w so value m = (end_fits k s.ic reason v small low so.small value m, (header_fits k (number + 1) s small few low w, tt))
-next_fits (HartOver reason v) c h k number s small few low w so value m = (end_fits k s.ic reason v small low so.small value m, tt)
-next_fits (RunOver reason v) c h k number s small few low w so value m = (end_fits k s.ic reason v small low so.small value m, tt)
+next_fits (NewInterval reason v) c h k number s small few low w so value m = (end_fits k s.ic reason v small low so.small value so.unguarded m, (header_fits k (number + 1) s small few low w, tt))
+next_fits (HartOver reason v) c h k number s small few low w so value m = (end_fits k s.ic reason v small low so.small value so.unguarded m, tt)
+next_fits (RunOver reason v) c h k number s small few low w so value m = (end_fits k s.ic reason v small low so.small value so.unguarded m, tt)
 
-stop_fits : (b : Bool) (j ic : ℕ) (rs : List Record) → j < 256 → ic < 2 ^ 64 → AllByRecursion Fits rs → AllByRecursion Fits (elim b as (λ x. List Record) [ true ↦ End j (mark ic 5 0) ∷ rs | false ↦ rs ])
-stop_fits true j ic rs small low a = (end_fits j ic 5 0 small low (omega arith) (omega arith) refl, a)
+stop_fits : (b : Bool) (j ic : ℕ) (rs : List Record) → j < 256 → ic < 2 ^ 64 → AllByRecursion (Fits 1) rs → AllByRecursion (Fits 1) (elim b as (λ x. List Record) [ true ↦ End j (mark ic 5 0) ∷ rs | false ↦ rs ])
+stop_fits true j ic rs small low a = (end_fits j ic 5 0 small low (omega arith) (omega arith) refl refl, a)
 stop_fits false j ic rs small low a = a
 
-stops_fit : (k j n : ℕ) (harts : ℕ → Hart) → j + n ≤ 256 → ((i : ℕ) → (harts i).state.ic < 2 ^ 64) → AllByRecursion Fits (stopped_records k j n harts)
+stops_fit : (k j n : ℕ) (harts : ℕ → Hart) → j + n ≤ 256 → ((i : ℕ) → (harts i).state.ic < 2 ^ 64) → AllByRecursion (Fits 1) (stopped_records k j n harts)
 stops_fit k j zero harts within low = tt
 stops_fit k j (suc n) harts within low =
     stop_fits (not (j == k) && (harts j).live) j (harts j).state.ic (stopped_records k (j + 1) n harts) (omega (arith, within)) (low j) (stops_fit k (j + 1) n harts (omega (arith, within)) low)
 
-pub over_fits : (next : Next) (k n : ℕ) (harts : ℕ → Hart) → n ≤ 256 → ((i : ℕ) → (harts i).state.ic < 2 ^ 64) → AllByRecursion Fits (run_over_records next k n harts)
+pub over_fits : (next : Next) (k n : ℕ) (harts : ℕ → Hart) → n ≤ 256 → ((i : ℕ) → (harts i).state.ic < 2 ^ 64) → AllByRecursion (Fits 1) (run_over_records next k n harts)
 over_fits (RunOver reason value) k n harts within low = stops_fit k 0 n harts (omega (arith, within)) low
 over_fits GoesOn k n harts within low = tt
 over_fits (NewInterval reason value) k n harts within low = tt

@@ -1,5 +1,5 @@
 -- How an interval ends, and the records of that.
-use Rattle.std.proofs.Common.{◌≡◌, ℕ, ◌+◌, ◌-◌, ◌<◌, ◌≤◌, ◌^◌, Bool, true, false, nat_le, ◌||◌, Option, Some, None, List, [], ◌∷◌, ◌++◌, Ok, refl, sym, ◌∙◌, subst, arith}
+use Rattle.std.proofs.Common.{◌≡◌, ℕ, ◌+◌, ◌-◌, ◌<◌, ◌≤◌, ◌^◌, Bool, true, false, nat_le, Option, Some, None, List, [], ◌∷◌, ◌++◌, Ok, refl, sym, ◌∙◌, subst, arith}
 use Rattle.std.specs.Prelude.{◌==◌, slice_get, slice_set, if◌then◌else◌}
 use Rattle.std.proofs.lemmas.Bool.{false≢true}
 use Rattle.bn_base.specs.Faults.{fault_number}
@@ -20,18 +20,21 @@ use Rattle.log_order.specs.declared.view.HartView.{HartView}
 use Rattle.log_order.specs.declared.view.Phase.{Phase}
 use Rattle.log_order.specs.declared.view.Phase.TheVariants.{Awaiting, Open, Done}
 use Rattle.log_order.specs.Order.{step, terms_of}
+use Rattle.log_order.specs.Rules.{goes_on}
 use Rattle.log_order.specs.Suffix.{Keeps}
 use Rattle.run_model.specs.declared.hart.Hart.{Hart}
 use Rattle.run_model.specs.declared.next.Next.{Next}
 use Rattle.run_model.specs.declared.next.Next.TheVariants.{GoesOn, NewInterval, HartOver, RunOver}
 use Rattle.run_model.specs.Turn.{next_of, after_call, mark, header, next_records, hart_after}
+use Rattle.run_model.specs.Counts.{is_on}
 use Rattle.file_laws.proofs.Views.{OrderLaws, Views, IsOpen, IsDone, IsView, Took, took_none, took_one, took_both}
 
 -- hart h's interval can end so at count ic; on tells whether the hart goes on to its next one
 pub record EndsSo (c : RawSettings) (h : Hart) (ic reason : ℕ) (on : Bool) : Type 0 where
   pub full : reason ≡ 1 → h.begun + c.interval ≤ ic
   pub limit : reason ≡ 7 → c.limit ≤ ic
-  pub kind : (reason == 1 || reason == 2) ≡ on
+  pub kind : goes_on reason ≡ on
+  pub unguarded : (reason == 6) ≡ false
   pub small : reason < 256
 
 abbrev pub EndsAs : RawSettings → Hart → ℕ → Next → Type 0
@@ -40,9 +43,9 @@ EndsAs c h ic (NewInterval reason value) = EndsSo c h ic reason true
 EndsAs c h ic (HartOver reason value) = EndsSo c h ic reason false
 EndsAs c h ic (RunOver reason value) = EndsSo c h ic reason false
 
--- an end for a reason that neither a full interval nor the limit gives
-plain_end : (c : RawSettings) (h : Hart) (ic reason : ℕ) (on : Bool) → (reason ≡ 1 → ⊥) → (reason ≡ 7 → ⊥) → (reason == 1 || reason == 2) ≡ on → reason < 256 → EndsSo c h ic reason on
-plain_end c h ic reason on f g e small = record { full = λ p. absurd (f p); limit = λ p. absurd (g p); kind = e; small = small }
+-- an end for a reason that neither a full interval, nor the limit, nor the guard gives
+plain_end : (c : RawSettings) (h : Hart) (ic reason : ℕ) (on : Bool) → (reason ≡ 1 → ⊥) → (reason ≡ 7 → ⊥) → goes_on reason ≡ on → (reason == 6) ≡ false → reason < 256 → EndsSo c h ic reason on
+plain_end c h ic reason on f g e u small = record { full = λ p. absurd (f p); limit = λ p. absurd (g p); kind = e; unguarded = u; small = small }
 
 le_of : (a b : ℕ) → nat_le a b ≡ true → a ≤ b
 le_of a b e = grind arith
@@ -52,25 +55,25 @@ full_at b n ic some e = omega (arith, some, le_of n (ic - b) e)
 
 count_ends : (c : RawSettings) (h : Hart) (ic : ℕ) (end full : Bool) → nat_le c.limit ic ≡ end → nat_le c.interval (ic - h.begun) ≡ full → 1 ≤ c.interval
     → EndsAs c h ic (elim end as (λ x. Next) [ true ↦ HartOver 7 0 | false ↦ elim full as (λ x. Next) [ true ↦ NewInterval 1 0 | false ↦ GoesOn ] ])
-count_ends c h ic true full e f some = record { full = λ p. absurd cc; limit = λ p. le_of c.limit ic e; kind = refl; small = omega arith }
-count_ends c h ic false true e f some = record { full = λ p. full_at h.begun c.interval ic some f; limit = λ p. absurd cc; kind = refl; small = omega arith }
+count_ends c h ic true full e f some = record { full = λ p. absurd cc; limit = λ p. le_of c.limit ic e; kind = refl; unguarded = refl; small = omega arith }
+count_ends c h ic false true e f some = record { full = λ p. full_at h.begun c.interval ic some f; limit = λ p. absurd cc; kind = refl; unguarded = refl; small = omega arith }
 count_ends c h ic false false e f some = tt
 
 fault_ends : (kind : Fault) (c : RawSettings) (h : Hart) (ic : ℕ) → EndsSo c h ic (16 + fault_number kind) false
-fault_ends Illegal c h ic = plain_end c h ic 17 false (λ p. cc) (λ p. cc) refl (omega arith)
-fault_ends Breakpoint c h ic = plain_end c h ic 18 false (λ p. cc) (λ p. cc) refl (omega arith)
-fault_ends FetchOutside c h ic = plain_end c h ic 19 false (λ p. cc) (λ p. cc) refl (omega arith)
-fault_ends TargetMisaligned c h ic = plain_end c h ic 20 false (λ p. cc) (λ p. cc) refl (omega arith)
-fault_ends LoadOutside c h ic = plain_end c h ic 21 false (λ p. cc) (λ p. cc) refl (omega arith)
-fault_ends LoadMisaligned c h ic = plain_end c h ic 22 false (λ p. cc) (λ p. cc) refl (omega arith)
-fault_ends StoreOutside c h ic = plain_end c h ic 23 false (λ p. cc) (λ p. cc) refl (omega arith)
-fault_ends StoreMisaligned c h ic = plain_end c h ic 24 false (λ p. cc) (λ p. cc) refl (omega arith)
-fault_ends StoreReadOnly c h ic = plain_end c h ic 25 false (λ p. cc) (λ p. cc) refl (omega arith)
+fault_ends Illegal c h ic = plain_end c h ic 17 false (λ p. cc) (λ p. cc) refl refl (omega arith)
+fault_ends Breakpoint c h ic = plain_end c h ic 18 false (λ p. cc) (λ p. cc) refl refl (omega arith)
+fault_ends FetchOutside c h ic = plain_end c h ic 19 false (λ p. cc) (λ p. cc) refl refl (omega arith)
+fault_ends TargetMisaligned c h ic = plain_end c h ic 20 false (λ p. cc) (λ p. cc) refl refl (omega arith)
+fault_ends LoadOutside c h ic = plain_end c h ic 21 false (λ p. cc) (λ p. cc) refl refl (omega arith)
+fault_ends LoadMisaligned c h ic = plain_end c h ic 22 false (λ p. cc) (λ p. cc) refl refl (omega arith)
+fault_ends StoreOutside c h ic = plain_end c h ic 23 false (λ p. cc) (λ p. cc) refl refl (omega arith)
+fault_ends StoreMisaligned c h ic = plain_end c h ic 24 false (λ p. cc) (λ p. cc) refl refl (omega arith)
+fault_ends StoreReadOnly c h ic = plain_end c h ic 25 false (λ p. cc) (λ p. cc) refl refl (omega arith)
 
 call_ends : (plan : Plan) (reply : Reply) (c : RawSettings) (h : Hart) (ic : ℕ) → EndsAs c h ic (after_call plan reply)
-call_ends (plans.EndHart v) reply c h ic = plain_end c h ic 3 false (λ p. cc) (λ p. cc) refl (omega arith)
-call_ends (plans.EndRun v) reply c h ic = plain_end c h ic 4 false (λ p. cc) (λ p. cc) refl (omega arith)
-call_ends plan (replies.Answer v) c h ic = plain_end c h ic 2 true (λ p. cc) (λ p. cc) refl (omega arith)
+call_ends (plans.EndHart v) reply c h ic = plain_end c h ic 3 false (λ p. cc) (λ p. cc) refl refl (omega arith)
+call_ends (plans.EndRun v) reply c h ic = plain_end c h ic 4 false (λ p. cc) (λ p. cc) refl refl (omega arith)
+call_ends plan (replies.Answer v) c h ic = plain_end c h ic 2 true (λ p. cc) (λ p. cc) refl refl (omega arith)
 call_ends plan reply c h ic = tt
 
 -- what comes after a turn ends the interval so
@@ -115,14 +118,14 @@ said : (t : Terms) (n : ℕ) (stream : List Record) (vs : Views) (k : ℕ) (rs :
 said t n stream vs k rs P Q f a = record { views = a.views; keeps = a.keeps; size = a.size; own = f (slice_get a.views k) a.own; others = a.others }
 
 -- what comes after a turn leaves the view of the hart after it
-pub took_next : (next : Next) → OrderLaws → (c : RawSettings) (n : ℕ) (stream : List Record) (vs : Views) (k : ℕ) (h : Hart) (s : HartState) (skipped : ℕ) → Keeps (terms_of c) n 0 stream vs → h.live ≡ true → h.number < 2 ^ 41
+pub took_next : (next : Next) → OrderLaws → (c : RawSettings) (n : ℕ) (stream : List Record) (vs : Views) (k : ℕ) (h : Hart) (s : HartState) (skipped bytes : ℕ) → Keeps (terms_of c) n 0 stream vs → h.live ≡ true → (is_on next ≡ true → h.number < 2 ^ 41)
     → IsOpen (h.number + 1) h.begun s.ic (slice_get vs k) → IsWithin c h s.ic → EndsAs c h s.ic next
-    → Took (terms_of c) n stream vs k (next_records next k h.number s) (IsView (hart_after next s skipped h))
-took_next GoesOn laws c n stream vs k h s skipped kp live small v within so =
-    took_none (terms_of c) n stream vs k (IsView (hart_after GoesOn s skipped h)) kp (open_view (hart_after GoesOn s skipped h) (slice_get vs k) live v)
-took_next (NewInterval reason value) laws c n stream vs k h s skipped kp live small v within so =
+    → Took (terms_of c) n stream vs k (next_records next k h.number s) (IsView (hart_after next s skipped bytes h))
+took_next GoesOn laws c n stream vs k h s skipped bytes kp live small v within so =
+    took_none (terms_of c) n stream vs k (IsView (hart_after GoesOn s skipped bytes h)) kp (open_view (hart_after GoesOn s skipped bytes h) (slice_get vs k) live v)
+took_next (NewInterval reason value) laws c n stream vs k h s skipped bytes kp live small v within so =
     let t = terms_of c in
-    let after = hart_after (NewInterval reason value) s skipped h in
+    let after = hart_after (NewInterval reason value) s skipped bytes h in
     let end : Record = End k (mark s.ic reason value) in
     let awaiting = with_phase (Awaiting (Some (h.number + 1)) s.ic) v.seen (Some s.ic) in
     let opened = with_phase (Open (h.number + 1 + 1) s.ic) v.seen (Some s.ic) in
@@ -130,12 +133,12 @@ took_next (NewInterval reason value) laws c n stream vs k h s skipped kp live sm
     (end_follows laws c vs k (h.number + 1) h s.ic reason value true v within so) refl in
     let low : v.seen ≤ s.ic = v.low in
     let second = took_one laws.more t n (stream ++ end ∷ []) first.views k (header k (h.number + 1) s) awaiting opened (IsView after) first.keeps first.own
-    (laws.header t first.views k (h.number + 1) s.ic s.pc s.x v.seen true (Some s.ic) first.own (omega (arith, small)) low within.limit)
+    (laws.header t first.views k (h.number + 1) s.ic s.pc s.x v.seen true (Some s.ic) first.own (omega (arith, small refl)) low within.limit)
     (open_view after (Some opened) live (record { seen = v.seen; met = true; last = Some s.ic; is = refl; low = low })) in
     took_both t n stream vs k (end ∷ []) (header k (h.number + 1) s ∷ []) (λ o. o ≡ Some awaiting) (IsView after) first second
-took_next (HartOver reason value) laws c n stream vs k h s skipped kp live small v within so =
-    let after = hart_after (HartOver reason value) s skipped h in
+took_next (HartOver reason value) laws c n stream vs k h s skipped bytes kp live small v within so =
+    let after = hart_after (HartOver reason value) s skipped bytes h in
     said (terms_of c) n stream vs k (End k (mark s.ic reason value) ∷ []) (IsDone s.ic) (IsView after) (λ o d. done_view after o refl d) (took_last laws c n stream vs k (h.number + 1) h s.ic reason value kp v within so)
-took_next (RunOver reason value) laws c n stream vs k h s skipped kp live small v within so =
-    let after = hart_after (RunOver reason value) s skipped h in
+took_next (RunOver reason value) laws c n stream vs k h s skipped bytes kp live small v within so =
+    let after = hart_after (RunOver reason value) s skipped bytes h in
     said (terms_of c) n stream vs k (End k (mark s.ic reason value) ∷ []) (IsDone s.ic) (IsView after) (λ o d. done_view after o refl d) (took_last laws c n stream vs k (h.number + 1) h s.ic reason value kp v within so)

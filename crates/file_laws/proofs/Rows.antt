@@ -58,10 +58,10 @@ by_order : (b : Bool) → Laws → (c : RawSettings) (i : Program) (run : Run) (
     → is_orderly c i (run.harts r.hart) r.ask ≡ b → Written c (after_rows c i run (r ∷ rs))
 by_order true laws c i run r rs setting known lawful rest o =
     let live = both (nat_lt r.hart c.harts) (run.harts r.hart).live lawful.0 in
-    rest (serve c i run r.hart r.ask).run (turn_kept laws c i run r.hart r.ask setting known (below_of r.hart c.harts live.0) live.1 o) lawful.2
+    rest (serve c i run r.hart r.ask).run (turn_kept laws c i run r.hart r.ask setting known (below_of r.hart c.harts live.0) live.1 o) lawful.3
 by_order false laws c i run r rs setting known lawful rest o =
     let e = disordered c i run r.hart r.ask o in
-    subst (λ (s : Served). Written c (after_rows c i s.run rs)) (sym e) (after_disorder c i run rs known (subst (λ (s : Served). IsLawful c i s.run rs) e lawful.2))
+    subst (λ (s : Served). Written c (after_rows c i s.run rs)) (sym e) (after_disorder c i run rs known (subst (λ (s : Served). IsLawful c i s.run rs) e lawful.3))
 
 -- after any lawful rows
 pub rows_kept : Laws → (c : RawSettings) (i : Program) (run : Run) (rows : List TurnRow) → IsSetting c → Recording c run → IsLawful c i run rows → Written c (after_rows c i run rows)
@@ -80,7 +80,7 @@ rows_recorded laws c i run (r ∷ rs) setting known lawful orderly =
     let live = both (nat_lt r.hart c.harts) (run.harts r.hart).live lawful.0 in
     let first = orderly_first (is_orderly c i (run.harts r.hart) r.ask) (are_orderly c i (serve c i run r.hart r.ask).run rs) orderly in
     rows_recorded laws c i (serve c i run r.hart r.ask).run rs setting
-    (turn_kept laws c i run r.hart r.ask setting known (below_of r.hart c.harts live.0) live.1 first.0) lawful.2 first.1
+    (turn_kept laws c i run r.hart r.ask setting known (below_of r.hart c.harts live.0) live.1 first.0) lawful.3 first.1
 
 -- ---- what is kept
 

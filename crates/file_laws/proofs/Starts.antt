@@ -17,7 +17,7 @@ use Rattle.log_order.specs.Order.{terms_of}
 use Rattle.log_order.specs.Suffix.{Keeps, IsEarly}
 use Rattle.run_model.specs.Turn.{header}
 use Rattle.run_model.specs.Runs.{start, start_hart, start_state, first_headers}
-use Rattle.run_model.specs.Counts.{IsFit}
+use Rattle.run_model.specs.Counts.{IsRested}
 use Rattle.file_laws.proofs.Views.{OrderLaws, Views, IsOpen, Took, took_one}
 use Rattle.file_laws.proofs.Nexts.{open_view}
 use Rattle.file_laws.proofs.Turns.{Recording}
@@ -91,8 +91,11 @@ headers_early : (c : RawSettings) (i : Program) (counts : ℕ → ℕ) (k m : �
 headers_early c i counts k zero = tt
 headers_early c i counts k (suc m) = (tt, headers_early c i counts (k + 1) m)
 
-pub fit_start : (c : RawSettings) (s : HartState) → s.ic ≡ 0 → 1 ≤ c.interval → IsFit c (start_hart s)
-fit_start c s e some = record { number = omega arith; skipped = omega (arith, e); interval = omega (arith, e); limit = omega (arith, e); unfilled = λ p. omega (arith, e, some) }
+pub fit_start : (c : RawSettings) (k : ℕ) (s : HartState) → s.ic ≡ 0 → 1 ≤ c.interval → IsRested c (start_hart k s)
+fit_start c k s e some = record {
+  fit = record { number = omega arith; skipped = omega (arith, e); interval = omega (arith, e); limit = omega (arith, e); unfilled = λ p. omega (arith, e, some) };
+  number = λ p. omega arith;
+}
 
 pub started : OrderLaws → NoneAreKept → (c : RawSettings) (i : Program) (input : List ℕ) → IsSetting c → Recording c (start c i input)
 unfolding AreFresh
@@ -102,8 +105,8 @@ started laws none c i input setting =
       views = begin.views;
       keeps = begin.keeps;
       size = begin.size ∙ length_replicate c.harts (fresh true);
-      view = λ j within. open_view (start_hart (start_state c i j)) (slice_get begin.views j) refl (begin.inside j (omega arith) (omega (arith, within)));
-      fit = λ j. fit_start c (start_state c i j) refl setting.interval_low;
+      view = λ j within. open_view (start_hart j (start_state c i j)) (slice_get begin.views j) refl (begin.inside j (omega arith) (omega (arith, within)));
+      fit = λ j. fit_start c j (start_state c i j) refl setting.interval_low;
       early = headers_early c i _ 0 c.harts;
       points = λ m q e. cc;
     }

@@ -26,8 +26,9 @@ use Rattle.run_model.specs.declared.next.Next.{Next}
 use Rattle.run_model.specs.declared.next.Next.TheVariants.{GoesOn, NewInterval, HartOver, RunOver}
 use Rattle.run_model.specs.declared.span.Span.{Span}
 use Rattle.run_model.specs.Machine.{Answered, answer, call_of}
-use Rattle.run_model.specs.Turn.{Run, Served, serve, serve_orderly, served_if, after_ask, span_of, next_of, loading, warmth, skipped_after, word_before, budget, point_of, points_after, edge_records, load_record, sc_record, next_records, stopped_records, run_over_records, hart_after, other_after, harts_after, is_orderly, mark}
-use Rattle.run_model.specs.Counts.{IsFit, is_there, MovesOn, EachTurnMovesOn, EachTurnFits, OthersStayFit}
+use Rattle.run_model.specs.Turn.{Run, Served, serve, serve_call, served_if, after_ask, span_of, next_of, loading, warmth, skipped_after, word_before, budget, point_of, points_after, edge_records, load_record, sc_record, next_records, stopped_records, run_over_records, hart_after, other_after, harts_after, is_orderly, mark}
+use Rattle.run_model.specs.Counts.{IsFit, IsRested, is_there, is_on, MovesOn, EachTurnMovesOn, EachTurnFits, OthersStayFit}
+use Rattle.run_model.specs.Guards.{FormatOneIsUnguarded}
 use Rattle.file_laws.specs.Recorded.{counts_of}
 use Rattle.file_laws.proofs.Views.{OrderLaws, Views, IsOpen, IsView, Took, took_none, took_both, took_edges, took_load, took_conditional, open_later, AreSources}
 use Rattle.file_laws.proofs.Nexts.{EndsAs, IsWithin, next_ends, took_next}
@@ -41,6 +42,7 @@ pub record Laws : Type 0 where
   pub moves : EachTurnMovesOn
   pub fits : EachTurnFits
   pub others : OthersStayFit
+  pub guards : FormatOneIsUnguarded
 
 -- what holds of a run all of whose asks were orderly: the records keep the rules, and leave the view of each hart that the
 -- hart has
@@ -49,7 +51,7 @@ pub record Recording (c : RawSettings) (run : Run) : Type 0 where
   pub keeps : Keeps (terms_of c) c.harts 0 run.stream views
   pub size : length views ≡ c.harts
   pub view : (j : ℕ) → j < c.harts → IsView (run.harts j) (slice_get views j)
-  pub fit : (j : ℕ) → IsFit c (run.harts j)
+  pub fit : (j : ℕ) → IsRested c (run.harts j)
   pub early : AllByRecursion (IsEarly (counts_of run)) run.stream
   pub points : ArePoints c.harts (counts_of run) run.points
 
@@ -103,11 +105,11 @@ over_early (HartOver reason value) counts k n harts = tt
 
 -- ---- the harts after a turn
 
-pub own_state : (next : Next) (s : HartState) (skipped : ℕ) (h : Hart) → (hart_after next s skipped h).state ≡ s
-own_state GoesOn s skipped h = refl
-own_state (NewInterval reason value) s skipped h = refl
-own_state (HartOver reason value) s skipped h = refl
-own_state (RunOver reason value) s skipped h = refl
+pub own_state : (next : Next) (s : HartState) (skipped bytes : ℕ) (h : Hart) → (hart_after next s skipped bytes h).state ≡ s
+own_state GoesOn s skipped bytes h = refl
+own_state (NewInterval reason value) s skipped bytes h = refl
+own_state (HartOver reason value) s skipped bytes h = refl
+own_state (RunOver reason value) s skipped bytes h = refl
 
 stopped_state : (b : Bool) (h : Hart) → (elim b as (λ x. Hart) [ true ↦ record h { live = false; mark = Some (mark h.state.ic 5 0) } | false ↦ h ]).state ≡ h.state
 stopped_state true h = refl
@@ -128,26 +130,26 @@ other_is next k j own harts e = ap (λ (b : Bool). elim b as (λ x. Hart) [ true
 same_self : (k : ℕ) → (k == k) ≡ true
 same_self k = grind arith
 
--- the hart whose turn it was, and the count of each hart
-abbrev pub own_hart : RawSettings → Run → ℕ → Ask → Next → HartState → Hart
-own_hart c run k ask next s = hart_after next s (skipped_after (warmth c (loading ask.want) (run.events k)) (run.harts k).skipped) (run.harts k)
+-- the hart whose turn it was, where the stream has so many bytes now, and the count of each hart
+abbrev pub own_hart : RawSettings → Run → ℕ → Ask → Next → HartState → ℕ → Hart
+own_hart c run k ask next s bytes = hart_after next s (skipped_after (warmth c (loading ask.want) (run.events k)) (run.harts k).skipped) bytes (run.harts k)
 
-abbrev counts_after : RawSettings → Run → ℕ → Ask → Next → HartState → ℕ → ℕ
-counts_after c run k ask next s j = (harts_after next k (own_hart c run k ask next s) run.harts j).state.ic
+abbrev counts_after : RawSettings → Run → ℕ → Ask → Next → HartState → ℕ → ℕ → ℕ
+counts_after c run k ask next s bytes j = (harts_after next k (own_hart c run k ask next s bytes) run.harts j).state.ic
 
-counts_go_on : (c : RawSettings) (run : Run) (k : ℕ) (ask : Ask) (next : Next) (s : HartState) → (run.harts k).state.ic ≤ s.ic → (j : ℕ) → counts_of run j ≤ counts_after c run k ask next s j
-counts_go_on c run k ask next s on j = elim (eqb_tells j k) [
+counts_go_on : (c : RawSettings) (run : Run) (k : ℕ) (ask : Ask) (next : Next) (s : HartState) (bytes : ℕ) → (run.harts k).state.ic ≤ s.ic → (j : ℕ) → counts_of run j ≤ counts_after c run k ask next s bytes j
+counts_go_on c run k ask next s bytes on j = elim (eqb_tells j k) [
   | inl p ↦
-      let e = ap (λ (x : HartState). x.ic) (ap (λ (h : Hart). h.state) (own_is next k j (own_hart c run k ask next s) run.harts p.0) ∙ own_state next s (skipped_after (warmth c (loading ask.want) (run.events k)) (run.harts k).skipped) (run.harts k)) in
+      let e = ap (λ (x : HartState). x.ic) (ap (λ (h : Hart). h.state) (own_is next k j (own_hart c run k ask next s bytes) run.harts p.0) ∙ own_state next s (skipped_after (warmth c (loading ask.want) (run.events k)) (run.harts k).skipped) bytes (run.harts k)) in
       let old : counts_of run j ≡ counts_of run k = ap (counts_of run) p.1 in
       omega (arith, e, old, on)
   | inr p ↦
-      let e = ap (λ (x : HartState). x.ic) (ap (λ (h : Hart). h.state) (other_is next k j (own_hart c run k ask next s) run.harts p.0) ∙ other_state next (run.harts j)) in
+      let e = ap (λ (x : HartState). x.ic) (ap (λ (h : Hart). h.state) (other_is next k j (own_hart c run k ask next s bytes) run.harts p.0) ∙ other_state next (run.harts j)) in
       omega (arith, e)
 ]
 
-own_count : (c : RawSettings) (run : Run) (k : ℕ) (ask : Ask) (next : Next) (s : HartState) → counts_after c run k ask next s k ≡ s.ic
-own_count c run k ask next s = ap (λ (h : Hart). h.state.ic) (own_is next k k (own_hart c run k ask next s) run.harts (same_self k)) ∙ ap (λ (x : HartState). x.ic) (own_state next s (skipped_after (warmth c (loading ask.want) (run.events k)) (run.harts k).skipped) (run.harts k))
+own_count : (c : RawSettings) (run : Run) (k : ℕ) (ask : Ask) (next : Next) (s : HartState) (bytes : ℕ) → counts_after c run k ask next s bytes k ≡ s.ic
+own_count c run k ask next s bytes = ap (λ (h : Hart). h.state.ic) (own_is next k k (own_hart c run k ask next s bytes) run.harts (same_self k)) ∙ ap (λ (x : HartState). x.ic) (own_state next s (skipped_after (warmth c (loading ask.want) (run.events k)) (run.harts k).skipped) bytes (run.harts k))
 
 -- ---- where the asking instruction is
 
@@ -175,12 +177,12 @@ took_point laws c run k ic None s asked next load known setting on v =
 took_point laws c run k ic (Some x) s asked next load known setting on v =
     let h = run.harts k in
     let up : s.ic ≡ asked + 1 = on.accessed refl in
-    let within = turn_within c h asked s.ic next (Some x) load (known.fit k) on in
-    let sources : AreSources c.harts c.limit k _ = sources_are laws.listed run.points _ c.harts c.limit (counts_of run) known.points (λ j. (known.fit j).limit) in
+    let within = turn_within c h asked s.ic next (Some x) load (known.fit k).fit on in
+    let sources : AreSources c.harts c.limit k _ = sources_are laws.listed run.points _ c.harts c.limit (counts_of run) known.points (λ j. (known.fit j).fit.limit) in
     subst (λ (n : ℕ). Took (terms_of c) c.harts run.stream known.views k (edge_records (point_of k asked run.turns (Some x)) run.points) (IsOpen (h.number + 1) h.begun n)) (sym up)
     (took_edges laws.order (terms_of c) c.harts run.stream known.views k asked (h.number + 1) h.begun _ known.keeps known.size
     (open_later (h.number + 1) h.begun h.state.ic (asked + 1) (slice_get known.views k) (omega (arith, on.from)) v) sources
-    (omega (arith, up, within.limit)) (omega (arith, (known.fit k).skipped, on.from)) (omega (arith, up, within.high)))
+    (omega (arith, up, within.limit)) (omega (arith, (known.fit k).fit.skipped, on.from)) (omega (arith, up, within.high)))
 
 -- all records of the turn but those of the harts that it stops
 abbrev own_records : RawSettings → Run → ℕ → Ask → Reply → Option Span → Next → HartState → List Record
@@ -188,10 +190,10 @@ own_records c run k ask reply span next s =
     edge_records (point_of k ask.state.ic run.turns span) run.points
     ++ (load_record (warmth c (loading ask.want) (run.events k)) k (run.harts k).skipped (word_before run.machine.memory (loading ask.want)) ++ (sc_record reply k ++ next_records next k (run.harts k).number s))
 
-took_turn : Laws → (c : RawSettings) (run : Run) (k : ℕ) (ask : Ask) (reply : Reply) (span : Option Span) (next : Next) (s : HartState) (known : Recording c run) → IsSetting c → k < c.harts → (run.harts k).live ≡ true
+took_turn : Laws → (c : RawSettings) (run : Run) (k : ℕ) (ask : Ask) (reply : Reply) (span : Option Span) (next : Next) (s : HartState) (bytes : ℕ) (known : Recording c run) → IsSetting c → k < c.harts → (run.harts k).live ≡ true
     → MovesOn c (run.harts k) ask.state.ic s.ic next span (loading ask.want) → EndsAs c (run.harts k) s.ic next
-    → Took (terms_of c) c.harts run.stream known.views k (own_records c run k ask reply span next s) (IsView (own_hart c run k ask next s))
-took_turn laws c run k ask reply span next s known setting there live on so =
+    → Took (terms_of c) c.harts run.stream known.views k (own_records c run k ask reply span next s) (IsView (own_hart c run k ask next s bytes))
+took_turn laws c run k ask reply span next s bytes known setting there live on so =
     let h = run.harts k in
     let t = terms_of c in
     let n = c.harts in
@@ -199,16 +201,16 @@ took_turn laws c run k ask reply span next s known setting there live on so =
     let load = warmth c (loading ask.want) (run.events k) in
     let word = word_before run.machine.memory (loading ask.want) in
     let P = IsOpen number h.begun s.ic in
-    let within = turn_within c h ask.state.ic s.ic next span (loading ask.want) (known.fit k) on in
+    let within = turn_within c h ask.state.ic s.ic next span (loading ask.want) (known.fit k).fit on in
     let edges = took_point laws c run k ask.state.ic span s ask.state.ic next (loading ask.want) known setting on ((known.view k there).in_interval live) in
     let es : List Record = edge_records (point_of k ask.state.ic run.turns span) run.points in
     let loads = took_load laws.order t n (run.stream ++ es) edges.views k s.ic number h.begun load h.skipped word edges.keeps edges.own in
     let ls : List Record = load_record load k h.skipped word in
     let conditionals = took_conditional laws.order t n ((run.stream ++ es) ++ ls) loads.views k s.ic number h.begun reply loads.keeps loads.own in
     let cs : List Record = sc_record reply k in
-    let small : h.number < 2 ^ 41 = omega (arith, (known.fit k).number, within.low, within.limit, setting.limit_high) in
-    let last = took_next next laws.order c n (((run.stream ++ es) ++ ls) ++ cs) conditionals.views k h s (skipped_after load h.skipped) conditionals.keeps live small conditionals.own within so in
-    let Q = IsView (own_hart c run k ask next s) in
+    let small : is_on next ≡ true → h.number < 2 ^ 41 = λ p. omega (arith, (known.fit k).number live, (known.fit k).fit.skipped, on.on p, within.limit, setting.limit_high) in
+    let last = took_next next laws.order c n (((run.stream ++ es) ++ ls) ++ cs) conditionals.views k h s (skipped_after load h.skipped) bytes conditionals.keeps live small conditionals.own within so in
+    let Q = IsView (own_hart c run k ask next s bytes) in
     let ns : List Record = next_records next k h.number s in
     took_both t n run.stream known.views k es (ls ++ (cs ++ ns)) P Q edges
     (took_both t n (run.stream ++ es) edges.views k ls (cs ++ ns) P Q loads (took_both t n ((run.stream ++ es) ++ ls) loads.views k cs ns P Q conditionals last))
@@ -240,7 +242,7 @@ with_stops : OrderLaws → (c : RawSettings) (run : Run) (k : ℕ) (own : Hart) 
     → Turned c run.stream (rs ++ stopped_records k 0 c.harts run.harts) (harts_after (RunOver reason value) k own run.harts)
 with_stops laws c run k own reason value known rs took =
     let next = RunOver reason value in
-    let stop = stops laws c c.harts (run.stream ++ rs) took.views k 0 c.harts run.harts took.keeps known.fit
+    let stop = stops laws c c.harts (run.stream ++ rs) took.views k 0 c.harts run.harts took.keeps (λ j. (known.fit j).fit)
     (λ i low high apart. subst (IsView (run.harts i)) (sym (took.others i apart)) (known.view i (omega (arith, high)))) in record {
       views = stop.views;
       keeps = subst (λ (x : List Record). Keeps (terms_of c) c.harts 0 x stop.views) (append_assoc run.stream rs (stopped_records k 0 c.harts run.harts)) stop.keeps;
@@ -268,11 +270,11 @@ points_on : (span : Option Span) (k asked turn n : ℕ) (counts later : ℕ → 
 points_on None k asked turn n counts later points are on there below = λ m q e. (let old = are m q e in (old.0, omega (arith, old.1, on q.hart)))
 points_on (Some x) k asked turn n counts later points are on there below = points_go_on points _ n counts later are on there (below refl)
 
-fit_after : Laws → (c : RawSettings) (run : Run) (k : ℕ) (ask : Ask) (span : Option Span) (next : Next) (s : HartState) → IsSetting c → ((j : ℕ) → IsFit c (run.harts j)) → (run.harts k).live ≡ true
-    → MovesOn c (run.harts k) ask.state.ic s.ic next span (loading ask.want) → (j : ℕ) → IsFit c (harts_after next k (own_hart c run k ask next s) run.harts j)
-fit_after laws c run k ask span next s setting fit live on j = elim (eqb_tells j k) [
-  | inl p ↦ subst (IsFit c) (sym (own_is next k j (own_hart c run k ask next s) run.harts p.0)) (laws.fits c (run.harts k) ask.state.ic s next span (loading ask.want) (run.events k) setting.interval_low live (fit k) on).0
-  | inr p ↦ subst (IsFit c) (sym (other_is next k j (own_hart c run k ask next s) run.harts p.0)) (laws.others c (run.harts j) next (fit j)).0
+fit_after : Laws → (c : RawSettings) (run : Run) (k : ℕ) (ask : Ask) (span : Option Span) (next : Next) (s : HartState) (bytes : ℕ) → IsSetting c → ((j : ℕ) → IsRested c (run.harts j)) → (run.harts k).live ≡ true
+    → MovesOn c (run.harts k) ask.state.ic s.ic next span (loading ask.want) → (j : ℕ) → IsRested c (harts_after next k (own_hart c run k ask next s bytes) run.harts j)
+fit_after laws c run k ask span next s bytes setting fit live on j = elim (eqb_tells j k) [
+  | inl p ↦ subst (IsRested c) (sym (own_is next k j (own_hart c run k ask next s bytes) run.harts p.0)) (laws.fits c (run.harts k) ask.state.ic bytes s next span (loading ask.want) (run.events k) setting.interval_low live (fit k).fit on).0
+  | inr p ↦ subst (IsRested c) (sym (other_is next k j (own_hart c run k ask next s bytes) run.harts p.0)) (laws.others c (run.harts j) next (fit j)).0
 ]
 
 -- the records of the turn are early
@@ -286,7 +288,7 @@ turn_early laws c run k ask reply span next s later known on =
     let ns = next_records next k (run.harts k).number s in
     let E = IsEarly later in
     all_both E (es ++ (ls ++ (cs ++ ns))) (run_over_records next k c.harts run.harts)
-    (all_both E es (ls ++ (cs ++ ns)) (edges_early laws.listed (point_of k ask.state.ic run.turns span) run.points c.harts c.limit (counts_of run) later known.points (λ j. (known.fit j).limit) on)
+    (all_both E es (ls ++ (cs ++ ns)) (edges_early laws.listed (point_of k ask.state.ic run.turns span) run.points c.harts c.limit (counts_of run) later known.points (λ j. (known.fit j).fit.limit) on)
     (all_both E ls (cs ++ ns) (load_early load later k (run.harts k).skipped (word_before run.machine.memory (loading ask.want)))
     (all_both E cs ns (conditional_early reply later k) (next_early next later k (run.harts k).number s))))
     (over_early next later k c.harts run.harts)
@@ -297,12 +299,13 @@ regrouped e l s n o = append_assoc e (l ++ (s ++ n)) o ∙ ap (λ (x : List Reco
 after_kept : Laws → (c : RawSettings) (run : Run) (k : ℕ) (ask : Ask) (call : Option Plan) (answered : Answered) (span : Option Span) (next : Next) (s : HartState) → IsSetting c → Recording c run → k < c.harts → (run.harts k).live ≡ true
     → MovesOn c (run.harts k) ask.state.ic s.ic next span (loading ask.want) → EndsAs c (run.harts k) s.ic next → Recording c (after_ask c run k ask call answered span next s)
 after_kept laws c run k ask call answered span next s setting known there live on so =
-    let own : Hart = own_hart c run k ask next s in
-    let later = counts_after c run k ask next s in
+    let bytes = (after_ask c run k ask call answered span next s).bytes in
+    let own : Hart = own_hart c run k ask next s bytes in
+    let later = counts_after c run k ask next s bytes in
     let rs : List Record = own_records c run k ask answered.reply span next s in
     let os : List Record = run_over_records next k c.harts run.harts in
-    let count_on = counts_go_on c run k ask next s (omega (arith, on.from, on.low)) in
-    let took = took_turn laws c run k ask answered.reply span next s known setting there live on so in
+    let count_on = counts_go_on c run k ask next s bytes (omega (arith, on.from, on.low)) in
+    let took = took_turn laws c run k ask answered.reply span next s bytes known setting there live on so in
     let turned = turned_by next laws.order c run k own known rs took in
     let regroup = regrouped (edge_records (point_of k ask.state.ic run.turns span) run.points) (load_record (warmth c (loading ask.want) (run.events k)) k (run.harts k).skipped (word_before run.machine.memory (loading ask.want))) (sc_record answered.reply k) (next_records next k (run.harts k).number s) os in
     record {
@@ -310,15 +313,18 @@ after_kept laws c run k ask call answered span next s setting known there live o
       keeps = subst (λ (x : List Record). Keeps (terms_of c) c.harts 0 (run.stream ++ x) turned.views) regroup turned.keeps;
       size = turned.size;
       view = turned.view;
-      fit = fit_after laws c run k ask span next s setting known.fit live on;
+      fit = fit_after laws c run k ask span next s bytes setting known.fit live on;
       early = subst (λ (x : List Record). AllByRecursion (IsEarly later) (run.stream ++ x)) regroup
           (all_both (IsEarly later) run.stream (rs ++ os) (early_later (counts_of run) later run.stream count_on known.early) (turn_early laws c run k ask answered.reply span next s later known count_on));
-      points = points_on span k ask.state.ic run.turns c.harts (counts_of run) later run.points known.points count_on there (λ p. omega (arith, on.accessed p, own_count c run k ask next s));
+      points = points_on span k ask.state.ic run.turns c.harts (counts_of run) later run.points known.points count_on there (λ p. omega (arith, on.accessed p, own_count c run k ask next s bytes));
     }
 
-pub served : (c : RawSettings) (i : Program) (run : Run) (k : ℕ) (ask : Ask) → is_orderly c i (run.harts k) ask ≡ true → serve c i run k ask ≡ serve_orderly c i run k ask
+pub format_is_1 : (c : RawSettings) → IsSetting c → c.format ≡ 1
+format_is_1 c setting = omega (arith, setting.format_low, setting.format_high)
+
+pub served : Laws → (c : RawSettings) (i : Program) (run : Run) (k : ℕ) (ask : Ask) → IsSetting c → is_orderly c i (run.harts k) ask ≡ true → serve c i run k ask ≡ serve_call c run k ask false (call_of i run.machine ask.want)
 unfolding serve
-served c i run k ask o = ap (λ (b : Bool). served_if b c i run k ask) o
+served laws c i run k ask setting o = ap (λ (b : Bool). served_if b c i run k ask) o ∙ ap (λ (g : Bool). serve_call c run k ask g (call_of i run.machine ask.want)) (laws.guards.asks c run k ask.want (format_is_1 c setting))
 
 -- a live hart's orderly ask is recorded
 pub turn_kept : Laws → (c : RawSettings) (i : Program) (run : Run) (k : ℕ) (ask : Ask) → IsSetting c → Recording c run → k < c.harts → (run.harts k).live ≡ true → is_orderly c i (run.harts k) ask ≡ true → Recording c (serve c i run k ask).run
@@ -328,6 +334,6 @@ turn_kept laws c i run k ask setting known there live o =
     let answered : Answered = answer c call run.machine k ask in
     let s : HartState = absorbed ask answered.reply in
     let next : Next = next_of c call h ask.want answered.reply s.ic in
-    let on = laws.moves c i run.machine h k ask (omega (arith, setting.limit_high)) (known.fit k) live o in
+    let on = laws.moves c i run.machine h k ask (omega (arith, setting.limit_high)) (known.fit k).fit live o in
     let so = next_ends call c h ask.want answered.reply s.ic setting.interval_low in
-    subst (λ (x : Served). Recording c x.run) (sym (served c i run k ask o)) (after_kept laws c run k ask call answered (span_of call ask.want answered.reply) next s setting known there live on so)
+    subst (λ (x : Served). Recording c x.run) (sym (served laws c i run k ask setting o)) (after_kept laws c run k ask call answered (span_of call ask.want answered.reply) next s setting known there live on so)

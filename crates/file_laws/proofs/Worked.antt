@@ -35,6 +35,10 @@ defaults = record {
   line_low = omega arith;
   line_high = omega arith;
   line_power = refl;
+  format_low = omega arith;
+  format_high = omega arith;
+  second_sets = refl;
+  second_ways = refl;
 }
 
 exit_image : IsImage (program_of an_exit)
@@ -50,7 +54,7 @@ an_exit_is_one = record { setting = defaults; image = exit_image; digest_size = 
 
 pub stray_is_lawful : IsLawful an_exit.settings (program_of an_exit) an_exit_begun (a_stray_store ∷ [])
 unfolding serve
-stray_is_lawful = (refl, refl, tt)
+stray_is_lawful = (refl, refl, refl, tt)
 
 pub stray_is_not_orderly : are_orderly an_exit.settings (program_of an_exit) an_exit_begun (a_stray_store ∷ []) ≡ false
 stray_is_not_orderly = refl

@@ -19,7 +19,7 @@ use log_ring::laws::{a_suffix_is_kept, kept_records_fit};
 use race_log::listed_edges_are_all;
 use replay_laws::the_log_suffices;
 use run_laws::runs_end;
-use run_model::{each_turn_fits, each_turn_moves_on, others_stay_fit};
+use run_model::{each_turn_fits, each_turn_moves_on, format_1_is_unguarded, others_stay_fit};
 use rv_meaning::{each_ask_is_orderly, registers_stay_words};
 
 /// At all times the kept records keep the rules of single records, and each kept Edge comes from an
@@ -31,6 +31,7 @@ pub fn kept_records_keep_their_rules()
     each_turn_moves_on();
     each_turn_fits();
     others_stay_fit();
+    format_1_is_unguarded();
     listed_edges_are_all();
     a_suffix_is_kept();
     no_records_are_kept();
@@ -51,6 +52,7 @@ pub fn finished_logs_are_in_order()
     each_turn_moves_on();
     each_turn_fits();
     others_stay_fit();
+    format_1_is_unguarded();
     listed_edges_are_all();
     a_suffix_is_kept();
     no_records_are_kept();
@@ -74,6 +76,7 @@ pub fn logs_are_contents()
     each_turn_moves_on();
     each_turn_fits();
     others_stay_fit();
+    format_1_is_unguarded();
     runs_end();
     listed_edges_are_all();
     a_suffix_is_kept();

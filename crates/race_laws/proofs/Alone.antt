@@ -9,12 +9,10 @@ use Rattle.race_log.specs.Kept.{In}
 use Rattle.race_log.specs.Tests.{edges_into, name_of, sources_into, edges_of_first}
 use Rattle.hart_replay.specs.Replay.{Interval, interval_of, interval_from, puts, nothing}
 use Rattle.run_model.specs.Turn.{Run}
-use Rattle.run_model.specs.Files.{kept_of}
 use Rattle.race_laws.specs.Edges.{edges_in, edge_record, edge_between}
 use Rattle.race_laws.specs.Laws.{HasNetzersEdges, KeepsEdgesAlone, ReplayedAreSinceHeaders}
 use Rattle.race_laws.proofs.Members.{contains_in, in_contains, in_right, in_parts, map_in}
 use Rattle.race_laws.proofs.Heads.{EdgeLaws}
-use Rattle.race_laws.proofs.Whole.{SuffixIsKept}
 
 -- an Edge among records is one of their Edges
 edge_among : (rs : List Record) (k ic s j : ℕ) → In rs (Edge k ic s j) → In (edges_in rs) (Edge k ic s j)
@@ -58,13 +56,12 @@ of_first laws points (suc n) r i =
     in_mapped (f ∷ es) e (inl is) = inl (ap edge_record is)
     in_mapped (f ∷ es) e (inr i) = inr (in_mapped es e i)
 
-pub edges_alone : EdgeLaws → SuffixIsKept → (c : RawSettings) (run : Run) → HasNetzersEdges run → KeepsEdgesAlone c run
-edges_alone laws suffix c run is k ic s j among =
-    let cut = suffix c.log_size run.stream in
+pub edges_alone : EdgeLaws → (c : RawSettings) (run : Run) → HasNetzersEdges run → KeepsEdgesAlone c run
+edges_alone laws c run is rs end k ic s j among =
     let r : Record = Edge k ic s j in
-    let whole = subst (λ (rs : List Record). In rs r) (sym cut.1) (in_right cut.0 (kept_of c run) r (contains_in (kept_of c run) r among)) in
-    let found = of_first laws run.points (length run.points) r (subst (λ (rs : List Record). In rs r) is (edge_among run.stream k ic s j whole)) in
-    (found.0, found.1, record { edge = found.2; kept = subst (Contains (kept_of c run)) (sym found.3) among }, found.3)
+    let whole = subst (λ (xs : List Record). In xs r) (sym end.parts) (in_right end.front rs r (contains_in rs r among)) in
+    let found = of_first laws run.points (length run.points) r (subst (λ (xs : List Record). In xs r) is (edge_among run.stream k ic s j whole)) in
+    (found.0, found.1, record { edge = found.2; kept = subst (Contains rs) (sym found.3) among }, found.3)
 
 -- ---- the Header of an interval
 

@@ -10,7 +10,6 @@ use Rattle.race_log.specs.Merges.{StandsIn, Precedes, IsMerge, IsMergeBegun, IsN
 use Rattle.race_log.specs.Kept.{In}
 use Rattle.race_log.specs.Tests.{edge, name_of}
 use Rattle.run_model.specs.Turn.{Run}
-use Rattle.run_model.specs.Files.{kept_of}
 use Rattle.race_laws.specs.Edges.{edge_record, edge_between}
 use Rattle.race_laws.specs.Since.{KeptEdge}
 use Rattle.race_laws.specs.Orders.{HasEnds, BeginningsGoOn}
@@ -130,10 +129,9 @@ pub record MergeLaws : Type 0 where
       → IsMergeBegun kept run (order ++ m ∷ []) × Respects (Chosen edges) (order ++ m ∷ [])
 
 pub words_stay : EdgeLaws → MergeLaws → (c : RawSettings) (run : Run) → KeepsLateEdges c run → KeepsWords c run
-words_stay laws merges c run keeps places order ends allowed word m n since meet first second =
-    let records = kept_of c run in
+words_stay laws merges c run keeps records end places order ends allowed word m n since meet first second =
     merges.words places run.points (kept_edge records run.points) order (kept_between laws records run.points places ends) allowed.merge (chosen_respect laws records run.points order allowed.respects)
-    m (λ j k e. is_kept laws records run.points j k (keeps m since j k e)) word m n (omega arith) meet first second
+    m (λ j k e. is_kept laws records run.points j k (keeps records end m since j k e)) word m n (omega arith) meet first second
 
 pub go_on : EdgeLaws → MergeLaws → BeginningsGoOn
 go_on laws merges = record {

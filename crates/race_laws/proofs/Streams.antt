@@ -20,7 +20,7 @@ use Rattle.run_model.specs.declared.hart.Hart.{Hart}
 use Rattle.run_model.specs.declared.next.Next.{Next}
 use Rattle.run_model.specs.declared.next.Next.TheVariants.{GoesOn, NewInterval, HartOver, RunOver}
 use Rattle.run_model.specs.Machine.{answer, call_of}
-use Rattle.run_model.specs.Turn.{Run, serve, served_if, is_orderly, turn, ask_at, span_of, next_of, loading, warmth, word_before, point_of, points_after, edges_from, edge_records, load_record, sc_record, mark, next_records, stopped_records, run_over_records}
+use Rattle.run_model.specs.Turn.{Run, serve, served_if, is_guarded, guarded_run, guard_records, is_orderly, turn, ask_at, span_of, next_of, loading, warmth, word_before, point_of, points_after, edges_from, edge_records, load_record, sc_record, mark, next_records, stopped_records, run_over_records}
 use Rattle.run_model.specs.Runs.{start, first_headers, run_from}
 use Rattle.run_laws.specs.History.{after_rows}
 use Rattle.race_laws.specs.Edges.{edges_in, edge_record, netzer_records}
@@ -138,16 +138,23 @@ stream_after o points stream rest none is =
 
 -- ---- turns
 
+-- the guard adds no Edge
+guarded_edges : (g : Bool) (run : Run) (k : ℕ) (s : HartState) → HasNetzersEdges run → HasNetzersEdges (guarded_run g run k s)
+guarded_edges true run k s is = edges_append run.stream (guard_records run k s) ∙ (append-nil (edges_in run.stream) ∙ is)
+guarded_edges false run k s is = is
+
 served_edges : (x : Bool) (c : RawSettings) (i : Program) (run : Run) (k : ℕ) (ask : Ask) → HasNetzersEdges run → HasNetzersEdges (served_if x c i run k ask).run
 served_edges false c i run k ask is = is
 served_edges true c i run k ask is =
     let call = call_of i run.machine ask.want in
     let reply : Reply = (answer c call run.machine k ask).reply in
     let s : HartState = absorbed ask reply in
-    let h : Hart = run.harts k in
+    let g = is_guarded c run k ask.want in
+    let at : Run = guarded_run g run k ask.state in
+    let h : Hart = at.harts k in
     let next : Next = next_of c call h ask.want reply s.ic in
-    stream_after (point_of k ask.state.ic run.turns (span_of call ask.want reply)) run.points run.stream _
-    (rest_edges (warmth c (loading ask.want) (run.events k)) k h.skipped (word_before run.machine.memory (loading ask.want)) reply next h.number s c.harts run.harts) is
+    stream_after (point_of k ask.state.ic run.turns (span_of call ask.want reply)) run.points at.stream _
+    (rest_edges (warmth c (loading ask.want) (at.events k)) k h.skipped (word_before run.machine.memory (loading ask.want)) reply next h.number s c.harts at.harts) (guarded_edges g run k ask.state is)
 
 ask_edges : (c : RawSettings) (i : Program) (run : Run) (k : ℕ) (ask : Ask) → HasNetzersEdges run → HasNetzersEdges (serve c i run k ask).run
 unfolding serve

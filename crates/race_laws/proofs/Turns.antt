@@ -1,5 +1,5 @@
 -- What stands after each turn of a run.
-use Rattle.std.proofs.Common.{◌≡◌, ℕ, ◌<◌, ◌≤◌, ◌==◌, Bool, true, false, ◌&&◌, nat_lt, refl, inl, inr, arith, sym, ap, ◌∙◌, subst, List, [], ◌∷◌, Some, None}
+use Rattle.std.proofs.Common.{◌≡◌, ℕ, ◌<◌, ◌≤◌, ◌==◌, ◌+◌, ◌^◌, Bool, true, false, not, ◌&&◌, nat_lt, refl, inl, inr, arith, sym, ap, ◌∙◌, subst, List, [], ◌∷◌, Some, None}
 use Rattle.std.proofs.lemmas.Bool.{false≢true}
 use Rattle.std.proofs.lemmas.Bool.Decides.{eqb_tells}
 use Rattle.bn_base.specs.Programs.{Program}
@@ -10,13 +10,17 @@ use Rattle.bn_outside.specs.declared.turn_row.TurnRow.{TurnRow}
 use Rattle.rv_meaning.specs.Execute.{absorbed}
 use Rattle.rv_meaning.specs.declared.asks.Ask.{Ask}
 use Rattle.rv_meaning.specs.declared.asks.Reply.{Reply}
+use Rattle.rv_meaning.specs.declared.asks.Reply.TheVariants as replies
+use Rattle.rv_meaning.specs.declared.asks.Want.{Want}
+use Rattle.rv_meaning.specs.Orderly.{is_cut}
+use Rattle.log_record.specs.Spelling.{total}
 use Rattle.run_model.specs.declared.hart.Hart.{Hart}
 use Rattle.run_model.specs.declared.next.Next.{Next}
 use Rattle.run_model.specs.declared.next.Next.TheVariants.{GoesOn, NewInterval, HartOver, RunOver}
 use Rattle.run_model.specs.Machine.{answer, call_of}
-use Rattle.run_model.specs.Turn.{Run, serve, serve_orderly, serve_disorderly, served_if, is_orderly, span_of, next_of, loading, warmth, word_before, skipped_after, point_of, hart_after, other_after, harts_after, dead}
+use Rattle.run_model.specs.Turn.{Run, serve, serve_orderly, serve_disorderly, served_if, is_orderly, is_guarded, guarded_run, asked_run, guard_records, by_guard, span_of, next_of, loading, warmth, word_before, skipped_after, point_of, hart_after, other_after, harts_after, dead}
 use Rattle.run_model.specs.Runs.{start, start_state, start_hart}
-use Rattle.run_model.specs.Counts.{IsFit, MovesOn, EachTurnMovesOn, EachTurnFits, OthersStayFit}
+use Rattle.run_model.specs.Counts.{IsFit, IsRested, anew, GuardedAsksFit, MovesOn, EachTurnMovesOn, EachTurnFits, OthersStayFit}
 use Rattle.run_laws.specs.History.{after_rows, IsLawful}
 use Rattle.race_laws.proofs.Order.{Ordered, order_none, order_after, fresh_of}
 use Rattle.race_laws.proofs.Heads.{EdgeLaws, Heads, heads_after, first_heads}
@@ -26,6 +30,7 @@ pub record Laws : Type 0 where
   pub moves : EachTurnMovesOn
   pub fits : EachTurnFits
   pub others : OthersStayFit
+  pub guarded : GuardedAsksFit
   pub edges : EdgeLaws
 
 abbrev pub counts_of : (ℕ → Hart) → ℕ → ℕ
@@ -33,17 +38,17 @@ counts_of harts j = (harts j).state.ic
 
 -- the counts are within the settings, the points are in order, and the Edges into later points stand behind each Header
 pub record Stands (c : RawSettings) (run : Run) : Type 0 where
-  pub fit : (j : ℕ) → IsFit c (run.harts j)
+  pub fit : (j : ℕ) → IsRested c (run.harts j)
   pub order : Ordered run.points run.turns (counts_of run.harts)
   pub heads : Heads run.points run.stream
 
 -- ---- the harts
 
-own_state : (next : Next) (s : HartState) (skipped : ℕ) (h : Hart) → (hart_after next s skipped h).state ≡ s
-own_state GoesOn s skipped h = refl
-own_state (NewInterval reason value) s skipped h = refl
-own_state (HartOver reason value) s skipped h = refl
-own_state (RunOver reason value) s skipped h = refl
+own_state : (next : Next) (s : HartState) (skipped bytes : ℕ) (h : Hart) → (hart_after next s skipped bytes h).state ≡ s
+own_state GoesOn s skipped bytes h = refl
+own_state (NewInterval reason value) s skipped bytes h = refl
+own_state (HartOver reason value) s skipped bytes h = refl
+own_state (RunOver reason value) s skipped bytes h = refl
 
 stopped_state : (b : Bool) (h : Hart) → (elim b as (λ x. Hart) [ true ↦ record h { live = false; mark = Some (record { ic = h.state.ic; reason = 5; value = 0 }) } | false ↦ h ]).state ≡ h.state
 stopped_state true h = refl
@@ -64,58 +69,107 @@ other_is next k j own harts e = ap (λ (b : Bool). elim b as (λ x. Hart) [ true
 eqb_same : (k : ℕ) → (k == k) ≡ true
 eqb_same k = grind arith
 
-own_count : (next : Next) (k : ℕ) (s : HartState) (skipped : ℕ) (h : Hart) (harts : ℕ → Hart) → counts_of (harts_after next k (hart_after next s skipped h) harts) k ≡ s.ic
-own_count next k s skipped h harts = ap (λ (x : Hart). x.state.ic) (own_is next k k (hart_after next s skipped h) harts (eqb_same k)) ∙ ap (λ (x : HartState). x.ic) (own_state next s skipped h)
+own_count : (next : Next) (k : ℕ) (s : HartState) (skipped bytes : ℕ) (h : Hart) (harts : ℕ → Hart) → counts_of (harts_after next k (hart_after next s skipped bytes h) harts) k ≡ s.ic
+own_count next k s skipped bytes h harts = ap (λ (x : Hart). x.state.ic) (own_is next k k (hart_after next s skipped bytes h) harts (eqb_same k)) ∙ ap (λ (x : HartState). x.ic) (own_state next s skipped bytes h)
 
 -- no count falls
-counts_rise : (next : Next) (k : ℕ) (s : HartState) (skipped : ℕ) (harts : ℕ → Hart) → (harts k).state.ic ≤ s.ic
-    → (j : ℕ) → counts_of harts j ≤ counts_of (harts_after next k (hart_after next s skipped (harts k)) harts) j
-counts_rise next k s skipped harts up j = elim (eqb_tells j k) [
-  | inl p ↦ subst (λ (n : ℕ). counts_of harts n ≤ counts_of (harts_after next k (hart_after next s skipped (harts k)) harts) n) (sym p.1)
-      (omega (arith, up, own_count next k s skipped (harts k) harts))
+counts_rise : (next : Next) (k : ℕ) (s : HartState) (skipped bytes : ℕ) (harts : ℕ → Hart) → (harts k).state.ic ≤ s.ic
+    → (j : ℕ) → counts_of harts j ≤ counts_of (harts_after next k (hart_after next s skipped bytes (harts k)) harts) j
+counts_rise next k s skipped bytes harts up j = elim (eqb_tells j k) [
+  | inl p ↦ subst (λ (n : ℕ). counts_of harts n ≤ counts_of (harts_after next k (hart_after next s skipped bytes (harts k)) harts) n) (sym p.1)
+      (omega (arith, up, own_count next k s skipped bytes (harts k) harts))
   | inr p ↦
-      let same : counts_of (harts_after next k (hart_after next s skipped (harts k)) harts) j ≡ counts_of harts j =
-      ap (λ (x : Hart). x.state.ic) (other_is next k j (hart_after next s skipped (harts k)) harts p.0) ∙ ap (λ (x : HartState). x.ic) (other_state next (harts j)) in
+      let same : counts_of (harts_after next k (hart_after next s skipped bytes (harts k)) harts) j ≡ counts_of harts j =
+      ap (λ (x : Hart). x.state.ic) (other_is next k j (hart_after next s skipped bytes (harts k)) harts p.0) ∙ ap (λ (x : HartState). x.ic) (other_state next (harts j)) in
       omega (arith, same)
 ]
 
-all_fit : (c : RawSettings) (next : Next) (k : ℕ) (own : Hart) (harts : ℕ → Hart) → OthersStayFit → IsFit c own → ((j : ℕ) → IsFit c (harts j)) → (j : ℕ) → IsFit c (harts_after next k own harts j)
+all_fit : (c : RawSettings) (next : Next) (k : ℕ) (own : Hart) (harts : ℕ → Hart) → OthersStayFit → IsRested c own → ((j : ℕ) → (j == k) ≡ false → IsRested c (harts j)) → (j : ℕ) → IsRested c (harts_after next k own harts j)
 all_fit c next k own harts others fit each j = elim (eqb_tells j k) [
-  | inl p ↦ subst (λ (x : Hart). IsFit c x) (sym (own_is next k j own harts p.0)) fit
-  | inr p ↦ subst (λ (x : Hart). IsFit c x) (sym (other_is next k j own harts p.0)) (others c (harts j) next (each j)).0
+  | inl p ↦ subst (λ (x : Hart). IsRested c x) (sym (own_is next k j own harts p.0)) fit
+  | inr p ↦ subst (λ (x : Hart). IsRested c x) (sym (other_is next k j own harts p.0)) (others c (harts j) next (each j p.0)).0
 ]
+
+-- ---- the guard
+
+-- the run in which the ask is answered: the hart that asks is at the ask's beginning, and the others are as they were
+record Asking (c : RawSettings) (i : Program) (run at : Run) (k : ℕ) (ask : Ask) : Type 0 where
+  fit : IsFit c (at.harts k)
+  live : (at.harts k).live ≡ true
+  orderly : is_orderly c i (at.harts k) ask ≡ true
+  others : (j : ℕ) → (j == k) ≡ false → IsRested c (at.harts j)
+  rise : (j : ℕ) → counts_of run.harts j ≤ counts_of at.harts j
+  heads : Heads run.points at.stream
+
+not_cut : (b : Bool) → not b ≡ true → b ≡ false
+not_cut true e = cc
+not_cut false e = refl
+
+first_of : (a b : Bool) → (a && b) ≡ true → (a ≡ true) × (b ≡ true)
+first_of true b e = (refl, e)
+first_of false b e = cc
+
+uncut : (c : RawSettings) (run : Run) (k : ℕ) (want : Want) → is_guarded c run k want ≡ true → is_cut want ≡ false
+uncut c run k want e = not_cut (is_cut want) (first_of (not (is_cut want)) _ (first_of (c.format == 2) _ e).1).0
+
+asking : (g : Bool) → Laws → (c : RawSettings) (i : Program) (run : Run) (k : ℕ) (ask : Ask) → IsSetting c → (run.harts k).live ≡ true → is_orderly c i (run.harts k) ask ≡ true → (run.harts k).state.ic ≤ ask.state.ic
+    → (g ≡ true → is_cut ask.want ≡ false) → Stands c run → Asking c i run (guarded_run g run k ask.state) k ask
+asking false laws c i run k ask setting live o from cut is =
+    record { fit = (is.fit k).fit; live = live; orderly = o; others = λ j e. is.fit j; rise = λ j. omega arith; heads = is.heads }
+asking true laws c i run k ask setting live o from cut is =
+    let bytes = run.bytes + total (guard_records run k ask.state) in
+    let own = anew ask.state bytes (run.harts k) in
+    let here : harts_after by_guard k own run.harts k ≡ own = own_is by_guard k k own run.harts (eqb_same k) in
+    let fits = laws.guarded c i (run.harts k) bytes ask setting.interval_low (is.fit k) live o (cut refl) in
+    record {
+      fit = subst (λ (x : Hart). IsFit c x) (sym here) fits.0;
+      live = ap (λ (x : Hart). x.live) here ∙ live;
+      orderly = subst (λ (x : Hart). is_orderly c i x ask ≡ true) (sym here) fits.1;
+      others = λ j e. subst (λ (x : Hart). IsRested c x) (sym (other_is by_guard k j own run.harts e)) (is.fit j);
+      rise = counts_rise by_guard k ask.state 0 bytes run.harts from;
+      heads = heads_after laws.edges None run.points run.stream None k 0 0 replies.Over by_guard (run.harts k).number ask.state c.harts run.harts
+          (λ m p e same. (let low = is.order.counted m p e in let one = ap (counts_of run.harts) same in omega (arith, low, one, from))) is.heads;
+    }
 
 -- ---- an orderly ask
 
 orderly_stands : Laws → (c : RawSettings) (i : Program) (run : Run) (k : ℕ) (ask : Ask) → IsSetting c → (run.harts k).live ≡ true → is_orderly c i (run.harts k) ask ≡ true
     → Stands c run → Stands c (serve_orderly c i run k ask).run
 orderly_stands laws c i run k ask setting live o is =
-    let h : Hart = run.harts k in
     let call = call_of i run.machine ask.want in
     let reply : Reply = (answer c call run.machine k ask).reply in
     let s : HartState = absorbed ask reply in
-    let next : Next = next_of c call h ask.want reply s.ic in
     let span = span_of call ask.want reply in
-    let load = warmth c (loading ask.want) (run.events k) in
-    let own : Hart = hart_after next s (skipped_after load h.skipped) h in
-    let harts : ℕ → Hart = harts_after next k own run.harts in
-    let on : MovesOn c h ask.state.ic s.ic next span (loading ask.want) = laws.moves c i run.machine h k ask (omega (arith, setting.limit_high)) (is.fit k) live o in
-    let fit = laws.fits c h ask.state.ic s next span (loading ask.want) (run.events k) setting.interval_low live (is.fit k) on in
-    let here : counts_of harts k ≡ s.ic = own_count next k s (skipped_after load h.skipped) h run.harts in
+    let small : c.limit < 2 ^ 63 = omega (arith, setting.limit_high) in
+    let before : MovesOn c (run.harts k) ask.state.ic s.ic _ span (loading ask.want) = laws.moves c i run.machine (run.harts k) k ask small (is.fit k).fit live o in
+    let at : Run = asked_run c run k ask in
+    let a = asking (is_guarded c run k ask.want) laws c i run k ask setting live o before.from (uncut c run k ask.want) is in
+    let h : Hart = at.harts k in
+    let next : Next = next_of c call h ask.want reply s.ic in
+    let load = warmth c (loading ask.want) (at.events k) in
+    let bytes = (serve_orderly c i run k ask).run.bytes in
+    let own : Hart = hart_after next s (skipped_after load h.skipped) bytes h in
+    let harts : ℕ → Hart = harts_after next k own at.harts in
+    let on : MovesOn c h ask.state.ic s.ic next span (loading ask.want) = laws.moves c i run.machine h k ask small a.fit a.live a.orderly in
+    let fit = laws.fits c h ask.state.ic bytes s next span (loading ask.want) (at.events k) setting.interval_low a.live a.fit on in
+    let here : counts_of harts k ≡ s.ic = own_count next k s (skipped_after load h.skipped) bytes h at.harts in
+    let rise = counts_rise next k s (skipped_after load h.skipped) bytes at.harts (omega (arith, on.from, on.low)) in
     let order = order_after (point_of k ask.state.ic run.turns span) run.points run.turns (counts_of run.harts) (counts_of harts)
-    (counts_rise next k s (skipped_after load h.skipped) run.harts (omega (arith, on.from, on.low)))
-    (fresh_of span k ask.state.ic run.turns (counts_of run.harts) (counts_of harts) on.from (λ e. here ∙ on.accessed e)) is.order in
+    (λ j. omega (arith, a.rise j, rise j))
+    (fresh_of span k ask.state.ic run.turns (counts_of run.harts) (counts_of harts) before.from (λ e. here ∙ on.accessed e)) is.order in
     record {
-      fit = all_fit c next k own run.harts laws.others fit.0 is.fit;
+      fit = all_fit c next k own at.harts laws.others fit.0 a.others;
       order = order;
-      heads = heads_after laws.edges (point_of k ask.state.ic run.turns span) run.points run.stream load k h.skipped (word_before run.machine.memory (loading ask.want)) reply next h.number s c.harts run.harts
-          (λ m p e same. subst (λ (n : ℕ). p.count < n) (ap (counts_of harts) same ∙ here) (order.counted m p e)) is.heads;
+      heads = heads_after laws.edges (point_of k ask.state.ic run.turns span) run.points at.stream load k h.skipped (word_before run.machine.memory (loading ask.want)) reply next h.number s c.harts at.harts
+          (λ m p e same. subst (λ (n : ℕ). p.count < n) (ap (counts_of harts) same ∙ here) (order.counted m p e)) a.heads;
     }
 
 -- ---- any ask
 
-dead_fit : (c : RawSettings) (h : Hart) → IsFit c h → IsFit c (dead h)
-dead_fit c h f = record { number = f.number; skipped = f.skipped; interval = f.interval; limit = f.limit; unfilled = λ e. absurd (false≢true e) }
+dead_fit : (c : RawSettings) (h : Hart) → IsRested c h → IsRested c (dead h)
+dead_fit c h r =
+    let f = r.fit in
+    record { fit = record { number = f.number; skipped = f.skipped; interval = f.interval; limit = f.limit; unfilled = λ e. absurd (false≢true e) }; number = λ e. absurd (false≢true e) }
 
 disorderly_stands : (c : RawSettings) (run : Run) → Stands c run → Stands c (serve_disorderly run).run
 disorderly_stands c run is = record {
@@ -140,17 +194,20 @@ both false b e = cc
 pub rows_stand : Laws → (c : RawSettings) (i : Program) (run : Run) (rows : List TurnRow) → IsSetting c → IsLawful c i run rows → Stands c run → Stands c (after_rows c i run rows)
 rows_stand laws c i run [] setting lawful is = is
 rows_stand laws c i run (r ∷ rows) setting lawful is =
-    rows_stand laws c i (serve c i run r.hart r.ask).run rows setting lawful.2
+    rows_stand laws c i (serve c i run r.hart r.ask).run rows setting lawful.3
     (ask_stands laws c i run r.hart r.ask setting (both (nat_lt r.hart c.harts) (run.harts r.hart).live lawful.0) is)
 
 -- ---- the start
 
-fit_start : (c : RawSettings) (s : HartState) → s.ic ≡ 0 → 1 ≤ c.interval → IsFit c (start_hart s)
-fit_start c s e some = record { number = omega arith; skipped = omega (arith, e); interval = omega (arith, e); limit = omega (arith, e); unfilled = λ p. omega (arith, e, some) }
+fit_start : (c : RawSettings) (k : ℕ) (s : HartState) → s.ic ≡ 0 → 1 ≤ c.interval → IsRested c (start_hart k s)
+fit_start c k s e some = record {
+  fit = record { number = omega arith; skipped = omega (arith, e); interval = omega (arith, e); limit = omega (arith, e); unfilled = λ p. omega (arith, e, some) };
+  number = λ p. omega arith;
+}
 
 pub start_stands : (c : RawSettings) (i : Program) (input : List ℕ) → IsSetting c → Stands c (start c i input)
 start_stands c i input setting = record {
-  fit = λ j. fit_start c (start_state c i j) refl setting.interval_low;
+  fit = λ j. fit_start c j (start_state c i j) refl setting.interval_low;
   order = order_none;
   heads = first_heads c i 0 c.harts;
 }

@@ -11,7 +11,6 @@ use Rattle.race_log.specs.Netzer.{ProgramOrder, Conflict, Either, Chain, IsEdge,
 use Rattle.race_log.specs.Netzer.Chain.{one, more}
 use Rattle.race_log.specs.ByCount.{IsInOrder, IsEdgeBetween}
 use Rattle.run_model.specs.Turn.{Run}
-use Rattle.run_model.specs.Files.{kept_of}
 use Rattle.run_model.specs.Runs.{start}
 use Rattle.run_laws.specs.History.{after_rows, IsLawful, rows_from}
 use Rattle.run_laws.specs.Laws.{TurnsAreLawful}
@@ -48,17 +47,16 @@ edges_by_count laws counts c i input rows setting lawful = counts (after_rows c 
 abbrev pub SuffixIsKept : Type 0
 SuffixIsKept = (size : ℕ) (rs : List Record) → (front : List Record) × (rs ≡ front ++ kept size rs)
 
-kept_late : SuffixIsKept → (c : RawSettings) (run : Run) → Heads run.points run.stream → KeepsLateEdges c run
-kept_late suffix c run heads m since j n e =
-    let s = suffix c.log_size run.stream in
-    let behind : Heads run.points (kept_of c run) = drop_heads run.points s.0 (kept_of c run) (subst (Heads run.points) s.1 heads) in
-    let found = find_head run.points (kept_of c run) since.point.hart since.number since.ic since.pc since.x (contains_in (kept_of c run) _ since.header) behind in
+end_late : (c : RawSettings) (run : Run) → Heads run.points run.stream → KeepsLateEdges c run
+end_late c run heads rs end m since j n e =
+    let behind : Heads run.points rs = drop_heads run.points end.front rs (subst (Heads run.points) end.parts heads) in
+    let found = find_head run.points rs since.point.hart since.number since.ic since.pc since.x (contains_in rs _ since.header) behind in
     let low = found.head.since m since.point since.at refl since.since in
     let r = edge_between run.points j n in
-    record { edge = e.0; kept = in_contains (kept_of c run) r (found.among r (found.head.behind j n (omega (arith, low, e.1)) e.0)) }
+    record { edge = e.0; kept = in_contains rs r (found.among r (found.head.behind j n (omega (arith, low, e.1)) e.0)) }
 
-pub late_kept : Laws → SuffixIsKept → OfRows KeepsLateEdges
-late_kept laws suffix c i input rows setting lawful = kept_late suffix c (after_rows c i (start c i input) rows) (stands laws c i input rows setting lawful).heads
+pub late_kept : Laws → OfRows KeepsLateEdges
+late_kept laws c i input rows setting lawful = end_late c (after_rows c i (start c i input) rows) (stands laws c i input rows setting lawful).heads
 
 -- ---- chains
 
@@ -71,11 +69,11 @@ chain_map f {m = m} {n = n} (one s) = one (f m n s)
 chain_map f {m = m} {n = n} (more {k = k} c s) = more (chain_map f c) (f k n s)
 
 ordered : LateEdgesOrder → (c : RawSettings) (run : Run) → KeepsLateEdges c run → OrdersConflicts c run
-ordered late c run keeps m n since conflict = chain_map step (late run.points m n conflict)
+ordered late c run keeps rs end m n since conflict = chain_map step (late run.points m n conflict)
   where
-    step : (j k : ℕ) → Either (ProgramOrder run.points) (EndingAfter m (IsEdge run.points)) j k → Either (ProgramOrder run.points) (KeptEdge (kept_of c run) run.points) j k
+    step : (j k : ℕ) → Either (ProgramOrder run.points) (EndingAfter m (IsEdge run.points)) j k → Either (ProgramOrder run.points) (KeptEdge rs run.points) j k
     step j k (inl o) = inl o
-    step j k (inr e) = inr (keeps m since j k e)
+    step j k (inr e) = inr (keeps rs end m since j k e)
 
-pub conflicts_ordered : Laws → SuffixIsKept → LateEdgesOrder → OfRows OrdersConflicts
-conflicts_ordered laws suffix late c i input rows setting lawful = ordered late c (after_rows c i (start c i input) rows) (late_kept laws suffix c i input rows setting lawful)
+pub conflicts_ordered : Laws → LateEdgesOrder → OfRows OrdersConflicts
+conflicts_ordered laws late c i input rows setting lawful = ordered late c (after_rows c i (start c i input) rows) (late_kept laws c i input rows setting lawful)

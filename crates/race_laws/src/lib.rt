@@ -1,5 +1,6 @@
-//! Laws of races over runs: the Edges of a recording are Netzer's, and those that the log keeps order
-//! its conflicts. These functions do nothing: their contracts are theorems.
+//! Laws of races over runs: the Edges of a recording are Netzer's, and those of any end of its records,
+//! as of what the log keeps, order its conflicts. These functions do nothing: their contracts are
+//! theorems.
 #![tactic(auto)]
 
 ghost use Rattle.race_laws.specs.Runs.{OfLists, OfRows};
@@ -10,13 +11,12 @@ ghost use Rattle.race_laws.specs.Laws.{KeepsEdgesAlone, KeepsWords, ReplayedAreS
 mod examples;
 
 pub use examples::{a_relay_has_two_edges, edges_through_a_dropped_interval_are_kept};
-use log_ring::laws::a_suffix_is_kept;
 use race_log::{
     edges_order_conflicts, late_edges_suffice, listed_edges_are_all, places_stand_for_counts,
     some_hart_goes_on, tests_decide,
 };
 use run_laws::turns_are_lawful;
-use run_model::{each_turn_fits, each_turn_moves_on, others_stay_fit};
+use run_model::{each_turn_fits, each_turn_moves_on, guarded_asks_fit, others_stay_fit};
 
 /// The Edge records of a stream are those of Netzer's reduction of the run's points, in the order of
 /// the points that they lead to, and of those into one point the latest source first (R. H. B.
@@ -32,6 +32,7 @@ pub fn points_are_in_order()
     ensures rows { OfRows HasOrder }
 {
     each_turn_moves_on();
+    guarded_asks_fit();
     each_turn_fits();
     others_stay_fit();
     tests_decide();
@@ -46,6 +47,7 @@ pub fn edges_are_by_count()
     ensures rows { OfRows HasEdgesByCount }
 {
     each_turn_moves_on();
+    guarded_asks_fit();
     each_turn_fits();
     others_stay_fit();
     tests_decide();
@@ -54,62 +56,63 @@ pub fn edges_are_by_count()
     places_stand_for_counts();
 }
 
-/// Every edge that ends after a point of a kept interval is kept: its Edge stands behind the
-/// interval's Header, and what is kept is a suffix.
+/// Whatever end of the records is kept, every edge that ends after a point of a kept interval is kept:
+/// its Edge stands behind the interval's Header. What the log keeps is such an end
+/// (`run_laws::kept_records_are_an_end`).
 pub fn late_edges_are_kept()
     ensures turns { OfLists KeepsLateEdges }
     ensures rows { OfRows KeepsLateEdges }
 {
     each_turn_moves_on();
+    guarded_asks_fit();
     each_turn_fits();
     others_stay_fit();
     tests_decide();
     listed_edges_are_all();
     turns_are_lawful();
-    a_suffix_is_kept();
 }
 
-/// Race order: a chain of program order and kept Edges leads from each point of a kept interval to
-/// each later point that conflicts with it. The chain may lead through points of intervals that were
-/// given up.
+/// Race order, whatever end of the records is kept: a chain of program order and kept Edges leads from
+/// each point of a kept interval to each later point that conflicts with it. The chain may lead through
+/// points of intervals that were given up.
 pub fn kept_edges_order_conflicts()
     ensures turns { OfLists OrdersConflicts }
     ensures rows { OfRows OrdersConflicts }
 {
     each_turn_moves_on();
+    guarded_asks_fit();
     each_turn_fits();
     others_stay_fit();
     tests_decide();
     listed_edges_are_all();
     turns_are_lawful();
-    a_suffix_is_kept();
     edges_order_conflicts();
 }
 
-/// The kept Edges are those of edges of the run, and no others.
+/// Whatever end of the records is kept, its Edges are those of edges of the run, and no others.
 pub fn kept_edges_are_edges()
     ensures turns { OfLists KeepsEdgesAlone }
     ensures rows { OfRows KeepsEdgesAlone }
 {
     tests_decide();
     listed_edges_are_all();
-    a_suffix_is_kept();
 }
 
-/// In every order that merges the harts' lists and respects the kept Edges, the points of kept
-/// intervals that access a common word, one of them writing it, stand in recorded order. So each
-/// word's writes stand as recorded, and each of its reads between the same writes.
+/// Whatever end of the records is kept, in every order that merges the harts' lists and respects the
+/// kept Edges, the points of kept intervals that access a common word, one of them writing it, stand in
+/// recorded order. So each word's writes stand as recorded, and each of its reads between the same
+/// writes.
 pub fn allowed_orders_keep_words()
     ensures turns { OfLists KeepsWords }
     ensures rows { OfRows KeepsWords }
 {
     each_turn_moves_on();
+    guarded_asks_fit();
     each_turn_fits();
     others_stay_fit();
     tests_decide();
     listed_edges_are_all();
     turns_are_lawful();
-    a_suffix_is_kept();
     late_edges_suffice();
     some_hart_goes_on();
 }

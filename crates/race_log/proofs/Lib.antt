@@ -20,3 +20,4 @@ pub mod Steps
 pub mod NewLemmas
 pub mod AccessLemmas
 pub mod Known
+pub mod NotedAlike

@@ -1,5 +1,5 @@
 -- Kept accesses by word.
-use Rattle.std.specs.Prelude.{◌≡◌, ◌≢◌, ℕ, ◌+◌, ◌*◌, ◌<◌, Bool, false, List, [], nat_lt, nat_eq, Option, Some, None, Vec, vec_len, vec_capacity, IsTrue}
+use Rattle.std.specs.Prelude.{◌≡◌, ◌≢◌, ℕ, ◌+◌, ◌*◌, ◌<◌, Bool, false, List, [], map, nat_lt, nat_eq, Option, Some, None, Vec, vec_len, vec_capacity, IsTrue}
 use Rattle.std.specs.Global.{Global}
 use Rattle.std.specs.HashMap.{get}
 use Rattle.race_log.specs.declared.kept.Kept.{Kept}
@@ -19,6 +19,10 @@ is_roomy (Some v) = nat_lt (vec_len v) (vec_capacity v)
 -- the accesses kept of the word
 abbrev pub kept_in : KeptWords → ℕ → List Kept
 kept_in words word = items_of (get nat_eq words.words word)
+
+-- the words with their kept accesses
+abbrev pub entries_of : KeptWords → List (ℕ × List Kept)
+entries_of words = map (λ (e : ℕ × Vec Kept Global). (e.0, e.1.items)) words.words.entries
 
 -- whether one access more of the word can be kept without memory
 abbrev pub has_room : KeptWords → ℕ → Bool

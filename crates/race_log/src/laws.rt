@@ -5,6 +5,7 @@ ghost use Rattle.race_log.specs.ByCount.{IsInOrder, Leads, IsEdgeBetween, IsTime
 ghost use Rattle.race_log.specs.Holds.{TimesOf};
 ghost use Rattle.race_log.specs.Kept.{In, KeptAt, AllKnow, Suffices};
 ghost use Rattle.race_log.specs.declared.kept.Kept.{Kept};
+ghost use Rattle.race_log.specs.Noted.{NotesDecide};
 ghost use Rattle.race_log.specs.Tests.{is_conflict, program_order, conflict, before, edge, edges_into};
 ghost use Rattle.race_log.specs.Merges.{IsMerge, IsMergeBegun, IsNext, StandsIn, Precedes, Respects, AreKeptEdges, all_kept};
 
@@ -111,4 +112,9 @@ pub fn known_accesses_may_go()
         ((hart : ℕ) → IsTrue (still hart) → IsTrue (live hart)) →
         ((k : Kept) (m : ℕ) → In kept k → KeptAt run word m k → IsTrue (goes k) → AllKnow run still m) →
         Suffices run live word kept → Suffices run still word (filter (λ k. not (goes k)) kept) }
+{}
+
+/// What a shadow notes decides for which runs it stands.
+pub fn notes_decide()
+    ensures { NotesDecide }
 {}

@@ -1,5 +1,5 @@
 -- Names for what a hart's ask gives.
-use Rattle.std.specs.Prelude.{ℕ, Option}
+use Rattle.std.specs.Prelude.{ℕ, Option, false}
 use Rattle.bn_base.specs.Programs.{Program}
 use Rattle.bn_base.specs.declared.settings.RawSettings.{RawSettings}
 use Rattle.bn_base.specs.declared.state.HartState.{HartState}
@@ -11,7 +11,7 @@ use Rattle.run_model.specs.declared.hart.Hart.{Hart}
 use Rattle.run_model.specs.declared.next.Next.{Next}
 use Rattle.run_model.specs.declared.span.Span.{Span}
 use Rattle.run_model.specs.Machine.{Machine, Answered, answer, call_of}
-use Rattle.run_model.specs.Turn.{Run, span_of, next_of, ask_at, serve_orderly}
+use Rattle.run_model.specs.Turn.{Run, span_of, next_of, ask_at, serve_call}
 use Rattle.replay_laws.specs.Known.{touched}
 
 -- the ask of a want in a state
@@ -51,4 +51,4 @@ next_at c i run k = next_to c i run.machine k (run.harts k) (ask_at c i (run.har
 
 -- the run after it, where the ask is orderly
 abbrev pub served_turn : RawSettings → Program → Run → ℕ → Run
-served_turn c i run k = (serve_orderly c i run k (ask_at c i (run.harts k))).run
+served_turn c i run k = (serve_call c run k (ask_at c i (run.harts k)) false (call_of i run.machine (ask_at c i (run.harts k)).want)).run

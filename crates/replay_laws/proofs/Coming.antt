@@ -113,7 +113,7 @@ equal_flip k h p = elim (eqb_tells h k) [ inl q ↦ absurd (p (sym q.1)) | inr q
 coming_own : (n : Next) (c : RawSettings) (i : Program) (h : ℕ) (ks : List ℕ) (run : Run) → Sound c i → Fit c (run.harts h) → next_at c i run h ≡ n
     → (Fit c ((served_turn c i run h).harts h) → Coming ((served_turn c i run h).harts h) (log_from c i (served_turn c i run h) ks h)) → Coming (run.harts h) (log_from c i run (h ∷ ks) h)
 coming_own GoesOn c i h ks run z f e rest =
-    let r : Coming (hart_after GoesOn (next_state c i run h) (skip_next c i run h) (run.harts h)) (log_from c i (served_turn c i run h) ks h) =
+    let r : Coming (hart_after GoesOn (next_state c i run h) (skip_next c i run h) (served_turn c i run h).bytes (run.harts h)) (log_from c i (served_turn c i run h) ks h) =
     subst (λ (x : Hart). Coming x (log_from c i (served_turn c i run h) ks h)) (own_harts c i run h GoesOn e) (rest (own_fit c i run h z e f)) in
     own_coming c i run ks h GoesOn e r.0 (omega (arith, r.1, (own_bounds c i run h z f).0))
 coming_own (NewInterval y x) c i h ks run z f e rest = own_coming c i run ks h (NewInterval y x) e tt (own_bounds c i run h z f).0

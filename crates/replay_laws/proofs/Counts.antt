@@ -158,10 +158,10 @@ pub own_bounds : (c : RawSettings) (i : Program) (run : Run) (h : ℕ) → Sound
 own_bounds c i run h z f = let r = own_came c i (run.harts h) h z f in bounds_by c i run.machine (run.harts h) h (want_at c i run h) (asked_at c i run h) z f r.1 r.0
 
 pub own_harts : (c : RawSettings) (i : Program) (run : Run) (h : ℕ) (n : Next) → next_at c i run h ≡ n
-    → (served_turn c i run h).harts h ≡ hart_after n (next_state c i run h) (skip_next c i run h) (run.harts h)
+    → (served_turn c i run h).harts h ≡ hart_after n (next_state c i run h) (skip_next c i run h) (served_turn c i run h).bytes (run.harts h)
 own_harts c i run h n e =
-    own_hart (next_at c i run h) h (hart_after (next_at c i run h) (next_state c i run h) (skip_next c i run h) (run.harts h)) run.harts
-    ∙ ap (λ x. hart_after x (next_state c i run h) (skip_next c i run h) (run.harts h)) e
+    own_hart (next_at c i run h) h (hart_after (next_at c i run h) (next_state c i run h) (skip_next c i run h) (served_turn c i run h).bytes (run.harts h)) run.harts
+    ∙ ap (λ x. hart_after x (next_state c i run h) (skip_next c i run h) (served_turn c i run h).bytes (run.harts h)) e
 
 -- ---- another hart's turn
 
@@ -176,7 +176,7 @@ other_turn_log c i run ks h k n e f g live b =
 pub other_harts : (c : RawSettings) (i : Program) (run : Run) (h k : ℕ) (n : Next) → next_at c i run k ≡ n → (h == k) ≡ false
     → (served_turn c i run k).harts h ≡ other_after n (run.harts h)
 other_harts c i run h k n e g =
-    foreign_hart (next_at c i run k) h k (hart_after (next_at c i run k) (next_state c i run k) (skip_next c i run k) (run.harts k)) run.harts g
+    foreign_hart (next_at c i run k) h k (hart_after (next_at c i run k) (next_state c i run k) (skip_next c i run k) (served_turn c i run k).bytes (run.harts k)) run.harts g
     ∙ ap (λ x. other_after x (run.harts h)) e
 
 -- ---- fit harts

@@ -22,3 +22,5 @@ pub mod Whole
 pub mod Worked
 pub mod Warmth
 pub mod Differing
+pub mod Splits
+pub mod FormatOne

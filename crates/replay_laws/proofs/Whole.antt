@@ -17,11 +17,14 @@ use Rattle.hart_replay.specs.Replay.{Interval, interval_of, interval_from, repla
 use Rattle.run_model.specs.declared.hart.Hart.{Hart}
 use Rattle.run_model.specs.declared.next.Next.{Next}
 use Rattle.run_model.specs.declared.next.Next.TheVariants.{GoesOn, NewInterval, HartOver, RunOver}
-use Rattle.run_model.specs.Turn.{Run, other_after, serve, served_if, turn, ask_at, budget}
-use Rattle.run_model.specs.Files.{kept_of}
+use Rattle.run_model.specs.Turn.{Run, other_after, serve, served_if, serve_call, turn, ask_at, budget}
+use Rattle.run_model.specs.Machine.{call_of}
+use Rattle.replay_laws.proofs.FormatOne.{rows_first}
+use Rattle.run_model.specs.Files.{kept_of, IsEndOf}
+use Rattle.run_model.specs.Guards.{FormatOneIsUnguarded}
 use Rattle.run_model.specs.Runs.{start, run_of, run_from, legal_from, any_live}
 use Rattle.run_model.specs.Rows.{rows_in, rows_of, turn_rows}
-use Rattle.replay_laws.specs.Law.{LogSuffices, RowsStandTogether, RowsAreCounted, IsWhole, end_of}
+use Rattle.replay_laws.specs.Law.{LogSuffices, EndsSuffice, RowsStandTogether, RowsAreCounted, IsWhole, end_of}
 use Rattle.replay_laws.proofs.Asked.{next_at, served_turn}
 use Rattle.replay_laws.proofs.Coming.{IsServed, equal_flip}
 use Rattle.replay_laws.proofs.Counts.{Fit, log_from, own_harts, other_harts, own_fit, begun_fit}
@@ -37,7 +40,9 @@ use Rattle.replay_laws.proofs.Way.{Sound}
 turn_is : (c : RawSettings) (i : Program) (run : Run) (k : ℕ) → Sound c i → Fit c (run.harts k) → turn c i run k ≡ served_turn c i run k
 unfolding serve
 turn_is c i run k z f =
-    ap (λ (x : Bool). (served_if x c i run k (ask_at c i (run.harts k))).run) (z.orderly (budget c (run.harts k)) (run.harts k).state (omega (arith, f.within, z.limit)))
+    let ask = ask_at c i (run.harts k) in
+    ap (λ (x : Bool). (served_if x c i run k ask).run) (z.orderly (budget c (run.harts k)) (run.harts k).state (omega (arith, f.within, z.limit)))
+    ∙ ap (λ (b : Bool). (serve_call c run k ask b (call_of i run.machine ask.want)).run) (z.guards.asks c run k ask.want z.format)
 
 -- a hart that is live is fit
 abbrev Early : RawSettings → Hart → Type 0
@@ -105,7 +110,7 @@ same_runs c i h n z (k ∷ ks) run a l f =
     record {
       runs = ap (λ x. run_from c i x ks) is ∙ rest.runs;
       legal = (less_of k c.harts q.0, q.1, rest.legal);
-      rows = ap (λ (x : List Row). rows_if (k == h && ((run.harts h).number == n)) (turn_rows c i run h) x) (ap (λ x. rows_in c i x ks h n) is ∙ rest.rows);
+      rows = rows_first z.guards c i run k h n (rows_in c i (turn c i run k) ks h n) z.format ∙ ap (λ (x : List Row). rows_if (k == h && ((run.harts h).number == n)) (turn_rows c i run h) x) (ap (λ x. rows_in c i x ks h n) is ∙ rest.rows);
       all = ap (λ (x : List Row). rows_if (k == h) (turn_rows c i run h) x) (ap (λ x. rows_of c i x ks h) is ∙ rest.all);
     }
 
@@ -115,31 +120,31 @@ drop_front : (xs ys : List Record) → drop (length xs) (xs ++ ys) ≡ ys
 drop_front [] ys = refl
 drop_front (x ∷ xs) ys = drop_front xs ys
 
--- what the laws stand on: what is known of instructions
+-- what the laws stand on: what is known of instructions, and of guards
 pub record Known : Type 0 where
   pub counts : (i : Program) (s t : HartState) → step i s ≡ Quiet t → t.ic ≡ count_up s.ic
   pub passing : (i : Program) (s : HartState) (w : Want) → step i s ≡ Asks w → (is_cut w ≡ false) × (passes i w ≡ true)
   pub orderly : (i : Program) (budget : ℕ) (s : HartState) → s.ic + budget < 2 ^ 64 → orderly i s.ic budget (ask_of i budget s) ≡ true
+  pub guards : FormatOneIsUnguarded
 
 -- and that what is kept is a suffix
 abbrev pub KeepsSuffix : Type 0
 KeepsSuffix = (size : ℕ) (rs : List Record) → (front : List Record) × (rs ≡ front ++ kept size rs)
 
-sound : (c : RawSettings) (i : Program) → Known → c.limit < 2 ^ 63 → Sound c i
-sound c i z limit = record { counts = z.counts i; passing = z.passing i; orderly = z.orderly i; limit = limit }
+sound : (c : RawSettings) (i : Program) → Known → c.format ≡ 1 → c.limit < 2 ^ 63 → Sound c i
+sound c i z format limit = record { counts = z.counts i; passing = z.passing i; orderly = z.orderly i; limit = limit; format = format; guards = z.guards }
 
 same_whole : (c : RawSettings) (i : Program) (input b : List ℕ) (h n : ℕ) → Sound c i → IsWhole c i input b → Same c i h n b (start c i input)
 same_whole c i input b h n z whole =
     same_runs c i h n z b (start c i input) (λ j. inl (start_fit c i j input)) whole.legal (none_live (any_live c.harts (run_from c i (start c i input) b).harts) whole.over)
 
--- a suffix of the stream is kept
-kept_is : (c : RawSettings) (i : Program) (input b : List ℕ) (h n : ℕ) → KeepsSuffix → Same c i h n b (start c i input)
-    → (m : ℕ) × (kept_of c (run_of c i input b) ≡ drop m (served_from c i (start c i input) b).stream)
-kept_is c i input b h n suffix s =
-    let stream : List Record = (run_of c i input b).stream in
-    let front = suffix c.log_size stream in
-    let dropped : kept c.log_size stream ≡ drop (length front.0) stream = sym (drop_front front.0 (kept c.log_size stream)) ∙ ap (drop (length front.0)) (sym front.1) in
-    (length front.0, dropped ∙ ap (λ (x : Run). drop (length front.0) x.stream) s.runs)
+-- an end of the stream is what is left of it
+end_is : (c : RawSettings) (i : Program) (input b : List ℕ) (h n : ℕ) (rs : List Record) → IsEndOf (run_of c i input b).stream rs → Same c i h n b (start c i input)
+    → (m : ℕ) × (rs ≡ drop m (served_from c i (start c i input) b).stream)
+end_is c i input b h n rs end s =
+    let m = length end.front in
+    let dropped : rs ≡ drop m (run_of c i input b).stream = sym (drop_front end.front rs) ∙ ap (drop m) (sym end.parts) in
+    (m, dropped ∙ ap (λ (x : Run). drop m x.stream) s.runs)
 
 below_or : (a b : ℕ) → (a < b) ⊎ (b ≤ a)
 below_or a b = by_test (nat_lt a b) refl
@@ -151,20 +156,20 @@ below_or a b = by_test (nat_lt a b) refl
     by_test true e = inl (less_of a b e)
     by_test false e = inr (not_less e)
 
--- an interval that the log keeps is one of the run's harts
-kept_hart : (c : RawSettings) (i : Program) (input b : List ℕ) (h n : ℕ) → KeepsSuffix → Same c i h n b (start c i input) → (v : Interval)
-    → interval_of h n (kept_of c (run_of c i input b)) ≡ Some v → h < c.harts
-kept_hart c i input b h n suffix s v e = elim (below_or h c.harts) [
+-- an interval that begins there is one of the run's harts
+kept_hart : (c : RawSettings) (i : Program) (input b : List ℕ) (h n : ℕ) (rs : List Record) → IsEndOf (run_of c i input b).stream rs → Same c i h n b (start c i input) → (v : Interval)
+    → interval_of h n rs ≡ Some v → h < c.harts
+kept_hart c i input b h n rs end s v e = elim (below_or h c.harts) [
   | inl g ↦ g
-  | inr above ↦ (let k = kept_is c i input b h n suffix s in
+  | inr above ↦ (let k = end_is c i input b h n rs end s in
       absurd (false≢true (ap there (sym (ap (interval_of h n) k.1 ∙ suffix_absent c i input b h n above s.legal k.0) ∙ e))))
 ]
 
 -- and it begins in the run
-kept_begins : (c : RawSettings) (i : Program) (input b : List ℕ) (h n : ℕ) → KeepsSuffix → Sound c i → h < c.harts → Same c i h n b (start c i input) → (v : Interval)
-    → interval_of h n (kept_of c (run_of c i input b)) ≡ Some v → Begins c i (start c i input) b h n v
-kept_begins c i input b h n suffix z g s v e =
-    let k = kept_is c i input b h n suffix s in
+kept_begins : (c : RawSettings) (i : Program) (input b : List ℕ) (h n : ℕ) (rs : List Record) → IsEndOf (run_of c i input b).stream rs → Sound c i → h < c.harts → Same c i h n b (start c i input) → (v : Interval)
+    → interval_of h n rs ≡ Some v → Begins c i (start c i input) b h n v
+kept_begins c i input b h n rs end z g s v e =
+    let k = end_is c i input b h n rs end s in
     suffix_begins c i input b h n z g s.legal k.0 v (ap (interval_of h n) (sym k.1) ∙ e)
 
 -- the replay of an interval where it begins is done
@@ -183,26 +188,32 @@ begun_done c i h n ks run v z g b =
     ∙ (ap (λ x. done_with (served_rows c i b.later b.turns h x)) b.number
     ∙ ap done_with (sym b.rows)))
 
-pub sufficiency : Known → KeepsSuffix → LogSuffices
-sufficiency known suffix c i input b h n limit whole v e =
-    let z : Sound c i = sound c i known limit in
+pub sufficiency : Known → EndsSuffice
+sufficiency known c i input b h n format limit whole rs end v e =
+    let z : Sound c i = sound c i known format limit in
     let s = same_whole c i input b h n z whole in
-    let g : h < c.harts = kept_hart c i input b h n suffix s v e in
+    let g : h < c.harts = kept_hart c i input b h n rs end s v e in
     ap (replayed_in i h n) e
-    ∙ (begun_done c i h n b (start c i input) v z g (kept_begins c i input b h n suffix z g s v e)
+    ∙ (begun_done c i h n b (start c i input) v z g (kept_begins c i input b h n rs end z g s v e)
     ∙ ap done_with (sym s.rows))
 
-pub togetherness : Known → KeepsSuffix → RowsStandTogether
-togetherness known suffix c i input b h n limit whole v e =
-    let z : Sound c i = sound c i known limit in
+pub kept_end : KeepsSuffix → (c : RawSettings) (run : Run) → IsEndOf run.stream (kept_of c run)
+kept_end suffix c run = let k = suffix c.log_size run.stream in record { front = k.0; parts = k.1 }
+
+pub of_kept : EndsSuffice → KeepsSuffix → LogSuffices
+of_kept ends suffix c i input b h n format limit whole v e = ends c i input b h n format limit whole (kept_of c (run_of c i input b)) (kept_end suffix c (run_of c i input b)) v e
+
+pub togetherness : Known → RowsStandTogether
+togetherness known c i input b h n format limit whole rs end v e =
+    let z : Sound c i = sound c i known format limit in
     let s = same_whole c i input b h n z whole in
-    let g : h < c.harts = kept_hart c i input b h n suffix s v e in
+    let g : h < c.harts = kept_hart c i input b h n rs end s v e in
     s.rows
-    ∙ (part c i h n b (start c i input) v z g refl (kept_begins c i input b h n suffix z g s v e)
-    ∙ ap (λ rs. take (end_of v - v.start.ic) (drop v.start.ic rs)) (sym s.all))
+    ∙ (part c i h n b (start c i input) v z g refl (kept_begins c i input b h n rs end z g s v e)
+    ∙ ap (λ (xs : List Row). take (end_of v - v.start.ic) (drop v.start.ic xs)) (sym s.all))
 
 pub counted : Known → RowsAreCounted
-counted known c i input b h limit whole =
-    let z : Sound c i = sound c i known limit in
+counted known c i input b h format limit whole =
+    let z : Sound c i = sound c i known format limit in
     let s = same_whole c i input b h 0 z whole in
     subst (λ (rs : List Row). map (λ r. r.ic) rs ≡ range_with_len 0 (length rs)) (sym s.all) (numbered_range 0 _ (numbered c i h b (start c i input) z s.legal (start_fit c i h input)))

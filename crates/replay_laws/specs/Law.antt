@@ -1,9 +1,10 @@
--- What a kept log says of the run that it was recorded of.
+-- What the last records of a run, as those that its log keeps, say of it.
 use Rattle.std.specs.Prelude.{ℕ, ◌≡◌, ◌+◌, ◌-◌, ◌<◌, ◌^◌, nat_lt, true, List, length, map, take, drop, Some, if◌then◌else◌}
 use Rattle.std.specs.List.{range_with_len}
 use Rattle.bn_base.specs.Programs.{Program}
 use Rattle.bn_base.specs.declared.settings.RawSettings.{RawSettings}
-use Rattle.run_model.specs.Files.{kept_of}
+use Rattle.log_record.specs.declared.record.Record.{Record}
+use Rattle.run_model.specs.Files.{kept_of, IsEndOf}
 use Rattle.run_model.specs.Rows.{rows_of, rows_in}
 use Rattle.run_model.specs.Runs.{start, run_of, legal_from, is_over}
 use Rattle.hart_replay.specs.Replay.{Interval, interval_of, replayed}
@@ -14,10 +15,16 @@ pub record IsWhole (c : RawSettings) (i : Program) (input b : List ℕ) : Type 0
   pub legal : legal_from c i (start c i input) b ≡ true
   pub over : is_over c (run_of c i input b) ≡ true
 
--- Log sufficiency: for every list of turns that is legal and finished, and every interval of a hart whose Header the log
--- still keeps, the replay of that interval from the kept log is done, and its rows are the recorded run's of that interval
+-- Log sufficiency: for every list of turns that is legal and finished, every end of its stream, and every interval of a hart
+-- whose Header stands there, the replay of that interval is done, and its rows are the recorded run's of that interval
+abbrev pub EndsSuffice : Type 0
+EndsSuffice = (c : RawSettings) (i : Program) (input b : List ℕ) (h n : ℕ) → c.format ≡ 1 → c.limit < 2 ^ 63 → IsWhole c i input b → (rs : List Record) → IsEndOf (run_of c i input b).stream rs
+    → (v : Interval) → interval_of h n rs ≡ Some v
+    → replayed i rs h n ≡ record { rows = rows_in c i (start c i input) b h n; outcome = Done }
+
+-- so it is of what the log keeps
 abbrev pub LogSuffices : Type 0
-LogSuffices = (c : RawSettings) (i : Program) (input b : List ℕ) (h n : ℕ) → c.limit < 2 ^ 63 → IsWhole c i input b
+LogSuffices = (c : RawSettings) (i : Program) (input b : List ℕ) (h n : ℕ) → c.format ≡ 1 → c.limit < 2 ^ 63 → IsWhole c i input b
     → (v : Interval) → interval_of h n (kept_of c (run_of c i input b)) ≡ Some v
     → replayed i (kept_of c (run_of c i input b)) h n ≡ record { rows = rows_in c i (start c i input) b h n; outcome = Done }
 
@@ -32,11 +39,11 @@ end_of v = v.mark.ic + rows_at_end v.mark.reason
 -- These rows are those of the hart from the Header's count to the End's, with the fault's row: a hart's row number k, from
 -- 0, is that of its count k
 abbrev pub RowsStandTogether : Type 0
-RowsStandTogether = (c : RawSettings) (i : Program) (input b : List ℕ) (h n : ℕ) → c.limit < 2 ^ 63 → IsWhole c i input b
-    → (v : Interval) → interval_of h n (kept_of c (run_of c i input b)) ≡ Some v
+RowsStandTogether = (c : RawSettings) (i : Program) (input b : List ℕ) (h n : ℕ) → c.format ≡ 1 → c.limit < 2 ^ 63 → IsWhole c i input b
+    → (rs : List Record) → IsEndOf (run_of c i input b).stream rs → (v : Interval) → interval_of h n rs ≡ Some v
     → rows_in c i (start c i input) b h n ≡ take (end_of v - v.start.ic) (drop v.start.ic (rows_of c i (start c i input) b h))
 
 -- A hart's rows have its counts, one after another from 0
 abbrev pub RowsAreCounted : Type 0
-RowsAreCounted = (c : RawSettings) (i : Program) (input b : List ℕ) (h : ℕ) → c.limit < 2 ^ 63 → IsWhole c i input b
+RowsAreCounted = (c : RawSettings) (i : Program) (input b : List ℕ) (h : ℕ) → c.format ≡ 1 → c.limit < 2 ^ 63 → IsWhole c i input b
     → map (λ r. r.ic) (rows_of c i (start c i input) b h) ≡ range_with_len 0 (length (rows_of c i (start c i input) b h))

@@ -1,39 +1,50 @@
-//! Laws of replays: what a kept log says of the run that it was recorded of. These functions do
-//! nothing: their contracts are theorems.
+//! Laws of replays: what the last records of a run, as those that its log keeps, say of the run. These
+//! functions do nothing: their contracts are theorems.
 #![tactic(auto)]
 
+ghost use Rattle.replay_laws.specs.Law.{EndsSuffice, LogSuffices, RowsStandTogether, RowsAreCounted};
 ghost use Rattle.replay_laws.specs.Known.{WarmWordsStayKnown};
 ghost use Rattle.replay_laws.specs.Differing.{EndsThatDifferAreTold};
-ghost use Rattle.replay_laws.specs.Law.{LogSuffices, RowsStandTogether, RowsAreCounted};
+ghost use Rattle.replay_laws.specs.Splits.{GuardedTurnsSplit};
 
 mod examples;
 
 pub use examples::{
-    a_fault_is_replayed, a_filled_word_is_loaded_again, the_last_interval_is_replayed,
+    a_fault_is_replayed, a_filled_word_is_loaded_again, a_guarded_load_is_replayed,
+    a_late_fault_is_replayed, the_last_interval_is_replayed,
 };
 use log_ring::laws::a_suffix_is_kept;
+use run_model::format_1_is_unguarded;
 use rv_meaning::{each_ask_is_orderly, each_instruction_is_counted_or_asks};
 
 /// Log sufficiency: for every program, input, cache and interval length, every list of turns that
-/// is legal and finished, and every interval of a hart whose Header the log still keeps, the
-/// replay of that interval from the kept log is done, and gives exactly that interval's rows of
-/// the recorded run (for one hart the claim of BugNet, ISCA 2005).
-pub fn the_log_suffices()
-    ensures { LogSuffices }
+/// is legal and finished, every end of its records, and every interval of a hart whose Header stands
+/// there, the replay of that interval from that end is done, and gives exactly that interval's rows of
+/// the recorded run (for one hart the claim of BugNet, ISCA 2005). It is claimed of format 1.
+pub fn ends_suffice()
+    ensures { EndsSuffice }
 {
     each_instruction_is_counted_or_asks();
     each_ask_is_orderly();
+    format_1_is_unguarded();
+}
+
+/// So it is of what the log keeps, which is such an end.
+pub fn the_log_suffices()
+    ensures { LogSuffices }
+{
+    ends_suffice();
     a_suffix_is_kept();
 }
 
-/// The rows of a kept interval are those of its hart from the Header's count to the End's, with
-/// the row of the fault where it ends by one.
+/// The rows of an interval whose Header stands in an end of the records are those of its hart from the
+/// Header's count to the End's, with the row of the fault where it ends by one.
 pub fn the_rows_of_an_interval_stand_together()
     ensures { RowsStandTogether }
 {
     each_instruction_is_counted_or_asks();
     each_ask_is_orderly();
-    a_suffix_is_kept();
+    format_1_is_unguarded();
 }
 
 /// The rows of a hart have its counts, one after another from 0.
@@ -42,14 +53,16 @@ pub fn the_rows_of_a_hart_are_counted()
 {
     each_instruction_is_counted_or_asks();
     each_ask_is_orderly();
+    format_1_is_unguarded();
 }
 
 /// What a hart knows of the words that are warm to it stays true, through its own turns up to the
 /// interval's end and through those of the other harts: the reason why first loads suffice.
-#[tactic(auto, using(crate::proofs::Warmth::warm_words))]
 pub fn warm_words_stay_known()
     ensures { WarmWordsStayKnown }
-{}
+{
+    format_1_is_unguarded();
+}
 
 /// Where the replay of an interval ends otherwise than its End says, the outcome has the End's own mark
 /// and another that differs from it. So it is for every log and every program.
@@ -58,3 +71,9 @@ pub fn ends_that_differ_are_told()
 {
     each_instruction_is_counted_or_asks();
 }
+
+/// A guarded turn is the beginning of the next interval, and then a turn without a guard.
+#[tactic(auto, using(crate::proofs::Splits::splits))]
+pub fn guarded_turns_split()
+    ensures { GuardedTurnsSplit }
+{}

@@ -1,6 +1,6 @@
 -- The turns of a legal list, one by one.
 use Rattle.std.proofs.Common.{◌≡◌, ℕ, zero, suc, ◌+◌, ◌-◌, ◌*◌, ◌<◌, ◌≤◌, ◌^◌, ◌==◌, Bool, true, false, not, ◌&&◌, nat_lt, List, [], ◌∷◌, length, refl, sym, ◌∙◌, ap, subst, arith, inl, inr}
-use Rattle.std.specs.Prelude.{Some, IsTrue, ◌≢◌}
+use Rattle.std.specs.Prelude.{Option, Some, IsTrue, ◌≢◌}
 use Rattle.std.proofs.lemmas.Bool.Decides.{eqb_tells}
 use Rattle.std.proofs.lemmas.Grind.{common_steps}
 use Rattle.bn_base.specs.Programs.{Program}
@@ -8,7 +8,7 @@ use Rattle.bn_base.specs.Ranges.{IsSetting}
 use Rattle.bn_base.specs.declared.settings.RawSettings.{RawSettings}
 use Rattle.bn_base.specs.declared.state.HartState.{HartState}
 use Rattle.rv_meaning.specs.Execute.{ask_of, absorbed}
-use Rattle.rv_meaning.specs.Orderly.{orderly}
+use Rattle.rv_meaning.specs.Orderly.{orderly, is_cut}
 use Rattle.rv_meaning.specs.declared.asks.Ask.{Ask}
 use Rattle.rv_meaning.specs.declared.asks.Want.{Want}
 use Rattle.rv_meaning.specs.declared.asks.Want.TheVariants.{Load, Store, LoadReserved, StoreConditional, Amo, System, Cut, Faulted}
@@ -20,12 +20,14 @@ use Rattle.run_model.specs.declared.hart.Hart.{Hart}
 use Rattle.run_model.specs.declared.next.Next.{Next}
 use Rattle.run_model.specs.declared.next.Next.TheVariants.{GoesOn, NewInterval, HartOver, RunOver}
 use Rattle.run_model.specs.Machine.{Machine, answer, call_of, planned}
-use Rattle.run_model.specs.Turn.{Run, Served, serve, serve_orderly, served_if, turn, ask_at, is_orderly, budget, next_of, loading, warmth, skipped_after, hart_after, other_after, harts_after}
+use Rattle.run_model.specs.Turn.{Run, Served, serve, serve_orderly, served_if, turn, ask_at, is_orderly, budget, next_of, loading, warmth, skipped_after, hart_after, other_after, harts_after, is_guarded, guarded_run, asked_run, guard_records}
+use Rattle.log_record.specs.Spelling.{total}
+use Rattle.first_load_bits.specs.declared.warm.Warm.{Warm}
 use Rattle.run_model.specs.Runs.{start_hart, start_state, run_from, legal_from, is_live}
-use Rattle.run_model.specs.Counts.{IsFit, EachTurnMovesOn, EachTurnFits, OthersStayFit, turns_left}
+use Rattle.run_model.specs.Counts.{IsFit, IsRested, anew, GuardedAsksFit, EachTurnMovesOn, EachTurnFits, OthersStayFit, turns_left}
 use Rattle.run_model.specs.Harts.{all_left}
 use Rattle.run_laws.specs.Laws.{TurnsMoveTheirHart}
-use Rattle.run_laws.specs.History.{after_rows, IsLawful, IsOwn, Place, place_of, place_after, row_at, rows_from, rows_by}
+use Rattle.run_laws.specs.History.{after_rows, IsLawful, IsOwn, Place, place_of, place_from, place_after, begun_at, row_at, rows_from, rows_by}
 
 -- ---- lawful
 
@@ -41,7 +43,7 @@ lawful c i run [] e = (tt, refl)
 lawful c i run (k ∷ ks) e =
     let first = legal_first c i run k ks e in
     let rest = lawful c i (turn c i run k) ks first.1 in
-    ((first.0, refl, rest.0), rest.1)
+    ((first.0, refl, refl, rest.0), rest.1)
 
 -- ---- orderly
 
@@ -64,6 +66,68 @@ served : (c : RawSettings) (i : Program) (run : Run) (k : ℕ) (ask : Ask) → i
 unfolding serve
 served c i run k ask o = ap (λ (b : Bool). served_if b c i run k ask) o
 
+-- the laws of turns that are used here
+pub record Laws : Type 0 where
+  pub asks : AsksAreOrderly
+  pub moves : EachTurnMovesOn
+  pub fits : EachTurnFits
+  pub others : OthersStayFit
+  pub guarded : GuardedAsksFit
+
+eqb_same : (k : ℕ) → (k == k) ≡ true
+eqb_same k = grind arith
+
+-- ---- the hart that asks
+
+-- whether the next ask of hart k is guarded, and the run in which it is answered
+abbrev guarded_at : RawSettings → Program → Run → ℕ → Bool
+guarded_at c i run k = is_guarded c run k (ask_at c i (run.harts k)).want
+
+abbrev asked_at : RawSettings → Program → Run → ℕ → Run
+asked_at c i run k = asked_run c run k (ask_at c i (run.harts k))
+
+-- hart k there: it begins anew, or is as it was
+hart_if : Bool → HartState → ℕ → Hart → Hart
+hart_if true s bytes h = anew s bytes h
+hart_if false s bytes h = h
+
+asking_own : (g : Bool) (run : Run) (k : ℕ) (s : HartState) → (guarded_run g run k s).harts k ≡ hart_if g s (run.bytes + total (guard_records run k s)) (run.harts k)
+unfolding hart_if
+asking_own true run k s = ap (λ (b : Bool). elim b as (λ x. Hart) [ true ↦ anew s (run.bytes + total (guard_records run k s)) (run.harts k) | false ↦ run.harts k ]) (eqb_same k)
+asking_own false run k s = refl
+
+asking_other : (g : Bool) (run : Run) (k j : ℕ) (s : HartState) → (j == k) ≡ false → (guarded_run g run k s).harts j ≡ run.harts j
+asking_other true run k j s e = ap (λ (b : Bool). elim b as (λ x. Hart) [ true ↦ anew s (run.bytes + total (guard_records run k s)) (run.harts k) | false ↦ run.harts j ]) e
+asking_other false run k j s e = refl
+
+-- it begins its interval where its ask does, or where it did
+asking_begun : (g : Bool) (run : Run) (k : ℕ) (ask : Ask) → ((guarded_run g run k ask.state).harts k).begun ≡ begun_at g (place_of (run.harts k)) ask
+asking_begun true run k ask = ap (λ (b : Bool). (elim b as (λ x. Hart) [ true ↦ anew ask.state (run.bytes + total (guard_records run k ask.state)) (run.harts k) | false ↦ run.harts k ]).begun) (eqb_same k)
+asking_begun false run k ask = refl
+
+-- a cut isn't guarded
+uncut : (c : RawSettings) (run : Run) (k : ℕ) (want : Want) → is_guarded c run k want ≡ true → is_cut want ≡ false
+uncut c run k want e = not_cut (is_cut want) (both (not (is_cut want)) _ (both (c.format == 2) _ e).1).0
+  where
+    not_cut : (b : Bool) → not b ≡ true → b ≡ false
+    not_cut true e = cc
+    not_cut false e = refl
+
+-- what is known of the hart that asks
+record IsAsking (c : RawSettings) (i : Program) (old h : Hart) (ask : Ask) : Type 0 where
+  fit : IsFit c h
+  live : h.live ≡ true
+  orderly : is_orderly c i h ask ≡ true
+  left : turns_left c h ≤ turns_left c old
+
+asking_if : (g : Bool) → Laws → (c : RawSettings) (i : Program) (h : Hart) (bytes : ℕ) (ask : Ask) → 1 ≤ c.interval → IsRested c h → h.live ≡ true → is_orderly c i h ask ≡ true → (g ≡ true → is_cut ask.want ≡ false)
+    → IsAsking c i h (hart_if g ask.state bytes h) ask
+unfolding hart_if
+asking_if true laws c i h bytes ask some rested live o cut =
+    let f = laws.guarded c i h bytes ask some rested live o (cut refl) in
+    record { fit = f.0; live = live; orderly = f.1; left = f.2 }
+asking_if false laws c i h bytes ask some rested live o cut = record { fit = rested.fit; live = live; orderly = o; left = omega arith }
+
 -- ---- the harts after a turn
 
 -- what comes after the turn of hart k, and its state
@@ -74,55 +138,60 @@ abbrev state_of : RawSettings → Program → Run → ℕ → HartState
 state_of c i run k = absorbed (ask_at c i (run.harts k)) (reply_of c i run k)
 
 abbrev next_at : RawSettings → Program → Run → ℕ → Next
-next_at c i run k = let ask = ask_at c i (run.harts k) in next_of c (call_of i run.machine ask.want) (run.harts k) ask.want (reply_of c i run k) (state_of c i run k).ic
+next_at c i run k = let ask = ask_at c i (run.harts k) in next_of c (call_of i run.machine ask.want) ((asked_at c i run k).harts k) ask.want (reply_of c i run k) (state_of c i run k).ic
+
+abbrev load_at : RawSettings → Program → Run → ℕ → Option Warm
+load_at c i run k = warmth c (loading (ask_at c i (run.harts k)).want) ((asked_at c i run k).events k)
 
 abbrev own_at : RawSettings → Program → Run → ℕ → Hart
-own_at c i run k = hart_after (next_at c i run k) (state_of c i run k) (skipped_after (warmth c (loading (ask_at c i (run.harts k)).want) (run.events k)) (run.harts k).skipped) (run.harts k)
+own_at c i run k = hart_after (next_at c i run k) (state_of c i run k) (skipped_after (load_at c i run k) ((asked_at c i run k).harts k).skipped) (turn c i run k).bytes ((asked_at c i run k).harts k)
 
-harts_of_turn : (c : RawSettings) (i : Program) (run : Run) (k j : ℕ) → is_orderly c i (run.harts k) (ask_at c i (run.harts k)) ≡ true → (turn c i run k).harts j ≡ harts_after (next_at c i run k) k (own_at c i run k) run.harts j
-harts_of_turn c i run k j o = ap (λ (s : Served). s.run.harts j) (served c i run k (ask_at c i (run.harts k)) o)
+harts_of_turn : (c : RawSettings) (i : Program) (run : Run) (k j : ℕ) → is_orderly c i (run.harts k) (ask_at c i (run.harts k)) ≡ true → (turn c i run k).harts j ≡ harts_after (next_at c i run k) k (own_at c i run k) (asked_at c i run k).harts j
+harts_of_turn c i run k j o =
+    let e = served c i run k (ask_at c i (run.harts k)) o in
+    ap (λ (s : Served). s.run.harts j) e
+    ∙ ap (λ (n : ℕ). harts_after (next_at c i run k) k (hart_after (next_at c i run k) (state_of c i run k) (skipped_after (load_at c i run k) ((asked_at c i run k).harts k).skipped) n ((asked_at c i run k).harts k)) (asked_at c i run k).harts j) (sym (ap (λ (s : Served). s.run.bytes) e))
 
 own_is : (c : RawSettings) (i : Program) (run : Run) (k j : ℕ) → is_orderly c i (run.harts k) (ask_at c i (run.harts k)) ≡ true → (j == k) ≡ true → (turn c i run k).harts j ≡ own_at c i run k
-own_is c i run k j o e = harts_of_turn c i run k j o ∙ ap (λ (b : Bool). elim b as (λ x. Hart) [ true ↦ own_at c i run k | false ↦ other_after (next_at c i run k) (run.harts j) ]) e
+own_is c i run k j o e = harts_of_turn c i run k j o ∙ ap (λ (b : Bool). elim b as (λ x. Hart) [ true ↦ own_at c i run k | false ↦ other_after (next_at c i run k) ((asked_at c i run k).harts j) ]) e
 
 other_is : (c : RawSettings) (i : Program) (run : Run) (k j : ℕ) → is_orderly c i (run.harts k) (ask_at c i (run.harts k)) ≡ true → (j == k) ≡ false → (turn c i run k).harts j ≡ other_after (next_at c i run k) (run.harts j)
-other_is c i run k j o e = harts_of_turn c i run k j o ∙ ap (λ (b : Bool). elim b as (λ x. Hart) [ true ↦ own_at c i run k | false ↦ other_after (next_at c i run k) (run.harts j) ]) e
+other_is c i run k j o e = harts_of_turn c i run k j o ∙ ap (λ (b : Bool). elim b as (λ x. Hart) [ true ↦ own_at c i run k | false ↦ other_after (next_at c i run k) ((asked_at c i run k).harts j) ]) e
+    ∙ ap (other_after (next_at c i run k)) (asking_other (guarded_at c i run k) run k j (ask_at c i (run.harts k)).state e)
 
 -- ---- counts
 
-AllFit : RawSettings → Run → Type 0
-AllFit c run = (k : ℕ) → IsFit c (run.harts k)
-
--- the laws of turns that are used here
-pub record Laws : Type 0 where
-  pub asks : AsksAreOrderly
-  pub moves : EachTurnMovesOn
-  pub fits : EachTurnFits
-  pub others : OthersStayFit
-
 -- how a turn changes what is left to each hart
 record Left (c : RawSettings) (old new : Run) (k : ℕ) : Type 0 where
-  pub fit : (j : ℕ) → IsFit c (new.harts j)
+  pub fit : (j : ℕ) → IsRested c (new.harts j)
   pub less : turns_left c (new.harts k) < turns_left c (old.harts k)
   pub others : (j : ℕ) → turns_left c (new.harts j) ≤ turns_left c (old.harts j)
 
-eqb_same : (k : ℕ) → (k == k) ≡ true
-eqb_same k = grind arith
-
-turn_left : Laws → (c : RawSettings) (i : Program) (run : Run) (k : ℕ) → IsSetting c → ((j : ℕ) → IsFit c (run.harts j)) → (run.harts k).live ≡ true → Left c run (turn c i run k) k
-turn_left laws c i run k setting fit live =
+asking : Laws → (c : RawSettings) (i : Program) (run : Run) (k : ℕ) → IsSetting c → IsRested c (run.harts k) → (run.harts k).live ≡ true → IsAsking c i (run.harts k) ((asked_at c i run k).harts k) (ask_at c i (run.harts k))
+asking laws c i run k setting fit live =
     let h = run.harts k in
     let ask = ask_at c i h in
+    let o = ordered laws.asks c i h (omega (arith, setting.limit_high)) fit.fit in
+    let g = guarded_at c i run k in
+    subst (λ (x : Hart). IsAsking c i h x ask) (sym (asking_own g run k ask.state))
+    (asking_if g laws c i h (run.bytes + total (guard_records run k ask.state)) ask setting.interval_low fit live o (uncut c run k ask.want))
+
+turn_left : Laws → (c : RawSettings) (i : Program) (run : Run) (k : ℕ) → IsSetting c → ((j : ℕ) → IsRested c (run.harts j)) → (run.harts k).live ≡ true → Left c run (turn c i run k) k
+turn_left laws c i run k setting fit live =
+    let h = run.harts k in
+    let at = (asked_at c i run k).harts k in
+    let ask = ask_at c i h in
     let small : c.limit < 2 ^ 63 = omega (arith, setting.limit_high) in
-    let o = ordered laws.asks c i h small (fit k) in
-    let on = laws.moves c i run.machine h k ask small (fit k) live o in
-    let own = laws.fits c h ask.state.ic (state_of c i run k) (next_at c i run k) _ (loading ask.want) (run.events k) setting.interval_low live (fit k) on in
+    let o = ordered laws.asks c i h small (fit k).fit in
+    let a = asking laws c i run k setting (fit k) live in
+    let on = laws.moves c i run.machine at k ask small a.fit a.live a.orderly in
+    let own = laws.fits c at ask.state.ic (turn c i run k).bytes (state_of c i run k) (next_at c i run k) _ (loading ask.want) ((asked_at c i run k).events k) setting.interval_low a.live a.fit on in
     let here = own_is c i run k k o (eqb_same k) in
-    let less : turns_left c ((turn c i run k).harts k) < turns_left c h = subst (λ (x : Hart). turns_left c x < turns_left c h) (sym here) own.1 in
+    let less : turns_left c ((turn c i run k).harts k) < turns_left c h = subst (λ (x : Hart). turns_left c x < turns_left c h) (sym here) (omega (arith, own.1, a.left)) in
     record {
       fit = λ j. elim (eqb_tells j k) [
-        | inl p ↦ subst (λ (x : Hart). IsFit c x) (sym (own_is c i run k j o p.0)) own.0
-        | inr p ↦ subst (λ (x : Hart). IsFit c x) (sym (other_is c i run k j o p.0)) (laws.others c (run.harts j) (next_at c i run k) (fit j)).0
+        | inl p ↦ subst (λ (x : Hart). IsRested c x) (sym (own_is c i run k j o p.0)) own.0
+        | inr p ↦ subst (λ (x : Hart). IsRested c x) (sym (other_is c i run k j o p.0)) (laws.others c (run.harts j) (next_at c i run k) (fit j)).0
       ];
       less = less;
       others = λ j. elim (eqb_tells j k) [
@@ -150,7 +219,7 @@ one_less c (suc n) own f g within each less = elim (eqb_tells own n) [
 below_of : (a b : ℕ) → nat_lt a b ≡ true → a < b
 below_of a b e = grind arith
 
-pub few_turns : Laws → (c : RawSettings) (i : Program) (run : Run) (b : List ℕ) → IsSetting c → ((j : ℕ) → IsFit c (run.harts j)) → legal_from c i run b ≡ true → length b ≤ all_left c c.harts run.harts
+pub few_turns : Laws → (c : RawSettings) (i : Program) (run : Run) (b : List ℕ) → IsSetting c → ((j : ℕ) → IsRested c (run.harts j)) → legal_from c i run b ≡ true → length b ≤ all_left c c.harts run.harts
 few_turns laws c i run [] setting fit e = omega arith
 few_turns laws c i run (k ∷ ks) setting fit e =
     let first = legal_first c i run k ks e in
@@ -161,51 +230,54 @@ few_turns laws c i run (k ∷ ks) setting fit e =
 
 -- ---- at the start
 
-pub fit_start : (c : RawSettings) (s : HartState) → s.ic ≡ 0 → 1 ≤ c.interval → IsFit c (start_hart s)
-fit_start c s e some = record { number = omega arith; skipped = omega (arith, e); interval = omega (arith, e); limit = omega (arith, e); unfilled = λ p. omega (arith, e, some) }
+pub fit_start : (c : RawSettings) (k : ℕ) (s : HartState) → s.ic ≡ 0 → 1 ≤ c.interval → IsRested c (start_hart k s)
+fit_start c k s e some = record {
+  fit = record { number = omega arith; skipped = omega (arith, e); interval = omega (arith, e); limit = omega (arith, e); unfilled = λ p. omega (arith, e, some) };
+  number = λ p. omega arith;
+}
 
-pub all_first : (c : RawSettings) (i : Program) (n : ℕ) → all_left c n (λ k. start_hart (start_state c i k)) ≡ n * (c.limit + 1)
+pub all_first : (c : RawSettings) (i : Program) (n : ℕ) → all_left c n (λ k. start_hart k (start_state c i k)) ≡ n * (c.limit + 1)
 all_first c i zero = omega arith
 all_first c i (suc n) = omega (arith, all_first c i n)
 
 -- ---- a hart's own rows
 
-counted_place : (over full : Bool) (s : HartState) (skipped : ℕ) (h : Hart)
-    → place_of (hart_after (elim over as (λ x. Next) [ true ↦ HartOver 7 0 | false ↦ elim full as (λ x. Next) [ true ↦ NewInterval 1 0 | false ↦ GoesOn ] ]) s skipped h)
+counted_place : (over full : Bool) (s : HartState) (skipped bytes : ℕ) (h : Hart)
+    → place_of (hart_after (elim over as (λ x. Next) [ true ↦ HartOver 7 0 | false ↦ elim full as (λ x. Next) [ true ↦ NewInterval 1 0 | false ↦ GoesOn ] ]) s skipped bytes h)
     ≡ record { state = s; begun = elim (not over && full) as (λ x. ℕ) [ true ↦ s.ic | false ↦ h.begun ] }
-counted_place true full s skipped h = refl
-counted_place false true s skipped h = refl
-counted_place false false s skipped h = refl
+counted_place true full s skipped bytes h = refl
+counted_place false true s skipped bytes h = refl
+counted_place false false s skipped bytes h = refl
 
 -- where a hart is after its turn, as the rules of the definition and the hart by itself have it
-PlaceIs : RawSettings → Program → Machine → ℕ → Hart → Ask → ℕ → Type 0
-PlaceIs c i m k h ask skipped =
+PlaceIs : RawSettings → Program → Machine → ℕ → Hart → Ask → (skipped bytes : ℕ) → Type 0
+PlaceIs c i m k h ask skipped bytes =
     let call = call_of i m ask.want in
     let reply = (answer c call m k ask).reply in
     let s = absorbed ask reply in
-    place_of (hart_after (next_of c call h ask.want reply s.ic) s skipped h) ≡ place_after c (place_of h) ask reply
+    place_of (hart_after (next_of c call h ask.want reply s.ic) s skipped bytes h) ≡ place_from c h.begun ask reply
 
-plan_place : (p : Plan) (c : RawSettings) (m : Machine) (k : ℕ) (h : Hart) (s : HartState) (number : ℕ) (args : List ℕ) (skipped : ℕ)
+plan_place : (p : Plan) (c : RawSettings) (m : Machine) (k : ℕ) (h : Hart) (s : HartState) (number : ℕ) (args : List ℕ) (skipped bytes : ℕ)
     → let ask : Ask = record { state = s; want = System number args } in
     let reply = (answer c (Some p) m k ask).reply in
-    place_of (hart_after (next_of c (Some p) h ask.want reply (absorbed ask reply).ic) (absorbed ask reply) skipped h) ≡ place_after c (place_of h) ask reply
-plan_place (plans.Fill a n) c m k h s number args skipped = refl
-plan_place (plans.Send t a n) c m k h s number args skipped = refl
-plan_place (plans.Break v) c m k h s number args skipped = refl
-plan_place (plans.Answer v) c m k h s number args skipped = refl
-plan_place (plans.EndHart v) c m k h s number args skipped = refl
-plan_place (plans.EndRun v) c m k h s number args skipped = refl
+    place_of (hart_after (next_of c (Some p) h ask.want reply (absorbed ask reply).ic) (absorbed ask reply) skipped bytes h) ≡ place_from c h.begun ask reply
+plan_place (plans.Fill a n) c m k h s number args skipped bytes = refl
+plan_place (plans.Send t a n) c m k h s number args skipped bytes = refl
+plan_place (plans.Break v) c m k h s number args skipped bytes = refl
+plan_place (plans.Answer v) c m k h s number args skipped bytes = refl
+plan_place (plans.EndHart v) c m k h s number args skipped bytes = refl
+plan_place (plans.EndRun v) c m k h s number args skipped bytes = refl
 
-want_place : (want : Want) (c : RawSettings) (i : Program) (m : Machine) (k : ℕ) (h : Hart) (s : HartState) (skipped : ℕ) → PlaceIs c i m k h (record { state = s; want = want }) skipped
+want_place : (want : Want) (c : RawSettings) (i : Program) (m : Machine) (k : ℕ) (h : Hart) (s : HartState) (skipped bytes : ℕ) → PlaceIs c i m k h (record { state = s; want = want }) skipped bytes
 unfolding PlaceIs
-want_place (Load a w g rd) c i m k h s skipped = counted_place _ _ _ skipped h
-want_place (LoadReserved a rd) c i m k h s skipped = counted_place _ _ _ skipped h
-want_place (Store a w v) c i m k h s skipped = counted_place _ _ _ skipped h
-want_place (Amo a o rd v) c i m k h s skipped = counted_place _ _ _ skipped h
-want_place (StoreConditional a rd v) c i m k h s skipped = counted_place _ _ _ skipped h
-want_place (System number args) c i m k h s skipped = plan_place (planned i m number args) c m k h s number args skipped
-want_place Cut c i m k h s skipped = counted_place _ _ _ skipped h
-want_place (Faulted kind value) c i m k h s skipped = refl
+want_place (Load a w g rd) c i m k h s skipped bytes = counted_place _ _ _ skipped bytes h
+want_place (LoadReserved a rd) c i m k h s skipped bytes = counted_place _ _ _ skipped bytes h
+want_place (Store a w v) c i m k h s skipped bytes = counted_place _ _ _ skipped bytes h
+want_place (Amo a o rd v) c i m k h s skipped bytes = counted_place _ _ _ skipped bytes h
+want_place (StoreConditional a rd v) c i m k h s skipped bytes = counted_place _ _ _ skipped bytes h
+want_place (System number args) c i m k h s skipped bytes = plan_place (planned i m number args) c m k h s number args skipped bytes
+want_place Cut c i m k h s skipped bytes = counted_place _ _ _ skipped bytes h
+want_place (Faulted kind value) c i m k h s skipped bytes = refl
 
 stopped_place : (b : Bool) (h : Hart) → place_of (elim b as (λ x. Hart) [ true ↦ record h { live = false; mark = Some (record { ic = h.state.ic; reason = 5; value = 0 }) } | false ↦ h ]) ≡ place_of h
 stopped_place true h = refl
@@ -218,12 +290,14 @@ other_place (HartOver reason value) h = refl
 other_place (RunOver reason value) h = stopped_place h.live h
 
 own_place : (c : RawSettings) (i : Program) (run : Run) (k : ℕ) → is_orderly c i (run.harts k) (ask_at c i (run.harts k)) ≡ true
-    → place_after c (place_of (run.harts k)) (ask_at c i (run.harts k)) (serve c i run k (ask_at c i (run.harts k))).reply ≡ place_of ((turn c i run k).harts k)
+    → let row = row_at c i run k in place_after c (place_of (run.harts k)) row.ask row.guarded row.reply ≡ place_of ((turn c i run k).harts k)
 unfolding PlaceIs
 own_place c i run k o =
     let ask = ask_at c i (run.harts k) in
-    let reply = ap (λ (s : Served). place_after c (place_of (run.harts k)) ask s.reply) (served c i run k ask o) in
-    reply ∙ sym (ap place_of (own_is c i run k k o (eqb_same k)) ∙ want_place ask.want c i run.machine k (run.harts k) ask.state _)
+    let at = (asked_at c i run k).harts k in
+    ap (λ (s : Served). place_after c (place_of (run.harts k)) ask s.guarded s.reply) (served c i run k ask o)
+    ∙ ap (λ (n : ℕ). place_from c n ask (reply_of c i run k)) (sym (asking_begun (guarded_at c i run k) run k ask))
+    ∙ sym (ap place_of (own_is c i run k k o (eqb_same k)) ∙ want_place ask.want c i run.machine k at ask.state _ _)
 
 differ : (j k : ℕ) → (j ≡ k → ⊥) → (j == k) ≡ false
 differ j k f = elim (eqb_tells j k) [
@@ -231,20 +305,20 @@ differ j k f = elim (eqb_tells j k) [
   | inr p ↦ p.0
 ]
 
-pub own : Laws → (c : RawSettings) (i : Program) (run : Run) (b : List ℕ) (h : ℕ) → IsSetting c → ((j : ℕ) → IsFit c (run.harts j)) → legal_from c i run b ≡ true → IsOwn c i h (place_of (run.harts h)) (rows_by h (rows_from c i run b))
+pub own : Laws → (c : RawSettings) (i : Program) (run : Run) (b : List ℕ) (h : ℕ) → IsSetting c → ((j : ℕ) → IsRested c (run.harts j)) → legal_from c i run b ≡ true → IsOwn c i h (place_of (run.harts h)) (rows_by h (rows_from c i run b))
 own laws c i run [] h setting fit e = tt
 own laws c i run (k ∷ ks) h setting fit e =
     let first = legal_first c i run k ks e in
     let live = both (nat_lt k c.harts) (run.harts k).live first.0 in
     let left = turn_left laws c i run k setting fit live.1 in
-    let o = ordered laws.asks c i (run.harts k) (omega (arith, setting.limit_high)) (fit k) in
+    let o = ordered laws.asks c i (run.harts k) (omega (arith, setting.limit_high)) (fit k).fit in
     let rest = own laws c i (turn c i run k) ks h setting left.fit first.1 in
     let rows = rows_by h (rows_from c i (turn c i run k) ks) in
     let row = row_at c i run k in
     elim (eqb_tells k h) [
       | inl p ↦
-          let place : place_after c (place_of (run.harts h)) row.ask row.reply ≡ place_of ((turn c i run k).harts h) =
-          subst (λ (n : ℕ). place_after c (place_of (run.harts n)) row.ask row.reply ≡ place_of ((turn c i run k).harts n)) p.1 (own_place c i run k o) in
+          let place : place_after c (place_of (run.harts h)) row.ask row.guarded row.reply ≡ place_of ((turn c i run k).harts h) =
+          subst (λ (n : ℕ). place_after c (place_of (run.harts n)) row.ask row.guarded row.reply ≡ place_of ((turn c i run k).harts n)) p.1 (own_place c i run k o) in
           subst (λ (b : Bool). IsOwn c i h (place_of (run.harts h)) (elim b as (λ x. List TurnRow) [ true ↦ row ∷ rows | false ↦ rows ])) (sym p.0)
           ((p.1, ap (λ (n : ℕ). ask_at c i (run.harts n)) p.1, subst (λ (x : Place). IsOwn c i h x rows) (sym place) rest))
       | inr p ↦
@@ -255,26 +329,26 @@ own laws c i run (k ∷ ks) h setting fit e =
 
 -- ---- one turn, and all before it
 
-fit_run : Laws → (c : RawSettings) (i : Program) (run : Run) (b : List ℕ) → IsSetting c → ((j : ℕ) → IsFit c (run.harts j)) → legal_from c i run b ≡ true → (j : ℕ) → IsFit c ((run_from c i run b).harts j)
+fit_run : Laws → (c : RawSettings) (i : Program) (run : Run) (b : List ℕ) → IsSetting c → ((j : ℕ) → IsRested c (run.harts j)) → legal_from c i run b ≡ true → (j : ℕ) → IsRested c ((run_from c i run b).harts j)
 fit_run laws c i run [] setting fit e j = fit j
 fit_run laws c i run (k ∷ ks) setting fit e j =
     let first = legal_first c i run k ks e in
     let live = both (nat_lt k c.harts) (run.harts k).live first.0 in
     fit_run laws c i (turn c i run k) ks setting (turn_left laws c i run k setting fit live.1).fit first.1 j
 
-pub orderly_after : Laws → (c : RawSettings) (i : Program) (run : Run) (b : List ℕ) (k : ℕ) → IsSetting c → ((j : ℕ) → IsFit c (run.harts j)) → legal_from c i run b ≡ true
+pub orderly_after : Laws → (c : RawSettings) (i : Program) (run : Run) (b : List ℕ) (k : ℕ) → IsSetting c → ((j : ℕ) → IsRested c (run.harts j)) → legal_from c i run b ≡ true
     → is_orderly c i ((run_from c i run b).harts k) (ask_at c i ((run_from c i run b).harts k)) ≡ true
-orderly_after laws c i run b k setting fit e = ordered laws.asks c i ((run_from c i run b).harts k) (omega (arith, setting.limit_high)) (fit_run laws c i run b setting fit e k)
+orderly_after laws c i run b k setting fit e = ordered laws.asks c i ((run_from c i run b).harts k) (omega (arith, setting.limit_high)) (fit_run laws c i run b setting fit e k).fit
 
-own_state : (next : Next) (s : HartState) (skipped : ℕ) (h : Hart) → (hart_after next s skipped h).state ≡ s
-own_state GoesOn s skipped h = refl
-own_state (NewInterval reason value) s skipped h = refl
-own_state (HartOver reason value) s skipped h = refl
-own_state (RunOver reason value) s skipped h = refl
+own_state : (next : Next) (s : HartState) (skipped bytes : ℕ) (h : Hart) → (hart_after next s skipped bytes h).state ≡ s
+own_state GoesOn s skipped bytes h = refl
+own_state (NewInterval reason value) s skipped bytes h = refl
+own_state (HartOver reason value) s skipped bytes h = refl
+own_state (RunOver reason value) s skipped bytes h = refl
 
 pub moved : (c : RawSettings) (i : Program) (run : Run) (k : ℕ) → is_orderly c i (run.harts k) (ask_at c i (run.harts k)) ≡ true → ((turn c i run k).harts k).state ≡ absorbed (ask_at c i (run.harts k)) (serve c i run k (ask_at c i (run.harts k))).reply
 moved c i run k o =
-    ap (λ (h : Hart). h.state) (own_is c i run k k o (eqb_same k)) ∙ own_state (next_at c i run k) (state_of c i run k) _ (run.harts k)
+    ap (λ (h : Hart). h.state) (own_is c i run k k o (eqb_same k)) ∙ own_state (next_at c i run k) (state_of c i run k) _ _ ((asked_at c i run k).harts k)
     ∙ sym (ap (λ (s : Served). absorbed (ask_at c i (run.harts k)) s.reply) (served c i run k (ask_at c i (run.harts k)) o))
 
 pub stayed : (c : RawSettings) (i : Program) (run : Run) (k j : ℕ) → is_orderly c i (run.harts k) (ask_at c i (run.harts k)) ≡ true → (j == k) ≡ false → ((turn c i run k).harts j).state ≡ (run.harts j).state

@@ -2,27 +2,29 @@
 //! nothing: their contracts are theorems over the definitions of `run_model`.
 #![tactic(auto)]
 
-ghost use Rattle.run_laws.specs.Laws.{TurnsAreLawful, TurnsAreOwn, RunsEnd, OwnAsksAreOrderly, TurnsMoveTheirHart};
+ghost use Rattle.run_laws.specs.Laws.{TurnsAreLawful, TurnsAreOwn, RunsEnd, OwnAsksAreOrderly, TurnsMoveTheirHart, KeptIsAnEnd};
 
 mod examples;
 
 pub use examples::{a_relay_goes_on_over_intervals, a_seeded_list_ends, seed_0_begins_with_hart_1};
-use run_model::{each_turn_fits, each_turn_moves_on, others_stay_fit};
+use log_ring::laws::a_suffix_is_kept;
+use run_model::{each_turn_fits, each_turn_moves_on, guarded_asks_fit, others_stay_fit};
 use rv_meaning::each_ask_is_orderly;
 
-/// The rows of a legal list of turns are lawful: each one's hart is live, and its reply is the
-/// machine's after the rows before it.
+/// The rows of a legal list of turns are lawful: each one's hart is live, and its reply and
+/// whether its ask was guarded are the machine's after the rows before it.
 pub fn turns_are_lawful()
     ensures { TurnsAreLawful }
 {}
 
 /// Each hart's rows of a legal list are its own: each asks what the hart asks next, given the replies
-/// before it.
+/// and the guards before it.
 pub fn turns_are_own()
     ensures { TurnsAreOwn }
 {
     each_ask_is_orderly();
     each_turn_moves_on();
+    guarded_asks_fit();
     each_turn_fits();
     others_stay_fit();
 }
@@ -33,6 +35,7 @@ pub fn runs_end()
 {
     each_ask_is_orderly();
     each_turn_moves_on();
+    guarded_asks_fit();
     each_turn_fits();
     others_stay_fit();
 }
@@ -43,6 +46,7 @@ pub fn own_asks_are_orderly()
 {
     each_ask_is_orderly();
     each_turn_moves_on();
+    guarded_asks_fit();
     each_turn_fits();
     others_stay_fit();
 }
@@ -52,3 +56,10 @@ pub fn own_asks_are_orderly()
 pub fn turns_move_their_hart()
     ensures { TurnsMoveTheirHart }
 {}
+
+/// What the log keeps of a run is an end of its records.
+pub fn kept_records_are_an_end()
+    ensures { KeptIsAnEnd }
+{
+    a_suffix_is_kept();
+}

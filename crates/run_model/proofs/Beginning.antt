@@ -1,37 +1,49 @@
 -- What is traced before the first turn.
-use Rattle.std.proofs.Common.{◌≡◌, [], ℕ, zero, suc, ◌+◌, ◌-◌, ◌*◌, ◌<◌, List, length, refl, sym, ◌∙◌, ap, subst, arith}
+use Rattle.std.proofs.Common.{◌≡◌, [], ℕ, zero, suc, ◌+◌, ◌-◌, ◌*◌, ◌<◌, ◌≤◌, ◌==◌, Bool, true, false, List, length, refl, sym, ◌∙◌, ap, subst, arith}
+use Rattle.std.specs.Prelude.{if◌then◌else◌}
 use Rattle.bn_base.specs.Programs.{Program}
 use Rattle.bn_base.specs.Ranges.{IsSetting}
 use Rattle.bn_base.specs.declared.settings.RawSettings.{RawSettings}
+use Rattle.bn_base.specs.declared.settings.TheConstants.{HARTS}
 use Rattle.log_ring.specs.Kept.{Held, Holds, held, kept}
+use Rattle.run_model.specs.declared.log.Log.{Log}
 use Rattle.race_log.specs.Stands.{Stands, harts_of, next_turn, next_count}
 use Rattle.run_model.specs.declared.hart.Hart.{Hart}
 use Rattle.run_model.specs.declared.trace.Trace.{Trace}
 use Rattle.run_model.specs.Runs.{start, start_state, first_headers}
-use Rattle.run_model.specs.Counts.{IsFit, turns_left}
+use Rattle.run_model.specs.Counts.{IsRested, turns_left}
 use Rattle.run_model.specs.EachCache.{AreCaches, steps_in}
 use Rattle.run_model.specs.First.{AreFirst, first_hart}
 use Rattle.run_model.specs.Harts.{hart_in, all_left}
 use Rattle.run_model.specs.Plain.{IsTrace, IsTraceFit, everyone}
+use Rattle.run_model.specs.Logs.{IsLog}
+use Rattle.run_model.proofs.Bytes.{headers_have}
 use Rattle.run_model.proofs.Fits.{fit_start}
 use Rattle.run_model.proofs.Owns.{hart_of_run}
+
+most_few : (b : Bool) → (if b then 16 else 8) ≤ HARTS
+most_few true = omega arith
+most_few false = omega arith
 
 -- an empty ring holds no records
 pub empty_holds : (size : ℕ) → Holds (held [] 0 size) []
 unfolding kept
 empty_holds size = record { latest = refl; counted = refl }
 
-pub empty_is : (ring : Held) (size : ℕ) → ring ≡ held [] 0 size → Holds ring []
-empty_is ring size e = subst (λ (r : Held). Holds r []) (sym e) (empty_holds size)
+pub empty_is : (log : Log) (size : ℕ) → log.ring ≡ held [] 0 size → log.bytes ≡ 0 → IsLog log []
+empty_is log size e none = record { holds = subst (λ (r : Held). Holds r []) (sym e) (empty_holds size); bytes = none }
 
-pub trace_begins : (c : RawSettings) (i : Program) (n : ℕ) (old : Held) (t : Trace) (input : List ℕ) → n ≡ c.harts → AreFirst c i n old t.harts.items t.ring → Holds old [] → AreCaches c t.caches (λ k. []) → Stands [] everyone t.shadow
+pub trace_begins : (c : RawSettings) (i : Program) (n : ℕ) (old : Log) (t : Trace) (input : List ℕ) → n ≡ c.harts → AreFirst c i n old t.harts.items t.log → IsLog old [] → AreCaches c t.caches (λ k. []) → Stands [] everyone t.shadow
     → IsTrace c t (start c i input)
-trace_begins c i n old t input e first empty caches shadow = record {
-  harts = first.each;
-  caches = caches;
-  shadow = shadow;
-  log = subst (λ (m : ℕ). Holds t.ring (first_headers c i 0 m)) e (first.log [] empty);
-}
+trace_begins c i n old t input e first empty caches shadow =
+    let log : IsLog t.log (first_headers c i 0 c.harts) = subst (λ (m : ℕ). IsLog t.log (first_headers c i 0 m)) e (first.log [] empty) in
+    record {
+      harts = first.each;
+      caches = caches;
+      shadow = shadow;
+      log = log;
+      bytes = log.bytes ∙ headers_have c i 0 c.harts;
+    }
 
 -- each hart can have one turn more than its limit
 all_first : (c : RawSettings) (i : Program) (n : ℕ) (f : ℕ → Hart) → ((k : ℕ) → k < n → f k ≡ first_hart c i k) → all_left c n f ≡ n * (c.limit + 1)
@@ -41,25 +53,27 @@ all_first c i (suc n) f each =
     let rest = all_first c i n f (λ k below. each k (omega (arith, below))) in
     omega (arith, one, rest)
 
-pub trace_fits : (c : RawSettings) (i : Program) (n : ℕ) (old : Held) (t : Trace) → IsSetting c → n ≡ c.harts → AreFirst c i n old t.harts.items t.ring → old ≡ held [] 0 c.log_size → length t.caches ≡ c.harts → ((k : ℕ) → steps_in t.caches k ≡ 0)
+pub trace_fits : (c : RawSettings) (i : Program) (n : ℕ) (old : Log) (t : Trace) → IsSetting c → n ≡ c.harts → AreFirst c i n old t.harts.items t.log → old.ring ≡ held [] 0 c.log_size → length t.caches ≡ c.harts → ((k : ℕ) → steps_in t.caches k ≡ 0)
     → harts_of t.shadow ≡ c.harts → next_turn t.shadow ≡ 0 → ((k : ℕ) → next_count t.shadow k ≡ 0) → IsTraceFit c t 0
 trace_fits c i n old t settings e first empty caches steps harts turn counts =
     let at : (k : ℕ) → k < c.harts → hart_in t.harts.items k ≡ first_hart c i k = λ k below. hart_of_run t.harts.items k (first_hart c i) first.each (omega (arith, below, first.len, e)) in
-    let size : old.size ≡ c.log_size = ap (λ (r : Held). r.size) empty in
-    let dropped : old.dropped ≡ 0 = ap (λ (r : Held). r.dropped) empty in
-    let none : length old.records ≡ 0 = ap (λ (r : Held). length r.records) empty in
+    let size : old.ring.size ≡ c.log_size = ap (λ (r : Held). r.size) empty in
+    let dropped : old.ring.dropped ≡ 0 = ap (λ (r : Held). r.dropped) empty in
+    let none : length old.ring.records ≡ 0 = ap (λ (r : Held). length r.records) empty in
+    let few : c.harts ≤ HARTS = omega (arith, settings.harts_high, most_few (c.format == 2)) in
     record {
       settings = settings;
+      few = few;
       harts = first.len ∙ e;
       caches = caches;
       shadow = harts;
       each = λ k below. record {
-        fit = subst (λ (h : Hart). IsFit c h) (sym (at k below)) (fit_start c (start_state c i k) refl settings.interval_low);
+        fit = subst (λ (h : Hart). IsRested c h) (sym (at k below)) (fit_start c k (start_state c i k) refl settings.interval_low);
         steps = omega (arith, steps k);
         count = omega (arith, counts k);
       };
       turn = omega (arith, turn);
       left = omega (arith, all_first c i c.harts (hart_in t.harts.items) at);
-      log = omega (arith, first.took.count_is, dropped, none, e, settings.harts_high);
+      log = omega (arith, first.took.count_is, dropped, none, e, few);
       log_size = first.took.size ∙ size;
     }

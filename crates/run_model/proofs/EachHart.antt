@@ -2,6 +2,7 @@
 use Rattle.std.proofs.Common.{arith, refl, subst, ◌≡◌, ◌∙◌, sym, ap, ℕ, ◌+◌, ◌<◌, ◌≤◌, ◌≢◌, ◌⊎◌, inl, inr, List, length, get_or, set, Option, None}
 use Rattle.std.proofs.lemmas.List.{get_or-set_same, get_or-set_other, length-set}
 use Rattle.std.proofs.lemmas.Bool.{cases_eq}
+use Rattle.bn_base.specs.declared.settings.TheConstants.{HARTS}
 use Rattle.run_model.specs.Parts.{AreReserved}
 
 -- the reservations of the harts below k are changed by g, and the others are as they were
@@ -27,5 +28,5 @@ changed_more g k old now v below is c = record {
     done j h (inr other) = get_or-set_other now k j v None other ∙ c.done j (omega arith)
 
 -- once all are changed, they stand for the changed map
-pub changed_all : (g : ℕ → Option ℕ → Option ℕ) (k : ℕ) (old now : List (Option ℕ)) (f : ℕ → Option ℕ) → 8 ≤ k → Changed g k old now → AreReserved old f → AreReserved now (λ j. g j (f j))
+pub changed_all : (g : ℕ → Option ℕ → Option ℕ) (k : ℕ) (old now : List (Option ℕ)) (f : ℕ → Option ℕ) → HARTS ≤ k → Changed g k old now → AreReserved old f → AreReserved now (λ j. g j (f j))
 changed_all g k old now f all c r = record { at = λ j h. c.done j (omega arith) ∙ ap (g j) (r.at j h) }

@@ -10,7 +10,7 @@ use Rattle.run_model.specs.declared.hart.Hart.{Hart}
 use Rattle.run_model.specs.declared.trace.Trace.{Trace}
 use Rattle.run_model.specs.Turn.{dead}
 use Rattle.run_model.specs.Runs.{most_turns}
-use Rattle.run_model.specs.Counts.{IsFit, turns_left}
+use Rattle.run_model.specs.Counts.{IsRested, turns_left}
 use Rattle.run_model.specs.Harts.{AreHarts, alive, hart_in, all_left, no_hart}
 use Rattle.run_model.specs.Plain.{IsTraceFit, IsHartFit}
 use Rattle.run_model.proofs.OneTurn.{alive_in}
@@ -70,12 +70,14 @@ some_left c n k f within live =
     let one : turns_left c (f k) ≡ c.limit - (f k).state.ic + 1 = ap (λ b. elim b [ true ↦ c.limit - (f k).state.ic + 1 | false ↦ 0 ]) live in
     omega (arith, one, part_left c n k f within)
 
-fit_dead : (c : RawSettings) (h : Hart) → IsFit c h → IsFit c (dead h)
-fit_dead c h fit = record { number = fit.number; skipped = fit.skipped; interval = fit.interval; limit = fit.limit; unfilled = λ p. cc }
+fit_dead : (c : RawSettings) (h : Hart) → IsRested c h → IsRested c (dead h)
+fit_dead c h rested =
+    let fit = rested.fit in
+    record { fit = record { number = fit.number; skipped = fit.skipped; interval = fit.interval; limit = fit.limit; unfilled = λ p. cc }; number = λ p. cc }
 
 hart_fit : (c : RawSettings) (t : Trace) (v : Vec Hart Global) (k : ℕ) → hart_in v.items k ≡ dead (hart_in t.harts.items k) → IsHartFit c t k → IsHartFit c (record t { harts = v }) k
 hart_fit c t v k e fit = record {
-  fit = subst (λ (h : Hart). IsFit c h) (sym e) (fit_dead c (hart_in t.harts.items k) fit.fit);
+  fit = subst (λ (h : Hart). IsRested c h) (sym e) (fit_dead c (hart_in t.harts.items k) fit.fit);
   steps = omega (arith, fit.steps, ap (λ (h : Hart). h.state.ic) e, ap (λ (h : Hart). h.number) e);
   count = omega (arith, fit.count, ap (λ (h : Hart). h.state.ic) e);
 }
@@ -86,6 +88,7 @@ ended_fits c t v turns later e fit up most =
     let none = none_left c c.harts (hart_in v.items) (λ k below. ap (turns_left c) (at k below)) in
     record {
       settings = fit.settings;
+      few = fit.few;
       harts = e.len ∙ fit.harts;
       caches = fit.caches;
       shadow = fit.shadow;

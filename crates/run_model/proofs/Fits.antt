@@ -1,5 +1,5 @@
 -- The counts of a hart stay within the settings, and fewer turns are left after each.
-use Rattle.std.proofs.Common.{◌≡◌, ℕ, ◌+◌, ◌-◌, ◌<◌, ◌≤◌, Bool, true, false, List, Option, Some, None, refl, ap, arith}
+use Rattle.std.proofs.Common.{◌≡◌, ℕ, ◌+◌, ◌-◌, ◌<◌, ◌≤◌, Bool, true, false, List, Option, Some, None, refl, ap, arith, nat_le, nat_lt, ◌&&◌}
 use Rattle.std.specs.Prelude.{if◌then◌else◌}
 use Rattle.bn_base.specs.declared.settings.RawSettings.{RawSettings}
 use Rattle.bn_base.specs.declared.state.HartState.{HartState}
@@ -11,10 +11,15 @@ use Rattle.run_model.specs.declared.hart.Hart.{Hart}
 use Rattle.run_model.specs.declared.next.Next.{Next}
 use Rattle.run_model.specs.declared.next.Next.TheVariants.{GoesOn, NewInterval, HartOver, RunOver}
 use Rattle.run_model.specs.declared.span.Span.{Span}
-use Rattle.run_model.specs.Turn.{warmth, skipped_after, hart_after, stopped, other_after, mark}
+use Rattle.run_model.specs.Turn.{budget, is_orderly, warmth, skipped_after, hart_after, stopped, other_after, mark}
 use Rattle.run_model.specs.Runs.{start_hart}
-use Rattle.run_model.specs.Counts.{IsFit, MovesOn, turns_left}
-use Rattle.run_model.proofs.MoveOn.{budget_interval, budget_limit}
+use Rattle.run_model.specs.Counts.{IsFit, IsRested, MovesOn, turns_left, anew, GuardedAsksFit}
+use Rattle.run_model.proofs.MoveOn.{budget_interval, budget_limit, InBudget, in_budget, both}
+use Rattle.std.proofs.lemmas.Grind.{common_steps}
+use Rattle.bn_base.specs.Programs.{Program}
+use Rattle.rv_meaning.specs.Orderly.{is_cut, passes}
+use Rattle.rv_meaning.specs.declared.asks.Want.{Want}
+use Rattle.rv_meaning.specs.declared.asks.Want.TheVariants.{Load, Store, LoadReserved, StoreConditional, Amo, System, Cut, Faulted}
 
 skip_by : (b : Bool) (skipped begun low after : ℕ) → begun + skipped ≤ low → after ≡ low + 1 → begun + skipped_after (Some (if b then answers.Warm else answers.Cold)) skipped ≤ after
 skip_by true skipped begun low after e a = omega (arith, e, a)
@@ -36,54 +41,62 @@ after_bounds c h asked after next span load fit on = record {
   limit = omega (arith, on.high, budget_limit c h, fit.limit);
 }
 
-pub fit_by : (next : Next) (c : RawSettings) (h : Hart) (asked : ℕ) (s : HartState) (span : Option Span) (load : Option ℕ) (skipped : ℕ) → 1 ≤ c.interval → IsFit c h → MovesOn c h asked s.ic next span load → h.begun + skipped ≤ s.ic
-    → IsFit c (hart_after next s skipped h)
-fit_by GoesOn c h asked s span load skipped some fit on skip =
+pub fit_by : (next : Next) (c : RawSettings) (h : Hart) (asked : ℕ) (s : HartState) (span : Option Span) (load : Option ℕ) (skipped bytes : ℕ) → 1 ≤ c.interval → IsFit c h → MovesOn c h asked s.ic next span load → h.begun + skipped ≤ s.ic
+    → IsRested c (hart_after next s skipped bytes h)
+fit_by GoesOn c h asked s span load skipped bytes some fit on skip =
     let b = after_bounds c h asked s.ic GoesOn span load fit on in
-    record { number = fit.number; skipped = skip; interval = b.interval; limit = b.limit; unfilled = λ p. on.within refl }
-fit_by (NewInterval reason value) c h asked s span load skipped some fit on skip =
+    record {
+      fit = record { number = omega (arith, fit.number, on.on refl); skipped = skip; interval = b.interval; limit = b.limit; unfilled = λ p. on.within refl };
+      number = λ p. omega (arith, fit.number, on.on refl);
+    }
+fit_by (NewInterval reason value) c h asked s span load skipped bytes some fit on skip =
     let b = after_bounds c h asked s.ic (NewInterval reason value) span load fit on in
     record {
-      number = omega (arith, on.on refl, fit.number, fit.skipped);
-      skipped = omega arith;
-      interval = omega arith;
-      limit = b.limit;
-      unfilled = λ p. omega (arith, some);
+      fit = record {
+        number = omega (arith, on.on refl, fit.number, fit.skipped);
+        skipped = omega arith;
+        interval = omega arith;
+        limit = b.limit;
+        unfilled = λ p. omega (arith, some);
+      };
+      number = λ p. omega (arith, on.on refl, fit.number, fit.skipped);
     }
-fit_by (HartOver reason value) c h asked s span load skipped some fit on skip =
+fit_by (HartOver reason value) c h asked s span load skipped bytes some fit on skip =
     let b = after_bounds c h asked s.ic (HartOver reason value) span load fit on in
-    record { number = fit.number; skipped = skip; interval = b.interval; limit = b.limit; unfilled = λ p. cc }
-fit_by (RunOver reason value) c h asked s span load skipped some fit on skip =
+    record { fit = record { number = omega (arith, fit.number, on.from, on.low); skipped = skip; interval = b.interval; limit = b.limit; unfilled = λ p. cc }; number = λ p. cc }
+fit_by (RunOver reason value) c h asked s span load skipped bytes some fit on skip =
     let b = after_bounds c h asked s.ic (RunOver reason value) span load fit on in
-    record { number = fit.number; skipped = skip; interval = b.interval; limit = b.limit; unfilled = λ p. cc }
+    record { fit = record { number = omega (arith, fit.number, on.from, on.low); skipped = skip; interval = b.interval; limit = b.limit; unfilled = λ p. cc }; number = λ p. cc }
 
-pub fit_after : (c : RawSettings) (h : Hart) (asked : ℕ) (s : HartState) (next : Next) (span : Option Span) (load : Option ℕ) (es : List Event) → 1 ≤ c.interval → IsFit c h → MovesOn c h asked s.ic next span load
-    → IsFit c (hart_after next s (skipped_after (warmth c load es) h.skipped) h)
-fit_after c h asked s next span load es some fit on = fit_by next c h asked s span load _ some fit on (skip_bound load c h asked s.ic next span es fit on)
+pub fit_after : (c : RawSettings) (h : Hart) (asked bytes : ℕ) (s : HartState) (next : Next) (span : Option Span) (load : Option ℕ) (es : List Event) → 1 ≤ c.interval → IsFit c h → MovesOn c h asked s.ic next span load
+    → IsRested c (hart_after next s (skipped_after (warmth c load es) h.skipped) bytes h)
+fit_after c h asked bytes s next span load es some fit on = fit_by next c h asked s span load _ bytes some fit on (skip_bound load c h asked s.ic next span es fit on)
 
 left_live : (c : RawSettings) (h : Hart) → h.live ≡ true → turns_left c h ≡ c.limit - h.state.ic + 1
 left_live c h live = ap (λ (b : Bool). elim b [ true ↦ c.limit - h.state.ic + 1 | false ↦ 0 ]) live
 
 -- fewer turns are left
-pub fewer_left : (next : Next) (c : RawSettings) (h : Hart) (asked : ℕ) (s : HartState) (span : Option Span) (load : Option ℕ) (skipped : ℕ) → h.live ≡ true → IsFit c h → MovesOn c h asked s.ic next span load
-    → turns_left c (hart_after next s skipped h) < turns_left c h
-fewer_left GoesOn c h asked s span load skipped live fit on =
+pub fewer_left : (next : Next) (c : RawSettings) (h : Hart) (asked : ℕ) (s : HartState) (span : Option Span) (load : Option ℕ) (skipped bytes : ℕ) → h.live ≡ true → IsFit c h → MovesOn c h asked s.ic next span load
+    → turns_left c (hart_after next s skipped bytes h) < turns_left c h
+fewer_left GoesOn c h asked s span load skipped bytes live fit on =
     let b = after_bounds c h asked s.ic GoesOn span load fit on in
-    omega (arith, left_live c h live, left_live c (hart_after GoesOn s skipped h) live, on.on refl, b.limit)
-fewer_left (NewInterval reason value) c h asked s span load skipped live fit on =
+    omega (arith, left_live c h live, left_live c (hart_after GoesOn s skipped bytes h) live, on.on refl, b.limit)
+fewer_left (NewInterval reason value) c h asked s span load skipped bytes live fit on =
     let b = after_bounds c h asked s.ic (NewInterval reason value) span load fit on in
-    omega (arith, left_live c h live, left_live c (hart_after (NewInterval reason value) s skipped h) live, on.on refl, b.limit)
-fewer_left (HartOver reason value) c h asked s span load skipped live fit on = omega (arith, left_live c h live)
-fewer_left (RunOver reason value) c h asked s span load skipped live fit on = omega (arith, left_live c h live)
+    omega (arith, left_live c h live, left_live c (hart_after (NewInterval reason value) s skipped bytes h) live, on.on refl, b.limit)
+fewer_left (HartOver reason value) c h asked s span load skipped bytes live fit on = omega (arith, left_live c h live)
+fewer_left (RunOver reason value) c h asked s span load skipped bytes live fit on = omega (arith, left_live c h live)
 
-fit_stop : (b : Bool) (c : RawSettings) (h : Hart) → IsFit c h → IsFit c (elim b as (λ x. Hart) [ true ↦ record h { live = false; mark = Some (mark h.state.ic 5 0) } | false ↦ h ])
-fit_stop true c h fit = record { number = fit.number; skipped = fit.skipped; interval = fit.interval; limit = fit.limit; unfilled = λ p. cc }
-fit_stop false c h fit = fit
+fit_stop : (b : Bool) (c : RawSettings) (h : Hart) → IsRested c h → IsRested c (elim b as (λ x. Hart) [ true ↦ record h { live = false; mark = Some (mark h.state.ic 5 0) } | false ↦ h ])
+fit_stop true c h rested =
+    let fit = rested.fit in
+    record { fit = record { number = fit.number; skipped = fit.skipped; interval = fit.interval; limit = fit.limit; unfilled = λ p. cc }; number = λ p. cc }
+fit_stop false c h rested = rested
 
-pub fit_stopped : (c : RawSettings) (h : Hart) → IsFit c h → IsFit c (stopped h)
+pub fit_stopped : (c : RawSettings) (h : Hart) → IsRested c h → IsRested c (stopped h)
 fit_stopped c h fit = fit_stop h.live c h fit
 
-pub fit_other : (next : Next) (c : RawSettings) (h : Hart) → IsFit c h → IsFit c (other_after next h)
+pub fit_other : (next : Next) (c : RawSettings) (h : Hart) → IsRested c h → IsRested c (other_after next h)
 fit_other GoesOn c h fit = fit
 fit_other (NewInterval reason value) c h fit = fit
 fit_other (HartOver reason value) c h fit = fit
@@ -101,5 +114,58 @@ no_more_left (HartOver reason value) c h = omega arith
 no_more_left (RunOver reason value) c h = no_more_by h.live c h refl
 
 -- a hart before its first turn
-pub fit_start : (c : RawSettings) (s : HartState) → s.ic ≡ 0 → 1 ≤ c.interval → IsFit c (start_hart s)
-fit_start c s e some = record { number = omega arith; skipped = omega (arith, e); interval = omega (arith, e); limit = omega (arith, e); unfilled = λ p. omega (arith, e, some) }
+pub fit_start : (c : RawSettings) (k : ℕ) (s : HartState) → s.ic ≡ 0 → 1 ≤ c.interval → IsRested c (start_hart k s)
+fit_start c k s e some = record {
+  fit = record { number = omega arith; skipped = omega (arith, e); interval = omega (arith, e); limit = omega (arith, e); unfilled = λ p. omega (arith, e, some) };
+  number = λ p. omega arith;
+}
+
+-- ---- a guarded ask
+
+some_more : (c : RawSettings) (h : Hart) (s : HartState) (bytes : ℕ) → 1 ≤ c.interval → s.ic < c.limit → 0 < budget c (anew s bytes h)
+some_more c h s bytes some below = grind (arith, common_steps)
+
+lt_is : (a b : ℕ) → a < b → nat_lt a b ≡ true
+lt_is a b e = grind arith
+
+le_is : (a b : ℕ) → a ≤ b → nat_le a b ≡ true
+le_is a b e = grind arith
+
+-- its count is below the limit
+pub guarded_below : (c : RawSettings) (h : Hart) (asked : ℕ) → IsFit c h → InBudget c h asked → asked < c.limit
+guarded_below c h asked fit b = omega (arith, b.from, b.below, budget_limit c h, fit.limit)
+
+pub counted_by : (c : RawSettings) (i : Program) (h : Hart) (s : HartState) (want : Want) → is_cut want ≡ false → is_orderly c i h (record { state = s; want = want }) ≡ true
+    → InBudget c h s.ic × (passes i want ≡ true)
+counted_by c i h s (Load a w g rd) cut e = (in_budget c h s.ic (both _ _ e).0, (both _ _ e).1)
+counted_by c i h s (LoadReserved a rd) cut e = (in_budget c h s.ic (both _ _ e).0, (both _ _ e).1)
+counted_by c i h s (Store a w v) cut e = (in_budget c h s.ic (both _ _ e).0, (both _ _ e).1)
+counted_by c i h s (Amo a o rd v) cut e = (in_budget c h s.ic (both _ _ e).0, (both _ _ e).1)
+counted_by c i h s (StoreConditional a rd v) cut e = (in_budget c h s.ic (both _ _ e).0, (both _ _ e).1)
+counted_by c i h s (System number args) cut e = (in_budget c h s.ic (both _ _ e).0, (both _ _ e).1)
+counted_by c i h s Cut cut e = cc
+counted_by c i h s (Faulted kind value) cut e = (in_budget c h s.ic (both _ _ e).0, (both _ _ e).1)
+
+both_is : (a b : Bool) → a ≡ true → b ≡ true → (a && b) ≡ true
+both_is a b e f = rw (e, f) refl
+
+orderly_anew : (c : RawSettings) (i : Program) (h : Hart) (s : HartState) (want : Want) (bytes : ℕ) → is_cut want ≡ false → 0 < budget c (anew s bytes h) → passes i want ≡ true
+    → is_orderly c i (anew s bytes h) (record { state = s; want = want }) ≡ true
+orderly_anew c i h s want bytes cut some pass =
+    rw (cut, pass, le_is s.ic s.ic (omega arith), lt_is s.ic (s.ic + budget c (anew s bytes h)) (omega (arith, some))) refl
+
+pub guarded_fits : GuardedAsksFit
+guarded_fits c i h bytes ask some rested live orderly cut =
+    let fit = rested.fit in
+    let by = counted_by c i h ask.state ask.want cut orderly in
+    let below = guarded_below c h ask.state.ic fit by.0 in (
+      record {
+        number = omega (arith, rested.number live, by.0.from, fit.skipped);
+        skipped = omega arith;
+        interval = omega arith;
+        limit = omega (arith, below);
+        unfilled = λ p. omega (arith, some);
+      },
+      orderly_anew c i h ask.state ask.want bytes cut (some_more c h ask.state bytes some below) by.1,
+      omega (arith, left_live c h live, left_live c (anew ask.state bytes h) live, by.0.from),
+    )

@@ -3,6 +3,7 @@ pub mod Histories
 pub mod Moved
 pub mod Spans
 pub mod Worked
+pub mod GuardsWorked
 pub mod MoveOn
 pub mod Edges
 pub mod Fits
@@ -15,3 +16,6 @@ pub mod Firsts
 pub mod Beginning
 pub mod OneTurn
 pub mod Ending
+pub mod FormatOne
+pub mod Bytes
+pub mod Alike

@@ -146,7 +146,7 @@ pub record InBudget (c : RawSettings) (h : Hart) (asked : ℕ) : Type 0 where
   pub from : h.state.ic ≤ asked
   pub below : asked < h.state.ic + budget c h
 
-in_budget : (c : RawSettings) (h : Hart) (asked : ℕ) → (nat_le h.state.ic asked && nat_lt asked (h.state.ic + budget c h)) ≡ true → InBudget c h asked
+pub in_budget : (c : RawSettings) (h : Hart) (asked : ℕ) → (nat_le h.state.ic asked && nat_lt asked (h.state.ic + budget c h)) ≡ true → InBudget c h asked
 in_budget c h asked e = record { from = le_of _ _ (both _ _ e).0; below = lt_of _ _ (both (nat_le h.state.ic asked) _ e).1 }
 
 sc_moves : (b : Bool) (c : RawSettings) (h : Hart) (s : HartState) (a rd v k : ℕ) (m : Machine) → c.limit < 2 ^ 63 → IsFit c h → InBudget c h s.ic

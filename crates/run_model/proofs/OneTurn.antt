@@ -9,7 +9,7 @@ use Rattle.rv_meaning.specs.Orderly.{orderly, is_counted, passes}
 use Rattle.system_calls.specs.declared.effect.Plan.{Plan}
 use Rattle.run_model.specs.declared.hart.Hart.{Hart}
 use Rattle.run_model.specs.Machine.{call_of}
-use Rattle.run_model.specs.Turn.{Run, serve, serve_call, serve_orderly, served_if, turn, ask_at, is_orderly, budget}
+use Rattle.run_model.specs.Turn.{Run, serve, serve_call, serve_orderly, served_if, turn, ask_at, is_orderly, is_guarded, budget}
 use Rattle.run_model.specs.Counts.{IsFit}
 use Rattle.run_model.specs.Harts.{alive, hart_in}
 use Rattle.run_model.proofs.MoveOn.{budget_limit, both}
@@ -31,10 +31,10 @@ small_count c x b high fit e = omega (arith, high, fit.limit, e, budget_limit c 
 pub passes_of : (c : RawSettings) (i : Program) (h : Hart) (ask : Ask) → IsTrue (is_orderly c i h ask) → IsTrue (passes i ask.want)
 passes_of c i h ask e = (both (is_counted h.state.ic (budget c h) ask.want ask.state.ic) (passes i ask.want) e).1
 
-pub turn_is : (c : RawSettings) (i : Program) (run : Run) (k : ℕ) (ask : Ask) (call : Option Plan) → ask ≡ ask_at c i (run.harts k) → call ≡ call_of i run.machine ask.want → IsTrue (is_orderly c i (run.harts k) ask) → (serve_call c run k ask call).run ≡ turn c i run k
+pub turn_is : (c : RawSettings) (i : Program) (run : Run) (k : ℕ) (ask : Ask) (call : Option Plan) → ask ≡ ask_at c i (run.harts k) → call ≡ call_of i run.machine ask.want → IsTrue (is_orderly c i (run.harts k) ask) → (serve_call c run k ask (is_guarded c run k ask.want) call).run ≡ turn c i run k
 unfolding serve
 turn_is c i run k ask call ea ec o =
-    let q : (serve_call c run k ask call).run ≡ (serve_orderly c i run k ask).run = ap (λ (x : Option Plan). (serve_call c run k ask x).run) ec in
+    let q : (serve_call c run k ask (is_guarded c run k ask.want) call).run ≡ (serve_orderly c i run k ask).run = ap (λ (x : Option Plan). (serve_call c run k ask (is_guarded c run k ask.want) x).run) ec in
     let p : (served_if (is_orderly c i (run.harts k) ask) c i run k ask).run ≡ (serve_orderly c i run k ask).run = ap (λ (b : Bool). (served_if b c i run k ask).run) o in
     q ∙ sym p ∙ ap (λ (a : Ask). (served_if (is_orderly c i (run.harts k) a) c i run k a).run) ea
 

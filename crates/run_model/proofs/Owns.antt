@@ -22,22 +22,22 @@ hart_at hs k x within e = e ∙ get_or_from_slice_get hs k (hart_in hs k) x (sli
 pub hart_of_run : (hs : List Hart) (k : ℕ) (f : ℕ → Hart) → AreHarts hs f → k < length hs → hart_in hs k ≡ f k
 hart_of_run hs k f are within = get_or_from_slice_get hs k (f k) _ (are k within)
 
-after_same : (next : Next) (s : HartState) (skipped : ℕ) (h : Hart) → hart_after next s skipped (record h { state = s }) ≡ hart_after next s skipped h
-after_same GoesOn s skipped h = refl
-after_same (NewInterval reason value) s skipped h = refl
-after_same (HartOver reason value) s skipped h = refl
-after_same (RunOver reason value) s skipped h = refl
+after_same : (next : Next) (s : HartState) (skipped bytes : ℕ) (h : Hart) → hart_after next s skipped bytes (record h { state = s }) ≡ hart_after next s skipped bytes h
+after_same GoesOn s skipped bytes h = refl
+after_same (NewInterval reason value) s skipped bytes h = refl
+after_same (HartOver reason value) s skipped bytes h = refl
+after_same (RunOver reason value) s skipped bytes h = refl
 
 pub next_is : (c : RawSettings) (call : Option Plan) (want : Want) (reply : Reply) (x h a : Hart) (s : HartState) (n : Next) → x ≡ h → a ≡ record x { state = s } → n ≡ next_of c call x want reply a.state.ic → n ≡ next_of c call h want reply s.ic
 next_is c call want reply x h a s n ex ea en =
     en ∙ ap (λ (y : Hart). next_of c call y want reply a.state.ic) ex ∙ ap (λ (y : Hart). next_of c call h want reply y.state.ic) ea
 
-pub own_is : (c : RawSettings) (call : Option Plan) (want : Want) (reply : Reply) (load : Option Warm) (x h a own : Hart) (s : HartState) (n : Next) (k : ℕ) → x ≡ h → a ≡ record x { state = s } → n ≡ next_of c call x want reply a.state.ic
-    → k ≡ skipped_after load x.skipped → own ≡ hart_after n a.state k a → own ≡ hart_after (next_of c call h want reply s.ic) s (skipped_after load h.skipped) h
-own_is c call want reply load x h a own s n k ex ea en ek eo =
+pub own_is : (c : RawSettings) (call : Option Plan) (want : Want) (reply : Reply) (load : Option Warm) (x h a own : Hart) (s : HartState) (n : Next) (k bytes : ℕ) → x ≡ h → a ≡ record x { state = s } → n ≡ next_of c call x want reply a.state.ic
+    → k ≡ skipped_after load x.skipped → own ≡ hart_after n a.state k bytes a → own ≡ hart_after (next_of c call h want reply s.ic) s (skipped_after load h.skipped) bytes h
+own_is c call want reply load x h a own s n k bytes ex ea en ek eo =
     let next = next_of c call h want reply s.ic in
     let changed : a ≡ record h { state = s } = ea ∙ ap (λ (y : Hart). record y { state = s }) ex in
-    eo ∙ ap (λ (m : Next). hart_after m a.state k a) (next_is c call want reply x h a s n ex ea en)
-    ∙ ap (λ (j : ℕ). hart_after next a.state j a) (ek ∙ ap (λ (y : Hart). skipped_after load y.skipped) ex)
-    ∙ ap (λ (y : Hart). hart_after next y.state (skipped_after load h.skipped) y) changed
-    ∙ after_same next s (skipped_after load h.skipped) h
+    eo ∙ ap (λ (m : Next). hart_after m a.state k bytes a) (next_is c call want reply x h a s n ex ea en)
+    ∙ ap (λ (j : ℕ). hart_after next a.state j bytes a) (ek ∙ ap (λ (y : Hart). skipped_after load y.skipped) ex)
+    ∙ ap (λ (y : Hart). hart_after next y.state (skipped_after load h.skipped) bytes y) changed
+    ∙ after_same next s (skipped_after load h.skipped) bytes h

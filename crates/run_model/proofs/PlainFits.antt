@@ -20,7 +20,7 @@ use Rattle.run_model.specs.declared.span.Span.{Span}
 use Rattle.run_model.specs.declared.trace.Trace.{Trace}
 use Rattle.run_model.specs.Machine.{Machine, answer, call_of}
 use Rattle.run_model.specs.Turn.{is_orderly, span_of, next_of, loading, hart_after, harts_after, other_after, skipped_after}
-use Rattle.run_model.specs.Counts.{IsFit, MovesOn, AskMovesOn, turns_left, is_there, is_loading}
+use Rattle.run_model.specs.Counts.{IsRested, MovesOn, AskMovesOn, turns_left, is_there, is_loading}
 use Rattle.run_model.specs.EachCache.{steps_in, touched_word, touches}
 use Rattle.run_model.specs.Harts.{AreHarts, hart_in, all_left}
 use Rattle.run_model.specs.Logs.{taken}
@@ -35,17 +35,17 @@ skip_any None h low after fit a b on = omega (arith, fit, a, b)
 skip_any (Some answers.Warm) h low after fit a b on = omega (arith, fit, a, on refl)
 skip_any (Some answers.Cold) h low after fit a b on = omega (arith, fit, a, b)
 
-ic_after : (next : Next) (s : HartState) (skipped : ℕ) (h : Hart) → (hart_after next s skipped h).state.ic ≡ s.ic
-ic_after GoesOn s skipped h = refl
-ic_after (NewInterval reason value) s skipped h = refl
-ic_after (HartOver reason value) s skipped h = refl
-ic_after (RunOver reason value) s skipped h = refl
+ic_after : (next : Next) (s : HartState) (skipped bytes : ℕ) (h : Hart) → (hart_after next s skipped bytes h).state.ic ≡ s.ic
+ic_after GoesOn s skipped bytes h = refl
+ic_after (NewInterval reason value) s skipped bytes h = refl
+ic_after (HartOver reason value) s skipped bytes h = refl
+ic_after (RunOver reason value) s skipped bytes h = refl
 
-number_after : (next : Next) (s : HartState) (skipped : ℕ) (h : Hart) → h.number + clears next ≤ (hart_after next s skipped h).number
-number_after GoesOn s skipped h = omega arith
-number_after (NewInterval reason value) s skipped h = omega arith
-number_after (HartOver reason value) s skipped h = omega arith
-number_after (RunOver reason value) s skipped h = omega arith
+number_after : (next : Next) (s : HartState) (skipped bytes : ℕ) (h : Hart) → h.number + clears next ≤ (hart_after next s skipped bytes h).number
+number_after GoesOn s skipped bytes h = omega arith
+number_after (NewInterval reason value) s skipped bytes h = omega arith
+number_after (HartOver reason value) s skipped bytes h = omega arith
+number_after (RunOver reason value) s skipped bytes h = omega arith
 
 -- ---- the others
 
@@ -92,7 +92,7 @@ pub record Steps (c : RawSettings) (old new : Trace) (turns k : ℕ) (ask : Ask)
       let h = hart_in old.harts.items k in
       let s = absorbed ask reply in
       let next = next_of c call h ask.want reply s.ic in
-      AreHarts new.harts.items (harts_after next k (hart_after next s (skipped_after load h.skipped) h) f)
+      AreHarts new.harts.items (harts_after next k (hart_after next s (skipped_after load h.skipped) new.log.bytes h) f)
   pub len : length new.harts.items ≡ length old.harts.items
   pub caches : length new.caches ≡ length old.caches
   pub steps : (j : ℕ) → steps_in new.caches j ≡ (if j == k then steps_in old.caches j + touches (touched_word call (span_of call ask.want reply)) + clears (next_of c call (hart_in old.harts.items k) ask.want reply (absorbed ask reply).ic) else steps_in old.caches j)
@@ -101,8 +101,8 @@ pub record Steps (c : RawSettings) (old new : Trace) (turns k : ℕ) (ask : Ask)
   pub turn : next_turn new.shadow ≤ turns + 1
   pub next : next_count new.shadow k ≤ count_after (span_of call ask.want reply) ask.state.ic (next_count old.shadow k)
   pub others : (j : ℕ) → j ≢ k → next_count new.shadow j ≡ next_count old.shadow j
-  pub took : taken new.ring ≤ taken old.ring + 20
-  pub size : new.ring.size ≡ old.ring.size
+  pub took : taken new.log.ring ≤ taken old.log.ring + 36
+  pub size : new.log.ring.size ≡ old.log.ring.size
 
 touched_less : (call : Option Plan) (span : Option Span) (low after : ℕ) → low ≤ after → (is_there span ≡ true → after ≡ low + 1) → low + touches (touched_word call span) ≤ after
 touched_less None None low after a on = omega (arith, a)
@@ -139,20 +139,20 @@ if_false b x y e = ap (λ (t : Bool). if t then x else y) e
 -- the hart whose turn it was
 own_hart : (c : RawSettings) (old new : Trace) (turns k : ℕ) (ask : Ask) (call : Option Plan) (reply : Reply) (load : Option Warm) (next : Next) (own : Hart)
     → let h = hart_in old.harts.items k in let s = absorbed ask reply in
-    next ≡ next_of c call h ask.want reply s.ic → own ≡ hart_after next s (skipped_after load h.skipped) h → 1 ≤ c.interval → IsHartFit c old k → MovesOn c h ask.state.ic s.ic next (span_of call ask.want reply) (loading ask.want)
+    next ≡ next_of c call h ask.want reply s.ic → own ≡ hart_after next s (skipped_after load h.skipped) new.log.bytes h → 1 ≤ c.interval → IsHartFit c old k → MovesOn c h ask.state.ic s.ic next (span_of call ask.want reply) (loading ask.want)
     → Steps c old new turns k ask call reply load → hart_in new.harts.items k ≡ own → (k == k) ≡ true → IsHartFit c new k
 own_hart c old new turns k ask call reply load next own en eo some fit on st at same =
     let h = hart_in old.harts.items k in let s = absorbed ask reply in
     let span = span_of call ask.want reply in
-    let is : hart_in new.harts.items k ≡ hart_after next s (skipped_after load h.skipped) h = at ∙ eo in
-    let fits = fit_by next c h ask.state.ic s span (loading ask.want) (skipped_after load h.skipped) some fit.fit on (skip_any load h ask.state.ic s.ic fit.fit.skipped on.from on.low (λ e. on.loaded (st.loading e))) in
-    let ic : (hart_in new.harts.items k).state.ic ≡ s.ic = ap (λ (x : Hart). x.state.ic) is ∙ ic_after next s _ h in
-    let number : (hart_in new.harts.items k).number ≡ (hart_after next s (skipped_after load h.skipped) h).number = ap (λ (x : Hart). x.number) is in
+    let is : hart_in new.harts.items k ≡ hart_after next s (skipped_after load h.skipped) new.log.bytes h = at ∙ eo in
+    let fits = fit_by next c h ask.state.ic s span (loading ask.want) (skipped_after load h.skipped) new.log.bytes some fit.fit.fit on (skip_any load h ask.state.ic s.ic fit.fit.fit.skipped on.from on.low (λ e. on.loaded (st.loading e))) in
+    let ic : (hart_in new.harts.items k).state.ic ≡ s.ic = ap (λ (x : Hart). x.state.ic) is ∙ ic_after next s _ _ h in
+    let number : (hart_in new.harts.items k).number ≡ (hart_after next s (skipped_after load h.skipped) new.log.bytes h).number = ap (λ (x : Hart). x.number) is in
     let stepped : steps_in new.caches k ≡ steps_in old.caches k + touches (touched_word call span) + clears (next_of c call h ask.want reply s.ic) = st.steps k ∙ if_true (k == k) _ _ same in
     let cleared : clears (next_of c call h ask.want reply s.ic) ≡ clears next = ap clears (sym en) in
     record {
-      fit = subst (λ (x : Hart). IsFit c x) (sym is) fits;
-      steps = omega (arith, stepped, cleared, fit.steps, touched_less call span ask.state.ic s.ic on.low on.accessed, on.from, ic, number, number_after next s (skipped_after load h.skipped) h);
+      fit = subst (λ (x : Hart). IsRested c x) (sym is) fits;
+      steps = omega (arith, stepped, cleared, fit.steps, touched_less call span ask.state.ic s.ic on.low on.accessed, on.from, ic, number, number_after next s (skipped_after load h.skipped) new.log.bytes h);
       count = omega (arith, st.next, ic, counted_less span ask.state.ic (next_count old.shadow k) s.ic (omega (arith, fit.count, on.from)) on.low on.accessed);
     }
 
@@ -165,7 +165,7 @@ other_hart c old new turns k j ask call reply load next fit st at apart differ =
     let number : (hart_in new.harts.items j).number ≡ h.number = ap (λ (x : Hart). x.number) at ∙ other_number next h in
     let stepped : steps_in new.caches j ≡ steps_in old.caches j = st.steps j ∙ if_false (j == k) _ _ apart in
     record {
-      fit = subst (λ (x : Hart). IsFit c x) (sym at) (fit_other next c h fit.fit);
+      fit = subst (λ (x : Hart). IsRested c x) (sym at) (fit_other next c h fit.fit);
       steps = omega (arith, stepped, fit.steps, ic, number);
       count = omega (arith, st.others j differ, fit.count, ic);
     }
@@ -181,14 +181,14 @@ fit_traced c i m old new turns k ask call reply load fit within live ordered ec 
     let g : ℕ → Hart = hart_in new.harts.items in
     let s = absorbed ask reply in
     let next = next_of c call h ask.want reply s.ic in
-    let own = hart_after next s (skipped_after load h.skipped) h in
+    let own = hart_after next s (skipped_after load h.skipped) new.log.bytes h in
     let each = fit.each k within in
-    let on = moves_as c i m h k ask call reply ec er (ask_moves c i m h k ask (omega (arith, fit.settings.limit_high)) each.fit live ordered) in
+    let on = moves_as c i m h k ask call reply ec er (ask_moves c i m h k ask (omega (arith, fit.settings.limit_high)) each.fit.fit live ordered) in
     let old_are : AreHarts old.harts.items f = λ j below. slice_get-get_or old.harts.items j _ below in
     let new_are : AreHarts new.harts.items (harts_after next k own f) = st.harts f old_are in
     let at : (j : ℕ) → j < c.harts → g j ≡ harts_after next k own f j = λ j below. in_new new.harts.items j (harts_after next k own f) new_are (omega (arith, below, st.len, fit.harts)) in
     let own_is : g k ≡ own = at k within ∙ own_at k k next own f (eqb_same k) in
-    let fewer : turns_left c own < turns_left c h = fewer_left next c h ask.state.ic s (span_of call ask.want reply) (loading ask.want) (skipped_after load h.skipped) live each.fit on in
+    let fewer : turns_left c own < turns_left c h = fewer_left next c h ask.state.ic s (span_of call ask.want reply) (loading ask.want) (skipped_after load h.skipped) new.log.bytes live each.fit.fit on in
     let own_fewer : turns_left c (g k) < turns_left c (f k) = subst (λ (x : Hart). turns_left c x < turns_left c h) (sym own_is) fewer in
     let no_more : (j : ℕ) → j < c.harts → turns_left c (g j) ≤ turns_left c (f j) = λ j below. elim (eqb_tells j k) [
       | inl p ↦ subst (λ (n : ℕ). turns_left c (g n) ≤ turns_left c (f n)) (sym p.1) (omega (arith, own_fewer))
@@ -197,6 +197,7 @@ fit_traced c i m old new turns k ask call reply load fit within live ordered ec 
     let less = one_less c c.harts k f g within no_more own_fewer in
     record {
       settings = fit.settings;
+      few = fit.few;
       harts = st.len ∙ fit.harts;
       caches = st.caches ∙ fit.caches;
       shadow = st.shadow ∙ fit.shadow;

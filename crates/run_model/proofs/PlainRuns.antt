@@ -1,5 +1,5 @@
 -- A turn of a plain machine, put together from the steps of the code.
-use Rattle.std.proofs.Common.{◌≡◌, ℕ, ◌++◌, List, ◌∙◌, subst}
+use Rattle.std.proofs.Common.{◌≡◌, ℕ, ◌+◌, ◌++◌, Bool, false, List, ◌∙◌, sym, ap, subst}
 use Rattle.std.specs.Prelude.{Option, Some, None}
 use Rattle.std.proofs.lemmas.List.{append_assoc}
 use Rattle.bn_base.specs.declared.settings.RawSettings.{RawSettings}
@@ -12,16 +12,19 @@ use Rattle.rv_meaning.specs.declared.asks.Reply.TheVariants as replies
 use Rattle.system_calls.specs.declared.effect.Plan.{Plan}
 use Rattle.first_load_bits.specs.declared.warm.Warm.{Warm}
 use Rattle.log_record.specs.declared.record.Record.{Record}
-use Rattle.log_ring.specs.Kept.{Holds}
+use Rattle.log_record.specs.Spelling.{total}
+use Rattle.run_model.specs.Logs.{IsLog}
 use Rattle.race_log.specs.declared.shadow.Shadow.{Shadow}
 use Rattle.race_log.specs.Stands.{Stands}
 use Rattle.run_model.specs.declared.hart.Hart.{Hart}
 use Rattle.run_model.specs.declared.trace.Trace.{Trace}
 use Rattle.run_model.specs.Machine.{answer}
-use Rattle.run_model.specs.Turn.{Run, serve_call, span_of, next_of, hart_after, harts_after, events_after, skipped_after, warmth, loading, word_before, point_of, points_after, edge_records, load_record, sc_record, next_records, run_over_records}
+use Rattle.run_model.specs.Turn.{Run, serve_call, is_guarded, span_of, next_of, hart_after, harts_after, events_after, skipped_after, warmth, loading, word_before, point_of, points_after, edge_records, load_record, sc_record, next_records, run_over_records}
 use Rattle.run_model.specs.EachCache.{AreCaches}
 use Rattle.run_model.specs.Harts.{AreHarts}
 use Rattle.run_model.specs.Plain.{IsTrace, IsRaceReady, everyone}
+use Rattle.run_model.proofs.Bytes.{total_append}
+use Rattle.run_model.proofs.FormatOne.{unguarded}
 
 -- five lists behind a first one
 pub six_lists : (a e l s n o : List Record) → a ++ e ++ l ++ s ++ n ++ o ≡ a ++ (e ++ (l ++ (s ++ (n ++ o))))
@@ -31,36 +34,49 @@ six_lists a e l s n o =
 -- what the steps leave of the trace, where the turn's number, the number of harts, the hart before and after the access,
 -- how its loaded word was, that word and the reply are these
 pub record Traced (c : RawSettings) (run : Run) (k : ℕ) (ask : Ask) (call : Option Plan) (turns n : ℕ) (g h : Hart) (load : Option Warm) (word : ℕ) (reply : Reply) (t : Trace) : Type 0 where
-  pub harts : AreHarts t.harts.items (harts_after (next_of c call h ask.want reply (absorbed ask reply).ic) k (hart_after (next_of c call h ask.want reply (absorbed ask reply).ic) (absorbed ask reply) (skipped_after load h.skipped) h) run.harts)
+  pub harts : AreHarts t.harts.items (harts_after (next_of c call h ask.want reply (absorbed ask reply).ic) k (hart_after (next_of c call h ask.want reply (absorbed ask reply).ic) (absorbed ask reply) (skipped_after load h.skipped) t.log.bytes h) run.harts)
   pub caches : AreCaches c t.caches (events_after (next_of c call h ask.want reply (absorbed ask reply).ic) k call (span_of call ask.want reply) run.events)
   pub shadow : Stands (points_after (point_of k ask.state.ic turns (span_of call ask.want reply)) run.points) everyone t.shadow
-  pub log : Holds t.ring (run.stream ++ edge_records (point_of k ask.state.ic turns (span_of call ask.want reply)) run.points ++ load_record load k g.skipped word ++ sc_record reply k
+  pub log : IsLog t.log (run.stream ++ edge_records (point_of k ask.state.ic turns (span_of call ask.want reply)) run.points ++ load_record load k g.skipped word ++ sc_record reply k
       ++ next_records (next_of c call h ask.want reply (absorbed ask reply).ic) k h.number (absorbed ask reply) ++ run_over_records (next_of c call h ask.want reply (absorbed ask reply).ic) k n run.harts)
+
+as_many : (a b more : ℕ) → a ≡ b → b + more ≡ a + more
+as_many a b more e = ap (λ (n : ℕ). n + more) (sym e)
 
 traced_is : (c : RawSettings) (run : Run) (k : ℕ) (ask : Ask) (call : Option Plan) (t : Trace)
     → Traced c run k ask call run.turns c.harts (run.harts k) (run.harts k) (warmth c (loading ask.want) (run.events k)) (word_before run.machine.memory (loading ask.want)) (answer c call run.machine k ask).reply t
-    → IsTrace c t (serve_call c run k ask call).run
-traced_is c run k ask call t e = record {
-  harts = e.harts;
-  caches = e.caches;
-  shadow = e.shadow;
-  log = subst (λ (rs : List Record). Holds t.ring rs) (six_lists run.stream _ _ _ _ _) e.log;
-}
+    → run.bytes ≡ total run.stream → IsTrace c t (serve_call c run k ask false call).run
+traced_is c run k ask call t e before =
+    let after = (serve_call c run k ask false call).run in
+    let log : IsLog t.log after.stream = subst (λ (rs : List Record). IsLog t.log rs) (six_lists run.stream _ _ _ _ _) e.log in
+    let bytes : t.log.bytes ≡ after.bytes = log.bytes ∙ total_append run.stream _ ∙ as_many run.bytes (total run.stream) _ before in
+    let h = run.harts k in
+    let reply = (answer c call run.machine k ask).reply in
+    let s = absorbed ask reply in
+    let next = next_of c call h ask.want reply s.ic in
+    record {
+      harts = subst (λ (n : ℕ). AreHarts t.harts.items (harts_after next k (hart_after next s (skipped_after (warmth c (loading ask.want) (run.events k)) h.skipped) n h) run.harts)) bytes e.harts;
+      caches = e.caches;
+      shadow = e.shadow;
+      log = log;
+      bytes = bytes;
+    }
 
 pub traced : (c : RawSettings) (run : Run) (k : ℕ) (ask : Ask) (call : Option Plan) (turns n : ℕ) (g h : Hart) (load : Option Warm) (word : ℕ) (reply : Reply) (t : Trace)
     → turns ≡ run.turns → n ≡ c.harts → g ≡ run.harts k → h ≡ run.harts k → load ≡ warmth c (loading ask.want) (run.events k) → word ≡ word_before run.machine.memory (loading ask.want) → reply ≡ (answer c call run.machine k ask).reply
-    → Traced c run k ask call turns n g h load word reply t → IsTrace c t (serve_call c run k ask call).run
-traced c run k ask call turns n g h load word reply t et en eg eh el ew er e =
+    → Traced c run k ask call turns n g h load word reply t → run.bytes ≡ total run.stream → c.format ≡ 1 → IsTrace c t (serve_call c run k ask (is_guarded c run k ask.want) call).run
+traced c run k ask call turns n g h load word reply t et en eg eh el ew er e before one =
     let w = warmth c (loading ask.want) (run.events k) in
     let b = word_before run.machine.memory (loading ask.want) in
-    traced_is c run k ask call t
+    subst (λ (b : Bool). IsTrace c t (serve_call c run k ask b call).run) (sym (unguarded c run k ask.want one))
+    (traced_is c run k ask call t
     (subst (λ (r : Reply). Traced c run k ask call run.turns c.harts (run.harts k) (run.harts k) w b r t) er
     (subst (λ (x : ℕ). Traced c run k ask call run.turns c.harts (run.harts k) (run.harts k) w x reply t) ew
     (subst (λ (l : Option Warm). Traced c run k ask call run.turns c.harts (run.harts k) (run.harts k) l word reply t) el
     (subst (λ (x : Hart). Traced c run k ask call run.turns c.harts (run.harts k) x load word reply t) eh
     (subst (λ (x : Hart). Traced c run k ask call run.turns c.harts x h load word reply t) eg
     (subst (λ (x : ℕ). Traced c run k ask call run.turns x g h load word reply t) en
-    (subst (λ (x : ℕ). Traced c run k ask call x n g h load word reply t) et e)))))))
+    (subst (λ (x : ℕ). Traced c run k ask call x n g h load word reply t) et e))))))) before)
 
 -- the race log is ready for the access, whatever the reply
 pub race_ready : (s : Shadow) (call : Option Plan) (want : Want) (reply : Reply) → IsRaceReady s (span_of call want replies.ScOk) → IsRaceReady s (span_of call want reply)

@@ -1,15 +1,19 @@
 -- Small recordings whose streams are worked out by hand.
-use Rattle.std.specs.Prelude.{ℕ, ◌≡◌, true, false, List, [], ◌∷◌, length, filter, Bool, Some, None}
+use Rattle.std.specs.Prelude.{ℕ, ◌≡◌, true, false, List, [], ◌∷◌, length, filter, map, Bool, Some, None}
 use Rattle.bn_base.specs.Programs.{Program, Part}
 use Rattle.bn_base.specs.Ranges.{default_settings}
 use Rattle.bn_base.specs.declared.settings.RawSettings.{RawSettings}
 use Rattle.bn_base.specs.declared.row.Row.{Row}
 use Rattle.bn_base.specs.declared.fault.Fault.TheVariants.{LoadOutside}
 use Rattle.log_record.specs.declared.record.Record.{Record}
-use Rattle.log_record.specs.declared.record.Record.TheVariants.{End}
-use Rattle.run_model.specs.Turn.{Run, header, mark}
+use Rattle.log_record.specs.declared.record.Record.TheVariants.{Header, End}
+use Rattle.run_model.specs.Turn.{Run, turn, header, mark}
 use Rattle.run_model.specs.Runs.{start, start_state, run_of, legal_from, is_over}
-use Rattle.run_model.specs.Rows.{rows_of}
+use Rattle.run_model.specs.Rows.{rows_of, rows_in}
+use Rattle.run_model.specs.Files.{kept_of}
+use Rattle.race_log.specs.Points.{Point}
+use Rattle.race_log.specs.Kept.{access_point}
+use Rattle.race_log.specs.declared.mode.Mode.TheVariants.{Write}
 
 -- what is recorded: the code words, which begin at address 0x10054, the settings, the input, and the list of turns
 pub record Recording : Type 0 where
@@ -150,3 +154,66 @@ rows_of_an_exit =
 -- and that of the load which faults
 abbrev pub row_of_a_fault : Row
 row_of_a_fault = record { hart = 0; ic = 0; pc = 0x10054; word = Some 0x00002283; reg = None; load = None; store = None; fault = Some (LoadOutside, 0) }
+
+-- ---- with format 2
+
+-- the number and first count of each Header of a hart, and the marks of its Ends, in their order
+pub data Mark : Type 0 where
+  Begins : (hart number ic : ℕ) → Mark
+  Ends : (hart ic reason value : ℕ) → Mark
+
+abbrev pub marked : List Record → List Mark
+marked [] = []
+marked (Header k n ic pc x ∷ rs) = Begins k n ic ∷ marked rs
+marked (End k mark ∷ rs) = Ends k mark.ic mark.reason mark.value ∷ marked rs
+marked (r ∷ rs) = marked rs
+
+-- lui s0,0x20; then again and again lw t0,0(s0); addi s0,s0,4, so that each load is logged. More than half of 340 bytes stand
+-- behind the Header after three loads
+abbrev pub a_guarded_load : Recording
+a_guarded_load = record { words = 0x00020437 ∷ 0x00042283 ∷ 0x00440413 ∷ 0xff9ff06f ∷ []; settings = record default_settings { format = 2; log_size = 340; limit = 12 }; input = []; turns = 0 ∷ 0 ∷ 0 ∷ 0 ∷ 0 ∷ [] }
+
+-- the same with format 1
+abbrev pub an_unguarded_load : Recording
+an_unguarded_load = record a_guarded_load { settings = record a_guarded_load.settings { format = 1 } }
+
+-- hart 0 loads word after word; then hart 1, which began long ago, faults
+abbrev pub a_late_fault : Recording
+a_late_fault = record {
+  words = 0x00020437 ∷ 0x00051863 ∷ 0x00042283 ∷ 0x00440413 ∷ 0xff9ff06f ∷ 0x00002283 ∷ [];
+  settings = record default_settings { format = 2; harts = 2; log_size = 600 };
+  input = [];
+  turns = 0 ∷ 0 ∷ 0 ∷ 0 ∷ 0 ∷ 0 ∷ 0 ∷ 0 ∷ 0 ∷ 0 ∷ 0 ∷ 1 ∷ [];
+}
+
+-- with format 1, in a log that is smaller by one Header
+abbrev pub a_late_fault_unguarded : Recording
+a_late_fault_unguarded = record a_late_fault { settings = record a_late_fault.settings { format = 1; log_size = 280 } }
+
+-- lui s0,0x20; lw t0,0(s0); then an exit, with intervals of one instruction, and a log in which a Header has more than half
+-- of the bytes: each ask ends two intervals
+abbrev pub two_ends_a_turn : Recording
+two_ends_a_turn = record { words = 0x00020437 ∷ 0x00042283 ∷ 0x05d00893 ∷ 0x00000073 ∷ []; settings = record default_settings { format = 2; interval = 1; log_size = 200 }; input = []; turns = 0 ∷ 0 ∷ 0 ∷ 0 ∷ [] }
+
+-- each ask is guarded: hart 0's first instruction, before which hart 1 did one, faults; sp isn't mapped there
+abbrev pub a_guarded_first_fault : Recording
+a_guarded_first_fault = record { words = 0x00012283 ∷ 0x0000006f ∷ []; settings = record default_settings { format = 2; harts = 2; limit = 3; log_size = 300 }; input = []; turns = 1 ∷ 0 ∷ [] }
+
+-- what the log keeps of a recording
+abbrev pub kept_records : Recording → List Record
+kept_records e = kept_of e.settings (recorded e)
+
+-- the rows of hart k in its interval n, by their counts
+abbrev pub counts_in : Recording → (k n : ℕ) → List ℕ
+counts_in e k n = map (λ (r : Row). r.ic) (rows_in e.settings (program_of e) (start e.settings (program_of e) e.input) e.turns k n)
+
+-- a run in which hart 1 has written the word that hart 0 loads next, and one that differs in that alone
+abbrev pub before_a_load : List Point → Run
+before_a_load points = record (run_of a_line_lost.settings (program_of a_line_lost) [] []) { points = points }
+
+abbrev pub a_write_by_hart_1 : List Point
+a_write_by_hart_1 = access_point 1 0 0 0x20000 1 Write ∷ []
+
+-- how many bytes the stream has after hart 0's load
+abbrev pub bytes_after_the_load : List Point → ℕ
+bytes_after_the_load points = (turn a_line_lost.settings (program_of a_line_lost) (before_a_load points) 0).bytes

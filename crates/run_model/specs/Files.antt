@@ -1,5 +1,5 @@
 -- What is kept of a run, and its log file.
-use Rattle.std.specs.Prelude.{ℕ, ◌-◌, List, length}
+use Rattle.std.specs.Prelude.{ℕ, ◌-◌, ◌≡◌, List, ◌++◌, length}
 use Rattle.bn_base.specs.Programs.{Program}
 use Rattle.bn_base.specs.declared.settings.RawSettings.{RawSettings}
 use Rattle.log_record.specs.declared.record.Record.{Record}
@@ -21,6 +21,13 @@ dropped_of c run = length run.stream - length (kept_of c run)
 abbrev pub content_of : RawSettings → List ℕ → Run → Content
 content_of c digest run = content (record { settings = c; digest = digest }) (dropped_of c run) (kept_of c run)
 
--- the bytes of the log file of the run of a list of turns
+-- the bytes of the log file of the run of a list of turns, in version 1, the one that there is so far
 abbrev pub file_of : RawSettings → Program → (digest input : List ℕ) → List ℕ → List ℕ
 file_of c i digest input b = file_bytes (content_of c digest (run_of c i input b))
+
+-- ---- the end of a stream, wherever it begins: what the log keeps, or what is read of a file of which the front is lost
+
+-- the records are the last ones of the stream
+pub record IsEndOf (stream rs : List Record) : Type 0 where
+  pub front : List Record
+  pub parts : stream ≡ front ++ rs

@@ -2,20 +2,20 @@
 use Rattle.std.specs.Prelude.{◌≡◌, ℕ, List, ◌++◌, length}
 use Rattle.bn_base.specs.Programs.{Program}
 use Rattle.bn_base.specs.declared.settings.RawSettings.{RawSettings}
-use Rattle.log_ring.specs.Kept.{Held, Holds}
+use Rattle.run_model.specs.declared.log.Log.{Log}
 use Rattle.log_record.specs.declared.record.Record.{Record}
 use Rattle.run_model.specs.declared.hart.Hart.{Hart}
 use Rattle.run_model.specs.Runs.{start_state, start_hart, first_headers}
 use Rattle.run_model.specs.Harts.{AreHarts}
-use Rattle.run_model.specs.Logs.{Took}
+use Rattle.run_model.specs.Logs.{Took, IsLog}
 
 -- hart k before its first turn
 abbrev pub first_hart : RawSettings → Program → ℕ → Hart
-first_hart c i k = start_hart (start_state c i k)
+first_hart c i k = start_hart k (start_state c i k)
 
 -- the first n harts, and the log that took their Headers
-pub record AreFirst (c : RawSettings) (i : Program) (n : ℕ) (old : Held) (harts : List Hart) (new : Held) : Type 0 where
+pub record AreFirst (c : RawSettings) (i : Program) (n : ℕ) (old : Log) (harts : List Hart) (new : Log) : Type 0 where
   pub len : length harts ≡ n
   pub each : AreHarts harts (first_hart c i)
-  pub log : (rs : List Record) → Holds old rs → Holds new (rs ++ first_headers c i 0 n)
+  pub log : (rs : List Record) → IsLog old rs → IsLog new (rs ++ first_headers c i 0 n)
   pub took : Took old n new

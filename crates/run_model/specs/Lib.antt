@@ -3,8 +3,10 @@ pub mod Turn
 pub mod Runs
 pub mod Rows
 pub mod Files
+pub mod Taken
 pub mod Logs
 pub mod Counts
+pub mod Guards
 pub mod Harts
 pub mod Plain
 pub mod Parts

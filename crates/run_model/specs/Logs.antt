@@ -1,23 +1,27 @@
 -- A log that takes records, and the ones that it takes.
-use Rattle.std.specs.Prelude.{◌≡◌, ℕ, ◌+◌, length, Bool, true}
-use Rattle.log_record.specs.Spelling.{is_mark}
+use Rattle.std.specs.Prelude.{◌≡◌, ℕ, ◌+◌, List, Bool, true}
+use Rattle.log_record.specs.declared.record.Record.{Record}
+use Rattle.log_record.specs.Spelling.{is_mark, total}
+use Rattle.log_ring.specs.Kept.{Holds}
+pub use Rattle.run_model.specs.Taken.{taken}
+use Rattle.run_model.specs.declared.log.Log.{Log}
 use Rattle.run_model.specs.declared.next.Next.{Next}
 use Rattle.run_model.specs.declared.next.Next.TheVariants.{GoesOn, NewInterval, HartOver, RunOver}
 use Rattle.run_model.specs.Turn.{mark}
-use Rattle.log_ring.specs.Kept.{Held}
 
--- how many records a ring took
-abbrev pub taken : Held → ℕ
-taken ring = ring.dropped + length ring.records
+-- a log that took these records: its ring keeps what has room of them, and it counts the bytes of all
+pub record IsLog (log : Log) (rs : List Record) : Type 0 where
+  pub holds : Holds log.ring rs
+  pub bytes : log.bytes ≡ total rs
 
--- from one to the other a ring took so many records
-pub record Took (old : Held) (count : ℕ) (new : Held) : Type 0 where
-  pub size : new.size ≡ old.size
-  pub count_is : taken new ≡ taken old + count
+-- from one to the other a log took so many records
+pub record Took (old : Log) (count : ℕ) (new : Log) : Type 0 where
+  pub size : new.ring.size ≡ old.ring.size
+  pub count_is : taken new.ring ≡ taken old.ring + count
 
--- the log has marks of the reason and value with which an interval ends
+-- a log of format 2 has marks of the reason and value with which an interval ends
 abbrev pub is_marked_next : Next → Bool
 is_marked_next GoesOn = true
-is_marked_next (NewInterval reason value) = is_mark (mark 0 reason value)
-is_marked_next (HartOver reason value) = is_mark (mark 0 reason value)
-is_marked_next (RunOver reason value) = is_mark (mark 0 reason value)
+is_marked_next (NewInterval reason value) = is_mark 2 (mark 0 reason value)
+is_marked_next (HartOver reason value) = is_mark 2 (mark 0 reason value)
+is_marked_next (RunOver reason value) = is_mark 2 (mark 0 reason value)

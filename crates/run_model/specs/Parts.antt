@@ -1,6 +1,7 @@
 -- What a machine that runs keeps, the machines of the definition that it stands for, and what an answer needs.
 use Rattle.std.specs.Prelude.{ℕ, ◌+◌, ◌-◌, ◌*◌, ◌%◌, ◌^◌, ◌==◌, ◌≡◌, ◌≤◌, ◌<◌, ⊤, IsTrue, Bool, true, false, List, length, drop, get_or, Option, Some, None}
 use Rattle.bn_base.specs.Programs.{Program}
+use Rattle.bn_base.specs.declared.settings.TheConstants.{HARTS}
 use Rattle.rv_meaning.specs.Orderly.{is_aligned}
 use Rattle.rv_meaning.specs.declared.asks.Want.{Want}
 use Rattle.rv_meaning.specs.declared.asks.Want.TheVariants.{Store, System}
@@ -16,7 +17,7 @@ use Rattle.run_model.specs.declared.span.Span.{Span}
 use Rattle.run_model.specs.Machine.{Machine, Answered}
 use Rattle.run_model.specs.Turn.{span_of}
 
--- memory, the word that each of eight harts has reserved, the program break, how many bytes of the input were taken, the
+-- memory, the word that each of the harts has reserved, as many as there can be, the program break, how many bytes of the input were taken, the
 -- two output streams, and how many bytes each of them has room for
 pub record MachineParts : Type 0 where
   pub memory : Contents
@@ -32,9 +33,9 @@ pub record MachineParts : Type 0 where
 abbrev pub size_of : MachineParts → ℕ
 size_of p = 4 * length p.memory.words
 
--- a list of eight reservations stands for a map from harts
+-- a list of reservations stands for a map from harts
 pub record AreReserved (rs : List (Option ℕ)) (f : ℕ → Option ℕ) : Type 0 where
-  pub at : (k : ℕ) → k < 8 → get_or rs k None ≡ f k
+  pub at : (k : ℕ) → k < HARTS → get_or rs k None ≡ f k
 
 -- the parts stand for a machine that has this whole input
 pub record IsMachine (input : List ℕ) (p : MachineParts) (m : Machine) : Type 0 where

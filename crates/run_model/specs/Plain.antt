@@ -2,9 +2,9 @@
 use Rattle.std.specs.Prelude.{◌≡◌, ◌≤◌, ◌<◌, ◌^◌, ◌%◌, ◌/◌, ℕ, ◌+◌, ◌*◌, ⊤, Bool, true, List, length, get_or, drop, Option, Some, None}
 use Rattle.bn_base.specs.Ranges.{IsSetting}
 use Rattle.bn_base.specs.declared.settings.RawSettings.{RawSettings}
+use Rattle.bn_base.specs.declared.settings.TheConstants.{HARTS}
 use Rattle.race_log.specs.declared.shadow.Shadow.{Shadow}
 use Rattle.race_log.specs.Stands.{Stands, harts_of, next_turn, next_count, reserved_range}
-use Rattle.log_ring.specs.Kept.{Holds}
 use Rattle.run_model.specs.declared.next.Next.{Next}
 use Rattle.run_model.specs.declared.next.Next.TheVariants.{GoesOn, NewInterval, HartOver, RunOver}
 use Rattle.run_model.specs.declared.span.Span.{Span}
@@ -15,9 +15,9 @@ use Rattle.run_model.specs.EachCache.{AreCaches, steps_in}
 use Rattle.run_model.specs.Machine.{Machine}
 use Rattle.run_model.specs.Turn.{Run}
 use Rattle.run_model.specs.Runs.{most_turns}
-use Rattle.run_model.specs.Logs.{taken}
+use Rattle.run_model.specs.Logs.{taken, IsLog}
 use Rattle.run_model.specs.Harts.{AreHarts, hart_in, all_left}
-use Rattle.run_model.specs.Counts.{IsFit}
+use Rattle.run_model.specs.Counts.{IsRested}
 
 -- every hart's knowledge counts
 abbrev pub everyone : ℕ → Bool
@@ -54,7 +54,8 @@ pub record IsTrace (c : RawSettings) (t : Trace) (run : Run) : Type 0 where
   pub harts : AreHarts t.harts.items run.harts
   pub caches : AreCaches c t.caches run.events
   pub shadow : Stands run.points everyone t.shadow
-  pub log : Holds t.ring run.stream
+  pub log : IsLog t.log run.stream
+  pub bytes : t.log.bytes ≡ run.bytes
 
 -- the parts stand for the run
 pub record IsRun (p : PlainParts) (run : Run) : Type 0 where
@@ -64,21 +65,22 @@ pub record IsRun (p : PlainParts) (run : Run) : Type 0 where
 
 -- the counts of a hart, its cache and its knowledge fit each other
 pub record IsHartFit (c : RawSettings) (t : Trace) (k : ℕ) : Type 0 where
-  pub fit : IsFit c (hart_in t.harts.items k)
+  pub fit : IsRested c (hart_in t.harts.items k)
   pub steps : steps_in t.caches k ≤ (hart_in t.harts.items k).state.ic + (hart_in t.harts.items k).number
   pub count : next_count t.shadow k ≤ (hart_in t.harts.items k).state.ic
 
 -- what is traced fits the settings and the number of turns
 pub record IsTraceFit (c : RawSettings) (t : Trace) (turns : ℕ) : Type 0 where
   pub settings : IsSetting c
+  pub few : c.harts ≤ HARTS
   pub harts : length t.harts.items ≡ c.harts
   pub caches : length t.caches ≡ c.harts
   pub shadow : harts_of t.shadow ≡ c.harts
   pub each : (k : ℕ) → k < c.harts → IsHartFit c t k
   pub turn : next_turn t.shadow ≤ turns
   pub left : turns + all_left c c.harts (hart_in t.harts.items) ≤ most_turns c
-  pub log : taken t.ring ≤ 8 + 24 * turns
-  pub log_size : t.ring.size ≡ c.log_size
+  pub log : taken t.log.ring ≤ 16 + 40 * turns
+  pub log_size : t.log.ring.size ≡ c.log_size
 
 -- one of the machines that the parts stand for
 abbrev pub meant : List ℕ → MachineParts → Machine

@@ -6,10 +6,10 @@ ghost use Rattle.run_model.specs.First.{AreFirst};
 
 use crate::caches::Caches;
 use crate::hart::Hart;
+use crate::log::Log;
 use crate::records::append_header;
 use crate::trace::Trace;
 use bn_base::{HartId, HartState, Image, Registers, Settings};
-use log_ring::Ring;
 use race_log::Shadow;
 use std::alloc::{AllocError, Global};
 
@@ -37,15 +37,15 @@ fn first_harts(
     alloc: Global,
     settings: &Settings,
     image: &Image,
-    ring: &mut Ring,
+    log: &mut Log,
 ) -> Result<Vec<Hart>, AllocError>
-    requires { (ring.old.records ≡ []) × (ring.old.dropped ≡ 0) }
-    ensures { IfOk result (λ harts. AreFirst settings.now image.now settings.now.harts ring.old harts.items ring.new) }
+    requires { (log.old.ring.records ≡ []) × (log.old.ring.dropped ≡ 0) }
+    ensures { IfOk result (λ harts. AreFirst settings.now image.now settings.now.harts log.old harts.items log.new) }
 {
     let mut harts = Vec::with_capacity(alloc, usize::from(settings.harts()))?;
     for number in 0..settings.harts() {
-        append_header(ring, number, 0, &start_state(settings, image, number));
-        harts.push(Hart::new(start_state(settings, image, number)))?;
+        append_header(log, number, 0, &start_state(settings, image, number));
+        harts.push(Hart::new(number, start_state(settings, image, number)))?;
     }
     Ok(harts)
 }
@@ -58,15 +58,15 @@ impl Trace {
         ensures fits { IfOk result (λ t. IsTraceFit settings.now t 0) }
     {
         let _settings = settings.raw();
-        let mut ring = Ring::new(alloc, settings.log_size() as usize)?;
-        let harts = first_harts(alloc, settings, image, &mut ring)?;
+        let mut log = Log::new(alloc, settings.log_size() as usize)?;
+        let harts = first_harts(alloc, settings, image, &mut log)?;
         let caches = Caches::new(alloc, settings)?;
         let shadow = Shadow::new(alloc, settings)?;
         Ok(Trace {
             harts,
             caches,
             shadow,
-            ring,
+            log,
         })
     }
 }

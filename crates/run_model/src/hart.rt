@@ -7,9 +7,12 @@ ghost use Rattle.run_model.specs.Turn.{budget, hart_after, mark, stopped, dead, 
 
 use crate::next::Next;
 use bn_base::end_mark::STOPPED;
-use bn_base::{EndMark, HartState, Ic, Settings};
+use bn_base::{EndMark, HartId, HartState, Ic, Settings};
 use first_load_bits::Warm;
 use rv_meaning::{Ask, Reply, absorb_in_place};
+
+/// How many bytes a Header has.
+pub const HEADER_SIZE: u64 = 146;
 
 /// A hart between two turns.
 #[derive(Clone, Copy, Debug, PartialEq, Eq, Drop)]
@@ -22,6 +25,8 @@ pub struct Hart {
     pub number: u64,
     /// How many instructions it had done when that interval began.
     pub begun: Ic,
+    /// How many bytes the log had taken once that interval's Header stood.
+    pub headed: u64,
     /// How many loading accesses of the interval were skipped since the last logged one.
     pub skipped: u32,
     /// How its last finished interval ended, if one did.
@@ -29,15 +34,16 @@ pub struct Hart {
 }
 
 impl Hart {
-    /// A hart before its first turn.
-    pub fn new(state: HartState) -> Hart
-        ensures { result ≡ start_hart state }
+    /// A hart before its first turn; its Header stands behind those of the harts before it.
+    pub fn new(number: HartId, state: HartState) -> Hart
+        ensures { result ≡ start_hart number state }
     {
         Hart {
             state,
             live: true,
             number: 0,
             begun: 0,
+            headed: HEADER_SIZE * (u64::from(number) + 1),
             skipped: 0,
             mark: None,
         }
@@ -62,10 +68,11 @@ impl Hart {
         absorb_in_place(&mut self.state, &ask.want, reply);
     }
 
-    /// Takes in what comes after its turn, its state being the one after the reply.
-    pub fn take(&mut self, next: Next, skipped: u32)
+    /// Takes in what comes after its turn, its state being the one after the reply; the log took so
+    /// many bytes by now.
+    pub fn take(&mut self, next: Next, skipped: u32, bytes: u64)
         requires { self.old.number < 2 ^ 64 - 1 }
-        ensures { self.new ≡ hart_after next self.old.state skipped self.old }
+        ensures { self.new ≡ hart_after next self.old.state skipped bytes self.old }
     {
         match next {
             Next::GoesOn => self.skipped = skipped,
@@ -73,6 +80,7 @@ impl Hart {
                 self.mark = Some(self.mark_here(reason, value));
                 self.number += 1;
                 self.begun = self.state.ic;
+                self.headed = bytes;
                 self.skipped = 0;
             }
             Next::HartOver { reason, value } | Next::RunOver { reason, value } => {

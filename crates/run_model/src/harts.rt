@@ -1,79 +1,82 @@
 // The harts of a run, and what a turn leaves of them.
 ghost use Rattle.std.specs.Prelude.{◌≡◌, ◌≤◌, ◌<◌, ◌+◌, ◌*◌, ◌^◌, ◌++◌, ℕ, List, length, slice_set, get_or};
 ghost use Rattle.log_record.specs.declared.record.Record.{Record};
-ghost use Rattle.log_ring.specs.Kept.{Holds};
+ghost use Rattle.bn_base.specs.declared.settings.TheConstants.{HARTS};
 ghost use Rattle.run_model.specs.declared.hart.Hart.{Hart};
-ghost use Rattle.run_model.specs.Turn.{harts_after, run_over_records, dead};
+ghost use Rattle.bn_base.specs.declared.state.HartState.{HartState};
+ghost use Rattle.run_model.specs.Turn.{harts_after, hart_after, run_over_records, dead};
 ghost use Rattle.run_model.specs.Harts.{AreHarts, others_after, stopped_below, stopped_at, stop_record, stop_records};
-ghost use Rattle.run_model.specs.Logs.{taken};
+ghost use Rattle.run_model.specs.Logs.{taken, IsLog};
 
 use crate::hart::Hart;
+use crate::log::Log;
 use crate::next::Next;
 use crate::records::append_end;
 use bn_base::HartId;
 use bn_base::end_mark::STOPPED;
-use log_ring::Ring;
 
 // Stops a hart, unless it is the one whose turn ended the run, and appends its End.
-fn stop_one(hart: &mut Hart, ring: &mut Ring, number: HartId, own: HartId)
-    requires room { taken ring.old + 1 < 2 ^ 60 }
+fn stop_one(hart: &mut Hart, log: &mut Log, number: HartId, own: HartId)
+    requires room { taken log.old.ring + 1 < 2 ^ 56 }
     ensures hart { (harts : ℕ → Hart) → harts number ≡ hart.old → hart.new ≡ stopped_at own harts number }
-    ensures holds { (rs : List Record) → Holds ring.old rs → Holds ring.new (rs ++ stop_record own number hart.old) }
-    ensures took { taken ring.new ≤ taken ring.old + 1 }
-    ensures size { ring.new.size ≡ ring.old.size }
+    ensures holds { (rs : List Record) → IsLog log.old rs → IsLog log.new (rs ++ stop_record own number hart.old) }
+    ensures took { taken log.new.ring ≤ taken log.old.ring + 1 }
+    ensures size { log.new.ring.size ≡ log.old.ring.size }
 {
     if number != own {
         if hart.live {
-            append_end(ring, number, hart.state.ic, STOPPED, 0);
+            append_end(log, number, hart.state.ic, STOPPED, 0);
         }
         hart.stop();
     }
 }
 
 // Stops all harts but one, and appends their Ends.
-fn stop_others(harts: &mut Vec<Hart>, ring: &mut Ring, own: HartId)
-    requires few { length harts.old.items ≤ 8 }
-    requires room { taken ring.old + 8 < 2 ^ 60 }
+fn stop_others(harts: &mut Vec<Hart>, log: &mut Log, own: HartId)
+    requires few { length harts.old.items ≤ HARTS }
+    requires room { taken log.old.ring + HARTS < 2 ^ 56 }
     ensures harts { (f : ℕ → Hart) → AreHarts harts.old.items f → AreHarts harts.new.items (stopped_below own (length harts.old.items) f) }
-    ensures holds { (f : ℕ → Hart) (rs : List Record) → AreHarts harts.old.items f → Holds ring.old rs → Holds ring.new (rs ++ stop_records own (length harts.old.items) f) }
-    ensures took { taken ring.new ≤ taken ring.old + 8 }
-    ensures size { ring.new.size ≡ ring.old.size }
+    ensures holds { (f : ℕ → Hart) (rs : List Record) → AreHarts harts.old.items f → IsLog log.old rs → IsLog log.new (rs ++ stop_records own (length harts.old.items) f) }
+    ensures took { taken log.new.ring ≤ taken log.old.ring + HARTS }
+    ensures size { log.new.ring.size ≡ log.old.ring.size }
     ensures len { length harts.new.items ≡ length harts.old.items }
 {
     for number in 0..harts.len() {
-        stop_one(&mut harts[number], ring, number as HartId, own);
+        stop_one(&mut harts[number], log, number as HartId, own);
     }
 }
 
 // Where a turn ends the run, the other harts are stopped and their Ends appended.
-fn end_others(harts: &mut Vec<Hart>, ring: &mut Ring, own: HartId, next: Next)
-    requires few { length harts.old.items ≤ 8 }
-    requires room { taken ring.old + 8 < 2 ^ 60 }
+fn end_others(harts: &mut Vec<Hart>, log: &mut Log, own: HartId, next: Next)
+    requires few { length harts.old.items ≤ HARTS }
+    requires room { taken log.old.ring + HARTS < 2 ^ 56 }
     ensures harts { (f : ℕ → Hart) → AreHarts harts.old.items f → AreHarts harts.new.items (others_after next own f) }
-    ensures holds { (f : ℕ → Hart) (rs : List Record) → AreHarts harts.old.items f → Holds ring.old rs → Holds ring.new (rs ++ run_over_records next own (length harts.old.items) f) }
-    ensures took { taken ring.new ≤ taken ring.old + 8 }
-    ensures size { ring.new.size ≡ ring.old.size }
+    ensures holds { (f : ℕ → Hart) (rs : List Record) → AreHarts harts.old.items f → IsLog log.old rs → IsLog log.new (rs ++ run_over_records next own (length harts.old.items) f) }
+    ensures headed { (s : HartState) (skipped : ℕ) (h : Hart) → hart_after next s skipped log.old.bytes h ≡ hart_after next s skipped log.new.bytes h }
+    ensures took { taken log.new.ring ≤ taken log.old.ring + HARTS }
+    ensures size { log.new.ring.size ≡ log.old.ring.size }
     ensures len { length harts.new.items ≡ length harts.old.items }
 {
     match next {
-        Next::RunOver { .. } => stop_others(harts, ring, own),
+        Next::RunOver { .. } => stop_others(harts, log, own),
         Next::GoesOn | Next::NewInterval { .. } | Next::HartOver { .. } => {}
     }
 }
 
 /// The harts after a turn: the one whose turn it was is as given, and where the turn ends the run,
 /// the others are stopped and their Ends appended.
-pub fn finish_turn(harts: &mut Vec<Hart>, ring: &mut Ring, number: HartId, next: Next, own: Hart)
+pub fn finish_turn(harts: &mut Vec<Hart>, log: &mut Log, number: HartId, next: Next, own: Hart)
     requires number { number < length harts.old.items }
-    requires few { length harts.old.items ≤ 8 }
-    requires room { taken ring.old + 8 < 2 ^ 60 }
+    requires few { length harts.old.items ≤ HARTS }
+    requires room { taken log.old.ring + HARTS < 2 ^ 56 }
     ensures harts { (f : ℕ → Hart) → AreHarts harts.old.items f → AreHarts harts.new.items (harts_after next number own f) }
-    ensures holds { (f : ℕ → Hart) (rs : List Record) → AreHarts harts.old.items f → Holds ring.old rs → Holds ring.new (rs ++ run_over_records next number (length harts.old.items) f) }
-    ensures took { taken ring.new ≤ taken ring.old + 8 }
-    ensures size { ring.new.size ≡ ring.old.size }
+    ensures holds { (f : ℕ → Hart) (rs : List Record) → AreHarts harts.old.items f → IsLog log.old rs → IsLog log.new (rs ++ run_over_records next number (length harts.old.items) f) }
+    ensures headed { (s : HartState) (skipped : ℕ) (h : Hart) → hart_after next s skipped log.old.bytes h ≡ hart_after next s skipped log.new.bytes h }
+    ensures took { taken log.new.ring ≤ taken log.old.ring + HARTS }
+    ensures size { log.new.ring.size ≡ log.old.ring.size }
     ensures len { length harts.new.items ≡ length harts.old.items }
 {
-    end_others(harts, ring, number, next);
+    end_others(harts, log, number, next);
     harts[number as usize] = own;
 }
 

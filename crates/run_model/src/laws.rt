@@ -1,5 +1,6 @@
 // Laws of turns.
-ghost use Rattle.run_model.specs.Counts.{EachTurnMovesOn, EachTurnFits, OthersStayFit};
+ghost use Rattle.run_model.specs.Counts.{EachTurnMovesOn, EachTurnFits, OthersStayFit, GuardedAsksFit};
+ghost use Rattle.run_model.specs.Guards.{FormatOneIsUnguarded, RecordsDecideNothing};
 
 /// The turn of a live hart's orderly ask moves on within its budget: by one instruction where it
 /// accesses memory, and by some where the hart goes on.
@@ -15,4 +16,23 @@ pub fn each_turn_fits()
 /// The other harts stay within the settings too, and no more turns are left to them.
 pub fn others_stay_fit()
     ensures { OthersStayFit }
+{}
+
+/// A guarded ask fits the hart that begins its next interval in the ask's state: it is orderly there too,
+/// and no more turns are left to it.
+#[tactic(auto, using(crate::proofs::Fits::guarded_fits))]
+pub fn guarded_asks_fit()
+    ensures { GuardedAsksFit }
+{}
+
+/// With format 1 no ask is guarded, and all rows of a turn are of one interval.
+#[tactic(auto, using(crate::proofs::FormatOne::format_one))]
+pub fn format_1_is_unguarded()
+    ensures { FormatOneIsUnguarded }
+{}
+
+/// The records themselves decide nothing: the machine, harts, caches, points, turns and number of bytes
+/// do.
+pub fn records_decide_nothing()
+    ensures { RecordsDecideNothing }
 {}

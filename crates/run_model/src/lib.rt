@@ -4,9 +4,11 @@
 mod caches;
 mod examples;
 mod first;
+mod guarded_examples;
 mod hart;
 mod harts;
 mod laws;
+mod log;
 mod machine;
 mod next;
 mod plain;
@@ -25,8 +27,17 @@ pub use examples::{
     a_store_ends_the_reservation, an_exit_is_recorded, full_intervals_end, rows_are_told,
     the_first_load_is_logged, the_limit_comes_before_the_length,
 };
+pub use guarded_examples::{
+    a_late_fault_is_kept, a_load_is_guarded, a_load_is_not_guarded_in_format_1,
+    a_number_can_pass_twice_the_count, a_turn_ends_two_intervals, edges_move_the_guard,
+    the_rows_of_a_guarded_turn_are_parted,
+};
 pub use hart::{Hart, skipped_after};
-pub use laws::{each_turn_fits, each_turn_moves_on, others_stay_fit};
+pub use laws::{
+    each_turn_fits, each_turn_moves_on, format_1_is_unguarded, guarded_asks_fit, others_stay_fit,
+    records_decide_nothing,
+};
+pub use log::Log;
 pub use machine::{Machine, Streams};
 pub use next::Next;
 pub use plain::Plain;

@@ -1,6 +1,7 @@
 //! The machine that all harts share, as it runs.
 ghost use Rattle.std.specs.Prelude.{◌≡◌, ◌≤◌, ◌<◌, ◌+◌, ◌*◌, ◌/◌, ◌^◌, ◌==◌, ℕ, IsTrue, List, length, slice_index, vec_len, IfOk, OnOk, Option, None, Some};
 ghost use Rattle.bn_base.specs.Programs.{Program};
+ghost use Rattle.bn_base.specs.declared.settings.TheConstants.{HARTS};
 ghost use Rattle.rv_meaning.specs.Orderly.{passes, is_reply_to};
 ghost use Rattle.rv_meaning.specs.Words.{aligned};
 ghost use Rattle.rv_meaning.specs.Access.{stored_word, amo_result};
@@ -265,7 +266,7 @@ impl Machine {
         hart: HartId,
         ask: &Ask,
     ) -> Reply
-        requires hart { hart < 8 }
+        requires hart { hart < HARTS }
         requires room { HasRoom input.now self.old call ask.now.want }
         ensures answer { IsAnswer input.now self.old self.new result (λ m. answer settings.now call m hart ask.now) }
         ensures fits { IsTrue (is_reply_to ask.now.want result) }
@@ -279,7 +280,7 @@ impl Machine {
 
     // The answer to what isn't a system call.
     fn answer_access(&mut self, settings: &Settings, hart: HartId, ask: &Ask) -> Reply
-        requires hart { hart < 8 }
+        requires hart { hart < HARTS }
         requires words { AreWordsReady self.old.memory (span_of None ask.now.want replies.ScOk) }
         requires width { IsTrue (has_width ask.now.want) }
         ensures answer { (input : List ℕ) → IsAnswer input self.old self.new result (λ m. answer_access settings.now m hart ask.now) }
@@ -303,7 +304,7 @@ impl Machine {
     }
 
     fn load_reserved(&mut self, hart: HartId, addr: Addr) -> Reply
-        requires hart { hart < 8 }
+        requires hart { hart < HARTS }
         requires word { AreWordsIn self.old.memory (Some (span addr 1 Read)) }
         ensures answer { (input : List ℕ) → IsAnswer input self.old self.new result (λ m. answered (replies.Word (m.memory addr)) (with_reserved (reserving hart (Some addr) m.reserved) m)) }
         ensures reply { result ≡ replies.Word (slice_index self.old.memory.words (addr / 4)) }
@@ -351,7 +352,7 @@ impl Machine {
 
     // Stores where the hart has reserved that word, and ends the reservation.
     fn store_conditional(&mut self, hart: HartId, addr: Addr, value: u32) -> Reply
-        requires hart { hart < 8 }
+        requires hart { hart < HARTS }
         requires word { IsSpanReady self.old.memory (span addr 1 Write) }
         ensures answer { (input : List ℕ) → IsAnswer input self.old self.new result (λ m. answer_sc (is_reserved (m.reserved hart) addr) addr value hart m) }
         ensures fits { (rd : ℕ) → IsTrue (is_reply_to (StoreConditional addr rd value) result) }
@@ -370,7 +371,7 @@ impl Machine {
 
     // What a planned call of a hart does; the hart's reservation ends with it.
     fn answer_call(&mut self, input: &[u8], plan: Plan, hart: HartId) -> Reply
-        requires hart { hart < 8 }
+        requires hart { hart < HARTS }
         requires words { AreWordsReady self.old.memory (call_span plan) }
         requires room { HasCallRoom input.now self.old plan }
         ensures answer { IsAnswer input.now self.old self.new result (λ m. answer_call plan hart m) }
@@ -397,7 +398,7 @@ impl Machine {
     }
 
     fn fill(&mut self, input: &[u8], hart: HartId, addr: Addr, len: u32) -> Reply
-        requires hart { hart < 8 }
+        requires hart { hart < HARTS }
         requires words { IsSpanReady self.old.memory (span (aligned addr) (word_count addr len) Write) }
         requires given { self.old.taken + len ≤ length input.now }
         ensures answer { IsAnswer input.now self.old self.new result (λ m. answer_call (plans.Fill addr len) hart m) }
@@ -413,7 +414,7 @@ impl Machine {
     }
 
     fn send(&mut self, stream: u32, hart: HartId, addr: Addr, len: u32) -> Reply
-        requires hart { hart < 8 }
+        requires hart { hart < HARTS }
         requires words { IsSpanReady self.old.memory (span (aligned addr) (word_count addr len) Read) }
         requires room { HasStreamRoom (stream == 1) self.old len }
         ensures answer { (input : List ℕ) → IsAnswer input self.old self.new result (λ m. answer_call (plans.Send stream addr len) hart m) }

@@ -1,12 +1,13 @@
 // The records of a turn, and the log that takes them.
-ghost use Rattle.std.specs.Prelude.{◌≡◌, ◌≤◌, ◌<◌, ◌+◌, ◌^◌, ◌∷◌, ◌++◌, [], ℕ, List, length, take, IsTrue};
+ghost use Rattle.std.specs.Prelude.{◌≡◌, ◌≤◌, ◌<◌, ◌+◌, ◌*◌, ◌^◌, ◌∷◌, ◌++◌, [], ℕ, List, length, take, IsTrue, IfOk};
 ghost use Rattle.log_record.specs.declared.record.Record.{Record};
 ghost use Rattle.log_record.specs.declared.record.Record.TheVariants.{End};
-ghost use Rattle.log_record.specs.Spelling.{is_marked, is_mark};
-ghost use Rattle.log_ring.specs.Kept.{Holds};
+ghost use Rattle.log_record.specs.Spelling.{bytes_of, is_mark, is_marked};
+ghost use Rattle.log_ring.specs.Kept.{held};
 ghost use Rattle.run_model.specs.Turn.{edges_from, load_record, sc_record, header, mark, next_records};
-ghost use Rattle.run_model.specs.Logs.{taken, Took, is_marked_next};
+ghost use Rattle.run_model.specs.Logs.{taken, Took, IsLog, is_marked_next};
 
+use crate::log::Log;
 use crate::next::Next;
 use bn_base::{EndMark, HartId, HartState, Ic};
 use first_load_bits::Warm;
@@ -14,131 +15,154 @@ use log_record::Record;
 use log_ring::Ring;
 use race_log::Edges;
 use rv_meaning::Reply;
+use std::alloc::{AllocError, Global};
 
-// Appends a record.
-fn append(ring: &mut Ring, entry: &Record)
-    requires marked { IsTrue (is_marked entry.now) }
-    requires room { taken ring.old < 2 ^ 60 }
-    ensures holds { (rs : List Record) → Holds ring.old rs → Holds ring.new (rs ++ entry.now ∷ []) }
-    ensures took { Took ring.old 1 ring.new }
+// How many bytes a record has.
+fn size_of(entry: &Record) -> u64
+    ensures value { result ≡ length (bytes_of entry.now) }
+    ensures most { result ≤ 146 }
 {
-    ring.append(entry);
-}
-
-// Appends the Edge into instruction `ic` of a hart from source number `i`.
-fn append_edge(ring: &mut Ring, hart: HartId, ic: Ic, edges: &Edges, i: usize)
-    requires there { i < length edges.now }
-    requires room { taken ring.old < 2 ^ 60 }
-    ensures holds { (rs : List Record) → Holds ring.old (rs ++ edges_from hart ic (take i edges.now)) → Holds ring.new (rs ++ edges_from hart ic (take (i + 1) edges.now)) }
-    ensures took { Took ring.old 1 ring.new }
-{
-    match edges.get(i) {
-        None => unreachable!(),
-        Some((from, from_ic)) => append(
-            ring,
-            &Record::Edge {
-                hart,
-                ic,
-                from,
-                from_ic,
-            },
-        ),
+    match entry {
+        Record::Header { x, .. } => {
+            let _others = x.others();
+            146
+        }
+        Record::FirstLoad { .. } => 10,
+        Record::ScOk { .. } => 2,
+        Record::ScFailed { .. } => 2,
+        Record::Edge { .. } => 19,
+        Record::End { .. } => 15,
     }
 }
 
-/// Appends the Edges into instruction `ic` of a hart, at most 8.
-pub fn append_edges(ring: &mut Ring, hart: HartId, ic: Ic, edges: &Edges)
-    requires room { taken ring.old + length edges.now < 2 ^ 60 }
-    ensures holds { (rs : List Record) → Holds ring.old rs → Holds ring.new (rs ++ edges_from hart ic edges.now) }
-    ensures took { Took ring.old (length edges.now) ring.new }
+impl Log {
+    /// A log that keeps up to `size` bytes of records, and took none yet. The only error is want of
+    /// memory.
+    pub fn new(alloc: Global, size: usize) -> Result<Log, AllocError>
+        requires { 146 ≤ size }
+        ensures ring { IfOk result (λ l. l.ring ≡ held [] 0 size) }
+        ensures bytes { IfOk result (λ l. l.bytes ≡ 0) }
+    {
+        Ok(Log {
+            ring: Ring::new(alloc, size)?,
+            bytes: 0,
+        })
+    }
+
+    /// Takes a record. It takes no memory.
+    pub fn append(&mut self, entry: &Record)
+        requires marked { IsTrue (is_marked 2 entry.now) }
+        requires room { taken self.old.ring < 2 ^ 56 }
+        ensures holds { (rs : List Record) → IsLog self.old rs → IsLog self.new (rs ++ entry.now ∷ []) }
+        ensures took { Took self.old 1 self.new }
+    {
+        self.bytes += size_of(entry);
+        self.ring.append(entry);
+    }
+}
+
+// Appends the Edge into instruction `ic` of a hart from source number `i`.
+fn append_edge(log: &mut Log, hart: HartId, ic: Ic, edges: &Edges, i: usize)
+    requires there { i < length edges.now }
+    requires room { taken log.old.ring < 2 ^ 56 }
+    ensures holds { (rs : List Record) → IsLog log.old (rs ++ edges_from hart ic (take i edges.now)) → IsLog log.new (rs ++ edges_from hart ic (take (i + 1) edges.now)) }
+    ensures took { Took log.old 1 log.new }
+{
+    match edges.get(i) {
+        None => unreachable!(),
+        Some((from, from_ic)) => log.append(&Record::Edge {
+            hart,
+            ic,
+            from,
+            from_ic,
+        }),
+    }
+}
+
+/// Appends the Edges into instruction `ic` of a hart, at most 16.
+pub fn append_edges(log: &mut Log, hart: HartId, ic: Ic, edges: &Edges)
+    requires room { taken log.old.ring + length edges.now < 2 ^ 56 }
+    ensures holds { (rs : List Record) → IsLog log.old rs → IsLog log.new (rs ++ edges_from hart ic edges.now) }
+    ensures took { Took log.old (length edges.now) log.new }
 {
     for i in 0..edges.count() {
-        append_edge(ring, hart, ic, edges, i);
+        append_edge(log, hart, ic, edges, i);
     }
 }
 
 /// Appends a FirstLoad, where the word of a loading access wasn't warm.
-pub fn append_load(ring: &mut Ring, load: Option<Warm>, hart: HartId, skipped: u32, word: u32)
-    requires room { taken ring.old + 1 < 2 ^ 60 }
-    ensures holds { (rs : List Record) → Holds ring.old rs → Holds ring.new (rs ++ load_record load hart skipped word) }
-    ensures took { Took ring.old (length (load_record load hart skipped word)) ring.new }
+pub fn append_load(log: &mut Log, load: Option<Warm>, hart: HartId, skipped: u32, word: u32)
+    requires room { taken log.old.ring + 1 < 2 ^ 56 }
+    ensures holds { (rs : List Record) → IsLog log.old rs → IsLog log.new (rs ++ load_record load hart skipped word) }
+    ensures took { Took log.old (length (load_record load hart skipped word)) log.new }
 {
     if let Some(Warm::Cold) = load {
-        append(
-            ring,
-            &Record::FirstLoad {
-                hart,
-                skip: skipped,
-                value: word,
-            },
-        );
+        log.append(&Record::FirstLoad {
+            hart,
+            skip: skipped,
+            value: word,
+        });
     }
 }
 
 /// Appends how an SC went, where the reply is one to an SC.
-pub fn append_conditional(ring: &mut Ring, reply: Reply, hart: HartId)
-    requires room { taken ring.old + 1 < 2 ^ 60 }
-    ensures holds { (rs : List Record) → Holds ring.old rs → Holds ring.new (rs ++ sc_record reply hart) }
-    ensures took { Took ring.old (length (sc_record reply hart)) ring.new }
+pub fn append_conditional(log: &mut Log, reply: Reply, hart: HartId)
+    requires room { taken log.old.ring + 1 < 2 ^ 56 }
+    ensures holds { (rs : List Record) → IsLog log.old rs → IsLog log.new (rs ++ sc_record reply hart) }
+    ensures took { Took log.old (length (sc_record reply hart)) log.new }
 {
     match reply {
-        Reply::ScOk => append(ring, &Record::ScOk { hart }),
-        Reply::ScFailed => append(ring, &Record::ScFailed { hart }),
+        Reply::ScOk => log.append(&Record::ScOk { hart }),
+        Reply::ScFailed => log.append(&Record::ScFailed { hart }),
         _ => {}
     }
 }
 
 /// Appends the End of an interval.
-pub fn append_end(ring: &mut Ring, hart: HartId, ic: Ic, reason: u8, value: u32)
-    requires marked { IsTrue (is_mark (mark ic reason value)) }
-    requires room { taken ring.old + 1 < 2 ^ 60 }
-    ensures holds { (rs : List Record) → Holds ring.old rs → Holds ring.new (rs ++ End hart (mark ic reason value) ∷ []) }
-    ensures took { Took ring.old 1 ring.new }
+pub fn append_end(log: &mut Log, hart: HartId, ic: Ic, reason: u8, value: u32)
+    requires marked { IsTrue (is_mark 2 (mark ic reason value)) }
+    requires room { taken log.old.ring + 1 < 2 ^ 56 }
+    ensures holds { (rs : List Record) → IsLog log.old rs → IsLog log.new (rs ++ End hart (mark ic reason value) ∷ []) }
+    ensures took { Took log.old 1 log.new }
 {
-    append(
-        ring,
-        &Record::End {
-            hart,
-            mark: EndMark { ic, reason, value },
-        },
-    );
+    log.append(&Record::End {
+        hart,
+        mark: EndMark { ic, reason, value },
+    });
 }
 
 /// Appends the Header of the interval that a hart begins in a state.
-pub fn append_header(ring: &mut Ring, hart: HartId, number: u64, state: &HartState)
-    requires room { taken ring.old + 1 < 2 ^ 60 }
-    ensures holds { (rs : List Record) → Holds ring.old rs → Holds ring.new (rs ++ header hart number state.now ∷ []) }
-    ensures took { Took ring.old 1 ring.new }
+pub fn append_header(log: &mut Log, hart: HartId, number: u64, state: &HartState)
+    requires room { taken log.old.ring + 1 < 2 ^ 56 }
+    ensures holds { (rs : List Record) → IsLog log.old rs → IsLog log.new (rs ++ header hart number state.now ∷ []) }
+    ensures took { Took log.old 1 log.new }
 {
-    append(
-        ring,
-        &Record::Header {
-            hart,
-            interval: number,
-            ic: state.ic,
-            pc: state.pc,
-            x: state.x,
-        },
-    );
+    log.append(&Record::Header {
+        hart,
+        interval: number,
+        ic: state.ic,
+        pc: state.pc,
+        x: state.x,
+    });
 }
 
 /// Appends the End of an interval that a turn ends, and the Header of the one that it begins, by its
 /// number.
-pub fn append_next(ring: &mut Ring, next: Next, hart: HartId, number: u64, state: &HartState)
+pub fn append_next(log: &mut Log, next: Next, hart: HartId, number: u64, state: &HartState)
     requires marked { IsTrue (is_marked_next next) }
-    requires room { taken ring.old + 2 < 2 ^ 60 }
+    requires room { taken log.old.ring + 2 < 2 ^ 56 }
     requires number { number < 2 ^ 63 }
-    ensures holds { (rs : List Record) → Holds ring.old rs → Holds ring.new (rs ++ next_records next hart number state.now) }
-    ensures took { Took ring.old (length (next_records next hart number state.now)) ring.new }
+    ensures holds { (rs : List Record) → IsLog log.old rs → IsLog log.new (rs ++ next_records next hart number state.now) }
+    ensures took { Took log.old (length (next_records next hart number state.now)) log.new }
 {
     match next {
         Next::GoesOn => {}
         Next::NewInterval { reason, value } => {
-            append_end(ring, hart, state.ic, reason, value);
-            append_header(ring, hart, number + 1, state);
+            append_end(log, hart, state.ic, reason, value);
+            append_header(log, hart, number + 1, state);
         }
         Next::HartOver { reason, value } | Next::RunOver { reason, value } => {
-            append_end(ring, hart, state.ic, reason, value)
+            append_end(log, hart, state.ic, reason, value)
         }
     }
 }

@@ -6,7 +6,7 @@ ghost use Rattle.rv_meaning.specs.Execute.{absorbed};
 ghost use Rattle.rv_meaning.specs.Orderly.{is_reply_to};
 ghost use Rattle.first_load_bits.specs.Events.{Event};
 ghost use Rattle.log_record.specs.declared.record.Record.{Record};
-ghost use Rattle.log_ring.specs.Kept.{Holds};
+ghost use Rattle.bn_base.specs.declared.settings.TheConstants.{HARTS};
 ghost use Rattle.race_log.specs.Points.{Point};
 ghost use Rattle.race_log.specs.Stands.{Stands, KnowsSame, harts_of, next_turn, next_count};
 ghost use Rattle.run_model.specs.declared.hart.Hart.{Hart};
@@ -15,7 +15,7 @@ ghost use Rattle.run_model.specs.declared.span.Span.{Span};
 ghost use Rattle.run_model.specs.Machine.{Machine, call_of};
 ghost use Rattle.run_model.specs.Turn.{span_of, next_of, loading, warmth, point_of, points_after, edge_records, load_record, sc_record, next_records, run_over_records, harts_after, hart_after, events_after, skipped_after};
 ghost use Rattle.run_model.specs.Harts.{AreHarts, hart_in};
-ghost use Rattle.run_model.specs.Logs.{taken, is_marked_next};
+ghost use Rattle.run_model.specs.Logs.{taken, IsLog, is_marked_next};
 ghost use Rattle.run_model.specs.EachCache.{AreCaches, steps_in, where_loading, touched_word, touches};
 ghost use Rattle.run_model.specs.Counts.{is_loading};
 ghost use Rattle.run_model.specs.Parts.{AreAddresses};
@@ -24,13 +24,13 @@ ghost use Rattle.run_model.specs.Plain.{everyone, IsRaceReady, count_after, clea
 use crate::caches::Caches;
 use crate::hart::{Hart, skipped_after};
 use crate::harts::finish_turn;
+use crate::log::Log;
 use crate::next::Next;
 use crate::race::record_access;
 use crate::records::{append_conditional, append_load, append_next};
 use crate::span::{Span, loading};
 use bn_base::{HartId, Settings};
 use first_load_bits::Warm;
-use log_ring::Ring;
 use race_log::Shadow;
 use rv_meaning::{Ask, Reply, Want};
 use std::alloc::AllocError;
@@ -42,7 +42,7 @@ pub struct Trace {
     pub harts: Vec<Hart>,
     pub caches: Caches,
     pub shadow: Shadow,
-    pub ring: Ring,
+    pub log: Log,
 }
 
 // How the word of a loading access was, where that of an access was so.
@@ -65,7 +65,7 @@ impl Trace {
         ensures same { KnowsSame self.old.shadow self.new.shadow }
         ensures harts { self.new.harts ≡ self.old.harts }
         ensures caches { self.new.caches ≡ self.old.caches }
-        ensures ring { self.new.ring ≡ self.old.ring }
+        ensures log { self.new.log ≡ self.old.log }
     {
         match span {
             None => Ok(()),
@@ -88,14 +88,14 @@ impl Trace {
         requires hart { hart < length self.old.harts.items }
         requires caches { hart < length self.old.caches }
         requires shadow { hart < harts_of self.old.shadow }
-        requires few { harts_of self.old.shadow ≤ 8 }
+        requires few { harts_of self.old.shadow ≤ HARTS }
         requires ic { ask.now.state.ic < 2 ^ 41 }
         requires steps { steps_in self.old.caches hart < 2 ^ 42 }
         requires addresses { AreAddresses (span_of call ask.now.want reply) }
         requires ready { IsRaceReady self.old.shadow (span_of call ask.now.want reply) }
         requires turns { next_turn self.old.shadow ≤ turn }
         requires counts { next_count self.old.shadow hart ≤ ask.now.state.ic }
-        requires room { taken self.old.ring + 10 < 2 ^ 60 }
+        requires room { taken self.old.log.ring + 18 < 2 ^ 56 }
         ensures load { (c : RawSettings) (i : Program) (m : Machine) (events : ℕ → List Event) → call ≡ call_of i m ask.now.want → AreCaches c self.old.caches events →
             result ≡ warmth c (loading ask.now.want) (events hart) }
         ensures loading { is_some result ≡ true → is_loading (loading ask.now.want) ≡ true }
@@ -103,8 +103,8 @@ impl Trace {
             AreCaches c self.new.caches (events_after GoesOn hart call (span_of call ask.now.want reply) events) }
         ensures shadow { (points : List Point) → Stands points everyone self.old.shadow →
             Stands (points_after (point_of hart ask.now.state.ic turn (span_of call ask.now.want reply)) points) everyone self.new.shadow }
-        ensures holds { (points : List Point) (rs : List Record) → Stands points everyone self.old.shadow → Holds self.old.ring rs →
-            Holds self.new.ring (rs ++ edge_records (point_of hart ask.now.state.ic turn (span_of call ask.now.want reply)) points
+        ensures holds { (points : List Point) (rs : List Record) → Stands points everyone self.old.shadow → IsLog self.old.log rs →
+            IsLog self.new.log (rs ++ edge_records (point_of hart ask.now.state.ic turn (span_of call ask.now.want reply)) points
             ++ load_record result hart (hart_in self.old.harts.items hart).skipped word ++ sc_record reply hart) }
         ensures harts { self.new.harts ≡ self.old.harts }
         ensures count { length self.new.caches ≡ length self.old.caches }
@@ -113,13 +113,13 @@ impl Trace {
         ensures turn { next_turn self.new.shadow ≤ turn + 1 }
         ensures next { next_count self.new.shadow hart ≤ count_after (span_of call ask.now.want reply) ask.now.state.ic (next_count self.old.shadow hart) }
         ensures others { (h : ℕ) → h ≢ hart → next_count self.new.shadow h ≡ next_count self.old.shadow h }
-        ensures took { taken self.new.ring ≤ taken self.old.ring + 10 }
-        ensures size { self.new.ring.size ≡ self.old.ring.size }
+        ensures took { taken self.new.log.ring ≤ taken self.old.log.ring + 18 }
+        ensures size { self.new.log.ring.size ≡ self.old.log.ring.size }
     {
         let span = Span::of(call, &ask.want, reply);
         record_access(
             &mut self.shadow,
-            &mut self.ring,
+            &mut self.log,
             hart,
             ask.state.ic,
             turn,
@@ -128,8 +128,8 @@ impl Trace {
         let touched = self.caches.take(hart, call, span);
         let load = where_loading(&ask.want, touched);
         let skipped = self.harts[hart as usize].skipped;
-        append_load(&mut self.ring, load, hart, skipped, word);
-        append_conditional(&mut self.ring, reply, hart);
+        append_load(&mut self.log, load, hart, skipped, word);
+        append_conditional(&mut self.log, reply, hart);
         load
     }
 
@@ -143,7 +143,7 @@ impl Trace {
         ensures steps { (k : ℕ) → steps_in self.new.caches k ≡ (if k == hart then steps_in self.old.caches k + clears next else steps_in self.old.caches k) }
         ensures harts { self.new.harts ≡ self.old.harts }
         ensures shadow { self.new.shadow ≡ self.old.shadow }
-        ensures ring { self.new.ring ≡ self.old.ring }
+        ensures log { self.new.log ≡ self.old.log }
     {
         match next {
             Next::NewInterval { .. } => self.caches.clear(hart),
@@ -165,24 +165,24 @@ impl Trace {
         load: Option<Warm>,
     )
         requires hart { hart < length self.old.harts.items }
-        requires few { length self.old.harts.items ≤ 8 }
+        requires few { length self.old.harts.items ≤ HARTS }
         requires caches { hart < length self.old.caches }
         requires steps { steps_in self.old.caches hart < 2 ^ 42 }
         requires fits { IsTrue (is_reply_to ask.now.want reply) }
         requires number { (hart_in self.old.harts.items hart).number < 2 ^ 62 }
         requires skipped { (hart_in self.old.harts.items hart).skipped < 2 ^ 32 - 1 }
         requires marked { IsTrue (is_marked_next (next_of settings.now call (hart_in self.old.harts.items hart) ask.now.want reply (absorbed ask.now reply).ic)) }
-        requires room { taken self.old.ring + 10 < 2 ^ 60 }
+        requires room { taken self.old.log.ring + 18 < 2 ^ 56 }
         ensures harts { (f : ℕ → Hart) → AreHarts self.old.harts.items f →
             let h = hart_in self.old.harts.items hart in
             let s = absorbed ask.now reply in
             let next = next_of settings.now call h ask.now.want reply s.ic in
-            AreHarts self.new.harts.items (harts_after next hart (hart_after next s (skipped_after load h.skipped) h) f) }
-        ensures holds { (f : ℕ → Hart) (rs : List Record) → AreHarts self.old.harts.items f → Holds self.old.ring rs →
+            AreHarts self.new.harts.items (harts_after next hart (hart_after next s (skipped_after load h.skipped) self.new.log.bytes h) f) }
+        ensures holds { (f : ℕ → Hart) (rs : List Record) → AreHarts self.old.harts.items f → IsLog self.old.log rs →
             let h = hart_in self.old.harts.items hart in
             let s = absorbed ask.now reply in
             let next = next_of settings.now call h ask.now.want reply s.ic in
-            Holds self.new.ring (rs ++ next_records next hart h.number s ++ run_over_records next hart (length self.old.harts.items) f) }
+            IsLog self.new.log (rs ++ next_records next hart h.number s ++ run_over_records next hart (length self.old.harts.items) f) }
         ensures caches { (c : RawSettings) (span : Option Span) (events : ℕ → List Event) → AreCaches c self.old.caches (events_after GoesOn hart call span events) →
             let h = hart_in self.old.harts.items hart in
             AreCaches c self.new.caches (events_after (next_of settings.now call h ask.now.want reply (absorbed ask.now reply).ic) hart call span events) }
@@ -193,17 +193,17 @@ impl Trace {
             let next = next_of settings.now call h ask.now.want reply (absorbed ask.now reply).ic in
             steps_in self.new.caches k ≡ (if k == hart then steps_in self.old.caches k + clears next else steps_in self.old.caches k) }
         ensures shadow { self.new.shadow ≡ self.old.shadow }
-        ensures took { taken self.new.ring ≤ taken self.old.ring + 10 }
-        ensures size { self.new.ring.size ≡ self.old.ring.size }
+        ensures took { taken self.new.log.ring ≤ taken self.old.log.ring + 18 }
+        ensures size { self.new.log.ring.size ≡ self.old.log.ring.size }
     {
         let before = &self.harts[hart as usize];
         let skipped = skipped_after(load, before.skipped);
         let mut own = *before;
         own.absorb(ask, reply);
         let next = Next::of(settings, call, before, &ask.want, reply, own.state.ic);
-        append_next(&mut self.ring, next, hart, own.number, &own.state);
+        append_next(&mut self.log, next, hart, own.number, &own.state);
         self.begin(hart, next);
-        own.take(next, skipped);
-        finish_turn(&mut self.harts, &mut self.ring, hart, next, own);
+        own.take(next, skipped, self.log.bytes);
+        finish_turn(&mut self.harts, &mut self.log, hart, next, own);
     }
 }

@@ -1,10 +1,10 @@
 // The turns of a plain machine.
-ghost use Rattle.std.specs.Prelude.{◌≡◌, ◌<◌, ◌≤◌, ◌*◌, ◌^◌, ℕ, true, length, IsTrue, IfOk, OnOk, OnErr, MatchOption};
-ghost use Rattle.rv_meaning.specs.Orderly.{passes};
+ghost use Rattle.std.specs.Prelude.{◌≡◌, ◌<◌, ◌≤◌, ◌*◌, ◌^◌, ℕ, true, false, length, IsTrue, IfOk, OnOk, OnErr, MatchOption};
+ghost use Rattle.rv_meaning.specs.Orderly.{is_cut, passes};
 ghost use Rattle.rv_meaning.specs.declared.asks.Reply.{Reply};
 ghost use Rattle.rv_meaning.specs.declared.asks.Reply.TheVariants as replies;
 ghost use Rattle.run_model.specs.Machine.{Machine as Meant, call_of};
-ghost use Rattle.run_model.specs.Turn.{Run, span_of, is_orderly, serve_call, serve_disorderly, halted, turn, budget};
+ghost use Rattle.run_model.specs.Turn.{Run, span_of, is_orderly, is_guarded, bytes_since, serve_call, serve_disorderly, halted, turn, budget};
 ghost use Rattle.run_model.specs.Parts.{HasRoom, IsMachine, AreAddresses};
 ghost use Rattle.run_model.specs.Harts.{hart_in};
 ghost use Rattle.run_model.specs.Plain.{IsRun, IsRaceReady};
@@ -12,7 +12,7 @@ ghost use Rattle.log_ring.specs.Kept.{Holds};
 ghost use Rattle.run_model.specs.Runs.{start, is_live, most_turns};
 ghost use Rattle.run_model.specs.Turning.{parts, is_alive};
 
-use crate::hart::Hart;
+use crate::hart::{HEADER_SIZE, Hart};
 use crate::harts::end_each;
 use crate::machine::{Machine, Streams};
 use crate::plain::Plain;
@@ -21,7 +21,7 @@ use crate::start::Start;
 use crate::trace::Trace;
 use bn_base::{HartId, HartState};
 use log_ring::Ring;
-use rv_meaning::{Ask, Reply, quiet_run};
+use rv_meaning::{Ask, Reply, Want, quiet_run};
 use std::alloc::{AllocError, Global};
 use system_calls::Plan;
 
@@ -36,6 +36,16 @@ pub struct Recorded {
     pub turns: u64,
 }
 
+// Whether an ask is a cut, which does no instruction.
+fn is_cut(want: &Want) -> bool
+    ensures { result ≡ is_cut want.now }
+{
+    match want {
+        Want::Cut => true,
+        _ => false,
+    }
+}
+
 impl Plain {
     /// Whether a hart could ask this now: the count fits its budget, and the access passes the tests.
     pub fn is_orderly(&self, hart: HartId, ask: &Ask) -> bool
@@ -46,6 +56,28 @@ impl Plain {
         let own = &self.trace.harts[hart as usize];
         let budget = own.budget(&self.start.settings);
         ask.is_orderly(&self.start.image, own.state.ic, budget)
+    }
+
+    /// Whether a hart's orderly ask is guarded: more than half of the log's bytes stand from the Header of
+    /// its interval on, so that the interval ends ahead of it. With format 1 none is.
+    pub fn is_guarded(&self, hart: HartId, ask: &Ask) -> bool
+        requires { hart < self.now.start.settings.harts }
+        ensures run { (run : Run) → IsRun (parts self.now) run → result ≡ is_guarded self.now.start.settings run hart ask.now.want }
+        ensures none { result ≡ false }
+    {
+        self.start.settings.format() == 2
+            && !is_cut(&ask.want)
+            && u64::from(self.start.settings.log_size()) < 2 * self.since_header(hart)
+    }
+
+    // How many bytes of records there are from a hart's present Header on.
+    fn since_header(&self, hart: HartId) -> u64
+        requires { hart < self.now.start.settings.harts }
+        ensures run { (run : Run) → IsRun (parts self.now) run → result ≡ bytes_since run hart }
+        ensures few { result < 2 ^ 63 }
+    {
+        let own = &self.trace.harts[hart as usize];
+        HEADER_SIZE + self.trace.log.bytes.saturating_sub(own.headed)
     }
 
     /// Plans the system call that an orderly ask makes, if it makes one, and finds all memory that its
@@ -81,8 +113,8 @@ impl Plain {
         requires room { HasRoom self.old.start.input.items self.old.machine call ask.now.want }
         requires race { IsRaceReady self.old.trace.shadow (span_of call ask.now.want replies.ScOk) }
         requires addresses { (reply : Reply) → AreAddresses (span_of call ask.now.want reply) }
-        ensures run { (run : Run) → IsRun (parts self.old) run → IsRun (parts self.new) (serve_call self.old.start.settings run hart ask.now call).run }
-        ensures reply { (run : Run) → IsRun (parts self.old) run → result ≡ (serve_call self.old.start.settings run hart ask.now call).reply }
+        ensures run { (run : Run) → IsRun (parts self.old) run → IsRun (parts self.new) (serve_call self.old.start.settings run hart ask.now (is_guarded self.old.start.settings run hart ask.now.want) call).run }
+        ensures reply { (run : Run) → IsRun (parts self.old) run → result ≡ (serve_call self.old.start.settings run hart ask.now (is_guarded self.old.start.settings run hart ask.now.want) call).reply }
         ensures start { self.new.start ≡ self.old.start }
     {
         let word = self.machine.word_before(&self.start.image, &ask.want);
@@ -173,7 +205,7 @@ impl Plain {
         ensures holds { (run : Run) → IsRun (parts self.now) run → Holds result.now run.stream }
         ensures size { result.now.size ≡ self.now.start.settings.log_size }
     {
-        &self.trace.ring
+        &self.trace.log.ring
     }
 
     /// The bytes of output stream 1.
@@ -225,7 +257,7 @@ impl Plain {
     pub fn into_recorded(self) -> Recorded
         ensures harts { result.harts ≡ (parts self).trace.harts }
         ensures count { length result.harts.items ≡ self.start.settings.harts }
-        ensures ring { result.ring ≡ (parts self).trace.ring }
+        ensures ring { result.ring ≡ (parts self).trace.log.ring }
         ensures size { result.ring.size ≡ self.start.settings.log_size }
         ensures out { result.out.items ≡ (parts self).machine.out }
         ensures err { result.err.items ≡ (parts self).machine.err }
@@ -237,11 +269,11 @@ impl Plain {
             trace,
             turns,
         } = self;
-        let Trace { harts, ring, .. } = trace;
+        let Trace { harts, log, .. } = trace;
         let Streams { out, err } = machine.into_streams();
         Recorded {
             harts,
-            ring,
+            ring: log.ring,
             out,
             err,
             turns,

@@ -11,7 +11,7 @@ pub returns : goal.returns
 returns c s i digest input b r =
     let setting = r.setting in
     let order : OrderLaws = record { more = c.one_more_is_kept.ensures; header = c.an_awaited_header_follows.ensures; other = c.loads_and_conditionals_follow.ensures; edge = c.an_edge_follows.ensures; ends = c.an_end_follows.ensures } in
-    let turns : Laws = record { order = order; listed = c.listed_edges_are_all.ensures.all; moves = c.each_turn_moves_on.ensures; fits = c.each_turn_fits.ensures; others = c.others_stay_fit.ensures } in
+    let turns : Laws = record { order = order; listed = c.listed_edges_are_all.ensures.all; moves = c.each_turn_moves_on.ensures; fits = c.each_turn_fits.ensures; others = c.others_stay_fit.ensures; guards = c.format_1_is_unguarded.ensures } in
     let laws : AllLaws = record { turns = turns; asks = c.each_ask_is_orderly.ensures.orderly; keep = c.registers_stay_words.ensures.step; fall = c.listed_edges_are_all.ensures.falling } in
     let begin : After s 0 (start s i input) = record { known = started order c.no_records_are_kept.ensures s i input setting; words = start_worded s i input setting r.image; count = refl } in
     let end = turns_after laws s i (start s i input) b 0 setting r.image begin r.legal in

@@ -5,10 +5,10 @@ use Rattle.race_laws.proofs.points_are_in_order.Goals as goal
 
 pub returns-clause-turns : goal.returns-clause-turns
 returns-clause-turns c =
-    let laws : Laws = record { moves = c.each_turn_moves_on.ensures; fits = c.each_turn_fits.ensures; others = c.others_stay_fit.ensures; edges = record { decide = c.tests_decide.ensures.edge; listed = c.listed_edges_are_all.ensures.all } } in
+    let laws : Laws = record { moves = c.each_turn_moves_on.ensures; fits = c.each_turn_fits.ensures; others = c.others_stay_fit.ensures; guarded = c.guarded_asks_fit.ensures; edges = record { decide = c.tests_decide.ensures.edge; listed = c.listed_edges_are_all.ensures.all } } in
     of_lists HasOrder c.turns_are_lawful.ensures (points_in_order laws)
 
 pub returns-clause-rows : goal.returns-clause-rows
 returns-clause-rows c =
-    let laws : Laws = record { moves = c.each_turn_moves_on.ensures; fits = c.each_turn_fits.ensures; others = c.others_stay_fit.ensures; edges = record { decide = c.tests_decide.ensures.edge; listed = c.listed_edges_are_all.ensures.all } } in
+    let laws : Laws = record { moves = c.each_turn_moves_on.ensures; fits = c.each_turn_fits.ensures; others = c.others_stay_fit.ensures; guarded = c.guarded_asks_fit.ensures; edges = record { decide = c.tests_decide.ensures.edge; listed = c.listed_edges_are_all.ensures.all } } in
     points_in_order laws

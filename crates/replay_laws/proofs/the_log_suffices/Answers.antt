@@ -1,8 +1,5 @@
-use Rattle.replay_laws.proofs.Whole.{Known, sufficiency}
+use Rattle.replay_laws.proofs.Whole.{of_kept}
 use Rattle.replay_laws.proofs.the_log_suffices.Goals as goal
 
 pub returns : goal.returns
-returns c =
-    let instructions = c.each_instruction_is_counted_or_asks.ensures in
-    let known : Known = record { counts = instructions.counted; passing = instructions.asks; orderly = c.each_ask_is_orderly.ensures.orderly } in
-    sufficiency known c.a_suffix_is_kept.ensures
+returns c = of_kept c.ends_suffice.ensures c.a_suffix_is_kept.ensures

@@ -1,13 +1,11 @@
 //! The words that harts have reserved.
 ghost use Rattle.std.specs.Prelude.{◌≡◌, ◌<◌, ◌+◌, ◌*◌, ◌==◌, ℕ, Option, None, cond};
+ghost use Rattle.bn_base.specs.declared.settings.TheConstants.{HARTS};
 ghost use Rattle.run_model.specs.Machine.{reserving, unless, others_lose, is_among, all_lose, is_reserved};
 ghost use Rattle.run_model.specs.Parts.{AreReserved};
 
-use bn_base::{Addr, HartId};
+use bn_base::{Addr, HARTS, HartId};
 use std::marker::Model;
-
-/// The most harts that there are.
-const HARTS: usize = 8;
 
 /// The aligned word that each hart has reserved, if it has one.
 #[derive(Debug, Drop)]
@@ -17,12 +15,13 @@ pub(crate) struct Reservations {
 
 impl Model for Reservations {
     ghost use Rattle.std.specs.Prelude.{◌≡◌, ℕ, List, Option, length};
+    ghost use Rattle.bn_base.specs.declared.settings.TheConstants.{HARTS};
 
     ghost Value = { List (Option ℕ) };
 
     ghost view = { λ r. r.of };
 
-    ghost invariant = { λ r. length r.of ≡ 8 };
+    ghost invariant = { λ r. length r.of ≡ HARTS };
 }
 
 // A hart's reservation after another hart wrote a word.
@@ -73,7 +72,7 @@ impl Reservations {
 
     /// Whether a hart has reserved an aligned word.
     pub fn has(&self, hart: HartId, addr: Addr) -> bool
-        requires { hart < 8 }
+        requires { hart < HARTS }
         ensures { (f : ℕ → Option ℕ) → AreReserved self.now f → result ≡ is_reserved (f hart) addr }
     {
         match self.of[hart as usize] {
@@ -84,7 +83,7 @@ impl Reservations {
 
     /// Makes or ends a hart's own reservation.
     pub fn set(&mut self, hart: HartId, own: Option<Addr>)
-        requires { hart < 8 }
+        requires { hart < HARTS }
         ensures { (f : ℕ → Option ℕ) → AreReserved self.old f → AreReserved self.new (reserving hart own f) }
     {
         self.of[hart as usize] = own;

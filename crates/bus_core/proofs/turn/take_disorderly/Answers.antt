@@ -10,6 +10,11 @@ returns-clause-reply g c run is =
     let s = (parts c.args.plain.now).start in
     ap (λ (x : Served). x.reply) (served_disorderly s.settings s.image run c.args.hart c.args.ask.now (c.requires.meant run is))
 
+pub returns-clause-guarded : goal.returns-clause-guarded
+returns-clause-guarded g c run is =
+    let s = (parts c.args.plain.now).start in
+    ap (λ (x : Served). x.guarded) (served_disorderly s.settings s.image run c.args.hart c.args.ask.now (c.requires.meant run is))
+
 pub returns-clause-run : goal.returns-clause-run
 returns-clause-run g c run is =
     let s = (parts c.args.plain.now).start in

@@ -1,6 +1,8 @@
-use Rattle.std.proofs.Common.{◌++◌, List, sym, subst, length}
+use Rattle.std.proofs.Common.{◌≡◌, ◌++◌, List, refl, sym, subst, length}
 use Rattle.log_record.specs.declared.record.Record.{Record}
-use Rattle.log_ring.specs.Kept.{Holds}
+use Rattle.run_model.specs.Logs.{IsLog}
+use Rattle.run_model.specs.Turn.{hart_after}
+use Rattle.run_model.specs.declared.next.Next.{Next}
 use Rattle.run_model.proofs.Stopping.{all_stopped, over_harts, over_records}
 use Rattle.run_model.proofs.harts.end_others.Goals as goal
 
@@ -12,4 +14,8 @@ returns-in-RunOver-clause-harts c f are =
 pub returns-in-RunOver-clause-holds : goal.returns-in-RunOver-clause-holds
 returns-in-RunOver-clause-holds c f rs are held =
     let s = c.stop_others in
-    subst (λ (xs : List Record). Holds s.new.ring (rs ++ xs)) (over_records c.args.next c.in-RunOver.reason c.in-RunOver.value c.args.own (length c.args.harts.now.items) f c.in-RunOver.is) (s.ensures.holds f rs are held)
+    subst (λ (xs : List Record). IsLog s.new.log (rs ++ xs)) (over_records c.args.next c.in-RunOver.reason c.in-RunOver.value c.args.own (length c.args.harts.now.items) f c.in-RunOver.is) (s.ensures.holds f rs are held)
+
+pub returns-in-RunOver-clause-headed : goal.returns-in-RunOver-clause-headed
+returns-in-RunOver-clause-headed c s skipped h =
+    subst (λ (n : Next). hart_after n s skipped c.args.log.now.bytes h ≡ hart_after n s skipped c.stop_others.new.log.bytes h) (sym c.in-RunOver.is) refl

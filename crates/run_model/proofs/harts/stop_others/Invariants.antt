@@ -1,18 +1,18 @@
 use Rattle.std.proofs.Common.{◌≡◌, ◌≤◌, ◌+◌, ◌++◌, ℕ, List, length}
 use Rattle.log_record.specs.declared.record.Record.{Record}
-use Rattle.log_ring.specs.Kept.{Holds, Held}
+use Rattle.run_model.specs.declared.log.Log.{Log}
 use Rattle.run_model.specs.declared.hart.Hart.{Hart}
 use Rattle.run_model.specs.Harts.{AreHarts, stopped_below, stop_records}
-use Rattle.run_model.specs.Logs.{taken}
+use Rattle.run_model.specs.Logs.{taken, IsLog}
 use Rattle.run_model.proofs.harts.stop_others.Given as goal
 
 -- the harts so far were stopped
-pub record Stopping (own number : ℕ) (before after : List Hart) (old new : Held) : Type 0 where
+pub record Stopping (own number : ℕ) (before after : List Hart) (old new : Log) : Type 0 where
   pub len : length after ≡ length before
   pub harts : (f : ℕ → Hart) → AreHarts before f → AreHarts after (stopped_below own number f)
-  pub holds : (f : ℕ → Hart) (rs : List Record) → AreHarts before f → Holds old rs → Holds new (rs ++ stop_records own number f)
-  pub took : taken new ≤ taken old + number
-  pub size : new.size ≡ old.size
+  pub holds : (f : ℕ → Hart) (rs : List Record) → AreHarts before f → IsLog old rs → IsLog new (rs ++ stop_records own number f)
+  pub took : taken new.ring ≤ taken old.ring + number
+  pub size : new.ring.size ≡ old.ring.size
 
 abbrev pub invariant-loop-number : goal.invariant-loop-number
-invariant-loop-number l = Stopping l.own l.number l.fn.harts.items l.harts.items l.fn.ring l.ring
+invariant-loop-number l = Stopping l.own l.number l.fn.harts.items l.harts.items l.fn.log l.log

@@ -1,6 +1,6 @@
 use Rattle.std.proofs.Common.{◌++◌, ℕ, List, refl, sym, subst}
 use Rattle.std.specs.Prelude.{Option}
-use Rattle.log_ring.specs.Kept.{Holds}
+use Rattle.run_model.specs.Logs.{IsLog}
 use Rattle.race_log.specs.Stands.{Stands}
 use Rattle.run_model.specs.declared.span.Span.{Span}
 use Rattle.run_model.specs.Turn.{edges_from, point_of, points_after, edge_records}
@@ -14,6 +14,6 @@ returns-in-Some-clause-shadow c points stands =
 
 pub returns-in-Some-clause-holds : goal.returns-in-Some-clause-holds
 returns-in-Some-clause-holds c points rs stands held =
-    subst (λ (s : Option Span). Holds c.append_edges.new.ring (rs ++ edge_records (point_of c.args.hart c.args.ic c.args.turn s) points)) (sym c.in-Some.is)
-    (subst (λ (es : List (ℕ × ℕ)). Holds c.append_edges.new.ring (rs ++ edges_from c.args.hart c.args.ic es)) (c.access-edges.ensures.edges points everyone refl stands)
+    subst (λ (s : Option Span). IsLog c.append_edges.new.log (rs ++ edge_records (point_of c.args.hart c.args.ic c.args.turn s) points)) (sym c.in-Some.is)
+    (subst (λ (es : List (ℕ × ℕ)). IsLog c.append_edges.new.log (rs ++ edges_from c.args.hart c.args.ic es)) (c.access-edges.ensures.edges points everyone refl stands)
     (c.append_edges.ensures.holds rs held))

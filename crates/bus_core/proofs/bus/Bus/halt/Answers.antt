@@ -1,8 +1,8 @@
 use Rattle.std.proofs.Common.{true, subst, sym}
 use Rattle.run_model.specs.Turn.{halted}
 use Rattle.run_model.specs.Turning.{parts}
-use Rattle.bus_core.specs.Bus.{Seen, seen, IsState, began_of, run_after}
-use Rattle.bus_core.proofs.History.{history_halted, hybrid, hybrid_is, hybrid_halted, state_is}
+use Rattle.bus_core.specs.Bus.{Seen, seen, IsState}
+use Rattle.bus_core.proofs.History.{history_halted, run_is, state_is}
 use Rattle.bus_core.proofs.bus.Bus.halt.Goals as goal
 
 pub invariant_of-self : goal.invariant_of-self
@@ -20,6 +20,4 @@ returns-clause-state g c run is =
     let b = c.self.inside in
     let p = parts b.plain in let q = parts c.halt.new.self in let told = g.B.Book.told b.book in
     let at : IsState (seen p b.halted b.disordered told) run = subst (λ (s : Seen). IsState s run) (sym c.self.view_is) is in
-    let s = c.self.invariant.some in
-    let other = run_after (began_of p.start) b.halted s.0 in
-    hybrid_halted _ run other (state_is q true b.disordered told (halted (hybrid run other)) (c.halt.ensures.run (hybrid run other) (hybrid_is p b.halted b.disordered s.0 told run s.1 at)))
+    state_is q true b.disordered told (halted run) (c.halt.ensures.run run (run_is c.notes_decide.ensures p b.halted b.disordered told run at))

@@ -3,7 +3,7 @@ use Rattle.bn_outside.specs.declared.turn_row.TurnRow.{TurnRow}
 use Rattle.run_model.specs.Turn.{is_orderly, serve}
 use Rattle.run_model.specs.Turning.{parts}
 use Rattle.bus_core.specs.Bus.{Seen, seen, IsState, IsHistory, began_of, run_after, row, live_in}
-use Rattle.bus_core.proofs.History.{Serves, history_more, history_same, hybrid, hybrid_is, hybrid_reply, hybrid_state, hybrid_same, state_is}
+use Rattle.bus_core.proofs.History.{Serves, history_more, history_same, run_is, state_is}
 use Rattle.bus_core.proofs.Serves.{served_turns, on_err, or_first, or_second}
 use Rattle.bus_core.proofs.bus.Bus.serve.Goals as goal
 use Rattle.bus_core.proofs.bus.Bus.serve.Goals.{then-self, else-self}
@@ -12,39 +12,37 @@ pub invariant_of-self : goal.invariant_of-self
 invariant_of-self g c =
     let b = c.self.inside in
     let p = parts b.plain in let q = parts c.take.new.plain in
-    let e = c.in_err-reply.ensures in
+    let e = c.in_err-served.ensures in
     let s = c.self.invariant.some in
     record {
       told = λ t. subst (λ (rs : List TurnRow). IsHistory q b.halted b.disordered rs) (sym e.kept) (history_same p q b.halted b.disordered (g.B.Book.told b.book) c.take.ensures.start e.refused (c.self.invariant.told t));
       some = (s.0, history_same p q b.halted b.disordered s.0 c.take.ensures.start e.refused s.1);
     }
 
-pub returns-in_err-reply-clause-refused : goal.returns-in_err-reply-clause-refused
-returns-in_err-reply-clause-refused g c =
+pub returns-in_err-served-clause-refused : goal.returns-in_err-served-clause-refused
+returns-in_err-served-clause-refused g c =
     let b = c.self.inside in
     let p = parts b.plain in let q = parts c.take.new.plain in let told = g.B.Book.told b.book in
-    let s = c.self.invariant.some in
-    let other = run_after (began_of p.start) b.halted s.0 in
     on_err c.from_residual.result _ (λ run is.
     let at : IsState (seen p b.halted b.disordered told) run = subst (λ (x : Seen). IsState x run) (sym c.self.view_is) is in
-    hybrid_same _ run other (state_is q b.halted b.disordered (g.B.Book.told c.take.new.book) (hybrid run other) (c.in_err-reply.ensures.refused (hybrid run other) (hybrid_is p b.halted b.disordered s.0 told run s.1 at))))
+    state_is q b.halted b.disordered (g.B.Book.told c.take.new.book) run (c.in_err-served.ensures.refused run (run_is c.notes_decide.ensures p b.halted b.disordered told run at)))
 
-pub returns-in_err-reply-clause-kept : goal.returns-in_err-reply-clause-kept
-returns-in_err-reply-clause-kept g c = on_err c.from_residual.result _ (c.in_err-reply.ensures.kept ∙ ap (λ (x : Seen). x.rows) c.self.view_is, ap (λ (x : Seen). x.disordered) c.self.view_is)
+pub returns-in_err-served-clause-kept : goal.returns-in_err-served-clause-kept
+returns-in_err-served-clause-kept g c = on_err c.from_residual.result _ (c.in_err-served.ensures.kept ∙ ap (λ (x : Seen). x.rows) c.self.view_is, ap (λ (x : Seen). x.disordered) c.self.view_is)
 
 pub invariant_of-self-2 : goal.invariant_of-self-2
 invariant_of-self-2 g c =
     let b = c.self.inside in
     let p = parts b.plain in let q = parts c.take.new.plain in
     let o = c.is_orderly-orderly.result in let k = c.args.hart in let ask = c.args.ask.now in
-    let e = c.in_ok-reply.ensures in
+    let e = c.in_ok-served.ensures in
     let s = c.self.invariant.some in
     let live = subst (λ (x : Seen). live_in x k ≡ true) (sym c.self.view_is) c.requires in
     let d : c.if-self.self ≡ (b.disordered || not o) = elim c.if-self.branch [ then-self w ↦ or_first b.disordered c.if-self.self (not o) w.self-is w.if-self.true | else-self w ↦ or_second b.disordered c.if-self.self (not o) w.self-is w.if-self.false ] in
-    let serves : Serves p q k ask o c.in_ok-reply.reply = record { same = c.take.ensures.start; replies = e.reply; runs = e.run; asks = c.is_orderly-orderly.ensures.run } in
+    let serves : Serves p q k ask o c.in_ok-served.served.0 c.in_ok-served.served.1 = record { same = c.take.ensures.start; replies = e.reply; flags = e.guarded; runs = e.run; asks = c.is_orderly-orderly.ensures.run } in
     record {
-      told = λ t. subst (λ (rs : List TurnRow). IsHistory q b.halted c.if-self.self rs) (sym (e.told t)) (history_more p q b.halted b.disordered c.if-self.self o (g.B.Book.told b.book) k ask c.in_ok-reply.reply b.plain.fits.harts live serves d (c.self.invariant.told t));
-      some = (s.0 ++ row k ask c.in_ok-reply.reply ∷ [], history_more p q b.halted b.disordered c.if-self.self o s.0 k ask c.in_ok-reply.reply b.plain.fits.harts live serves d s.1);
+      told = λ t. subst (λ (rs : List TurnRow). IsHistory q b.halted c.if-self.self rs) (sym (e.told t)) (history_more p q b.halted b.disordered c.if-self.self o (g.B.Book.told b.book) k ask c.in_ok-served.served.0 c.in_ok-served.served.1 b.plain.fits.harts live serves d (c.self.invariant.told t));
+      some = (s.0 ++ row k ask c.in_ok-served.served.0 c.in_ok-served.served.1 ∷ [], history_more p q b.halted b.disordered c.if-self.self o s.0 k ask c.in_ok-served.served.0 c.in_ok-served.served.1 b.plain.fits.harts live serves d s.1);
     }
 
 pub returns-clause-reply : goal.returns-clause-reply
@@ -52,11 +50,16 @@ returns-clause-reply g c run is =
     let b = c.self.inside in
     let p = parts b.plain in let told = g.B.Book.told b.book in
     let at : IsState (seen p b.halted b.disordered told) run = subst (λ (x : Seen). IsState x run) (sym c.self.view_is) is in
-    let s = c.self.invariant.some in
-    let other = run_after (began_of p.start) b.halted s.0 in
-    c.in_ok-reply.ensures.reply (hybrid run other) (hybrid_is p b.halted b.disordered s.0 told run s.1 at)
-    ∙ hybrid_reply p.start.settings p.start.image run other c.args.hart c.args.ask.now
+    c.in_ok-served.ensures.reply run (run_is c.notes_decide.ensures p b.halted b.disordered told run at)
     ∙ ap (λ (x : Seen). (serve x.began.settings x.began.image run c.args.hart c.args.ask.now).reply) c.self.view_is
+
+pub returns-clause-guarded : goal.returns-clause-guarded
+returns-clause-guarded g c run is =
+    let b = c.self.inside in
+    let p = parts b.plain in let told = g.B.Book.told b.book in
+    let at : IsState (seen p b.halted b.disordered told) run = subst (λ (x : Seen). IsState x run) (sym c.self.view_is) is in
+    c.in_ok-served.ensures.guarded run (run_is c.notes_decide.ensures p b.halted b.disordered told run at)
+    ∙ ap (λ (x : Seen). (serve x.began.settings x.began.image run c.args.hart c.args.ask.now).guarded) c.self.view_is
 
 pub returns-clause-state : goal.returns-clause-state
 returns-clause-state g c run is =
@@ -64,15 +67,12 @@ returns-clause-state g c run is =
     let p = parts b.plain in let q = parts c.take.new.plain in let told = g.B.Book.told b.book in
     let k = c.args.hart in let ask = c.args.ask.now in
     let at : IsState (seen p b.halted b.disordered told) run = subst (λ (x : Seen). IsState x run) (sym c.self.view_is) is in
-    let s = c.self.invariant.some in
-    let other = run_after (began_of p.start) b.halted s.0 in
     let now : Seen = seen q b.halted c.if-self.self (g.B.Book.told c.take.new.book) in
     subst (λ (x : Seen). IsState now (serve x.began.settings x.began.image run k ask).run) c.self.view_is
-    (hybrid_state p.start.settings p.start.image now run other k ask
-    (state_is q b.halted c.if-self.self (g.B.Book.told c.take.new.book) (serve p.start.settings p.start.image (hybrid run other) k ask).run (c.in_ok-reply.ensures.run (hybrid run other) (hybrid_is p b.halted b.disordered s.0 told run s.1 at))))
+    (state_is q b.halted c.if-self.self (g.B.Book.told c.take.new.book) (serve p.start.settings p.start.image run k ask).run (c.in_ok-served.ensures.run run (run_is c.notes_decide.ensures p b.halted b.disordered told run at)))
 
 pub returns-clause-told : goal.returns-clause-told
-returns-clause-told g c t = c.in_ok-reply.ensures.told t ∙ ap (λ (x : Seen). x.rows ++ row c.args.hart c.args.ask.now c.in_ok-reply.reply ∷ []) c.self.view_is
+returns-clause-told g c t = c.in_ok-served.ensures.told t ∙ ap (λ (x : Seen). x.rows ++ row c.args.hart c.args.ask.now c.in_ok-served.served.0 c.in_ok-served.served.1 ∷ []) c.self.view_is
 
 pub returns-clause-disordered : goal.returns-clause-disordered
 returns-clause-disordered g c run is =
@@ -80,10 +80,8 @@ returns-clause-disordered g c run is =
     let p = parts b.plain in let told = g.B.Book.told b.book in
     let o = c.is_orderly-orderly.result in
     let at : IsState (seen p b.halted b.disordered told) run = subst (λ (x : Seen). IsState x run) (sym c.self.view_is) is in
-    let s = c.self.invariant.some in
-    let other = run_after (began_of p.start) b.halted s.0 in
     let d : c.if-self.self ≡ (b.disordered || not o) = elim c.if-self.branch [ then-self w ↦ or_first b.disordered c.if-self.self (not o) w.self-is w.if-self.true | else-self w ↦ or_second b.disordered c.if-self.self (not o) w.self-is w.if-self.false ] in
-    d ∙ ap (λ (x : Bool). b.disordered || not x) (c.is_orderly-orderly.ensures.run (hybrid run other) (hybrid_is p b.halted b.disordered s.0 told run s.1 at))
+    d ∙ ap (λ (x : Bool). b.disordered || not x) (c.is_orderly-orderly.ensures.run run (run_is c.notes_decide.ensures p b.halted b.disordered told run at))
     ∙ ap (λ (x : Seen). x.disordered || not (is_orderly x.began.settings x.began.image (run.harts c.args.hart) c.args.ask.now)) c.self.view_is
 
 pub returns-clause-turns : goal.returns-clause-turns
@@ -92,5 +90,5 @@ returns-clause-turns g c =
     let p = parts b.plain in
     let s = c.self.invariant.some in
     let run = run_after (began_of p.start) b.halted s.0 in
-    (c.in_ok-reply.ensures.run run s.1.run).turns ∙ served_turns p.start.settings p.start.image run c.args.hart c.args.ask.now
+    (c.in_ok-served.ensures.run run s.1.run).turns ∙ served_turns p.start.settings p.start.image run c.args.hart c.args.ask.now
     ∙ ap (λ (n : ℕ). n + 1) (sym s.1.run.turns ∙ ap (λ (x : Seen). x.turns) c.self.view_is)

@@ -1,5 +1,6 @@
 use Rattle.std.proofs.Common.{◌≤◌, ◌∙◌, ap, arith, length, map}
 use Rattle.std.proofs.lemmas.List.{take_all}
+use Rattle.bn_base.specs.declared.settings.TheConstants.{HARTS}
 use Rattle.run_model.specs.declared.hart.Hart.{Hart}
 use Rattle.bus_core.proofs.Marks.{mark_more}
 use Rattle.bus_core.proofs.ends.Ends.of.Goals as goal
@@ -7,7 +8,7 @@ use Rattle.bus_core.proofs.ends.Ends.of.Goals as goal
 pub unreachable-requires : goal.unreachable-requires
 unreachable-requires c =
     let i = c.loop-hart.invariant in
-    let few : length c.deref-hart-items.result.now ≤ 8 = omega (arith, c.requires, ap length c.deref-hart-items.ensures.value) in
+    let few : length c.deref-hart-items.result.now ≤ HARTS = omega (arith, c.requires, ap length c.deref-hart-items.ensures.value) in
     omega (arith, c.in-Err.ensures.full, i.len, i.room, c.loop-hart-test.true, few)
 
 pub loop-hart-preserved : goal.loop-hart-preserved

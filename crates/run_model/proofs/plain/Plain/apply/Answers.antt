@@ -41,7 +41,8 @@ returns-clause-run c run is =
             caches = f.ensures.caches settings (span_of call ask.want reply) run.events (a.ensures.caches settings run.events is.trace.caches);
             shadow = subst (λ (s : Shadow). Stands (points_after (point_of k ask.state.ic p.turns (span_of call ask.want reply)) run.points) everyone s) (sym f.ensures.shadow) (a.ensures.shadow run.points is.trace.shadow);
             log = f.ensures.holds run.harts _ are (a.ensures.holds run.points run.stream is.trace.shadow is.trace.log);
-          });
+          })
+          (sym is.trace.bytes ∙ is.trace.log.bytes) (omega (arith, p.fits.settings.format_low, p.fits.settings.format_high));
       turns = ap (λ (n : ℕ). n + 1) is.turns;
     }
 
@@ -57,7 +58,7 @@ invariant_of-self c =
       fits = fit_traced p.start.settings p.start.image m p.trace f.new.self p.turns c.args.hart c.args.ask.now c.args.call c.answer-reply.result a.result p.fits c.requires.hart c.requires.live c.requires.orderly
           (c.requires.call m is) (c.answer-reply.ensures.answer.reply m stands)
           (record {
-            harts = λ g are. subst (λ (v : Vec Hart Global). AreHarts v.items g → AreHarts f.new.self.harts.items (harts_after (next_of p.start.settings c.args.call (hart_in v.items c.args.hart) c.args.ask.now.want c.answer-reply.result (absorbed c.args.ask.now c.answer-reply.result).ic) c.args.hart (hart_after (next_of p.start.settings c.args.call (hart_in v.items c.args.hart) c.args.ask.now.want c.answer-reply.result (absorbed c.args.ask.now c.answer-reply.result).ic) (absorbed c.args.ask.now c.answer-reply.result) (skipped_after a.result (hart_in v.items c.args.hart).skipped) (hart_in v.items c.args.hart)) g)) a.ensures.harts (f.ensures.harts g) are;
+            harts = λ g are. subst (λ (v : Vec Hart Global). AreHarts v.items g → AreHarts f.new.self.harts.items (harts_after (next_of p.start.settings c.args.call (hart_in v.items c.args.hart) c.args.ask.now.want c.answer-reply.result (absorbed c.args.ask.now c.answer-reply.result).ic) c.args.hart (hart_after (next_of p.start.settings c.args.call (hart_in v.items c.args.hart) c.args.ask.now.want c.answer-reply.result (absorbed c.args.ask.now c.answer-reply.result).ic) (absorbed c.args.ask.now c.answer-reply.result) (skipped_after a.result (hart_in v.items c.args.hart).skipped) f.new.self.log.bytes (hart_in v.items c.args.hart)) g)) a.ensures.harts (f.ensures.harts g) are;
             len = f.ensures.len ∙ ap (λ (v : Vec Hart Global). length v.items) a.ensures.harts;
             caches = f.ensures.count ∙ a.ensures.count;
             steps = λ j. subst (λ (v : Vec Hart Global). steps_in f.new.self.caches j ≡ (if j == c.args.hart then steps_in p.trace.caches j + touches (touched_word c.args.call (span_of c.args.call c.args.ask.now.want c.answer-reply.result)) + clears (next_of p.start.settings c.args.call (hart_in v.items c.args.hart) c.args.ask.now.want c.answer-reply.result (absorbed c.args.ask.now c.answer-reply.result).ic) else steps_in p.trace.caches j)) a.ensures.harts

@@ -14,6 +14,7 @@ returns-clause-run c run is =
         caches = is.trace.caches;
         shadow = is.trace.shadow;
         log = is.trace.log;
+        bytes = is.trace.bytes;
       };
       turns = ap (λ (n : ℕ). n + 1) is.turns;
     }

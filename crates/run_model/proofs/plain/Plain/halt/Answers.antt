@@ -12,6 +12,7 @@ returns-clause-run c run is =
         caches = is.trace.caches;
         shadow = is.trace.shadow;
         log = is.trace.log;
+        bytes = is.trace.bytes;
       };
       turns = is.turns;
     }

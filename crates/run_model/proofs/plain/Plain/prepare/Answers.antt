@@ -1,12 +1,13 @@
-use Rattle.std.proofs.Common.{ℕ, List, sym, subst}
+use Rattle.std.proofs.Common.{ℕ, List, sym, subst, ap, ◌∙◌}
 use Rattle.std.specs.Prelude.{Vec}
 use Rattle.std.specs.Global.{Global}
 use Rattle.first_load_bits.specs.Stands.{Contents}
-use Rattle.log_ring.specs.Kept.{Held, Holds}
+use Rattle.run_model.specs.declared.log.Log.{Log}
 use Rattle.run_model.specs.declared.hart.Hart.{Hart}
 use Rattle.run_model.specs.Parts.{IsMachine}
 use Rattle.run_model.specs.EachCache.{AreCaches}
 use Rattle.run_model.specs.Harts.{AreHarts}
+use Rattle.run_model.specs.Logs.{IsLog}
 use Rattle.run_model.proofs.Meant.{is_before}
 use Rattle.run_model.proofs.plain.Plain.prepare.Goals as goal
 
@@ -17,7 +18,8 @@ returns-in_err-reserve-clause-run c run is = record {
     harts = subst (λ (v : Vec Hart Global). AreHarts v.items run.harts) (sym c.reserve.ensures.harts) is.trace.harts;
     caches = subst (λ (cs : List Contents). AreCaches c.args.self.now.start.settings cs run.events) (sym c.reserve.ensures.caches) is.trace.caches;
     shadow = c.reserve.ensures.shadow run.points is.trace.shadow;
-    log = subst (λ (ring : Held). Holds ring run.stream) (sym c.reserve.ensures.ring) is.trace.log;
+    log = subst (λ (log : Log). IsLog log run.stream) (sym c.reserve.ensures.log) is.trace.log;
+    bytes = ap (λ (log : Log). log.bytes) c.reserve.ensures.log ∙ is.trace.bytes;
   };
   turns = is.turns;
 }
@@ -30,7 +32,8 @@ returns-in_err-stream_room-clause-run c run is = record {
     harts = subst (λ (v : Vec Hart Global). AreHarts v.items run.harts) (sym c.reserve.ensures.harts) is.trace.harts;
     caches = subst (λ (cs : List Contents). AreCaches c.args.self.now.start.settings cs run.events) (sym c.reserve.ensures.caches) is.trace.caches;
     shadow = c.reserve.ensures.shadow run.points is.trace.shadow;
-    log = subst (λ (ring : Held). Holds ring run.stream) (sym c.reserve.ensures.ring) is.trace.log;
+    log = subst (λ (log : Log). IsLog log run.stream) (sym c.reserve.ensures.log) is.trace.log;
+    bytes = ap (λ (log : Log). log.bytes) c.reserve.ensures.log ∙ is.trace.bytes;
   };
   turns = is.turns;
 }
@@ -43,7 +46,8 @@ returns-clause-run c run is = record {
     harts = subst (λ (v : Vec Hart Global). AreHarts v.items run.harts) (sym c.reserve.ensures.harts) is.trace.harts;
     caches = subst (λ (cs : List Contents). AreCaches c.args.self.now.start.settings cs run.events) (sym c.reserve.ensures.caches) is.trace.caches;
     shadow = c.reserve.ensures.shadow run.points is.trace.shadow;
-    log = subst (λ (ring : Held). Holds ring run.stream) (sym c.reserve.ensures.ring) is.trace.log;
+    log = subst (λ (log : Log). IsLog log run.stream) (sym c.reserve.ensures.log) is.trace.log;
+    bytes = ap (λ (log : Log). log.bytes) c.reserve.ensures.log ∙ is.trace.bytes;
   };
   turns = is.turns;
 }

@@ -7,7 +7,7 @@ use Rattle.run_model.specs.Counts.{IsFit}
 use Rattle.run_model.specs.Harts.{hart_in}
 use Rattle.run_model.specs.Machine.{call_of}
 use Rattle.run_model.specs.Plain.{IsRun}
-use Rattle.run_model.specs.Turn.{Run, is_orderly, serve_call}
+use Rattle.run_model.specs.Turn.{Run, is_orderly, is_guarded, serve_call}
 use Rattle.run_model.specs.Turning.{parts}
 use Rattle.run_model.proofs.Owns.{hart_at, hart_of_run}
 use Rattle.run_model.proofs.OneTurn.{alive_in, ordered_at, small_count, passes_of, turn_is, ask_is}
@@ -19,7 +19,7 @@ prepare-requires c =
     let x = c.index-before.result.now in let h = hart_in hs k in
     let live = alive_in hs k c.requires in
     let there : x ≡ h = hart_at hs k x live.0 c.index-before.ensures in
-    let fit : IsFit p.start.settings x = subst (λ (y : Hart). IsFit p.start.settings y) (sym there) (p.fits.each k (omega (arith, live.0, p.fits.harts))).fit in
+    let fit : IsFit p.start.settings x = subst (λ (y : Hart). IsFit p.start.settings y) (sym there) (p.fits.each k (omega (arith, live.0, p.fits.harts))).fit.fit in
     let b = c.budget-budget in
     let o = ordered_at p.start.settings p.start.image x h c.quiet_run-ask.result b.result there b.ensures (c.quiet_run-ask.ensures.orderly (small_count p.start.settings x b.result p.fits.settings.limit_high fit b.ensures)) in
     passes_of p.start.settings p.start.image h c.quiet_run-ask.result o
@@ -41,7 +41,7 @@ apply-requires-clause-orderly c =
     let x = c.index-before.result.now in let h = hart_in hs k in
     let live = alive_in hs k c.requires in
     let there : x ≡ h = hart_at hs k x live.0 c.index-before.ensures in
-    let fit : IsFit p.start.settings x = subst (λ (y : Hart). IsFit p.start.settings y) (sym there) (p.fits.each k (omega (arith, live.0, p.fits.harts))).fit in
+    let fit : IsFit p.start.settings x = subst (λ (y : Hart). IsFit p.start.settings y) (sym there) (p.fits.each k (omega (arith, live.0, p.fits.harts))).fit.fit in
     let b = c.budget-budget in
     let o = ordered_at p.start.settings p.start.image x h c.quiet_run-ask.result b.result there b.ensures (c.quiet_run-ask.ensures.orderly (small_count p.start.settings x b.result p.fits.settings.limit_high fit b.ensures)) in
     subst (λ (s : Start). IsTrue (is_orderly s.settings s.image (hart_in c.prepare.new.self.trace.harts.items k) c.quiet_run-ask.result)) (sym c.prepare.ensures.start)
@@ -53,7 +53,7 @@ returns-clause-run c run is =
     let x = c.index-before.result.now in let h = run.harts k in
     let live = alive_in hs k c.requires in
     let there : x ≡ h = hart_at hs k x live.0 c.index-before.ensures ∙ hart_of_run hs k run.harts is.trace.harts live.0 in
-    let fit : IsFit p.start.settings x = subst (λ (y : Hart). IsFit p.start.settings y) (sym (hart_at hs k x live.0 c.index-before.ensures)) (p.fits.each k (omega (arith, live.0, p.fits.harts))).fit in
+    let fit : IsFit p.start.settings x = subst (λ (y : Hart). IsFit p.start.settings y) (sym (hart_at hs k x live.0 c.index-before.ensures)) (p.fits.each k (omega (arith, live.0, p.fits.harts))).fit.fit in
     let b = c.budget-budget in
     let ask = c.quiet_run-ask.result in
     let o = ordered_at p.start.settings p.start.image x h ask b.result there b.ensures (c.quiet_run-ask.ensures.orderly (small_count p.start.settings x b.result p.fits.settings.limit_high fit b.ensures)) in
@@ -62,4 +62,4 @@ returns-clause-run c run is =
     let call : c.in_ok-call.call ≡ call_of p.start.image run.machine ask.want = c.in_ok-call.ensures.call run.machine is_new.machine ∙ ap (λ (s : Start). call_of s.image run.machine ask.want) same in
     let asked = ask_is p.start.settings p.start.image x h ask b.result there b.ensures c.quiet_run-ask.ensures.value in
     subst (λ (r : Run). IsRun (parts c.apply.new.self) r) (turn_is p.start.settings p.start.image run k ask c.in_ok-call.call asked call o)
-    (subst (λ (s : Start). IsRun (parts c.apply.new.self) (serve_call s.settings run k ask c.in_ok-call.call).run) same (c.apply.ensures.run run is_new))
+    (subst (λ (s : Start). IsRun (parts c.apply.new.self) (serve_call s.settings run k ask (is_guarded s.settings run k ask.want) c.in_ok-call.call).run) same (c.apply.ensures.run run is_new))

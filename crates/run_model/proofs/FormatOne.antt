@@ -1,0 +1,33 @@
+-- With format 1 all is as without a guard.
+use Rattle.std.proofs.Common.{◌≡◌, ℕ, Bool, true, false, List, ◌++◌, ◌==◌, ◌+◌, refl, ◌∙◌, ap}
+use Rattle.bn_base.specs.Programs.{Program}
+use Rattle.bn_base.specs.declared.row.Row.{Row}
+use Rattle.rv_meaning.specs.declared.asks.Ask.{Ask}
+use Rattle.rv_meaning.specs.declared.asks.Want.{Want}
+use Rattle.bn_base.specs.declared.settings.RawSettings.{RawSettings}
+use Rattle.run_model.specs.Guards.{FormatOneIsUnguarded}
+use Rattle.run_model.specs.Turn.{Run, serve, served_if, is_orderly, is_guarded, ask_at}
+use Rattle.run_model.specs.Rows.{rows_if, quiet_part, ask_part, turn_rows, turn_rows_in}
+
+pub unguarded : (c : RawSettings) (run : Run) (k : ℕ) (want : Want) → c.format ≡ 1 → is_guarded c run k want ≡ false
+unguarded c run k want e = rw e refl
+
+served_unguarded : (o : Bool) (c : RawSettings) (i : Program) (run : Run) (k : ℕ) (ask : Ask) → c.format ≡ 1 → (served_if o c i run k ask).guarded ≡ false
+served_unguarded true c i run k ask e = unguarded c run k ask.want e
+served_unguarded false c i run k ask e = refl
+
+serve_unguarded : (c : RawSettings) (i : Program) (run : Run) (k : ℕ) (ask : Ask) → c.format ≡ 1 → (serve c i run k ask).guarded ≡ false
+unfolding serve
+serve_unguarded c i run k ask e = served_unguarded (is_orderly c i (run.harts k) ask) c i run k ask e
+
+both_if : (b : Bool) (xs ys : List Row) → rows_if b xs ++ rows_if b ys ≡ rows_if b (xs ++ ys)
+both_if true xs ys = refl
+both_if false xs ys = refl
+
+rows_unguarded : (c : RawSettings) (i : Program) (run : Run) (k n : ℕ) → c.format ≡ 1 → turn_rows_in c i run k n ≡ rows_if ((run.harts k).number == n) (turn_rows c i run k)
+rows_unguarded c i run k n e =
+    ap (λ (g : Bool). rows_if ((run.harts k).number == n) (quiet_part c i run k) ++ rows_if (elim g as (λ b. ℕ) [ true ↦ (run.harts k).number + 1 | false ↦ (run.harts k).number ] == n) (ask_part c i run k)) (unguarded c run k (ask_at c i (run.harts k)).want e)
+    ∙ both_if ((run.harts k).number == n) (quiet_part c i run k) (ask_part c i run k)
+
+pub format_one : FormatOneIsUnguarded
+format_one = record { asks = unguarded; serves = serve_unguarded; rows = rows_unguarded }

@@ -1,0 +1,13 @@
+// The log of a run, and how many bytes it took.
+ghost use Rattle.std.specs.Prelude.{◌≤◌, ◌*◌};
+ghost use Rattle.run_model.specs.Taken.{taken};
+
+use log_ring::Ring;
+
+/// The ring of the records that are kept, and how many bytes all records had that it took.
+#[derive(Drop)]
+pub struct Log {
+    pub ring: Ring,
+    pub bytes: u64,
+    ghost few: { bytes ≤ 146 * taken ring },
+}
