@@ -1,19 +1,20 @@
 -- What memory holds of a program that was loaded.
 use Rattle.std.proofs.Common.{◌≡◌, ◌≤◌, ◌<◌, ℕ, ◌+◌, ◌-◌, ◌*◌, ◌/◌, ◌%◌, ◌==◌, Bool, true, false, cond, ◌&&◌, List, [], ◌∷◌, length, map, Option, Some, None, Ok, refl, sym, ap, ap₂, subst, ◌∙◌, ◌↔◌, leb, ltb, arith}
-use Rattle.std.specs.Prelude.{All, Contains, max}
+use Rattle.std.specs.Prelude.{All, Contains, find, is_none, is_some, not, if◌then◌else◌, max}
 use Rattle.bn_base.specs.declared.settings.RawSettings.{RawSettings}
 use Rattle.bn_base.specs.Ranges.{IsSetting}
-use Rattle.bn_base.specs.Programs.{Part, Program, AreApart, is_in, part_at, word_in, code_in, first_in, may_load, is_writable, highest_end, heap_start}
+use Rattle.bn_base.specs.Programs.{Part, Program, AreApart, code_at, is_in, part_at, word_in, code_in, first_in, may_load, is_writable, highest_end, heap_start}
 use Rattle.elf_loader.specs.declared.program_header.ProgramHeader.{ProgramHeader}
-use Rattle.elf_loader.specs.Segments.{is_segment, segments, memory_end, touches, share, words_touched, first_word, word_after, word_of, part_of, before_higher, by_address, has_flag}
-use Rattle.elf_loader.specs.Loaded.{program_of, image_of}
+use Rattle.elf_loader.specs.Segments.{is_segment, segments, memory_end, touches, share, has_code, is_code, words_touched, first_word, word_after, word_of, part_of, before_higher, by_address, has_flag}
+use Rattle.elf_loader.specs.Headers.{file_header}
+use Rattle.elf_loader.specs.Loaded.{program_of, image_of, segment_refusal, starts_outside}
 use Rattle.elf_loader.specs.Held.{HoldsSegment, HoldsNothing, highest}
-use Rattle.std.proofs.lemmas.List.Elements.{All-head, All-tail, All-map}
+use Rattle.std.proofs.lemmas.List.Elements.{All-head, All-tail, All-map, All-contains}
 use Rattle.std.proofs.lemmas.List.Sorted.{All-permutation, Contains-permutation}
 use Rattle.elf_loader.proofs.Found.{low_first, high_end, found, missing, Contains-map}
 use Rattle.elf_loader.proofs.Laid.{AreSegments-segments, parts_apart}
-use Rattle.elf_loader.proofs.Order.{AreSegments, IsPermutation-by_address}
-use Rattle.elf_loader.proofs.Refused.{is_loaded, are_taken}
+use Rattle.elf_loader.proofs.Order.{AreSegments, IsPermutation-by_address, Contains-later}
+use Rattle.elf_loader.proofs.Refused.{is_loaded, are_taken, all_fail}
 use Rattle.elf_loader.proofs.Words.{words_touched-some, get_or-file_words}
 
 within : (a b w : ℕ) → (leb a w && ltb w b) ≡ true → (a ≤ w) × (w < b)
@@ -118,9 +119,8 @@ laid bytes s p is e =
     let apart = parts_apart bytes (length bytes) s.memory (segments bytes) is.memory_pages is.memory_low (AreSegments-segments bytes) (are_taken _ _ _ loaded.taken) in
     subst (Laid bytes) (sym loaded.program) (record { parts = refl; apart = apart })
 
-pub holds_segment : (bytes : List ℕ) (s : RawSettings) (p : Program) (h : ProgramHeader) (addr : ℕ) → IsSetting s → image_of bytes s ≡ Ok p → Contains (segments bytes) h → touches h addr ≡ true → HoldsSegment bytes h p addr
-holds_segment bytes s p h addr is e has t =
-    let l = laid bytes s p is e in
+in_segment : (bytes : List ℕ) (p : Program) (h : ProgramHeader) (addr : ℕ) → Laid bytes p → Contains (segments bytes) h → touches h addr ≡ true → HoldsSegment bytes h p addr
+in_segment bytes p h addr l has t =
     let part : Contains p.parts (part_of bytes h) =
     subst (λ (ps : List Part). Contains ps (part_of bytes h)) (sym l.parts) (Contains-map (part_of bytes) _ h (Contains-permutation _ _ h (IsPermutation-by_address (segments bytes)) has)) in
     let inside : is_in (part_of bytes h) addr ≡ true = is_in-touches (first_word h) (words_touched h.vaddr h.memsz) addr ∙ t in
@@ -137,9 +137,11 @@ holds_segment bytes s p h addr is e has t =
       store = ap (λ o. may_load p addr && is_writable o) here ∙ ap (λ b. b && has_flag h.flags 2) mapped;
     }
 
-pub holds_nothing : (bytes : List ℕ) (s : RawSettings) (p : Program) (addr : ℕ) → IsSetting s → image_of bytes s ≡ Ok p → All (λ h. touches h addr ≡ false) (segments bytes) → HoldsNothing p addr
-holds_nothing bytes s p addr is e out =
-    let l = laid bytes s p is e in
+pub holds_segment : (bytes : List ℕ) (s : RawSettings) (p : Program) (h : ProgramHeader) (addr : ℕ) → IsSetting s → image_of bytes s ≡ Ok p → Contains (segments bytes) h → touches h addr ≡ true → HoldsSegment bytes h p addr
+holds_segment bytes s p h addr is e has t = in_segment bytes p h addr (laid bytes s p is e) has t
+
+in_none : (bytes : List ℕ) (p : Program) (addr : ℕ) → Laid bytes p → All (λ h. touches h addr ≡ false) (segments bytes) → HoldsNothing p addr
+in_none bytes p addr l out =
     let sorted : All (λ h. touches h addr ≡ false) (by_address (segments bytes)) = All-permutation (λ h. touches h addr ≡ false) _ _ (IsPermutation-by_address (segments bytes)) out in
     let outside : All (λ q. is_in q addr ≡ false) p.parts =
     subst (All (λ (q : Part). is_in q addr ≡ false)) (sym l.parts)
@@ -151,6 +153,70 @@ holds_nothing bytes s p addr is e out =
       code = ap (λ o. elim (addr % 4 == 0) as (λ _. Option ℕ) [ true ↦ code_in o addr | false ↦ None ]) none ∙ code_none (addr % 4 == 0) addr;
       store = ap (λ o. may_load p addr && is_writable o) none ∙ and_true (may_load p addr);
     }
+
+pub holds_nothing : (bytes : List ℕ) (s : RawSettings) (p : Program) (addr : ℕ) → IsSetting s → image_of bytes s ≡ Ok p → All (λ h. touches h addr ≡ false) (segments bytes) → HoldsNothing p addr
+holds_nothing bytes s p addr is e out = in_none bytes p addr (laid bytes s p is e) out
+
+-- a header that is found is one of the list, and passes the test
+find_has : (q : ProgramHeader → Bool) (hs : List ProgramHeader) (h : ProgramHeader) → find q hs ≡ Some h → Contains hs h × (q h ≡ true)
+find_has q [] h e = absurd cc
+find_has q (g ∷ gs) h e = choice (find_has q gs h) (q g) refl e
+  where
+    choice : (find q gs ≡ Some h → Contains gs h × (q h ≡ true)) → (b : Bool) → q g ≡ b → cond b (Some g) (find q gs) ≡ Some h → Contains (g ∷ gs) h × (q h ≡ true)
+    choice later true t f = let same : g ≡ h = cc in ((0, omega arith, same), subst (λ (x : ProgramHeader). q x ≡ true) same t)
+    choice later false t f = let there = later f in (Contains-later g gs h there.0, there.1)
+
+both_hold : (a b : Bool) → (a && b) ≡ true → (a ≡ true) × (b ≡ true)
+both_hold true b e = (refl, e)
+both_hold false b e = absurd cc
+
+first_fails : (a b : Bool) → (a && b) ≡ false → b ≡ true → a ≡ false
+first_fails false b e t = refl
+first_fails true b e t = absurd cc
+
+some_code : (b x : Bool) (w : ℕ) → x ≡ true → is_none (if b && x then Some w else None) ≡ not (b && true)
+some_code true x w e = rw e refl
+some_code false x w e = refl
+
+no_code : (b x : Bool) (w : ℕ) → x ≡ false → ◌≡◌ {A = Option ℕ} (if b && x then Some w else None) None
+no_code true x w e = rw e refl
+no_code false x w e = refl
+
+never : (b : Bool) → true ≡ not (b && false)
+never true = refl
+never false = refl
+
+-- an address has a code word exactly where a segment has one there
+code_there : (bytes : List ℕ) (p : Program) (addr : ℕ) → Laid bytes p → is_none (code_at p addr) ≡ not (is_code (segments bytes) addr)
+code_there bytes p addr l = by_code (find (has_code addr) (segments bytes)) refl
+  where
+    by_touch : All (λ h. has_code addr h ≡ false) (segments bytes) → (o : Option ProgramHeader) → find (λ h. touches h addr) (segments bytes) ≡ o → code_at p addr ≡ None
+    by_touch out (Some h) f =
+        let there = find_has (λ h. touches h addr) (segments bytes) h f in
+        let held = in_segment bytes p h addr l there.0 there.1 in
+        held.code ∙ no_code (addr % 4 == 0) (has_flag h.flags 1) (word_of bytes h addr) (first_fails _ _ (All-contains (λ h. has_code addr h ≡ false) (segments bytes) h out there.0) there.1)
+    by_touch out None f = let held = in_none bytes p addr l (all_fail (λ h. touches h addr) (segments bytes) f) in held.code
+
+    by_code : (o : Option ProgramHeader) → find (has_code addr) (segments bytes) ≡ o → is_none (code_at p addr) ≡ not ((addr % 4 == 0) && is_some (find (has_code addr) (segments bytes)))
+    by_code (Some h) e =
+        let there = find_has (has_code addr) (segments bytes) h e in
+        let tests = both_hold (has_flag h.flags 1) (touches h addr) there.1 in
+        let held = in_segment bytes p h addr l there.0 tests.1 in
+        ap is_none held.code ∙ some_code (addr % 4 == 0) (has_flag h.flags 1) (word_of bytes h addr) tests.0
+        ∙ sym (ap (λ (o : Option ProgramHeader). not ((addr % 4 == 0) && is_some o)) e)
+    by_code None e =
+        ap is_none (by_touch (all_fail (has_code addr) (segments bytes) e) (find (λ h. touches h addr) (segments bytes)) refl)
+        ∙ never (addr % 4 == 0) ∙ sym (ap (λ (o : Option ProgramHeader). not ((addr % 4 == 0) && is_some o)) e)
+
+-- so the entry is tested by the segments
+pub entry_there : (bytes : List ℕ) (s : RawSettings) → s.memory % 4096 ≡ 0 → 65536 ≤ s.memory → segment_refusal (length bytes) s.memory (segments bytes) ≡ None
+    → starts_outside (program_of bytes s) ≡ not (is_code (segments bytes) (file_header bytes).entry)
+unfolding program_of
+entry_there bytes s pages low taken =
+    code_there bytes (program_of bytes s) (file_header bytes).entry (record {
+      parts = refl;
+      apart = parts_apart bytes (length bytes) s.memory (segments bytes) pages low (AreSegments-segments bytes) (are_taken _ _ _ taken);
+    })
 
 highest-before_higher : (h : ProgramHeader) (hs : List ProgramHeader) → highest (before_higher h hs) ≡ max (memory_end h) (highest hs)
 highest-before_higher h [] = refl

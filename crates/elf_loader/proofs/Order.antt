@@ -143,7 +143,7 @@ Contains-cons_cases h hs x (suc k, lt, e) = inr (k, omega (arith, lt), e)
 Contains-first : (h : ProgramHeader) (hs : List ProgramHeader) → Contains (h ∷ hs) h
 Contains-first h hs = (0, omega arith, refl)
 
-Contains-later : (h : ProgramHeader) (hs : List ProgramHeader) (x : ProgramHeader) → Contains hs x → Contains (h ∷ hs) x
+pub Contains-later : (h : ProgramHeader) (hs : List ProgramHeader) (x : ProgramHeader) → Contains hs x → Contains (h ∷ hs) x
 Contains-later h hs x (k, lt, e) = (suc k, omega (arith, lt), e)
 
 -- those after a segment begin in later words

@@ -94,6 +94,10 @@ pub refused-entry : (bytes : List ℕ) (s : RawSettings) (headers hs : List Prog
 unfolding image_of
 refused-entry bytes s headers hs m r f n = rw (refusal_then bytes s headers hs m r, f, n) refl
 
+pub refused-nothing : (bytes : List ℕ) (s : RawSettings) (headers hs : List ProgramHeader) (m : ℕ) → Reads bytes s.memory headers hs m → segment_refusal (length bytes) m hs ≡ None
+    → starts_outside (program_of bytes s) ≡ false → refusal bytes s ≡ None
+refused-nothing bytes s headers hs m r f n = rw (refusal_then bytes s headers hs m r, f, n) refl
+
 pub loaded : (bytes : List ℕ) (s : RawSettings) (headers hs : List ProgramHeader) (m : ℕ) → Reads bytes s.memory headers hs m → segment_refusal (length bytes) m hs ≡ None
     → starts_outside (program_of bytes s) ≡ false → image_of bytes s ≡ Ok (program_of bytes s)
 unfolding image_of

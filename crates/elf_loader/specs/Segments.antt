@@ -1,5 +1,5 @@
 -- Segments: what a program header says of memory (ELF, "Program Header" and "Program Loading").
-use Rattle.std.specs.Prelude.{ℕ, ◌+◌, ◌-◌, ◌*◌, ◌/◌, ◌%◌, ◌^◌, ◌≤◌, ◌==◌, Bool, ◌&&◌, nat_le, nat_lt, if◌then◌else◌, List, [], ◌∷◌, map, filter, slice_index, bit_and}
+use Rattle.std.specs.Prelude.{ℕ, ◌+◌, ◌-◌, ◌*◌, ◌/◌, ◌%◌, ◌^◌, ◌≤◌, ◌==◌, Bool, ◌&&◌, nat_le, nat_lt, if◌then◌else◌, List, [], ◌∷◌, map, filter, find, is_some, slice_index, bit_and}
 use Rattle.std.specs.List.{range_with_len}
 use Rattle.le_numbers.specs.Numbers.{number_at}
 use Rattle.bn_base.specs.Programs.{Part}
@@ -47,6 +47,14 @@ word_after h = first_word h + words_touched h.vaddr h.memsz
 -- whether a segment touches the aligned word that an address is in
 abbrev pub touches : ProgramHeader → ℕ → Bool
 touches h addr = nat_le (first_word h) (addr / 4) && nat_lt (addr / 4) (word_after h)
+
+-- whether the words of a segment are code, and an address is in one of them
+abbrev pub has_code : ℕ → ProgramHeader → Bool
+has_code addr h = has_flag h.flags 1 && touches h addr
+
+-- whether an address is that of a code word of some segments
+abbrev pub is_code : List ProgramHeader → ℕ → Bool
+is_code hs addr = (addr % 4 == 0) && is_some (find (has_code addr) hs)
 
 -- whether two segments share an aligned word
 abbrev pub share : ProgramHeader → ProgramHeader → Bool

@@ -25,6 +25,7 @@ pub fn checked_header(bytes: &[u8]) -> Result<FileHeader, ElfError>
     ensures refused { result_err result ≡ header_refusal bytes.now }
     ensures header { IfOk result (λ f. f ≡ file_header bytes.now) }
     ensures table { IfOk result (λ f. table_end f ≤ length bytes.now) }
+    ensures few { IfOk result (λ f. f.phnum ≤ 64) }
 {
     let length = bytes.len() as u64;
     if !bytes.starts_with(&ELF_MAGIC) {

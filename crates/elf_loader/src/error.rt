@@ -42,7 +42,7 @@ pub enum ElfError {
     /// The first instruction isn't a code word.
     #[error("the entry {entry:08x} is no code")]
     EntryOutside { entry: Addr },
-    /// Memory ran out. This may come in place of any answer.
+    /// Memory ran out. It comes only in place of a program, and of no other error.
     #[error("out of memory")]
     OutOfMemory,
 }

@@ -1,36 +1,37 @@
 // From the bytes of a file to a program.
-ghost use Rattle.std.specs.Prelude.{◌≡◌, ◌≤◌, ◌%◌, ◌^◌, ◌⊎◌, true, length, map, filter, All, None, Ok, Err, IfOk, IfErr};
+ghost use Rattle.std.specs.Prelude.{◌≡◌, ◌≤◌, ◌%◌, ◌^◌, ◌⊎◌, true, length, map, filter, find, All, None, Ok, Err, IfOk, IfErr};
 ghost use Rattle.std.specs.List.{list_any};
 ghost use Rattle.elf_loader.specs.declared.error.ElfError.TheVariants.{OutOfMemory};
 ghost use Rattle.elf_loader.specs.Headers.{file_header, table, table_end};
-ghost use Rattle.elf_loader.specs.Segments.{is_segment, IsLoadable, segments, part_of, by_address};
-ghost use Rattle.elf_loader.specs.Loaded.{is_interpreter, starts_outside, touching, segment_refusal, program_of, image_of};
+ghost use Rattle.elf_loader.specs.Segments.{is_segment, IsLoadable, segments, part_of, has_code, is_code, by_address};
+ghost use Rattle.elf_loader.specs.Loaded.{is_interpreter, touching, segment_refusal, program_of, refusal, image_of};
 
 use crate::checks::{check_segments, checked_header};
 use crate::error::ElfError;
 use crate::file_header::FileHeader;
 use crate::program_header::{HEADER_SIZE, ProgramHeader};
+use arrayvec::ArrayVec;
 use bn_base::{Addr, Image, Segment, Settings};
 use std::alloc::{AllocError, Global};
 
+// Program headers, at most as many as are taken. They are in no memory of the heap, so that no
+// refusal of a file waits for memory.
+type Headers = ArrayVec<ProgramHeader, 64>;
+
 // The program header table.
 #[tactic(auto, unfolding(crate::specs::Headers::table))]
-fn read_table(
-    alloc: Global,
-    bytes: &[u8],
-    header: FileHeader,
-) -> Result<Vec<ProgramHeader>, AllocError>
+fn read_table(bytes: &[u8], header: FileHeader) -> Headers
     requires own { header ≡ file_header bytes.now }
     requires inside { table_end header ≤ length bytes.now }
-    ensures { IfOk result (λ headers. headers.items ≡ table bytes.now) }
+    requires few { header.phnum ≤ 64 }
+    ensures { result.items ≡ table bytes.now }
 {
-    let count = header.phnum as usize;
-    let mut headers = Vec::with_capacity(alloc, count)?;
-    for place in 0..count {
+    let mut headers = ArrayVec::new();
+    for place in 0..header.phnum as usize {
         let at = header.phoff as usize + HEADER_SIZE * place;
-        headers.push(ProgramHeader::read(bytes, at, place as u64))?;
+        headers.push(ProgramHeader::read(bytes, at, place as u64));
     }
-    Ok(headers)
+    headers
 }
 
 // Whether a program interpreter is asked for.
@@ -41,24 +42,42 @@ fn needs_interpreter(headers: &[ProgramHeader]) -> bool
 }
 
 // The headers that describe segments.
-fn segments(alloc: Global, headers: &[ProgramHeader]) -> Result<Vec<ProgramHeader>, AllocError>
-    ensures { IfOk result (λ segments. segments.items ≡ filter is_segment headers.now) }
+fn segments(headers: &[ProgramHeader]) -> Headers
+    requires { length headers.now ≤ 64 }
+    ensures { result.items ≡ filter is_segment headers.now }
 {
-    headers
-        .iter()
-        .copied()
-        .filter(|h| h.is_segment())
-        .collect(alloc)
+    let mut segments = ArrayVec::new();
+    for header in headers {
+        if header.is_segment() {
+            segments.push(*header);
+        }
+    }
+    segments
+}
+
+// The first segment with a code word at an address, which need not be aligned.
+fn code_segment(segments: &[ProgramHeader], addr: Addr) -> Option<ProgramHeader>
+    ensures { result ≡ find (has_code addr) segments.now }
+{
+    segments.iter().copied().find(|h| h.has_code(addr))
+}
+
+// Whether an address is that of a code word of some segments.
+fn is_code(segments: &[ProgramHeader], addr: Addr) -> bool
+    ensures { result ≡ is_code segments.now addr }
+{
+    addr % 4 == 0 && code_segment(segments, addr).is_some()
 }
 
 // Segments by ascending address.
-fn by_address(mut headers: Vec<ProgramHeader>) -> Result<Vec<ProgramHeader>, AllocError>
-    requires segments { All (λ h. is_segment h ≡ true) headers.items }
-    requires apart { touching headers.items ≡ None }
-    ensures { IfOk result (λ sorted. sorted.items ≡ by_address headers.items) }
+fn by_address(alloc: Global, headers: &[ProgramHeader]) -> Result<Vec<ProgramHeader>, AllocError>
+    requires segments { All (λ h. is_segment h ≡ true) headers.now }
+    requires apart { touching headers.now ≡ None }
+    ensures { IfOk result (λ sorted. sorted.items ≡ by_address headers.now) }
 {
-    headers.sort_by_key(|h| h.vaddr)?;
-    Ok(headers)
+    let mut sorted = Vec::from_slice(alloc, headers)?;
+    sorted.sort_by_key(|h| h.vaddr)?;
+    Ok(sorted)
 }
 
 // The segments in whole aligned words, their bytes out of the file.
@@ -78,28 +97,21 @@ fn parts(alloc: Global, bytes: &[u8], headers: &[ProgramHeader]) -> Result<Vec<S
 fn program(
     alloc: Global,
     bytes: &[u8],
-    headers: Vec<ProgramHeader>,
+    headers: &[ProgramHeader],
     entry: Addr,
     settings: &Settings,
 ) -> Result<Image, AllocError>
     requires own { entry ≡ (file_header bytes.now).entry }
-    requires are { headers.items ≡ segments bytes.now }
-    requires taken { segment_refusal (length bytes.now) settings.now.memory headers.items ≡ None }
+    requires are { headers.now ≡ segments bytes.now }
+    requires taken { segment_refusal (length bytes.now) settings.now.memory headers.now ≡ None }
     requires low { 65536 ≤ settings.now.memory }
     requires high { settings.now.memory ≤ 2 ^ 26 }
     requires pages { settings.now.memory % 4096 ≡ 0 }
     ensures { IfOk result (λ i. i ≡ program_of bytes.now settings.now) }
 {
-    let headers = by_address(headers)?;
+    let headers = by_address(alloc, headers)?;
     let parts = parts(alloc, bytes, &headers)?;
     Ok(Image::new(parts, entry, settings))
-}
-
-// Whether the first instruction isn't a code word.
-fn starts_outside(image: &Image) -> bool
-    ensures { result ≡ starts_outside image.now }
-{
-    image.code(image.entry()).is_none()
 }
 
 /// Loads the program of an ELF file (ELF, "Program Loading").
@@ -128,25 +140,26 @@ fn starts_outside(image: &Image) -> bool
 /// | `NoSegment` | there is no segment |
 /// | `EntryOutside` | `e_entry` isn't a multiple of 4, or isn't in an executable segment |
 ///
-/// `OutOfMemory` may come in place of any answer. It takes time linear in the length of the file, and
-/// the image holds each segment's bytes once.
+/// `OutOfMemory` comes only in place of a program, since no memory is taken before the last refusal
+/// was tested. It takes time linear in the length of the file, and the image holds each segment's
+/// bytes once.
 #[tactic(auto, unfolding(crate::specs::Loaded::image_of, crate::specs::Loaded::refusal))]
 pub fn load(alloc: Global, bytes: &[u8], settings: &Settings) -> Result<Image, ElfError>
     ensures loaded { IfOk result (λ i. image_of bytes.now settings.now ≡ Ok i) }
     ensures refused { IfErr result (λ e. (e ≡ OutOfMemory) ⊎ (image_of bytes.now settings.now ≡ Err e)) }
+    ensures wanting { IfErr result (λ e. (refusal bytes.now settings.now ≡ None) ⊎ (image_of bytes.now settings.now ≡ Err e)) }
 {
     let header = checked_header(bytes)?;
-    let table = read_table(alloc, bytes, header)?;
+    let table = read_table(bytes, header);
     if needs_interpreter(&table) {
         return Err(ElfError::NotStatic);
     }
-    let segments = segments(alloc, &table)?;
+    let segments = segments(&table);
     check_segments(&segments, bytes.len() as u64, settings.memory())?;
-    let image = program(alloc, bytes, segments, header.entry, settings)?;
-    if starts_outside(&image) {
+    if !is_code(&segments, header.entry) {
         return Err(ElfError::EntryOutside {
-            entry: image.entry(),
+            entry: header.entry,
         });
     }
-    Ok(image)
+    Ok(program(alloc, bytes, &segments, header.entry, settings)?)
 }

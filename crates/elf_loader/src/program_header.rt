@@ -1,7 +1,7 @@
 // Program headers, and the segments that they describe.
 ghost use Rattle.std.specs.Prelude.{◌≡◌, ◌≤◌, ◌<◌, ◌+◌, ◌^◌, length, vec_len, IfOk};
 ghost use Rattle.elf_loader.specs.Headers.{header_at};
-ghost use Rattle.elf_loader.specs.Segments.{is_segment, file_end, IsLoadable, words_touched, first_word, word_after, share, byte_in, word_of, file_words, part_of};
+ghost use Rattle.elf_loader.specs.Segments.{is_segment, file_end, IsLoadable, words_touched, first_word, word_after, has_code, share, byte_in, word_of, file_words, part_of};
 ghost use Rattle.elf_loader.specs.Loaded.{is_interpreter, is_cut_off, is_outside};
 
 use crate::flags;
@@ -20,7 +20,7 @@ const PT_INTERP: u32 = 3;
 const LOWEST: u32 = 4096;
 
 /// A program header (ELF, "Program Header"): the fields that loading needs.
-#[derive(Clone, Copy, Debug, PartialEq, Eq, Drop)]
+#[derive(Clone, Copy, Debug, Default, PartialEq, Eq, Drop)]
 pub struct ProgramHeader {
     /// Its place in the table, counted from 0.
     pub place: u64,
@@ -122,6 +122,14 @@ impl ProgramHeader {
         ensures { result ≡ share self.now other.now }
     {
         self.first_word() < other.word_after() && other.first_word() < self.word_after()
+    }
+
+    /// Whether its words are code, and an address is in one of them.
+    pub fn has_code(&self, addr: Addr) -> bool
+        ensures { result ≡ has_code addr self.now }
+    {
+        let word = addr / 4;
+        flags::is_executable(self.flags) && self.first_word() <= word && word < self.word_after()
     }
 
     // The byte at an address: one of the file's, or 0.

@@ -1,24 +1,27 @@
-use Rattle.std.proofs.Common.{◌≡◌, ◌∙◌, sym, ap, false, true, ℕ, Some, Ok, Err, filter, inr, subst}
+use Rattle.std.proofs.Common.{◌≡◌, ◌∙◌, sym, ap, Some, Ok, Err, filter, inl, inr}
+use Rattle.std.specs.Prelude.{not}
 use Rattle.std.proofs.lemmas.Result.{err_from_is_err_and}
 use Rattle.bn_base.specs.Programs.{Program}
 use Rattle.elf_loader.specs.declared.error.ElfError.{ElfError}
 use Rattle.elf_loader.specs.declared.error.ElfError.TheVariants.{EntryOutside}
+use Rattle.elf_loader.specs.declared.file_header.FileHeader.{FileHeader}
 use Rattle.elf_loader.specs.Segments.{is_segment, segments}
-use Rattle.elf_loader.specs.Loaded.{program_of, starts_outside, image_of}
-use Rattle.elf_loader.proofs.Refused.{Reads, refused-segments, refused-entry, loaded}
+use Rattle.elf_loader.specs.Loaded.{program_of, image_of}
+use Rattle.elf_loader.proofs.Entered.{entered}
+use Rattle.elf_loader.proofs.Refused.{Reads, refused-segments, refused-entry, refused-nothing, loaded}
 use Rattle.elf_loader.proofs.loading.load.Goals as goal
 
 pub program-requires-clause-are : goal.program-requires-clause-are
 unfolding segments
-program-requires-clause-are c = c.in_ok-segments.ensures ∙ ap (filter is_segment) (c.deref-2.ensures.value ∙ c.in_ok-table.ensures)
+program-requires-clause-are c = c.deref-5.ensures.0 ∙ c.segments-segments.ensures ∙ ap (filter is_segment) (c.deref-2.ensures.0 ∙ c.read_table-table.ensures)
 
 pub returns-in_err-check_segments-clause-refused : goal.returns-in_err-check_segments-clause-refused
 unfolding segments
 returns-in_err-check_segments-clause-refused c =
     let p = err_from_is_err_and c.from_residual-in_err-check_segments.result c.from_residual-in_err-check_segments.ensures.1 in
     let reads : Reads c.args.bytes.now c.args.settings.now.memory c.deref.result.now c.deref-3.result.now c.memory.result = record {
-      headers_are = c.deref.ensures.value ∙ c.in_ok-table.ensures;
-      segments_are = c.deref-3.ensures.value ∙ c.in_ok-segments.ensures ∙ ap (filter is_segment) (c.deref-2.ensures.value ∙ c.in_ok-table.ensures);
+      headers_are = c.deref.ensures.0 ∙ c.read_table-table.ensures;
+      segments_are = c.deref-3.ensures.0 ∙ c.segments-segments.ensures ∙ ap (filter is_segment) (c.deref-2.ensures.0 ∙ c.read_table-table.ensures);
       memory_is = c.memory.ensures.value;
       header_taken = sym c.in_ok-header.ensures.refused;
       static = sym c.if-needs_interpreter.ensures;
@@ -26,32 +29,77 @@ returns-in_err-check_segments-clause-refused c =
     let refused : image_of c.args.bytes.now c.args.settings.now ≡ Err p.0 = refused-segments _ _ _ _ _ _ reads (sym c.in_err-check_segments.ensures ∙ ap (λ (e : ElfError). Some e) (sym p.2)) in
     rw p.1 (inr refused)
 
-pub returns-then-starts_outside-clause-refused : goal.returns-then-starts_outside-clause-refused
-unfolding segments program_of
-returns-then-starts_outside-clause-refused c =
+pub returns-in_err-check_segments-clause-wanting : goal.returns-in_err-check_segments-clause-wanting
+unfolding segments
+returns-in_err-check_segments-clause-wanting c =
+    let p = err_from_is_err_and c.from_residual-in_err-check_segments.result c.from_residual-in_err-check_segments.ensures.1 in
     let reads : Reads c.args.bytes.now c.args.settings.now.memory c.deref.result.now c.deref-3.result.now c.memory.result = record {
-      headers_are = c.deref.ensures.value ∙ c.in_ok-table.ensures;
-      segments_are = c.deref-3.ensures.value ∙ c.in_ok-segments.ensures ∙ ap (filter is_segment) (c.deref-2.ensures.value ∙ c.in_ok-table.ensures);
+      headers_are = c.deref.ensures.0 ∙ c.read_table-table.ensures;
+      segments_are = c.deref-3.ensures.0 ∙ c.segments-segments.ensures ∙ ap (filter is_segment) (c.deref-2.ensures.0 ∙ c.read_table-table.ensures);
       memory_is = c.memory.ensures.value;
       header_taken = sym c.in_ok-header.ensures.refused;
       static = sym c.if-needs_interpreter.ensures;
     } in
-    let program : c.in_ok-image.image ≡ program_of c.args.bytes.now c.args.settings.now = c.in_ok-image.ensures in
-    let outside : starts_outside c.in_ok-image.image ≡ true = sym c.if-starts_outside.ensures in
-    let entry : c.entry.result ≡ (program_of c.args.bytes.now c.args.settings.now).entry = c.entry.ensures ∙ ap (λ (p : Program). p.entry) program in
-    inr (refused-entry _ _ _ _ _ reads (sym c.in_ok-check_segments.ensures) (subst (λ (p : Program). starts_outside p ≡ true) program outside)
-    ∙ ap (λ (a : ℕ). Err (EntryOutside a)) (sym entry))
+    let refused : image_of c.args.bytes.now c.args.settings.now ≡ Err p.0 = refused-segments _ _ _ _ _ _ reads (sym c.in_err-check_segments.ensures ∙ ap (λ (e : ElfError). Some e) (sym p.2)) in
+    rw p.1 (inr refused)
+
+pub returns-then-not-is_code-clause-refused : goal.returns-then-not-is_code-clause-refused
+unfolding segments program_of
+returns-then-not-is_code-clause-refused c =
+    let reads : Reads c.args.bytes.now c.args.settings.now.memory c.deref.result.now c.deref-3.result.now c.memory.result = record {
+      headers_are = c.deref.ensures.0 ∙ c.read_table-table.ensures;
+      segments_are = c.deref-3.ensures.0 ∙ c.segments-segments.ensures ∙ ap (filter is_segment) (c.deref-2.ensures.0 ∙ c.read_table-table.ensures);
+      memory_is = c.memory.ensures.value;
+      header_taken = sym c.in_ok-header.ensures.refused;
+      static = sym c.if-needs_interpreter.ensures;
+    } in
+    let same : c.deref-4.result.now ≡ segments c.args.bytes.now = c.deref-4.ensures.0 ∙ c.segments-segments.ensures ∙ ap (filter is_segment) (c.deref-2.ensures.0 ∙ c.read_table-table.ensures) in
+    let entry = entered c.args.bytes.now c.args.settings.now _ _ c.deref-4.result.now _ c.in_ok-header.header c.is_code.result reads c.memory.ensures.pages c.memory.ensures.low (sym c.in_ok-check_segments.ensures) same c.in_ok-header.ensures.header c.is_code.ensures in
+    let refused : image_of c.args.bytes.now c.args.settings.now ≡ Err (EntryOutside c.in_ok-header.header.entry) =
+    refused-entry _ _ _ _ _ reads (sym c.in_ok-check_segments.ensures) (entry ∙ ap not c.if-not-is_code.true) ∙ ap (λ (f : FileHeader). Err (EntryOutside f.entry)) (sym c.in_ok-header.ensures.header) in
+    inr refused
+
+pub returns-then-not-is_code-clause-wanting : goal.returns-then-not-is_code-clause-wanting
+unfolding segments program_of
+returns-then-not-is_code-clause-wanting c =
+    let reads : Reads c.args.bytes.now c.args.settings.now.memory c.deref.result.now c.deref-3.result.now c.memory.result = record {
+      headers_are = c.deref.ensures.0 ∙ c.read_table-table.ensures;
+      segments_are = c.deref-3.ensures.0 ∙ c.segments-segments.ensures ∙ ap (filter is_segment) (c.deref-2.ensures.0 ∙ c.read_table-table.ensures);
+      memory_is = c.memory.ensures.value;
+      header_taken = sym c.in_ok-header.ensures.refused;
+      static = sym c.if-needs_interpreter.ensures;
+    } in
+    let same : c.deref-4.result.now ≡ segments c.args.bytes.now = c.deref-4.ensures.0 ∙ c.segments-segments.ensures ∙ ap (filter is_segment) (c.deref-2.ensures.0 ∙ c.read_table-table.ensures) in
+    let entry = entered c.args.bytes.now c.args.settings.now _ _ c.deref-4.result.now _ c.in_ok-header.header c.is_code.result reads c.memory.ensures.pages c.memory.ensures.low (sym c.in_ok-check_segments.ensures) same c.in_ok-header.ensures.header c.is_code.ensures in
+    let refused : image_of c.args.bytes.now c.args.settings.now ≡ Err (EntryOutside c.in_ok-header.header.entry) =
+    refused-entry _ _ _ _ _ reads (sym c.in_ok-check_segments.ensures) (entry ∙ ap not c.if-not-is_code.true) ∙ ap (λ (f : FileHeader). Err (EntryOutside f.entry)) (sym c.in_ok-header.ensures.header) in
+    inr refused
+
+pub returns-in_err-program-clause-wanting : goal.returns-in_err-program-clause-wanting
+unfolding segments
+returns-in_err-program-clause-wanting c =
+    let p = err_from_is_err_and c.from_residual-in_err-program.result c.from_residual-in_err-program.ensures.1 in
+    let reads : Reads c.args.bytes.now c.args.settings.now.memory c.deref.result.now c.deref-3.result.now c.memory.result = record {
+      headers_are = c.deref.ensures.0 ∙ c.read_table-table.ensures;
+      segments_are = c.deref-3.ensures.0 ∙ c.segments-segments.ensures ∙ ap (filter is_segment) (c.deref-2.ensures.0 ∙ c.read_table-table.ensures);
+      memory_is = c.memory.ensures.value;
+      header_taken = sym c.in_ok-header.ensures.refused;
+      static = sym c.if-needs_interpreter.ensures;
+    } in
+    let same : c.deref-4.result.now ≡ segments c.args.bytes.now = c.deref-4.ensures.0 ∙ c.segments-segments.ensures ∙ ap (filter is_segment) (c.deref-2.ensures.0 ∙ c.read_table-table.ensures) in
+    let entry = entered c.args.bytes.now c.args.settings.now _ _ c.deref-4.result.now _ c.in_ok-header.header c.is_code.result reads c.memory.ensures.pages c.memory.ensures.low (sym c.in_ok-check_segments.ensures) same c.in_ok-header.ensures.header c.is_code.ensures in
+    rw p.1 (inl (refused-nothing _ _ _ _ _ reads (sym c.in_ok-check_segments.ensures) (entry ∙ ap not c.if-not-is_code.false)))
 
 pub returns-clause-loaded : goal.returns-clause-loaded
-unfolding segments program_of
+unfolding segments
 returns-clause-loaded c =
     let reads : Reads c.args.bytes.now c.args.settings.now.memory c.deref.result.now c.deref-3.result.now c.memory.result = record {
-      headers_are = c.deref.ensures.value ∙ c.in_ok-table.ensures;
-      segments_are = c.deref-3.ensures.value ∙ c.in_ok-segments.ensures ∙ ap (filter is_segment) (c.deref-2.ensures.value ∙ c.in_ok-table.ensures);
+      headers_are = c.deref.ensures.0 ∙ c.read_table-table.ensures;
+      segments_are = c.deref-3.ensures.0 ∙ c.segments-segments.ensures ∙ ap (filter is_segment) (c.deref-2.ensures.0 ∙ c.read_table-table.ensures);
       memory_is = c.memory.ensures.value;
       header_taken = sym c.in_ok-header.ensures.refused;
       static = sym c.if-needs_interpreter.ensures;
     } in
-    let program : c.in_ok-image.image ≡ program_of c.args.bytes.now c.args.settings.now = c.in_ok-image.ensures in
-    let code : starts_outside c.in_ok-image.image ≡ false = sym c.if-starts_outside.ensures in
-    loaded _ _ _ _ _ reads (sym c.in_ok-check_segments.ensures) (subst (λ (p : Program). starts_outside p ≡ false) program code) ∙ ap (λ (p : Program). Ok p) (sym program)
+    let same : c.deref-4.result.now ≡ segments c.args.bytes.now = c.deref-4.ensures.0 ∙ c.segments-segments.ensures ∙ ap (filter is_segment) (c.deref-2.ensures.0 ∙ c.read_table-table.ensures) in
+    let entry = entered c.args.bytes.now c.args.settings.now _ _ c.deref-4.result.now _ c.in_ok-header.header c.is_code.result reads c.memory.ensures.pages c.memory.ensures.low (sym c.in_ok-check_segments.ensures) same c.in_ok-header.ensures.header c.is_code.ensures in
+    loaded _ _ _ _ _ reads (sym c.in_ok-check_segments.ensures) (entry ∙ ap not c.if-not-is_code.false) ∙ ap (λ (p : Program). Ok p) (sym c.in_ok-program.ensures)

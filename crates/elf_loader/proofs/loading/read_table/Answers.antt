@@ -1,4 +1,4 @@
-use Rattle.std.proofs.Common.{ap, ◌∙◌}
+use Rattle.std.proofs.Common.{ap, ◌∙◌, arith}
 use Rattle.elf_loader.specs.declared.file_header.FileHeader.{FileHeader}
 use Rattle.elf_loader.specs.Headers.{file_header, header}
 use Rattle.elf_loader.proofs.Grown.{grown}
@@ -6,5 +6,8 @@ use Rattle.elf_loader.proofs.loading.read_table.Goals as goal
 
 pub loop-place-preserved : goal.loop-place-preserved
 loop-place-preserved c =
-    grown (header c.args.bytes.now (file_header c.args.bytes.now)) c.loop-place.place _ _ _ c.in_ok-push.ensures.items c.loop-place.invariant
-    (c.read.ensures ∙ ap (λ (f : FileHeader). header c.args.bytes.now f c.loop-place.place) c.requires.own)
+    record {
+      read = grown (header c.args.bytes.now (file_header c.args.bytes.now)) c.loop-place.place _ _ _ c.push.ensures.items c.loop-place.invariant.read
+          (c.read.ensures ∙ ap (λ (f : FileHeader). header c.args.bytes.now f c.loop-place.place) c.requires.own);
+      count = omega (arith, c.push.ensures.len, c.loop-place.invariant.count);
+    }
