@@ -30,8 +30,8 @@ pub const GROUP: u8 = 4;
 /// The run was ended by another hart. The value is 0.
 pub const STOPPED: u8 = 5;
 
-/// The log's guard, ahead of an ask: too much of the log would lie behind the interval's Header. The
-/// value is 0, and the hart goes on. Logs of version 1 have no such mark.
+/// The guard: ahead of an ask, the records since the interval's Header have more than half of the
+/// log size. The value is 0, and the hart goes on. Logs of version 1 have no such mark.
 pub const GUARD: u8 = 6;
 
 /// The hart has done as many instructions as it may. The value is 0.

@@ -1,6 +1,6 @@
 -- A file that is written is read again.
 use Rattle.std.proofs.Common.{◌≡◌, ℕ, ◌+◌, ◌-◌, ◌%◌, ◌^◌, ◌<◌, ◌≤◌, List, ◌++◌, length, take, drop, length-drop, length-append, Result, Ok, Err, Option, Some, None, refl, sym, ap, subst, ◌∙◌, arith, inl, inr}
-use Rattle.std.specs.Prelude.{IsTrue, Bool, true, ◌==◌, if◌then◌else◌, IfOk, IfErr, MatchResult}
+use Rattle.std.specs.Prelude.{IsTrue, true, ◌==◌, if◌then◌else◌, IfOk, IfErr, MatchResult}
 use Rattle.std.specs.List.{flat_map, AllByRecursion}
 use Rattle.std.proofs.lemmas.Bool.{eq-eqb, eqb-true, le-ltb}
 use Rattle.std.proofs.lemmas.List.{drop-drop, take_at, drop_at}
@@ -8,7 +8,7 @@ use Rattle.std.proofs.lemmas.Slice.Eq.{bytes_eq-Decides}
 use Rattle.sha2.specs.Sha256.{sha256}
 use Rattle.sha2.proofs.Facts256.{length-sha256}
 use Rattle.bn_base.specs.declared.settings.RawSettings.{RawSettings}
-use Rattle.bn_base.specs.Ranges.{IsSetting, is_between, is_small_power, is_memory_size, most_harts, is_second_sets, is_second_ways, first_bad}
+use Rattle.bn_base.specs.Ranges.{IsSetting, is_between, is_small_power, is_memory_size, most_harts, first_bad}
 use Rattle.std.specs.Int.{is_power_of_two}
 use Rattle.le_numbers.specs.Numbers.{number_at, number_bytes}
 use Rattle.le_numbers.specs.Laws.{HaveTheirWidth, AreRead}
@@ -36,9 +36,6 @@ only_first s is = omega (arith, is.format_low, is.format_high)
 few_harts : (s : RawSettings) → IsSetting s → s.harts ≤ 8
 few_harts s is = subst (λ (f : ℕ). s.harts ≤ (if f == 2 then 16 else 8)) (only_first s is) is.harts_high
 
-truth : (b : Bool) → IsTrue b → b ≡ true
-truth b is = grind arith
-
 fit_first : (c : Content) → IsContent c → AllByRecursion (Fits 1) c.records
 fit_first c is = subst (λ (f : ℕ). AllByRecursion (Fits f) c.records) (only_first c.head.settings is.settings) is.fit
 
@@ -61,8 +58,8 @@ first_fields s format sets2 ways2 = record {
 same_fields : (s : RawSettings) → IsSetting s → first_fields s 1 0 0 ≡ s
 same_fields s is =
     let one = only_first s is in
-    let sets : s.sets2 ≡ 0 = eqb-true s.sets2 0 (truth _ is.second_sets) in
-    let ways : s.ways2 ≡ 0 = eqb-true s.ways2 0 (truth _ is.second_ways) in
+    let sets : s.sets2 ≡ 0 = eqb-true s.sets2 0 is.second_sets in
+    let ways : s.ways2 ≡ 0 = eqb-true s.ways2 0 is.second_ways in
     ap (λ (x : ℕ). first_fields s x 0 0) (sym one) ∙ ap (λ (x : ℕ). first_fields s s.format x 0) (sym sets) ∙ ap (λ (x : ℕ). first_fields s s.format s.sets2 x) (sym ways)
 
 abbrev head_with : List ℕ → RawSettings → Head
@@ -171,8 +168,8 @@ none_bad s is =
       between 1 16 s.ways is.ways_low is.ways_high,
       power 16 s.line is.line_low is.line_high is.line_power,
       between 1 1 s.format is.format_low is.format_high,
-      truth (is_second_sets s) is.second_sets,
-      truth (is_second_ways s) is.second_ways,
+      is.second_sets,
+      is.second_ways,
     ) refl
 
 faultless : (signed : List ℕ) → take 8 signed ≡ magic → number_at 4 8 signed ≡ 1 → first_bad (settings_in signed) ≡ None → size_in signed ≤ (settings_in signed).log_size → size_in signed ≡ length signed - 92
