@@ -9,9 +9,10 @@ use Rattle.run_model.specs.declared.start.Start.{Start}
 use Rattle.run_model.specs.Plain.{PlainParts, IsRun, everyone}
 use Rattle.run_model.specs.Turn.{Run, serve, is_orderly, halted}
 use Rattle.run_model.specs.Turning.{is_alive}
+use Rattle.log_ring.specs.Kept.{Held, Holds}
 use Rattle.race_log.specs.Noted.{NotesDecide}
 use Rattle.run_laws.specs.History.{after_rows, are_orderly}
-use Rattle.bus_core.specs.Bus.{Seen, seen, IsState, IsHistory, AreTold, began_of, first_run, run_after, halted_if, row}
+use Rattle.bus_core.specs.Bus.{seen, IsState, IsHistory, IsLogged, AreTold, began_of, first_run, run_after, halted_if, row}
 use Rattle.bus_core.proofs.Rows.{after_snoc, lawful_snoc, orderly_snoc, not_both, live_as, none_alive}
 
 -- what one ask that was served says of the machine before and after it
@@ -95,4 +96,12 @@ run_is decide p h d told run is = record {
     bytes = is.bytes;
   };
   turns = is.turns;
+}
+
+-- rows that led to what is kept, and its ring
+pub logged_is : (p : PlainParts) (h d : Bool) (told rows : List TurnRow) (ring : Held) → ring ≡ p.trace.log.ring → IsHistory p h d rows → IsLogged (seen p h d told) ring rows
+logged_is p h d told rows ring e is = record {
+  told = is.told;
+  state = state_is p h d told (run_after (began_of p.start) h rows) is.run;
+  log = subst (λ (r : Held). Holds r (run_after (began_of p.start) h rows).stream) (sym e) is.run.trace.log.holds;
 }

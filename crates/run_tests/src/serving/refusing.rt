@@ -23,7 +23,7 @@ fn an_ask_that_is_not_orderly_ends_all(rt: HostRuntime) -> Result<(), Fail> {
             value: 7,
         },
     };
-    assert_eq!(rt; bus.serve(0, &ask)?, Reply::Over);
+    assert_eq!(rt; bus.serve(0, &ask)?.0, Reply::Over);
     assert!(rt; !bus.live(0));
     assert!(rt; !bus.live(1));
     let rows = bus.rows().ok_or("no rows")?;

@@ -5,7 +5,8 @@ use Rattle.run_model.specs.declared.hart.Hart.{Hart}
 use Rattle.run_model.specs.Runs.{any_live, is_over}
 use Rattle.run_model.specs.Harts.{hart_in}
 use Rattle.run_model.specs.Turning.{parts}
-use Rattle.bus_core.specs.Bus.{Seen, seen, marks, IsState}
+use Rattle.bus_core.specs.Bus.{Seen, seen, marks, IsState, IsLogged}
+use Rattle.bus_core.proofs.History.{logged_is}
 use Rattle.bus_core.proofs.Marks.{marks_are, live_is, over_is}
 use Rattle.bus_core.proofs.bus.Bus.close.Goals as goal
 
@@ -26,3 +27,18 @@ returns-clause-finished g c run is =
     c.is_finished.ensures ∙ ap (λ (x : Bool). not b.halted && not b.disordered && not x) live
     ∙ ap (λ (x : Bool). not b.halted && not b.disordered && x) (over_is (any_live p.start.settings.harts run.harts))
     ∙ ap (λ (x : Seen). not x.halted && not x.disordered && is_over x.began.settings run) c.self.view_is
+
+pub returns-clause-told : goal.returns-clause-told
+returns-clause-told g c tells =
+    let b = c.self.inside in
+    let p = parts b.plain in let told = g.B.Book.told b.book in
+    let ring = c.into_recorded-recorded.result.ring in
+    subst (λ (s : Seen). IsLogged s ring s.rows) c.self.view_is (logged_is p b.halted b.disordered told told ring c.into_recorded-recorded.ensures.ring (c.self.invariant.told tells))
+
+pub returns-clause-some : goal.returns-clause-some
+returns-clause-some g c =
+    let b = c.self.inside in
+    let p = parts b.plain in let told = g.B.Book.told b.book in
+    let ring = c.into_recorded-recorded.result.ring in
+    let some = c.self.invariant.some in
+    (some.0, subst (λ (s : Seen). IsLogged s ring some.0) c.self.view_is (logged_is p b.halted b.disordered told some.0 ring c.into_recorded-recorded.ensures.ring some.1))

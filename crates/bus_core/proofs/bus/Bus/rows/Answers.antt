@@ -1,0 +1,12 @@
+use Rattle.std.proofs.Common.{subst}
+use Rattle.run_model.specs.Turning.{parts}
+use Rattle.bus_core.specs.Bus.{Seen, IsTold, began_of, run_after}
+use Rattle.bus_core.proofs.History.{state_is}
+use Rattle.bus_core.proofs.bus.Bus.rows.Goals as goal
+
+pub returns-clause-told : goal.returns-clause-told
+returns-clause-told g c tells =
+    let b = c.self.inside in
+    let p = parts b.plain in let told = g.B.Book.told b.book in
+    let h = c.self.invariant.told tells in
+    subst (λ (s : Seen). IsTold s) c.self.view_is (record { told = h.told; state = state_is p b.halted b.disordered told (run_after (began_of p.start) b.halted told) h.run })
