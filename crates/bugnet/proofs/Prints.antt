@@ -6,7 +6,7 @@ use Rattle.std.proofs.lemmas.List.{append-nil, take_all, take-append-le}
 use Rattle.std.proofs.lemmas.Bool.{cases_lt}
 use Rattle.bn_outside.specs.Counts.{Rose}
 use Rattle.bn_outside.specs.Streams.{AppendsPart}
-use Rattle.bugnet.specs.Outside.{Sent, SendStops, Wrote}
+use Rattle.bugnet.specs.Outside.{Sent, SendStops, Gathered, Wrote}
 use Rattle.bugnet.specs.declared.refusal.Refusal.{Refusal}
 use Rattle.bugnet.specs.declared.refusal.Refusal.TheVariants.{WordsRefused, OutOfRange, SameName, StoreFailed, Missing, TooLong, ElfRefused, LogRefused, ProgramDiffers, OutOfMemory, WriteFailed, ReplayStopped}
 
@@ -92,10 +92,24 @@ so_far-more whole piece rest old now next before after last s h fell = record {
   later = omega (arith, s.later, fell);
 }
 
+-- a text of which some was sent and the rest waits
+pub so_far-gathered : (whole text waiting rest : List ℕ) (old now next : Option (List ℕ)) (before after last : ℕ)
+    → SoFar whole (text ++ rest) old now before after → (sent : List ℕ) × Appends now next sent × (text ≡ sent ++ waiting) → after ≤ last
+    → SoFar whole (waiting ++ rest) old next before last
+so_far-gathered whole text waiting rest old now next before after last s h fell =
+    let parts : text ++ rest ≡ h.0 ++ (waiting ++ rest) = ap (λ (t : List ℕ). t ++ rest) h.2 ∙ append_assoc h.0 waiting rest in
+    so_far-more whole h.0 (waiting ++ rest) old now next before after last (subst (λ (t : List ℕ). SoFar whole t old now before after) parts s) h.1 fell
+
 -- nothing is left
 pub so_far-done : (whole rest : List ℕ) (old now : Option (List ℕ)) (before after : ℕ) → SoFar whole rest old now before after → rest ≡ [] → Appends old now whole
 so_far-done whole rest old now before after s e =
     subst (λ (t : List ℕ). Appends old now t) (sym (s.parts ∙ ap (λ (t : List ℕ). s.sent ++ t) e ∙ append-nil s.sent)) s.appended
+
+-- what waits is less than a piece more, since memory was wanting
+pub gathered-short : {A : Type 0} (old new : Option (List ℕ)) (before now : ℕ) (text piece waiting : List ℕ) (result : Result A Refusal)
+    → Sent old new before now text (λ x. ⊥) result → Gathered old new before now (text ++ piece) waiting result
+gathered-short old new before now text piece waiting (Ok value) h = absurd h.1
+gathered-short old new before now text piece waiting (Err r) h = (part-longer old new text piece h.0, h.1)
 
 -- a piece that wasn't sent ends it
 pub so_far-stopped : (whole piece rest : List ℕ) (old now next : Option (List ℕ)) (before after last : ℕ) (r : Refusal)
@@ -104,6 +118,13 @@ pub so_far-stopped : (whole piece rest : List ℕ) (old now next : Option (List 
 so_far-stopped whole piece rest old now next before after last r s h =
     let more = part-longer now next piece rest h.0 in
     (subst (λ (t : List ℕ). AppendsPart old next t) (sym s.parts) (part-behind old now next s.sent (piece ++ rest) s.appended more), stops-later before after last r s.later h.1)
+
+-- what waits is the last piece
+pub so_far-last : {A : Type 0} (whole text rest : List ℕ) (old now next : Option (List ℕ)) (before after last : ℕ) (result : Result A Refusal)
+    → SoFar whole (text ++ rest) old now before after → rest ≡ [] → Sent now next after last text (λ x. Unit {0}) result → Sent old next before last whole (λ x. Unit {0}) result
+so_far-last whole text rest old now next before after last (Ok value) s e h =
+    (subst (λ (t : List ℕ). Appends old next t) (sym (s.parts ∙ ap (λ (t : List ℕ). s.sent ++ (text ++ t)) e ∙ ap (λ (t : List ℕ). s.sent ++ t) (append-nil text))) (appends-both old now next s.sent text s.appended h.0), tt)
+so_far-last whole text rest old now next before after last (Err r) s e h = so_far-stopped whole text rest old now next before after last r s h
 
 -- want of memory ends it
 pub so_far-ends : (whole rest : List ℕ) (old now : Option (List ℕ)) (before after : ℕ) → SoFar whole rest old now before after → AppendsPart old now whole

@@ -1,5 +1,5 @@
 -- What the parts of a command do to the outside.
-use Rattle.std.specs.Prelude.{◌≡◌, ◌≢◌, ◌≤◌, ◌<◌, ◌⊎◌, ℕ, List, length, Option, Some, None, Result, Ok, Err, IsSomeAnd}
+use Rattle.std.specs.Prelude.{◌≡◌, ◌≢◌, ◌≤◌, ◌<◌, ◌⊎◌, ◌++◌, ℕ, List, length, Option, Some, None, Result, Ok, Err, IsSomeAnd}
 use Rattle.std.specs.Io.KnownBytes.{Appends}
 use Rattle.std.specs.declared.vec.Vec.{Vec}
 use Rattle.std.specs.declared.alloc.Global.{Global}
@@ -109,6 +109,11 @@ SendStops before now refusal = ⊥
 abbrev pub Sent : {A : Type 0} → Option (List ℕ) → Option (List ℕ) → ℕ → ℕ → List ℕ → (A → Type 0) → Result A Refusal → Type 0
 Sent old new before now text P (Ok value) = Appends old new text × P value
 Sent old new before now text P (Err refusal) = AppendsPart old new text × SendStops before now refusal
+
+-- of a text some was sent and the rest waits, or a front of it was sent and sending stopped
+abbrev pub Gathered : {A : Type 0} → Option (List ℕ) → Option (List ℕ) → ℕ → ℕ → List ℕ → List ℕ → Result A Refusal → Type 0
+Gathered old new before now text waiting (Ok value) = (sent : List ℕ) × Appends old new sent × (text ≡ sent ++ waiting)
+Gathered old new before now text waiting (Err refusal) = AppendsPart old new text × SendStops before now refusal
 
 -- a refusal was told, or its line found no memory
 abbrev pub ToldRefusal : FileNames → Refusal → ℕ → Option (List ℕ) → Option (List ℕ) → ℕ → ℕ → Type 0

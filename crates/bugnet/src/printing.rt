@@ -2,9 +2,9 @@
 ghost use Rattle.std.specs.Prelude.{◌≡◌, ◌≤◌, ◌++◌, ℕ, drop};
 ghost use Rattle.rv_text.specs.Rows.{row_text};
 ghost use Rattle.bugnet.specs.Refusals.{line_of, status_of};
-ghost use Rattle.bugnet.specs.Texts.{rows_text, begin_text, list_text, check_line, check_text, record_text};
+ghost use Rattle.bugnet.specs.Texts.{rows_text, begin_text, interval_text, list_text, check_line, check_text, record_text};
 ghost use Rattle.bugnet.specs.Printed.{outcome_of, ending_of, end_of_interval, rest_text};
-ghost use Rattle.bugnet.specs.Outside.{Wrote, Sent, ToldRefusal};
+ghost use Rattle.bugnet.specs.Outside.{Wrote, Sent, Gathered, ToldRefusal};
 
 use crate::logs::{header_count, next_mark, total};
 use crate::names::Names;
@@ -17,6 +17,9 @@ use log_order::KeptLog;
 use log_record::Record;
 use rv_text::{Text, write_row};
 use std::alloc::Global;
+
+// How many bytes of a text wait at least before they are sent.
+const BLOCK: usize = 65_536;
 
 /// How the replay of an interval ended.
 #[derive(Clone, Copy, Debug, PartialEq, Eq, Drop)]
@@ -66,14 +69,43 @@ pub fn refuse<X: Sink>(alloc: Global, names: &Names, refusal: &Refusal, err: &mu
 
 // ---- the replay of an interval
 
-// Sends the line of a row.
-fn send_row<O: Sink>(text: &mut Text, row: &Row, out: &mut O) -> Result<(), Refusal>
-    ensures sent { Sent (O.written out.old) (O.written out.new) (O.faults out.old) (O.faults out.new) (row_text row.now) (λ _. Unit {0}) result }
+// Sends what waits, where it is a block or more.
+fn send_block<O: Sink>(text: &mut Text, out: &mut O) -> Result<(), Refusal>
+    ensures sent { Gathered (O.written out.old) (O.written out.new) (O.faults out.old) (O.faults out.new) text.old text.new result }
     ensures later { O.faults out.old ≤ O.faults out.new }
 {
-    text.clear();
-    write_row(row, text)?;
-    send(out, text)
+    if text.len() < BLOCK {
+        return Ok(());
+    }
+    match send(out, text) {
+        Ok(()) => {
+            text.clear();
+            Ok(())
+        }
+        Err(refusal) => Err(refusal),
+    }
+}
+
+// Sends what waits, since memory is wanting for more of it.
+fn send_short<O: Sink>(text: &Text, out: &mut O) -> Result<(), Refusal>
+    ensures sent { Sent (O.written out.old) (O.written out.new) (O.faults out.old) (O.faults out.new) text.now (λ _. ⊥) result }
+    ensures later { O.faults out.old ≤ O.faults out.new }
+{
+    match send(out, text) {
+        Ok(()) => Err(Refusal::OutOfMemory),
+        Err(refusal) => Err(refusal),
+    }
+}
+
+// Puts the line of a row behind what waits.
+fn gather_row<O: Sink>(text: &mut Text, row: &Row, out: &mut O) -> Result<(), Refusal>
+    ensures sent { Gathered (O.written out.old) (O.written out.new) (O.faults out.old) (O.faults out.new) (text.old ++ row_text row.now) text.new result }
+    ensures later { O.faults out.old ≤ O.faults out.new }
+{
+    match write_row(row, text) {
+        Ok(()) => send_block(text, out),
+        Err(_) => send_short(text, out),
+    }
 }
 
 // The end that an error of a replay makes; want of memory is none.
@@ -90,7 +122,7 @@ fn ending_of(error: ReplayError) -> Result<Ending, Refusal>
     }
 }
 
-// Sends the rows that are left of a replay, one by one.
+// Sends the rows that are left of a replay, in blocks.
 fn send_rows<O: Sink>(
     alloc: Global,
     replayer: &mut Replayer,
@@ -103,12 +135,18 @@ fn send_rows<O: Sink>(
     let mut text = Text::new(alloc);
     'rows: loop {
         match replayer.step() {
-            Ok(Some(row)) => match send_row(&mut text, &row, out) {
+            Ok(Some(row)) => match gather_row(&mut text, &row, out) {
                 Ok(()) => (),
                 Err(refusal) => return Err(refusal),
             },
-            Ok(None) => return Ok(Ending::Done),
-            Err(error) => return ending_of(error),
+            Ok(None) => match send(out, &text) {
+                Ok(()) => return Ok(Ending::Done),
+                Err(refusal) => return Err(refusal),
+            },
+            Err(error) => match send(out, &text) {
+                Ok(()) => return ending_of(error),
+                Err(refusal) => return Err(refusal),
+            },
         }
     }
 }
@@ -194,15 +232,31 @@ pub fn send_interval<O: Sink>(
 
 // ---- a log
 
-// Sends the line of a record before those from a place on, where it has one.
-fn send_record<O: Sink>(
+// Puts the line of an interval behind what waits.
+fn gather_interval<O: Sink>(
+    text: &mut Text,
+    hart: u64,
+    interval: u64,
+    ic: u64,
+    mark: &EndMark,
+    out: &mut O,
+) -> Result<(), Refusal>
+    ensures sent { Gathered (O.written out.old) (O.written out.new) (O.faults out.old) (O.faults out.new) (text.old ++ interval_text hart interval ic mark.now) text.new result }
+    ensures later { O.faults out.old ≤ O.faults out.new }
+{
+    push_interval(text, hart, interval, ic, mark)?;
+    send_block(text, out)
+}
+
+// Puts the line of a record before those from a place on, where it has one, behind what waits.
+fn gather_record<O: Sink>(
     text: &mut Text,
     entry: &Record,
     records: &[Record],
     next: usize,
     out: &mut O,
 ) -> Result<(), Refusal>
-    ensures sent { Sent (O.written out.old) (O.written out.new) (O.faults out.old) (O.faults out.new) (record_text entry.now (drop next records.now)) (λ _. Unit {0}) result }
+    ensures sent { Gathered (O.written out.old) (O.written out.new) (O.faults out.old) (O.faults out.new) (text.old ++ record_text entry.now (drop next records.now)) text.new result }
     ensures later { O.faults out.old ≤ O.faults out.new }
 {
     match *entry {
@@ -213,9 +267,7 @@ fn send_record<O: Sink>(
             ..
         } => {
             let mark = next_mark(hart, records, next);
-            text.clear();
-            push_interval(text, u64::from(hart), interval, ic, &mark)?;
-            send(out, text)
+            gather_interval(text, u64::from(hart), interval, ic, &mark, out)
         }
         Record::FirstLoad { .. } => Ok(()),
         Record::ScOk { .. } => Ok(()),
@@ -225,7 +277,7 @@ fn send_record<O: Sink>(
     }
 }
 
-/// Sends the lines of the intervals of a log, one by one.
+/// Sends the lines of the intervals of a log, in blocks.
 pub fn send_list<O: Sink>(alloc: Global, log: &KeptLog, out: &mut O) -> Result<(), Refusal>
     ensures sent { Sent (O.written out.old) (O.written out.new) (O.faults out.old) (O.faults out.new) (list_text log.now.records) (λ _. Unit {0}) result }
     ensures later { O.faults out.old ≤ O.faults out.new }
@@ -233,12 +285,12 @@ pub fn send_list<O: Sink>(alloc: Global, log: &KeptLog, out: &mut O) -> Result<(
     let records = log.records();
     let mut text = Text::new(alloc);
     for place in 0..records.len() {
-        match send_record(&mut text, &records[place], records, place + 1, out) {
+        match gather_record(&mut text, &records[place], records, place + 1, out) {
             Ok(()) => (),
             Err(refusal) => return Err(refusal),
         }
     }
-    Ok(())
+    send(out, &text)
 }
 
 // What is counted of a log.

@@ -3,7 +3,7 @@ use Rattle.bugnet.proofs.Rows.{Stands}
 use Rattle.bugnet.proofs.printing.send_rows.Given as goal
 
 abbrev pub invariant-rows : goal.invariant-rows
-invariant-rows g l = Stands l.fn.replayer.left l.replayer.left (g.O.Sink.written l.fn.out) (g.O.Sink.written l.out) (g.O.Sink.faults l.fn.out) (g.O.Sink.faults l.out)
+invariant-rows g l = Stands l.fn.replayer.left l.replayer.left l.text (g.O.Sink.written l.fn.out) (g.O.Sink.written l.out) (g.O.Sink.faults l.fn.out) (g.O.Sink.faults l.out)
 
 -- the rows that are left
 abbrev pub decreases-rows : goal.decreases-rows
