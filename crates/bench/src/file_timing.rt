@@ -11,7 +11,7 @@ use std::time::Instant;
 
 // The hart's exit.
 fn end(count: u64) -> Record
-    ensures { IsTrue (is_marked result) }
+    ensures { IsTrue (is_marked 2 result) }
 {
     let mark = EndMark {
         ic: count,
@@ -54,6 +54,7 @@ pub fn files(rt: &HostRuntime, count: u64) -> anyhow::Result<()> {
         settings,
         digest: [0; 32],
     };
+    let _format = head.settings.format();
     let clock = Instant::now(rt)?;
     let file = write_file(rt.alloc(), &head, 1, &records)?;
     let written = rate_since(rt, clock, file.len() as u64)?;

@@ -17,7 +17,7 @@ const WORDS: u64 = 1024;
 
 // The hart has done as many instructions as it may.
 fn end(count: u64) -> Record
-    ensures { IsTrue (is_marked result) }
+    ensures { IsTrue (is_marked 2 result) }
 {
     let mark = EndMark {
         ic: count,
@@ -69,6 +69,7 @@ fn file(alloc: Global, count: u64) -> anyhow::Result<Vec<u8>>
         digest: [0; 32],
     };
     let records = kept(alloc, count)?;
+    let _format = head.settings.format();
     anyhow::ensure!(
         records.len() <= head.settings.log_size() as usize,
         "a log too long"

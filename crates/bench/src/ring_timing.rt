@@ -14,7 +14,7 @@ const FULL: u64 = 104_857;
 
 // Appends the same record so many times.
 fn append_all(ring: &mut Ring, entry: &Record, count: u64)
-    requires marked { IsTrue (is_marked entry.now) }
+    requires marked { IsTrue (is_marked 2 entry.now) }
     requires few { ring.old.dropped + length ring.old.records + count < 2 ^ 60 }
     ensures { ring.new.dropped + length ring.new.records ≡ ring.old.dropped + length ring.old.records + count }
 {
