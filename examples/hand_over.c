@@ -6,8 +6,8 @@
 #define ORDERS 2
 
 struct order {
-    unsigned item;
-    unsigned count;
+    volatile unsigned item;
+    volatile unsigned count;
 };
 
 static struct order orders[ORDERS] = {{11, 2}, {12, 5}};
