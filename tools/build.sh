@@ -69,7 +69,7 @@ build() {
     rm -f "$stamp"
     sources=$(sources)
     trap 'kill $child 2>/dev/null; wait $child; stop 130 "stopped; the crates that are done stay proved"' INT TERM HUP
-    say "proving and building the program, ${ZELKUMA_LANES:=$(lanes)} crates at a time; README says how long that takes from nothing"
+    say "proving and building the program, ${#below[@]} crates, up to ${ZELKUMA_LANES:=$(lanes)} at a time; README says how long that takes from nothing"
     rt_does all check --jobs "$ZELKUMA_LANES"
     # That the program checks an example's log tells that it was built: rt ends with its status.
     rt_does run -- check data/example.log
