@@ -8,7 +8,7 @@
 # row; or with none, where its interval was full or it came to its limit: then with the reason. What
 # the log has of a hart is of its last turns, so the earlier ones are left out.
 set -eu
-zelkuma=${ZELKUMA:-$(dirname "$0")/../zelkuma}
+zelkuma=$(dirname "$0")/../zelkuma
 {
     "$zelkuma" list "$1" | while read -r hart interval _; do
         "$zelkuma" replay "$1" "$2" "$hart" "$interval"
