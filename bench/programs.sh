@@ -1,8 +1,9 @@
 #!/usr/bin/env bash
 # Times the whole program on examples/sort.elf: its recording, the replay of its longest interval,
 # and the reading of a full log of 64 MiB. Beside them stand qemu-riscv32 on the same program, one
-# instruction at a time too, and sha256sum on the same log. Last, how much memory the list of turns
-# takes. It prints ratios; the numbers beside them are those of the machine and of the moment.
+# instruction at a time too, and sha256sum on the same log. Then how much memory the list of turns
+# takes, and last how far back a log of 1 MiB reaches in each example. It prints ratios; the times
+# beside them are those of the machine and of the moment.
 #
 # bench/programs.sh [RUNS]: each is run RUNS times (3), and the least processor time counts.
 set -eu
@@ -11,15 +12,7 @@ work=$(mktemp -d)
 trap 'rm -rf "$work"' EXIT
 runs=${1:-3}
 elf=$top/examples/sort.elf
-zelkuma=$top/zelkuma
-
-# Without words the program only refuses them, but it is built by then.
-status=0
-"$zelkuma" >/dev/null 2>"$work/err" || status=$?
-if [ "$status" -ne 2 ]; then
-    cat "$work/err" >&2
-    exit 1
-fi
+zelkuma=$("$top/zelkuma" build) # the program itself
 
 # seconds STATUS WORD..: runs the words, which have to end with this status, and prints the least
 # processor time of all the runs. What they write to err last is in $work/err.
@@ -123,3 +116,25 @@ if [ -x /usr/bin/time ]; then
 else
     echo "/usr/bin/time (Debian's time) is not installed: the list of turns is not measured"
 fi
+
+# How many of an example's instructions go into 1 MiB of records, by those of the whole run.
+reach() { # NAME WORD..
+    local name=$1 status=0
+    shift
+    "$zelkuma" record --seed 1 --log-size 268435456 "$@" "$top/examples/$name.elf" "$work/LOG" "$work/BOOK" \
+        >/dev/null 2>"$work/err" || status=$?
+    if [ "$status" -ne 0 ] && [ "$status" -ne 10 ]; then
+        cat "$work/err" >&2
+        exit 1
+    fi
+    awk -v what="$name $*" -v n="$(told instructions)" -v kept="$(told kept)" -v turns="$(told turns)" 'BEGIN {
+        printf "%s: 1 MiB of log holds %.0f instructions (%.2f bytes an instruction, %.2f turns an instruction)\n",
+            what, n / kept * 1048576, kept / n, turns / n
+    }'
+}
+reach sort
+reach wild_store
+reach word_count --input "$top/LICENSE"
+reach counter --harts 2
+reach counter --harts 8
+reach lock --harts 2
