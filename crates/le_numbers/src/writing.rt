@@ -1,5 +1,5 @@
 // Writing a number at a place, or behind other bytes.
-ghost use Rattle.std.specs.Prelude.{◌≡◌, ◌≤◌, ◌+◌, ◌++◌, length, take, drop, OnOk, OnErr};
+ghost use Rattle.std.specs.Prelude.{◌≡◌, ◌≤◌, ◌<◌, ◌+◌, ◌++◌, length, take, drop, vec_len, vec_capacity, OnOk, OnErr};
 ghost use Rattle.le_numbers.specs.Numbers.{number_bytes};
 
 use byteorder::{ByteOrder, LittleEndian};
@@ -23,33 +23,39 @@ pub fn write_u64(bytes: &mut [u8], at: usize, number: u64)
     LittleEndian::write_u64(&mut bytes[at..], number);
 }
 
-/// Appends a number's two bytes, the least significant byte first.
+/// Appends a number's two bytes, the least significant byte first. It needs no memory
+/// where there is room for them.
 #[tactic(auto, unfolding(crate::specs::Numbers::number_bytes))]
 pub fn push_u16(out: &mut Vec<u8>, number: u16) -> Result<(), AllocError>
     ensures ok { OnOk result (out.new.items ≡ out.old.items ++ number_bytes 2 number) }
     ensures err { OnErr result (out.new.items ≡ out.old.items) }
+    ensures full { OnErr result (vec_capacity out.old < vec_len out.old + 2) }
 {
     let mut bytes = [0; 2];
     LittleEndian::write_u16(&mut bytes, number);
     out.extend_from_slice(&bytes)
 }
 
-/// Appends a number's four bytes, the least significant byte first.
+/// Appends a number's four bytes, the least significant byte first. It needs no memory
+/// where there is room for them.
 #[tactic(auto, unfolding(crate::specs::Numbers::number_bytes))]
 pub fn push_u32(out: &mut Vec<u8>, number: u32) -> Result<(), AllocError>
     ensures ok { OnOk result (out.new.items ≡ out.old.items ++ number_bytes 4 number) }
     ensures err { OnErr result (out.new.items ≡ out.old.items) }
+    ensures full { OnErr result (vec_capacity out.old < vec_len out.old + 4) }
 {
     let mut bytes = [0; 4];
     LittleEndian::write_u32(&mut bytes, number);
     out.extend_from_slice(&bytes)
 }
 
-/// Appends a number's eight bytes, the least significant byte first.
+/// Appends a number's eight bytes, the least significant byte first. It needs no memory
+/// where there is room for them.
 #[tactic(auto, unfolding(crate::specs::Numbers::number_bytes))]
 pub fn push_u64(out: &mut Vec<u8>, number: u64) -> Result<(), AllocError>
     ensures ok { OnOk result (out.new.items ≡ out.old.items ++ number_bytes 8 number) }
     ensures err { OnErr result (out.new.items ≡ out.old.items) }
+    ensures full { OnErr result (vec_capacity out.old < vec_len out.old + 8) }
 {
     let mut bytes = [0; 8];
     LittleEndian::write_u64(&mut bytes, number);

@@ -1,4 +1,4 @@
-ghost use Rattle.std.specs.Prelude.{◌≡◌, ◌+◌, ◌*◌, ◌<◌, ◌≤◌, ◌^◌, ◌%◌, ◌==◌, ◌↔◌, ℕ, Bool, List, [], All, Contains, IfOk, OnOk, OnErr, IsTrue, Some, None, length, vec_len, if◌then◌else◌, ◌≢◌};
+ghost use Rattle.std.specs.Prelude.{◌≡◌, ◌+◌, ◌*◌, ◌<◌, ◌≤◌, ◌^◌, ◌%◌, ◌==◌, ◌↔◌, ℕ, Bool, List, [], All, Contains, IfOk, IsOk, OnOk, OnErr, IsTrue, Some, None, length, vec_len, if◌then◌else◌, ◌≢◌};
 ghost use Rattle.std.specs.Option.{ForSome};
 ghost use Rattle.bn_base.specs.declared.settings.TheConstants.{HARTS};
 ghost use Rattle.race_log.specs.Words.{HasRoom};
@@ -58,7 +58,8 @@ impl Shadow {
 
     /// Makes room for the next access, if it is of `count` words from `first`.
     ///
-    /// Want of memory is the only error. After it all is as before.
+    /// Want of memory is the only error, and comes only where that room isn't made yet. After it
+    /// all is as before.
     pub fn reserve(&mut self, first: Addr, count: u32) -> Result<(), AllocError>
         requires aligned { first % 4 ≡ 0 }
         requires range { first + 4 * count ≤ 2 ^ 32 }
@@ -66,6 +67,7 @@ impl Shadow {
         ensures stands { (run : List Point) (live : ℕ → Bool) → Stands run live self.old → Stands run live self.new }
         ensures ok { OnOk result (reserved_range self.new ≡ Some (first, count)) }
         ensures err { OnErr result (reserved_range self.new ≡ reserved_range self.old) }
+        ensures ready { reserved_range self.old ≡ Some (first, count) → IsOk result }
     {
         self.words.make_room(first, count)?;
         self.reserved = Some((first, count));

@@ -1,4 +1,4 @@
-ghost use Rattle.std.specs.Prelude.{◌≡◌, ◌+◌, ◌*◌, ◌<◌, ◌≤◌, ◌^◌, ℕ, [], IsTrue, OnOk, None, ◌≢◌, vec_len, vec_capacity, if◌then◌else◌, ◌==◌};
+ghost use Rattle.std.specs.Prelude.{◌≡◌, ◌+◌, ◌*◌, ◌<◌, ◌≤◌, ◌^◌, ℕ, [], IsTrue, IsOk, OnOk, None, ◌≢◌, vec_len, vec_capacity, if◌then◌else◌, ◌==◌};
 ghost use Rattle.race_log.specs.Kept.{kept_after};
 
 use crate::kept::Kept;
@@ -43,6 +43,7 @@ impl KeptWords {
         ensures same { (w : ℕ) → kept_in self.new w ≡ kept_in self.old w }
         ensures stays { (w : ℕ) → IsTrue (has_room self.old w) → IsTrue (has_room self.new w) }
         ensures room { OnOk result (HasRoom self.new first count) }
+        ensures ready { HasRoom self.old first count → IsOk result }
     {
         for i in 0..count {
             self.make_room_at(first + 4 * i)?;
@@ -55,6 +56,7 @@ impl KeptWords {
         ensures same { (w : ℕ) → kept_in self.new w ≡ kept_in self.old w }
         ensures stays { (w : ℕ) → IsTrue (has_room self.old w) → IsTrue (has_room self.new w) }
         ensures room { OnOk result (IsTrue (has_room self.new word)) }
+        ensures ready { IsTrue (has_room self.old word) → IsOk result }
     {
         if !self.words.contains_key(&word) {
             self.words.insert(word, Vec::new(self.alloc))?;

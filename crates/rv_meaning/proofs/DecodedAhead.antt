@@ -1,7 +1,7 @@
 -- Lists of what code words decode to.
-use Rattle.std.proofs.Common.{◌≡◌, ℕ, zero, suc, ◌+◌, ◌-◌, ◌*◌, ◌/◌, ◌%◌, ◌<◌, ◌≤◌, List, [], ◌∷◌, ◌++◌, length, length-append, sym, ◌∙◌, ap, subst, arith}
+use Rattle.std.proofs.Common.{◌≡◌, ℕ, zero, suc, ◌+◌, ◌-◌, ◌*◌, ◌/◌, ◌%◌, ◌<◌, ◌≤◌, true, is_some, List, [], ◌∷◌, ◌++◌, length, length-append, sym, ◌∙◌, ap, subst, arith}
 use Rattle.std.specs.Borrow.{Bor}
-use Rattle.std.specs.Prelude.{Option, Some, None, option_map, option_copied, slice_index_or, IfSome}
+use Rattle.std.specs.Prelude.{Option, Some, None, option_map, option_copied, slice_index_or, IfSome, Result, Ok, Err, OnErr}
 use Rattle.bn_base.specs.Programs.{Program, code_at}
 use Rattle.bn_base.specs.declared.state.HartState.{HartState}
 use Rattle.rv_decode.specs.Seen.{seen}
@@ -58,3 +58,14 @@ ahead_step i s d e = by_word (code_at i s.pc) e
 pub some_seen : (o : Option Instr) (r : Option (Bor Instr)) (x : Option Instruction) → option_map seen o ≡ x → option_copied r ≡ o → IfSome r (λ d. x ≡ Some (seen d.now))
 some_seen o None x e same = tt
 some_seen o (Some d) x e same = sym e ∙ ap (option_map seen) (sym same)
+
+-- where words from an address on are decoded, and one more is code, the first is
+pub first_code : (i : Program) (a addr w n : ℕ) → addr ≡ a + 4 * n → Some w ≡ code_at i addr → (0 < n → is_some (code_at i a) ≡ true) → is_some (code_at i a) ≡ true
+first_code i a addr w zero place e more =
+    let here : addr ≡ a = omega (arith, place) in ap (λ (k : ℕ). is_some (code_at i k)) (sym here) ∙ sym (ap (λ (o : Option ℕ). is_some o) e)
+first_code i a addr w (suc n) place e more = more (omega arith)
+
+-- what holds, holds of an error
+pub on_err : {T E P : Type 0} (r : Result T E) → P → OnErr r P
+on_err (Ok x) p = tt
+on_err (Err e) p = p

@@ -1,6 +1,6 @@
 -- Code that is decoded ahead.
-use Rattle.std.specs.Prelude.{◌≡◌, ℕ, ◌+◌, List, [], ◌∷◌, Option, Some, None, option_map, ⊤}
-use Rattle.bn_base.specs.Programs.{Program, code_at}
+use Rattle.std.specs.Prelude.{◌≡◌, ℕ, ◌+◌, Bool, List, [], ◌∷◌, Option, Some, None, is_some, option_map, ⊤}
+use Rattle.bn_base.specs.Programs.{Part, Program, code_at, part_at}
 use Rattle.rv_decode.specs.Seen.{seen}
 use Rattle.rv_decode.specs.Table.{Instruction, decoded}
 use Rattle.rv_decode.specs.declared.instr.Instr.{Instr}
@@ -14,3 +14,12 @@ decoded_word (Some w) = decoded w
 abbrev pub IsAhead : Program → ℕ → List (Option Instr) → Type 0
 IsAhead i a [] = ⊤
 IsAhead i a (o ∷ os) = (option_map seen o ≡ decoded_word (code_at i a)) × IsAhead i (a + 4) os
+
+-- where the segment that a program starts in begins; 0 where it starts in none
+abbrev pub start_of : Option Part → ℕ
+start_of None = 0
+start_of (Some p) = p.first
+
+-- whether that segment's first word is code
+abbrev pub starts_in_code : Program → Bool
+starts_in_code i = is_some (code_at i (start_of (part_at i.parts i.entry)))

@@ -3,10 +3,10 @@
 //! Decoding a word takes longer than doing its instruction. What runs a program for long makes a
 //! [`DecodedImage`] of it once; what does single instructions or short stretches calls
 //! [`quiet_run_in_place`], which needs no memory.
-ghost use Rattle.std.specs.Prelude.{◌≡◌, Some, IfOk, IfSome};
-ghost use Rattle.bn_base.specs.Programs.{code_at};
+ghost use Rattle.std.specs.Prelude.{◌≡◌, true, Some, is_some, IfOk, IfSome, OnErr};
+ghost use Rattle.bn_base.specs.Programs.{code_at, part_at};
 ghost use Rattle.rv_decode.specs.Seen.{seen};
-ghost use Rattle.rv_meaning.specs.Ahead.{decoded_word, IsAhead};
+ghost use Rattle.rv_meaning.specs.Ahead.{decoded_word, IsAhead, start_of, starts_in_code};
 ghost use Rattle.rv_meaning.specs.Execute.{ask_of};
 
 use crate::asks::Want;
@@ -51,7 +51,8 @@ fn decoded_from(
     first: Addr,
     count: u32,
 ) -> Result<Vec<Option<Instr>>, AllocError>
-    ensures { IfOk result (λ v. IsAhead image.now first v.items) }
+    ensures ahead { IfOk result (λ v. IsAhead image.now first v.items) }
+    ensures wanting { OnErr result (is_some (code_at image.now first) ≡ true) }
 {
     let mut instrs = Vec::new(alloc);
     let mut addr = first;
@@ -68,10 +69,22 @@ fn decoded_from(
     Ok(instrs)
 }
 
+// Where the segment that a program starts in begins.
+fn start_of(image: &Image) -> Addr
+    ensures { result ≡ start_of (part_at image.now.parts image.now.entry) }
+{
+    match image.segment_at(image.entry()) {
+        None => 0,
+        Some(segment) => segment.first(),
+    }
+}
+
 impl<'a> DecodedImage<'a> {
-    /// Decodes the segment that the program starts in. The error is that memory is wanting.
+    /// Decodes the segment that the program starts in. The error is that memory is wanting, which
+    /// comes only where that segment is code.
     pub fn new(alloc: Global, image: &'a Image) -> Result<DecodedImage<'a>, AllocError>
-        ensures { IfOk result (λ d. d ≡ image.now) }
+        ensures value { IfOk result (λ d. d ≡ image.now) }
+        ensures wanting { OnErr result (starts_in_code image.now ≡ true) }
     {
         DecodedImage::with_limit(alloc, image, LIMIT)
     }
@@ -82,12 +95,10 @@ impl<'a> DecodedImage<'a> {
         image: &'a Image,
         limit: u32,
     ) -> Result<DecodedImage<'a>, AllocError>
-        ensures { IfOk result (λ d. d ≡ image.now) }
+        ensures value { IfOk result (λ d. d ≡ image.now) }
+        ensures wanting { OnErr result (starts_in_code image.now ≡ true) }
     {
-        let first = match image.segment_at(image.entry()) {
-            None => 0,
-            Some(segment) => segment.first(),
-        };
+        let first = start_of(image);
         let instrs = decoded_from(alloc, image, first, limit)?;
         Ok(DecodedImage {
             image,

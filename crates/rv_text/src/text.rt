@@ -1,5 +1,5 @@
 //! Text that grows.
-ghost use Rattle.std.specs.Prelude.{false, ◌≡◌, ◌++◌, [], ◌==◌, List, ℕ, length, take, OnOk, OnErr, decimal};
+ghost use Rattle.std.specs.Prelude.{false, ◌≡◌, ◌<◌, ◌++◌, [], ◌==◌, List, ℕ, length, take, OnOk, OnErr, decimal};
 ghost use Rattle.std.specs.Fmt.{signed_decimal, digits};
 ghost use Rattle.rv_text.specs.Instructions.{hex8};
 
@@ -63,18 +63,20 @@ impl Text {
         self.bytes.truncate(len);
     }
 
-    /// Appends bytes.
+    /// Appends bytes. No byte needs no memory.
     pub fn push_bytes(&mut self, bytes: &[u8]) -> Result<(), AllocError>
         ensures ok { OnOk result (self.new ≡ self.old ++ bytes.now) }
         ensures err { OnErr result (self.new ≡ self.old) }
+        ensures some { OnErr result (0 < length bytes.now) }
     {
         self.bytes.extend_from_slice(bytes)
     }
 
-    /// Appends a word.
+    /// Appends a word. The empty one needs no memory.
     pub fn push_str(&mut self, word: &str) -> Result<(), AllocError>
         ensures ok { OnOk result (self.new ≡ self.old ++ word.now) }
         ensures err { OnErr result (self.new ≡ self.old) }
+        ensures some { OnErr result (0 < length word.now) }
     {
         self.bytes.extend_from_slice(word.as_bytes())
     }
