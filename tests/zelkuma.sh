@@ -222,13 +222,16 @@ runs 0 "$zelkuma" install "$work/folder"
 runs 0 "$zelkuma" build
 [ "$(cat "$work/out")" = "$tree/crates/bugnet_main/out/bugnet_main" ] || fails "it says another place"
 
+# (no fixed times here, since the machine may be busy: what is waited for is that the toolchain begins)
+begins='until grep -q ^all "$RT_CALLS"; do sleep 0.05; done'
+
 what="two calls at once"
 echo "changed again" >"$source"
 : >"$calls"
-export RT_SLEEP=0.3
+export RT_SLEEP=0.5
 PATH=$path "$zelkuma" list one >"$work/one" 2>"$work/one_err" &
 one=$!
-sleep 0.3
+eval "$begins"
 PATH=$path "$zelkuma" list two >"$work/out" 2>"$work/err"
 wait "$one"
 answers list two
@@ -237,16 +240,17 @@ has err "waiting for another call"
 [ "$(grep -c ^all "$calls")" -eq 1 ] || fails "both built"
 
 what="a call that is stopped"
+export RT_SLEEP=0.2
 for signal in TERM HUP INT; do
     echo "changed by $signal" >"$source"
-    # (a call in the background would not hear INT)
-    runs 130 bash -c 'set -m; "$0" list LOG & sleep 0.4; kill -s "$1" $!; wait $!' "$zelkuma" "$signal"
+    # (a call in the background would not hear INT, but for -m)
+    runs 130 bash -c "set -m; \"\$0\" list LOG & $begins; kill -s $signal \$!; wait \$!" "$zelkuma"
     has err "stopped"
     [ ! -e "$tree/crates/bugnet_main/out/zelkuma.stamp" ] || fails "it says what was built"
-    sleep 1
+    sleep 1.2
     ! grep -q ended "$calls" || fails "the toolchain went on"
 done
-runs 137 bash -c '"$0" list LOG & sleep 0.4; kill -s KILL $!; wait $!' "$zelkuma"
+runs 137 bash -c "\"\$0\" list LOG & $begins; kill -s KILL \$!; wait \$!" "$zelkuma"
 unset RT_SLEEP
 runs 14 "$zelkuma" list LOG
 builds
