@@ -73,24 +73,38 @@ fn exactly_the_listed_reads_and_writes_fail(rt: HostRuntime) -> Result<(), Fail>
     Ok(())
 }
 
-#[test]
-fn a_store_gives_what_was_saved(rt: HostRuntime) -> Result<(), Fail> {
-    let alloc = rt.alloc();
+// A store in which two names were saved.
+fn saved(alloc: Global) -> Result<MemoryStore, Fail> {
     let mut store = MemoryStore::new(alloc, Vec::new(alloc));
     store.put("a", b"first")?;
     save_by(&mut store, "b", b"four")?;
     save_by(&mut store, "a", b"abc")?;
-    assert_eq!(rt;
-        load_by(&mut store, alloc, "a")?.as_slice(),
-        b"abc".as_slice()
-    );
-    assert_eq!(rt;
-        load_by(&mut store, alloc, "b")?.as_slice(),
-        b"four".as_slice()
-    );
+    Ok(store)
+}
+
+// Whether a load gives these bytes.
+fn gives<S: Store>(store: &mut S, alloc: Global, name: &str, wanted: &[u8]) -> bool {
+    match load_by(store, alloc, name) {
+        Ok(bytes) => bytes.as_slice() == wanted,
+        Err(_) => false,
+    }
+}
+
+#[test]
+fn a_store_gives_what_was_saved(rt: HostRuntime) -> Result<(), Fail> {
+    let mut store = saved(rt.alloc())?;
+    assert!(rt; gives(&mut store, rt.alloc(), "a", b"abc"));
+    assert!(rt; gives(&mut store, rt.alloc(), "b", b"four"));
+    Ok(())
+}
+
+#[test]
+fn a_store_refuses_what_is_too_long_or_missing(rt: HostRuntime) -> Result<(), Fail> {
+    let mut store = saved(rt.alloc())?;
     store.put("b", b"fiver")?;
-    assert!(rt; matches!(load_by(&mut store, alloc, "b"), Err(LoadError::TooLong)));
-    assert!(rt; matches!(load_by(&mut store, alloc, "c"), Err(LoadError::Missing)));
+    for (name, error) in [("b", LoadError::TooLong), ("c", LoadError::Missing)] {
+        assert_eq!(rt; load_by(&mut store, rt.alloc(), name).err(), Some(error));
+    }
     assert_eq!(rt; store.bytes("b").ok_or("no b")?, b"fiver".as_slice());
     assert!(rt; store.bytes("c").is_none());
     Ok(())

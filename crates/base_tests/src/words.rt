@@ -186,15 +186,15 @@ fn words_that_are_no_numbers(rt: HostRuntime) -> Result<(), Fail> {
         "18446744073709551616",
     ];
     for number in numbers {
-        let alloc = rt.alloc();
-        let hart = format!(in alloc; "bugnet replay L E {number} 0")?;
-        assert!(rt; is_refused(alloc, &hart)?, "{number}");
-        let interval = format!(in alloc; "bugnet replay L E 0 {number}")?;
-        assert!(rt; is_refused(alloc, &interval)?, "{number}");
-        let seed = format!(in alloc; "bugnet record E L B --seed {number}")?;
-        assert!(rt; is_refused(alloc, &seed)?, "{number}");
-        let harts = format!(in alloc; "bugnet record E L B --seed 5 --harts={number}")?;
-        assert!(rt; is_refused(alloc, &harts)?, "{number}");
+        for (before, after) in [
+            ("bugnet replay L E ", " 0"),
+            ("bugnet replay L E 0 ", ""),
+            ("bugnet record E L B --seed ", ""),
+            ("bugnet record E L B --seed 5 --harts=", ""),
+        ] {
+            let line = format!(in rt.alloc(); "{before}{number}{after}")?;
+            assert!(rt; is_refused(rt.alloc(), &line)?, "{line}");
+        }
     }
     Ok(())
 }
