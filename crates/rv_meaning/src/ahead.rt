@@ -89,8 +89,9 @@ impl<'a> DecodedImage<'a> {
         DecodedImage::with_limit(alloc, image, LIMIT)
     }
 
-    // Decodes at most `limit` words of the segment that the program starts in.
-    pub(crate) fn with_limit(
+    /// Decodes at most `limit` words of the segment that the program starts in. The error is as that of
+    /// `new`.
+    pub fn with_limit(
         alloc: Global,
         image: &'a Image,
         limit: u32,
