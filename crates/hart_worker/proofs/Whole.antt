@@ -1,11 +1,10 @@
 -- From a bus that took the turns of a list to what is handed over, or to what is wrong with the list.
-use Rattle.std.proofs.Common.{◌≡◌, ℕ, suc, ◌+◌, ◌-◌, ◌<◌, Bool, true, false, not, ◌&&◌, List, [], ◌∷◌, ◌++◌, length, get_or, take, drop, length-take, drop-cons, refl, sym, ◌∙◌, ap, subst, arith}
+use Rattle.std.proofs.Common.{◌≡◌, ℕ, suc, ◌+◌, ◌-◌, ◌<◌, Bool, true, false, not, ◌&&◌, List, [], ◌∷◌, ◌++◌, length, get_or, take, drop, length-take, drop-cons, sym, ◌∙◌, ap, subst, arith}
 use Rattle.std.specs.Prelude.{Some, slice_get}
 use Rattle.std.proofs.Math.Seq.{take-suc}
 use Rattle.std.proofs.lemmas.List.{take-append-drop}
-use Rattle.run_model.specs.Turn.{Run}
 use Rattle.run_model.specs.Runs.{is_live, seeded, seeded_from, most_turns}
-use Rattle.bus_core.specs.Bus.{Began, Seen, IsState, first_run}
+use Rattle.bus_core.specs.Bus.{Began, Seen, first_run}
 use Rattle.hart_worker.specs.Lists.{HasTaken, list_run, is_legal, live_in_run, seeded_after, error_of}
 use Rattle.hart_worker.specs.declared.error.TurnError.TheVariants.{IllegalTurn, NotFinished}
 use Rattle.hart_worker.proofs.Errors.{error_at, error_first}

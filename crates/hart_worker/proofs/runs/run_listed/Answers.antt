@@ -1,4 +1,4 @@
-use Rattle.std.proofs.Common.{◌≡◌, ◌∙◌, [], ap, subst}
+use Rattle.std.proofs.Common.{◌∙◌, [], ap, subst}
 use Rattle.bus_core.specs.Bus.{Began, began_of}
 use Rattle.hart_worker.specs.Lists.{seeded_after}
 use Rattle.hart_worker.specs.Closed.{IsClosed}

@@ -1,4 +1,4 @@
-use Rattle.std.proofs.Common.{◌≡◌, ℕ, List, ◌<◌, ◌∙◌, [], ◌∷◌, ◌++◌, false, true, sym, ap, subst}
+use Rattle.std.proofs.Common.{◌≡◌, ℕ, List, ◌<◌, ◌∙◌, false, true, sym, ap, subst}
 use Rattle.run_model.specs.Runs.{any_live, chosen, draw, most_turns}
 use Rattle.bus_core.specs.Bus.{Began}
 use Rattle.hart_worker.specs.Lists.{list_run, live_in_run}
