@@ -1,21 +1,16 @@
 -- What is recorded of a closed run is what is told of its list of turns.
-use Rattle.std.proofs.Common.{◌≡◌, ℕ, true, List, ◌++◌, length, Option, Some, ◌∙◌, ap, refl, arith}
-use Rattle.std.specs.Prelude.{Result, Ok, Err, IfOk, map}
+use Rattle.std.proofs.Common.{◌≡◌, ℕ, Bool, List, ◌++◌, length, Option, Some, ◌∙◌, ap, arith}
+use Rattle.std.specs.Prelude.{Result, Ok, Err, IfOk}
 use Rattle.std.specs.List.{flat_map}
-use Rattle.bn_base.specs.Programs.{Program}
 use Rattle.bn_base.specs.declared.end_mark.EndMark.{EndMark}
-use Rattle.bn_base.specs.declared.settings.RawSettings.{RawSettings}
-use Rattle.bn_outside.specs.Books.{BookState}
 use Rattle.bn_outside.specs.declared.turn_row.TurnRow.{TurnRow}
 use Rattle.log_file.specs.Layout.{spelling}
 use Rattle.log_record.specs.Spelling.{bytes_of, total}
 use Rattle.log_record.specs.declared.record.Record.{Record}
 use Rattle.log_ring.specs.Kept.{kept, Holds}
 use Rattle.run_model.specs.Files.{kept_of, dropped_of, file_of}
-use Rattle.run_model.specs.Runs.{start, run_of}
-use Rattle.run_model.specs.Turn.{Run}
+use Rattle.run_model.specs.Runs.{run_of}
 use Rattle.run_model.specs.declared.start.Start.{Start}
-use Rattle.run_laws.specs.History.{rows_from}
 use Rattle.bus_core.specs.Bus.{began_of}
 use Rattle.hart_worker.specs.Closed.{IsClosed}
 use Rattle.bus_core.specs.declared.closed.Closed.{Closed}
@@ -39,17 +34,14 @@ on_err err turns marks dropped rs = err ++ summary_text turns (instructions_of m
 abbrev log_with : Start → ℕ → List Record → List ℕ
 log_with s dropped rs = spelling (record { settings = s.settings; digest = s.digest }) dropped (flat_map bytes_of rs)
 
-names-harts : Type 0
-names-harts = (c : RawSettings) (i : Program) (run : Run) (b : List ℕ) → map (λ (r : TurnRow). r.hart) (rows_from c i run b) ≡ b
-
-recorded-so : (s : Start) (closed : Closed BookState) (r : Recording) (b : List ℕ) → names-harts → IsClosed true (began_of s) b closed closed.book.rows → IsRecordingOf s closed r
+recorded-so : {B : _} (tells : Bool) (s : Start) (closed : Closed B) (rows : List TurnRow) (r : Recording) (b : List ℕ) → IsClosed tells (began_of s) b closed rows → IsRecordingOf s closed b r
     → told_of_recording r ≡ recorded s.settings s.image s.digest s.input.items b
-unfolding recorded names-harts
-recorded-so s closed r b law is k =
+unfolding recorded
+recorded-so tells s closed rows r b is k =
     let c = s.settings in
     let i = s.image in
     let run = run_of c i s.input.items b in
-    let holds : Holds closed.ring run.stream = is.log refl in
+    let holds : Holds closed.ring run.stream = is.log in
     let records : closed.ring.records ≡ kept_of c run = holds.latest ∙ ap (λ (n : ℕ). kept n run.stream) is.size in
     let count : length closed.ring.records ≡ length (kept_of c run) = ap (λ (rs : List Record). length rs) records in
     let dropped : closed.ring.dropped ≡ dropped_of c run = omega (arith, holds.counted, count) in
@@ -64,19 +56,16 @@ recorded-so s closed r b law is k =
     ∙ ap (λ (x : List Record). on_err run.machine.err (length b) (marks_of c run) (dropped_of c run) x) records in
     let log : r.log.items ≡ file_of c i s.digest s.input.items b =
     k.log ∙ ap (λ (x : ℕ). log_with s x closed.ring.records) dropped ∙ ap (λ (x : List Record). log_with s (dropped_of c run) x) records in
-    let book : r.book.items ≡ b = k.book ∙ ap (λ (rows : List TurnRow). map (λ (r : TurnRow). r.hart) rows) (is.told refl) ∙ law c i (start c i s.input.items) b in
     let all = on_err run.machine.err (length b) (marks_of c run) (dropped_of c run) (kept_of c run) in
     let whole = file_of c i s.digest s.input.items b in
     ap (λ (x : RunEnd). told x r.out.items r.err.items r.log.items r.book.items) end
     ∙ ap (λ (x : List ℕ). told (end_by (marks_of c run)) x r.err.items r.log.items r.book.items) out
     ∙ ap (λ (x : List ℕ). told (end_by (marks_of c run)) run.machine.out x r.log.items r.book.items) err
     ∙ ap (λ (x : List ℕ). told (end_by (marks_of c run)) run.machine.out all x r.book.items) log
-    ∙ ap (λ (x : List ℕ). told (end_by (marks_of c run)) run.machine.out all whole x) book
+    ∙ ap (λ (x : List ℕ). told (end_by (marks_of c run)) run.machine.out all whole x) k.book
 
-pub recording-so : {E : Type 0} (s : Start) (closed : Closed BookState) (b : List ℕ) (result : Result Recording E)
-    → ((c : RawSettings) (i : Program) (run : Run) (b : List ℕ) → map (λ (r : TurnRow). r.hart) (rows_from c i run b) ≡ b)
-    → IsClosed true (began_of s) b closed closed.book.rows → IfOk result (λ r. IsRecordingOf s closed r)
+pub recording-so : {B : _} {E : Type 0} (tells : Bool) (s : Start) (closed : Closed B) (rows : List TurnRow) (list b : List ℕ) (result : Result Recording E)
+    → list ≡ b → IsClosed tells (began_of s) list closed rows → IfOk result (λ r. IsRecordingOf s closed list r)
     → IfOk result (λ r. told_of_recording r ≡ recorded s.settings s.image s.digest s.input.items b)
-unfolding names-harts
-recording-so s closed b (Ok r) law is k = recorded-so s closed r b law is k
-recording-so s closed b (Err e) law is k = tt
+recording-so tells s closed rows list b (Ok r) e is k = recorded-so tells s closed rows r list is k ∙ ap (λ (x : List ℕ). recorded s.settings s.image s.digest s.input.items x) e
+recording-so tells s closed rows list b (Err x) e is k = tt

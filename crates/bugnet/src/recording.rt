@@ -1,9 +1,8 @@
 // The recording of a run.
-ghost use Rattle.std.specs.Prelude.{◌≡◌, ◌≤◌, ◌<◌, ◌++◌, ◌^◌, List, ℕ, length, map, IfOk};
+ghost use Rattle.std.specs.Prelude.{◌≡◌, ◌++◌, IfOk};
 ghost use Rattle.std.specs.List.{flat_map, list_any};
 ghost use Rattle.log_record.specs.Spelling.{bytes_of};
 ghost use Rattle.log_file.specs.Layout.{spelling};
-ghost use Rattle.bn_outside.specs.declared.turn_row.TurnRow.{TurnRow};
 ghost use Rattle.bugnet.specs.Commands.{seeded_told};
 ghost use Rattle.bugnet.specs.Recordings.{count_of, instructions_of, is_fault, is_limit, end_by, end_word};
 ghost use Rattle.bugnet.specs.Texts.{summary_text};
@@ -14,9 +13,8 @@ use crate::answer::{Recording, RunEnd};
 use crate::texts::{RunCounts, push_summary};
 use bn_base::EndMark;
 use bn_base::end_mark::{FAULT, LIMIT};
-use bn_outside::{Book, FullBook};
-use bus_core::Closed;
-use hart_worker::{rows_name_their_harts, run_seeded};
+use bn_outside::LeanBook;
+use hart_worker::{Listed, run_listed};
 use log_file::write_file;
 use log_record::Head;
 use log_ring::Ring;
@@ -102,22 +100,6 @@ fn log_of(alloc: Global, start: &Start, ring: &Ring) -> Result<Vec<u8>, AllocErr
     write_file(alloc, &head, ring.dropped(), &records)
 }
 
-// The list of turns that a book tells: a byte for each, the number of its hart.
-fn list_of(alloc: Global, book: &FullBook) -> Result<Vec<u8>, AllocError>
-    ensures { IfOk result (λ list. list.items ≡ map (λ (r : TurnRow). r.hart) book.now.rows) }
-{
-    let mut list = Vec::new(alloc);
-    match book.rows() {
-        Some(rows) => {
-            for row in rows {
-                list.push(row.hart)?;
-            }
-            Ok(list)
-        }
-        None => unreachable!(),
-    }
-}
-
 // Stream 2 of a run, and the line of its recording.
 fn err_of(
     alloc: Global,
@@ -133,15 +115,16 @@ fn err_of(
     Ok(err)
 }
 
-// The recording of a closed run.
+// The recording of a closed run and the list of its turns.
 fn recording_of(
     alloc: Global,
     start: &Start,
-    closed: Closed<FullBook>,
+    run: Listed<LeanBook>,
 ) -> Result<Recording, AllocError>
-    requires { closed.ring.size ≡ start.now.settings.log_size }
-    ensures { IfOk result (λ r. IsRecordingOf start.now closed r) }
+    requires { run.closed.ring.size ≡ start.now.settings.log_size }
+    ensures { IfOk result (λ r. IsRecordingOf start.now run.closed run.list.items r) }
 {
+    let Listed { closed, list } = run;
     let end = end_by(&closed.ends);
     let counts = RunCounts {
         turns: closed.turns,
@@ -150,22 +133,21 @@ fn recording_of(
         kept: closed.ring.len() as u64,
     };
     let log = log_of(alloc, start, &closed.ring)?;
-    let book = list_of(alloc, &closed.book)?;
     let err = err_of(alloc, closed.err, &counts, &end)?;
     Ok(Recording {
         end,
         out: closed.out,
         err,
         log,
-        book,
+        book: list,
     })
 }
 
-/// The recording of the run by the turns that a number chooses. The only error is want of memory.
+/// The recording of the run by the turns that a number chooses. Of a turn one byte is kept, the number
+/// of its hart, and no row. The only error is want of memory.
 pub fn record_run(alloc: Global, start: &Start, seed: u64) -> Result<Recording, AllocError>
     ensures { IfOk result (λ r. told_of_recording r ≡ seeded_told start.now.settings start.now.image start.now.digest seed start.now.input.items) }
 {
-    rows_name_their_harts();
-    let closed = run_seeded(alloc, start, FullBook::new(alloc), seed)?;
-    recording_of(alloc, start, closed)
+    let listed = run_listed(alloc, start, LeanBook, seed)?;
+    recording_of(alloc, start, listed)
 }

@@ -120,12 +120,13 @@ impl<B: Book> Bus<B> {
         self.halted = true;
     }
 
-    /// Hands over the ring, the streams, the book, each hart's last mark and the number of turns. It takes
-    /// no memory.
+    /// Hands over the ring, the streams, the book, each hart's last mark and the number of turns. The ring
+    /// holds the log of the run, whatever the book tells. It takes no memory.
     pub fn close(self) -> Closed<B>
         ensures told { B.tells ≡ true → IsLogged self result.ring self.rows }
         ensures some { (rows : List TurnRow) × IsLogged self result.ring rows }
         ensures size { result.ring.size ≡ self.began.settings.log_size }
+        ensures log { (run : Run) → IsState self run → Holds result.ring run.stream }
         ensures out { (run : Run) → IsState self run → result.out.items ≡ run.machine.out }
         ensures err { (run : Run) → IsState self run → result.err.items ≡ run.machine.err }
         ensures ends { (run : Run) → IsState self run → result.ends.items ≡ marks 0 self.began.settings.harts run.harts }

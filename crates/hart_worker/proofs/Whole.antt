@@ -1,28 +1,15 @@
 -- From a bus that took the turns of a list to what is handed over, or to what is wrong with the list.
-use Rattle.std.proofs.Common.{◌≡◌, ℕ, suc, ◌+◌, ◌-◌, ◌<◌, Bool, true, false, not, ◌&&◌, List, [], ◌∷◌, ◌++◌, length, get_or, take, drop, length-take, drop-cons, refl, sym, ◌∙◌, ap, subst, arith}
+use Rattle.std.proofs.Common.{◌≡◌, ℕ, suc, ◌+◌, ◌-◌, ◌<◌, Bool, true, false, not, ◌&&◌, List, [], ◌∷◌, ◌++◌, length, get_or, take, drop, length-take, drop-cons, sym, ◌∙◌, ap, subst, arith}
 use Rattle.std.specs.Prelude.{Some, slice_get}
 use Rattle.std.proofs.Math.Seq.{take-suc}
 use Rattle.std.proofs.lemmas.List.{take-append-drop}
-use Rattle.log_ring.specs.Kept.{Held, Holds}
-use Rattle.bn_outside.specs.declared.turn_row.TurnRow.{TurnRow}
-use Rattle.run_model.specs.Turn.{Run}
 use Rattle.run_model.specs.Runs.{is_live, seeded, seeded_from, most_turns}
-use Rattle.run_laws.specs.Laws.{TurnsAreLawful}
-use Rattle.bus_core.specs.Bus.{Began, Seen, IsState, IsLogged, first_run, run_after}
+use Rattle.bus_core.specs.Bus.{Began, Seen, first_run}
 use Rattle.hart_worker.specs.Lists.{HasTaken, list_run, is_legal, live_in_run, seeded_after, error_of}
 use Rattle.hart_worker.specs.declared.error.TurnError.TheVariants.{IllegalTurn, NotFinished}
 use Rattle.hart_worker.proofs.Errors.{error_at, error_first}
 
 -- ---- before the first turn
-
-pub taken_none : (tells : Bool) (s : Seen) (b : Began) → s.began ≡ b → IsState s (first_run b) → s.rows ≡ [] → s.halted ≡ false → s.disordered ≡ false → HasTaken tells s []
-taken_none tells s b e is rows halted disordered = record {
-  legal = refl;
-  state = subst (λ (x : Began). IsState s (first_run x)) (sym e) is;
-  rows = λ t. rows;
-  orderly = disordered;
-  running = halted;
-}
 
 pub seeded_is : (b : Began) (seed : ℕ) → seeded_after b [] seed ≡ seeded b.settings b.image b.input seed
 seeded_is b seed =
@@ -61,12 +48,3 @@ ended_so true disordered over h d o = cc
 
 pub finished_is : (finished halted disordered over : Bool) → finished ≡ (not halted && not disordered && over) → halted ≡ false → disordered ≡ false → over ≡ true → finished ≡ true
 finished_is finished halted disordered over e h d o = e ∙ ended_so halted disordered over h d o
-
-pub log_is : TurnsAreLawful → (tells : Bool) (s : Seen) (list : List ℕ) (ring : Held) → HasTaken tells s list → tells ≡ true → IsLogged s ring s.rows → Holds ring (list_run s.began list).stream
-log_is lawful tells s list ring h t logged =
-    let b = s.began in
-    let same =
-    ap (λ (x : Bool). run_after b x s.rows) h.running
-    ∙ ap (λ (rs : List TurnRow). run_after b false rs) (h.rows t)
-    ∙ (lawful b.settings b.image b.input list h.legal).1 in
-    subst (λ (run : Run). Holds ring run.stream) same logged.log

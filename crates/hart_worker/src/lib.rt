@@ -4,9 +4,11 @@
 mod choosing;
 mod error;
 mod laws;
+mod listed;
 mod runs;
 mod turns;
 
 pub use error::TurnError;
 pub use laws::{rows_name_their_harts, seeded_lists_end, whole_runs_have_no_error};
-pub use runs::{run_seeded, run_turns};
+pub use listed::Listed;
+pub use runs::{run_listed, run_seeded, run_turns};

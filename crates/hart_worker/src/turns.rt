@@ -1,5 +1,5 @@
 // The turns of harts on the caller's thread.
-ghost use Rattle.std.specs.Prelude.{◌≡◌, ◌+◌, ◌<◌, ◌∷◌, ◌++◌, [], ℕ, true, List, Some, OnOk, IfErr, ◌⊎◌};
+ghost use Rattle.std.specs.Prelude.{◌≡◌, ◌+◌, ◌<◌, ◌∷◌, ◌++◌, [], ℕ, true, List, Some, OnOk, IfOk, IfErr, ◌⊎◌};
 ghost use Rattle.bus_core.specs.Bus.{live_in};
 ghost use Rattle.hart_worker.specs.Lists.{HasTaken, is_finished, seeded_after, list_run, error_of};
 ghost use Rattle.hart_worker.specs.Closed.{IsClosed};
@@ -10,9 +10,9 @@ use crate::error::TurnError;
 use bn_base::HartId;
 use bn_outside::Book;
 use bus_core::{Bus, Closed};
-use run_laws::{own_asks_are_orderly, turns_are_lawful};
+use run_laws::own_asks_are_orderly;
 use rv_meaning::{Ask, DecodedImage};
-use std::alloc::AllocError;
+use std::alloc::{AllocError, Global};
 
 // The turn of a live hart: its quiet instructions, and its first ask, served.
 fn take_turn<B: Book>(code: &DecodedImage, bus: &mut Bus<B>, hart: HartId) -> Result<(), AllocError>
@@ -31,19 +31,31 @@ fn take_turn<B: Book>(code: &DecodedImage, bus: &mut Bus<B>, hart: HartId) -> Re
     Ok(())
 }
 
-/// Turns chosen by the draws after a number, until no hart is live.
-pub fn finish<B: Book>(code: &DecodedImage, bus: &mut Bus<B>, seed: u64) -> Result<(), AllocError>
-    requires { code.now ≡ bus.old.began.image }
-    ensures taken { OnOk result ((list : List ℕ) → HasTaken B.tells bus.old list → HasTaken B.tells bus.new (list ++ seeded_after bus.old.began list seed)) }
-    ensures finished { OnOk result ((list : List ℕ) → HasTaken B.tells bus.old list → is_finished bus.old.began (list ++ seeded_after bus.old.began list seed) ≡ true) }
+/// Turns chosen by the draws after a number, from the first turn on, until no hart is live. What is given
+/// is their list: a byte for each, the number of its hart.
+pub fn finish<B: Book>(
+    alloc: Global,
+    code: &DecodedImage,
+    bus: &mut Bus<B>,
+    seed: u64,
+) -> Result<Vec<u8>, AllocError>
+    requires code { code.now ≡ bus.old.began.image }
+    requires start { HasTaken B.tells bus.old [] }
+    ensures list { IfOk result (λ list. list.items ≡ seeded_after bus.old.began [] seed) }
+    ensures taken { IfOk result (λ list. HasTaken B.tells bus.new list.items) }
+    ensures finished { IfOk result (λ list. is_finished bus.new.began list.items ≡ true) }
     ensures began { bus.new.began ≡ bus.old.began }
 {
+    let mut list = Vec::new(alloc);
     let mut state = seed;
     'drawing: loop {
         state = draw(state);
         match choose(bus, state) {
-            None => return Ok(()),
-            Some(hart) => take_turn(code, bus, hart)?,
+            None => return Ok(list),
+            Some(hart) => {
+                take_turn(code, bus, hart)?;
+                list.push(hart)?;
+            }
         }
     }
 }
@@ -73,6 +85,5 @@ pub fn follow<B: Book>(code: &DecodedImage, bus: &mut Bus<B>, list: &[u8]) -> Re
 pub fn close<B: Book>(bus: Bus<B>) -> Closed<B>
     ensures { (list : List ℕ) → HasTaken B.tells bus list → is_finished bus.began list ≡ true → IsClosed B.tells bus.began list result (B.told result.book) }
 {
-    turns_are_lawful();
     bus.close()
 }

@@ -2,7 +2,7 @@
 use bn_base::{EndMark, HartId, Image, RawSettings, Segment, Settings};
 use bn_outside::{Book, FullBook, LeanBook};
 use bus_core::Closed;
-use hart_worker::{TurnError, run_seeded, run_turns};
+use hart_worker::{Listed, TurnError, run_listed, run_seeded, run_turns};
 use log_record::size;
 use run_model::Start;
 use std::alloc::Global;
@@ -125,6 +125,17 @@ fn by_number(
     show(rt.alloc(), run_seeded(rt.alloc(), &start, book, seed)?)
 }
 
+// The same run, by its list and with a book that tells nothing.
+fn listed(
+    rt: &(impl Abort + AllocGlobal),
+    code: &[u32],
+    raw: &RawSettings,
+    seed: u64,
+) -> Result<Listed<LeanBook>, Fail> {
+    let start = begin(rt, code, raw, &[])?;
+    Ok(run_listed(rt.alloc(), &start, LeanBook, seed)?)
+}
+
 fn mark(ic: u64, reason: u8, value: u32) -> Option<EndMark> {
     Some(EndMark { ic, reason, value })
 }
@@ -231,6 +242,24 @@ fn chosen_turns_make_the_same_run_as_their_list(rt: HostRuntime) -> Result<(), F
     assert_eq!(rt; drawn.turns, 8);
     let again = without_a_book(&rt, &RELAY, &with(3, 8), &[], &drawn.harts)?;
     assert_eq!(rt; again.bytes.as_slice(), drawn.bytes.as_slice());
+    Ok(())
+}
+
+#[test]
+fn chosen_turns_are_listed(rt: HostRuntime) -> Result<(), Fail> {
+    let run = listed(&rt, &RELAY, &with(3, 8), 7)?;
+    let drawn = by_number(&rt, &RELAY, &with(3, 8), 7)?;
+    assert_eq!(rt; run.list.as_slice(), drawn.harts.as_slice());
+    let bytes = run.closed.ring.copy(rt.alloc())?;
+    assert_eq!(rt; bytes.as_slice(), drawn.bytes.as_slice());
+    assert!(rt; run.closed.finished);
+    Ok(())
+}
+
+#[test]
+fn of_two_live_harts_seed_0_lists_hart_1_first(rt: HostRuntime) -> Result<(), Fail> {
+    let run = listed(&rt, &EXIT, &with(2, 8), 0)?;
+    assert_eq!(rt; run.list.as_slice(), [1, 0].as_slice());
     Ok(())
 }
 

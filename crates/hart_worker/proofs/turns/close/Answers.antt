@@ -2,7 +2,7 @@ use Rattle.std.proofs.Common.{◌∙◌}
 use Rattle.run_model.specs.Runs.{is_over}
 use Rattle.hart_worker.specs.Lists.{list_run}
 use Rattle.hart_worker.proofs.Taken.{turns_are}
-use Rattle.hart_worker.proofs.Whole.{finished_is, log_is}
+use Rattle.hart_worker.proofs.Whole.{finished_is}
 use Rattle.hart_worker.proofs.turns.close.Goals as goal
 
 pub returns : goal.returns
@@ -19,6 +19,6 @@ returns g c = λ list h over.
       ends = e.ends run h.state;
       turns = e.turns ∙ turns_are g.B.Book.tells bus list h;
       size = e.size;
-      log = λ t. log_is c.turns_are_lawful.ensures g.B.Book.tells bus list c.close.result.ring h t (e.told t);
+      log = e.log run h.state;
       told = λ t. e.book ∙ h.rows t;
     }
