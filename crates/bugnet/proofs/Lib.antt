@@ -4,6 +4,7 @@ mod Prints
 mod Rows
 mod Loads
 mod Tells
+mod Causes
 mod Shows
 mod Single
 mod Suffices

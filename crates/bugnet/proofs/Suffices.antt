@@ -26,15 +26,15 @@ use Rattle.file_laws.specs.Laws.{LogsAreContents}
 use Rattle.bugnet.specs.Names.{FileNames}
 use Rattle.bugnet.specs.Told.{Told, printed}
 use Rattle.bugnet.specs.Commands.{IsByFile, WithFile, by_log, IsByLog, replay_same, replay_loaded, replay_found, replay_of, interval_told, ended, IsReplayOf, IsReplay}
-use Rattle.bugnet.specs.Answers.{names_in, IsAnswer}
+use Rattle.bugnet.specs.Answers.{names_in, names_by, IsAnswer}
 use Rattle.bugnet.specs.Headline.{Part, run_text, ReplaysRun, Headline, PrintsRun}
 use Rattle.bugnet.specs.Outside.{WithFiles}
-use Rattle.bugnet.specs.Run.{IsFree, Tells, Answers}
+use Rattle.bugnet.specs.Run.{Call, IsFree, AnAnswer, Tells, StoppedEarly, Answers}
 use Rattle.bugnet.specs.declared.names.Role.{Role}
 use Rattle.bugnet.specs.declared.names.Role.TheVariants as role
 use Rattle.bugnet.proofs.Loads.{fits, of_false}
 use Rattle.bugnet.proofs.Single.{Grammar, one-reading}
-use Rattle.bugnet.proofs.Tells.{free-status, outside-free}
+use Rattle.bugnet.proofs.Tells.{with-files, stopped-free, early-free}
 
 -- ---- the size of a log file
 
@@ -110,18 +110,16 @@ headline g law contents line files p v r what is =
 
 -- ---- what is printed
 
-printed-so : Headline → (line : Option Line) (files : Files) (names : FileNames) (p : Part) (v : Interval) (r : ReplaysRun line files p v) (status : ℕ) (out_old out_new err_old err_new : Option (List ℕ)) (before now : ℕ)
-    → Answers names (IsAnswer line files) status out_old out_new err_old err_new before now → IsFree status ⊎ ((status ≡ 0) × Appends out_old out_new (run_text p v))
-printed-so law line files names p v r status out_old out_new err_old err_new before now (inr early) = inl (free-status names early.0 status err_old err_new before now (outside-free early.0 early.1) early.3)
-printed-so law line files names p v r status out_old out_new err_old err_new before now (inl found) = told found.0 (law line files p v r found.0 found.1) found.2
+printed-so : Headline → (line : Option Line) (files : Files) (p : Part) (v : Interval) (r : ReplaysRun line files p v) (status : ℕ) (k : Call)
+    → AnAnswer (IsAnswer line files) (λ what. Tells (names_by line) what status k) ⊎ StoppedEarly line files status k → IsFree status ⊎ ((status ≡ 0) × Appends k.old.out k.new.out (run_text p v))
+printed-so law line files p v r status k (inr early) = inl (early-free line files status k early)
+printed-so law line files p v r status k (inl found) = told found.0 (law line files p v r found.0 found.1) found.2
   where
-    told : (what : Told) → what ≡ printed (run_text p v) → Tells names what status out_old out_new err_old err_new before now → IsFree status ⊎ ((status ≡ 0) × Appends out_old out_new (run_text p v))
-    told what e (inl done) = inr (done.status_is ∙ ap (λ (t : Told). t.status) e, subst (λ (t : List ℕ). Appends out_old out_new t) (ap (λ (t : Told). t.out) e) done.out)
-    told what e (inr stopped) = inl (free-status names stopped.refusal status stopped.err_mid err_new stopped.faults_mid now stopped.free stopped.line)
+    told : (what : Told) → what ≡ printed (run_text p v) → Tells (names_by line) what status k → IsFree status ⊎ ((status ≡ 0) × Appends k.old.out k.new.out (run_text p v))
+    told what e (inl done) = inr (done.status_is ∙ ap (λ (t : Told). t.status) e, subst (λ (t : List ℕ). Appends k.old.out k.new.out t) (ap (λ (t : Told). t.out) e) done.out)
+    told what e (inr stopped) = inl (stopped-free (names_by line) what status k stopped)
 
-pub prints-run : Headline → (known : Option Files) (line : Option Line) (names : FileNames) (status : ℕ) (out_old out_new err_old err_new : Option (List ℕ)) (before now : ℕ)
-    → WithFiles known (λ files. Answers names (IsAnswer line files) status out_old out_new err_old err_new before now)
-    → WithFiles known (λ files. PrintsRun line files status out_old out_new)
-prints-run law None line names status out_old out_new err_old err_new before now h = tt
-prints-run law (Some files) line names status out_old out_new err_old err_new before now h =
-    λ p v r. printed-so law line files names p v r status out_old out_new err_old err_new before now h
+pub prints-run : Headline → (line : Option Line) (status : ℕ) (k : Call) → Answers line status k → WithFiles k.old.files (λ files. PrintsRun line files status k.old.out k.new.out)
+prints-run law line status k h =
+    with-files k.old.files (λ files. AnAnswer (IsAnswer line files) (λ what. Tells (names_by line) what status k) ⊎ StoppedEarly line files status k)
+    (λ files. PrintsRun line files status k.old.out k.new.out) (λ files found p v r. printed-so law line files p v r status k found) h
