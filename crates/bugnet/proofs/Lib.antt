@@ -11,3 +11,4 @@ mod Suffices
 mod Sums
 mod Recorded
 mod Tested
+mod Leaves

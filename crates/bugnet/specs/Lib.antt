@@ -11,5 +11,6 @@ pub mod Keeping
 pub mod Logs
 pub mod Answers
 pub mod Run
+pub mod Saves
 pub mod Laws
 pub mod Headline

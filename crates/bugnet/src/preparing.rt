@@ -1,5 +1,5 @@
 // What a recording tests and loads before it runs.
-ghost use Rattle.std.specs.Prelude.{◌≡◌, false, []};
+ghost use Rattle.std.specs.Prelude.{◌≡◌, false, [], IfOk};
 ghost use Rattle.std.specs.Str.{bytes_eq};
 ghost use Rattle.sha2.specs.Sha256.{sha256};
 ghost use Rattle.bn_outside.specs.Counts.{NoneFell};
@@ -7,6 +7,8 @@ ghost use Rattle.elf_loader.specs.Loaded.{image_of};
 ghost use Rattle.bn_base.specs.Ranges.{first_bad};
 ghost use Rattle.bugnet.specs.Answers.{name_refusal, setting_refusal};
 ghost use Rattle.bugnet.specs.Commands.{seeded_told, IsByInput, IsByProgram, IsByNames, IsRecord};
+ghost use Rattle.file_laws.specs.Given.{IsImage};
+ghost use Rattle.bugnet.specs.Saves.{HoldsImage};
 ghost use Rattle.bugnet.specs.Outside.{Gives, GivesBy, IsOwn, CauseBy, ResultCause, WithFiles};
 
 use crate::answer::{Answer, digest_of, load_program};
@@ -65,6 +67,7 @@ fn record_program<S: Store>(
     has_input: bool,
     store: &mut S,
 ) -> Result<Answer, Refusal>
+    ensures image { IfOk result (λ _. IfOk (image_of elf.now settings.now) IsImage) }
     ensures told { WithFiles (S.files store.old) (λ files. GivesBy names.now (λ files. IsByProgram (image_of elf.now settings.now) files names.now settings.now seed has_input (sha256 elf.now)) files result) }
     ensures same { S.files store.new ≡ S.files store.old }
     ensures later { NoneFell (S.counts store.old) (S.counts store.new) }
@@ -93,6 +96,7 @@ fn record_elf<S: Store>(
     has_input: bool,
     store: &mut S,
 ) -> Result<Answer, Refusal>
+    ensures image { IfOk result (λ _. WithFiles (S.files store.old) (λ files. HoldsImage (files names.now.elf) settings.now)) }
     ensures told { WithFiles (S.files store.old) (λ files. GivesBy names.now (λ files. IsByNames false files names.now settings.now seed has_input) files result) }
     ensures same { S.files store.new ≡ S.files store.old }
     ensures later { NoneFell (S.counts store.old) (S.counts store.new) }
@@ -113,6 +117,7 @@ fn record_named<S: Store>(
     has_input: bool,
     store: &mut S,
 ) -> Result<Answer, Refusal>
+    ensures image { IfOk result (λ _. WithFiles (S.files store.old) (λ files. HoldsImage (files names.now.elf) settings.now)) }
     ensures told { WithFiles (S.files store.old) (λ files. GivesBy names.now (λ files. IsByNames (bytes_eq names.now.log names.now.book) files names.now settings.now seed has_input) files result) }
     ensures same { S.files store.new ≡ S.files store.old }
     ensures later { NoneFell (S.counts store.old) (S.counts store.new) }
@@ -135,6 +140,7 @@ pub fn record_files<S: Store>(
     has_input: bool,
     store: &mut S,
 ) -> Result<Answer, Refusal>
+    ensures image { IfOk result (λ _. WithFiles (S.files store.old) (λ files. HoldsImage (files names.now.elf) settings.now)) }
     ensures told { WithFiles (S.files store.old) (λ files. GivesBy names.now (λ files. IsRecord files names.now settings.now seed has_input) files result) }
     ensures same { S.files store.new ≡ S.files store.old }
     ensures later { NoneFell (S.counts store.old) (S.counts store.new) }

@@ -6,11 +6,12 @@ ghost use Rattle.bugnet.specs.Answers.{names_in, refusal_in, IsAnswerTo};
 ghost use Rattle.bugnet.specs.Laws.{IsNoRecording};
 ghost use Rattle.bugnet.specs.Headline.{PrintsRun};
 ghost use Rattle.bugnet.specs.Outside.{GivesBy, CauseBy, WithFiles, IsPrinted};
+ghost use Rattle.bugnet.specs.Saves.{LeavesRun, HasImage};
 ghost use Rattle.bugnet.specs.Run.{call, Answers, ByWords, Keeps, ChangesFew};
 
 use crate::acting::act;
 use crate::answer::Answer;
-use crate::laws::{headline, one_answer};
+use crate::laws::{headline, one_answer, seeds_are_whole};
 use crate::loading::{check_files, list_files, replay_files};
 use crate::names::Names;
 use crate::preparing::record_files;
@@ -18,6 +19,7 @@ use crate::printing::refuse;
 use crate::refusal::Refusal;
 use bn_outside::{Sink, Source, Store};
 use command_words::{Command, WordsError, read_words};
+use file_sizes::files_keep_to_their_size;
 use std::alloc::Global;
 
 // The names of the files of a command.
@@ -55,6 +57,7 @@ fn answer_to<S: Store>(
     ensures later { NoneFell (S.counts store.old) (S.counts store.new) }
     ensures cause { CauseBy (refusal_in (seen command.now)) (S.counts store.old) (S.counts store.new) result }
     ensures prints { IsNoRecording (Some (seen command.now)) → IfOk result IsPrinted }
+    ensures image { IfOk result (λ _. HasImage (seen command.now) (S.files store.old)) }
 {
     match command {
         Command::Record(recording) => record_files(
@@ -86,12 +89,15 @@ fn obey<S: Store, O: Sink, X: Sink>(
     ensures later { NoneFell (S.counts store.old) (S.counts store.new) }
     ensures out_later { O.faults out.old ≤ O.faults out.new }
     ensures err_later { X.faults err.old ≤ X.faults err.new }
+    ensures recorded { LeavesRun (Some (seen command.now)) result (S.files store.old) (S.files store.new) }
     ensures still { IsNoRecording (Some (seen command.now)) → S.files store.new ≡ S.files store.old }
     ensures failed { result ≡ 3 → Rose (S.counts store.old).faults (S.counts store.new).faults }
     ensures missing { result ≡ 4 → Rose (S.counts store.old).misses (S.counts store.new).misses }
     ensures long { result ≡ 5 → Rose (S.counts store.old).longs (S.counts store.new).longs }
     ensures write { result ≡ 13 → Rose (O.faults out.old) (O.faults out.new) ⊎ Rose (X.faults err.old) (X.faults err.new) }
 {
+    seeds_are_whole();
+    files_keep_to_their_size();
     let names = names_of(command);
     match answer_to(alloc, command, &names, store) {
         Err(refusal) => refuse(alloc, &names, &refusal, err),
@@ -147,6 +153,10 @@ pub fn run<S: Store, I: Source, O: Sink, X: Sink>(
     ensures kept { Keeps (command_in words.now) result (S.files store.old) (S.files store.new) }
     ensures others { ChangesFew (command_in words.now) (S.files store.old) (S.files store.new) }
     ensures still { IsNoRecording (command_in words.now) → S.files store.new ≡ S.files store.old }
+
+    // A recording leaves under BOOK the turns that the seed chooses, legal and finished, and under LOG
+    // the file of their run: its records have at most log-size bytes, and it has 124 more.
+    ensures recorded { LeavesRun (command_in words.now) result (S.files store.old) (S.files store.new) }
 
     // A refusal by the outside comes only where its count rose, and no count falls.
     ensures failed { result ≡ 3 → Rose (S.counts store.old).faults (S.counts store.new).faults }

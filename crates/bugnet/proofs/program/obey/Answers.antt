@@ -7,6 +7,7 @@ use Rattle.bugnet.specs.Run.{call, IsByWords}
 use Rattle.bugnet.proofs.Prints.{appends-nothing}
 use Rattle.bugnet.proofs.Tells.{refusal-answers, answer-answers, tells-from}
 use Rattle.bugnet.proofs.Causes.{refusal-causes, refusal-words, answer-words}
+use Rattle.bugnet.proofs.Leaves.{leaves-none, told-apart, call-leaves}
 use Rattle.bugnet.proofs.program.obey.Goals as goal
 
 pub returns-in-Err-clause-told : goal.returns-in-Err-clause-told
@@ -47,3 +48,13 @@ pub returns-in-Ok-clause-words : goal.returns-in-Ok-clause-words
 returns-in-Ok-clause-words g c =
     let k = call (g.S.Store.files) (g.S.Store.counts) (g.O.Sink.written) (g.O.Sink.faults) (g.X.Sink.written) (g.X.Sink.faults) c.args.store.now c.args.out.now c.args.err.now c.act.new.store c.act.new.out c.act.new.err in
     answer-words _ c.in-Ok.answer (refusal_in (seen c.args.command.now)) _ _ _ c.act.result k c.in-Ok.ensures.cause c.act.ensures.words
+
+pub returns-in-Err-clause-recorded : goal.returns-in-Err-clause-recorded
+returns-in-Err-clause-recorded g c =
+    leaves-none (Some (seen c.args.command.now)) c.refuse.result (g.S.Store.files c.args.store.now) (g.S.Store.files c.answer_to.new.store)
+    (told-apart c.names_of-names.result c.in-Err.refusal c.refuse.result (g.X.Sink.written c.args.err.now) (g.X.Sink.written c.refuse.new.err) (g.X.Sink.faults c.args.err.now) (g.X.Sink.faults c.refuse.new.err) c.refuse.ensures.told)
+
+pub returns-in-Ok-clause-recorded : goal.returns-in-Ok-clause-recorded
+returns-in-Ok-clause-recorded g c =
+    let k = call (g.S.Store.files) (g.S.Store.counts) (g.O.Sink.written) (g.O.Sink.faults) (g.X.Sink.written) (g.X.Sink.faults) c.args.store.now c.args.out.now c.args.err.now c.act.new.store c.act.new.out c.act.new.err in
+    call-leaves c.seeds_are_whole.ensures c.files_keep_to_their_size.ensures (seen c.args.command.now) c.act.result k c.in-Ok.ensures.image (returns-in-Ok-clause-told g c)

@@ -12,6 +12,8 @@ use Rattle.bugnet.proofs.Prints.{appends-nothing}
 use Rattle.bugnet.proofs.Tells.{refusal-answers, memory-names, with-any, answers-keep, answers-few}
 use Rattle.bugnet.proofs.Causes.{memory-words}
 use Rattle.bugnet.proofs.Suffices.{prints-run}
+use Rattle.bugnet.specs.Saves.{LeavesRun}
+use Rattle.bugnet.proofs.Leaves.{leaves-none, told-apart}
 use Rattle.bugnet.proofs.program.run.Goals as goal
 
 pub returns-in-Err-Refused-clause-told : goal.returns-in-Err-Refused-clause-told
@@ -97,3 +99,18 @@ pub returns-in-Ok-clause-others : goal.returns-in-Ok-clause-others
 returns-in-Ok-clause-others g c =
     let k = call (g.S.Store.files) (g.S.Store.counts) (g.O.Sink.written) (g.O.Sink.faults) (g.X.Sink.written) (g.X.Sink.faults) c.args.store.now c.args.out.now c.args.err.now c.obey.new.store c.obey.new.out c.obey.new.err in
     answers-few c.one_answer.ensures (command_in c.args.words.now) c.obey.result k (returns-in-Ok-clause-told g c)
+
+pub returns-in-Err-Refused-clause-recorded : goal.returns-in-Err-Refused-clause-recorded
+returns-in-Err-Refused-clause-recorded g c =
+    leaves-none (command_in c.args.words.now) c.refuse.result (g.S.Store.files c.args.store.now) (g.S.Store.files c.args.store.now)
+    (told-apart c.none.result WordsRefused c.refuse.result (g.X.Sink.written c.args.err.now) (g.X.Sink.written c.refuse.new.err) (g.X.Sink.faults c.args.err.now) (g.X.Sink.faults c.refuse.new.err) c.refuse.ensures.told)
+
+pub returns-in-Err-OutOfMemory-clause-recorded : goal.returns-in-Err-OutOfMemory-clause-recorded
+returns-in-Err-OutOfMemory-clause-recorded g c =
+    let refuse = c.refuse-in-Err-OutOfMemory in
+    leaves-none (command_in c.args.words.now) refuse.result (g.S.Store.files c.args.store.now) (g.S.Store.files c.args.store.now)
+    (told-apart c.none-in-Err-OutOfMemory.result OutOfMemory refuse.result (g.X.Sink.written c.args.err.now) (g.X.Sink.written refuse.new.err) (g.X.Sink.faults c.args.err.now) (g.X.Sink.faults refuse.new.err) refuse.ensures.told)
+
+pub returns-in-Ok-clause-recorded : goal.returns-in-Ok-clause-recorded
+returns-in-Ok-clause-recorded g c =
+    subst (λ (l : Option Line). LeavesRun l c.obey.result (g.S.Store.files c.args.store.now) (g.S.Store.files c.obey.new.store)) (sym c.in-Ok.ensures.taken) c.obey.ensures.recorded
