@@ -3,6 +3,7 @@ use Rattle.std.proofs.Common.{◌≡◌, ◌≢◌, ◌≤◌, ◌<◌, ℕ, Boo
 use Rattle.std.specs.Prelude.{Result, Ok, Err, IfSome, IfOk, is_some, unwrap_or}
 use Rattle.std.specs.Str.{bytes_eq}
 use Rattle.std.proofs.lemmas.Slice.Eq.{bytes_eq-Decides}
+use Rattle.std.proofs.lemmas.Bool.Decides.{nat_tests}
 use Rattle.sha2.specs.Sha256.{sha256}
 use Rattle.sha2.proofs.Facts256.{length-sha256}
 use Rattle.bn_base.specs.Programs.{Program}
@@ -92,21 +93,27 @@ record Found (r : RecordingLine) (files : Files) (what : Told) : Type 0 where
   pub program : Program
   pub input : List ℕ
   pub elf_there : files r.elf ≡ Some elf
+  pub small : length elf ≤ 67108864
   pub loaded : image_of elf r.settings ≡ Ok program
   pub input_there : input_by r.input files ≡ Some input
   pub settings : first_bad r.settings ≡ None
   pub names : bytes_eq r.log r.book ≡ false
   pub what_is : what ≡ seeded_told r.settings program (sha256 elf) r.seed input
 
+within : (limit n : ℕ) → nat_lt limit n ≡ false → n ≤ limit
+within limit n e = grind (arith, nat_tests)
+
 -- a file that is there, with its bytes
 by-file : (there : Option (List ℕ)) (names : FileNames) (role : Role) (limit : ℕ) (Go : List ℕ → Told → Type 0) (what : Told) → IsByFile there names role limit Go what → IsRecorded what.status
-    → (bytes : List ℕ) × (there ≡ Some bytes) × Go bytes what
+    → (bytes : List ℕ) × (there ≡ Some bytes) × Go bytes what × (length bytes ≤ limit)
 by-file None names role limit Go what h is = absurd (refused-apart names (Missing role) what h is)
-by-file (Some bytes) names role limit Go what h is = (bytes, refl, go (nat_lt limit (length bytes)) h)
+by-file (Some bytes) names role limit Go what h is =
+    let f = go (nat_lt limit (length bytes)) refl h in
+    (bytes, refl, f.0, f.1)
   where
-    go : (b : Bool) → Either b (what ≡ refused names (TooLong role)) (Go bytes what) → Go bytes what
-    go true x = absurd (refused-apart names (TooLong role) what x is)
-    go false x = x
+    go : (b : Bool) → nat_lt limit (length bytes) ≡ b → Either b (what ≡ refused names (TooLong role)) (Go bytes what) → Go bytes what × (length bytes ≤ limit)
+    go true e x = absurd (refused-apart names (TooLong role) what x is)
+    go false e x = (x, within limit (length bytes) e)
 
 by-input : (there : Option (List ℕ)) (elf log book : List ℕ) (files : Files) (go : List ℕ → Told) (what : Told)
     → IsByInput (is_some there) files (record { elf = elf; log = log; book = book; input = unwrap_or there [] }) go what → IsRecorded what.status
@@ -114,7 +121,8 @@ by-input : (there : Option (List ℕ)) (elf log book : List ℕ) (files : Files)
 unfolding WithFile
 by-input None elf log book files go what h is = ([], refl, h)
 by-input (Some name) elf log book files go what h is =
-    by-file (files name) (record { elf = elf; log = log; book = book; input = name }) role.Input 16777216 (λ input what. what ≡ go input) what h is
+    let f = by-file (files name) (record { elf = elf; log = log; book = book; input = name }) role.Input 16777216 (λ input what. what ≡ go input) what h is in
+    (f.0, f.1, f.2)
 
 by-program : (i : Result Program ElfError) (files : Files) (r : RecordingLine) (digest : List ℕ) (what : Told)
     → IsByProgram i files (names_in (RecordLine r)) r.settings r.seed (is_some r.input) digest what → IsRecorded what.status
@@ -131,7 +139,7 @@ by-names false files r what e s h is =
     let f = by-file (files r.elf) names role.Elf 67108864 (λ elf what. IsByProgram (image_of elf r.settings) files names r.settings r.seed (is_some r.input) (sha256 elf) what) what h is in
     let p = by-program (image_of f.0 r.settings) files r (sha256 f.0) what f.2 is in
     let i = by-input r.input r.elf r.log r.book files (seeded_told r.settings p.0 (sha256 f.0) r.seed) what p.2 is in
-    record { elf = f.0; program = p.0; input = i.0; elf_there = f.1; loaded = p.1; input_there = i.1; settings = s; names = e; what_is = i.2 }
+    record { elf = f.0; program = p.0; input = i.0; elf_there = f.1; small = f.3; loaded = p.1; input_there = i.1; settings = s; names = e; what_is = i.2 }
 
 by-settings : (bad : Option BadSetting) (files : Files) (r : RecordingLine) (what : Told) → first_bad r.settings ≡ bad
     → IsBySettings bad files (names_in (RecordLine r)) r.settings r.seed (is_some r.input) what → IsRecorded what.status → Found r files what
@@ -173,6 +181,7 @@ left whole sizes r old new what f image kept =
       input = f.input;
       turns = turns;
       elf_there = f.elf_there;
+      small = f.small;
       loaded = f.loaded;
       input_there = f.input_there;
       chosen = refl;

@@ -12,3 +12,4 @@ mod Sums
 mod Recorded
 mod Tested
 mod Leaves
+mod Complete

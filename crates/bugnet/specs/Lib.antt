@@ -14,3 +14,4 @@ pub mod Run
 pub mod Saves
 pub mod Laws
 pub mod Headline
+pub mod Complete

@@ -1,5 +1,5 @@
 -- What a recording leaves under LOG and BOOK.
-use Rattle.std.specs.Prelude.{◌≡◌, ◌⊎◌, ℕ, List, [], length, Option, Some, None, Ok, IfSome, IfOk}
+use Rattle.std.specs.Prelude.{◌≡◌, ◌≤◌, ◌⊎◌, ℕ, List, [], length, Option, Some, None, Ok, IfSome, IfOk}
 use Rattle.sha2.specs.Sha256.{sha256}
 use Rattle.bn_base.specs.Programs.{Program}
 use Rattle.bn_base.specs.declared.settings.RawSettings.{RawSettings}
@@ -30,6 +30,7 @@ pub record Leaves (r : RecordingLine) (old new : Files) : Type 0 where
   pub turns : List ℕ
   -- what was there
   pub elf_there : old r.elf ≡ Some elf
+  pub small : length elf ≤ 67108864
   pub loaded : image_of elf r.settings ≡ Ok program
   pub input_there : input_by r.input old ≡ Some input
   -- the turns are those that the seed chooses, legal and finished

@@ -4,6 +4,7 @@ ghost use Rattle.bn_outside.specs.Counts.{Rose, NoneFell};
 ghost use Rattle.command_words.specs.Words.{command_in, seen};
 ghost use Rattle.bugnet.specs.Answers.{names_in, refusal_in, IsAnswerTo};
 ghost use Rattle.bugnet.specs.Laws.{IsNoRecording};
+ghost use Rattle.bugnet.specs.Complete.{IsDone};
 ghost use Rattle.bugnet.specs.Headline.{PrintsRun};
 ghost use Rattle.bugnet.specs.Outside.{GivesBy, CauseBy, WithFiles, IsPrinted};
 ghost use Rattle.bugnet.specs.Saves.{LeavesRun, HasImage};
@@ -11,7 +12,7 @@ ghost use Rattle.bugnet.specs.Run.{call, Answers, ByWords, Keeps, ChangesFew};
 
 use crate::acting::act;
 use crate::answer::Answer;
-use crate::laws::{headline, one_answer, seeds_are_whole};
+use crate::laws::{each_can_be_done, headline, one_answer, seeds_are_whole};
 use crate::loading::{check_files, list_files, replay_files};
 use crate::names::Names;
 use crate::preparing::record_files;
@@ -147,6 +148,10 @@ pub fn run<S: Store, I: Source, O: Sink, X: Sink>(
     // run's own rows.
     ensures headline { WithFiles (S.files store.old) (λ files. PrintsRun (command_in words.now) files result (O.written out.old) (O.written out.new)) }
 
+    // Where the words and the files are as the command needs them, it is done, unless memory was
+    // wanting, or the store or a write failed.
+    ensures done { WithFiles (S.files store.old) (λ files. IsDone (command_in words.now) files result) }
+
     // What was to be saved is saved, LOG before BOOK. Whatever happens, only a recording changes files,
     // and of these only LOG and BOOK: where nothing was to be saved, as at a replay, all stay as they
     // were, and until LOG is saved BOOK does.
@@ -170,6 +175,7 @@ pub fn run<S: Store, I: Source, O: Sink, X: Sink>(
 {
     headline();
     one_answer();
+    each_can_be_done();
     match read_words(alloc, words) {
         Err(WordsError::Refused) => refuse(alloc, &Names::none(), &Refusal::WordsRefused, err),
         Err(WordsError::OutOfMemory) => refuse(alloc, &Names::none(), &Refusal::OutOfMemory, err),

@@ -12,6 +12,7 @@ use Rattle.bugnet.proofs.Prints.{appends-nothing}
 use Rattle.bugnet.proofs.Tells.{refusal-answers, memory-names, with-any, answers-keep, answers-few}
 use Rattle.bugnet.proofs.Causes.{memory-words}
 use Rattle.bugnet.proofs.Suffices.{prints-run}
+use Rattle.bugnet.proofs.Complete.{call-done}
 use Rattle.bugnet.specs.Saves.{LeavesRun}
 use Rattle.bugnet.proofs.Leaves.{leaves-none, told-apart}
 use Rattle.bugnet.proofs.program.run.Goals as goal
@@ -114,3 +115,18 @@ returns-in-Err-OutOfMemory-clause-recorded g c =
 pub returns-in-Ok-clause-recorded : goal.returns-in-Ok-clause-recorded
 returns-in-Ok-clause-recorded g c =
     subst (λ (l : Option Line). LeavesRun l c.obey.result (g.S.Store.files c.args.store.now) (g.S.Store.files c.obey.new.store)) (sym c.in-Ok.ensures.taken) c.obey.ensures.recorded
+
+pub returns-in-Err-Refused-clause-done : goal.returns-in-Err-Refused-clause-done
+returns-in-Err-Refused-clause-done g c =
+    let k = call (g.S.Store.files) (g.S.Store.counts) (g.O.Sink.written) (g.O.Sink.faults) (g.X.Sink.written) (g.X.Sink.faults) c.args.store.now c.args.out.now c.args.err.now c.args.store.now c.args.out.now c.refuse.new.err in
+    call-done c.each_can_be_done.ensures c.one_answer.ensures (command_in c.args.words.now) c.refuse.result k (returns-in-Err-Refused-clause-told g c)
+
+pub returns-in-Err-OutOfMemory-clause-done : goal.returns-in-Err-OutOfMemory-clause-done
+returns-in-Err-OutOfMemory-clause-done g c =
+    let k = call (g.S.Store.files) (g.S.Store.counts) (g.O.Sink.written) (g.O.Sink.faults) (g.X.Sink.written) (g.X.Sink.faults) c.args.store.now c.args.out.now c.args.err.now c.args.store.now c.args.out.now c.refuse-in-Err-OutOfMemory.new.err in
+    call-done c.each_can_be_done.ensures c.one_answer.ensures (command_in c.args.words.now) c.refuse-in-Err-OutOfMemory.result k (returns-in-Err-OutOfMemory-clause-told g c)
+
+pub returns-in-Ok-clause-done : goal.returns-in-Ok-clause-done
+returns-in-Ok-clause-done g c =
+    let k = call (g.S.Store.files) (g.S.Store.counts) (g.O.Sink.written) (g.O.Sink.faults) (g.X.Sink.written) (g.X.Sink.faults) c.args.store.now c.args.out.now c.args.err.now c.obey.new.store c.obey.new.out c.obey.new.err in
+    call-done c.each_can_be_done.ensures c.one_answer.ensures (command_in c.args.words.now) c.obey.result k (returns-in-Ok-clause-told g c)
