@@ -1,5 +1,5 @@
 -- Where a command has an answer, and where it is done.
-use Rattle.std.proofs.Common.{◌≡◌, ◌≤◌, ℕ, Bool, true, false, nat_lt, List, [], length, Option, Some, None, ◌∙◌, ap, subst, sym, refl, arith, inl, inr, ◌⊎◌}
+use Rattle.std.proofs.Common.{◌≡◌, ◌≤◌, ℕ, Bool, true, false, nat_lt, List, [], length, Option, Some, None, ap, subst, sym, refl, arith, inl, inr, ◌⊎◌}
 use Rattle.std.specs.Prelude.{Result, Ok, Err, IfSome, is_some, unwrap_or}
 use Rattle.std.specs.Str.{bytes_eq}
 use Rattle.sha2.specs.Sha256.{sha256}
@@ -20,15 +20,15 @@ use Rattle.run_model.specs.Runs.{run_of}
 use Rattle.replay_laws.specs.Law.{LogSuffices, RowsStandTogether}
 use Rattle.file_laws.specs.Laws.{LogsAreContents}
 use Rattle.bugnet.specs.Names.{FileNames, no_names, name_of}
-use Rattle.bugnet.specs.Told.{Told, refused, printed}
+use Rattle.bugnet.specs.Told.{Told, refused}
 use Rattle.bugnet.specs.Commands.{Either, IsByFile, WithFile, Reads, by_log, IsByLog, list_of, check_of, replay_of, IsReplayOf, IsReplay, IsByInput, IsByProgram, IsByNames, IsBySettings, IsRecord, seeded_told}
 use Rattle.bugnet.specs.Recordings.{end_status, recorded}
 use Rattle.bugnet.specs.Answers.{names_in, names_by, IsAnswer}
-use Rattle.bugnet.specs.Headline.{Part, ReplaysRun, run_text}
+use Rattle.bugnet.specs.Headline.{Part, ReplaysRun}
 use Rattle.bugnet.specs.Outside.{WithFiles}
 use Rattle.bugnet.specs.Run.{Call, IsFree, Tells, StoppedEarly, AnAnswer, Answers}
 use Rattle.bugnet.specs.Saves.{IsRecorded, input_by}
-use Rattle.bugnet.specs.Complete.{IsRead, HasRead, EachHasAnAnswer, CanRecord, HasLog, CanDo, EachCanBeDone, IsDone}
+use Rattle.bugnet.specs.Complete.{IsRead, EachHasAnAnswer, CanRecord, HasLog, EachCanBeDone, IsDone}
 use Rattle.bugnet.specs.Laws.{OneAnswer}
 use Rattle.bugnet.specs.declared.answer.RunEnd.{RunEnd}
 use Rattle.bugnet.specs.declared.answer.RunEnd.TheVariants as ends

@@ -1,6 +1,6 @@
 -- What a recording leaves, from what it has to answer.
-use Rattle.std.proofs.Common.{◌≡◌, ◌≢◌, ◌≤◌, ◌<◌, ℕ, Bool, true, false, nat_lt, List, [], length, Option, Some, None, ◌∙◌, ap, subst, sym, refl, arith, inl, inr, ◌⊎◌}
-use Rattle.std.specs.Prelude.{Result, Ok, Err, IfSome, IfOk, is_some, unwrap_or}
+use Rattle.std.proofs.Common.{◌≡◌, ◌≢◌, ◌≤◌, ℕ, Bool, true, false, nat_lt, List, [], length, Option, Some, None, ◌∙◌, subst, sym, refl, arith, inl, inr, ◌⊎◌}
+use Rattle.std.specs.Prelude.{Result, Ok, Err, IfOk, is_some, unwrap_or}
 use Rattle.std.specs.Str.{bytes_eq}
 use Rattle.std.proofs.lemmas.Slice.Eq.{bytes_eq-Decides}
 use Rattle.std.proofs.lemmas.Bool.Decides.{nat_tests}
@@ -19,12 +19,12 @@ use Rattle.file_sizes.specs.Laws.{FilesKeepToTheirSize}
 use Rattle.hart_replay.specs.declared.error.ReplayError.{ReplayError}
 use Rattle.hart_replay.specs.declared.error.ReplayError.TheVariants as replay
 use Rattle.run_model.specs.Runs.{seeded}
-use Rattle.bugnet.specs.Names.{FileNames, name_of}
+use Rattle.bugnet.specs.Names.{FileNames}
 use Rattle.bugnet.specs.Refusals.{status_of, replay_status}
 use Rattle.bugnet.specs.Told.{Told, refused}
 use Rattle.bugnet.specs.Commands.{Either, IsByFile, WithFile, IsByInput, IsByProgram, IsByNames, IsBySettings, IsRecord, seeded_told}
 use Rattle.bugnet.specs.Recordings.{recorded}
-use Rattle.bugnet.specs.Answers.{names_in, names_by, IsAnswer}
+use Rattle.bugnet.specs.Answers.{names_in, IsAnswer}
 use Rattle.bugnet.specs.Outside.{WithFiles, ToldRefusal, KeptFiles}
 use Rattle.bugnet.specs.Run.{Call, IsFree, AreKept, Tells, StoppedEarly, AnAnswer, Answers}
 use Rattle.bugnet.specs.Saves.{IsRecorded, input_by, Leaves, LeavesRun, HoldsImage, HasImage}

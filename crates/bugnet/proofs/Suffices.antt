@@ -1,5 +1,5 @@
 -- The answer to the replay of a recorded interval is the text of the run's own rows.
-use Rattle.std.proofs.Common.{◌≡◌, ℕ, ◌+◌, ◌<◌, ◌≤◌, ◌^◌, Bool, true, List, ◌++◌, length, nat_lt, Option, Some, None, ◌∙◌, ap, subst, refl, arith, inl, inr, ◌⊎◌, length-append}
+use Rattle.std.proofs.Common.{◌≡◌, ℕ, ◌+◌, ◌<◌, ◌≤◌, ◌^◌, Bool, true, List, ◌++◌, length, nat_lt, Option, Some, ◌∙◌, ap, subst, refl, arith, inl, inr, ◌⊎◌, length-append}
 use Rattle.std.specs.Prelude.{Result, Ok}
 use Rattle.std.specs.Io.KnownBytes.{Appends}
 use Rattle.std.specs.Str.{bytes_eq}

@@ -1,18 +1,18 @@
 -- What a whole call of the program does, from what its parts do.
-use Rattle.std.proofs.Common.{◌≡◌, ◌≤◌, ◌<◌, ◌^◌, ◌-◌, ℕ, List, [], Option, Some, None, ◌∙◌, ap, subst, sym, refl, arith, inl, inr, ◌⊎◌}
-use Rattle.std.specs.Prelude.{Result, Ok, Err}
+use Rattle.std.proofs.Common.{◌≡◌, ◌≤◌, ℕ, List, [], Option, Some, None, ◌∙◌, ap, subst, sym, refl, arith, inl, inr, ◌⊎◌}
+use Rattle.std.specs.Prelude.{Ok, Err}
 use Rattle.std.specs.Io.KnownBytes.{Appends}
 use Rattle.bn_outside.specs.Counts.{Counts, Rose, NoneFell}
 use Rattle.bn_outside.specs.Files.{Files, WhereTold, SameElsewhere}
 use Rattle.bn_outside.specs.Streams.{AppendsPart, AppendsShort}
 use Rattle.command_words.specs.Words.{Line}
-use Rattle.bugnet.specs.Names.{FileNames, no_names}
+use Rattle.bugnet.specs.Names.{FileNames}
 use Rattle.bugnet.specs.Recordings.{end_status}
 use Rattle.bugnet.specs.Refusals.{line_of, said_of, status_of}
 use Rattle.bugnet.specs.Told.{Told, Saved, refused, printed}
 use Rattle.bugnet.specs.Answers.{names_by, IsAnswer}
 use Rattle.bugnet.specs.Outside.{SendStops, ToldRefusal, WithFiles, IsEarly, GivesBy, told_of, told_of_recording, SameFiles, LogAlone, SaveBroke, KeptBoth, KeptFiles, MayChange, Unsaved}
-use Rattle.bugnet.specs.Run.{Call, IsFree, IsUnsaved, AreKept, Done, SavingStopped, OutStopped, ErrStopped, own_err, ErrWaits, Stopped, Tells, StoppedEarly, AnAnswer, Answers, Keeps, ChangesFew}
+use Rattle.bugnet.specs.Run.{Call, IsFree, IsUnsaved, AreKept, SavingStopped, OutStopped, ErrStopped, ErrWaits, Stopped, Tells, StoppedEarly, AnAnswer, Answers, Keeps, ChangesFew}
 use Rattle.bugnet.specs.declared.names.Role.{Role}
 use Rattle.bugnet.specs.declared.names.Role.TheVariants as role
 use Rattle.bugnet.specs.declared.answer.Answer.{Answer}

@@ -8,7 +8,7 @@ use Rattle.command_words.specs.Words.{Line}
 use Rattle.bugnet.specs.Names.{FileNames}
 use Rattle.bugnet.specs.Told.{Told, Saved}
 use Rattle.bugnet.specs.Answers.{names_by, refusal_by, IsAnswer}
-use Rattle.bugnet.specs.Outside.{WithFiles, Wrote, SendStops, ToldRefusal, IsEarly, SameFiles, KeptFiles, MayChange, Unsaved}
+use Rattle.bugnet.specs.Outside.{WithFiles, Wrote, SendStops, ToldRefusal, IsEarly, KeptFiles, MayChange, Unsaved}
 use Rattle.bugnet.specs.declared.refusal.Refusal.{Refusal}
 use Rattle.bugnet.specs.declared.refusal.Refusal.TheVariants as why
 

@@ -1,6 +1,6 @@
 use Rattle.bugnet.specs.Outside.{told_of_recording}
 use Rattle.bugnet.proofs.Prints.{appends-nothing}
-use Rattle.bugnet.proofs.Tells.{unsaved-told, stopped-told, half-told, recorded-told}
+use Rattle.bugnet.proofs.Tells.{unsaved-told, stopped-told, half-told}
 use Rattle.bugnet.proofs.acting.keep.Goals as goal
 
 pub returns-in-Err-clause-told : goal.returns-in-Err-clause-told

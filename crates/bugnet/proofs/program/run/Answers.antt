@@ -1,8 +1,8 @@
-use Rattle.std.proofs.Common.{Option, Some, None, sym, ap, ◌∙◌, subst, refl, inl, inr, ◌≡◌}
+use Rattle.std.proofs.Common.{Option, None, sym, ap, ◌∙◌, subst, refl, inl, inr, ◌≡◌}
 use Rattle.std.specs.Prelude.{Err}
 use Rattle.command_words.specs.Words.{Line, command_in}
 use Rattle.command_words.specs.declared.error.WordsError.{WordsError}
-use Rattle.bugnet.specs.Names.{FileNames, no_names}
+use Rattle.bugnet.specs.Names.{FileNames}
 use Rattle.bugnet.specs.Answers.{names_by, refusal_by}
 use Rattle.bugnet.specs.Told.{refused}
 use Rattle.bugnet.specs.Outside.{ToldRefusal}
