@@ -4,9 +4,12 @@ mod Prints
 mod Rows
 mod Loads
 mod Tells
+mod Causes
 mod Shows
 mod Single
 mod Suffices
 mod Sums
 mod Recorded
 mod Tested
+mod Leaves
+mod Complete

@@ -1,6 +1,8 @@
 -- What a command answers after its loads.
-use Rattle.std.proofs.Common.{◌≡◌, ℕ, ◌≤◌, ◌<◌, length, List, Option, Some, None, ap, subst, sym, refl, arith, true, false, Bool, nat_lt, inl, inr, ◌⊎◌, Vec, Global}
-use Rattle.std.specs.Prelude.{Result, Ok, Err, IsSomeAnd}
+use Rattle.std.proofs.Common.{◌≡◌, ℕ, ◌≤◌, ◌<◌, length, List, [], ◌++◌, Option, Some, None, ◌∙◌, ap, subst, sym, refl, arith, true, false, Bool, nat_lt, inl, inr, ◌⊎◌, Vec, Global}
+use Rattle.std.specs.Prelude.{Result, Ok, Err, IsSomeAnd, codes, is_some, option_map}
+use Rattle.std.specs.Str.{bytes_eq}
+use Rattle.std.proofs.lemmas.Slice.Eq.{bytes_eq-Decides}
 use Rattle.std.proofs.lemmas.Bool.Decides.{nat_tests}
 use Rattle.bn_outside.specs.Files.{Files}
 use Rattle.bn_base.specs.Programs.{Program}
@@ -10,11 +12,14 @@ use Rattle.bn_base.specs.declared.settings.RawSettings.{RawSettings}
 use Rattle.elf_loader.specs.Loaded.{image_of}
 use Rattle.elf_loader.specs.declared.error.ElfError.{ElfError}
 use Rattle.log_order.specs.Content.{Content}
+use Rattle.command_words.specs.Words.{RecordLine, seen_recording}
+use Rattle.command_words.specs.declared.commands.Recording.{Recording}
 use Rattle.bugnet.specs.Names.{FileNames, name_of}
-use Rattle.bugnet.specs.Refusals.{IsOutside}
+use Rattle.bugnet.specs.Refusals.{line_of, said_of}
 use Rattle.bugnet.specs.Told.{Told, refused}
 use Rattle.bugnet.specs.Commands.{Either, IsByFile, WithFile, IsByLog, IsByInput, IsByProgram, IsBySettings, IsRecord, seeded_told}
-use Rattle.bugnet.specs.Outside.{WithFiles, FetchTells, LogTells, ProgramTells, Gives}
+use Rattle.bugnet.specs.Answers.{names_in, IsAnswerTo}
+use Rattle.bugnet.specs.Outside.{WithFiles, FetchTells, LogTells, ProgramTells, Gives, unless, without, GivesBy}
 use Rattle.bugnet.specs.declared.names.Role.{Role}
 use Rattle.bugnet.specs.declared.names.Role.TheVariants.{Input}
 use Rattle.bugnet.specs.declared.answer.Answer.{Answer}
@@ -60,48 +65,85 @@ refused-by : (there : Option (List ℕ)) (names : FileNames) (role : Role) (limi
 refused-by there names role limit r Go (inl h) = subst (λ (x : Refusal). IsByFile there names role limit Go (refused names x)) (sym h.1) (by-missing there names role limit Go h.0)
 refused-by there names role limit r Go (inr h) = subst (λ (x : Refusal). IsByFile there names role limit Go (refused names x)) (sym h.1) (by-long there names role limit Go h.0)
 
+-- ---- the files without one of them
+
+same_name : (bs : List ℕ) → bytes_eq bs bs ≡ true
+same_name bs = (bytes_eq-Decides bs bs).1 refl
+
+gone : (name : List ℕ) (files : Files) → without name files name ≡ None
+gone name files = ap (λ (b : Bool). unless b (files name)) (same_name name)
+
+-- the line that a file is missing says its name alone
+missing-named : (names : FileNames) (a b : Role) → name_of names a ≡ name_of names b → refused names (Missing a) ≡ refused names (Missing b)
+unfolding refused line_of said_of
+missing-named names a b e = ap (λ (name : List ℕ). told_missing name) e
+  where
+    told_missing : List ℕ → Told
+    told_missing name = record { status = 4; out = []; err = codes "bugnet: " ++ (codes "missing: " ++ name) ++ codes "\n"; saved = None }
+
 -- a load that was refused ends the command
+stopped : (files : Files) (names : FileNames) (role : Role) (limit : ℕ) (r : Refusal) (Go : Files → List ℕ → Told → Type 0)
+    → FetchTells role limit (files (name_of names role)) (Err r) → GivesBy names (λ f. WithFile f names role limit (Go f)) files (Err r)
+unfolding WithFile
+stopped files names role limit r Go (inl (inl memory)) = inl (inl memory)
+stopped files names role limit r Go (inl (inr failed)) =
+    let n = name_of names role in
+    inl (inr (role, failed, by-missing (without n files n) names role limit (Go (without n files)) (gone n files)))
+stopped files names role limit r Go (inr h) = inr (refused-by (files (name_of names role)) names role limit r (Go files) h)
+
 pub gives-stopped : (known : Option Files) (names : FileNames) (role : Role) (limit : ℕ) (r : Refusal) (Go : Files → List ℕ → Told → Type 0)
     → WithFiles known (λ files. FetchTells role limit (files (name_of names role)) (Err r))
-    → WithFiles known (λ files. Gives names (WithFile files names role limit (Go files)) (Err r))
-unfolding WithFile
+    → WithFiles known (λ files. GivesBy names (λ f. WithFile f names role limit (Go f)) files (Err r))
 gives-stopped None names role limit r Go h = tt
-gives-stopped (Some files) names role limit r Go (inl outside) = inl outside
-gives-stopped (Some files) names role limit r Go (inr h) = inr (refused-by (files (name_of names role)) names role limit r (Go files) h)
+gives-stopped (Some files) names role limit r Go h = stopped files names role limit r Go h
 
 -- a load that gave bytes goes on with them
-loaded : (there : Option (List ℕ)) (names : FileNames) (role : Role) (limit : ℕ) (bytes : Vec ℕ Global) (result : Result Answer Refusal) (Go : List ℕ → Told → Type 0)
-    → FetchTells role limit there (Ok bytes) → Gives names (Go bytes.items) result → Gives names (IsByFile there names role limit Go) result
-loaded there names role limit bytes (Ok answer) Go h go = by-bytes there names role bytes.items limit Go _ h.0 h.1 go
-loaded there names role limit bytes (Err r) Go h (inl outside) = inl outside
-loaded there names role limit bytes (Err r) Go h (inr go) = inr (by-bytes there names role bytes.items limit Go (refused names r) h.0 h.1 go)
+apart : (b : Bool) (names : FileNames) (here role : Role) (there : Option (List ℕ)) (bytes : List ℕ) (limit : ℕ) (Go : List ℕ → Told → Type 0)
+    → (b ≡ true → name_of names here ≡ name_of names role) → there ≡ Some bytes → length bytes ≤ limit → Go bytes (refused names (Missing role))
+    → IsByFile (unless b there) names here limit Go (refused names (Missing role))
+apart true names here role there bytes limit Go same e h go = missing-named names role here (sym (same refl))
+apart false names here role there bytes limit Go same e h go = by-bytes there names here bytes limit Go (refused names (Missing role)) e h go
+
+loaded : (files : Files) (names : FileNames) (here : Role) (limit : ℕ) (bytes : Vec ℕ Global) (result : Result Answer Refusal) (Go : Files → List ℕ → Told → Type 0)
+    → FetchTells here limit (files (name_of names here)) (Ok bytes) → GivesBy names (λ f. Go f bytes.items) files result → GivesBy names (λ f. WithFile f names here limit (Go f)) files result
+unfolding WithFile
+loaded files names here limit bytes (Ok answer) Go h go = by-bytes (files (name_of names here)) names here bytes.items limit (Go files) _ h.0 h.1 go
+loaded files names here limit bytes (Err r) Go h (inl (inl memory)) = inl (inl memory)
+loaded files names here limit bytes (Err r) Go h (inl (inr failed)) =
+    let n = name_of names failed.0 in
+    inl (inr (failed.0, failed.1, apart (bytes_eq (name_of names here) n) names here failed.0 (files (name_of names here)) bytes.items limit (Go (without n files)) (λ e. (bytes_eq-Decides (name_of names here) n).0 e) h.0 h.1 failed.2))
+loaded files names here limit bytes (Err r) Go h (inr go) = inr (by-bytes (files (name_of names here)) names here bytes.items limit (Go files) (refused names r) h.0 h.1 go)
 
 pub gives-loaded : (known : Option Files) (names : FileNames) (role : Role) (limit : ℕ) (bytes : Vec ℕ Global) (result : Result Answer Refusal) (Go : Files → List ℕ → Told → Type 0)
     → WithFiles known (λ files. FetchTells role limit (files (name_of names role)) (Ok bytes))
-    → WithFiles known (λ files. Gives names (Go files bytes.items) result)
-    → WithFiles known (λ files. Gives names (WithFile files names role limit (Go files)) result)
-unfolding WithFile
+    → WithFiles known (λ files. GivesBy names (λ f. Go f bytes.items) files result)
+    → WithFiles known (λ files. GivesBy names (λ f. WithFile f names role limit (Go f)) files result)
 gives-loaded None names role limit bytes result Go h rest = tt
-gives-loaded (Some files) names role limit bytes result Go h rest = loaded (files (name_of names role)) names role limit bytes result (Go files) h rest
+gives-loaded (Some files) names role limit bytes result Go h rest = loaded files names role limit bytes result Go h rest
 
 -- an answer whatever the files are
+own : (files : Files) (names : FileNames) (Is : Told → Type 0) (result : Result Answer Refusal) → Gives names Is result → GivesBy names (λ f. Is) files result
+own files names Is (Ok answer) h = h
+own files names Is (Err r) (inl memory) = inl (inl memory)
+own files names Is (Err r) (inr is) = inr is
+
 pub gives-any : (known : Option Files) (names : FileNames) (Is : Told → Type 0) (result : Result Answer Refusal)
-    → Gives names Is result → WithFiles known (λ files. Gives names Is result)
+    → Gives names Is result → WithFiles known (λ files. GivesBy names (λ f. Is) files result)
 gives-any None names Is result h = tt
-gives-any (Some files) names Is result h = h
+gives-any (Some files) names Is result h = own files names Is result h
 
 -- ---- logs
 
 -- a log that is refused ends the command
 pub log-refused : (names : FileNames) (bytes : List ℕ) (go : Content → Told) (r : Refusal) → LogTells bytes (Err r) → Gives names (IsByLog names bytes go) (Err r)
-log-refused names bytes go r (inl e) = inl (subst (λ (x : Refusal). IsOutside x) (sym e) tt)
+log-refused names bytes go r (inl e) = inl e
 log-refused names bytes go r (inr h) = inr (record { says = Err h.0; reads = (h.2, h.3); is = ap (λ (x : Refusal). refused names x) h.1 })
 
 -- what a log says goes on
 pub log-read : (names : FileNames) (bytes : List ℕ) (d : Content) (go : Content → Told) (result : Result Answer Refusal)
     → LogTells bytes (Ok d) → Gives names (λ what. what ≡ go d) result → Gives names (IsByLog names bytes go) result
 log-read names bytes d go (Ok answer) h e = record { says = Ok d; reads = h; is = e }
-log-read names bytes d go (Err r) h (inl outside) = inl outside
+log-read names bytes d go (Err r) h (inl memory) = inl memory
 log-read names bytes d go (Err r) h (inr e) = inr (record { says = Ok d; reads = h; is = e })
 
 -- ---- what a recording loads
@@ -109,33 +151,33 @@ log-read names bytes d go (Err r) h (inr e) = inr (record { says = Ok d; reads =
 -- an input that isn't loaded ends the command
 pub input-stopped : (has : Bool) (known : Option Files) (names : FileNames) (r : Refusal) (go : List ℕ → Told) → has ≡ true
     → WithFiles known (λ files. FetchTells Input 16777216 (files (name_of names Input)) (Err r))
-    → WithFiles known (λ files. Gives names (IsByInput has files names go) (Err r))
-input-stopped true known names r go e h = gives-stopped known names Input 16777216 r (λ files input what. what ≡ go input) h
+    → WithFiles known (λ files. GivesBy names (λ f. IsByInput has f names go) files (Err r))
+input-stopped true known names r go e h = gives-stopped known names Input 16777216 r (λ f input what. what ≡ go input) h
 input-stopped false known names r go e h = grind arith
 
 -- one that is goes on
 pub input-loaded : (has : Bool) (known : Option Files) (names : FileNames) (input : Vec ℕ Global) (result : Result Answer Refusal) (go : List ℕ → Told) → has ≡ true
     → WithFiles known (λ files. FetchTells Input 16777216 (files (name_of names Input)) (Ok input))
     → Gives names (λ what. what ≡ go input.items) result
-    → WithFiles known (λ files. Gives names (IsByInput has files names go) result)
+    → WithFiles known (λ files. GivesBy names (λ f. IsByInput has f names go) files result)
 input-loaded true known names input result go e h gives =
-    gives-loaded known names Input 16777216 input result (λ files input what. what ≡ go input) h (gives-any known names (λ what. what ≡ go input.items) result gives)
+    gives-loaded known names Input 16777216 input result (λ f input what. what ≡ go input) h (gives-any known names (λ what. what ≡ go input.items) result gives)
 input-loaded false known names input result go e h gives = grind arith
 
 -- a program that is refused ends the command
 pub program-refused : (known : Option Files) (names : FileNames) (bytes : List ℕ) (c : RawSettings) (seed : ℕ) (has : Bool) (digest : List ℕ) (r : Refusal) → ProgramTells bytes c (Err r)
-    → WithFiles known (λ files. Gives names (IsByProgram (image_of bytes c) files names c seed has digest) (Err r))
+    → WithFiles known (λ files. GivesBy names (λ f. IsByProgram (image_of bytes c) f names c seed has digest) files (Err r))
 program-refused None names bytes c seed has digest r h = tt
-program-refused (Some files) names bytes c seed has digest r (inl e) = inl (subst (λ (x : Refusal). IsOutside x) (sym e) tt)
+program-refused (Some files) names bytes c seed has digest r (inl e) = inl (inl e)
 program-refused (Some files) names bytes c seed has digest r (inr h) =
     inr (subst (λ (i : Result Program ElfError). IsByProgram i files names c seed has digest (refused names r)) (sym h.2) (ap (λ (x : Refusal). refused names x) h.1))
 
 -- one that is loaded goes on
 pub program-loaded : (known : Option Files) (names : FileNames) (bytes : List ℕ) (c : RawSettings) (seed : ℕ) (has : Bool) (digest : List ℕ) (i : Program) (result : Result Answer Refusal) → image_of bytes c ≡ Ok i
-    → WithFiles known (λ files. Gives names (IsByInput has files names (seeded_told c i digest seed)) result)
-    → WithFiles known (λ files. Gives names (IsByProgram (image_of bytes c) files names c seed has digest) result)
+    → WithFiles known (λ files. GivesBy names (λ f. IsByInput has f names (seeded_told c i digest seed)) files result)
+    → WithFiles known (λ files. GivesBy names (λ f. IsByProgram (image_of bytes c) f names c seed has digest) files result)
 program-loaded known names bytes c seed has digest i result e h =
-    subst (λ (p : Result Program ElfError). WithFiles known (λ files. Gives names (IsByProgram p files names c seed has digest) result)) (sym e) h
+    subst (λ (p : Result Program ElfError). WithFiles known (λ files. GivesBy names (λ f. IsByProgram p f names c seed has digest) files result)) (sym e) h
 
 -- ---- settings
 
@@ -150,7 +192,23 @@ none-bad (Some other) s x e = grind arith
 
 -- settings that are out of range are refused
 pub settings-refused : (known : Option Files) (names : FileNames) (c : RawSettings) (seed : ℕ) (has : Bool) (bad : BadSetting) → checked_by (first_bad c) c ≡ Err bad
-    → WithFiles known (λ files. Gives names (IsRecord files names c seed has) (Err (OutOfRange bad)))
+    → WithFiles known (λ files. GivesBy names (λ files. IsRecord files names c seed has) files (Err (OutOfRange bad)))
 settings-refused None names c seed has bad e = tt
 settings-refused (Some files) names c seed has bad e =
     inr (subst (λ (o : Option BadSetting). IsBySettings o files names c seed has (refused names (OutOfRange bad))) (sym (bad-one (first_bad c) c bad e)) refl)
+
+-- ---- a recording
+
+mapped : (A : Type 0) (B : Type 0) (f : A → B) (o : Option A) → is_some (option_map f o) ≡ is_some o
+mapped A B f None = refl
+mapped A B f (Some a) = refl
+
+-- what a recording's line asks for, by the names in it
+pub record-answers : (known : Option Files) (names : FileNames) (r : Recording) (has : Bool) (result : Result Answer Refusal) → names ≡ names_in (RecordLine (seen_recording r)) → has ≡ is_some r.input
+    → WithFiles known (λ files. GivesBy names (λ f. IsRecord f names r.settings r.seed has) files result)
+    → WithFiles known (λ files. GivesBy names (IsAnswerTo (RecordLine (seen_recording r))) files result)
+record-answers known names r has result e input h =
+    let s = seen_recording r in
+    let there : has ≡ is_some s.input = input ∙ sym (mapped _ _ _ r.input) in
+    subst (λ (n : FileNames). WithFiles known (λ files. GivesBy names (λ f. IsRecord f n s.settings s.seed (is_some s.input)) files result)) e
+    (subst (λ (b : Bool). WithFiles known (λ files. GivesBy names (λ f. IsRecord f names s.settings s.seed b) files result)) there h)

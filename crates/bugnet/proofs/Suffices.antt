@@ -1,5 +1,5 @@
 -- The answer to the replay of a recorded interval is the text of the run's own rows.
-use Rattle.std.proofs.Common.{◌≡◌, ℕ, ◌+◌, ◌<◌, ◌≤◌, ◌^◌, Bool, true, List, ◌++◌, length, nat_lt, Option, Some, None, ◌∙◌, ap, subst, refl, arith, inl, inr, ◌⊎◌, length-append}
+use Rattle.std.proofs.Common.{◌≡◌, ℕ, ◌+◌, ◌<◌, ◌≤◌, ◌^◌, Bool, true, List, ◌++◌, length, nat_lt, Option, Some, ◌∙◌, ap, subst, refl, arith, inl, inr, ◌⊎◌, length-append}
 use Rattle.std.specs.Prelude.{Result, Ok}
 use Rattle.std.specs.Io.KnownBytes.{Appends}
 use Rattle.std.specs.Str.{bytes_eq}
@@ -8,6 +8,7 @@ use Rattle.std.proofs.lemmas.Slice.Eq.{bytes_eq-Decides}
 use Rattle.sha2.specs.Sha256.{sha256}
 use Rattle.sha2.proofs.Facts256.{length-sha256}
 use Rattle.bn_base.specs.Programs.{Program}
+use Rattle.bn_base.specs.declared.row.Row.{Row}
 use Rattle.bn_base.specs.declared.settings.RawSettings.{RawSettings}
 use Rattle.bn_outside.specs.Files.{Files}
 use Rattle.command_words.specs.Words.{Line, ReplayLine}
@@ -21,20 +22,21 @@ use Rattle.hart_replay.specs.Replay.{Done, Replayed, Interval, replayed}
 use Rattle.run_model.specs.Files.{content_of}
 use Rattle.run_model.specs.Rows.{rows_in}
 use Rattle.run_model.specs.Runs.{start, run_of}
-use Rattle.replay_laws.specs.Law.{LogSuffices}
+use Rattle.run_laws.specs.Laws.{KeptIsAnEnd}
+use Rattle.replay_laws.specs.Law.{LogSuffices, RowsStandTogether}
 use Rattle.file_laws.specs.Laws.{LogsAreContents}
 use Rattle.bugnet.specs.Names.{FileNames}
 use Rattle.bugnet.specs.Told.{Told, printed}
 use Rattle.bugnet.specs.Commands.{IsByFile, WithFile, by_log, IsByLog, replay_same, replay_loaded, replay_found, replay_of, interval_told, ended, IsReplayOf, IsReplay}
-use Rattle.bugnet.specs.Answers.{names_in, IsAnswer}
-use Rattle.bugnet.specs.Headline.{Part, run_text, ReplaysRun, Headline, PrintsRun}
+use Rattle.bugnet.specs.Answers.{names_in, names_by, IsAnswer}
+use Rattle.bugnet.specs.Headline.{Part, interval_rows, run_text, ReplaysRun, Headline, part_of, RecordingsAreReplayed, PrintsRun}
 use Rattle.bugnet.specs.Outside.{WithFiles}
-use Rattle.bugnet.specs.Run.{IsFree, Tells, Answers}
+use Rattle.bugnet.specs.Run.{Call, IsFree, AnAnswer, Tells, StoppedEarly, Answers}
 use Rattle.bugnet.specs.declared.names.Role.{Role}
 use Rattle.bugnet.specs.declared.names.Role.TheVariants as role
 use Rattle.bugnet.proofs.Loads.{fits, of_false}
 use Rattle.bugnet.proofs.Single.{Grammar, one-reading}
-use Rattle.bugnet.proofs.Tells.{free-status, outside-free}
+use Rattle.bugnet.proofs.Tells.{with-files, stopped-free, early-free}
 
 -- ---- the size of a log file
 
@@ -54,7 +56,7 @@ signed-size : (d : Content) → length d.head.digest ≡ 32 → length (signed_b
 unfolding signed_bytes
 signed-size d e = simp length-append (omega (arith, e, settings-size d.head.settings, eight d.dropped, four (length (flat_map bytes_of d.records))))
 
-file-size : (d : Content) → IsContent d → length (file_bytes d) ≤ 268500992
+pub file-size : (d : Content) → IsContent d → length (file_bytes d) ≤ 268500992
 file-size d is =
     let signed = signed_bytes d.head d.dropped (flat_map bytes_of d.records) in
     let n : length (signed ++ sha256 signed) ≡ length signed + length (sha256 signed) = length-append signed (sha256 signed) in
@@ -71,30 +73,37 @@ by-file there names r limit bytes Go what e h is =
 same : (bs : List ℕ) → bytes_eq bs bs ≡ true
 same bs = (bytes_eq-Decides bs bs).1 refl
 
+-- the rows of an interval stand together, and what a log keeps is an end of its run's records
+abbrev pub Together : Type 0
+Together = RowsStandTogether × KeptIsAnEnd
+
 -- the replay of what the log of a run says
-answer : LogSuffices → (names : FileNames) (p : Part) (v : Interval) (line : Option Line) (files : Files) → ReplaysRun line files p v
+pub answer : LogSuffices → Together → (names : FileNames) (p : Part) (v : Interval) (line : Option Line) (files : Files) → ReplaysRun line files p v
     → replay_of names p.hart p.number p.elf (content_of p.settings (sha256 p.elf) (run_of p.settings p.program p.input p.turns)) ≡ printed (run_text p v)
 unfolding ended
-answer law names p v line files r =
+answer law stand names p v line files r =
     let run = run_of p.settings p.program p.input p.turns in
     let d = content_of p.settings (sha256 p.elf) run in
     let one : p.settings.format ≡ 1 = omega (arith, r.recording.setting.format_low, r.recording.setting.format_high) in
     let small : p.settings.limit < 2 ^ 63 = omega (arith, r.recording.setting.limit_high) in
     let rows : replayed p.program d.records p.hart p.number ≡ record { rows = rows_in p.settings p.program (start p.settings p.program p.input) p.turns p.hart p.number; outcome = Done } =
     law p.settings p.program p.input p.turns p.hart p.number one small (record { legal = r.recording.legal; over = r.recording.over }) v r.kept in
+    let together : rows_in p.settings p.program (start p.settings p.program p.input) p.turns p.hart p.number ≡ interval_rows p v =
+    stand.0 p.settings p.program p.input p.turns p.hart p.number one small (record { legal = r.recording.legal; over = r.recording.over }) (kept_of p.settings run) (stand.1 p.settings run) v r.kept in
     ap (λ (b : Bool). replay_same b names p.hart p.number p.elf d) (same (sha256 p.elf))
     ∙ ap (λ (i : Result Program ElfError). replay_loaded names p.hart p.number d i) r.loaded
     ∙ ap (λ (o : Option Interval). replay_found names p.hart p.number d p.program o) r.kept
     ∙ ap (λ (x : Replayed). interval_told names p.hart p.number v x) rows
+    ∙ ap (λ (rs : List Row). interval_told names p.hart p.number v (record { rows = rs; outcome = Done })) together
 
 -- an answer by a log that says this
 by-content : Grammar → (names : FileNames) (bytes : List ℕ) (d : Content) (go : Content → Told) (what : Told) → IsContent d → bytes ≡ file_bytes d → IsByLog names bytes go what → what ≡ go d
 by-content g names bytes d go what is e by = by.is ∙ ap (λ (r : Result Content FileError). by_log names go r) (one-reading g bytes by.says (Ok d) by.reads (is, e))
 
-replays : Grammar → LogSuffices → LogsAreContents → (files : Files) (p : Part) (v : Interval) (line : Option Line) (r : ReplaysRun line files p v) (what : Told)
+replays : Grammar → LogSuffices → Together → LogsAreContents → (files : Files) (p : Part) (v : Interval) (line : Option Line) (r : ReplaysRun line files p v) (what : Told)
     → IsReplay files (names_in (ReplayLine r.log_name r.elf_name p.hart p.number)) p.hart p.number what → what ≡ printed (run_text p v)
 unfolding WithFile
-replays g law contents files p v line r what is =
+replays g law stand contents files p v line r what is =
     let names = names_in (ReplayLine r.log_name r.elf_name p.hart p.number) in
     let d = content_of p.settings (sha256 p.elf) (run_of p.settings p.program p.input p.turns) in
     let log = file_bytes d in
@@ -103,26 +112,39 @@ replays g law contents files p v line r what is =
     by-file (files r.log_name) names role.Log 268500992 log (λ log what. IsReplayOf files names p.hart p.number log what) what r.log (file-size d content) is in
     let second : IsByLog names log (replay_of names p.hart p.number p.elf) what =
     by-file (files r.elf_name) names role.Elf 67108864 p.elf (λ elf what. IsByLog names log (replay_of names p.hart p.number elf) what) what r.program r.small first in
-    by-content g names log d (replay_of names p.hart p.number p.elf) what content refl second ∙ answer law names p v line files r
+    by-content g names log d (replay_of names p.hart p.number p.elf) what content refl second ∙ answer law stand names p v line files r
 
-pub headline : Grammar → LogSuffices → LogsAreContents → Headline
-headline g law contents line files p v r what is =
-    replays g law contents files p v line r what (subst (λ (l : Option Line). IsAnswer l files what) r.command is)
+pub headline : Grammar → LogSuffices → Together → LogsAreContents → Headline
+headline g law stand contents line files p v r what is =
+    replays g law stand contents files p v line r what (subst (λ (l : Option Line). IsAnswer l files what) r.command is)
+
+-- what a recording left
+pub replayed-so : Headline → RecordingsAreReplayed
+replayed-so law r old new l hart number v kept files log elf log_is elf_is what is =
+    law (Some (ReplayLine log elf hart number)) files (part_of l hart number) v (record {
+      log_name = log;
+      elf_name = elf;
+      command = refl;
+      program = elf_is ∙ l.elf_there;
+      small = l.small;
+      loaded = l.loaded;
+      recording = l.recording;
+      log = log_is ∙ l.log;
+      kept = kept;
+    }) what is
 
 -- ---- what is printed
 
-printed-so : Headline → (line : Option Line) (files : Files) (names : FileNames) (p : Part) (v : Interval) (r : ReplaysRun line files p v) (status : ℕ) (out_old out_new err_old err_new : Option (List ℕ)) (before now : ℕ)
-    → Answers names (IsAnswer line files) status out_old out_new err_old err_new before now → IsFree status ⊎ ((status ≡ 0) × Appends out_old out_new (run_text p v))
-printed-so law line files names p v r status out_old out_new err_old err_new before now (inr early) = inl (free-status names early.0 status err_old err_new before now (outside-free early.0 early.1) early.3)
-printed-so law line files names p v r status out_old out_new err_old err_new before now (inl found) = told found.0 (law line files p v r found.0 found.1) found.2
+printed-so : Headline → (line : Option Line) (files : Files) (p : Part) (v : Interval) (r : ReplaysRun line files p v) (status : ℕ) (k : Call)
+    → AnAnswer (IsAnswer line files) (λ what. Tells (names_by line) what status k) ⊎ StoppedEarly line files status k → IsFree status ⊎ ((status ≡ 0) × Appends k.old.out k.new.out (run_text p v))
+printed-so law line files p v r status k (inr early) = inl (early-free line files status k early)
+printed-so law line files p v r status k (inl found) = told found.0 (law line files p v r found.0 found.1) found.2
   where
-    told : (what : Told) → what ≡ printed (run_text p v) → Tells names what status out_old out_new err_old err_new before now → IsFree status ⊎ ((status ≡ 0) × Appends out_old out_new (run_text p v))
-    told what e (inl done) = inr (done.status_is ∙ ap (λ (t : Told). t.status) e, subst (λ (t : List ℕ). Appends out_old out_new t) (ap (λ (t : Told). t.out) e) done.out)
-    told what e (inr stopped) = inl (free-status names stopped.refusal status stopped.err_mid err_new stopped.faults_mid now stopped.free stopped.line)
+    told : (what : Told) → what ≡ printed (run_text p v) → Tells (names_by line) what status k → IsFree status ⊎ ((status ≡ 0) × Appends k.old.out k.new.out (run_text p v))
+    told what e (inl done) = inr (done.status_is ∙ ap (λ (t : Told). t.status) e, subst (λ (t : List ℕ). Appends k.old.out k.new.out t) (ap (λ (t : Told). t.out) e) done.out)
+    told what e (inr stopped) = inl (stopped-free (names_by line) what status k stopped)
 
-pub prints-run : Headline → (known : Option Files) (line : Option Line) (names : FileNames) (status : ℕ) (out_old out_new err_old err_new : Option (List ℕ)) (before now : ℕ)
-    → WithFiles known (λ files. Answers names (IsAnswer line files) status out_old out_new err_old err_new before now)
-    → WithFiles known (λ files. PrintsRun line files status out_old out_new)
-prints-run law None line names status out_old out_new err_old err_new before now h = tt
-prints-run law (Some files) line names status out_old out_new err_old err_new before now h =
-    λ p v r. printed-so law line files names p v r status out_old out_new err_old err_new before now h
+pub prints-run : Headline → (line : Option Line) (status : ℕ) (k : Call) → Answers line status k → WithFiles k.old.files (λ files. PrintsRun line files status k.old.out k.new.out)
+prints-run law line status k h =
+    with-files k.old.files (λ files. AnAnswer (IsAnswer line files) (λ what. Tells (names_by line) what status k) ⊎ StoppedEarly line files status k)
+    (λ files. PrintsRun line files status k.old.out k.new.out) (λ files found p v r. printed-so law line files p v r status k found) h

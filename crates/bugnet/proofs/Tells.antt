@@ -1,55 +1,56 @@
 -- What a whole call of the program does, from what its parts do.
-use Rattle.std.proofs.Common.{◌≡◌, ℕ, List, [], Option, Some, None, ◌∙◌, subst, sym, refl, inl, inr, ◌⊎◌}
+use Rattle.std.proofs.Common.{◌≡◌, ◌≤◌, ℕ, List, [], Option, Some, None, ◌∙◌, ap, subst, sym, refl, arith, inl, inr, ◌⊎◌}
 use Rattle.std.specs.Prelude.{Ok, Err}
 use Rattle.std.specs.Io.KnownBytes.{Appends}
-use Rattle.bn_outside.specs.Counts.{Counts}
+use Rattle.bn_outside.specs.Counts.{Counts, Rose, NoneFell}
 use Rattle.bn_outside.specs.Files.{Files, WhereTold, SameElsewhere}
-use Rattle.bn_outside.specs.Streams.{AppendsPart}
-use Rattle.bugnet.specs.Names.{FileNames, no_names}
-use Rattle.bugnet.specs.Refusals.{line_of, said_of, IsOutside, IsFreeRefusal}
+use Rattle.bn_outside.specs.Streams.{AppendsPart, AppendsShort}
+use Rattle.command_words.specs.Words.{Line}
+use Rattle.bugnet.specs.Names.{FileNames}
+use Rattle.bugnet.specs.Recordings.{end_status}
+use Rattle.bugnet.specs.Refusals.{line_of, said_of, status_of}
 use Rattle.bugnet.specs.Told.{Told, Saved, refused, printed}
-use Rattle.bugnet.specs.Outside.{SendStops, ToldRefusal, WithFiles, Gives, told_of, told_of_recording, SameFiles, KeptBoth, KeptFiles, MayChange, SaveRefusal}
-use Rattle.bugnet.specs.Run.{IsFree, Tells, own_err, own_out, AnAnswer, Answers}
+use Rattle.bugnet.specs.Answers.{names_by, IsAnswer}
+use Rattle.bugnet.specs.Outside.{SendStops, ToldRefusal, WithFiles, IsEarly, GivesBy, told_of, told_of_recording, SameFiles, LogAlone, SaveBroke, KeptBoth, KeptFiles, MayChange, Unsaved}
+use Rattle.bugnet.specs.Run.{Call, IsFree, IsUnsaved, AreKept, SavingStopped, OutStopped, ErrStopped, ErrWaits, Stopped, Tells, StoppedEarly, AnAnswer, Answers, Keeps, ChangesFew}
+use Rattle.bugnet.specs.declared.names.Role.{Role}
+use Rattle.bugnet.specs.declared.names.Role.TheVariants as role
 use Rattle.bugnet.specs.declared.answer.Answer.{Answer}
 use Rattle.bugnet.specs.declared.answer.Recording.{Recording}
 use Rattle.bugnet.specs.declared.refusal.Refusal.{Refusal}
 use Rattle.bugnet.specs.declared.refusal.Refusal.TheVariants.{WordsRefused, OutOfRange, SameName, StoreFailed, Missing, TooLong, ElfRefused, LogRefused, ProgramDiffers, OutOfMemory, WriteFailed, ReplayStopped}
-use Rattle.bugnet.proofs.Prints.{appends-nothing, part-none, part-whole}
+use Rattle.bugnet.proofs.Prints.{part-whole, rose-later}
 
 -- ---- a refusal
 
--- a refusal that words and files explain
-pub refused-told : (names : FileNames) (r : Refusal) (status : ℕ) (out err_old err_new : Option (List ℕ)) (before now : ℕ)
-    → ToldRefusal names r status err_old err_new before now → Tells names (refused names r) status out out err_old err_new before now
-unfolding refused
-refused-told names r status out err_old err_new before now (inl h) = inl (record { status_is = h.0; out = appends-nothing out; err = h.1 })
-refused-told names r status out err_old err_new before now (inr h) = inr (record {
+-- want of memory after all of a text for out
+pub wanting : (names : FileNames) (what : Told) (status : ℕ) (k : Call) → AppendsPart k.old.out k.new.out what.out → AreKept names what k
+    → ToldRefusal names OutOfMemory status k.old.err k.new.err k.old.err_faults k.new.err_faults → Stopped names what status k
+wanting names what status k out files told = record {
   refusal = OutOfMemory;
-  free = tt;
-  out = part-none out [];
-  err_mid = err_old;
-  faults_mid = before;
-  own = part-none err_old [];
-  line = inl h;
-})
+  mid = k.old.err;
+  faults = k.old.err_faults;
+  later = omega arith;
+  place = inl (record { text = refl; count = refl }, inr (record { out = out; cause = tt; files = files }));
+  line = told;
+}
 
-pub outside-free : (r : Refusal) → IsOutside r → IsFreeRefusal r
-outside-free WordsRefused h = absurd h
-outside-free (OutOfRange bad) h = absurd h
-outside-free SameName h = absurd h
-outside-free (StoreFailed role) h = tt
-outside-free (Missing role) h = absurd h
-outside-free (TooLong role) h = absurd h
-outside-free (ElfRefused e) h = absurd h
-outside-free (LogRefused e) h = absurd h
-outside-free (ProgramDiffers kept found) h = absurd h
-outside-free OutOfMemory h = tt
-outside-free WriteFailed h = absurd h
-outside-free (ReplayStopped e) h = absurd h
+-- a refusal that words and files explain
+pub refused-told : (names : FileNames) (r : Refusal) (status : ℕ) (k : Call) → Appends k.old.out k.new.out [] → WhereTold k.old.files k.new.files SameFiles
+    → ToldRefusal names r status k.old.err k.new.err k.old.err_faults k.new.err_faults → Tells names (refused names r) status k
+unfolding refused
+refused-told names r status k out files (inl h) = inl (record { status_is = h.0; out = out; err = h.1; files = files })
+refused-told names r status k out files (inr h) = inr (wanting names (refused names r) status k (part-whole k.old.out k.new.out [] out) files (inl h))
 
--- the status of one that they don't explain is free
-pub free-status : (names : FileNames) (r : Refusal) (status : ℕ) (err_old err_new : Option (List ℕ)) (before now : ℕ)
-    → IsFreeRefusal r → ToldRefusal names r status err_old err_new before now → IsFree status
+-- the refusals that they don't explain
+abbrev FreeRefusal : Refusal → Type 0
+FreeRefusal (StoreFailed role) = Unit {0}
+FreeRefusal OutOfMemory = Unit {0}
+FreeRefusal WriteFailed = Unit {0}
+FreeRefusal r = ⊥
+
+free-status : (names : FileNames) (r : Refusal) (status : ℕ) (err_old err_new : Option (List ℕ)) (before now : ℕ)
+    → FreeRefusal r → ToldRefusal names r status err_old err_new before now → IsFree status
 free-status names r status err_old err_new before now o (inr h) = inr (inl h.0)
 free-status names WordsRefused status err_old err_new before now o (inl h) = absurd o
 free-status names (OutOfRange bad) status err_old err_new before now o (inl h) = absurd o
@@ -64,162 +65,252 @@ free-status names OutOfMemory status err_old err_new before now o (inl h) = inr 
 free-status names WriteFailed status err_old err_new before now o (inl h) = inr (inr h.0)
 free-status names (ReplayStopped e) status err_old err_new before now o (inl h) = absurd o
 
--- a command that is refused
-pub refusal-answers : (known : Option Files) (names : FileNames) (Is : Files → Told → Type 0) (r : Refusal) (status : ℕ) (out err_old err_new : Option (List ℕ)) (before now : ℕ)
-    → WithFiles known (λ files. Gives names (Is files) (Err r)) → ToldRefusal names r status err_old err_new before now
-    → WithFiles known (λ files. Answers names (Is files) status out out err_old err_new before now)
-refusal-answers None names Is r status out err_old err_new before now g h = tt
-refusal-answers (Some files) names Is r status out err_old err_new before now (inl outside) h = inr (r, outside, appends-nothing out, h)
-refusal-answers (Some files) names Is r status out err_old err_new before now (inr is) h = inl (refused names r, is, refused-told names r status out err_old err_new before now h)
+sends-free : (r : Refusal) (before now : ℕ) → SendStops before now r → FreeRefusal r
+sends-free WordsRefused before now s = absurd s
+sends-free (OutOfRange bad) before now s = absurd s
+sends-free SameName before now s = absurd s
+sends-free (StoreFailed role) before now s = absurd s
+sends-free (Missing role) before now s = absurd s
+sends-free (TooLong role) before now s = absurd s
+sends-free (ElfRefused e) before now s = absurd s
+sends-free (LogRefused e) before now s = absurd s
+sends-free (ProgramDiffers kept found) before now s = absurd s
+sends-free OutOfMemory before now s = tt
+sends-free WriteFailed before now s = tt
+sends-free (ReplayStopped e) before now s = absurd s
 
+-- ---- saves
+
+-- what a refused save says
+record Broken (saved : Saved) (names : FileNames) (old new : Option Files) (r : Refusal) : Type 0 where
+  pub role : Role
+  pub broke : WhereTold old new (SaveBroke role saved names.log names.book)
+  pub is : (r ≡ StoreFailed role) ⊎ (r ≡ OutOfMemory)
+
+broken : (saved : Saved) (names : FileNames) (old new : Option Files) (before now : Counts) (r : Refusal) → Unsaved (Some saved) names old new before now r → Broken saved names old new r
+broken saved names old new before now WordsRefused u = absurd u
+broken saved names old new before now (OutOfRange bad) u = absurd u
+broken saved names old new before now SameName u = absurd u
+broken saved names old new before now (StoreFailed role) u = record { role = role; broke = u.0; is = inl refl }
+broken saved names old new before now (Missing role) u = absurd u
+broken saved names old new before now (TooLong role) u = absurd u
+broken saved names old new before now (ElfRefused e) u = absurd u
+broken saved names old new before now (LogRefused e) u = absurd u
+broken saved names old new before now (ProgramDiffers kept found) u = absurd u
+broken saved names old new before now OutOfMemory u = record { role = u.0; broke = u.1; is = inr refl }
+broken saved names old new before now WriteFailed u = absurd u
+broken saved names old new before now (ReplayStopped e) u = absurd u
+
+memory-or-store : (names : FileNames) (r : Refusal) (role : Role) (status : ℕ) (err_old err_new : Option (List ℕ)) (before now : ℕ)
+    → (r ≡ StoreFailed role) ⊎ (r ≡ OutOfMemory) → ToldRefusal names r status err_old err_new before now → IsUnsaved status
+memory-or-store names r role status err_old err_new before now is (inr h) = inr h.0
+memory-or-store names r role status err_old err_new before now (inl e) (inl h) = inl (h.0 ∙ ap (λ (x : Refusal). status_of x) e)
+memory-or-store names r role status err_old err_new before now (inr e) (inl h) = inr (h.0 ∙ ap (λ (x : Refusal). status_of x) e)
+
+-- two maps that are told
+pub where-told : (old new : Option Files) (R S : Files → Files → Type 0) → ((x y : Files) → R x y → S x y) → WhereTold old new R → WhereTold old new S
+where-told None new R S f h = tt
+where-told (Some x) None R S f h = absurd h
+where-told (Some x) (Some y) R S f h = f x y h
+
+pub with-files : (known : Option Files) (P Q : Files → Type 0) → ((files : Files) → P files → Q files) → WithFiles known P → WithFiles known Q
+with-files None P Q f h = tt
+with-files (Some files) P Q f h = f files h
+
+-- nothing was done to the files
 pub same-files : (known after : Option Files) → after ≡ known → WhereTold known after SameFiles
 same-files None after e = tt
 same-files (Some files) after e = subst (λ (k : Option Files). WhereTold (Some files) k SameFiles) (sym e) (λ name. refl)
 
--- nothing is saved at a refusal
-pub refusal-kept : (known after : Option Files) (names : FileNames) (Is : Files → Told → Type 0) (r : Refusal) (status : ℕ) (log book : List ℕ) (err_old err_new : Option (List ℕ)) (before now : ℕ)
-    → after ≡ known → WithFiles known (λ files. Gives names (Is files) (Err r)) → ToldRefusal names r status err_old err_new before now
-    → WithFiles known (λ files. IsFree status ⊎ AnAnswer (Is files) (λ what. WhereTold known after (KeptFiles what.saved log book)))
-unfolding refused
-refusal-kept None after names Is r status log book err_old err_new before now e g h = tt
-refusal-kept (Some files) after names Is r status log book err_old err_new before now e (inl outside) h = inl (free-status names r status err_old err_new before now (outside-free r outside) h)
-refusal-kept (Some files) after names Is r status log book err_old err_new before now e (inr is) h = inr (refused names r, is, same-files (Some files) after e)
+same-few : (saved : Option Saved) (log book : List ℕ) (x y : Files) → SameFiles x y → MayChange saved log book x y
+same-few None log book x y s = s
+same-few (Some bytes) log book x y s = inl (λ name apart. s name)
 
--- where nothing changed, no more did than what may
-none-changed : (saved : Option Saved) (log book : List ℕ) (known after : Option Files) → after ≡ known → WhereTold known after (MayChange saved log book)
-none-changed saved log book None after e = tt
-none-changed saved log book (Some files) after e = subst (λ (k : Option Files). WhereTold (Some files) k (MayChange saved log book)) (sym e) (same saved)
+kept-few : (saved : Option Saved) (log book : List ℕ) (x y : Files) → KeptFiles saved log book x y → MayChange saved log book x y
+kept-few None log book x y s = s
+kept-few (Some bytes) log book x y s = inr (record { log_there = s.log_there; others = s.others })
+
+broke-few : (role : Role) (saved : Saved) (log book : List ℕ) (x y : Files) → SaveBroke role saved log book x y → MayChange (Some saved) log book x y
+broke-few role.Elf saved log book x y b = absurd b
+broke-few role.Log saved log book x y b = inl b
+broke-few role.Book saved log book x y b = inr b
+broke-few role.Input saved log book x y b = absurd b
+
+unsaved-few : (saved : Option Saved) (names : FileNames) (old new : Option Files) (before now : Counts) (r : Refusal) → Unsaved saved names old new before now r
+    → WhereTold old new (MayChange saved names.log names.book)
+unsaved-few None names old new before now r u = absurd u
+unsaved-few (Some saved) names old new before now r u =
+    let b = broken saved names old new before now r u in
+    where-told old new (SaveBroke b.role saved names.log names.book) (MayChange (Some saved) names.log names.book) (broke-few b.role saved names.log names.book) b.broke
+
+unsaved-status : (saved : Option Saved) (names : FileNames) (old new : Option Files) (before now : Counts) (r : Refusal) (status : ℕ) (err_old err_new : Option (List ℕ)) (faults last : ℕ)
+    → Unsaved saved names old new before now r → ToldRefusal names r status err_old err_new faults last → IsUnsaved status
+unsaved-status None names old new before now r status err_old err_new faults last u t = absurd u
+unsaved-status (Some saved) names old new before now r status err_old err_new faults last u t =
+    let b = broken saved names old new before now r u in
+    memory-or-store names r b.role status err_old err_new faults last b.is t
+
+-- ---- what a call that tells has done
+
+unsaved-free : (status : ℕ) → IsUnsaved status → IsFree status
+unsaved-free status (inl h) = inl h
+unsaved-free status (inr h) = inr (inl h)
+
+-- the status of one that was stopped is free
+pub stopped-free : (names : FileNames) (what : Told) (status : ℕ) (k : Call) → Stopped names what status k → IsFree status
+stopped-free names what status k s = by s.place
   where
-    same : (s : Option Saved) → MayChange s log book files files
-    same None = λ name. refl
-    same (Some bytes) = λ name not_log not_book. refl
+    by : ErrWaits k s.mid s.faults × (SavingStopped names what s.refusal k ⊎ OutStopped names what s.refusal k) ⊎ ErrStopped names what s.refusal k s.mid s.faults → IsFree status
+    by (inl (waits, inl x)) =
+        unsaved-free status (unsaved-status what.saved names k.old.files k.new.files k.old.counts k.new.counts s.refusal status s.mid k.new.err s.faults k.new.err_faults x.files s.line)
+    by (inl (waits, inr x)) = free-status names s.refusal status s.mid k.new.err s.faults k.new.err_faults (sends-free s.refusal k.old.out_faults k.new.out_faults x.cause) s.line
+    by (inr x) = free-status names s.refusal status s.mid k.new.err s.faults k.new.err_faults (subst (λ (r : Refusal). FreeRefusal r) (sym x.refusal_is) tt) s.line
 
-pub still-changed : (saved : Option Saved) (log book : List ℕ) (known after : Option Files) → after ≡ known → WhereTold known after (MayChange saved log book)
-still-changed saved log book known after e = none-changed saved log book known after e
+-- it keeps what was to be saved, but where a save was refused
+tells-keeps : (names : FileNames) (what : Told) (status : ℕ) (k : Call) → Tells names what status k → IsUnsaved status ⊎ AreKept names what k
+tells-keeps names what status k (inl done) = inr done.files
+tells-keeps names what status k (inr s) = by s.place
+  where
+    by : ErrWaits k s.mid s.faults × (SavingStopped names what s.refusal k ⊎ OutStopped names what s.refusal k) ⊎ ErrStopped names what s.refusal k s.mid s.faults → IsUnsaved status ⊎ AreKept names what k
+    by (inl (waits, inl x)) =
+        inl (unsaved-status what.saved names k.old.files k.new.files k.old.counts k.new.counts s.refusal status s.mid k.new.err s.faults k.new.err_faults x.files s.line)
+    by (inl (waits, inr x)) = inr x.files
+    by (inr x) = inr x.files
 
-pub refusal-others : (known after : Option Files) (Is : Files → Told → Type 0) (log book : List ℕ) → after ≡ known
-    → WithFiles known (λ files. (what : Told) → Is files what → WhereTold known after (MayChange what.saved log book))
-refusal-others None after Is log book e = tt
-refusal-others (Some files) after Is log book e = λ what is. none-changed what.saved log book (Some files) after e
+tells-few : (names : FileNames) (what : Told) (status : ℕ) (k : Call) → Tells names what status k → WhereTold k.old.files k.new.files (MayChange what.saved names.log names.book)
+tells-few names what status k (inl done) = where-told k.old.files k.new.files (KeptFiles what.saved names.log names.book) (MayChange what.saved names.log names.book) (kept-few what.saved names.log names.book) done.files
+tells-few names what status k (inr s) = by s.place
+  where
+    by : ErrWaits k s.mid s.faults × (SavingStopped names what s.refusal k ⊎ OutStopped names what s.refusal k) ⊎ ErrStopped names what s.refusal k s.mid s.faults
+        → WhereTold k.old.files k.new.files (MayChange what.saved names.log names.book)
+    by (inl (waits, inl x)) = unsaved-few what.saved names k.old.files k.new.files k.old.counts k.new.counts s.refusal x.files
+    by (inl (waits, inr x)) = where-told k.old.files k.new.files (KeptFiles what.saved names.log names.book) (MayChange what.saved names.log names.book) (kept-few what.saved names.log names.book) x.files
+    by (inr x) = where-told k.old.files k.new.files (KeptFiles what.saved names.log names.book) (MayChange what.saved names.log names.book) (kept-few what.saved names.log names.book) x.files
 
--- ---- an answer
+-- the status of a command that was stopped before it had an answer
+early-status : (line : Option Line) (files : Files) (status : ℕ) (k : Call) → StoppedEarly line files status k → IsUnsaved status
+early-status line files status k s = by s.early
+  where
+    by : IsEarly (names_by line) (λ files. IsAnswer line files) files s.refusal → IsUnsaved status
+    by (inl e) = memory-or-store (names_by line) s.refusal role.Elf status k.old.err k.new.err k.old.err_faults k.new.err_faults (inr e) s.told
+    by (inr e) = memory-or-store (names_by line) s.refusal e.0 status k.old.err k.new.err k.old.err_faults k.new.err_faults (inl e.1) s.told
 
-pub answer-answers : (known : Option Files) (names : FileNames) (Is : Files → Told → Type 0) (a : Answer) (status : ℕ) (out_old out_new err_old err_new : Option (List ℕ)) (before now : ℕ)
-    → WithFiles known (λ files. Gives names (Is files) (Ok a)) → Tells names (told_of names a) status out_old out_new err_old err_new before now
-    → WithFiles known (λ files. Answers names (Is files) status out_old out_new err_old err_new before now)
-answer-answers None names Is a status out_old out_new err_old err_new before now g h = tt
-answer-answers (Some files) names Is a status out_old out_new err_old err_new before now g h = inl (told_of names a, g, h)
+pub early-free : (line : Option Line) (files : Files) (status : ℕ) (k : Call) → StoppedEarly line files status k → IsFree status
+early-free line files status k s = unsaved-free status (early-status line files status k s)
 
--- what an answer saves is what is to be saved
-pub answer-kept : (known first after : Option Files) (names : FileNames) (Is : Files → Told → Type 0) (a : Answer) (status : ℕ) (log book : List ℕ)
-    → first ≡ known → WithFiles known (λ files. Gives names (Is files) (Ok a)) → IsFree status ⊎ WhereTold first after (KeptFiles (told_of names a).saved log book)
-    → WithFiles known (λ files. IsFree status ⊎ AnAnswer (Is files) (λ what. WhereTold known after (KeptFiles what.saved log book)))
-answer-kept None first after names Is a status log book e g h = tt
-answer-kept (Some files) first after names Is a status log book e g (inl free) = inl free
-answer-kept (Some files) first after names Is a status log book e g (inr h) =
-    inr (told_of names a, g, subst (λ (k : Option Files). WhereTold k after (KeptFiles (told_of names a).saved log book)) e h)
+pub answers-keep : (line : Option Line) (status : ℕ) (k : Call) → Answers line status k → Keeps line status k.old.files k.new.files
+answers-keep line status k h =
+    with-files k.old.files (λ files. AnAnswer (IsAnswer line files) (λ what. Tells (names_by line) what status k) ⊎ StoppedEarly line files status k)
+    (λ files. IsUnsaved status ⊎ AnAnswer (IsAnswer line files) (λ what. WhereTold k.old.files k.new.files (KeptFiles what.saved (names_by line).log (names_by line).book))) so h
+  where
+    found : (files : Files) (what : Told) → IsAnswer line files what → IsUnsaved status ⊎ AreKept (names_by line) what k
+        → IsUnsaved status ⊎ AnAnswer (IsAnswer line files) (λ what. WhereTold k.old.files k.new.files (KeptFiles what.saved (names_by line).log (names_by line).book))
+    found files what is (inl free) = inl free
+    found files what is (inr kept) = inr (what, is, kept)
 
--- and no more changes than what may, since there is no other answer
-pub answer-others : (known first after : Option Files) (names : FileNames) (Is : Files → Told → Type 0) (a : Answer) (log book : List ℕ)
-    → ((files : Files) (x y : Told) → Is files x → Is files y → x ≡ y)
-    → first ≡ known → WithFiles known (λ files. Gives names (Is files) (Ok a)) → WhereTold first after (MayChange (told_of names a).saved log book)
-    → WithFiles known (λ files. (what : Told) → Is files what → WhereTold known after (MayChange what.saved log book))
-answer-others None first after names Is a log book one e g h = tt
-answer-others (Some files) first after names Is a log book one e g h = λ what is.
-    subst (λ (t : Told). WhereTold (Some files) after (MayChange t.saved log book)) (one files (told_of names a) what g is)
-    (subst (λ (k : Option Files). WhereTold k after (MayChange (told_of names a).saved log book)) e h)
+    so : (files : Files) → AnAnswer (IsAnswer line files) (λ what. Tells (names_by line) what status k) ⊎ StoppedEarly line files status k
+        → IsUnsaved status ⊎ AnAnswer (IsAnswer line files) (λ what. WhereTold k.old.files k.new.files (KeptFiles what.saved (names_by line).log (names_by line).book))
+    so files (inl a) = found files a.0 a.1 (tells-keeps (names_by line) a.0 status k a.2)
+    so files (inr s) = inl (early-status line files status k s)
+
+pub answers-few : ((l : Option Line) (files : Files) (x y : Told) → IsAnswer l files x → IsAnswer l files y → x ≡ y) → (line : Option Line) (status : ℕ) (k : Call) → Answers line status k
+    → ChangesFew line k.old.files k.new.files
+answers-few one line status k h =
+    with-files k.old.files (λ files. AnAnswer (IsAnswer line files) (λ what. Tells (names_by line) what status k) ⊎ StoppedEarly line files status k)
+    (λ files. (what : Told) → IsAnswer line files what → WhereTold k.old.files k.new.files (MayChange what.saved (names_by line).log (names_by line).book)) so h
+  where
+    names : FileNames
+    names = names_by line
+
+    so : (files : Files) → AnAnswer (IsAnswer line files) (λ what. Tells (names_by line) what status k) ⊎ StoppedEarly line files status k
+        → (what : Told) → IsAnswer line files what → WhereTold k.old.files k.new.files (MayChange what.saved (names_by line).log (names_by line).book)
+    so files (inl a) what is =
+        subst (λ (t : Told). WhereTold k.old.files k.new.files (MayChange t.saved (names_by line).log (names_by line).book)) (one line files a.0 what a.1 is) (tells-few (names_by line) a.0 status k a.2)
+    so files (inr s) what is =
+        where-told k.old.files k.new.files SameFiles (MayChange what.saved (names_by line).log (names_by line).book) (same-few what.saved (names_by line).log (names_by line).book)
+        (same-files k.old.files k.new.files s.same)
+
+-- ---- a command
+
+-- one that is refused
+pub refusal-answers : (line : Option Line) (names : FileNames) (r : Refusal) (status : ℕ) (k : Call) → names ≡ names_by line
+    → Appends k.old.out k.new.out [] → k.new.files ≡ k.old.files
+    → WithFiles k.old.files (λ files. GivesBy names (λ files. IsAnswer line files) files (Err r))
+    → ToldRefusal names r status k.old.err k.new.err k.old.err_faults k.new.err_faults → Answers line status k
+refusal-answers line names r status k e out same g line_told =
+    with-files k.old.files (λ files. GivesBy names (λ files. IsAnswer line files) files (Err r))
+    (λ files. AnAnswer (IsAnswer line files) (λ what. Tells (names_by line) what status k) ⊎ StoppedEarly line files status k) (λ files h. so files (subst (λ (n : FileNames). GivesBy n (λ files. IsAnswer line files) files (Err r)) e h)) g
+  where
+    told : ToldRefusal (names_by line) r status k.old.err k.new.err k.old.err_faults k.new.err_faults
+    told = subst (λ (n : FileNames). ToldRefusal n r status k.old.err k.new.err k.old.err_faults k.new.err_faults) e line_told
+
+    so : (files : Files) → GivesBy (names_by line) (λ files. IsAnswer line files) files (Err r)
+        → AnAnswer (IsAnswer line files) (λ what. Tells (names_by line) what status k) ⊎ StoppedEarly line files status k
+    so files (inl early) = inr (record { refusal = r; early = early; out = out; same = same; told = told })
+    so files (inr is) = inl (refused (names_by line) r, is, refused-told (names_by line) r status k out (same-files k.old.files k.new.files same) told)
+
+-- one that has its answer
+pub answer-answers : (line : Option Line) (names : FileNames) (known : Option Files) (a : Answer) (status : ℕ) (k : Call) → names ≡ names_by line → known ≡ k.old.files
+    → WithFiles known (λ files. GivesBy names (λ files. IsAnswer line files) files (Ok a)) → Tells names (told_of names a) status k
+    → Answers line status k
+answer-answers line names known a status k n e g told =
+    with-files k.old.files (λ files. GivesBy names (λ files. IsAnswer line files) files (Ok a))
+    (λ files. AnAnswer (IsAnswer line files) (λ what. Tells (names_by line) what status k) ⊎ StoppedEarly line files status k)
+    (λ files is. inl (told_of names a, is, subst (λ (m : FileNames). Tells m (told_of names a) status k) n told))
+    (subst (λ (x : Option Files). WithFiles x (λ files. GivesBy names (λ files. IsAnswer line files) files (Ok a))) e g)
 
 -- ---- what is printed
 
-stops-free : (r : Refusal) (before now : ℕ) → SendStops before now r → IsFreeRefusal r
-stops-free WordsRefused before now s = absurd s
-stops-free (OutOfRange bad) before now s = absurd s
-stops-free SameName before now s = absurd s
-stops-free (StoreFailed role) before now s = absurd s
-stops-free (Missing role) before now s = absurd s
-stops-free (TooLong role) before now s = absurd s
-stops-free (ElfRefused e) before now s = absurd s
-stops-free (LogRefused e) before now s = absurd s
-stops-free (ProgramDiffers kept found) before now s = absurd s
-stops-free OutOfMemory before now s = tt
-stops-free WriteFailed before now s = tt
-stops-free (ReplayStopped e) before now s = absurd s
-
-own-out : (text : List ℕ) (r : Refusal) (before now : ℕ) (old new : Option (List ℕ)) → SendStops before now r → AppendsPart old new text → AppendsPart old new (own_out text r)
-own-out text WordsRefused before now old new s h = absurd s
-own-out text (OutOfRange bad) before now old new s h = absurd s
-own-out text SameName before now old new s h = absurd s
-own-out text (StoreFailed role) before now old new s h = absurd s
-own-out text (Missing role) before now old new s h = absurd s
-own-out text (TooLong role) before now old new s h = absurd s
-own-out text (ElfRefused e) before now old new s h = absurd s
-own-out text (LogRefused e) before now old new s h = absurd s
-own-out text (ProgramDiffers kept found) before now old new s h = absurd s
-own-out text OutOfMemory before now old new s h = h
-own-out text WriteFailed before now old new s h = h
-own-out text (ReplayStopped e) before now old new s h = absurd s
-
 -- sending to out stopped
-pub stopped-told : (names : FileNames) (what : Told) (r : Refusal) (status : ℕ) (out_old out_new err_old err_new : Option (List ℕ)) (faults faults_now before now : ℕ)
-    → AppendsPart out_old out_new what.out × SendStops faults faults_now r → ToldRefusal names r status err_old err_new before now
-    → Tells names what status out_old out_new err_old err_new before now
-stopped-told names what r status out_old out_new err_old err_new faults faults_now before now h told = inr (record {
+pub stopped-told : (names : FileNames) (what : Told) (r : Refusal) (status : ℕ) (k : Call)
+    → AppendsPart k.old.out k.new.out what.out × SendStops k.old.out_faults k.new.out_faults r → AreKept names what k
+    → ToldRefusal names r status k.old.err k.new.err k.old.err_faults k.new.err_faults → Tells names what status k
+stopped-told names what r status k h files told = inr (record {
   refusal = r;
-  free = stops-free r faults faults_now h.1;
-  out = own-out what.out r faults faults_now out_old out_new h.1 h.0;
-  err_mid = err_old;
-  faults_mid = before;
-  own = part-none err_old (own_err what.saved what.err);
+  mid = k.old.err;
+  faults = k.old.err_faults;
+  later = omega arith;
+  place = inl (record { text = refl; count = refl }, inr (record { out = h.0; cause = h.1; files = files }));
   line = told;
 })
 
 -- a text is printed
-pub printed-told : (names : FileNames) (text : List ℕ) (out_old out_new err : Option (List ℕ)) (faults : ℕ)
-    → Appends out_old out_new text → Tells names (printed text) 0 out_old out_new err err faults faults
-printed-told names text out_old out_new err faults h = inl (record { status_is = refl; out = h; err = inl (appends-nothing err) })
+pub printed-told : (names : FileNames) (text : List ℕ) (k : Call) → Appends k.old.out k.new.out text → Appends k.old.err k.new.err [] → WhereTold k.old.files k.new.files SameFiles
+    → Tells names (printed text) 0 k
+printed-told names text k out err files = inl (record { status_is = refl; out = out; err = inl err; files = files })
 
 -- ---- a recording
 
-save-free : (r : Refusal) (before now : Counts) → SaveRefusal before now r → IsFreeRefusal r
-save-free WordsRefused before now s = absurd s
-save-free (OutOfRange bad) before now s = absurd s
-save-free SameName before now s = absurd s
-save-free (StoreFailed role) before now s = tt
-save-free (Missing role) before now s = absurd s
-save-free (TooLong role) before now s = absurd s
-save-free (ElfRefused e) before now s = absurd s
-save-free (LogRefused e) before now s = absurd s
-save-free (ProgramDiffers kept found) before now s = absurd s
-save-free OutOfMemory before now s = tt
-save-free WriteFailed before now s = absurd s
-save-free (ReplayStopped e) before now s = absurd s
-
 -- saving stopped
-pub unsaved-told : (names : FileNames) (what : Told) (r : Refusal) (status : ℕ) (out err_old err_new : Option (List ℕ)) (first last : Counts) (before now : ℕ)
-    → SaveRefusal first last r → ToldRefusal names r status err_old err_new before now → Tells names what status out out err_old err_new before now
-unsaved-told names what r status out err_old err_new first last before now s told = inr (record {
+pub unsaved-told : (names : FileNames) (what : Told) (r : Refusal) (status : ℕ) (k : Call) → Appends k.old.out k.new.out []
+    → Unsaved what.saved names k.old.files k.new.files k.old.counts k.new.counts r → ToldRefusal names r status k.old.err k.new.err k.old.err_faults k.new.err_faults → Tells names what status k
+unsaved-told names what r status k out files told = inr (record {
   refusal = r;
-  free = save-free r first last s;
-  out = part-none out (own_out what.out r);
-  err_mid = err_old;
-  faults_mid = before;
-  own = part-none err_old (own_err what.saved what.err);
+  mid = k.old.err;
+  faults = k.old.err_faults;
+  later = omega arith;
+  place = inl (record { text = refl; count = refl }, inl (record { out = out; files = files }));
   line = told;
 })
 
 -- sending to err stopped
-pub half-told : (names : FileNames) (what : Recording) (r : Refusal) (status : ℕ) (out_old out_new err_old err_mid err_new : Option (List ℕ)) (faults middle now : ℕ)
-    → Appends out_old out_new what.out.items → AppendsPart err_old err_mid what.err.items × SendStops faults middle r → ToldRefusal names r status err_mid err_new middle now
-    → Tells names (told_of_recording what) status out_old out_new err_old err_new faults now
-half-told names what r status out_old out_new err_old err_mid err_new faults middle now out h told = inr (record {
+pub half-told : (names : FileNames) (what : Recording) (r : Refusal) (status : ℕ) (k : Call) (mid : Option (List ℕ)) (faults : ℕ)
+    → Appends k.old.out k.new.out what.out.items → AppendsShort k.old.err mid what.err.items × Rose k.old.err_faults faults → r ≡ WriteFailed → k.old.err_faults ≤ faults
+    → AreKept names (told_of_recording what) k → ToldRefusal names r status mid k.new.err faults k.new.err_faults
+    → Tells names (told_of_recording what) status k
+half-told names what r status k mid faults out h is later files told = inr (record {
   refusal = r;
-  free = stops-free r faults middle h.1;
-  out = own-out what.out.items r faults middle out_old out_new h.1 (part-whole out_old out_new what.out.items out);
-  err_mid = err_mid;
-  faults_mid = middle;
-  own = h.0;
+  mid = mid;
+  faults = faults;
+  later = later;
+  place = inr (record { refusal_is = is; out = out; err = h.0; cause = h.1; files = files });
   line = told;
 })
+
+-- all of it is done
+pub recorded-told : (names : FileNames) (what : Recording) (k : Call) → Appends k.old.out k.new.out what.out.items → Appends k.old.err k.new.err what.err.items
+    → AreKept names (told_of_recording what) k → Tells names (told_of_recording what) (end_status what.end) k
+recorded-told names what k out err files = inl (record { status_is = refl; out = out; err = err; files = files })
 
 -- two saves one after the other
 pub kept-both : (first middle last : Option Files) (saved : Saved) (log book : List ℕ)
@@ -235,28 +326,89 @@ kept-both (Some first) (Some middle) (Some last) saved log book a b c d = record
   others = λ name not_log not_book. d name not_book ∙ b name not_log;
 }
 
+-- the second of which was refused
+pub log-alone : (first middle last : Option Files) (bytes log book : List ℕ)
+    → WhereTold first middle (λ old new. new log ≡ Some bytes) → WhereTold first middle (SameElsewhere log) → WhereTold middle last (SameElsewhere book)
+    → WhereTold first last (LogAlone bytes log book)
+log-alone None middle last bytes log book a b d = tt
+log-alone (Some first) None last bytes log book a b d = absurd a
+log-alone (Some first) (Some middle) None bytes log book a b d = absurd d
+log-alone (Some first) (Some middle) (Some last) bytes log book a b d = record {
+  log_there = λ apart. d log apart ∙ a;
+  others = λ name not_log not_book. d name not_book ∙ b name not_log;
+}
+
 -- ---- before there is an answer
 
--- words that are refused
-pub words-answers : (known : Option Files) (status : ℕ) (out err_old err_new : Option (List ℕ)) (before now : ℕ)
-    → ToldRefusal no_names WordsRefused status err_old err_new before now
-    → WithFiles known (λ files. Answers no_names (λ what. what ≡ refused no_names WordsRefused) status out out err_old err_new before now)
-words-answers None status out err_old err_new before now h = tt
-words-answers (Some files) status out err_old err_new before now h = inl (refused no_names WordsRefused, refl, refused-told no_names WordsRefused status out err_old err_new before now h)
-
-pub words-kept : (known : Option Files) (status : ℕ) (log book : List ℕ)
-    → WithFiles known (λ files. IsFree status ⊎ AnAnswer (λ what. what ≡ refused no_names WordsRefused) (λ what. WhereTold known known (KeptFiles what.saved log book)))
-unfolding refused
-words-kept None status log book = tt
-words-kept (Some files) status log book = inr (refused no_names WordsRefused, refl, λ name. refl)
-
 -- the line for want of memory names no file
-memory-names : (a b : FileNames) (status : ℕ) (err_old err_new : Option (List ℕ)) (before now : ℕ) → ToldRefusal a OutOfMemory status err_old err_new before now → ToldRefusal b OutOfMemory status err_old err_new before now
+pub memory-names : (a b : FileNames) (status : ℕ) (err_old err_new : Option (List ℕ)) (before now : ℕ) → ToldRefusal a OutOfMemory status err_old err_new before now → ToldRefusal b OutOfMemory status err_old err_new before now
 unfolding line_of said_of
 memory-names a b status err_old err_new before now h = h
 
--- no memory for the words
-pub memory-answers : (known : Option Files) (a b : FileNames) (Is : Files → Told → Type 0) (status : ℕ) (out err_old err_new : Option (List ℕ)) (before now : ℕ)
-    → ToldRefusal a OutOfMemory status err_old err_new before now → WithFiles known (λ files. Answers b (Is files) status out out err_old err_new before now)
-memory-answers None a b Is status out err_old err_new before now h = tt
-memory-answers (Some files) a b Is status out err_old err_new before now h = inr (OutOfMemory, tt, appends-nothing out, memory-names a b status err_old err_new before now h)
+-- files that no one touched
+pub untouched : (known : Option Files) → WhereTold known known SameFiles
+untouched known = same-files known known refl
+
+pub with-any : (known : Option Files) (P : Files → Type 0) → ((files : Files) → P files) → WithFiles known P
+with-any None P h = tt
+with-any (Some files) P h = h files
+
+-- ---- a part of a call
+
+-- a call that began earlier, with a store of the same files
+abbrev pub from : Option Files → Counts → Call → Call
+from files counts k = record {
+  old = record { files = files; counts = counts; out = k.old.out; out_faults = k.old.out_faults; err = k.old.err; err_faults = k.old.err_faults };
+  new = k.new;
+}
+
+unsaved-from : (saved : Option Saved) (names : FileNames) (old new : Option Files) (before mid now : Counts) (r : Refusal) → NoneFell before mid → Unsaved saved names old new mid now r → Unsaved saved names old new before now r
+unsaved-from None names old new before mid now r n u = absurd u
+unsaved-from (Some saved) names old new before mid now WordsRefused n u = absurd u
+unsaved-from (Some saved) names old new before mid now (OutOfRange bad) n u = absurd u
+unsaved-from (Some saved) names old new before mid now SameName n u = absurd u
+unsaved-from (Some saved) names old new before mid now (StoreFailed role) n u = (u.0, rose-later before.faults mid.faults now.faults n.faults u.1)
+unsaved-from (Some saved) names old new before mid now (Missing role) n u = absurd u
+unsaved-from (Some saved) names old new before mid now (TooLong role) n u = absurd u
+unsaved-from (Some saved) names old new before mid now (ElfRefused e) n u = absurd u
+unsaved-from (Some saved) names old new before mid now (LogRefused e) n u = absurd u
+unsaved-from (Some saved) names old new before mid now (ProgramDiffers kept found) n u = absurd u
+unsaved-from (Some saved) names old new before mid now OutOfMemory n u = u
+unsaved-from (Some saved) names old new before mid now WriteFailed n u = absurd u
+unsaved-from (Some saved) names old new before mid now (ReplayStopped e) n u = absurd u
+
+pub tells-from : (names : FileNames) (what : Told) (status : ℕ) (files : Option Files) (counts : Counts) (k : Call) → k.old.files ≡ files → NoneFell counts k.old.counts
+    → Tells names what status k → Tells names what status (from files counts k)
+tells-from names what status files counts k e n (inl done) = inl (record {
+  status_is = done.status_is;
+  out = done.out;
+  err = done.err;
+  files = subst (λ (x : Option Files). WhereTold x k.new.files (KeptFiles what.saved names.log names.book)) e done.files;
+})
+tells-from names what status files counts k e n (inr s) = inr (record { refusal = s.refusal; mid = s.mid; faults = s.faults; later = s.later; place = place s.place; line = s.line })
+  where
+    place : ErrWaits k s.mid s.faults × (SavingStopped names what s.refusal k ⊎ OutStopped names what s.refusal k) ⊎ ErrStopped names what s.refusal k s.mid s.faults
+        → ErrWaits (from files counts k) s.mid s.faults × (SavingStopped names what s.refusal (from files counts k) ⊎ OutStopped names what s.refusal (from files counts k)) ⊎ ErrStopped names what s.refusal (from files counts k) s.mid s.faults
+    place (inl (waits, inl x)) = inl (
+      record { text = waits.text; count = waits.count },
+      inl (record {
+        out = x.out;
+        files = subst (λ (y : Option Files). Unsaved what.saved names y k.new.files counts k.new.counts s.refusal) e
+            (unsaved-from what.saved names k.old.files k.new.files counts k.old.counts k.new.counts s.refusal n x.files);
+      }),
+    )
+    place (inl (waits, inr x)) = inl (
+      record { text = waits.text; count = waits.count },
+      inr (record {
+        out = x.out;
+        cause = x.cause;
+        files = subst (λ (y : Option Files). WhereTold y k.new.files (KeptFiles what.saved names.log names.book)) e x.files;
+      }),
+    )
+    place (inr x) = inr (record {
+      refusal_is = x.refusal_is;
+      out = x.out;
+      err = x.err;
+      cause = x.cause;
+      files = subst (λ (y : Option Files). WhereTold y k.new.files (KeptFiles what.saved names.log names.book)) e x.files;
+    })

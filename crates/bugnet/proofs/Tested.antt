@@ -28,7 +28,7 @@ between low high value e =
     let p = both (nat_le low value) (nat_le value high) e in
     (at_most low value p.0, at_most value high p.1)
 
-in-range : (s : RawSettings) → first_bad s ≡ None → IsSetting s
+pub in-range : (s : RawSettings) → first_bad s ≡ None → IsSetting s
 in-range s e =
     let harts = passed (is_between 1 (most_harts s) s.harts) _ _ e in
     let interval = passed (is_between 1 10000000 s.interval) _ _ harts.1 in

@@ -1,11 +1,15 @@
 -- What the program answers to its words.
-use Rattle.std.specs.Prelude.{◌≡◌, [], Option, Some, None, is_some, unwrap_or}
+use Rattle.std.specs.Prelude.{◌≡◌, [], Bool, true, false, Option, Some, None, is_some, unwrap_or}
+use Rattle.std.specs.Str.{bytes_eq}
+use Rattle.bn_base.specs.Ranges.{first_bad}
+use Rattle.bn_base.specs.declared.settings.BadSetting.{BadSetting}
 use Rattle.bn_outside.specs.Files.{Files}
 use Rattle.command_words.specs.Words.{Line, RecordLine, ReplayLine, ListLine, CheckLine}
 use Rattle.bugnet.specs.Names.{FileNames, no_names}
 use Rattle.bugnet.specs.Told.{Told, refused}
 use Rattle.bugnet.specs.Commands.{IsRecord, IsReplay, IsList, IsCheck}
-use Rattle.bugnet.specs.declared.refusal.Refusal.TheVariants.{WordsRefused}
+use Rattle.bugnet.specs.declared.refusal.Refusal.{Refusal}
+use Rattle.bugnet.specs.declared.refusal.Refusal.TheVariants.{WordsRefused, OutOfRange, SameName}
 
 -- the names of the files of a line
 abbrev pub names_in : Line → FileNames
@@ -17,6 +21,25 @@ names_in (CheckLine log) = record { elf = []; log = log; book = []; input = [] }
 abbrev pub names_by : Option Line → FileNames
 names_by None = no_names
 names_by (Some line) = names_in line
+
+-- what the words alone refuse, in the order of the tests: a setting, and then LOG and BOOK under one name
+abbrev pub name_refusal : Bool → Option Refusal
+name_refusal true = Some SameName
+name_refusal false = None
+
+abbrev pub setting_refusal : Option BadSetting → Bool → Option Refusal
+setting_refusal (Some bad) same = Some (OutOfRange bad)
+setting_refusal None same = name_refusal same
+
+abbrev pub refusal_in : Line → Option Refusal
+refusal_in (RecordLine r) = setting_refusal (first_bad r.settings) (bytes_eq r.log r.book)
+refusal_in (ReplayLine log elf hart interval) = None
+refusal_in (ListLine log) = None
+refusal_in (CheckLine log) = None
+
+abbrev pub refusal_by : Option Line → Option Refusal
+refusal_by None = Some WordsRefused
+refusal_by (Some line) = refusal_in line
 
 -- what a line has to answer
 abbrev pub IsAnswerTo : Line → Files → Told → Type 0

@@ -1,21 +1,24 @@
 -- The headline: the log that a recording saves gives the recorded run's rows.
-use Rattle.std.specs.Prelude.{◌≡◌, ◌⊎◌, ℕ, ◌≤◌, List, ◌++◌, length, Option, Some, Ok}
+use Rattle.std.specs.Prelude.{◌≡◌, ◌⊎◌, ℕ, ◌-◌, ◌≤◌, List, ◌++◌, length, take, drop, Option, Some, Ok}
 use Rattle.std.specs.Io.KnownBytes.{Appends}
 use Rattle.sha2.specs.Sha256.{sha256}
 use Rattle.bn_base.specs.Programs.{Program}
+use Rattle.bn_base.specs.declared.row.Row.{Row}
 use Rattle.bn_base.specs.declared.settings.RawSettings.{RawSettings}
 use Rattle.bn_outside.specs.Files.{Files}
-use Rattle.command_words.specs.Words.{Line, ReplayLine}
+use Rattle.command_words.specs.Words.{Line, RecordingLine, ReplayLine}
 use Rattle.elf_loader.specs.Loaded.{image_of}
 use Rattle.hart_replay.specs.Replay.{Interval, interval_of}
 use Rattle.run_model.specs.Files.{kept_of, file_of}
-use Rattle.run_model.specs.Rows.{rows_in}
+use Rattle.run_model.specs.Rows.{rows_of}
+use Rattle.replay_laws.specs.Law.{end_of}
 use Rattle.run_model.specs.Runs.{start, run_of}
 use Rattle.file_laws.specs.Given.{IsRecording}
 use Rattle.bugnet.specs.Texts.{begin_text, rows_text, end_text}
 use Rattle.bugnet.specs.Told.{Told, printed}
 use Rattle.bugnet.specs.Answers.{IsAnswer}
 use Rattle.bugnet.specs.Run.{IsFree}
+use Rattle.bugnet.specs.Saves.{Leaves}
 
 -- an interval of a run: the settings, the program file and its program, the input, the list of turns, the hart and number
 pub record Part : Type 0 where
@@ -27,9 +30,13 @@ pub record Part : Type 0 where
   pub hart : ℕ
   pub number : ℕ
 
--- the text of the run's own rows of an interval
+-- the hart's rows from the Header's count to the End's, with the fault's row
+abbrev pub interval_rows : Part → Interval → List Row
+interval_rows p v = take (end_of v - v.start.ic) (drop v.start.ic (rows_of p.settings p.program (start p.settings p.program p.input) p.turns p.hart))
+
+-- the text of these rows of the run
 abbrev pub run_text : Part → Interval → List ℕ
-run_text p v = begin_text p.hart p.number v.start.ic ++ rows_text (rows_in p.settings p.program (start p.settings p.program p.input) p.turns p.hart p.number) ++ end_text p.hart p.number v.mark
+run_text p v = begin_text p.hart p.number v.start.ic ++ rows_text (interval_rows p v) ++ end_text p.hart p.number v.mark
 
 -- a command replays an interval from the log file of a recording with its program file, and the log keeps the interval's Header
 pub record ReplaysRun (line : Option Line) (files : Files) (p : Part) (v : Interval) : Type 0 where
@@ -46,6 +53,18 @@ pub record ReplaysRun (line : Option Line) (files : Files) (p : Part) (v : Inter
 -- its answer is the text of the recorded run's own rows, and it has no other
 abbrev pub Headline : Type 0
 Headline = (line : Option Line) (files : Files) (p : Part) (v : Interval) → ReplaysRun line files p v → (what : Told) → IsAnswer line files what → what ≡ printed (run_text p v)
+
+-- an interval of the run that a recording left
+abbrev pub part_of : {r : RecordingLine} {old new : Files} → Leaves r old new → (hart number : ℕ) → Part
+part_of {r} l hart number = record { settings = r.settings; elf = l.elf; program = l.program; input = l.input; turns = l.turns; hart = hart; number = number }
+
+-- Of what a recording leaves, the replay of each interval whose Header its log keeps prints the recorded run's rows, wherever
+-- the log and the program file are by then
+abbrev pub RecordingsAreReplayed : Type 0
+RecordingsAreReplayed = (r : RecordingLine) (old new : Files) (l : Leaves r old new) (hart number : ℕ) (v : Interval)
+    → interval_of hart number (kept_of r.settings (run_of r.settings l.program l.input l.turns)) ≡ Some v
+    → (files : Files) (log elf : List ℕ) → files log ≡ new r.log → files elf ≡ old r.elf
+    → (what : Told) → IsAnswer (Some (ReplayLine log elf hart number)) files what → what ≡ printed (run_text (part_of l hart number) v)
 
 -- then out gains that text, unless memory was wanting or the outside failed
 abbrev pub PrintsRun : Option Line → Files → ℕ → Option (List ℕ) → Option (List ℕ) → Type 0

@@ -7,9 +7,11 @@ pub mod Recordings
 pub mod Commands
 pub mod Outside
 pub mod Printed
-pub mod Run
 pub mod Keeping
 pub mod Logs
 pub mod Answers
+pub mod Run
+pub mod Saves
 pub mod Laws
 pub mod Headline
+pub mod Complete

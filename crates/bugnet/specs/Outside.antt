@@ -1,10 +1,11 @@
 -- What the parts of a command do to the outside.
-use Rattle.std.specs.Prelude.{◌≡◌, ◌≢◌, ◌≤◌, ◌<◌, ◌⊎◌, ◌++◌, ℕ, List, length, Option, Some, None, Result, Ok, Err, IsSomeAnd}
+use Rattle.std.specs.Prelude.{◌≡◌, ◌≢◌, ◌≤◌, ◌<◌, ◌⊎◌, ◌++◌, ℕ, List, length, Option, Some, None, Result, Ok, Err, IsSomeAnd, Bool, true, false}
 use Rattle.std.specs.Io.KnownBytes.{Appends}
+use Rattle.std.specs.Str.{bytes_eq}
 use Rattle.std.specs.declared.vec.Vec.{Vec}
 use Rattle.std.specs.declared.alloc.Global.{Global}
 use Rattle.bn_outside.specs.Counts.{Counts, Rose}
-use Rattle.bn_outside.specs.Files.{Files}
+use Rattle.bn_outside.specs.Files.{Files, SameElsewhere, WhereTold}
 use Rattle.bn_outside.specs.Streams.{AppendsPart}
 use Rattle.bn_base.specs.Programs.{Program}
 use Rattle.bn_base.specs.declared.settings.RawSettings.{RawSettings}
@@ -15,12 +16,13 @@ use Rattle.log_file.specs.Layout.{file_bytes}
 use Rattle.log_file.specs.File.{IsRefusal}
 use Rattle.log_file.specs.declared.error.FileError.{FileError}
 use Rattle.log_file.specs.declared.error.FileError.TheVariants as file
-use Rattle.bugnet.specs.Names.{FileNames}
-use Rattle.bugnet.specs.Refusals.{status_of, line_of, IsOutside}
+use Rattle.bugnet.specs.Names.{FileNames, name_of}
+use Rattle.bugnet.specs.Refusals.{status_of, line_of}
 use Rattle.bugnet.specs.Told.{Told, Saved, refused}
 use Rattle.bugnet.specs.Recordings.{end_status}
 use Rattle.bugnet.specs.Commands.{list_of, check_of, replay_with}
 use Rattle.bugnet.specs.declared.names.Role.{Role}
+use Rattle.bugnet.specs.declared.names.Role.TheVariants as role
 use Rattle.bugnet.specs.declared.refusal.Refusal.{Refusal}
 use Rattle.bugnet.specs.declared.refusal.Refusal.TheVariants as why
 use Rattle.bugnet.specs.declared.answer.Answer.{Answer}
@@ -38,7 +40,9 @@ WithFiles (Some files) P = P files
 -- a load of a file: its bytes, or why there are none
 abbrev pub FetchTells : Role → ℕ → Option (List ℕ) → Result (Vec ℕ Global) Refusal → Type 0
 FetchTells role limit there (Ok bytes) = (there ≡ Some bytes.items) × (length bytes.items ≤ limit)
-FetchTells role limit there (Err refusal) = IsOutside refusal ⊎ (((there ≡ None) × (refusal ≡ why.Missing role)) ⊎ (IsSomeAnd there (λ bytes. limit < length bytes) × (refusal ≡ why.TooLong role)))
+FetchTells role limit there (Err refusal) =
+    ((refusal ≡ why.OutOfMemory) ⊎ (refusal ≡ why.StoreFailed role))
+    ⊎ (((there ≡ None) × (refusal ≡ why.Missing role)) ⊎ (IsSomeAnd there (λ bytes. limit < length bytes) × (refusal ≡ why.TooLong role)))
 
 -- a log that was read, or why it is refused
 abbrev pub LogTells : List ℕ → Result Content Refusal → Type 0
@@ -52,8 +56,11 @@ ProgramTells bytes c (Err refusal) = (refusal ≡ why.OutOfMemory) ⊎ ((e : Elf
 
 -- ---- what is answered
 
+abbrev pub saved_of : Recording → Saved
+saved_of r = record { log = r.log.items; book = r.book.items }
+
 abbrev pub told_of_recording : Recording → Told
-told_of_recording r = record { status = end_status r.end; out = r.out.items; err = r.err.items; saved = Some (record { log = r.log.items; book = r.book.items }) }
+told_of_recording r = record { status = end_status r.end; out = r.out.items; err = r.err.items; saved = Some (saved_of r) }
 
 abbrev pub told_of_reading : FileNames → Reading → Told
 told_of_reading names r = replay_with names r.hart r.interval r.log r.image
@@ -72,16 +79,38 @@ IsPrinted (Interval r) = Unit {0}
 IsPrinted (Listed d) = Unit {0}
 IsPrinted (Checked d) = Unit {0}
 
--- the result of a command is what the command has to answer, or the store failed, or memory was wanting
+-- what was made of loaded bytes is what the command has to answer, or memory was wanting
 abbrev pub Gives : FileNames → (Told → Type 0) → Result Answer Refusal → Type 0
 Gives names Is (Ok answer) = Is (told_of names answer)
-Gives names Is (Err refusal) = IsOutside refusal ⊎ Is (refused names refusal)
+Gives names Is (Err refusal) = (refusal ≡ why.OutOfMemory) ⊎ Is (refused names refusal)
 
--- each refusal by the store has a count that rose, and none is of a write
+abbrev pub unless : Bool → Option (List ℕ) → Option (List ℕ)
+unless true there = None
+unless false there = there
+
+-- the files without the one under a name
+abbrev pub without : List ℕ → Files → Files
+without name files other = unless (bytes_eq other name) (files other)
+
+-- Memory was wanting; or the store failed at a file that the command comes to: if that one weren't there, the answer would
+-- be that it is missing
+abbrev pub IsEarly : FileNames → (Files → Told → Type 0) → Files → Refusal → Type 0
+IsEarly names Is files refusal =
+    (refusal ≡ why.OutOfMemory) ⊎ ((role : Role) × (refusal ≡ why.StoreFailed role) × Is (without (name_of names role) files) (refused names (why.Missing role)))
+
+-- the result of a command is what it has to answer by the files that are there, or it was stopped before it had an answer
+abbrev pub GivesBy : FileNames → (Files → Told → Type 0) → Files → Result Answer Refusal → Type 0
+GivesBy names Is files (Ok answer) = Is files (told_of names answer)
+GivesBy names Is files (Err refusal) = IsEarly names Is files refusal ⊎ Is files (refused names refusal)
+
+-- each refusal by the store has a count that rose, and none is of words or of a write
 abbrev pub RefusalCause : Counts → Counts → Refusal → Type 0
 RefusalCause before now (why.StoreFailed role) = Rose before.faults now.faults
 RefusalCause before now (why.Missing role) = Rose before.misses now.misses
 RefusalCause before now (why.TooLong role) = Rose before.longs now.longs
+RefusalCause before now why.WordsRefused = ⊥
+RefusalCause before now (why.OutOfRange bad) = ⊥
+RefusalCause before now why.SameName = ⊥
 RefusalCause before now why.WriteFailed = ⊥
 RefusalCause before now refusal = Unit {0}
 
@@ -89,7 +118,12 @@ abbrev pub ResultCause : {A : Type 0} → Counts → Counts → Result A Refusal
 ResultCause before now (Ok value) = Unit {0}
 ResultCause before now (Err refusal) = RefusalCause before now refusal
 
--- no refusal by a store, or of a write
+-- the words alone decide that a command is refused, and else nothing like it comes
+abbrev pub CauseBy : {A : Type 0} → Option Refusal → Counts → Counts → Result A Refusal → Type 0
+CauseBy (Some refusal) before now result = (result ≡ Err refusal) × (status_of refusal ≡ 2)
+CauseBy None before now result = ResultCause before now result
+
+-- no refusal by a store, of words, or of a write
 abbrev pub IsOwn : {A : Type 0} → Result A Refusal → Type 0
 IsOwn result = (before now : Counts) → ResultCause before now result
 
@@ -142,17 +176,33 @@ abbrev pub KeptFiles : Option Saved → List ℕ → List ℕ → Files → File
 KeptFiles None log book old new = SameFiles old new
 KeptFiles (Some saved) log book old new = KeptBoth saved log book old new
 
--- whatever happened, only the two names of what was to be saved may have changed, and none where nothing was
-abbrev pub MayChange : Option Saved → List ℕ → List ℕ → Files → Files → Type 0
+-- the log is under its name, and nothing is known of what the book's has
+pub record LogAlone (bytes : List ℕ) (log book : List ℕ) (old new : Files) : Type 0 where
+  pub log_there : log ≢ book → new log ≡ Some bytes
+  pub others : SameBut log book old new
+
+-- the save under one name was refused, of which nothing is known then. The log's comes first: after it was refused the book's
+-- name has what it had, and after the book's was refused the log is under its name
+abbrev pub SaveBroke : Role → Saved → (log book : List ℕ) → Files → Files → Type 0
+SaveBroke role.Elf saved log book old new = ⊥
+SaveBroke role.Log saved log book old new = SameElsewhere log old new
+SaveBroke role.Book saved log book old new = LogAlone saved.log log book old new
+SaveBroke role.Input saved log book old new = ⊥
+
+-- what a command may have done to the files, whatever happened: nothing where nothing was to be saved; else the save of the
+-- log may have been refused, or that of the book, or none
+abbrev pub MayChange : Option Saved → (log book : List ℕ) → Files → Files → Type 0
 MayChange None log book old new = SameFiles old new
-MayChange (Some saved) log book old new = SameBut log book old new
+MayChange (Some saved) log book old new = SameElsewhere log old new ⊎ LogAlone saved.log log book old new
 
--- why saving stopped: the store failed, or memory was wanting
-abbrev pub SaveRefusal : Counts → Counts → Refusal → Type 0
-SaveRefusal before now (why.StoreFailed role) = Rose before.faults now.faults
-SaveRefusal before now why.OutOfMemory = Unit {0}
-SaveRefusal before now refusal = ⊥
+-- why saving stopped, and what it left: the store failed, or memory was wanting
+abbrev pub Unsaved : Option Saved → FileNames → (old new : Option Files) → (before now : Counts) → Refusal → Type 0
+Unsaved None names old new before now refusal = ⊥
+Unsaved (Some saved) names old new before now (why.StoreFailed role) = WhereTold old new (SaveBroke role saved names.log names.book) × Rose before.faults now.faults
+Unsaved (Some saved) names old new before now why.OutOfMemory = (role : Role) × WhereTold old new (SaveBroke role saved names.log names.book)
+Unsaved (Some saved) names old new before now refusal = ⊥
 
-abbrev pub SaveStops : {A : Type 0} → Counts → Counts → Result A Refusal → Type 0
-SaveStops before now (Ok value) = Unit {0}
-SaveStops before now (Err refusal) = SaveRefusal before now refusal
+-- both files were saved, or not
+abbrev pub SaveTells : {A : Type 0} → Saved → FileNames → (old new : Option Files) → (before now : Counts) → Result A Refusal → Type 0
+SaveTells saved names old new before now (Ok value) = WhereTold old new (KeptBoth saved names.log names.book)
+SaveTells saved names old new before now (Err refusal) = Unsaved (Some saved) names old new before now refusal

@@ -103,18 +103,3 @@ said_of names (ReplayStopped error) = replay_said error
 -- the whole line
 unfoldable pub line_of : FileNames → Refusal → List ℕ
 line_of names refusal = codes "bugnet: " ++ said_of names refusal ++ codes "\n"
-
--- ---- what refusals come from
-
--- neither words nor files explain it: the store failed, or memory was wanting
-abbrev pub IsOutside : Refusal → Type 0
-IsOutside (StoreFailed role) = Unit {0}
-IsOutside OutOfMemory = Unit {0}
-IsOutside refusal = ⊥
-
--- the same, or a write failed
-abbrev pub IsFreeRefusal : Refusal → Type 0
-IsFreeRefusal (StoreFailed role) = Unit {0}
-IsFreeRefusal OutOfMemory = Unit {0}
-IsFreeRefusal WriteFailed = Unit {0}
-IsFreeRefusal refusal = ⊥

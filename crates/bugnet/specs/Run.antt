@@ -1,63 +1,150 @@
 -- What a whole call of the program does.
-use Rattle.std.specs.Prelude.{◌≡◌, ◌⊎◌, ℕ, List, [], Option, Some, None}
+use Rattle.std.specs.Prelude.{◌≡◌, ◌≢◌, ◌≤◌, ◌⊎◌, ℕ, List, [], Option, Some, None}
 use Rattle.std.specs.Io.KnownBytes.{Appends}
-use Rattle.bn_outside.specs.Streams.{AppendsPart}
+use Rattle.bn_outside.specs.Counts.{Counts, Rose}
+use Rattle.bn_outside.specs.Files.{Files, WhereTold}
+use Rattle.bn_outside.specs.Streams.{AppendsPart, AppendsShort}
+use Rattle.command_words.specs.Words.{Line}
 use Rattle.bugnet.specs.Names.{FileNames}
-use Rattle.bugnet.specs.Refusals.{IsFreeRefusal, IsOutside}
 use Rattle.bugnet.specs.Told.{Told, Saved}
-use Rattle.bugnet.specs.Outside.{Wrote, ToldRefusal}
+use Rattle.bugnet.specs.Answers.{names_by, refusal_by, IsAnswer}
+use Rattle.bugnet.specs.Outside.{WithFiles, Wrote, SendStops, ToldRefusal, IsEarly, KeptFiles, MayChange, Unsaved}
 use Rattle.bugnet.specs.declared.refusal.Refusal.{Refusal}
 use Rattle.bugnet.specs.declared.refusal.Refusal.TheVariants as why
 
--- the statuses that neither words nor files explain: the store failed, memory was wanting, a write failed
+-- ---- what is around a call
+
+-- what a store, out and err tell: the files, how often the store failed, and what each stream was given and how often a
+-- write to it failed
+pub record Outside : Type 0 where
+  pub files : Option Files
+  pub counts : Counts
+  pub out : Option (List ℕ)
+  pub out_faults : ℕ
+  pub err : Option (List ℕ)
+  pub err_faults : ℕ
+
+-- that before a call and after it
+pub record Call : Type 0 where
+  pub old : Outside
+  pub new : Outside
+
+abbrev pub call : {S O X : Type 0} → (S → Option Files) → (S → Counts) → (O → Option (List ℕ)) → (O → ℕ) → (X → Option (List ℕ)) → (X → ℕ)
+    → S → O → X → S → O → X → Call
+call files counts out out_faults err err_faults s o e t p f = record {
+  old = record { files = files s; counts = counts s; out = out o; out_faults = out_faults o; err = err e; err_faults = err_faults e };
+  new = record { files = files t; counts = counts t; out = out p; out_faults = out_faults p; err = err f; err_faults = err_faults f };
+}
+
+-- a call that leaves a store alone
+abbrev pub printing : {O X : Type 0} → Option Files → Counts → (O → Option (List ℕ)) → (O → ℕ) → (X → Option (List ℕ)) → (X → ℕ) → O → X → O → X → Call
+printing files counts out out_faults err err_faults o e p f = record {
+  old = record { files = files; counts = counts; out = out o; out_faults = out_faults o; err = err e; err_faults = err_faults e };
+  new = record { files = files; counts = counts; out = out p; out_faults = out_faults p; err = err f; err_faults = err_faults f };
+}
+
+-- ---- the statuses
+
+-- those that neither words nor files explain: the store failed, memory was wanting, a write failed
 abbrev pub IsFree : ℕ → Type 0
 IsFree status = (status ≡ 3) ⊎ ((status ≡ 9) ⊎ (status ≡ 13))
+
+-- those at which something may not be saved: the store failed, memory was wanting
+abbrev pub IsUnsaved : ℕ → Type 0
+IsUnsaved status = (status ≡ 3) ⊎ (status ≡ 9)
+
+-- ---- a command that has its answer
 
 -- err has all that a recording writes. Of the line of a refusal a front may be written, where a write failed
 abbrev pub ErrHas : Option Saved → Option (List ℕ) → Option (List ℕ) → (before now : ℕ) → List ℕ → Type 0
 ErrHas (Some saved) old new before now text = Appends old new text
 ErrHas None old new before now text = Wrote old new before now text
 
+-- what was to be saved is saved, and nothing else
+abbrev pub AreKept : FileNames → Told → Call → Type 0
+AreKept names what k = WhereTold k.old.files k.new.files (KeptFiles what.saved names.log names.book)
+
 -- all of what is told is done
-pub record Done (what : Told) (status : ℕ) (out_old out_new err_old err_new : Option (List ℕ)) (before now : ℕ) : Type 0 where
+pub record Done (names : FileNames) (what : Told) (status : ℕ) (k : Call) : Type 0 where
   pub status_is : status ≡ what.status
-  pub out : Appends out_old out_new what.out
-  pub err : ErrHas what.saved err_old err_new before now what.err
+  pub out : Appends k.old.out k.new.out what.out
+  pub err : ErrHas what.saved k.old.err k.new.err k.old.err_faults k.new.err_faults what.err
+  pub files : AreKept names what k
 
--- what err may have gained before a refusal that neither words nor files explain: a front of a recording's text
-abbrev pub own_err : Option Saved → List ℕ → List ℕ
-own_err (Some saved) text = text
-own_err None text = []
+-- a save was refused: nothing is printed
+pub record SavingStopped (names : FileNames) (what : Told) (refusal : Refusal) (k : Call) : Type 0 where
+  pub out : Appends k.old.out k.new.out []
+  pub files : Unsaved what.saved names k.old.files k.new.files k.old.counts k.new.counts refusal
 
--- what out may have gained then: nothing where the store failed
-abbrev pub own_out : List ℕ → Refusal → List ℕ
-own_out text (why.StoreFailed role) = []
-own_out text refusal = text
+-- sending to out stopped, for want of memory or by a write: out has a front of its text
+pub record OutStopped (names : FileNames) (what : Told) (refusal : Refusal) (k : Call) : Type 0 where
+  pub out : AppendsPart k.old.out k.new.out what.out
+  pub cause : SendStops k.old.out_faults k.new.out_faults refusal
+  pub files : AreKept names what k
 
--- it was stopped by the store, by want of memory or by a write: out and err have a front of these texts, and then err has the refusal's line
-pub record Stopped (names : FileNames) (out_text err_text : List ℕ) (status : ℕ) (out_old out_new err_old err_new : Option (List ℕ)) (before now : ℕ) : Type 0 where
+-- what a recording writes to err
+abbrev pub own_err : Told → List ℕ
+own_err what = elim what.saved [ None ↦ [] | Some saved ↦ what.err ]
+
+-- a write of a recording's text to err failed: a front of it is there, and not all
+pub record ErrStopped (names : FileNames) (what : Told) (refusal : Refusal) (k : Call) (mid : Option (List ℕ)) (faults : ℕ) : Type 0 where
+  pub refusal_is : refusal ≡ why.WriteFailed
+  pub out : Appends k.old.out k.new.out what.out
+  pub err : AppendsShort k.old.err mid (own_err what)
+  pub cause : Rose k.old.err_faults faults
+  pub files : AreKept names what k
+
+-- err is as it was
+pub record ErrWaits (k : Call) (mid : Option (List ℕ)) (faults : ℕ) : Type 0 where
+  pub text : mid ≡ k.old.err
+  pub count : faults ≡ k.old.err_faults
+
+-- it was stopped by the store, by want of memory or by a write, and after that err has the refusal's line
+pub record Stopped (names : FileNames) (what : Told) (status : ℕ) (k : Call) : Type 0 where
   pub refusal : Refusal
-  pub free : IsFreeRefusal refusal
-  pub out : AppendsPart out_old out_new (own_out out_text refusal)
-  pub err_mid : Option (List ℕ)
-  pub faults_mid : ℕ
-  pub own : AppendsPart err_old err_mid err_text
-  pub line : ToldRefusal names refusal status err_mid err_new faults_mid now
+  pub mid : Option (List ℕ)
+  pub faults : ℕ
+  pub later : k.old.err_faults ≤ faults
+  pub place : ErrWaits k mid faults × (SavingStopped names what refusal k ⊎ OutStopped names what refusal k) ⊎ ErrStopped names what refusal k mid faults
+  pub line : ToldRefusal names refusal status mid k.new.err faults k.new.err_faults
 
 -- what is told is done, or it was stopped
-abbrev pub Tells : FileNames → Told → ℕ → Option (List ℕ) → Option (List ℕ) → Option (List ℕ) → Option (List ℕ) → ℕ → ℕ → Type 0
-Tells names what status out_old out_new err_old err_new before now =
-    Done what status out_old out_new err_old err_new before now ⊎ Stopped names what.out (own_err what.saved what.err) status out_old out_new err_old err_new before now
+abbrev pub Tells : FileNames → Told → ℕ → Call → Type 0
+Tells names what status k = Done names what status k ⊎ Stopped names what status k
 
--- it was stopped by the store or by want of memory before there was an answer: out has nothing new, and err the refusal's line
-abbrev pub StoppedEarly : FileNames → ℕ → Option (List ℕ) → Option (List ℕ) → Option (List ℕ) → Option (List ℕ) → ℕ → ℕ → Type 0
-StoppedEarly names status out_old out_new err_old err_new before now = (refusal : Refusal) × IsOutside refusal × Appends out_old out_new [] × ToldRefusal names refusal status err_old err_new before now
+-- ---- any command
+
+-- it was stopped by the store or by want of memory before there was an answer: out has nothing new, err the refusal's line,
+-- and the files are as they were
+pub record StoppedEarly (line : Option Line) (files : Files) (status : ℕ) (k : Call) : Type 0 where
+  pub refusal : Refusal
+  pub early : IsEarly (names_by line) (λ files. IsAnswer line files) files refusal
+  pub out : Appends k.old.out k.new.out []
+  pub same : k.new.files ≡ k.old.files
+  pub told : ToldRefusal (names_by line) refusal status k.old.err k.new.err k.old.err_faults k.new.err_faults
 
 -- there is such an answer, of which this holds
 abbrev pub AnAnswer : (Told → Type 0) → (Told → Type 0) → Type 0
 AnAnswer Is Holds = (what : Told) × Is what × Holds what
 
--- it tells what it has to answer, or was stopped before there was an answer
-abbrev pub Answers : FileNames → (Told → Type 0) → ℕ → Option (List ℕ) → Option (List ℕ) → Option (List ℕ) → Option (List ℕ) → ℕ → ℕ → Type 0
-Answers names Is status out_old out_new err_old err_new before now =
-    AnAnswer Is (λ what. Tells names what status out_old out_new err_old err_new before now) ⊎ StoppedEarly names status out_old out_new err_old err_new before now
+-- by the files that are there it tells what it has to answer, or was stopped before there was an answer
+abbrev pub Answers : Option Line → ℕ → Call → Type 0
+Answers line status k = WithFiles k.old.files (λ files. AnAnswer (IsAnswer line files) (λ what. Tells (names_by line) what status k) ⊎ StoppedEarly line files status k)
+
+abbrev pub IsByWords : Option Refusal → FileNames → ℕ → Call → Type 0
+IsByWords None names status k = status ≢ 2
+IsByWords (Some refusal) names status k = Appends k.old.out k.new.out [] × ToldRefusal names refusal status k.old.err k.new.err k.old.err_faults k.new.err_faults
+
+-- a command that its words alone refuse is told so, whatever the files are, and no other has that status
+abbrev pub ByWords : Option Line → ℕ → Call → Type 0
+ByWords line status k = IsByWords (refusal_by line) (names_by line) status k
+
+-- what was to be saved is saved, but where the store failed or memory was wanting
+abbrev pub Keeps : Option Line → ℕ → (old new : Option Files) → Type 0
+Keeps line status old new =
+    WithFiles old (λ files. IsUnsaved status ⊎ AnAnswer (IsAnswer line files) (λ what. WhereTold old new (KeptFiles what.saved (names_by line).log (names_by line).book)))
+
+-- no more changes than what may
+abbrev pub ChangesFew : Option Line → (old new : Option Files) → Type 0
+ChangesFew line old new =
+    WithFiles old (λ files. (what : Told) → IsAnswer line files what → WhereTold old new (MayChange what.saved (names_by line).log (names_by line).book))

@@ -1,13 +1,13 @@
 // What an answer does: it prints and saves.
-ghost use Rattle.std.specs.Prelude.{◌≡◌, ◌≢◌, ◌⊎◌, Some, None, OnOk, IfOk, IfErr};
+ghost use Rattle.std.specs.Prelude.{◌≡◌, ◌≢◌, ◌≤◌, ◌⊎◌, Option, None, IfOk, IfErr};
 ghost use Rattle.hart_replay.specs.Replay.{interval_of};
 ghost use Rattle.hart_replay.specs.declared.error.ReplayError.TheVariants.{NoInterval};
-ghost use Rattle.bn_outside.specs.Counts.{Rose, NoneFell};
-ghost use Rattle.bn_outside.specs.Files.{WhereTold};
+ghost use Rattle.bn_outside.specs.Counts.{Counts, Rose, NoneFell};
+ghost use Rattle.bn_outside.specs.Files.{Files};
 ghost use Rattle.bugnet.specs.Commands.{list_of, check_of};
 ghost use Rattle.bugnet.specs.Logs.{IsBegun};
-ghost use Rattle.bugnet.specs.Outside.{told_of, told_of_reading, told_of_recording, KeptBoth, KeptFiles, IsPrinted, SameBut, MayChange, SaveStops};
-ghost use Rattle.bugnet.specs.Run.{IsFree, Tells};
+ghost use Rattle.bugnet.specs.Outside.{told_of, told_of_reading, told_of_recording, saved_of, IsPrinted, SaveTells};
+ghost use Rattle.bugnet.specs.Run.{call, printing, Tells};
 ghost use Rattle.bugnet.specs.declared.refusal.Refusal.TheVariants.{OutOfMemory, ReplayStopped};
 
 use crate::answer::{Answer, Reading, Recording};
@@ -57,8 +57,11 @@ fn print_interval<O: Sink, X: Sink>(
     out: &mut O,
     err: &mut X,
 ) -> u8
-    ensures told { Tells names.now (told_of_reading names.now reading.now) result (O.written out.old) (O.written out.new) (X.written err.old) (X.written err.new) (X.faults err.old) (X.faults err.new) }
+    ensures told { (files : Option Files) (counts : Counts) → Tells names.now (told_of_reading names.now reading.now) result (printing files counts O.written O.faults X.written X.faults out.old err.old out.new err.new) }
+    ensures out_later { O.faults out.old ≤ O.faults out.new }
+    ensures err_later { X.faults err.old ≤ X.faults err.new }
     ensures write { result ≡ 13 → Rose (O.faults out.old) (O.faults out.new) ⊎ Rose (X.faults err.old) (X.faults err.new) }
+    ensures words { result ≢ 2 }
     ensures failed { result ≢ 3 }
     ensures missing { result ≢ 4 }
     ensures long { result ≢ 5 }
@@ -93,8 +96,11 @@ fn print_list<O: Sink, X: Sink>(
     out: &mut O,
     err: &mut X,
 ) -> u8
-    ensures told { Tells names.now (list_of log.now) result (O.written out.old) (O.written out.new) (X.written err.old) (X.written err.new) (X.faults err.old) (X.faults err.new) }
+    ensures told { (files : Option Files) (counts : Counts) → Tells names.now (list_of log.now) result (printing files counts O.written O.faults X.written X.faults out.old err.old out.new err.new) }
+    ensures out_later { O.faults out.old ≤ O.faults out.new }
+    ensures err_later { X.faults err.old ≤ X.faults err.new }
     ensures write { result ≡ 13 → Rose (O.faults out.old) (O.faults out.new) ⊎ Rose (X.faults err.old) (X.faults err.new) }
+    ensures words { result ≢ 2 }
     ensures failed { result ≢ 3 }
     ensures missing { result ≢ 4 }
     ensures long { result ≢ 5 }
@@ -113,8 +119,11 @@ fn print_check<O: Sink, X: Sink>(
     out: &mut O,
     err: &mut X,
 ) -> u8
-    ensures told { Tells names.now (check_of log.now) result (O.written out.old) (O.written out.new) (X.written err.old) (X.written err.new) (X.faults err.old) (X.faults err.new) }
+    ensures told { (files : Option Files) (counts : Counts) → Tells names.now (check_of log.now) result (printing files counts O.written O.faults X.written X.faults out.old err.old out.new err.new) }
+    ensures out_later { O.faults out.old ≤ O.faults out.new }
+    ensures err_later { X.faults err.old ≤ X.faults err.new }
     ensures write { result ≡ 13 → Rose (O.faults out.old) (O.faults out.new) ⊎ Rose (X.faults err.old) (X.faults err.new) }
+    ensures words { result ≢ 2 }
     ensures failed { result ≢ 3 }
     ensures missing { result ≢ 4 }
     ensures long { result ≢ 5 }
@@ -127,10 +136,8 @@ fn print_check<O: Sink, X: Sink>(
 
 // Saves the log, and then the turn list.
 fn save<S: Store>(store: &mut S, names: &Names, recording: &Recording) -> Result<(), Refusal>
-    ensures kept { OnOk result (WhereTold (S.files store.old) (S.files store.new) (KeptBoth (record { log = recording.now.log.items; book = recording.now.book.items }) names.now.log names.now.book)) }
-    ensures others { WhereTold (S.files store.old) (S.files store.new) (SameBut names.now.log names.now.book) }
+    ensures told { SaveTells (saved_of recording.now) names.now (S.files store.old) (S.files store.new) (S.counts store.old) (S.counts store.new) result }
     ensures later { NoneFell (S.counts store.old) (S.counts store.new) }
-    ensures cause { SaveStops (S.counts store.old) (S.counts store.new) result }
 {
     match store.save(names.log, &recording.log) {
         Ok(()) => match store.save(names.book, &recording.book) {
@@ -152,10 +159,11 @@ fn keep<S: Store, O: Sink, X: Sink>(
     out: &mut O,
     err: &mut X,
 ) -> u8
-    ensures kept { IsFree result ⊎ WhereTold (S.files store.old) (S.files store.new) (KeptFiles (told_of_recording recording.now).saved names.now.log names.now.book) }
-    ensures others { WhereTold (S.files store.old) (S.files store.new) (SameBut names.now.log names.now.book) }
+    ensures told { Tells names.now (told_of_recording recording.now) result (call S.files S.counts O.written O.faults X.written X.faults store.old out.old err.old store.new out.new err.new) }
     ensures later { NoneFell (S.counts store.old) (S.counts store.new) }
-    ensures told { Tells names.now (told_of_recording recording.now) result (O.written out.old) (O.written out.new) (X.written err.old) (X.written err.new) (X.faults err.old) (X.faults err.new) }
+    ensures out_later { O.faults out.old ≤ O.faults out.new }
+    ensures err_later { X.faults err.old ≤ X.faults err.new }
+    ensures words { result ≢ 2 }
     ensures failed { result ≡ 3 → Rose (S.counts store.old).faults (S.counts store.new).faults }
     ensures missing { result ≢ 4 }
     ensures long { result ≢ 5 }
@@ -182,11 +190,12 @@ pub fn act<S: Store, O: Sink, X: Sink>(
     out: &mut O,
     err: &mut X,
 ) -> u8
-    ensures told { Tells names.now (told_of names.now answer.now) result (O.written out.old) (O.written out.new) (X.written err.old) (X.written err.new) (X.faults err.old) (X.faults err.new) }
-    ensures kept { IsFree result ⊎ WhereTold (S.files store.old) (S.files store.new) (KeptFiles (told_of names.now answer.now).saved names.now.log names.now.book) }
-    ensures others { WhereTold (S.files store.old) (S.files store.new) (MayChange (told_of names.now answer.now).saved names.now.log names.now.book) }
+    ensures told { Tells names.now (told_of names.now answer.now) result (call S.files S.counts O.written O.faults X.written X.faults store.old out.old err.old store.new out.new err.new) }
     ensures still { IsPrinted answer.now → S.files store.new ≡ S.files store.old }
     ensures later { NoneFell (S.counts store.old) (S.counts store.new) }
+    ensures out_later { O.faults out.old ≤ O.faults out.new }
+    ensures err_later { X.faults err.old ≤ X.faults err.new }
+    ensures words { result ≢ 2 }
     ensures failed { result ≡ 3 → Rose (S.counts store.old).faults (S.counts store.new).faults }
     ensures missing { result ≢ 4 }
     ensures long { result ≢ 5 }

@@ -1,6 +1,7 @@
 // What a command answers, by the bytes that it has loaded.
 ghost use Rattle.std.specs.Prelude.{◌≡◌, ◌≢◌, IfOk};
 ghost use Rattle.sha2.specs.Sha256.{sha256};
+ghost use Rattle.file_laws.specs.Given.{IsImage};
 ghost use Rattle.bugnet.specs.Commands.{IsByLog, list_of, check_of, replay_loaded, replay_of};
 ghost use Rattle.bugnet.specs.Recordings.{end_status, end_word};
 ghost use Rattle.bugnet.specs.Outside.{Gives, IsOwn, LogTells, ProgramTells, IsPrinted};
@@ -9,6 +10,7 @@ use crate::names::Names;
 use crate::refusal::Refusal;
 use bn_base::{Image, Settings};
 use elf_loader::{ElfError, load};
+use file_laws::loaded_programs_hold_words;
 use log_file::{FileError, read_file};
 use log_order::KeptLog;
 use sha2::{Digest, Sha256};
@@ -128,8 +130,10 @@ pub fn check_of(alloc: Global, names: &Names, log: &[u8]) -> Result<Answer, Refu
 /// Loads a program with these settings.
 pub fn load_program(alloc: Global, elf: &[u8], settings: &Settings) -> Result<Image, Refusal>
     ensures loaded { ProgramTells elf.now settings.now result }
+    ensures image { IfOk result (λ i. IsImage i) }
     ensures own { IsOwn result }
 {
+    loaded_programs_hold_words();
     match load(alloc, elf, settings) {
         Ok(image) => Ok(image),
         Err(ElfError::OutOfMemory) => Err(Refusal::OutOfMemory),

@@ -1,11 +1,13 @@
 // What holds of answers.
 ghost use Rattle.bugnet.specs.Laws.{OneAnswer, SeedsAreWhole};
-ghost use Rattle.bugnet.specs.Headline.{Headline};
+ghost use Rattle.bugnet.specs.Complete.{EachHasAnAnswer, EachCanBeDone};
+ghost use Rattle.bugnet.specs.Headline.{Headline, RecordingsAreReplayed};
 
 use file_laws::logs_are_contents;
 use hart_worker::seeded_lists_end;
 use log_file::laws::{files_say_one_thing, logs_are_not_refused, refusals_are_unique};
-use replay_laws::the_log_suffices;
+use replay_laws::{the_log_suffices, the_rows_of_an_interval_stand_together};
+use run_laws::kept_records_are_an_end;
 
 /// No words have two answers, whatever the files are.
 pub fn one_answer()
@@ -17,7 +19,8 @@ pub fn one_answer()
 }
 
 /// The answer to the replay of an interval from the log file of a run is the text of the run's own
-/// rows, whatever the program, its input, the list of turns and the settings.
+/// rows, from the count of the interval's Header to that of its End, whatever the program, its input,
+/// the list of turns and the settings.
 pub fn headline()
     ensures { Headline }
 {
@@ -25,7 +28,34 @@ pub fn headline()
     logs_are_not_refused();
     refusals_are_unique();
     the_log_suffices();
+    the_rows_of_an_interval_stand_together();
+    kept_records_are_an_end();
     logs_are_contents();
+}
+
+/// Words and files have an answer, where the log that they name is one or is refused as one.
+pub fn each_has_an_answer()
+    ensures { EachHasAnAnswer }
+{}
+
+/// Where the settings are in range, LOG and BOOK are two names, the files are there, within their
+/// limits, and are what the command needs, there is an answer, and it is that of a command that is
+/// done.
+pub fn each_can_be_done()
+    ensures { EachCanBeDone }
+{
+    the_log_suffices();
+    the_rows_of_an_interval_stand_together();
+    kept_records_are_an_end();
+    logs_are_contents();
+}
+
+/// Of the files that a recording leaves, the replay of each interval whose Header the log keeps prints
+/// the recorded run's rows.
+pub fn recordings_are_replayed()
+    ensures { RecordingsAreReplayed }
+{
+    headline();
 }
 
 /// The list of turns that a recording saves is legal and finished: it is a seed's, and the settings

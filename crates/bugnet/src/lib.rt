@@ -19,7 +19,10 @@ mod refusal;
 mod texts;
 
 pub use answer::{Answer, Reading, Recording, RunEnd};
-pub use laws::{headline, one_answer, seeds_are_whole};
+pub use laws::{
+    each_can_be_done, each_has_an_answer, headline, one_answer, recordings_are_replayed,
+    seeds_are_whole,
+};
 pub use names::{Names, Role};
 pub use printing::Ending;
 pub use program::run;

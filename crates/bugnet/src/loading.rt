@@ -3,7 +3,7 @@ ghost use Rattle.std.specs.Prelude.{◌≡◌, IfOk};
 ghost use Rattle.bn_outside.specs.Counts.{NoneFell};
 ghost use Rattle.bugnet.specs.Names.{name_of};
 ghost use Rattle.bugnet.specs.Commands.{IsList, IsCheck, IsReplayOf, IsReplay};
-ghost use Rattle.bugnet.specs.Outside.{Gives, ResultCause, WithFiles, FetchTells, IsPrinted};
+ghost use Rattle.bugnet.specs.Outside.{GivesBy, ResultCause, WithFiles, FetchTells, IsPrinted};
 
 use crate::answer::{Answer, check_of, list_of, replay_of};
 use crate::names::{Names, Role};
@@ -44,7 +44,7 @@ pub fn fetch<S: Store>(
 
 /// Loads a log, and lists its intervals.
 pub fn list_files<S: Store>(alloc: Global, names: &Names, store: &mut S) -> Result<Answer, Refusal>
-    ensures told { WithFiles (S.files store.old) (λ files. Gives names.now (IsList files names.now) result) }
+    ensures told { WithFiles (S.files store.old) (λ files. GivesBy names.now (λ files. IsList files names.now) files result) }
     ensures same { S.files store.new ≡ S.files store.old }
     ensures later { NoneFell (S.counts store.old) (S.counts store.new) }
     ensures cause { ResultCause (S.counts store.old) (S.counts store.new) result }
@@ -58,7 +58,7 @@ pub fn list_files<S: Store>(alloc: Global, names: &Names, store: &mut S) -> Resu
 
 /// Loads a log, and counts what it has.
 pub fn check_files<S: Store>(alloc: Global, names: &Names, store: &mut S) -> Result<Answer, Refusal>
-    ensures told { WithFiles (S.files store.old) (λ files. Gives names.now (IsCheck files names.now) result) }
+    ensures told { WithFiles (S.files store.old) (λ files. GivesBy names.now (λ files. IsCheck files names.now) files result) }
     ensures same { S.files store.new ≡ S.files store.old }
     ensures later { NoneFell (S.counts store.old) (S.counts store.new) }
     ensures cause { ResultCause (S.counts store.old) (S.counts store.new) result }
@@ -79,7 +79,7 @@ fn replay_with<S: Store>(
     hart: u64,
     interval: u64,
 ) -> Result<Answer, Refusal>
-    ensures told { WithFiles (S.files store.old) (λ files. Gives names.now (IsReplayOf files names.now hart interval log.now) result) }
+    ensures told { WithFiles (S.files store.old) (λ files. GivesBy names.now (λ files. IsReplayOf files names.now hart interval log.now) files result) }
     ensures same { S.files store.new ≡ S.files store.old }
     ensures later { NoneFell (S.counts store.old) (S.counts store.new) }
     ensures cause { ResultCause (S.counts store.old) (S.counts store.new) result }
@@ -99,7 +99,7 @@ pub fn replay_files<S: Store>(
     hart: u64,
     interval: u64,
 ) -> Result<Answer, Refusal>
-    ensures told { WithFiles (S.files store.old) (λ files. Gives names.now (IsReplay files names.now hart interval) result) }
+    ensures told { WithFiles (S.files store.old) (λ files. GivesBy names.now (λ files. IsReplay files names.now hart interval) files result) }
     ensures same { S.files store.new ≡ S.files store.old }
     ensures later { NoneFell (S.counts store.old) (S.counts store.new) }
     ensures cause { ResultCause (S.counts store.old) (S.counts store.new) result }

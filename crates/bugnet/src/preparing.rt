@@ -1,11 +1,15 @@
 // What a recording tests and loads before it runs.
-ghost use Rattle.std.specs.Prelude.{◌≡◌, false, []};
+ghost use Rattle.std.specs.Prelude.{◌≡◌, false, [], IfOk};
 ghost use Rattle.std.specs.Str.{bytes_eq};
 ghost use Rattle.sha2.specs.Sha256.{sha256};
 ghost use Rattle.bn_outside.specs.Counts.{NoneFell};
 ghost use Rattle.elf_loader.specs.Loaded.{image_of};
+ghost use Rattle.bn_base.specs.Ranges.{first_bad};
+ghost use Rattle.bugnet.specs.Answers.{name_refusal, setting_refusal};
 ghost use Rattle.bugnet.specs.Commands.{seeded_told, IsByInput, IsByProgram, IsByNames, IsRecord};
-ghost use Rattle.bugnet.specs.Outside.{Gives, IsOwn, ResultCause, WithFiles};
+ghost use Rattle.file_laws.specs.Given.{IsImage};
+ghost use Rattle.bugnet.specs.Saves.{HoldsImage};
+ghost use Rattle.bugnet.specs.Outside.{Gives, GivesBy, IsOwn, CauseBy, ResultCause, WithFiles};
 
 use crate::answer::{Answer, digest_of, load_program};
 use crate::loading::{ELF_LIMIT, INPUT_LIMIT, fetch};
@@ -36,7 +40,7 @@ fn record_input<S: Store>(
     store: &mut S,
 ) -> Result<Answer, Refusal>
     requires { start.input.items ≡ [] }
-    ensures told { WithFiles (S.files store.old) (λ files. Gives names.now (IsByInput has_input files names.now (seeded_told start.settings start.image start.digest seed)) result) }
+    ensures told { WithFiles (S.files store.old) (λ files. GivesBy names.now (λ files. IsByInput has_input files names.now (seeded_told start.settings start.image start.digest seed)) files result) }
     ensures same { S.files store.new ≡ S.files store.old }
     ensures later { NoneFell (S.counts store.old) (S.counts store.new) }
     ensures cause { ResultCause (S.counts store.old) (S.counts store.new) result }
@@ -63,7 +67,8 @@ fn record_program<S: Store>(
     has_input: bool,
     store: &mut S,
 ) -> Result<Answer, Refusal>
-    ensures told { WithFiles (S.files store.old) (λ files. Gives names.now (IsByProgram (image_of elf.now settings.now) files names.now settings.now seed has_input (sha256 elf.now)) result) }
+    ensures image { IfOk result (λ _. IfOk (image_of elf.now settings.now) IsImage) }
+    ensures told { WithFiles (S.files store.old) (λ files. GivesBy names.now (λ files. IsByProgram (image_of elf.now settings.now) files names.now settings.now seed has_input (sha256 elf.now)) files result) }
     ensures same { S.files store.new ≡ S.files store.old }
     ensures later { NoneFell (S.counts store.old) (S.counts store.new) }
     ensures cause { ResultCause (S.counts store.old) (S.counts store.new) result }
@@ -91,7 +96,8 @@ fn record_elf<S: Store>(
     has_input: bool,
     store: &mut S,
 ) -> Result<Answer, Refusal>
-    ensures told { WithFiles (S.files store.old) (λ files. Gives names.now (IsByNames false files names.now settings.now seed has_input) result) }
+    ensures image { IfOk result (λ _. WithFiles (S.files store.old) (λ files. HoldsImage (files names.now.elf) settings.now)) }
+    ensures told { WithFiles (S.files store.old) (λ files. GivesBy names.now (λ files. IsByNames false files names.now settings.now seed has_input) files result) }
     ensures same { S.files store.new ≡ S.files store.old }
     ensures later { NoneFell (S.counts store.old) (S.counts store.new) }
     ensures cause { ResultCause (S.counts store.old) (S.counts store.new) result }
@@ -111,10 +117,11 @@ fn record_named<S: Store>(
     has_input: bool,
     store: &mut S,
 ) -> Result<Answer, Refusal>
-    ensures told { WithFiles (S.files store.old) (λ files. Gives names.now (IsByNames (bytes_eq names.now.log names.now.book) files names.now settings.now seed has_input) result) }
+    ensures image { IfOk result (λ _. WithFiles (S.files store.old) (λ files. HoldsImage (files names.now.elf) settings.now)) }
+    ensures told { WithFiles (S.files store.old) (λ files. GivesBy names.now (λ files. IsByNames (bytes_eq names.now.log names.now.book) files names.now settings.now seed has_input) files result) }
     ensures same { S.files store.new ≡ S.files store.old }
     ensures later { NoneFell (S.counts store.old) (S.counts store.new) }
-    ensures cause { ResultCause (S.counts store.old) (S.counts store.new) result }
+    ensures cause { CauseBy (name_refusal (bytes_eq names.now.log names.now.book)) (S.counts store.old) (S.counts store.new) result }
 {
     if names.log == names.book {
         Err(Refusal::SameName)
@@ -133,10 +140,11 @@ pub fn record_files<S: Store>(
     has_input: bool,
     store: &mut S,
 ) -> Result<Answer, Refusal>
-    ensures told { WithFiles (S.files store.old) (λ files. Gives names.now (IsRecord files names.now settings.now seed has_input) result) }
+    ensures image { IfOk result (λ _. WithFiles (S.files store.old) (λ files. HoldsImage (files names.now.elf) settings.now)) }
+    ensures told { WithFiles (S.files store.old) (λ files. GivesBy names.now (λ files. IsRecord files names.now settings.now seed has_input) files result) }
     ensures same { S.files store.new ≡ S.files store.old }
     ensures later { NoneFell (S.counts store.old) (S.counts store.new) }
-    ensures cause { ResultCause (S.counts store.old) (S.counts store.new) result }
+    ensures cause { CauseBy (setting_refusal (first_bad settings.now) (bytes_eq names.now.log names.now.book)) (S.counts store.old) (S.counts store.new) result }
 {
     match Settings::checked(settings) {
         Err(bad) => Err(Refusal::OutOfRange(bad)),

@@ -1,10 +1,13 @@
 // What a command prints.
-ghost use Rattle.std.specs.Prelude.{◌≡◌, ◌≤◌, ◌++◌, ℕ, drop};
+ghost use Rattle.std.specs.Prelude.{◌≡◌, ◌≤◌, ◌++◌, ℕ, drop, IfErr, OnErr};
+ghost use Rattle.bn_outside.specs.Counts.{Rose};
+ghost use Rattle.bn_outside.specs.Streams.{AppendsShort};
 ghost use Rattle.rv_text.specs.Rows.{row_text};
 ghost use Rattle.bugnet.specs.Refusals.{line_of, status_of};
 ghost use Rattle.bugnet.specs.Texts.{rows_text, begin_text, interval_text, list_text, check_line, check_text, record_text};
 ghost use Rattle.bugnet.specs.Printed.{outcome_of, ending_of, end_of_interval, rest_text};
 ghost use Rattle.bugnet.specs.Outside.{Wrote, Sent, Gathered, ToldRefusal};
+ghost use Rattle.bugnet.specs.declared.refusal.Refusal.TheVariants.{WriteFailed};
 
 use crate::logs::{header_count, next_mark, total};
 use crate::names::Names;
@@ -33,6 +36,8 @@ pub enum Ending {
 /// Sends bytes.
 pub fn send_bytes<K: Sink>(sink: &mut K, bytes: &[u8]) -> Result<(), Refusal>
     ensures sent { Sent (K.written sink.old) (K.written sink.new) (K.faults sink.old) (K.faults sink.new) bytes.now (λ _. Unit {0}) result }
+    ensures short { OnErr result (AppendsShort (K.written sink.old) (K.written sink.new) bytes.now × Rose (K.faults sink.old) (K.faults sink.new)) }
+    ensures write { IfErr result (λ refusal. refusal ≡ WriteFailed) }
     ensures later { K.faults sink.old ≤ K.faults sink.new }
 {
     match send_all(sink, bytes) {

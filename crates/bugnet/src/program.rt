@@ -1,18 +1,18 @@
 // The program: it reads its words, loads, answers, saves and prints.
-ghost use Rattle.std.specs.Prelude.{◌≡◌, ◌≢◌, ◌⊎◌, Some, None, IfOk};
+ghost use Rattle.std.specs.Prelude.{◌≡◌, ◌≤◌, ◌⊎◌, Some, IfOk};
 ghost use Rattle.bn_outside.specs.Counts.{Rose, NoneFell};
-ghost use Rattle.bn_outside.specs.Files.{Files, WhereTold};
 ghost use Rattle.command_words.specs.Words.{command_in, seen};
-ghost use Rattle.bugnet.specs.Told.{Told};
-ghost use Rattle.bugnet.specs.Answers.{names_in, names_by, IsAnswerTo, IsAnswer};
+ghost use Rattle.bugnet.specs.Answers.{names_in, refusal_in, IsAnswerTo};
 ghost use Rattle.bugnet.specs.Laws.{IsNoRecording};
+ghost use Rattle.bugnet.specs.Complete.{IsDone};
 ghost use Rattle.bugnet.specs.Headline.{PrintsRun};
-ghost use Rattle.bugnet.specs.Outside.{Gives, ResultCause, WithFiles, KeptFiles, MayChange, IsPrinted};
-ghost use Rattle.bugnet.specs.Run.{IsFree, AnAnswer, Answers};
+ghost use Rattle.bugnet.specs.Outside.{GivesBy, CauseBy, WithFiles, IsPrinted};
+ghost use Rattle.bugnet.specs.Saves.{LeavesRun, HasImage};
+ghost use Rattle.bugnet.specs.Run.{call, Answers, ByWords, Keeps, ChangesFew};
 
 use crate::acting::act;
 use crate::answer::Answer;
-use crate::laws::{headline, one_answer};
+use crate::laws::{each_can_be_done, headline, one_answer, seeds_are_whole};
 use crate::loading::{check_files, list_files, replay_files};
 use crate::names::Names;
 use crate::preparing::record_files;
@@ -20,6 +20,7 @@ use crate::printing::refuse;
 use crate::refusal::Refusal;
 use bn_outside::{Sink, Source, Store};
 use command_words::{Command, WordsError, read_words};
+use file_sizes::files_keep_to_their_size;
 use std::alloc::Global;
 
 // The names of the files of a command.
@@ -52,11 +53,12 @@ fn answer_to<S: Store>(
     store: &mut S,
 ) -> Result<Answer, Refusal>
     requires { names.now ≡ names_in (seen command.now) }
-    ensures told { WithFiles (S.files store.old) (λ files. Gives names.now (IsAnswerTo (seen command.now) files) result) }
+    ensures told { WithFiles (S.files store.old) (λ files. GivesBy names.now (IsAnswerTo (seen command.now)) files result) }
     ensures same { S.files store.new ≡ S.files store.old }
     ensures later { NoneFell (S.counts store.old) (S.counts store.new) }
-    ensures cause { ResultCause (S.counts store.old) (S.counts store.new) result }
+    ensures cause { CauseBy (refusal_in (seen command.now)) (S.counts store.old) (S.counts store.new) result }
     ensures prints { IsNoRecording (Some (seen command.now)) → IfOk result IsPrinted }
+    ensures image { IfOk result (λ _. HasImage (seen command.now) (S.files store.old)) }
 {
     match command {
         Command::Record(recording) => record_files(
@@ -83,16 +85,20 @@ fn obey<S: Store, O: Sink, X: Sink>(
     out: &mut O,
     err: &mut X,
 ) -> u8
-    ensures told { WithFiles (S.files store.old) (λ files. Answers (names_in (seen command.now)) (IsAnswerTo (seen command.now) files) result (O.written out.old) (O.written out.new) (X.written err.old) (X.written err.new) (X.faults err.old) (X.faults err.new)) }
-    ensures kept { let names = names_in (seen command.now) in WithFiles (S.files store.old) (λ files. IsFree result ⊎ AnAnswer (IsAnswerTo (seen command.now) files) (λ what. WhereTold (S.files store.old) (S.files store.new) (KeptFiles what.saved names.log names.book))) }
-    ensures others { let names = names_in (seen command.now) in WithFiles (S.files store.old) (λ files. (what : Told) → IsAnswerTo (seen command.now) files what → WhereTold (S.files store.old) (S.files store.new) (MayChange what.saved names.log names.book)) }
+    ensures told { Answers (Some (seen command.now)) result (call S.files S.counts O.written O.faults X.written X.faults store.old out.old err.old store.new out.new err.new) }
+    ensures words { ByWords (Some (seen command.now)) result (call S.files S.counts O.written O.faults X.written X.faults store.old out.old err.old store.new out.new err.new) }
+    ensures later { NoneFell (S.counts store.old) (S.counts store.new) }
+    ensures out_later { O.faults out.old ≤ O.faults out.new }
+    ensures err_later { X.faults err.old ≤ X.faults err.new }
+    ensures recorded { LeavesRun (Some (seen command.now)) result (S.files store.old) (S.files store.new) }
     ensures still { IsNoRecording (Some (seen command.now)) → S.files store.new ≡ S.files store.old }
     ensures failed { result ≡ 3 → Rose (S.counts store.old).faults (S.counts store.new).faults }
     ensures missing { result ≡ 4 → Rose (S.counts store.old).misses (S.counts store.new).misses }
     ensures long { result ≡ 5 → Rose (S.counts store.old).longs (S.counts store.new).longs }
     ensures write { result ≡ 13 → Rose (O.faults out.old) (O.faults out.new) ⊎ Rose (X.faults err.old) (X.faults err.new) }
 {
-    one_answer();
+    seeds_are_whole();
+    files_keep_to_their_size();
     let names = names_of(command);
     match answer_to(alloc, command, &names, store) {
         Err(refusal) => refuse(alloc, &names, &refusal, err),
@@ -133,27 +139,43 @@ pub fn run<S: Store, I: Source, O: Sink, X: Sink>(
     out: &mut O,
     err: &mut X,
 ) -> u8
-    // Where the store tells its files, they and the words say the status and the texts.
-    ensures told { WithFiles (S.files store.old) (λ files. Answers (names_by (command_in words.now)) (IsAnswer (command_in words.now) files) result (O.written out.old) (O.written out.new) (X.written err.old) (X.written err.new) (X.faults err.old) (X.faults err.new)) }
+    // Where the store tells its files, they and the words say the status, the texts and what the files
+    // are after it. Whatever the store tells, the words alone say where the status is 2.
+    ensures told { Answers (command_in words.now) result (call S.files S.counts O.written O.faults X.written X.faults store.old out.old err.old store.new out.new err.new) }
+    ensures words { ByWords (command_in words.now) result (call S.files S.counts O.written O.faults X.written X.faults store.old out.old err.old store.new out.new err.new) }
 
     // The log of a recording gives the recorded run: the replay of an interval from it prints that
     // run's own rows.
     ensures headline { WithFiles (S.files store.old) (λ files. PrintsRun (command_in words.now) files result (O.written out.old) (O.written out.new)) }
 
-    // What was to be saved is saved. Whatever happens, only a recording changes files, and of these
-    // only LOG and BOOK: where nothing was to be saved, as at a replay, all stay as they were.
-    ensures kept { let names = names_by (command_in words.now) in WithFiles (S.files store.old) (λ files. IsFree result ⊎ AnAnswer (IsAnswer (command_in words.now) files) (λ what. WhereTold (S.files store.old) (S.files store.new) (KeptFiles what.saved names.log names.book))) }
-    ensures others { let names = names_by (command_in words.now) in WithFiles (S.files store.old) (λ files. (what : Told) → IsAnswer (command_in words.now) files what → WhereTold (S.files store.old) (S.files store.new) (MayChange what.saved names.log names.book)) }
+    // Where the words and the files are as the command needs them, it is done, unless memory was
+    // wanting, or the store or a write failed.
+    ensures done { WithFiles (S.files store.old) (λ files. IsDone (command_in words.now) files result) }
+
+    // What was to be saved is saved, LOG before BOOK. Whatever happens, only a recording changes files,
+    // and of these only LOG and BOOK: where nothing was to be saved, as at a replay, all stay as they
+    // were, and until LOG is saved BOOK does.
+    ensures kept { Keeps (command_in words.now) result (S.files store.old) (S.files store.new) }
+    ensures others { ChangesFew (command_in words.now) (S.files store.old) (S.files store.new) }
     ensures still { IsNoRecording (command_in words.now) → S.files store.new ≡ S.files store.old }
 
-    // A refusal by the outside comes only where its count rose.
+    // A recording leaves under BOOK the turns that the seed chooses, legal and finished, and under LOG
+    // the file of their run: its records have at most log-size bytes, and it has 124 more.
+    ensures recorded { LeavesRun (command_in words.now) result (S.files store.old) (S.files store.new) }
+
+    // A refusal by the outside comes only where its count rose, and no count falls.
     ensures failed { result ≡ 3 → Rose (S.counts store.old).faults (S.counts store.new).faults }
     ensures missing { result ≡ 4 → Rose (S.counts store.old).misses (S.counts store.new).misses }
     ensures long { result ≡ 5 → Rose (S.counts store.old).longs (S.counts store.new).longs }
     ensures write { result ≡ 13 → Rose (O.faults out.old) (O.faults out.new) ⊎ Rose (X.faults err.old) (X.faults err.new) }
+    ensures later { NoneFell (S.counts store.old) (S.counts store.new) }
+    ensures out_later { O.faults out.old ≤ O.faults out.new }
+    ensures err_later { X.faults err.old ≤ X.faults err.new }
     ensures input { input.new ≡ input.old }
 {
     headline();
+    one_answer();
+    each_can_be_done();
     match read_words(alloc, words) {
         Err(WordsError::Refused) => refuse(alloc, &Names::none(), &Refusal::WordsRefused, err),
         Err(WordsError::OutOfMemory) => refuse(alloc, &Names::none(), &Refusal::OutOfMemory, err),

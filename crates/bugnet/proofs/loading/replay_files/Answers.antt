@@ -1,7 +1,7 @@
 use Rattle.std.proofs.Common.{Option, subst}
 use Rattle.bn_outside.specs.Files.{Files}
 use Rattle.bugnet.specs.Commands.{IsReplayOf}
-use Rattle.bugnet.specs.Outside.{WithFiles, Gives}
+use Rattle.bugnet.specs.Outside.{WithFiles, GivesBy}
 use Rattle.bugnet.specs.declared.names.Role.TheVariants.{Log}
 use Rattle.bugnet.proofs.Loads.{gives-stopped, gives-loaded}
 use Rattle.bugnet.proofs.loading.replay_files.Goals as goal
@@ -11,7 +11,7 @@ returns-in-Ok-clause-told g c =
     let known = g.S.Store.files c.args.store.now in
     let names = c.args.names.now in
     gives-loaded known names Log 268500992 c.in-Ok.log c.replay_with.result (λ files log what. IsReplayOf files names c.args.hart c.args.interval log what) c.in-Ok.ensures.told
-    (subst (λ (k : Option Files). WithFiles k (λ files. Gives names (λ what. IsReplayOf files names c.args.hart c.args.interval c.in-Ok.log.items what) c.replay_with.result)) c.in-Ok.ensures.same
+    (subst (λ (k : Option Files). WithFiles k (λ files. GivesBy names (λ f. IsReplayOf f names c.args.hart c.args.interval c.in-Ok.log.items) files c.replay_with.result)) c.in-Ok.ensures.same
     (rw c.deref.ensures.value at c.replay_with.ensures.told))
 
 pub returns-in-Err-clause-told : goal.returns-in-Err-clause-told

@@ -1,60 +1,132 @@
-use Rattle.std.proofs.Common.{Option, sym, ap, ◌∙◌, subst, ◌⊎◌, ◌≡◌, None}
+use Rattle.std.proofs.Common.{Option, None, sym, ap, ◌∙◌, subst, refl, inl, inr, ◌≡◌}
 use Rattle.std.specs.Prelude.{Err}
-use Rattle.bn_outside.specs.Files.{WhereTold}
 use Rattle.command_words.specs.Words.{Line, command_in}
 use Rattle.command_words.specs.declared.error.WordsError.{WordsError}
-use Rattle.bugnet.specs.Names.{FileNames, no_names}
-use Rattle.bugnet.specs.Answers.{names_by, IsAnswer}
-use Rattle.bugnet.specs.Outside.{WithFiles, ToldRefusal, KeptFiles}
-use Rattle.bugnet.specs.Run.{IsFree, AnAnswer, Answers}
-use Rattle.bugnet.specs.declared.refusal.Refusal.TheVariants.{WordsRefused}
-use Rattle.bugnet.proofs.Tells.{words-answers, words-kept, memory-answers}
+use Rattle.bugnet.specs.Names.{FileNames}
+use Rattle.bugnet.specs.Answers.{names_by, refusal_by}
+use Rattle.bugnet.specs.Told.{refused}
+use Rattle.bugnet.specs.Outside.{ToldRefusal}
+use Rattle.bugnet.specs.Run.{call, Answers, ByWords}
+use Rattle.bugnet.specs.declared.refusal.Refusal.TheVariants.{WordsRefused, OutOfMemory}
+use Rattle.bugnet.proofs.Prints.{appends-nothing}
+use Rattle.bugnet.proofs.Tells.{refusal-answers, memory-names, with-any, answers-keep, answers-few}
+use Rattle.bugnet.proofs.Causes.{memory-words}
 use Rattle.bugnet.proofs.Suffices.{prints-run}
+use Rattle.bugnet.proofs.Complete.{call-done}
+use Rattle.bugnet.specs.Saves.{LeavesRun}
+use Rattle.bugnet.proofs.Leaves.{leaves-none, told-apart}
 use Rattle.bugnet.proofs.program.run.Goals as goal
 
 pub returns-in-Err-Refused-clause-told : goal.returns-in-Err-Refused-clause-told
 returns-in-Err-Refused-clause-told g c =
-    let known = g.S.Store.files c.args.store.now in
-    let out = g.O.Sink.written c.args.out.now in
-    let err = g.X.Sink.written c.args.err.now in
-    let last = g.X.Sink.written c.refuse.new.err in
-    let before = g.X.Sink.faults c.args.err.now in
-    let now = g.X.Sink.faults c.refuse.new.err in
+    let k = call (g.S.Store.files) (g.S.Store.counts) (g.O.Sink.written) (g.O.Sink.faults) (g.X.Sink.written) (g.X.Sink.faults) c.args.store.now c.args.out.now c.args.err.now c.args.store.now c.args.out.now c.refuse.new.err in
     let none : command_in c.args.words.now ≡ None = c.read_words.ensures.refused (c.in-Err-Refused.is ∙ ap (λ (e : WordsError). Err e) c.in-Err-Refused.field-0-is) in
-    let told : ToldRefusal no_names WordsRefused c.refuse.result err last before now = subst (λ (n : FileNames). ToldRefusal n WordsRefused c.refuse.result err last before now) c.none.ensures c.refuse.ensures.told in
-    subst (λ (l : Option Line). WithFiles known (λ files. Answers (names_by l) (λ what. IsAnswer l files what) c.refuse.result out out err last before now)) (sym none) (words-answers known c.refuse.result out err last before now told)
+    subst (λ (l : Option Line). Answers l c.refuse.result k) (sym none)
+    (refusal-answers None c.none.result WordsRefused c.refuse.result k c.none.ensures (appends-nothing (g.O.Sink.written c.args.out.now)) refl
+    (with-any (g.S.Store.files c.args.store.now) _ (λ files. inr (ap (λ (n : FileNames). refused n WordsRefused) c.none.ensures))) c.refuse.ensures.told)
+
+pub returns-in-Err-Refused-clause-words : goal.returns-in-Err-Refused-clause-words
+returns-in-Err-Refused-clause-words g c =
+    let k = call (g.S.Store.files) (g.S.Store.counts) (g.O.Sink.written) (g.O.Sink.faults) (g.X.Sink.written) (g.X.Sink.faults) c.args.store.now c.args.out.now c.args.err.now c.args.store.now c.args.out.now c.refuse.new.err in
+    let none : command_in c.args.words.now ≡ None = c.read_words.ensures.refused (c.in-Err-Refused.is ∙ ap (λ (e : WordsError). Err e) c.in-Err-Refused.field-0-is) in
+    subst (λ (l : Option Line). ByWords l c.refuse.result k) (sym none)
+    (appends-nothing (g.O.Sink.written c.args.out.now), subst (λ (n : FileNames). ToldRefusal n WordsRefused c.refuse.result k.old.err k.new.err k.old.err_faults k.new.err_faults) c.none.ensures c.refuse.ensures.told)
+
+pub returns-in-Err-Refused-clause-headline : goal.returns-in-Err-Refused-clause-headline
+returns-in-Err-Refused-clause-headline g c =
+    let k = call (g.S.Store.files) (g.S.Store.counts) (g.O.Sink.written) (g.O.Sink.faults) (g.X.Sink.written) (g.X.Sink.faults) c.args.store.now c.args.out.now c.args.err.now c.args.store.now c.args.out.now c.refuse.new.err in
+    prints-run c.headline.ensures (command_in c.args.words.now) c.refuse.result k (returns-in-Err-Refused-clause-told g c)
 
 pub returns-in-Err-Refused-clause-kept : goal.returns-in-Err-Refused-clause-kept
 returns-in-Err-Refused-clause-kept g c =
-    let known = g.S.Store.files c.args.store.now in
-    let none : command_in c.args.words.now ≡ None = c.read_words.ensures.refused (c.in-Err-Refused.is ∙ ap (λ (e : WordsError). Err e) c.in-Err-Refused.field-0-is) in
-    subst (λ (l : Option Line). WithFiles known (λ files. IsFree c.refuse.result ⊎ AnAnswer (λ what. IsAnswer l files what) (λ what. WhereTold known known (KeptFiles what.saved (names_by l).log (names_by l).book)))) (sym none) (words-kept known c.refuse.result no_names.log no_names.book)
+    let k = call (g.S.Store.files) (g.S.Store.counts) (g.O.Sink.written) (g.O.Sink.faults) (g.X.Sink.written) (g.X.Sink.faults) c.args.store.now c.args.out.now c.args.err.now c.args.store.now c.args.out.now c.refuse.new.err in
+    answers-keep (command_in c.args.words.now) c.refuse.result k (returns-in-Err-Refused-clause-told g c)
+
+pub returns-in-Err-Refused-clause-others : goal.returns-in-Err-Refused-clause-others
+returns-in-Err-Refused-clause-others g c =
+    let k = call (g.S.Store.files) (g.S.Store.counts) (g.O.Sink.written) (g.O.Sink.faults) (g.X.Sink.written) (g.X.Sink.faults) c.args.store.now c.args.out.now c.args.err.now c.args.store.now c.args.out.now c.refuse.new.err in
+    answers-few c.one_answer.ensures (command_in c.args.words.now) c.refuse.result k (returns-in-Err-Refused-clause-told g c)
 
 pub returns-in-Err-OutOfMemory-clause-told : goal.returns-in-Err-OutOfMemory-clause-told
 returns-in-Err-OutOfMemory-clause-told g c =
+    let k = call (g.S.Store.files) (g.S.Store.counts) (g.O.Sink.written) (g.O.Sink.faults) (g.X.Sink.written) (g.X.Sink.faults) c.args.store.now c.args.out.now c.args.err.now c.args.store.now c.args.out.now c.refuse-in-Err-OutOfMemory.new.err in
     let line = command_in c.args.words.now in
-    memory-answers (g.S.Store.files c.args.store.now) c.none-in-Err-OutOfMemory.result (names_by line) (λ files what. IsAnswer line files what) c.refuse-in-Err-OutOfMemory.result (g.O.Sink.written c.args.out.now) (g.X.Sink.written c.args.err.now) (g.X.Sink.written c.refuse-in-Err-OutOfMemory.new.err) (g.X.Sink.faults c.args.err.now) (g.X.Sink.faults c.refuse-in-Err-OutOfMemory.new.err) c.refuse-in-Err-OutOfMemory.ensures.told
+    refusal-answers line (names_by line) OutOfMemory c.refuse-in-Err-OutOfMemory.result k refl (appends-nothing (g.O.Sink.written c.args.out.now)) refl
+    (with-any (g.S.Store.files c.args.store.now) _ (λ files. inl (inl refl))) (memory-names c.none-in-Err-OutOfMemory.result (names_by line) c.refuse-in-Err-OutOfMemory.result k.old.err k.new.err k.old.err_faults k.new.err_faults c.refuse-in-Err-OutOfMemory.ensures.told)
+
+pub returns-in-Err-OutOfMemory-clause-words : goal.returns-in-Err-OutOfMemory-clause-words
+returns-in-Err-OutOfMemory-clause-words g c =
+    let k = call (g.S.Store.files) (g.S.Store.counts) (g.O.Sink.written) (g.O.Sink.faults) (g.X.Sink.written) (g.X.Sink.faults) c.args.store.now c.args.out.now c.args.err.now c.args.store.now c.args.out.now c.refuse-in-Err-OutOfMemory.new.err in
+    let line = command_in c.args.words.now in
+    memory-words (refusal_by line) (names_by line) c.refuse-in-Err-OutOfMemory.result k (appends-nothing (g.O.Sink.written c.args.out.now))
+    (memory-names c.none-in-Err-OutOfMemory.result (names_by line) c.refuse-in-Err-OutOfMemory.result k.old.err k.new.err k.old.err_faults k.new.err_faults c.refuse-in-Err-OutOfMemory.ensures.told)
+
+pub returns-in-Err-OutOfMemory-clause-headline : goal.returns-in-Err-OutOfMemory-clause-headline
+returns-in-Err-OutOfMemory-clause-headline g c =
+    let k = call (g.S.Store.files) (g.S.Store.counts) (g.O.Sink.written) (g.O.Sink.faults) (g.X.Sink.written) (g.X.Sink.faults) c.args.store.now c.args.out.now c.args.err.now c.args.store.now c.args.out.now c.refuse-in-Err-OutOfMemory.new.err in
+    prints-run c.headline.ensures (command_in c.args.words.now) c.refuse-in-Err-OutOfMemory.result k (returns-in-Err-OutOfMemory-clause-told g c)
+
+pub returns-in-Err-OutOfMemory-clause-kept : goal.returns-in-Err-OutOfMemory-clause-kept
+returns-in-Err-OutOfMemory-clause-kept g c =
+    let k = call (g.S.Store.files) (g.S.Store.counts) (g.O.Sink.written) (g.O.Sink.faults) (g.X.Sink.written) (g.X.Sink.faults) c.args.store.now c.args.out.now c.args.err.now c.args.store.now c.args.out.now c.refuse-in-Err-OutOfMemory.new.err in
+    answers-keep (command_in c.args.words.now) c.refuse-in-Err-OutOfMemory.result k (returns-in-Err-OutOfMemory-clause-told g c)
+
+pub returns-in-Err-OutOfMemory-clause-others : goal.returns-in-Err-OutOfMemory-clause-others
+returns-in-Err-OutOfMemory-clause-others g c =
+    let k = call (g.S.Store.files) (g.S.Store.counts) (g.O.Sink.written) (g.O.Sink.faults) (g.X.Sink.written) (g.X.Sink.faults) c.args.store.now c.args.out.now c.args.err.now c.args.store.now c.args.out.now c.refuse-in-Err-OutOfMemory.new.err in
+    answers-few c.one_answer.ensures (command_in c.args.words.now) c.refuse-in-Err-OutOfMemory.result k (returns-in-Err-OutOfMemory-clause-told g c)
 
 pub returns-in-Ok-clause-told : goal.returns-in-Ok-clause-told
 returns-in-Ok-clause-told g c =
-    let known = g.S.Store.files c.args.store.now in
-    subst (λ (l : Option Line). WithFiles known (λ files. Answers (names_by l) (λ what. IsAnswer l files what) c.obey.result (g.O.Sink.written c.args.out.now) (g.O.Sink.written c.obey.new.out) (g.X.Sink.written c.args.err.now) (g.X.Sink.written c.obey.new.err) (g.X.Sink.faults c.args.err.now) (g.X.Sink.faults c.obey.new.err))) (sym c.in-Ok.ensures.taken) c.obey.ensures.told
+    let k = call (g.S.Store.files) (g.S.Store.counts) (g.O.Sink.written) (g.O.Sink.faults) (g.X.Sink.written) (g.X.Sink.faults) c.args.store.now c.args.out.now c.args.err.now c.obey.new.store c.obey.new.out c.obey.new.err in
+    subst (λ (l : Option Line). Answers l c.obey.result k) (sym c.in-Ok.ensures.taken) c.obey.ensures.told
+
+pub returns-in-Ok-clause-words : goal.returns-in-Ok-clause-words
+returns-in-Ok-clause-words g c =
+    let k = call (g.S.Store.files) (g.S.Store.counts) (g.O.Sink.written) (g.O.Sink.faults) (g.X.Sink.written) (g.X.Sink.faults) c.args.store.now c.args.out.now c.args.err.now c.obey.new.store c.obey.new.out c.obey.new.err in
+    subst (λ (l : Option Line). ByWords l c.obey.result k) (sym c.in-Ok.ensures.taken) c.obey.ensures.words
 
 pub returns-in-Ok-clause-headline : goal.returns-in-Ok-clause-headline
 returns-in-Ok-clause-headline g c =
-    let known = g.S.Store.files c.args.store.now in
-    let line = command_in c.args.words.now in
-    let out = g.O.Sink.written c.args.out.now in
-    let out_new = g.O.Sink.written c.obey.new.out in
-    let err = g.X.Sink.written c.args.err.now in
-    let last = g.X.Sink.written c.obey.new.err in
-    let before = g.X.Sink.faults c.args.err.now in
-    let now = g.X.Sink.faults c.obey.new.err in
-    prints-run c.headline.ensures known line (names_by line) c.obey.result out out_new err last before now
-    (subst (λ (l : Option Line). WithFiles known (λ files. Answers (names_by l) (λ what. IsAnswer l files what) c.obey.result out out_new err last before now)) (sym c.in-Ok.ensures.taken) c.obey.ensures.told)
+    let k = call (g.S.Store.files) (g.S.Store.counts) (g.O.Sink.written) (g.O.Sink.faults) (g.X.Sink.written) (g.X.Sink.faults) c.args.store.now c.args.out.now c.args.err.now c.obey.new.store c.obey.new.out c.obey.new.err in
+    prints-run c.headline.ensures (command_in c.args.words.now) c.obey.result k (returns-in-Ok-clause-told g c)
 
 pub returns-in-Ok-clause-kept : goal.returns-in-Ok-clause-kept
 returns-in-Ok-clause-kept g c =
-    let known = g.S.Store.files c.args.store.now in
-    let after = g.S.Store.files c.obey.new.store in
-    subst (λ (l : Option Line). WithFiles known (λ files. IsFree c.obey.result ⊎ AnAnswer (λ what. IsAnswer l files what) (λ what. WhereTold known after (KeptFiles what.saved (names_by l).log (names_by l).book)))) (sym c.in-Ok.ensures.taken) c.obey.ensures.kept
+    let k = call (g.S.Store.files) (g.S.Store.counts) (g.O.Sink.written) (g.O.Sink.faults) (g.X.Sink.written) (g.X.Sink.faults) c.args.store.now c.args.out.now c.args.err.now c.obey.new.store c.obey.new.out c.obey.new.err in
+    answers-keep (command_in c.args.words.now) c.obey.result k (returns-in-Ok-clause-told g c)
+
+pub returns-in-Ok-clause-others : goal.returns-in-Ok-clause-others
+returns-in-Ok-clause-others g c =
+    let k = call (g.S.Store.files) (g.S.Store.counts) (g.O.Sink.written) (g.O.Sink.faults) (g.X.Sink.written) (g.X.Sink.faults) c.args.store.now c.args.out.now c.args.err.now c.obey.new.store c.obey.new.out c.obey.new.err in
+    answers-few c.one_answer.ensures (command_in c.args.words.now) c.obey.result k (returns-in-Ok-clause-told g c)
+
+pub returns-in-Err-Refused-clause-recorded : goal.returns-in-Err-Refused-clause-recorded
+returns-in-Err-Refused-clause-recorded g c =
+    leaves-none (command_in c.args.words.now) c.refuse.result (g.S.Store.files c.args.store.now) (g.S.Store.files c.args.store.now)
+    (told-apart c.none.result WordsRefused c.refuse.result (g.X.Sink.written c.args.err.now) (g.X.Sink.written c.refuse.new.err) (g.X.Sink.faults c.args.err.now) (g.X.Sink.faults c.refuse.new.err) c.refuse.ensures.told)
+
+pub returns-in-Err-OutOfMemory-clause-recorded : goal.returns-in-Err-OutOfMemory-clause-recorded
+returns-in-Err-OutOfMemory-clause-recorded g c =
+    let refuse = c.refuse-in-Err-OutOfMemory in
+    leaves-none (command_in c.args.words.now) refuse.result (g.S.Store.files c.args.store.now) (g.S.Store.files c.args.store.now)
+    (told-apart c.none-in-Err-OutOfMemory.result OutOfMemory refuse.result (g.X.Sink.written c.args.err.now) (g.X.Sink.written refuse.new.err) (g.X.Sink.faults c.args.err.now) (g.X.Sink.faults refuse.new.err) refuse.ensures.told)
+
+pub returns-in-Ok-clause-recorded : goal.returns-in-Ok-clause-recorded
+returns-in-Ok-clause-recorded g c =
+    subst (λ (l : Option Line). LeavesRun l c.obey.result (g.S.Store.files c.args.store.now) (g.S.Store.files c.obey.new.store)) (sym c.in-Ok.ensures.taken) c.obey.ensures.recorded
+
+pub returns-in-Err-Refused-clause-done : goal.returns-in-Err-Refused-clause-done
+returns-in-Err-Refused-clause-done g c =
+    let k = call (g.S.Store.files) (g.S.Store.counts) (g.O.Sink.written) (g.O.Sink.faults) (g.X.Sink.written) (g.X.Sink.faults) c.args.store.now c.args.out.now c.args.err.now c.args.store.now c.args.out.now c.refuse.new.err in
+    call-done c.each_can_be_done.ensures c.one_answer.ensures (command_in c.args.words.now) c.refuse.result k (returns-in-Err-Refused-clause-told g c)
+
+pub returns-in-Err-OutOfMemory-clause-done : goal.returns-in-Err-OutOfMemory-clause-done
+returns-in-Err-OutOfMemory-clause-done g c =
+    let k = call (g.S.Store.files) (g.S.Store.counts) (g.O.Sink.written) (g.O.Sink.faults) (g.X.Sink.written) (g.X.Sink.faults) c.args.store.now c.args.out.now c.args.err.now c.args.store.now c.args.out.now c.refuse-in-Err-OutOfMemory.new.err in
+    call-done c.each_can_be_done.ensures c.one_answer.ensures (command_in c.args.words.now) c.refuse-in-Err-OutOfMemory.result k (returns-in-Err-OutOfMemory-clause-told g c)
+
+pub returns-in-Ok-clause-done : goal.returns-in-Ok-clause-done
+returns-in-Ok-clause-done g c =
+    let k = call (g.S.Store.files) (g.S.Store.counts) (g.O.Sink.written) (g.O.Sink.faults) (g.X.Sink.written) (g.X.Sink.faults) c.args.store.now c.args.out.now c.args.err.now c.obey.new.store c.obey.new.out c.obey.new.err in
+    call-done c.each_can_be_done.ensures c.one_answer.ensures (command_in c.args.words.now) c.obey.result k (returns-in-Ok-clause-told g c)

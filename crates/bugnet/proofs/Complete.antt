@@ -1,0 +1,190 @@
+-- Where a command has an answer, and where it is done.
+use Rattle.std.proofs.Common.{◌≡◌, ◌≤◌, ℕ, Bool, true, false, nat_lt, List, [], length, Option, Some, None, ap, subst, sym, refl, arith, inl, inr, ◌⊎◌}
+use Rattle.std.specs.Prelude.{Result, Ok, Err, IfSome, is_some, unwrap_or}
+use Rattle.std.specs.Str.{bytes_eq}
+use Rattle.sha2.specs.Sha256.{sha256}
+use Rattle.bn_base.specs.Programs.{Program}
+use Rattle.bn_base.specs.Ranges.{first_bad}
+use Rattle.bn_base.specs.declared.settings.BadSetting.{BadSetting}
+use Rattle.bn_base.specs.declared.settings.RawSettings.{RawSettings}
+use Rattle.bn_outside.specs.Files.{Files}
+use Rattle.command_words.specs.Words.{Line, RecordingLine, RecordLine, ReplayLine, ListLine, CheckLine}
+use Rattle.elf_loader.specs.Loaded.{image_of}
+use Rattle.elf_loader.specs.declared.error.ElfError.{ElfError}
+use Rattle.log_order.specs.Content.{Content, IsContent}
+use Rattle.log_file.specs.Layout.{file_bytes}
+use Rattle.log_file.specs.declared.error.FileError.{FileError}
+use Rattle.hart_replay.specs.Replay.{Interval}
+use Rattle.run_model.specs.Files.{content_of}
+use Rattle.run_model.specs.Runs.{run_of}
+use Rattle.replay_laws.specs.Law.{LogSuffices}
+use Rattle.file_laws.specs.Laws.{LogsAreContents}
+use Rattle.bugnet.specs.Names.{FileNames, no_names, name_of}
+use Rattle.bugnet.specs.Told.{Told, refused}
+use Rattle.bugnet.specs.Commands.{Either, IsByFile, WithFile, Reads, by_log, IsByLog, list_of, check_of, replay_of, IsReplayOf, IsReplay, IsByInput, IsByProgram, IsByNames, IsBySettings, IsRecord, seeded_told}
+use Rattle.bugnet.specs.Recordings.{end_status, recorded}
+use Rattle.bugnet.specs.Answers.{names_in, names_by, IsAnswer}
+use Rattle.bugnet.specs.Headline.{Part, ReplaysRun}
+use Rattle.bugnet.specs.Outside.{WithFiles}
+use Rattle.bugnet.specs.Run.{Call, IsFree, Tells, StoppedEarly, AnAnswer, Answers}
+use Rattle.bugnet.specs.Saves.{IsRecorded, input_by}
+use Rattle.bugnet.specs.Complete.{IsRead, EachHasAnAnswer, CanRecord, HasLog, EachCanBeDone, IsDone}
+use Rattle.bugnet.specs.Laws.{OneAnswer}
+use Rattle.bugnet.specs.declared.answer.RunEnd.{RunEnd}
+use Rattle.bugnet.specs.declared.answer.RunEnd.TheVariants as ends
+use Rattle.bugnet.specs.declared.names.Role.{Role}
+use Rattle.bugnet.specs.declared.names.Role.TheVariants as role
+use Rattle.bugnet.specs.declared.refusal.Refusal.TheVariants.{WordsRefused, OutOfRange, SameName, Missing, TooLong, ElfRefused}
+use Rattle.bugnet.proofs.Loads.{by-bytes}
+use Rattle.bugnet.proofs.Suffices.{file-size, answer, Together}
+use Rattle.bugnet.proofs.Tells.{with-files, stopped-free, early-free}
+
+-- ---- some answer
+
+abbrev Some-told : (Told → Type 0) → Type 0
+Some-told Is = (what : Told) × Is what
+
+some-either : (b : Bool) (names : FileNames) (r : Role) (Go : Told → Type 0) → Some-told Go → Some-told (λ what. Either b (what ≡ refused names (TooLong r)) (Go what))
+some-either true names r Go go = (refused names (TooLong r), refl)
+some-either false names r Go go = go
+
+some-by : (there : Option (List ℕ)) (names : FileNames) (r : Role) (limit : ℕ) (Go : List ℕ → Told → Type 0) → IfSome there (λ bytes. Some-told (Go bytes)) → Some-told (IsByFile there names r limit Go)
+some-by None names r limit Go go = (refused names (Missing r), refl)
+some-by (Some bytes) names r limit Go go = some-either (nat_lt limit (length bytes)) names r (Go bytes) go
+
+some-file : (files : Files) (names : FileNames) (r : Role) (limit : ℕ) (Go : List ℕ → Told → Type 0) → IfSome (files (name_of names r)) (λ bytes. Some-told (Go bytes)) → Some-told (WithFile files names r limit Go)
+unfolding WithFile
+some-file files names r limit Go go = some-by (files (name_of names r)) names r limit Go go
+
+-- what is there, whatever it is
+any-there : (there : Option (List ℕ)) (P : List ℕ → Type 0) → ((bytes : List ℕ) → P bytes) → IfSome there P
+any-there None P h = tt
+any-there (Some bytes) P h = h bytes
+
+read-there : (there : Option (List ℕ)) (P : List ℕ → Type 0) → ((bytes : List ℕ) (says : Result Content FileError) → Reads bytes says → P bytes) → IsRead there → IfSome there P
+read-there None P h read = tt
+read-there (Some bytes) P h read = h bytes read.0 read.1
+
+some-log : (names : FileNames) (bytes : List ℕ) (go : Content → Told) (says : Result Content FileError) → Reads bytes says → Some-told (IsByLog names bytes go)
+some-log names bytes go says reads = (by_log names go says, record { says = says; reads = reads; is = refl })
+
+some-input : (has : Bool) (files : Files) (names : FileNames) (go : List ℕ → Told) → Some-told (IsByInput has files names go)
+some-input true files names go = some-file files names role.Input 16777216 (λ input what. what ≡ go input) (any-there (files (name_of names role.Input)) _ (λ input. (go input, refl)))
+some-input false files names go = (go [], refl)
+
+some-program : (i : Result Program ElfError) (files : Files) (names : FileNames) (c : RawSettings) (seed : ℕ) (has : Bool) (digest : List ℕ) → Some-told (IsByProgram i files names c seed has digest)
+some-program (Err e) files names c seed has digest = (refused names (ElfRefused e), refl)
+some-program (Ok i) files names c seed has digest = some-input has files names (seeded_told c i digest seed)
+
+some-names : (same : Bool) (files : Files) (names : FileNames) (c : RawSettings) (seed : ℕ) (has : Bool) → Some-told (IsByNames same files names c seed has)
+some-names true files names c seed has = (refused names SameName, refl)
+some-names false files names c seed has =
+    some-file files names role.Elf 67108864 (λ elf what. IsByProgram (image_of elf c) files names c seed has (sha256 elf) what)
+    (any-there (files (name_of names role.Elf)) _ (λ elf. some-program (image_of elf c) files names c seed has (sha256 elf)))
+
+some-settings : (bad : Option BadSetting) (files : Files) (names : FileNames) (c : RawSettings) (seed : ℕ) (has : Bool) → Some-told (IsBySettings bad files names c seed has)
+some-settings (Some bad) files names c seed has = (refused names (OutOfRange bad), refl)
+some-settings None files names c seed has = some-names (bytes_eq names.log names.book) files names c seed has
+
+pub some-answer : EachHasAnAnswer
+some-answer None files read = (refused no_names WordsRefused, refl)
+some-answer (Some (RecordLine r)) files read = some-settings (first_bad r.settings) files (names_in (RecordLine r)) r.settings r.seed (is_some r.input)
+some-answer (Some (ReplayLine log elf hart interval)) files read =
+    let names = names_in (ReplayLine log elf hart interval) in
+    some-file files names role.Log 268500992 (λ log what. IsReplayOf files names hart interval log what)
+    (read-there (files log) _ (λ bytes says reads. some-file files names role.Elf 67108864 (λ elf what. IsByLog names bytes (replay_of names hart interval elf) what)
+    (any-there (files elf) _ (λ program. some-log names bytes (replay_of names hart interval program) says reads))) read)
+some-answer (Some (ListLine log)) files read =
+    let names = names_in (ListLine log) in
+    some-file files names role.Log 268500992 (λ log what. IsByLog names log list_of what) (read-there (files log) _ (λ bytes says reads. some-log names bytes list_of says reads) read)
+some-answer (Some (CheckLine log)) files read =
+    let names = names_in (CheckLine log) in
+    some-file files names role.Log 268500992 (λ log what. IsByLog names log check_of what) (read-there (files log) _ (λ bytes says reads. some-log names bytes check_of says reads) read)
+
+-- ---- commands that can be done
+
+ends-recorded : (e : RunEnd) → IsRecorded (end_status e)
+ends-recorded ends.Done = inl refl
+ends-recorded ends.Fault = inr (inl refl)
+ends-recorded ends.Limit = inr (inr refl)
+
+told-recorded : (c : RawSettings) (i : Program) (digest : List ℕ) (seed : ℕ) (input : List ℕ) → IsRecorded (seeded_told c i digest seed input).status
+unfolding recorded
+told-recorded c i digest seed input = ends-recorded _
+
+there-file : (files : Files) (names : FileNames) (r : Role) (limit : ℕ) (bytes : List ℕ) (Go : List ℕ → Told → Type 0) (what : Told) → files (name_of names r) ≡ Some bytes → length bytes ≤ limit → Go bytes what → WithFile files names r limit Go what
+unfolding WithFile
+there-file files names r limit bytes Go what e h go = by-bytes (files (name_of names r)) names r bytes limit Go what e h go
+
+same_bytes : (a b : List ℕ) → Some a ≡ Some b → a ≡ b
+same_bytes a b e = grind arith
+
+with-input : (there : Option (List ℕ)) (elf log book : List ℕ) (files : Files) (go : List ℕ → Told) (input : List ℕ) → input_by there files ≡ Some input → length input ≤ 16777216
+    → IsByInput (is_some there) files (record { elf = elf; log = log; book = book; input = unwrap_or there [] }) go (go input)
+with-input None elf log book files go input e h = ap go (sym (same_bytes [] input e))
+with-input (Some name) elf log book files go input e h =
+    there-file files (record { elf = elf; log = log; book = book; input = name }) role.Input 16777216 input (λ input what. what ≡ go input) (go input) e h refl
+
+can-record : (r : RecordingLine) (files : Files) (h : CanRecord r files) → IsRecord files (names_in (RecordLine r)) r.settings r.seed (is_some r.input) (seeded_told r.settings h.program (sha256 h.elf) r.seed h.input)
+can-record r files h =
+    let names = names_in (RecordLine r) in
+    let c = r.settings in
+    let has = is_some r.input in
+    let what = seeded_told c h.program (sha256 h.elf) r.seed h.input in
+    let program : IsByProgram (image_of h.elf c) files names c r.seed has (sha256 h.elf) what =
+    subst (λ (i : Result Program ElfError). IsByProgram i files names c r.seed has (sha256 h.elf) what) (sym h.loaded)
+    (with-input r.input r.elf r.log r.book files (seeded_told c h.program (sha256 h.elf) r.seed) h.input h.input_there h.input_small) in
+    let elf : IsByNames false files names c r.seed has what =
+    there-file files names role.Elf 67108864 h.elf (λ elf what. IsByProgram (image_of elf c) files names c r.seed has (sha256 elf) what) what h.elf_there h.elf_small program in
+    subst (λ (b : Option BadSetting). IsBySettings b files names c r.seed has what) (sym h.settings)
+    (subst (λ (b : Bool). IsByNames b files names c r.seed has what) (sym h.names) elf)
+
+can-log : LogsAreContents → (files : Files) (names : FileNames) (go : Content → Told) (h : HasLog (files names.log)) → (what : Told) × WithFile files names role.Log 268500992 (λ log what. IsByLog names log go what) what
+    × (what ≡ go (content_of h.settings h.digest (run_of h.settings h.program h.input h.turns)))
+can-log contents files names go h =
+    let d = content_of h.settings h.digest (run_of h.settings h.program h.input h.turns) in
+    let is : IsContent d = contents h.settings h.program h.digest h.input h.turns h.recording in
+    (go d, there-file files names role.Log 268500992 (file_bytes d) (λ log what. IsByLog names log go what) (go d) h.log (file-size d is) (record { says = Ok d; reads = (is, refl); is = refl }), refl)
+
+can-replay : LogSuffices → Together → LogsAreContents → (line : Option Line) (files : Files) (p : Part) (v : Interval) → ReplaysRun line files p v → (what : Told) × IsAnswer line files what × IsRecorded what.status
+can-replay law stand contents line files p v r =
+    let names = names_in (ReplayLine r.log_name r.elf_name p.hart p.number) in
+    let d = content_of p.settings (sha256 p.elf) (run_of p.settings p.program p.input p.turns) in
+    let is : IsContent d = contents p.settings p.program (sha256 p.elf) p.input p.turns r.recording in
+    let what = replay_of names p.hart p.number p.elf d in
+    let elf : IsReplayOf files names p.hart p.number (file_bytes d) what =
+    there-file files names role.Elf 67108864 p.elf (λ elf what. IsByLog names (file_bytes d) (replay_of names p.hart p.number elf) what) what r.program r.small (record { says = Ok d; reads = (is, refl); is = refl }) in
+    let log : IsReplay files names p.hart p.number what =
+    there-file files names role.Log 268500992 (file_bytes d) (λ log what. IsReplayOf files names p.hart p.number log what) what r.log (file-size d is) elf in
+    let done : IsRecorded what.status = inl (ap (λ (t : Told). t.status) (answer law stand names p v line files r)) in
+    subst (λ (l : Option Line). (what : Told) × IsAnswer l files what × IsRecorded what.status) (sym r.command) (what, log, done)
+
+pub can-be-done : LogSuffices → Together → LogsAreContents → EachCanBeDone
+can-be-done law stand contents (RecordLine r) files h =
+    (seeded_told r.settings h.program (sha256 h.elf) r.seed h.input, can-record r files h, told-recorded r.settings h.program (sha256 h.elf) r.seed h.input)
+can-be-done law stand contents (ReplayLine log elf hart interval) files h = can-replay law stand contents (Some (ReplayLine log elf hart interval)) files h.0 h.1 h.2
+can-be-done law stand contents (ListLine log) files h =
+    let l = can-log contents files (names_in (ListLine log)) list_of h in
+    (l.0, l.1, inl (ap (λ (t : Told). t.status) l.2))
+can-be-done law stand contents (CheckLine log) files h =
+    let l = can-log contents files (names_in (CheckLine log)) check_of h in
+    (l.0, l.1, inl (ap (λ (t : Told). t.status) l.2))
+
+-- ---- a call
+
+tells-done : (names : FileNames) (what : Told) (status : ℕ) (k : Call) → IsRecorded what.status → Tells names what status k → IsFree status ⊎ IsRecorded status
+tells-done names what status k is (inl done) = inr (subst (λ (n : ℕ). IsRecorded n) (sym done.status_is) is)
+tells-done names what status k is (inr s) = inl (stopped-free names what status k s)
+
+is-done : EachCanBeDone → OneAnswer → (line : Option Line) (files : Files) (status : ℕ) (k : Call)
+    → AnAnswer (IsAnswer line files) (λ what. Tells (names_by line) what status k) ⊎ StoppedEarly line files status k → IsDone line files status
+is-done can one None files status k a = tt
+is-done can one (Some line) files status k (inr early) = λ h. inl (early-free (Some line) files status k early)
+is-done can one (Some line) files status k (inl a) = λ h.
+    let c = can line files h in
+    tells-done (names_in line) a.0 status k (subst (λ (t : Told). IsRecorded t.status) (one (Some line) files c.0 a.0 c.1 a.1) c.2) a.2
+
+pub call-done : EachCanBeDone → OneAnswer → (line : Option Line) (status : ℕ) (k : Call) → Answers line status k → WithFiles k.old.files (λ files. IsDone line files status)
+call-done can one line status k h =
+    with-files k.old.files (λ files. AnAnswer (IsAnswer line files) (λ what. Tells (names_by line) what status k) ⊎ StoppedEarly line files status k) (λ files. IsDone line files status)
+    (λ files a. is-done can one line files status k a) h

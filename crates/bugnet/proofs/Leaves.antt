@@ -1,0 +1,232 @@
+-- What a recording leaves, from what it has to answer.
+use Rattle.std.proofs.Common.{◌≡◌, ◌≢◌, ◌≤◌, ℕ, Bool, true, false, nat_lt, List, [], length, Option, Some, None, ◌∙◌, subst, sym, refl, arith, inl, inr, ◌⊎◌}
+use Rattle.std.specs.Prelude.{Result, Ok, Err, IfOk, is_some, unwrap_or}
+use Rattle.std.specs.Str.{bytes_eq}
+use Rattle.std.proofs.lemmas.Slice.Eq.{bytes_eq-Decides}
+use Rattle.std.proofs.lemmas.Bool.Decides.{nat_tests}
+use Rattle.sha2.specs.Sha256.{sha256}
+use Rattle.sha2.proofs.Facts256.{length-sha256}
+use Rattle.bn_base.specs.Programs.{Program}
+use Rattle.bn_base.specs.Ranges.{first_bad}
+use Rattle.bn_base.specs.declared.settings.BadSetting.{BadSetting}
+use Rattle.bn_base.specs.declared.settings.RawSettings.{RawSettings}
+use Rattle.bn_outside.specs.Files.{Files, WhereTold}
+use Rattle.command_words.specs.Words.{Line, RecordingLine, RecordLine, ReplayLine, ListLine, CheckLine}
+use Rattle.elf_loader.specs.Loaded.{image_of}
+use Rattle.elf_loader.specs.declared.error.ElfError.{ElfError}
+use Rattle.file_laws.specs.Given.{IsImage, IsRecording}
+use Rattle.file_sizes.specs.Laws.{FilesKeepToTheirSize}
+use Rattle.hart_replay.specs.declared.error.ReplayError.{ReplayError}
+use Rattle.hart_replay.specs.declared.error.ReplayError.TheVariants as replay
+use Rattle.run_model.specs.Runs.{seeded}
+use Rattle.bugnet.specs.Names.{FileNames}
+use Rattle.bugnet.specs.Refusals.{status_of, replay_status}
+use Rattle.bugnet.specs.Told.{Told, refused}
+use Rattle.bugnet.specs.Commands.{Either, IsByFile, WithFile, IsByInput, IsByProgram, IsByNames, IsBySettings, IsRecord, seeded_told}
+use Rattle.bugnet.specs.Recordings.{recorded}
+use Rattle.bugnet.specs.Answers.{names_in, IsAnswer}
+use Rattle.bugnet.specs.Outside.{WithFiles, ToldRefusal, KeptFiles}
+use Rattle.bugnet.specs.Run.{Call, IsFree, AreKept, Tells, StoppedEarly, AnAnswer, Answers}
+use Rattle.bugnet.specs.Saves.{IsRecorded, input_by, Leaves, LeavesRun, HoldsImage, HasImage}
+use Rattle.bugnet.specs.Laws.{SeedsAreWhole}
+use Rattle.bugnet.specs.declared.names.Role.{Role}
+use Rattle.bugnet.specs.declared.names.Role.TheVariants as role
+use Rattle.bugnet.specs.declared.refusal.Refusal.{Refusal}
+use Rattle.bugnet.specs.declared.refusal.Refusal.TheVariants.{WordsRefused, OutOfRange, SameName, StoreFailed, Missing, TooLong, ElfRefused, LogRefused, ProgramDiffers, OutOfMemory, WriteFailed, ReplayStopped}
+use Rattle.bugnet.proofs.Tested.{in-range}
+use Rattle.bugnet.proofs.Tells.{with-files, stopped-free, early-free}
+
+-- ---- no refusal has the status of a recording
+
+apart : (status n : ℕ) → status ≡ n → n ≢ 0 → n ≢ 10 → n ≢ 11 → IsRecorded status → ⊥
+apart status n is a b c (inl e) = a (sym is ∙ e)
+apart status n is a b c (inr (inl e)) = b (sym is ∙ e)
+apart status n is a b c (inr (inr e)) = c (sym is ∙ e)
+
+replays-apart : (e : ReplayError) → IsRecorded (replay_status e) → ⊥
+replays-apart (replay.NoInterval hart interval) = apart 14 14 refl (λ e. omega (arith, e)) (λ e. omega (arith, e)) (λ e. omega (arith, e))
+replays-apart (replay.LoadMissing hart ic addr) = apart 15 15 refl (λ e. omega (arith, e)) (λ e. omega (arith, e)) (λ e. omega (arith, e))
+replays-apart (replay.ScMissing hart ic) = apart 15 15 refl (λ e. omega (arith, e)) (λ e. omega (arith, e)) (λ e. omega (arith, e))
+replays-apart (replay.RecordsLeft hart left) = apart 15 15 refl (λ e. omega (arith, e)) (λ e. omega (arith, e)) (λ e. omega (arith, e))
+replays-apart (replay.EndDiffers hart said found) = apart 15 15 refl (λ e. omega (arith, e)) (λ e. omega (arith, e)) (λ e. omega (arith, e))
+replays-apart replay.OutOfMemory = apart 15 15 refl (λ e. omega (arith, e)) (λ e. omega (arith, e)) (λ e. omega (arith, e))
+
+two : IsRecorded 2 → ⊥
+two = apart 2 2 refl (λ e. omega (arith, e)) (λ e. omega (arith, e)) (λ e. omega (arith, e))
+
+refusals-apart : (r : Refusal) → IsRecorded (status_of r) → ⊥
+refusals-apart WordsRefused = two
+refusals-apart (OutOfRange bad) = two
+refusals-apart SameName = two
+refusals-apart (StoreFailed role) = apart 3 3 refl (λ e. omega (arith, e)) (λ e. omega (arith, e)) (λ e. omega (arith, e))
+refusals-apart (Missing role) = apart 4 4 refl (λ e. omega (arith, e)) (λ e. omega (arith, e)) (λ e. omega (arith, e))
+refusals-apart (TooLong role) = apart 5 5 refl (λ e. omega (arith, e)) (λ e. omega (arith, e)) (λ e. omega (arith, e))
+refusals-apart (ElfRefused e) = apart 6 6 refl (λ e. omega (arith, e)) (λ e. omega (arith, e)) (λ e. omega (arith, e))
+refusals-apart (LogRefused e) = apart 7 7 refl (λ e. omega (arith, e)) (λ e. omega (arith, e)) (λ e. omega (arith, e))
+refusals-apart (ProgramDiffers kept found) = apart 8 8 refl (λ e. omega (arith, e)) (λ e. omega (arith, e)) (λ e. omega (arith, e))
+refusals-apart OutOfMemory = apart 9 9 refl (λ e. omega (arith, e)) (λ e. omega (arith, e)) (λ e. omega (arith, e))
+refusals-apart WriteFailed = apart 13 13 refl (λ e. omega (arith, e)) (λ e. omega (arith, e)) (λ e. omega (arith, e))
+refusals-apart (ReplayStopped e) = replays-apart e
+
+-- the status of a refusal that was told
+pub told-apart : (names : FileNames) (r : Refusal) (status : ℕ) (err_old err_new : Option (List ℕ)) (before now : ℕ) → ToldRefusal names r status err_old err_new before now → IsRecorded status → ⊥
+told-apart names r status err_old err_new before now (inl h) is = refusals-apart r (subst (λ (n : ℕ). IsRecorded n) h.0 is)
+told-apart names r status err_old err_new before now (inr h) is = refusals-apart OutOfMemory (subst (λ (n : ℕ). IsRecorded n) h.0 is)
+
+refused-apart : (names : FileNames) (r : Refusal) (what : Told) → what ≡ refused names r → IsRecorded what.status → ⊥
+unfolding refused
+refused-apart names r what e is = refusals-apart r (subst (λ (t : Told). IsRecorded t.status) e is)
+
+-- a line that wasn't recorded leaves nothing
+pub leaves-none : (line : Option Line) (status : ℕ) (old new : Option Files) → (IsRecorded status → ⊥) → LeavesRun line status old new
+leaves-none None status old new never = tt
+leaves-none (Some (RecordLine r)) status old new never = λ is. absurd (never is)
+leaves-none (Some (ReplayLine log elf hart interval)) status old new never = tt
+leaves-none (Some (ListLine log)) status old new never = tt
+leaves-none (Some (CheckLine log)) status old new never = tt
+
+-- ---- what is recorded
+
+-- a recording of these files
+record Found (r : RecordingLine) (files : Files) (what : Told) : Type 0 where
+  pub elf : List ℕ
+  pub program : Program
+  pub input : List ℕ
+  pub elf_there : files r.elf ≡ Some elf
+  pub small : length elf ≤ 67108864
+  pub loaded : image_of elf r.settings ≡ Ok program
+  pub input_there : input_by r.input files ≡ Some input
+  pub settings : first_bad r.settings ≡ None
+  pub names : bytes_eq r.log r.book ≡ false
+  pub what_is : what ≡ seeded_told r.settings program (sha256 elf) r.seed input
+
+within : (limit n : ℕ) → nat_lt limit n ≡ false → n ≤ limit
+within limit n e = grind (arith, nat_tests)
+
+-- a file that is there, with its bytes
+by-file : (there : Option (List ℕ)) (names : FileNames) (role : Role) (limit : ℕ) (Go : List ℕ → Told → Type 0) (what : Told) → IsByFile there names role limit Go what → IsRecorded what.status
+    → (bytes : List ℕ) × (there ≡ Some bytes) × Go bytes what × (length bytes ≤ limit)
+by-file None names role limit Go what h is = absurd (refused-apart names (Missing role) what h is)
+by-file (Some bytes) names role limit Go what h is =
+    let f = go (nat_lt limit (length bytes)) refl h in
+    (bytes, refl, f.0, f.1)
+  where
+    go : (b : Bool) → nat_lt limit (length bytes) ≡ b → Either b (what ≡ refused names (TooLong role)) (Go bytes what) → Go bytes what × (length bytes ≤ limit)
+    go true e x = absurd (refused-apart names (TooLong role) what x is)
+    go false e x = (x, within limit (length bytes) e)
+
+by-input : (there : Option (List ℕ)) (elf log book : List ℕ) (files : Files) (go : List ℕ → Told) (what : Told)
+    → IsByInput (is_some there) files (record { elf = elf; log = log; book = book; input = unwrap_or there [] }) go what → IsRecorded what.status
+    → (input : List ℕ) × (input_by there files ≡ Some input) × (what ≡ go input)
+unfolding WithFile
+by-input None elf log book files go what h is = ([], refl, h)
+by-input (Some name) elf log book files go what h is =
+    let f = by-file (files name) (record { elf = elf; log = log; book = book; input = name }) role.Input 16777216 (λ input what. what ≡ go input) what h is in
+    (f.0, f.1, f.2)
+
+by-program : (i : Result Program ElfError) (files : Files) (r : RecordingLine) (digest : List ℕ) (what : Told)
+    → IsByProgram i files (names_in (RecordLine r)) r.settings r.seed (is_some r.input) digest what → IsRecorded what.status
+    → (p : Program) × (i ≡ Ok p) × IsByInput (is_some r.input) files (names_in (RecordLine r)) (seeded_told r.settings p digest r.seed) what
+by-program (Err e) files r digest what h is = absurd (refused-apart (names_in (RecordLine r)) (ElfRefused e) what h is)
+by-program (Ok p) files r digest what h is = (p, refl, h)
+
+by-names : (same : Bool) (files : Files) (r : RecordingLine) (what : Told) → bytes_eq r.log r.book ≡ same → first_bad r.settings ≡ None
+    → IsByNames same files (names_in (RecordLine r)) r.settings r.seed (is_some r.input) what → IsRecorded what.status → Found r files what
+unfolding WithFile
+by-names true files r what e s h is = absurd (refused-apart (names_in (RecordLine r)) SameName what h is)
+by-names false files r what e s h is =
+    let names = names_in (RecordLine r) in
+    let f = by-file (files r.elf) names role.Elf 67108864 (λ elf what. IsByProgram (image_of elf r.settings) files names r.settings r.seed (is_some r.input) (sha256 elf) what) what h is in
+    let p = by-program (image_of f.0 r.settings) files r (sha256 f.0) what f.2 is in
+    let i = by-input r.input r.elf r.log r.book files (seeded_told r.settings p.0 (sha256 f.0) r.seed) what p.2 is in
+    record { elf = f.0; program = p.0; input = i.0; elf_there = f.1; small = f.3; loaded = p.1; input_there = i.1; settings = s; names = e; what_is = i.2 }
+
+by-settings : (bad : Option BadSetting) (files : Files) (r : RecordingLine) (what : Told) → first_bad r.settings ≡ bad
+    → IsBySettings bad files (names_in (RecordLine r)) r.settings r.seed (is_some r.input) what → IsRecorded what.status → Found r files what
+by-settings (Some bad) files r what e h is = absurd (refused-apart (names_in (RecordLine r)) (OutOfRange bad) what h is)
+by-settings None files r what e h is = by-names (bytes_eq r.log r.book) files r what refl e h is
+
+-- ---- what it leaves
+
+image-there : (there : Option (List ℕ)) (c : RawSettings) (elf : List ℕ) (i : Program) → there ≡ Some elf → image_of elf c ≡ Ok i → HoldsImage there c → IsImage i
+image-there there c elf i e loaded h =
+    let at : IfOk (image_of elf c) IsImage = subst (λ (o : Option (List ℕ)). HoldsImage o c) e h in
+    subst (λ (x : Result Program ElfError). IfOk x IsImage) loaded at
+
+apart-names : (log book : List ℕ) → bytes_eq log book ≡ false → log ≢ book
+apart-names log book e same = true-or (bytes_eq log book) ((bytes_eq-Decides log book).1 same) e
+  where
+    true-or : (b : Bool) → b ≡ true → b ≡ false → ⊥
+    true-or b x y = grind arith
+
+left : SeedsAreWhole → FilesKeepToTheirSize → (r : RecordingLine) (old new : Files) (what : Told) → Found r old what → HoldsImage (old r.elf) r.settings
+    → KeptFiles what.saved r.log r.book old new → Leaves r old new
+unfolding recorded
+left whole sizes r old new what f image kept =
+    let c = r.settings in
+    let i = f.program in
+    let turns = seeded c i f.input r.seed in
+    let ends = whole c i f.input r.seed f.settings in
+    let recording : IsRecording c i (sha256 f.elf) f.input turns = record {
+      setting = in-range c f.settings;
+      image = image-there (old r.elf) c f.elf i f.elf_there f.loaded image;
+      digest_size = length-sha256 f.elf;
+      legal = ends.legal;
+      over = ends.over;
+    } in
+    let both = subst (λ (t : Told). KeptFiles t.saved r.log r.book old new) f.what_is kept in
+    record {
+      elf = f.elf;
+      program = i;
+      input = f.input;
+      turns = turns;
+      elf_there = f.elf_there;
+      small = f.small;
+      loaded = f.loaded;
+      input_there = f.input_there;
+      chosen = refl;
+      recording = recording;
+      book = both.book_there;
+      log = both.log_there (apart-names r.log r.book f.names);
+      within = sizes c i (sha256 f.elf) f.input turns recording;
+      others = both.others;
+    }
+
+-- ---- a call
+
+-- it is done, since it wasn't stopped
+free-apart : (status : ℕ) → IsFree status → IsRecorded status → ⊥
+free-apart status (inl e) = apart status 3 e (λ e. omega (arith, e)) (λ e. omega (arith, e)) (λ e. omega (arith, e))
+free-apart status (inr (inl e)) = apart status 9 e (λ e. omega (arith, e)) (λ e. omega (arith, e)) (λ e. omega (arith, e))
+free-apart status (inr (inr e)) = apart status 13 e (λ e. omega (arith, e)) (λ e. omega (arith, e)) (λ e. omega (arith, e))
+
+done-kept : (names : FileNames) (what : Told) (status : ℕ) (k : Call) → Tells names what status k → IsRecorded status → IsRecorded what.status × AreKept names what k
+done-kept names what status k (inl done) is = (subst (λ (n : ℕ). IsRecorded n) done.status_is is, done.files)
+done-kept names what status k (inr s) is = absurd (free-apart status (stopped-free names what status k s) is)
+
+-- by maps that are told
+so-left : SeedsAreWhole → FilesKeepToTheirSize → (r : RecordingLine) (status : ℕ) (old new : Option Files)
+    → WithFiles old (λ files. HoldsImage (files r.elf) r.settings)
+    → WithFiles old (λ files. (what : Told) × IsRecord files (names_in (RecordLine r)) r.settings r.seed (is_some r.input) what × IsRecorded what.status × WhereTold old new (KeptFiles what.saved r.log r.book))
+    → WhereTold old new (Leaves r)
+so-left whole sizes r status None new image h = tt
+so-left whole sizes r status (Some x) None image h = absurd h.3
+so-left whole sizes r status (Some x) (Some y) image h = left whole sizes r x y h.0 (by-settings (first_bad r.settings) x r h.0 refl h.1 h.2) image h.3
+
+pub call-leaves : SeedsAreWhole → FilesKeepToTheirSize → (line : Line) (status : ℕ) (k : Call) → HasImage line k.old.files → Answers (Some line) status k
+    → LeavesRun (Some line) status k.old.files k.new.files
+call-leaves whole sizes (RecordLine r) status k image h = λ is.
+    so-left whole sizes r status k.old.files k.new.files image
+    (with-files k.old.files (λ files. AnAnswer (IsAnswer (Some (RecordLine r)) files) (λ what. Tells (names_in (RecordLine r)) what status k) ⊎ StoppedEarly (Some (RecordLine r)) files status k)
+    (λ files. (what : Told) × IsRecord files (names_in (RecordLine r)) r.settings r.seed (is_some r.input) what × IsRecorded what.status × WhereTold k.old.files k.new.files (KeptFiles what.saved r.log r.book))
+    (λ files x. found files is x) h)
+  where
+    found : (files : Files) → IsRecorded status → AnAnswer (IsAnswer (Some (RecordLine r)) files) (λ what. Tells (names_in (RecordLine r)) what status k) ⊎ StoppedEarly (Some (RecordLine r)) files status k
+        → (what : Told) × IsRecord files (names_in (RecordLine r)) r.settings r.seed (is_some r.input) what × IsRecorded what.status × WhereTold k.old.files k.new.files (KeptFiles what.saved r.log r.book)
+    found files is (inl a) =
+        let done = done-kept (names_in (RecordLine r)) a.0 status k a.2 is in
+        (a.0, a.1, done.0, done.1)
+    found files is (inr early) = absurd (free-apart status (early-free (Some (RecordLine r)) files status k early) is)
+call-leaves whole sizes (ReplayLine log elf hart interval) status k image h = tt
+call-leaves whole sizes (ListLine log) status k image h = tt
+call-leaves whole sizes (CheckLine log) status k image h = tt

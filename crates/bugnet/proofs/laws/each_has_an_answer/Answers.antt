@@ -1,0 +1,5 @@
+use Rattle.bugnet.proofs.Complete.{some-answer}
+use Rattle.bugnet.proofs.laws.each_has_an_answer.Goals as goal
+
+pub returns : goal.returns
+returns c = some-answer

@@ -1,0 +1,5 @@
+use Rattle.bugnet.proofs.Suffices.{replayed-so}
+use Rattle.bugnet.proofs.laws.recordings_are_replayed.Goals as goal
+
+pub returns : goal.returns
+returns c = replayed-so c.headline.ensures

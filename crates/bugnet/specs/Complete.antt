@@ -1,0 +1,80 @@
+-- Where a command has an answer, and where it is done.
+use Rattle.std.specs.Prelude.{◌≡◌, ◌≤◌, ◌⊎◌, ℕ, List, false, length, Option, Some, None, Result, Ok, IfSome}
+use Rattle.std.specs.Str.{bytes_eq}
+use Rattle.bn_base.specs.Programs.{Program}
+use Rattle.bn_base.specs.Ranges.{first_bad}
+use Rattle.bn_base.specs.declared.settings.RawSettings.{RawSettings}
+use Rattle.bn_outside.specs.Files.{Files}
+use Rattle.command_words.specs.Words.{Line, RecordingLine, RecordLine, ReplayLine, ListLine, CheckLine}
+use Rattle.elf_loader.specs.Loaded.{image_of}
+use Rattle.log_order.specs.Content.{Content}
+use Rattle.log_file.specs.declared.error.FileError.{FileError}
+use Rattle.hart_replay.specs.Replay.{Interval}
+use Rattle.run_model.specs.Files.{file_of}
+use Rattle.file_laws.specs.Given.{IsRecording}
+use Rattle.bugnet.specs.Told.{Told}
+use Rattle.bugnet.specs.Commands.{Reads}
+use Rattle.bugnet.specs.Answers.{IsAnswer}
+use Rattle.bugnet.specs.Headline.{Part, ReplaysRun}
+use Rattle.bugnet.specs.Run.{IsFree}
+use Rattle.bugnet.specs.Saves.{IsRecorded, input_by}
+
+-- ---- answers
+
+-- what is there is a log, or refused as one
+abbrev pub IsRead : Option (List ℕ) → Type 0
+IsRead there = IfSome there (λ bytes. (says : Result Content FileError) × Reads bytes says)
+
+-- so is the log of a line that loads one
+abbrev pub HasRead : Option Line → Files → Type 0
+HasRead None files = Unit {0}
+HasRead (Some (RecordLine r)) files = Unit {0}
+HasRead (Some (ReplayLine log elf hart interval)) files = IsRead (files log)
+HasRead (Some (ListLine log)) files = IsRead (files log)
+HasRead (Some (CheckLine log)) files = IsRead (files log)
+
+-- then there is an answer
+abbrev pub EachHasAnAnswer : Type 0
+EachHasAnAnswer = (line : Option Line) (files : Files) → HasRead line files → (what : Told) × IsAnswer line files what
+
+-- ---- commands that can be done
+
+-- the settings are in range, LOG and BOOK are two names, and the files are there, within their limits, the program's one that
+-- can be loaded
+pub record CanRecord (r : RecordingLine) (files : Files) : Type 0 where
+  pub elf : List ℕ
+  pub program : Program
+  pub input : List ℕ
+  pub settings : first_bad r.settings ≡ None
+  pub names : bytes_eq r.log r.book ≡ false
+  pub elf_there : files r.elf ≡ Some elf
+  pub elf_small : length elf ≤ 67108864
+  pub loaded : image_of elf r.settings ≡ Ok program
+  pub input_there : input_by r.input files ≡ Some input
+  pub input_small : length input ≤ 16777216
+
+-- the file of a recording is there
+pub record HasLog (there : Option (List ℕ)) : Type 0 where
+  pub settings : RawSettings
+  pub program : Program
+  pub digest : List ℕ
+  pub input : List ℕ
+  pub turns : List ℕ
+  pub recording : IsRecording settings program digest input turns
+  pub log : there ≡ Some (file_of settings program digest input turns)
+
+-- what a line needs
+abbrev pub CanDo : Line → Files → Type 0
+CanDo (RecordLine r) files = CanRecord r files
+CanDo (ReplayLine log elf hart interval) files = (p : Part) × (v : Interval) × ReplaysRun (Some (ReplayLine log elf hart interval)) files p v
+CanDo (ListLine log) files = HasLog (files log)
+CanDo (CheckLine log) files = HasLog (files log)
+
+-- then there is an answer, and it is that of a command that is done
+abbrev pub EachCanBeDone : Type 0
+EachCanBeDone = (line : Line) (files : Files) → CanDo line files → (what : Told) × IsAnswer (Some line) files what × IsRecorded what.status
+
+-- and the command is done, unless memory was wanting or the outside failed
+abbrev pub IsDone : Option Line → Files → ℕ → Type 0
+IsDone None files status = Unit {0}
+IsDone (Some line) files status = CanDo line files → IsFree status ⊎ IsRecorded status
