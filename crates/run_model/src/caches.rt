@@ -15,7 +15,6 @@ ghost use Rattle.run_model.specs.Turn.{drops, dropped, events_after, loading, sp
 ghost use Rattle.run_model.specs.Parts.{AreAddresses};
 ghost use Rattle.run_model.specs.EachCache.{AreCaches, cache_of, steps_in, touched_word, touches, where_loading, events_cleared, is_spared, IsDropped, IsSetTo};
 
-
 use crate::span::Span;
 use bn_base::{Addr, HartId, Settings};
 use first_load_bits::{Cache, Warm};
