@@ -4,7 +4,7 @@ use Rattle.std.specs.Prelude.{Result, Ok, Err, IsSomeAnd}
 use Rattle.std.proofs.lemmas.Bool.Decides.{nat_tests}
 use Rattle.bn_outside.specs.Files.{Files}
 use Rattle.bn_base.specs.Programs.{Program}
-use Rattle.bn_base.specs.Ranges.{checked_by}
+use Rattle.bn_base.specs.Ranges.{checked_by, first_bad}
 use Rattle.bn_base.specs.declared.settings.BadSetting.{BadSetting}
 use Rattle.bn_base.specs.declared.settings.RawSettings.{RawSettings}
 use Rattle.elf_loader.specs.Loaded.{image_of}
@@ -13,13 +13,13 @@ use Rattle.log_order.specs.Content.{Content}
 use Rattle.bugnet.specs.Names.{FileNames, name_of}
 use Rattle.bugnet.specs.Refusals.{IsOutside}
 use Rattle.bugnet.specs.Told.{Told, refused}
-use Rattle.bugnet.specs.Commands.{Either, IsByFile, WithFile, IsByLog, IsByInput, IsByProgram, seeded_told}
+use Rattle.bugnet.specs.Commands.{Either, IsByFile, WithFile, IsByLog, IsByInput, IsByProgram, IsBySettings, IsRecord, seeded_told}
 use Rattle.bugnet.specs.Outside.{WithFiles, FetchTells, LogTells, ProgramTells, Gives}
 use Rattle.bugnet.specs.declared.names.Role.{Role}
 use Rattle.bugnet.specs.declared.names.Role.TheVariants.{Input}
 use Rattle.bugnet.specs.declared.answer.Answer.{Answer}
 use Rattle.bugnet.specs.declared.refusal.Refusal.{Refusal}
-use Rattle.bugnet.specs.declared.refusal.Refusal.TheVariants.{Missing, TooLong}
+use Rattle.bugnet.specs.declared.refusal.Refusal.TheVariants.{Missing, TooLong, OutOfRange}
 
 -- the first or the second by what the test says
 pub on_true : (b : Bool) (A B : Type 0) → b ≡ true → A → Either b A B
@@ -147,3 +147,10 @@ bad-one None s bad e = grind arith
 pub none-bad : (o : Option BadSetting) (s x : RawSettings) → checked_by o s ≡ Ok x → (o ≡ None) × (x ≡ s)
 none-bad None s x e = (refl, grind arith)
 none-bad (Some other) s x e = grind arith
+
+-- settings that are out of range are refused
+pub settings-refused : (known : Option Files) (names : FileNames) (c : RawSettings) (seed : ℕ) (has : Bool) (bad : BadSetting) → checked_by (first_bad c) c ≡ Err bad
+    → WithFiles known (λ files. Gives names (IsRecord files names c seed has) (Err (OutOfRange bad)))
+settings-refused None names c seed has bad e = tt
+settings-refused (Some files) names c seed has bad e =
+    inr (subst (λ (o : Option BadSetting). IsBySettings o files names c seed has (refused names (OutOfRange bad))) (sym (bad-one (first_bad c) c bad e)) refl)

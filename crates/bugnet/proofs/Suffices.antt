@@ -78,9 +78,10 @@ unfolding ended
 answer law names p v line files r =
     let run = run_of p.settings p.program p.input p.turns in
     let d = content_of p.settings (sha256 p.elf) run in
+    let one : p.settings.format ≡ 1 = omega (arith, r.recording.setting.format_low, r.recording.setting.format_high) in
     let small : p.settings.limit < 2 ^ 63 = omega (arith, r.recording.setting.limit_high) in
     let rows : replayed p.program d.records p.hart p.number ≡ record { rows = rows_in p.settings p.program (start p.settings p.program p.input) p.turns p.hart p.number; outcome = Done } =
-    law p.settings p.program p.input p.turns p.hart p.number small (record { legal = r.recording.legal; over = r.recording.over }) v r.kept in
+    law p.settings p.program p.input p.turns p.hart p.number one small (record { legal = r.recording.legal; over = r.recording.over }) v r.kept in
     ap (λ (b : Bool). replay_same b names p.hart p.number p.elf d) (same (sha256 p.elf))
     ∙ ap (λ (i : Result Program ElfError). replay_loaded names p.hart p.number d i) r.loaded
     ∙ ap (λ (o : Option Interval). replay_found names p.hart p.number d p.program o) r.kept

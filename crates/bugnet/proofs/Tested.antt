@@ -4,7 +4,7 @@ use Rattle.std.specs.Int.{is_power_of_two}
 use Rattle.std.proofs.lemmas.Bool.Decides.{nat_tests}
 use Rattle.bn_base.specs.declared.settings.RawSettings.{RawSettings}
 use Rattle.bn_base.specs.declared.settings.BadSetting.{BadSetting}
-use Rattle.bn_base.specs.Ranges.{is_between, is_small_power, is_memory_size, bad_or, first_bad, IsSetting}
+use Rattle.bn_base.specs.Ranges.{is_between, is_small_power, is_memory_size, most_harts, bad_or, first_bad, IsSetting}
 use Rattle.bn_base.specs.Programs.{Program}
 use Rattle.run_model.specs.Runs.{seeded}
 use Rattle.replay_laws.specs.Law.{IsWhole}
@@ -33,7 +33,7 @@ between low high value e =
 
 in-range : (s : RawSettings) → first_bad s ≡ None → IsSetting s
 in-range s e =
-    let harts = passed (is_between 1 8 s.harts) _ _ e in
+    let harts = passed (is_between 1 (most_harts s) s.harts) _ _ e in
     let interval = passed (is_between 1 10000000 s.interval) _ _ harts.1 in
     let limit = passed (is_between 1 (2 ^ 40) s.limit) _ _ interval.1 in
     let log_size = passed (is_between 16384 (2 ^ 28) s.log_size) _ _ limit.1 in
@@ -41,7 +41,10 @@ in-range s e =
     let sets = passed (is_small_power 1024 s.sets) _ _ memory.1 in
     let ways = passed (is_between 1 16 s.ways) _ _ sets.1 in
     let line = passed (is_small_power 16 s.line) _ _ ways.1 in
-    let h = between 1 8 s.harts harts.0 in
+    let format = passed (is_between 1 1 s.format) _ _ line.1 in
+    let sets2 = passed (s.sets2 == 0) _ _ format.1 in
+    let ways2 = passed (s.ways2 == 0) _ _ sets2.1 in
+    let h = between 1 (most_harts s) s.harts harts.0 in
     let i = between 1 10000000 s.interval interval.0 in
     let l = between 1 (2 ^ 40) s.limit limit.0 in
     let g = between 16384 (2 ^ 28) s.log_size log_size.0 in
@@ -52,6 +55,7 @@ in-range s e =
     let w = between 1 16 s.ways ways.0 in
     let r = both (is_between 1 16 s.line) (is_power_of_two s.line) line.0 in
     let t = between 1 16 s.line r.0 in
+    let f = between 1 1 s.format format.0 in
     record {
       harts_low = h.0;
       harts_high = h.1;
@@ -72,6 +76,10 @@ in-range s e =
       line_low = t.0;
       line_high = t.1;
       line_power = r.1;
+      format_low = f.0;
+      format_high = f.1;
+      second_sets = sets2.0;
+      second_ways = ways2.0;
     }
 
 pub seeds-whole : SeededListsEnd → SeedsAreWhole

@@ -93,6 +93,7 @@ fn log_of(alloc: Global, start: &Start, ring: &Ring) -> Result<Vec<u8>, AllocErr
     requires { ring.now.size ≡ start.now.settings.log_size }
     ensures { IfOk result (λ log. log.items ≡ spelling (record { settings = start.now.settings; digest = start.now.digest }) ring.now.dropped (flat_map bytes_of ring.now.records)) }
 {
+    let _format = start.settings.format();
     let records = ring.copy(alloc)?;
     let head = Head {
         settings: start.settings,
