@@ -1,5 +1,5 @@
 -- What is recorded of a closed run is what is told of its list of turns.
-use Rattle.std.proofs.Common.{◌≡◌, ℕ, true, List, ◌++◌, length, Option, Some, ◌∙◌, ap, refl, arith}
+use Rattle.std.proofs.Common.{◌≡◌, ℕ, true, List, ◌++◌, length, Option, Some, sym, ◌∙◌, ap, refl, arith}
 use Rattle.std.specs.Prelude.{Result, Ok, Err, IfOk, map}
 use Rattle.std.specs.List.{flat_map}
 use Rattle.bn_base.specs.Programs.{Program}
@@ -7,11 +7,11 @@ use Rattle.bn_base.specs.declared.end_mark.EndMark.{EndMark}
 use Rattle.bn_base.specs.declared.settings.RawSettings.{RawSettings}
 use Rattle.bn_outside.specs.Books.{BookState}
 use Rattle.bn_outside.specs.declared.turn_row.TurnRow.{TurnRow}
-use Rattle.log_file.specs.Layout.{spelling}
+use Rattle.log_file.specs.Layout.{spelling, file_bytes}
 use Rattle.log_record.specs.Spelling.{bytes_of, total}
 use Rattle.log_record.specs.declared.record.Record.{Record}
 use Rattle.log_ring.specs.Kept.{kept, Holds}
-use Rattle.run_model.specs.Files.{kept_of, dropped_of, file_of}
+use Rattle.run_model.specs.Files.{kept_of, dropped_of, content_of, file_of}
 use Rattle.run_model.specs.Runs.{start, run_of}
 use Rattle.run_model.specs.Turn.{Run}
 use Rattle.run_model.specs.declared.start.Start.{Start}
@@ -42,10 +42,11 @@ log_with s dropped rs = spelling (record { settings = s.settings; digest = s.dig
 names-harts : Type 0
 names-harts = (c : RawSettings) (i : Program) (run : Run) (b : List ℕ) → map (λ (r : TurnRow). r.hart) (rows_from c i run b) ≡ b
 
-recorded-so : (s : Start) (closed : Closed BookState) (r : Recording) (b : List ℕ) → names-harts → IsClosed true (began_of s) b closed closed.book.rows → IsRecordingOf s closed r
+recorded-so : (s : Start) (closed : Closed BookState) (r : Recording) (b : List ℕ) → names-harts → file_of s.settings s.image s.digest s.input.items b ≡ file_bytes (content_of s.settings s.digest (run_of s.settings s.image s.input.items b))
+    → IsClosed true (began_of s) b closed closed.book.rows → IsRecordingOf s closed r
     → told_of_recording r ≡ recorded s.settings s.image s.digest s.input.items b
 unfolding recorded names-harts
-recorded-so s closed r b law is k =
+recorded-so s closed r b law version is k =
     let c = s.settings in
     let i = s.image in
     let run = run_of c i s.input.items b in
@@ -63,7 +64,7 @@ recorded-so s closed r b law is k =
     ∙ ap (λ (x : ℕ). on_err run.machine.err (length b) (marks_of c run) x closed.ring.records) dropped
     ∙ ap (λ (x : List Record). on_err run.machine.err (length b) (marks_of c run) (dropped_of c run) x) records in
     let log : r.log.items ≡ file_of c i s.digest s.input.items b =
-    k.log ∙ ap (λ (x : ℕ). log_with s x closed.ring.records) dropped ∙ ap (λ (x : List Record). log_with s (dropped_of c run) x) records in
+    k.log ∙ ap (λ (x : ℕ). log_with s x closed.ring.records) dropped ∙ ap (λ (x : List Record). log_with s (dropped_of c run) x) records ∙ sym version in
     let book : r.book.items ≡ b = k.book ∙ ap (λ (rows : List TurnRow). map (λ (r : TurnRow). r.hart) rows) (is.told refl) ∙ law c i (start c i s.input.items) b in
     let all = on_err run.machine.err (length b) (marks_of c run) (dropped_of c run) (kept_of c run) in
     let whole = file_of c i s.digest s.input.items b in
@@ -75,8 +76,9 @@ recorded-so s closed r b law is k =
 
 pub recording-so : {E : Type 0} (s : Start) (closed : Closed BookState) (b : List ℕ) (result : Result Recording E)
     → ((c : RawSettings) (i : Program) (run : Run) (b : List ℕ) → map (λ (r : TurnRow). r.hart) (rows_from c i run b) ≡ b)
+    → file_of s.settings s.image s.digest s.input.items b ≡ file_bytes (content_of s.settings s.digest (run_of s.settings s.image s.input.items b))
     → IsClosed true (began_of s) b closed closed.book.rows → IfOk result (λ r. IsRecordingOf s closed r)
     → IfOk result (λ r. told_of_recording r ≡ recorded s.settings s.image s.digest s.input.items b)
 unfolding names-harts
-recording-so s closed b (Ok r) law is k = recorded-so s closed r b law is k
-recording-so s closed b (Err e) law is k = tt
+recording-so s closed b (Ok r) law version is k = recorded-so s closed r b law version is k
+recording-so s closed b (Err e) law version is k = tt

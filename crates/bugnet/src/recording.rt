@@ -20,7 +20,7 @@ use hart_worker::{rows_name_their_harts, run_seeded};
 use log_file::write_file;
 use log_record::Head;
 use log_ring::Ring;
-use run_model::Start;
+use run_model::{Start, format_1_is_version_1};
 use rv_text::Text;
 use std::alloc::{AllocError, Global};
 
@@ -166,6 +166,8 @@ pub fn record_run(alloc: Global, start: &Start, seed: u64) -> Result<Recording, 
     ensures { IfOk result (λ r. told_of_recording r ≡ seeded_told start.now.settings start.now.image start.now.digest seed start.now.input.items) }
 {
     rows_name_their_harts();
+    format_1_is_version_1();
+    let _format = start.settings.format();
     let closed = run_seeded(alloc, start, FullBook::new(alloc), seed)?;
     recording_of(alloc, start, closed)
 }
