@@ -6,6 +6,7 @@ use file_laws::logs_are_contents;
 use hart_worker::seeded_lists_end;
 use log_file::laws::{files_say_one_thing, logs_are_not_refused, refusals_are_unique};
 use replay_laws::the_log_suffices;
+use run_model::format_1_is_version_1;
 
 /// No words have two answers, whatever the files are.
 pub fn one_answer()
@@ -26,6 +27,7 @@ pub fn headline()
     refusals_are_unique();
     the_log_suffices();
     logs_are_contents();
+    format_1_is_version_1();
 }
 
 /// The list of turns that a recording saves is legal and finished: it is a seed's, and the settings
