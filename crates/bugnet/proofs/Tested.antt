@@ -1,13 +1,10 @@
 -- Settings that were tested are in range.
-use Rattle.std.proofs.Common.{◌≡◌, ◌≤◌, ℕ, ◌%◌, ◌^◌, ◌==◌, ◌&&◌, Bool, true, false, nat_le, Option, Some, None, refl, arith}
+use Rattle.std.proofs.Common.{◌≡◌, ◌≤◌, ℕ, ◌%◌, ◌^◌, ◌==◌, ◌&&◌, Bool, true, false, nat_le, Option, None, refl, arith}
 use Rattle.std.specs.Int.{is_power_of_two}
 use Rattle.std.proofs.lemmas.Bool.Decides.{nat_tests}
 use Rattle.bn_base.specs.declared.settings.RawSettings.{RawSettings}
 use Rattle.bn_base.specs.declared.settings.BadSetting.{BadSetting}
 use Rattle.bn_base.specs.Ranges.{is_between, is_small_power, is_memory_size, most_harts, bad_or, first_bad, IsSetting}
-use Rattle.bn_base.specs.Programs.{Program}
-use Rattle.run_model.specs.Runs.{seeded}
-use Rattle.replay_laws.specs.Law.{IsWhole}
 use Rattle.hart_worker.specs.Laws.{SeededListsEnd}
 use Rattle.bugnet.specs.Laws.{SeedsAreWhole}
 

@@ -1,7 +1,5 @@
 -- The rows that led to what a bus keeps.
 use Rattle.std.proofs.Common.{◌≡◌, ℕ, Bool, true, false, not, ◌||◌, List, [], ◌∷◌, ◌++◌, length, refl, sym, ◌∙◌, ap, subst}
-use Rattle.bn_base.specs.Programs.{Program}
-use Rattle.bn_base.specs.declared.settings.RawSettings.{RawSettings}
 use Rattle.rv_meaning.specs.declared.asks.Ask.{Ask}
 use Rattle.rv_meaning.specs.declared.asks.Reply.{Reply}
 use Rattle.bn_outside.specs.declared.turn_row.TurnRow.{TurnRow}

@@ -9,11 +9,10 @@ use Rattle.race_log.specs.declared.shadow.Shadow.{Shadow}
 use Rattle.race_log.specs.declared.kept.Kept.{Kept}
 use Rattle.race_log.specs.declared.words.KeptWords.{KeptWords}
 use Rattle.race_log.specs.Points.{Point}
-use Rattle.race_log.specs.Tests.{writes_word, touches}
 use Rattle.race_log.specs.Holds.{Holds, OwnUpTo, TimesOf}
-use Rattle.race_log.specs.Kept.{In, KeptAt, KeptSince, AllKnow, Suffices, is_write}
+use Rattle.race_log.specs.Kept.{In, KeptAt, KeptSince, Suffices, is_write}
 use Rattle.race_log.specs.Words.{kept_in, items_of, entries_of}
-use Rattle.race_log.specs.Stands.{Stands, counts_at, times_of, kept_of}
+use Rattle.race_log.specs.Stands.{counts_at, times_of, kept_of}
 use Rattle.race_log.specs.Noted.{Noted, NotedAccess, noted, noted_access, noted_word, NotesDecide}
 
 -- ---- times

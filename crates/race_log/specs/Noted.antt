@@ -1,6 +1,5 @@
 -- What a shadow notes, as plain data.
 use Rattle.std.specs.Prelude.{◌≡◌, ℕ, Bool, List, map}
-use Rattle.vector_time.specs.declared.times.Times.{Times}
 use Rattle.vector_time.specs.Times.{counts_in}
 use Rattle.race_log.specs.declared.mode.Mode.{Mode}
 use Rattle.race_log.specs.declared.shadow.Shadow.{Shadow}
