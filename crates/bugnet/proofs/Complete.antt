@@ -1,5 +1,5 @@
 -- Where a command has an answer, and where it is done.
-use Rattle.std.proofs.Common.{◌≡◌, ◌≤◌, ℕ, Bool, true, false, nat_lt, List, [], length, Option, Some, None, ap, subst, sym, refl, arith, inl, inr, ◌⊎◌}
+use Rattle.std.proofs.Common.{◌≡◌, ◌≤◌, ℕ, Bool, true, false, nat_lt, List, [], length, Option, Some, None, ap, subst, sym, refl, arith, inl, inr, ◌⊎◌, ◌∙◌}
 use Rattle.std.specs.Prelude.{Result, Ok, Err, IfSome, is_some, unwrap_or}
 use Rattle.std.specs.Str.{bytes_eq}
 use Rattle.sha2.specs.Sha256.{sha256}
@@ -15,7 +15,7 @@ use Rattle.log_order.specs.Content.{Content, IsContent}
 use Rattle.log_file.specs.Layout.{file_bytes}
 use Rattle.log_file.specs.declared.error.FileError.{FileError}
 use Rattle.hart_replay.specs.Replay.{Interval}
-use Rattle.run_model.specs.Files.{content_of}
+use Rattle.run_model.specs.Files.{content_of, FormatOneIsVersionOne}
 use Rattle.run_model.specs.Runs.{run_of}
 use Rattle.replay_laws.specs.Law.{LogSuffices}
 use Rattle.file_laws.specs.Laws.{LogsAreContents}
@@ -139,35 +139,39 @@ can-record r files h =
     subst (λ (b : Option BadSetting). IsBySettings b files names c r.seed has what) (sym h.settings)
     (subst (λ (b : Bool). IsByNames b files names c r.seed has what) (sym h.names) elf)
 
-can-log : LogsAreContents → (files : Files) (names : FileNames) (go : Content → Told) (h : HasLog (files names.log)) → (what : Told) × WithFile files names role.Log 268500992 (λ log what. IsByLog names log go what) what
+can-log : LogsAreContents → FormatOneIsVersionOne → (files : Files) (names : FileNames) (go : Content → Told) (h : HasLog (files names.log)) → (what : Told) × WithFile files names role.Log 268500992 (λ log what. IsByLog names log go what) what
     × (what ≡ go (content_of h.settings h.digest (run_of h.settings h.program h.input h.turns)))
-can-log contents files names go h =
+can-log contents version files names go h =
     let d = content_of h.settings h.digest (run_of h.settings h.program h.input h.turns) in
     let is : IsContent d = contents h.settings h.program h.digest h.input h.turns h.recording in
-    (go d, there-file files names role.Log 268500992 (file_bytes d) (λ log what. IsByLog names log go what) (go d) h.log (file-size d is) (record { says = Ok d; reads = (is, refl); is = refl }), refl)
+    let one : h.settings.format ≡ 1 = omega (arith, h.recording.setting.format_low, h.recording.setting.format_high) in
+    let there : files names.log ≡ Some (file_bytes d) = h.log ∙ ap (λ (bytes : List ℕ). Some bytes) (version h.settings h.program h.digest h.input h.turns one) in
+    (go d, there-file files names role.Log 268500992 (file_bytes d) (λ log what. IsByLog names log go what) (go d) there (file-size d is) (record { says = Ok d; reads = (is, refl); is = refl }), refl)
 
-can-replay : LogSuffices → Together → LogsAreContents → (line : Option Line) (files : Files) (p : Part) (v : Interval) → ReplaysRun line files p v → (what : Told) × IsAnswer line files what × IsRecorded what.status
-can-replay law stand contents line files p v r =
+can-replay : LogSuffices → Together → LogsAreContents → FormatOneIsVersionOne → (line : Option Line) (files : Files) (p : Part) (v : Interval) → ReplaysRun line files p v → (what : Told) × IsAnswer line files what × IsRecorded what.status
+can-replay law stand contents version line files p v r =
     let names = names_in (ReplayLine r.log_name r.elf_name p.hart p.number) in
     let d = content_of p.settings (sha256 p.elf) (run_of p.settings p.program p.input p.turns) in
     let is : IsContent d = contents p.settings p.program (sha256 p.elf) p.input p.turns r.recording in
     let what = replay_of names p.hart p.number p.elf d in
+    let one : p.settings.format ≡ 1 = omega (arith, r.recording.setting.format_low, r.recording.setting.format_high) in
+    let there : files r.log_name ≡ Some (file_bytes d) = r.log ∙ ap (λ (bytes : List ℕ). Some bytes) (version p.settings p.program (sha256 p.elf) p.input p.turns one) in
     let elf : IsReplayOf files names p.hart p.number (file_bytes d) what =
     there-file files names role.Elf 67108864 p.elf (λ elf what. IsByLog names (file_bytes d) (replay_of names p.hart p.number elf) what) what r.program r.small (record { says = Ok d; reads = (is, refl); is = refl }) in
     let log : IsReplay files names p.hart p.number what =
-    there-file files names role.Log 268500992 (file_bytes d) (λ log what. IsReplayOf files names p.hart p.number log what) what r.log (file-size d is) elf in
+    there-file files names role.Log 268500992 (file_bytes d) (λ log what. IsReplayOf files names p.hart p.number log what) what there (file-size d is) elf in
     let done : IsRecorded what.status = inl (ap (λ (t : Told). t.status) (answer law stand names p v line files r)) in
     subst (λ (l : Option Line). (what : Told) × IsAnswer l files what × IsRecorded what.status) (sym r.command) (what, log, done)
 
-pub can-be-done : LogSuffices → Together → LogsAreContents → EachCanBeDone
-can-be-done law stand contents (RecordLine r) files h =
+pub can-be-done : LogSuffices → Together → LogsAreContents → FormatOneIsVersionOne → EachCanBeDone
+can-be-done law stand contents version (RecordLine r) files h =
     (seeded_told r.settings h.program (sha256 h.elf) r.seed h.input, can-record r files h, told-recorded r.settings h.program (sha256 h.elf) r.seed h.input)
-can-be-done law stand contents (ReplayLine log elf hart interval) files h = can-replay law stand contents (Some (ReplayLine log elf hart interval)) files h.0 h.1 h.2
-can-be-done law stand contents (ListLine log) files h =
-    let l = can-log contents files (names_in (ListLine log)) list_of h in
+can-be-done law stand contents version (ReplayLine log elf hart interval) files h = can-replay law stand contents version (Some (ReplayLine log elf hart interval)) files h.0 h.1 h.2
+can-be-done law stand contents version (ListLine log) files h =
+    let l = can-log contents version files (names_in (ListLine log)) list_of h in
     (l.0, l.1, inl (ap (λ (t : Told). t.status) l.2))
-can-be-done law stand contents (CheckLine log) files h =
-    let l = can-log contents files (names_in (CheckLine log)) check_of h in
+can-be-done law stand contents version (CheckLine log) files h =
+    let l = can-log contents version files (names_in (CheckLine log)) check_of h in
     (l.0, l.1, inl (ap (λ (t : Told). t.status) l.2))
 
 -- ---- a call

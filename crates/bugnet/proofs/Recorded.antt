@@ -1,14 +1,14 @@
 -- What is recorded of a closed run is what is told of its list of turns.
-use Rattle.std.proofs.Common.{◌≡◌, ℕ, Bool, List, ◌++◌, length, Option, Some, ◌∙◌, ap, arith}
+use Rattle.std.proofs.Common.{◌≡◌, ℕ, Bool, List, ◌++◌, length, Option, Some, sym, ◌∙◌, ap, arith}
 use Rattle.std.specs.Prelude.{Result, Ok, Err, IfOk}
 use Rattle.std.specs.List.{flat_map}
 use Rattle.bn_base.specs.declared.end_mark.EndMark.{EndMark}
 use Rattle.bn_outside.specs.declared.turn_row.TurnRow.{TurnRow}
-use Rattle.log_file.specs.Layout.{spelling}
+use Rattle.log_file.specs.Layout.{spelling, file_bytes}
 use Rattle.log_record.specs.Spelling.{bytes_of, total}
 use Rattle.log_record.specs.declared.record.Record.{Record}
 use Rattle.log_ring.specs.Kept.{kept, Holds}
-use Rattle.run_model.specs.Files.{kept_of, dropped_of, file_of}
+use Rattle.run_model.specs.Files.{kept_of, dropped_of, content_of, file_of}
 use Rattle.run_model.specs.Runs.{run_of}
 use Rattle.run_model.specs.declared.start.Start.{Start}
 use Rattle.bus_core.specs.Bus.{began_of}
@@ -34,10 +34,12 @@ on_err err turns marks dropped rs = err ++ summary_text turns (instructions_of m
 abbrev log_with : Start → ℕ → List Record → List ℕ
 log_with s dropped rs = spelling (record { settings = s.settings; digest = s.digest }) dropped (flat_map bytes_of rs)
 
-recorded-so : {B : _} (tells : Bool) (s : Start) (closed : Closed B) (rows : List TurnRow) (r : Recording) (b : List ℕ) → IsClosed tells (began_of s) b closed rows → IsRecordingOf s closed b r
+recorded-so : {B : _} (tells : Bool) (s : Start) (closed : Closed B) (rows : List TurnRow) (r : Recording) (b : List ℕ)
+    → file_of s.settings s.image s.digest s.input.items b ≡ file_bytes (content_of s.settings s.digest (run_of s.settings s.image s.input.items b))
+    → IsClosed tells (began_of s) b closed rows → IsRecordingOf s closed b r
     → told_of_recording r ≡ recorded s.settings s.image s.digest s.input.items b
 unfolding recorded
-recorded-so tells s closed rows r b is k =
+recorded-so tells s closed rows r b version is k =
     let c = s.settings in
     let i = s.image in
     let run = run_of c i s.input.items b in
@@ -55,7 +57,7 @@ recorded-so tells s closed rows r b is k =
     ∙ ap (λ (x : ℕ). on_err run.machine.err (length b) (marks_of c run) x closed.ring.records) dropped
     ∙ ap (λ (x : List Record). on_err run.machine.err (length b) (marks_of c run) (dropped_of c run) x) records in
     let log : r.log.items ≡ file_of c i s.digest s.input.items b =
-    k.log ∙ ap (λ (x : ℕ). log_with s x closed.ring.records) dropped ∙ ap (λ (x : List Record). log_with s (dropped_of c run) x) records in
+    k.log ∙ ap (λ (x : ℕ). log_with s x closed.ring.records) dropped ∙ ap (λ (x : List Record). log_with s (dropped_of c run) x) records ∙ sym version in
     let all = on_err run.machine.err (length b) (marks_of c run) (dropped_of c run) (kept_of c run) in
     let whole = file_of c i s.digest s.input.items b in
     ap (λ (x : RunEnd). told x r.out.items r.err.items r.log.items r.book.items) end
@@ -65,7 +67,8 @@ recorded-so tells s closed rows r b is k =
     ∙ ap (λ (x : List ℕ). told (end_by (marks_of c run)) run.machine.out all whole x) k.book
 
 pub recording-so : {B : _} {E : Type 0} (tells : Bool) (s : Start) (closed : Closed B) (rows : List TurnRow) (list b : List ℕ) (result : Result Recording E)
+    → file_of s.settings s.image s.digest s.input.items list ≡ file_bytes (content_of s.settings s.digest (run_of s.settings s.image s.input.items list))
     → list ≡ b → IsClosed tells (began_of s) list closed rows → IfOk result (λ r. IsRecordingOf s closed list r)
     → IfOk result (λ r. told_of_recording r ≡ recorded s.settings s.image s.digest s.input.items b)
-recording-so tells s closed rows list b (Ok r) e is k = recorded-so tells s closed rows r list is k ∙ ap (λ (x : List ℕ). recorded s.settings s.image s.digest s.input.items x) e
-recording-so tells s closed rows list b (Err x) e is k = tt
+recording-so tells s closed rows list b (Ok r) version e is k = recorded-so tells s closed rows r list version is k ∙ ap (λ (x : List ℕ). recorded s.settings s.image s.digest s.input.items x) e
+recording-so tells s closed rows list b (Err x) version e is k = tt

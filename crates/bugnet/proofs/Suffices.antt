@@ -19,7 +19,7 @@ use Rattle.log_order.specs.Content.{Content, IsContent}
 use Rattle.log_file.specs.Layout.{magic, settings_bytes, signed_bytes, file_bytes}
 use Rattle.log_file.specs.declared.error.FileError.{FileError}
 use Rattle.hart_replay.specs.Replay.{Done, Replayed, Interval, replayed}
-use Rattle.run_model.specs.Files.{content_of}
+use Rattle.run_model.specs.Files.{content_of, FormatOneIsVersionOne}
 use Rattle.run_model.specs.Rows.{rows_in}
 use Rattle.run_model.specs.Runs.{start, run_of}
 use Rattle.run_laws.specs.Laws.{KeptIsAnEnd}
@@ -40,7 +40,7 @@ use Rattle.bugnet.proofs.Tells.{with-files, stopped-free, early-free}
 
 -- ---- the size of a log file
 
-settings-size : (s : RawSettings) → length (settings_bytes s) ≡ 48
+settings-size : (s : RawSettings) → length (settings_bytes 1 s) ≡ 48
 unfolding settings_bytes magic number_bytes
 settings-size s = refl
 
@@ -100,23 +100,25 @@ answer law stand names p v line files r =
 by-content : Grammar → (names : FileNames) (bytes : List ℕ) (d : Content) (go : Content → Told) (what : Told) → IsContent d → bytes ≡ file_bytes d → IsByLog names bytes go what → what ≡ go d
 by-content g names bytes d go what is e by = by.is ∙ ap (λ (r : Result Content FileError). by_log names go r) (one-reading g bytes by.says (Ok d) by.reads (is, e))
 
-replays : Grammar → LogSuffices → Together → LogsAreContents → (files : Files) (p : Part) (v : Interval) (line : Option Line) (r : ReplaysRun line files p v) (what : Told)
+replays : Grammar → LogSuffices → Together → LogsAreContents → FormatOneIsVersionOne → (files : Files) (p : Part) (v : Interval) (line : Option Line) (r : ReplaysRun line files p v) (what : Told)
     → IsReplay files (names_in (ReplayLine r.log_name r.elf_name p.hart p.number)) p.hart p.number what → what ≡ printed (run_text p v)
 unfolding WithFile
-replays g law stand contents files p v line r what is =
+replays g law stand contents version files p v line r what is =
     let names = names_in (ReplayLine r.log_name r.elf_name p.hart p.number) in
     let d = content_of p.settings (sha256 p.elf) (run_of p.settings p.program p.input p.turns) in
     let log = file_bytes d in
+    let one : p.settings.format ≡ 1 = omega (arith, r.recording.setting.format_low, r.recording.setting.format_high) in
+    let there : files r.log_name ≡ Some log = r.log ∙ ap (λ (bytes : List ℕ). Some bytes) (version p.settings p.program (sha256 p.elf) p.input p.turns one) in
     let content : IsContent d = contents p.settings p.program (sha256 p.elf) p.input p.turns r.recording in
     let first : IsReplayOf files names p.hart p.number log what =
-    by-file (files r.log_name) names role.Log 268500992 log (λ log what. IsReplayOf files names p.hart p.number log what) what r.log (file-size d content) is in
+    by-file (files r.log_name) names role.Log 268500992 log (λ log what. IsReplayOf files names p.hart p.number log what) what there (file-size d content) is in
     let second : IsByLog names log (replay_of names p.hart p.number p.elf) what =
     by-file (files r.elf_name) names role.Elf 67108864 p.elf (λ elf what. IsByLog names log (replay_of names p.hart p.number elf) what) what r.program r.small first in
     by-content g names log d (replay_of names p.hart p.number p.elf) what content refl second ∙ answer law stand names p v line files r
 
-pub headline : Grammar → LogSuffices → Together → LogsAreContents → Headline
-headline g law stand contents line files p v r what is =
-    replays g law stand contents files p v line r what (subst (λ (l : Option Line). IsAnswer l files what) r.command is)
+pub headline : Grammar → LogSuffices → Together → LogsAreContents → FormatOneIsVersionOne → Headline
+headline g law stand contents version line files p v r what is =
+    replays g law stand contents version files p v line r what (subst (λ (l : Option Line). IsAnswer l files what) r.command is)
 
 -- what a recording left
 pub replayed-so : Headline → RecordingsAreReplayed

@@ -8,6 +8,7 @@ use hart_worker::seeded_lists_end;
 use log_file::laws::{files_say_one_thing, logs_are_not_refused, refusals_are_unique};
 use replay_laws::{the_log_suffices, the_rows_of_an_interval_stand_together};
 use run_laws::kept_records_are_an_end;
+use run_model::format_1_is_version_1;
 
 /// No words have two answers, whatever the files are.
 pub fn one_answer()
@@ -31,6 +32,7 @@ pub fn headline()
     the_rows_of_an_interval_stand_together();
     kept_records_are_an_end();
     logs_are_contents();
+    format_1_is_version_1();
 }
 
 /// Words and files have an answer, where the log that they name is one or is refused as one.
@@ -48,6 +50,7 @@ pub fn each_can_be_done()
     the_rows_of_an_interval_stand_together();
     kept_records_are_an_end();
     logs_are_contents();
+    format_1_is_version_1();
 }
 
 /// Of the files that a recording leaves, the replay of each interval whose Header the log keeps prints

@@ -18,7 +18,7 @@ use hart_worker::{Listed, run_listed};
 use log_file::write_file;
 use log_record::Head;
 use log_ring::Ring;
-use run_model::Start;
+use run_model::{Start, format_1_is_version_1};
 use rv_text::Text;
 use std::alloc::{AllocError, Global};
 
@@ -148,6 +148,8 @@ fn recording_of(
 pub fn record_run(alloc: Global, start: &Start, seed: u64) -> Result<Recording, AllocError>
     ensures { IfOk result (λ r. told_of_recording r ≡ seeded_told start.now.settings start.now.image start.now.digest seed start.now.input.items) }
 {
+    format_1_is_version_1();
+    let _format = start.settings.format();
     let listed = run_listed(alloc, start, LeanBook, seed)?;
     recording_of(alloc, start, listed)
 }

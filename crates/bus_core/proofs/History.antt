@@ -4,9 +4,9 @@ use Rattle.rv_meaning.specs.declared.asks.Ask.{Ask}
 use Rattle.rv_meaning.specs.declared.asks.Reply.{Reply}
 use Rattle.bn_outside.specs.declared.turn_row.TurnRow.{TurnRow}
 use Rattle.run_model.specs.declared.start.Start.{Start}
-use Rattle.run_model.specs.Plain.{PlainParts, IsRun, everyone}
+use Rattle.run_model.specs.Stands.Plain.{PlainParts, IsRun, everyone}
 use Rattle.run_model.specs.Turn.{Run, serve, is_orderly, halted}
-use Rattle.run_model.specs.Turning.{is_alive}
+use Rattle.run_model.specs.Stands.Turning.{is_alive}
 use Rattle.log_ring.specs.Kept.{Held, Holds}
 use Rattle.race_log.specs.Noted.{NotesDecide}
 use Rattle.run_laws.specs.History.{after_rows, are_orderly}

@@ -14,11 +14,11 @@ use Rattle.race_log.specs.Noted.{Noted, noted}
 use Rattle.bn_outside.specs.declared.turn_row.TurnRow.{TurnRow}
 use Rattle.run_model.specs.declared.hart.Hart.{Hart}
 use Rattle.run_model.specs.declared.start.Start.{Start}
-use Rattle.run_model.specs.Plain.{PlainParts, IsRun, everyone}
-use Rattle.run_model.specs.Parts.{MachineParts, IsMachine}
+use Rattle.run_model.specs.Stands.Plain.{PlainParts, IsRun, everyone}
+use Rattle.run_model.specs.Stands.Parts.{MachineParts, IsMachine}
 use Rattle.first_load_bits.specs.Stands.{Contents}
-use Rattle.run_model.specs.EachCache.{AreCaches}
-use Rattle.run_model.specs.Harts.{AreHarts, alive}
+use Rattle.run_model.specs.Stands.EachCache.{AreCaches}
+use Rattle.run_model.specs.Stands.Harts.{AreHarts, alive}
 use Rattle.run_model.specs.Turn.{Run, halted, serve}
 use Rattle.run_model.specs.Runs.{start}
 use Rattle.run_laws.specs.History.{after_rows, are_orderly, IsLawful}

@@ -1,7 +1,7 @@
 // What a bus does.
 ghost use Rattle.std.specs.Prelude.{◌≡◌, ◌<◌, ◌+◌, ◌∷◌, ◌++◌, [], ℕ, Bool, true, false, not, ◌&&◌, ◌||◌, List, is_some, IfOk, OnOk, OnErr, IfSome};
 ghost use Rattle.log_ring.specs.Kept.{Holds};
-ghost use Rattle.run_model.specs.Harts.{hart_in};
+ghost use Rattle.run_model.specs.Stands.Harts.{hart_in};
 ghost use Rattle.run_model.specs.Runs.{is_live, is_over, most_turns};
 ghost use Rattle.run_model.specs.Turn.{Run, budget, halted, is_orderly};
 ghost use Rattle.bn_outside.specs.declared.turn_row.TurnRow.{TurnRow};

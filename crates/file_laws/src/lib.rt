@@ -19,7 +19,10 @@ use log_ring::laws::{a_suffix_is_kept, kept_records_fit};
 use race_log::listed_edges_are_all;
 use replay_laws::the_log_suffices;
 use run_laws::runs_end;
-use run_model::{each_turn_fits, each_turn_moves_on, format_1_is_unguarded, others_stay_fit};
+use run_model::{
+    each_turn_fits, each_turn_moves_on, format_1_is_unguarded, format_1_is_version_1,
+    others_stay_fit,
+};
 use rv_meaning::{each_ask_is_orderly, registers_stay_words};
 
 /// At all times the kept records keep the rules of single records, and each kept Edge comes from an
@@ -96,6 +99,7 @@ pub fn logs_are_contents()
 pub fn files_are_read()
     ensures { FilesAreRead }
 {
+    format_1_is_version_1();
     logs_are_contents();
     logs_are_not_refused();
 }
@@ -104,6 +108,7 @@ pub fn files_are_read()
 pub fn files_say_the_run()
     ensures { FilesSayTheRun }
 {
+    format_1_is_version_1();
     logs_are_contents();
     files_say_one_thing();
 }

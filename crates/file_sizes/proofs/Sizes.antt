@@ -12,7 +12,7 @@ magic_long : length magic ≡ 8
 unfolding magic
 magic_long = refl
 
-settings_long : HaveTheirWidth → (s : RawSettings) → length (settings_bytes s) ≡ 48
+settings_long : HaveTheirWidth → (s : RawSettings) → length (settings_bytes 1 s) ≡ 48
 unfolding settings_bytes
 settings_long long s =
     let a = magic ++ number_bytes 4 1 in
@@ -49,7 +49,7 @@ settings_long long s =
 signed_long : HaveTheirWidth → (head : Head) (dropped : ℕ) (records : List ℕ) → length head.digest ≡ 32 → length (signed_bytes head dropped records) ≡ length records + 92
 unfolding signed_bytes
 signed_long long head dropped records digest =
-    let s = settings_bytes head.settings in
+    let s = settings_bytes 1 head.settings in
     let a = s ++ head.digest in
     let b = a ++ number_bytes 8 dropped in
     let c = b ++ number_bytes 4 (length records) in

@@ -38,7 +38,7 @@ pub signed_is_spelled : (h : Head) (dropped : ℕ) (records : List ℕ) → sign
 unfolding signed_bytes settings_bytes spelled
 signed_is_spelled h dropped records =
     let s = h.settings in
-    regroup_end (settings_bytes s) h.digest (number_bytes 8 dropped) (number_bytes 4 (length records)) records
+    regroup_end (settings_bytes 1 s) h.digest (number_bytes 8 dropped) (number_bytes 4 (length records)) records
     ∙ regroup magic (number_bytes 4 1) (number_bytes 4 s.harts) (number_bytes 4 s.interval) (number_bytes 8 s.limit) (number_bytes 4 s.log_size) (number_bytes 4 s.memory) (number_bytes 4 s.sets) (number_bytes 4 s.ways)
     (number_bytes 4 s.line) (h.digest ++ (number_bytes 8 dropped ++ (number_bytes 4 (length records) ++ records)))
 

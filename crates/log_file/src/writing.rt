@@ -10,7 +10,7 @@ use std::alloc::{AllocError, Global};
 
 #[tactic(auto, unfolding(crate::specs::Layout::magic, crate::specs::Layout::settings_bytes))]
 fn settings_part(alloc: Global, settings: &Settings) -> Result<Vec<u8>, AllocError>
-    ensures { IfOk result (λ v. v.items ≡ settings_bytes settings.now) }
+    ensures { IfOk result (λ v. v.items ≡ settings_bytes 1 settings.now) }
 {
     let mut out = Vec::new(alloc);
     out.extend_from_slice(MAGIC)?;

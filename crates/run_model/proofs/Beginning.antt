@@ -12,11 +12,11 @@ use Rattle.run_model.specs.declared.hart.Hart.{Hart}
 use Rattle.run_model.specs.declared.trace.Trace.{Trace}
 use Rattle.run_model.specs.Runs.{start, start_state, first_headers}
 use Rattle.run_model.specs.Counts.{IsRested, turns_left}
-use Rattle.run_model.specs.EachCache.{AreCaches, steps_in}
-use Rattle.run_model.specs.First.{AreFirst, first_hart}
-use Rattle.run_model.specs.Harts.{hart_in, all_left}
-use Rattle.run_model.specs.Plain.{IsTrace, IsTraceFit, everyone}
-use Rattle.run_model.specs.Logs.{IsLog}
+use Rattle.run_model.specs.Stands.EachCache.{AreCaches, steps_in}
+use Rattle.run_model.specs.Stands.First.{AreFirst, first_hart}
+use Rattle.run_model.specs.Stands.Harts.{hart_in, all_left}
+use Rattle.run_model.specs.Stands.Plain.{IsTrace, IsTraceFit, everyone}
+use Rattle.run_model.specs.Stands.Logs.{IsLog}
 use Rattle.run_model.proofs.Bytes.{headers_have}
 use Rattle.run_model.proofs.Fits.{fit_start}
 use Rattle.run_model.proofs.Owns.{hart_of_run}

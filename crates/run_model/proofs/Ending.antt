@@ -11,8 +11,8 @@ use Rattle.run_model.specs.declared.trace.Trace.{Trace}
 use Rattle.run_model.specs.Turn.{dead}
 use Rattle.run_model.specs.Runs.{most_turns}
 use Rattle.run_model.specs.Counts.{IsRested, turns_left}
-use Rattle.run_model.specs.Harts.{AreHarts, alive, hart_in, all_left, no_hart}
-use Rattle.run_model.specs.Plain.{IsTraceFit, IsHartFit}
+use Rattle.run_model.specs.Stands.Harts.{AreHarts, alive, hart_in, all_left, no_hart}
+use Rattle.run_model.specs.Stands.Plain.{IsTraceFit, IsHartFit}
 use Rattle.run_model.proofs.OneTurn.{alive_in}
 
 -- the harts below a number were ended

@@ -9,7 +9,7 @@ use Rattle.first_load_bits.specs.Stands.{Contents, StandsFor}
 use Rattle.run_model.specs.declared.next.Next.TheVariants.{GoesOn}
 use Rattle.run_model.specs.declared.span.Span.{Span}
 use Rattle.run_model.specs.Turn.{dropped, events_after}
-use Rattle.run_model.specs.EachCache.{no_cache, cache_of, steps_in, AreCaches, is_spared, IsDropped, IsSetTo}
+use Rattle.run_model.specs.Stands.EachCache.{no_cache, cache_of, steps_in, AreCaches, is_spared, IsDropped, IsSetTo}
 
 -- ---- which of two histories
 

@@ -3,8 +3,8 @@ use Rattle.std.proofs.Common.{◌≡◌, ℕ, List, refl, sym, ◌∙◌, subst}
 use Rattle.std.specs.Prelude.{Option, drop}
 use Rattle.bus_memory.specs.Contents.{Holds}
 use Rattle.run_model.specs.Machine.{Machine}
-use Rattle.run_model.specs.Parts.{MachineParts, IsMachine, IsSameMachine, AreReserved}
-use Rattle.run_model.specs.Plain.{meant}
+use Rattle.run_model.specs.Stands.Parts.{MachineParts, IsMachine, IsSameMachine, AreReserved}
+use Rattle.run_model.specs.Stands.Plain.{meant}
 
 pub is_meant : (input : List ℕ) (p : MachineParts) → IsMachine input p (meant input p)
 is_meant input p = record {

@@ -23,7 +23,7 @@ use Rattle.run_model.specs.declared.next.Next.TheVariants.{GoesOn, NewInterval, 
 use Rattle.run_model.specs.declared.span.Span.{Span}
 use Rattle.run_model.specs.Machine.{Machine, answer_call, answer_sc, is_reserved, planned}
 use Rattle.run_model.specs.Turn.{budget, span_of, counted, after_call, is_orderly}
-use Rattle.run_model.specs.Logs.{is_marked_next}
+use Rattle.run_model.specs.Stands.Logs.{is_marked_next}
 use Rattle.run_model.specs.Counts.{IsFit, MovesOn, AskMovesOn, EachTurnMovesOn, is_on}
 
 -- both of two tests hold

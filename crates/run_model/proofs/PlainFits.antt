@@ -21,10 +21,10 @@ use Rattle.run_model.specs.declared.trace.Trace.{Trace}
 use Rattle.run_model.specs.Machine.{Machine, answer, call_of}
 use Rattle.run_model.specs.Turn.{is_orderly, span_of, next_of, loading, hart_after, harts_after, other_after, skipped_after}
 use Rattle.run_model.specs.Counts.{IsRested, MovesOn, AskMovesOn, turns_left, is_there, is_loading}
-use Rattle.run_model.specs.EachCache.{steps_in, touched_word, touches}
-use Rattle.run_model.specs.Harts.{AreHarts, hart_in, all_left}
-use Rattle.run_model.specs.Logs.{taken}
-use Rattle.run_model.specs.Plain.{IsTraceFit, IsHartFit, count_after, clears}
+use Rattle.run_model.specs.Stands.EachCache.{steps_in, touched_word, touches}
+use Rattle.run_model.specs.Stands.Harts.{AreHarts, hart_in, all_left}
+use Rattle.run_model.specs.Stands.Logs.{taken}
+use Rattle.run_model.specs.Stands.Plain.{IsTraceFit, IsHartFit, count_after, clears}
 use Rattle.run_model.proofs.MoveOn.{ask_moves}
 use Rattle.run_model.proofs.Fits.{fit_by, fewer_left, fit_other, no_more_left}
 

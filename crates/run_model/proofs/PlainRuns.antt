@@ -13,16 +13,16 @@ use Rattle.system_calls.specs.declared.effect.Plan.{Plan}
 use Rattle.first_load_bits.specs.declared.warm.Warm.{Warm}
 use Rattle.log_record.specs.declared.record.Record.{Record}
 use Rattle.log_record.specs.Spelling.{total}
-use Rattle.run_model.specs.Logs.{IsLog}
+use Rattle.run_model.specs.Stands.Logs.{IsLog}
 use Rattle.race_log.specs.declared.shadow.Shadow.{Shadow}
 use Rattle.race_log.specs.Stands.{Stands}
 use Rattle.run_model.specs.declared.hart.Hart.{Hart}
 use Rattle.run_model.specs.declared.trace.Trace.{Trace}
 use Rattle.run_model.specs.Machine.{answer}
 use Rattle.run_model.specs.Turn.{Run, serve_call, is_guarded, span_of, next_of, hart_after, harts_after, events_after, skipped_after, warmth, loading, word_before, point_of, points_after, edge_records, load_record, sc_record, next_records, run_over_records}
-use Rattle.run_model.specs.EachCache.{AreCaches}
-use Rattle.run_model.specs.Harts.{AreHarts}
-use Rattle.run_model.specs.Plain.{IsTrace, IsRaceReady, everyone}
+use Rattle.run_model.specs.Stands.EachCache.{AreCaches}
+use Rattle.run_model.specs.Stands.Harts.{AreHarts}
+use Rattle.run_model.specs.Stands.Plain.{IsTrace, IsRaceReady, everyone}
 use Rattle.run_model.proofs.Bytes.{total_append}
 use Rattle.run_model.proofs.FormatOne.{unguarded}
 

@@ -3,14 +3,7 @@ pub mod Turn
 pub mod Runs
 pub mod Rows
 pub mod Files
-pub mod Taken
-pub mod Logs
 pub mod Counts
 pub mod Guards
-pub mod Harts
-pub mod Plain
-pub mod Parts
-pub mod EachCache
-pub mod Turning
-pub mod First
+pub mod Stands
 pub mod Examples

@@ -12,9 +12,8 @@ ghost use Rattle.run_model.specs.declared.next.Next.TheVariants.{GoesOn, NewInte
 ghost use Rattle.run_model.specs.Machine.{Machine, call_of};
 ghost use Rattle.run_model.specs.declared.span.Span.{Span};
 ghost use Rattle.run_model.specs.Turn.{drops, dropped, events_after, loading, span_of, warmth};
-ghost use Rattle.run_model.specs.Parts.{AreAddresses};
-ghost use Rattle.run_model.specs.EachCache.{AreCaches, cache_of, steps_in, touched_word, touches, where_loading, events_cleared, is_spared, IsDropped, IsSetTo};
-
+ghost use Rattle.run_model.specs.Stands.Parts.{AreAddresses};
+ghost use Rattle.run_model.specs.Stands.EachCache.{AreCaches, cache_of, steps_in, touched_word, touches, where_loading, events_cleared, is_spared, IsDropped, IsSetTo};
 
 use crate::span::Span;
 use bn_base::{Addr, HartId, Settings};

@@ -1,5 +1,6 @@
 // Laws of turns.
 ghost use Rattle.run_model.specs.Counts.{EachTurnMovesOn, EachTurnFits, OthersStayFit, GuardedAsksFit};
+ghost use Rattle.run_model.specs.Files.{FormatOneIsVersionOne};
 ghost use Rattle.run_model.specs.Guards.{FormatOneIsUnguarded, RecordsDecideNothing};
 
 /// The turn of a live hart's orderly ask moves on within its budget: by one instruction where it
@@ -29,6 +30,12 @@ pub fn guarded_asks_fit()
 #[tactic(auto, using(crate::proofs::FormatOne::format_one))]
 pub fn format_1_is_unguarded()
     ensures { FormatOneIsUnguarded }
+{}
+
+/// With format 1 the log file of a run is of version 1.
+#[tactic(auto, using(crate::proofs::FormatOne::version_one))]
+pub fn format_1_is_version_1()
+    ensures { FormatOneIsVersionOne }
 {}
 
 /// The records themselves decide nothing: the machine, harts, caches, points, turns and number of bytes

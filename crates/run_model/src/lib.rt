@@ -34,8 +34,8 @@ pub use guarded_examples::{
 };
 pub use hart::{Hart, skipped_after};
 pub use laws::{
-    each_turn_fits, each_turn_moves_on, format_1_is_unguarded, guarded_asks_fit, others_stay_fit,
-    records_decide_nothing,
+    each_turn_fits, each_turn_moves_on, format_1_is_unguarded, format_1_is_version_1,
+    guarded_asks_fit, others_stay_fit, records_decide_nothing,
 };
 pub use log::Log;
 pub use machine::{Machine, Streams};

@@ -5,8 +5,8 @@ ghost use Rattle.bn_base.specs.declared.settings.TheConstants.{HARTS};
 ghost use Rattle.race_log.specs.Points.{Point};
 ghost use Rattle.race_log.specs.Stands.{Stands, harts_of, next_turn, next_count};
 ghost use Rattle.run_model.specs.Turn.{point_of, points_after, edge_records};
-ghost use Rattle.run_model.specs.Logs.{taken, IsLog};
-ghost use Rattle.run_model.specs.Plain.{everyone, IsRaceReady, count_after};
+ghost use Rattle.run_model.specs.Stands.Logs.{taken, IsLog};
+ghost use Rattle.run_model.specs.Stands.Plain.{everyone, IsRaceReady, count_after};
 
 use crate::log::Log;
 use crate::records::append_edges;

@@ -14,12 +14,12 @@ ghost use Rattle.run_model.specs.declared.next.Next.TheVariants.{GoesOn};
 ghost use Rattle.run_model.specs.declared.span.Span.{Span};
 ghost use Rattle.run_model.specs.Machine.{Machine, call_of};
 ghost use Rattle.run_model.specs.Turn.{span_of, next_of, loading, warmth, point_of, points_after, edge_records, load_record, sc_record, next_records, run_over_records, harts_after, hart_after, events_after, skipped_after};
-ghost use Rattle.run_model.specs.Harts.{AreHarts, hart_in};
-ghost use Rattle.run_model.specs.Logs.{taken, IsLog, is_marked_next};
-ghost use Rattle.run_model.specs.EachCache.{AreCaches, steps_in, where_loading, touched_word, touches};
+ghost use Rattle.run_model.specs.Stands.Harts.{AreHarts, hart_in};
+ghost use Rattle.run_model.specs.Stands.Logs.{taken, IsLog, is_marked_next};
+ghost use Rattle.run_model.specs.Stands.EachCache.{AreCaches, steps_in, where_loading, touched_word, touches};
 ghost use Rattle.run_model.specs.Counts.{is_loading};
-ghost use Rattle.run_model.specs.Parts.{AreAddresses};
-ghost use Rattle.run_model.specs.Plain.{everyone, IsRaceReady, count_after, clears};
+ghost use Rattle.run_model.specs.Stands.Parts.{AreAddresses};
+ghost use Rattle.run_model.specs.Stands.Plain.{everyone, IsRaceReady, count_after, clears};
 
 use crate::caches::Caches;
 use crate::hart::{Hart, skipped_after};

@@ -5,12 +5,12 @@ ghost use Rattle.rv_meaning.specs.declared.asks.Reply.{Reply};
 ghost use Rattle.rv_meaning.specs.declared.asks.Reply.TheVariants as replies;
 ghost use Rattle.run_model.specs.Machine.{Machine as Meant, call_of};
 ghost use Rattle.run_model.specs.Turn.{Run, span_of, is_orderly, is_guarded, bytes_since, serve_call, serve_disorderly, halted, turn, budget};
-ghost use Rattle.run_model.specs.Parts.{HasRoom, IsMachine, AreAddresses};
-ghost use Rattle.run_model.specs.Harts.{hart_in};
-ghost use Rattle.run_model.specs.Plain.{IsRun, IsRaceReady};
+ghost use Rattle.run_model.specs.Stands.Parts.{HasRoom, IsMachine, AreAddresses};
+ghost use Rattle.run_model.specs.Stands.Harts.{hart_in};
+ghost use Rattle.run_model.specs.Stands.Plain.{IsRun, IsRaceReady};
 ghost use Rattle.log_ring.specs.Kept.{Holds};
 ghost use Rattle.run_model.specs.Runs.{start, is_live, most_turns};
-ghost use Rattle.run_model.specs.Turning.{parts, is_alive};
+ghost use Rattle.run_model.specs.Stands.Turning.{parts, is_alive};
 
 use crate::hart::{HEADER_SIZE, Hart};
 use crate::harts::end_each;

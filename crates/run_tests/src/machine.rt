@@ -1,6 +1,6 @@
 //! That memory is found where there is some: a call's answer needs pages and room in a stream.
 ghost use Rattle.std.specs.Prelude.{◌≡◌, ◌<◌, IfOk};
-ghost use Rattle.run_model.specs.Parts.{size_of};
+ghost use Rattle.run_model.specs.Stands.Parts.{size_of};
 
 use bn_base::{HartId, HartState, Image, RawSettings, Register, Registers, Settings};
 use run_model::Machine;

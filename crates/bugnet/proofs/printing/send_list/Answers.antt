@@ -23,7 +23,7 @@ returns-in-Err-clause-sent g c =
     let rest = list_text (drop (k + 1) rs) in
     let so_far : SoFar (list_text rs) ((text ++ piece) ++ rest) old now before after =
     subst (λ (t : List ℕ). SoFar (list_text rs) t old now before after)
-        (ap (λ (t : List ℕ). text ++ t) (list-more rs k x c.loop-place-test.true c.index-records-place.is) ∙ sym (append_assoc text piece rest)) c.loop-place.invariant in
+    (ap (λ (t : List ℕ). text ++ t) (list-more rs k x c.loop-place-test.true c.index-records-place.is) ∙ sym (append_assoc text piece rest)) c.loop-place.invariant in
     subst (λ (rs : List Record). AppendsPart old next (list_text rs) × SendStops before last c.in-Err.refusal) c.records-records.ensures.value
     (so_far-stopped (list_text rs) (text ++ piece) rest old now next before after last c.in-Err.refusal so_far c.in-Err.ensures.sent)
 
@@ -41,7 +41,7 @@ loop-place-preserved g c =
     let rest = list_text (drop (k + 1) rs) in
     let so_far : SoFar (list_text rs) ((text ++ piece) ++ rest) old now before after =
     subst (λ (t : List ℕ). SoFar (list_text rs) t old now before after)
-        (ap (λ (t : List ℕ). text ++ t) (list-more rs k x c.loop-place-test.true c.index-records-place.is) ∙ sym (append_assoc text piece rest)) c.loop-place.invariant in
+    (ap (λ (t : List ℕ). text ++ t) (list-more rs k x c.loop-place-test.true c.index-records-place.is) ∙ sym (append_assoc text piece rest)) c.loop-place.invariant in
     so_far-gathered (list_text rs) (text ++ piece) c.gather_record.new.text rest old now (g.O.Sink.written c.gather_record.new.out) before after (g.O.Sink.faults c.gather_record.new.out)
     so_far c.in-Ok.ensures.sent c.gather_record.ensures.later
 
@@ -56,4 +56,4 @@ returns-clause-sent g c =
     let last = g.O.Sink.faults c.send.new.sink in
     subst (λ (rs : List Record). Sent old next before last (list_text rs) (λ x. Unit {0}) c.send.result) c.records-records.ensures.value
     (so_far-last (list_text rs) c.loop-place.text (list_text (drop c.loop-place.place rs)) old now next before after last c.send.result c.loop-place.invariant
-        (list-done rs c.loop-place.place c.loop-place-test.false) c.send.ensures.sent)
+    (list-done rs c.loop-place.place c.loop-place-test.false) c.send.ensures.sent)

@@ -1,3 +1,4 @@
+use Rattle.std.proofs.Common.{sym, ◌∙◌}
 use Rattle.std.specs.Prelude.{false, []}
 use Rattle.run_model.specs.Runs.{seeded}
 use Rattle.bugnet.proofs.Recorded.{recording-so}
@@ -7,4 +8,5 @@ pub returns : goal.returns
 returns c =
     let s = c.args.start.now in
     let run = c.in_ok-listed.listed in
-    recording-so false s run.closed [] run.list.items (seeded s.settings s.image s.input.items c.args.seed) c.recording_of.result c.in_ok-listed.ensures.list c.in_ok-listed.ensures.run c.recording_of.ensures
+    let version = c.format_1_is_version_1.ensures s.settings s.image s.digest s.input.items run.list.items (sym c.format-format.ensures.value ∙ c.format-format.ensures.one) in
+    recording-so false s run.closed [] run.list.items (seeded s.settings s.image s.input.items c.args.seed) c.recording_of.result version c.in_ok-listed.ensures.list c.in_ok-listed.ensures.run c.recording_of.ensures

@@ -1,9 +1,9 @@
 use Rattle.std.proofs.Common.{◌∙◌, ap, subst}
 use Rattle.run_model.specs.declared.start.Start.{Start}
 use Rattle.run_model.specs.Machine.{call_of}
-use Rattle.run_model.specs.Plain.{IsRun}
+use Rattle.run_model.specs.Stands.Plain.{IsRun}
 use Rattle.run_model.specs.Turn.{Served, serve_call, is_guarded}
-use Rattle.run_model.specs.Turning.{parts}
+use Rattle.run_model.specs.Stands.Turning.{parts}
 use Rattle.bus_core.proofs.Serves.{served_orderly}
 use Rattle.bus_core.proofs.turn.take_orderly.Goals as goal
 

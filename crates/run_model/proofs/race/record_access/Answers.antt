@@ -1,10 +1,10 @@
 use Rattle.std.proofs.Common.{◌++◌, ℕ, List, refl, sym, subst}
 use Rattle.std.specs.Prelude.{Option}
-use Rattle.run_model.specs.Logs.{IsLog}
+use Rattle.run_model.specs.Stands.Logs.{IsLog}
 use Rattle.race_log.specs.Stands.{Stands}
 use Rattle.run_model.specs.declared.span.Span.{Span}
 use Rattle.run_model.specs.Turn.{edges_from, point_of, points_after, edge_records}
-use Rattle.run_model.specs.Plain.{everyone}
+use Rattle.run_model.specs.Stands.Plain.{everyone}
 use Rattle.run_model.proofs.race.record_access.Goals as goal
 
 pub returns-in-Some-clause-shadow : goal.returns-in-Some-clause-shadow

@@ -3,8 +3,8 @@ use Rattle.std.specs.Prelude.{Vec}
 use Rattle.std.specs.Global.{Global}
 use Rattle.run_model.specs.declared.hart.Hart.{Hart}
 use Rattle.run_model.specs.Runs.{any_live, is_over}
-use Rattle.run_model.specs.Harts.{hart_in}
-use Rattle.run_model.specs.Turning.{parts}
+use Rattle.run_model.specs.Stands.Harts.{hart_in}
+use Rattle.run_model.specs.Stands.Turning.{parts}
 use Rattle.bus_core.specs.Bus.{Seen, seen, marks, IsState, IsLogged}
 use Rattle.bus_core.proofs.History.{logged_is}
 use Rattle.bus_core.proofs.Marks.{marks_are, live_is, over_is}

@@ -1,6 +1,6 @@
 use Rattle.std.proofs.Common.{◌≡◌, ◌<◌, ℕ, [], vec_len}
 use Rattle.first_load_bits.specs.Stands.{StandsFor, geometry_of}
-use Rattle.run_model.specs.EachCache.{cache_of, steps_in}
+use Rattle.run_model.specs.Stands.EachCache.{cache_of, steps_in}
 use Rattle.run_model.proofs.caches.Caches.new.Given as goal
 
 abbrev pub invariant-loop : goal.invariant-loop

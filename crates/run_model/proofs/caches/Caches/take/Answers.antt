@@ -3,7 +3,7 @@ use Rattle.system_calls.specs.declared.effect.Plan.{Plan}
 use Rattle.run_model.specs.declared.next.Next.TheVariants.{GoesOn}
 use Rattle.run_model.specs.declared.span.Span.{Span}
 use Rattle.run_model.specs.Turn.{events_after}
-use Rattle.run_model.specs.EachCache.{AreCaches}
+use Rattle.run_model.specs.Stands.EachCache.{AreCaches}
 use Rattle.run_model.proofs.caches.Caches.take.Goals as goal
 
 pub returns-in-None-call-clause-stands : goal.returns-in-None-call-clause-stands

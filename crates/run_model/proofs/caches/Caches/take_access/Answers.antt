@@ -2,7 +2,7 @@ use Rattle.std.proofs.Common.{◌≡◌, ◌∙◌, subst, sym, ap, List, Some, 
 use Rattle.first_load_bits.specs.Stands.{Contents}
 use Rattle.run_model.specs.declared.next.Next.TheVariants.{GoesOn}
 use Rattle.run_model.specs.Turn.{events_after}
-use Rattle.run_model.specs.EachCache.{AreCaches}
+use Rattle.run_model.specs.Stands.EachCache.{AreCaches}
 use Rattle.run_model.proofs.Histories.{written_back}
 use Rattle.run_model.proofs.caches.Caches.take_access.Goals as goal
 

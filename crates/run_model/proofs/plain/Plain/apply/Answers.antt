@@ -6,11 +6,11 @@ use Rattle.race_log.specs.declared.shadow.Shadow.{Shadow}
 use Rattle.race_log.specs.Stands.{Stands, harts_of, next_turn, next_count}
 use Rattle.run_model.specs.declared.hart.Hart.{Hart}
 use Rattle.run_model.specs.Machine.{answer}
-use Rattle.run_model.specs.Parts.{IsMachine}
-use Rattle.run_model.specs.EachCache.{steps_in, touched_word, touches}
-use Rattle.run_model.specs.Harts.{AreHarts, hart_in}
+use Rattle.run_model.specs.Stands.Parts.{IsMachine}
+use Rattle.run_model.specs.Stands.EachCache.{steps_in, touched_word, touches}
+use Rattle.run_model.specs.Stands.Harts.{AreHarts, hart_in}
 use Rattle.run_model.specs.Turn.{span_of, next_of, hart_after, harts_after, skipped_after, points_after, point_of}
-use Rattle.run_model.specs.Plain.{everyone, meant, count_after, clears}
+use Rattle.run_model.specs.Stands.Plain.{everyone, meant, count_after, clears}
 use Rattle.run_model.proofs.Owns.{hart_of_run}
 use Rattle.run_model.proofs.PlainRuns.{traced}
 use Rattle.run_model.proofs.PlainFits.{fit_traced, two_ifs}

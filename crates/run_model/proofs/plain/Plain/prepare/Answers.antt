@@ -4,10 +4,10 @@ use Rattle.std.specs.Global.{Global}
 use Rattle.first_load_bits.specs.Stands.{Contents}
 use Rattle.run_model.specs.declared.log.Log.{Log}
 use Rattle.run_model.specs.declared.hart.Hart.{Hart}
-use Rattle.run_model.specs.Parts.{IsMachine}
-use Rattle.run_model.specs.EachCache.{AreCaches}
-use Rattle.run_model.specs.Harts.{AreHarts}
-use Rattle.run_model.specs.Logs.{IsLog}
+use Rattle.run_model.specs.Stands.Parts.{IsMachine}
+use Rattle.run_model.specs.Stands.EachCache.{AreCaches}
+use Rattle.run_model.specs.Stands.Harts.{AreHarts}
+use Rattle.run_model.specs.Stands.Logs.{IsLog}
 use Rattle.run_model.proofs.Meant.{is_before}
 use Rattle.run_model.proofs.plain.Plain.prepare.Goals as goal
 

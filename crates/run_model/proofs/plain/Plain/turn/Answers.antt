@@ -4,11 +4,11 @@ use Rattle.std.specs.Global.{Global}
 use Rattle.run_model.specs.declared.hart.Hart.{Hart}
 use Rattle.run_model.specs.declared.start.Start.{Start}
 use Rattle.run_model.specs.Counts.{IsFit}
-use Rattle.run_model.specs.Harts.{hart_in}
+use Rattle.run_model.specs.Stands.Harts.{hart_in}
 use Rattle.run_model.specs.Machine.{call_of}
-use Rattle.run_model.specs.Plain.{IsRun}
+use Rattle.run_model.specs.Stands.Plain.{IsRun}
 use Rattle.run_model.specs.Turn.{Run, is_orderly, is_guarded, serve_call}
-use Rattle.run_model.specs.Turning.{parts}
+use Rattle.run_model.specs.Stands.Turning.{parts}
 use Rattle.run_model.proofs.Owns.{hart_at, hart_of_run}
 use Rattle.run_model.proofs.OneTurn.{alive_in, ordered_at, small_count, passes_of, turn_is, ask_is}
 use Rattle.run_model.proofs.plain.Plain.turn.Goals as goal

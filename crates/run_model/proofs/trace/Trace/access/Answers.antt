@@ -3,9 +3,9 @@ use Rattle.std.specs.Prelude.{Option}
 use Rattle.race_log.specs.Stands.{Stands}
 use Rattle.run_model.specs.declared.next.Next.TheVariants.{GoesOn}
 use Rattle.run_model.specs.declared.span.Span.{Span}
-use Rattle.run_model.specs.EachCache.{AreCaches}
+use Rattle.run_model.specs.Stands.EachCache.{AreCaches}
 use Rattle.run_model.specs.Turn.{events_after, point_of, points_after}
-use Rattle.run_model.specs.Plain.{everyone}
+use Rattle.run_model.specs.Stands.Plain.{everyone}
 use Rattle.run_model.proofs.trace.Trace.access.Goals as goal
 
 pub returns-clause-caches : goal.returns-clause-caches

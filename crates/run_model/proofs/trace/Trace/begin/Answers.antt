@@ -1,6 +1,6 @@
 use Rattle.std.proofs.Common.{sym, subst}
 use Rattle.run_model.specs.declared.next.Next.{Next}
-use Rattle.run_model.specs.EachCache.{AreCaches}
+use Rattle.run_model.specs.Stands.EachCache.{AreCaches}
 use Rattle.run_model.specs.Turn.{events_after}
 use Rattle.run_model.proofs.trace.Trace.begin.Goals as goal
 

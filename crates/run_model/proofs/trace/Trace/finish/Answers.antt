@@ -4,8 +4,8 @@ use Rattle.std.specs.Global.{Global}
 use Rattle.rv_meaning.specs.Execute.{absorbed}
 use Rattle.run_model.specs.declared.hart.Hart.{Hart}
 use Rattle.run_model.specs.declared.next.Next.{Next}
-use Rattle.run_model.specs.EachCache.{AreCaches}
-use Rattle.run_model.specs.Harts.{AreHarts, hart_in}
+use Rattle.run_model.specs.Stands.EachCache.{AreCaches}
+use Rattle.run_model.specs.Stands.Harts.{AreHarts, hart_in}
 use Rattle.run_model.specs.Turn.{events_after, harts_after, hart_after, skipped_after, next_of}
 use Rattle.run_model.proofs.Owns.{hart_at, next_is, own_is}
 use Rattle.run_model.proofs.trace.Trace.finish.Goals as goal

@@ -10,13 +10,13 @@ use Rattle.run_model.specs.declared.next.Next.TheVariants.{GoesOn, NewInterval, 
 use Rattle.run_model.specs.declared.span.Span.{Span}
 use Rattle.run_model.specs.declared.start.Start.{Start}
 use Rattle.run_model.specs.declared.trace.Trace.{Trace}
-use Rattle.run_model.specs.Parts.{MachineParts, IsMachine}
-use Rattle.run_model.specs.EachCache.{AreCaches, steps_in}
+use Rattle.run_model.specs.Stands.Parts.{MachineParts, IsMachine}
+use Rattle.run_model.specs.Stands.EachCache.{AreCaches, steps_in}
 use Rattle.run_model.specs.Machine.{Machine}
 use Rattle.run_model.specs.Turn.{Run}
 use Rattle.run_model.specs.Runs.{most_turns}
-use Rattle.run_model.specs.Logs.{taken, IsLog}
-use Rattle.run_model.specs.Harts.{AreHarts, hart_in, all_left}
+use Rattle.run_model.specs.Stands.Logs.{taken, IsLog}
+use Rattle.run_model.specs.Stands.Harts.{AreHarts, hart_in, all_left}
 use Rattle.run_model.specs.Counts.{IsRested}
 
 -- every hart's knowledge counts

@@ -1,0 +1,10 @@
+-- How what runs stands for a recording: which machines, histories, harts, logs and runs of the definitions the code's values
+-- stand for.
+pub mod Taken
+pub mod Logs
+pub mod Harts
+pub mod Plain
+pub mod Parts
+pub mod EachCache
+pub mod Turning
+pub mod First
