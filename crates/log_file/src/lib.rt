@@ -7,6 +7,7 @@ mod first_log;
 pub mod head;
 pub mod laws;
 pub mod reading;
+pub mod readings;
 pub mod splitting;
 #[cfg(test)]
 mod tests;
