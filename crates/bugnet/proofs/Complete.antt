@@ -1,5 +1,5 @@
 -- Where a command has an answer, and where it is done.
-use Rattle.std.proofs.Common.{◌≡◌, ◌≤◌, ℕ, Bool, true, false, nat_lt, List, [], length, Option, Some, None, ap, subst, sym, refl, arith, inl, inr, ◌⊎◌, ◌∙◌}
+use Rattle.std.proofs.Common.{◌≡◌, ◌≤◌, ℕ, Bool, true, false, nat_lt, List, [], length, Option, Some, None, ap, subst, sym, refl, arith, inl, inr, ◌⊎◌, ◌∙◌, ◌≢◌}
 use Rattle.std.specs.Prelude.{Result, Ok, Err, IfSome, is_some, unwrap_or}
 use Rattle.std.specs.Str.{bytes_eq}
 use Rattle.sha2.specs.Sha256.{sha256}
@@ -12,7 +12,11 @@ use Rattle.command_words.specs.Words.{Line, RecordingLine, RecordLine, ReplayLin
 use Rattle.elf_loader.specs.Loaded.{image_of}
 use Rattle.elf_loader.specs.declared.error.ElfError.{ElfError}
 use Rattle.log_order.specs.Content.{Content, IsContent}
+use Rattle.le_numbers.specs.Numbers.{AreBytes}
+use Rattle.log_file.specs.File.{IsRefusal}
 use Rattle.log_file.specs.Layout.{file_bytes}
+use Rattle.log_file.specs.Readings.{AreReadOrRefused}
+use Rattle.log_file.specs.declared.error.FileError.TheVariants as file
 use Rattle.log_file.specs.declared.error.FileError.{FileError}
 use Rattle.hart_replay.specs.Replay.{Interval}
 use Rattle.run_model.specs.Files.{content_of, FormatOneIsVersionOne}
@@ -28,13 +32,14 @@ use Rattle.bugnet.specs.Headline.{Part, ReplaysRun}
 use Rattle.bugnet.specs.Outside.{WithFiles}
 use Rattle.bugnet.specs.Run.{Call, IsFree, Tells, StoppedEarly, AnAnswer, Answers}
 use Rattle.bugnet.specs.Saves.{IsRecorded, input_by}
-use Rattle.bugnet.specs.Complete.{IsRead, EachHasAnAnswer, CanRecord, HasLog, EachCanBeDone, IsDone}
+use Rattle.bugnet.specs.Complete.{HoldsBytes, EachHasAnAnswer, CanRecord, HasLog, EachCanBeDone, IsDone}
 use Rattle.bugnet.specs.Laws.{OneAnswer}
 use Rattle.bugnet.specs.declared.answer.RunEnd.{RunEnd}
 use Rattle.bugnet.specs.declared.answer.RunEnd.TheVariants as ends
 use Rattle.bugnet.specs.declared.names.Role.{Role}
 use Rattle.bugnet.specs.declared.names.Role.TheVariants as role
 use Rattle.bugnet.specs.declared.refusal.Refusal.TheVariants.{WordsRefused, OutOfRange, SameName, Missing, TooLong, ElfRefused}
+use Rattle.bugnet.proofs.Tested.{in-range}
 use Rattle.bugnet.proofs.Loads.{by-bytes}
 use Rattle.bugnet.proofs.Suffices.{file-size, answer, Together}
 use Rattle.bugnet.proofs.Tells.{with-files, stopped-free, early-free}
@@ -61,9 +66,17 @@ any-there : (there : Option (List ℕ)) (P : List ℕ → Type 0) → ((bytes : 
 any-there None P h = tt
 any-there (Some bytes) P h = h bytes
 
-read-there : (there : Option (List ℕ)) (P : List ℕ → Type 0) → ((bytes : List ℕ) (says : Result Content FileError) → Reads bytes says → P bytes) → IsRead there → IfSome there P
-read-there None P h read = tt
-read-there (Some bytes) P h read = h bytes read.0 read.1
+-- what a log says, or why it is refused
+reading : AreReadOrRefused → (bytes : List ℕ) → AreBytes bytes → (says : Result Content FileError) × Reads bytes says
+reading law bytes are = by (law in-range bytes are)
+  where
+    by : ((d : Content) × IsContent d × (bytes ≡ file_bytes d)) ⊎ ((e : FileError) × IsRefusal bytes e × (e ≢ file.OutOfMemory)) → (says : Result Content FileError) × Reads bytes says
+    by (inl h) = (Ok h.0, (h.1, h.2))
+    by (inr h) = (Err h.0, (h.1, h.2))
+
+read-there : AreReadOrRefused → (there : Option (List ℕ)) (P : List ℕ → Type 0) → ((bytes : List ℕ) (says : Result Content FileError) → Reads bytes says → P bytes) → HoldsBytes there → IfSome there P
+read-there law None P h are = tt
+read-there law (Some bytes) P h are = let r = reading law bytes are in h bytes r.0 r.1
 
 some-log : (names : FileNames) (bytes : List ℕ) (go : Content → Told) (says : Result Content FileError) → Reads bytes says → Some-told (IsByLog names bytes go)
 some-log names bytes go says reads = (by_log names go says, record { says = says; reads = reads; is = refl })
@@ -86,20 +99,20 @@ some-settings : (bad : Option BadSetting) (files : Files) (names : FileNames) (c
 some-settings (Some bad) files names c seed has = (refused names (OutOfRange bad), refl)
 some-settings None files names c seed has = some-names (bytes_eq names.log names.book) files names c seed has
 
-pub some-answer : EachHasAnAnswer
-some-answer None files read = (refused no_names WordsRefused, refl)
-some-answer (Some (RecordLine r)) files read = some-settings (first_bad r.settings) files (names_in (RecordLine r)) r.settings r.seed (is_some r.input)
-some-answer (Some (ReplayLine log elf hart interval)) files read =
+pub some-answer : AreReadOrRefused → EachHasAnAnswer
+some-answer law None files read = (refused no_names WordsRefused, refl)
+some-answer law (Some (RecordLine r)) files read = some-settings (first_bad r.settings) files (names_in (RecordLine r)) r.settings r.seed (is_some r.input)
+some-answer law (Some (ReplayLine log elf hart interval)) files read =
     let names = names_in (ReplayLine log elf hart interval) in
     some-file files names role.Log 268500992 (λ log what. IsReplayOf files names hart interval log what)
-    (read-there (files log) _ (λ bytes says reads. some-file files names role.Elf 67108864 (λ elf what. IsByLog names bytes (replay_of names hart interval elf) what)
+    (read-there law (files log) _ (λ bytes says reads. some-file files names role.Elf 67108864 (λ elf what. IsByLog names bytes (replay_of names hart interval elf) what)
     (any-there (files elf) _ (λ program. some-log names bytes (replay_of names hart interval program) says reads))) read)
-some-answer (Some (ListLine log)) files read =
+some-answer law (Some (ListLine log)) files read =
     let names = names_in (ListLine log) in
-    some-file files names role.Log 268500992 (λ log what. IsByLog names log list_of what) (read-there (files log) _ (λ bytes says reads. some-log names bytes list_of says reads) read)
-some-answer (Some (CheckLine log)) files read =
+    some-file files names role.Log 268500992 (λ log what. IsByLog names log list_of what) (read-there law (files log) _ (λ bytes says reads. some-log names bytes list_of says reads) read)
+some-answer law (Some (CheckLine log)) files read =
     let names = names_in (CheckLine log) in
-    some-file files names role.Log 268500992 (λ log what. IsByLog names log check_of what) (read-there (files log) _ (λ bytes says reads. some-log names bytes check_of says reads) read)
+    some-file files names role.Log 268500992 (λ log what. IsByLog names log check_of what) (read-there law (files log) _ (λ bytes says reads. some-log names bytes check_of says reads) read)
 
 -- ---- commands that can be done
 

@@ -1,5 +1,5 @@
 -- Where a command has an answer, and where it is done.
-use Rattle.std.specs.Prelude.{◌≡◌, ◌≤◌, ◌⊎◌, ℕ, List, false, length, Option, Some, None, Result, Ok, IfSome}
+use Rattle.std.specs.Prelude.{◌≡◌, ◌≤◌, ◌⊎◌, ℕ, List, false, length, Option, Some, None, Ok, IfSome}
 use Rattle.std.specs.Str.{bytes_eq}
 use Rattle.bn_base.specs.Programs.{Program}
 use Rattle.bn_base.specs.Ranges.{first_bad}
@@ -7,13 +7,11 @@ use Rattle.bn_base.specs.declared.settings.RawSettings.{RawSettings}
 use Rattle.bn_outside.specs.Files.{Files}
 use Rattle.command_words.specs.Words.{Line, RecordingLine, RecordLine, ReplayLine, ListLine, CheckLine}
 use Rattle.elf_loader.specs.Loaded.{image_of}
-use Rattle.log_order.specs.Content.{Content}
-use Rattle.log_file.specs.declared.error.FileError.{FileError}
+use Rattle.le_numbers.specs.Numbers.{AreBytes}
 use Rattle.hart_replay.specs.Replay.{Interval}
 use Rattle.run_model.specs.Files.{file_of}
 use Rattle.file_laws.specs.Given.{IsRecording}
 use Rattle.bugnet.specs.Told.{Told}
-use Rattle.bugnet.specs.Commands.{Reads}
 use Rattle.bugnet.specs.Answers.{IsAnswer}
 use Rattle.bugnet.specs.Headline.{Part, ReplaysRun}
 use Rattle.bugnet.specs.Run.{IsFree}
@@ -21,21 +19,21 @@ use Rattle.bugnet.specs.Saves.{IsRecorded, input_by}
 
 -- ---- answers
 
--- what is there is a log, or refused as one
-abbrev pub IsRead : Option (List ℕ) → Type 0
-IsRead there = IfSome there (λ bytes. (says : Result Content FileError) × Reads bytes says)
+-- what is there is bytes
+abbrev pub HoldsBytes : Option (List ℕ) → Type 0
+HoldsBytes there = IfSome there AreBytes
 
 -- so is the log of a line that loads one
-abbrev pub HasRead : Option Line → Files → Type 0
-HasRead None files = Unit {0}
-HasRead (Some (RecordLine r)) files = Unit {0}
-HasRead (Some (ReplayLine log elf hart interval)) files = IsRead (files log)
-HasRead (Some (ListLine log)) files = IsRead (files log)
-HasRead (Some (CheckLine log)) files = IsRead (files log)
+abbrev pub HasBytes : Option Line → Files → Type 0
+HasBytes None files = Unit {0}
+HasBytes (Some (RecordLine r)) files = Unit {0}
+HasBytes (Some (ReplayLine log elf hart interval)) files = HoldsBytes (files log)
+HasBytes (Some (ListLine log)) files = HoldsBytes (files log)
+HasBytes (Some (CheckLine log)) files = HoldsBytes (files log)
 
 -- then there is an answer
 abbrev pub EachHasAnAnswer : Type 0
-EachHasAnAnswer = (line : Option Line) (files : Files) → HasRead line files → (what : Told) × IsAnswer line files what
+EachHasAnAnswer = (line : Option Line) (files : Files) → HasBytes line files → (what : Told) × IsAnswer line files what
 
 -- ---- commands that can be done
 

@@ -57,7 +57,7 @@ fn print_interval<O: Sink, X: Sink>(
     out: &mut O,
     err: &mut X,
 ) -> u8
-    ensures told { (files : Option Files) (counts : Counts) → Tells names.now (told_of_reading names.now reading.now) result (printing files counts O.written O.faults X.written X.faults out.old err.old out.new err.new) }
+    ensures told { (files : Option Files) (had : Counts) → Tells names.now (told_of_reading names.now reading.now) result (printing files had O.written O.faults X.written X.faults out.old err.old out.new err.new) }
     ensures out_later { O.faults out.old ≤ O.faults out.new }
     ensures err_later { X.faults err.old ≤ X.faults err.new }
     ensures write { result ≡ 13 → Rose (O.faults out.old) (O.faults out.new) ⊎ Rose (X.faults err.old) (X.faults err.new) }
@@ -96,7 +96,7 @@ fn print_list<O: Sink, X: Sink>(
     out: &mut O,
     err: &mut X,
 ) -> u8
-    ensures told { (files : Option Files) (counts : Counts) → Tells names.now (list_of log.now) result (printing files counts O.written O.faults X.written X.faults out.old err.old out.new err.new) }
+    ensures told { (files : Option Files) (had : Counts) → Tells names.now (list_of log.now) result (printing files had O.written O.faults X.written X.faults out.old err.old out.new err.new) }
     ensures out_later { O.faults out.old ≤ O.faults out.new }
     ensures err_later { X.faults err.old ≤ X.faults err.new }
     ensures write { result ≡ 13 → Rose (O.faults out.old) (O.faults out.new) ⊎ Rose (X.faults err.old) (X.faults err.new) }
@@ -119,7 +119,7 @@ fn print_check<O: Sink, X: Sink>(
     out: &mut O,
     err: &mut X,
 ) -> u8
-    ensures told { (files : Option Files) (counts : Counts) → Tells names.now (check_of log.now) result (printing files counts O.written O.faults X.written X.faults out.old err.old out.new err.new) }
+    ensures told { (files : Option Files) (had : Counts) → Tells names.now (check_of log.now) result (printing files had O.written O.faults X.written X.faults out.old err.old out.new err.new) }
     ensures out_later { O.faults out.old ≤ O.faults out.new }
     ensures err_later { X.faults err.old ≤ X.faults err.new }
     ensures write { result ≡ 13 → Rose (O.faults out.old) (O.faults out.new) ⊎ Rose (X.faults err.old) (X.faults err.new) }

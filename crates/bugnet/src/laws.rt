@@ -6,6 +6,7 @@ ghost use Rattle.bugnet.specs.Headline.{Headline, RecordingsAreReplayed};
 use file_laws::logs_are_contents;
 use hart_worker::seeded_lists_end;
 use log_file::laws::{files_say_one_thing, logs_are_not_refused, refusals_are_unique};
+use log_file::readings::files_are_read_or_refused;
 use replay_laws::{the_log_suffices, the_rows_of_an_interval_stand_together};
 use run_laws::kept_records_are_an_end;
 use run_model::format_1_is_version_1;
@@ -35,10 +36,12 @@ pub fn headline()
     format_1_is_version_1();
 }
 
-/// Words and files have an answer, where the log that they name is one or is refused as one.
+/// Words and files have an answer, where what the files hold is bytes.
 pub fn each_has_an_answer()
     ensures { EachHasAnAnswer }
-{}
+{
+    files_are_read_or_refused();
+}
 
 /// Where the settings are in range, LOG and BOOK are two names, the files are there, within their
 /// limits, and are what the command needs, there is an answer, and it is that of a command that is

@@ -119,7 +119,7 @@ is_file written signed kept c are long h has =
     ∙ ap (λ (d : ℕ). signed_bytes c.head d (drop 92 signed)) (sym has.dropped) ∙ ap (λ (t : List ℕ). signed_bytes c.head c.dropped t) has.records in
     ap (λ (k : List ℕ). signed ++ k) p.digest ∙ ap (λ (t : List ℕ). t ++ sha256 t) whole
 
-front_bytes : (bytes signed kept : List ℕ) → bytes ≡ signed ++ kept → AreBytes bytes → AreBytes signed
+pub front_bytes : (bytes signed kept : List ℕ) → bytes ≡ signed ++ kept → AreBytes bytes → AreBytes signed
 front_bytes bytes signed kept parts are i =
     elim (cases_lt i (length signed)) [
       | inl lt ↦ subst (λ (n : ℕ). n < 256) (ap (λ (t : List ℕ). slice_index t i) parts ∙ get_or_append_left signed kept 0 i lt) (are i)

@@ -3,3 +3,4 @@ pub mod Heads
 pub mod Again
 pub mod Refusals
 pub mod Counts
+pub mod Decided

@@ -3,3 +3,4 @@ pub mod Layout
 pub mod Faults
 pub mod File
 pub mod Laws
+pub mod Readings

@@ -5,6 +5,7 @@ pub mod error;
 pub mod head;
 pub mod laws;
 pub mod reading;
+pub mod readings;
 pub mod splitting;
 pub mod writing;
 
