@@ -156,4 +156,3 @@ impl Shadow {
         &self.times[hart as usize]
     }
 }
-
