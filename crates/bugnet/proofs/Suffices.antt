@@ -19,7 +19,7 @@ use Rattle.log_order.specs.Content.{Content, IsContent}
 use Rattle.log_file.specs.Layout.{magic, settings_bytes, signed_bytes, file_bytes}
 use Rattle.log_file.specs.declared.error.FileError.{FileError}
 use Rattle.hart_replay.specs.Replay.{Done, Replayed, Interval, replayed}
-use Rattle.run_model.specs.Files.{content_of, FormatOneIsVersionOne}
+use Rattle.run_model.specs.Files.{kept_of, content_of, FormatOneIsVersionOne}
 use Rattle.run_model.specs.Rows.{rows_in}
 use Rattle.run_model.specs.Runs.{start, run_of}
 use Rattle.run_laws.specs.Laws.{KeptIsAnEnd}
