@@ -1,2 +1,3 @@
 mod Lookup
 mod Tested
+pub mod Compared

@@ -3,3 +3,4 @@ pub mod Faults
 pub mod Ranges
 pub mod Programs
 pub mod Registers
+pub mod Compared

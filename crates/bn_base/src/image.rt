@@ -1,6 +1,12 @@
 // A program as loaded.
 ghost use Rattle.std.specs.Prelude.{◌≡◌, ◌≤◌, ◌%◌, ◌^◌, ℕ, true, Some, None, IfOk, IfSome, MatchOption};
+ghost use Rattle.std.specs.Bool.{Decides};
+ghost use Rattle.std.specs.Cmp.{and_per, on_per};
+ghost use Rattle.std.specs.Cmp.Lexicographic.{lists_per};
+ghost use Rattle.std.specs.Cmp.Rules.{comparing};
+ghost use Rattle.std.proofs.Common.{rules};
 ghost use Rattle.bn_base.specs.Programs.{Program, AreApart, is_in, is_writable, part_at, highest_end, code_at, first_at, may_load, may_store, heap_start, heap_limit};
+ghost use Rattle.bn_base.specs.Compared.{same_part, same_program};
 
 use crate::Addr;
 use crate::segment::Segment;
@@ -27,6 +33,28 @@ impl Model for Image {
     ghost view = { λ i. record { parts = i.segments.items; entry = i.entry; memory = i.memory; harts = i.harts } };
 
     ghost invariant = { λ i. IsProgram (record { parts = i.segments.items; entry = i.entry; memory = i.memory; harts = i.harts }) };
+}
+
+impl PartialEq for Image {
+    ghost eq = { same_program };
+
+    ghost laws = { and_per
+        (and_per
+        (and_per (on_per (λ i. i.parts) (lists_per {E = same_part} (Prim.search (comparing, rules) depth 9))) (on_per (λ i. i.entry) (Prim.search (comparing, rules))))
+        (on_per (λ i. i.memory) (Prim.search (comparing, rules))))
+        (on_per (λ i. i.harts) (Prim.search (comparing, rules))) };
+
+    /// Whether they are the same program.
+    #[tactic(auto, using(crate::proofs::Compared::parts_decide))]
+    fn eq(&self, other: &Image) -> bool
+        ensures value { result ≡ same_program self.now other.now }
+        ensures same { Decides result (self.now ≡ other.now) }
+    {
+        self.segments == other.segments
+            && self.entry == other.entry
+            && self.memory == other.memory
+            && self.harts == other.harts
+    }
 }
 
 impl Image {

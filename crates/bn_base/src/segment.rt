@@ -1,6 +1,10 @@
 // A stretch of a program's memory.
 ghost use Rattle.std.specs.Prelude.{◌≡◌, ◌≤◌, ◌+◌, ◌*◌, ◌%◌, ◌^◌, ℕ, true, vec_len, IfOk};
+ghost use Rattle.std.specs.Bool.{Decides};
+ghost use Rattle.std.specs.Cmp.Rules.{comparing};
+ghost use Rattle.std.proofs.Common.{rules};
 ghost use Rattle.bn_base.specs.Programs.{Part, end_of, is_in, word_in};
+ghost use Rattle.bn_base.specs.Compared.{same_part};
 
 use crate::Addr;
 use std::alloc::AllocError;
@@ -27,6 +31,24 @@ impl Model for Segment {
     ghost view = { λ s. record { first = s.first; words = s.words.items; count = s.count; executable = s.executable; writable = s.writable } };
 
     ghost invariant = { λ s. IsPart (record { first = s.first; words = s.words.items; count = s.count; executable = s.executable; writable = s.writable }) };
+}
+
+impl PartialEq for Segment {
+    ghost eq = { same_part };
+
+    ghost laws = { Prim.search (comparing, rules) depth 9 };
+
+    /// Whether they are the same segment.
+    fn eq(&self, other: &Segment) -> bool
+        ensures value { result ≡ same_part self.now other.now }
+        ensures same { Decides result (self.now ≡ other.now) }
+    {
+        self.first == other.first
+            && self.words == other.words
+            && self.count == other.count
+            && self.executable == other.executable
+            && self.writable == other.writable
+    }
 }
 
 impl Segment {

@@ -6,4 +6,4 @@ pub mod reading;
 pub mod writing;
 
 pub use reading::{read_u16, read_u32, read_u64};
-pub use writing::{push_u16, push_u32, push_u64, write_u32, write_u64};
+pub use writing::{push_u32, push_u64, write_u32, write_u64};

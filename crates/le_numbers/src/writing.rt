@@ -23,19 +23,6 @@ pub fn write_u64(bytes: &mut [u8], at: usize, number: u64)
     LittleEndian::write_u64(&mut bytes[at..], number);
 }
 
-/// Appends a number's two bytes, the least significant byte first. It needs no memory
-/// where there is room for them.
-#[tactic(auto, unfolding(crate::specs::Numbers::number_bytes))]
-pub fn push_u16(out: &mut Vec<u8>, number: u16) -> Result<(), AllocError>
-    ensures ok { OnOk result (out.new.items ≡ out.old.items ++ number_bytes 2 number) }
-    ensures err { OnErr result (out.new.items ≡ out.old.items) }
-    ensures full { OnErr result (vec_capacity out.old < vec_len out.old + 2) }
-{
-    let mut bytes = [0; 2];
-    LittleEndian::write_u16(&mut bytes, number);
-    out.extend_from_slice(&bytes)
-}
-
 /// Appends a number's four bytes, the least significant byte first. It needs no memory
 /// where there is room for them.
 #[tactic(auto, unfolding(crate::specs::Numbers::number_bytes))]
