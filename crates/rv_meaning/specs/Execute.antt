@@ -1,6 +1,6 @@
 -- What an instruction does, what a hart asks next, and its state after the reply. The sections are those of the
 -- RISC-V unprivileged specification, version 20191213.
-use Rattle.std.specs.Prelude.{ℕ, zero, suc, ◌+◌, ◌-◌, ◌*◌, ◌/◌, ◌%◌, ◌^◌, ◌==◌, min, nat_lt, Bool, true, false, not, if◌then◌else◌, [], ◌∷◌, slice_index, bit_and, bit_or, bit_xor, Option, Some, None}
+use Rattle.std.specs.Prelude.{ℕ, zero, suc, ◌+◌, ◌-◌, ◌*◌, ◌/◌, ◌%◌, ◌^◌, ◌==◌, min, nat_lt, Bool, true, false, not, ◌||◌, if◌then◌else◌, [], ◌∷◌, slice_index, bit_and, bit_or, bit_xor, Option, Some, None}
 use Rattle.bn_base.specs.Programs.{Program, code_at, may_load, may_store}
 use Rattle.bn_base.specs.Registers.{put_reg}
 use Rattle.bn_base.specs.declared.state.HartState.{HartState}
@@ -199,6 +199,15 @@ ask_of i (suc n) s = elim (step i s) [ Quiet t ↦ ask_of i n t | Asks w ↦ rec
 
 -- ---- the state after a reply
 
+-- whether the system call of a number ends its hart or the run: exit is 93, exit_group 94
+abbrev pub is_exit : ℕ → Bool
+is_exit number = (number == 93) || (number == 94)
+
+-- one instruction more where the test holds, else as many as before
+abbrev pub count_up_if : Bool → ℕ → ℕ
+count_up_if true n = count_up n
+count_up_if false n = n
+
 -- the state after the reply to a want. A reply that isn't one to the want changes nothing
 abbrev pub after : Want → Reply → HartState → HartState
 after (Load addr width signed rd) (Word w) s = next_with rd (loaded_value addr width signed w) s
@@ -210,8 +219,8 @@ after (StoreConditional addr rd value) ScOk s = next_with rd 0 s
 after (StoreConditional addr rd value) ScFailed s = next_with rd 1 s
 -- the result of a system call goes to a0
 after (System number args) (Answer v) s = next_with 10 v s
--- the ECALL of an exit is counted, and nothing else of the state changes
-after (System number args) Over s = record { pc = s.pc; x = s.x; ic = count_up s.ic }
+-- of the calls that Over answers, the ECALL of an exit is counted, and nothing else of the state changes
+after (System number args) Over s = record { pc = s.pc; x = s.x; ic = count_up_if (is_exit number) s.ic }
 -- after a cut the hart goes on as it is, and where a hart is over, it stays as it is
 after want reply s = s
 

@@ -130,6 +130,6 @@ pub enum Reply {
     Answer(u32),
     /// To a cut: the hart goes on.
     Went,
-    /// To any ask: the hart is over. It keeps its pc and registers; an ECALL is counted.
+    /// To any ask: the hart is over. It keeps its pc and registers; the ECALL of an exit is counted.
     Over,
 }

@@ -1,12 +1,19 @@
 //! The state of a hart after a reply.
 ghost use Rattle.std.specs.Prelude.{◌≡◌, IsTrue};
-ghost use Rattle.rv_meaning.specs.Execute.{after, absorbed};
+ghost use Rattle.rv_meaning.specs.Execute.{is_exit, after, absorbed};
 ghost use Rattle.rv_meaning.specs.Orderly.{is_reply_to};
 
 use crate::access::loaded_value;
 use crate::asks::{Ask, Reply, Want};
 use crate::moves::{count_up, next_at, next_with};
 use bn_base::{HartState, Register};
+
+// Whether the system call of this number ends its hart or the run.
+fn is_exit(number: u32) -> bool
+    ensures { result ≡ is_exit number }
+{
+    number == 93 || number == 94
+}
 
 /// As [`absorb`], but changes the state in place, which saves copies.
 #[inline(always)]
@@ -37,9 +44,13 @@ pub fn absorb_in_place(state: &mut HartState, want: &Want, reply: Reply)
             Reply::ScFailed => next_with(state, rd, 1),
             _ => {}
         },
-        Want::System { .. } => match reply {
+        Want::System { number, .. } => match reply {
             Reply::Answer(value) => next_with(state, Register::new(10), value),
-            Reply::Over => state.ic = count_up(state.ic),
+            Reply::Over => {
+                if is_exit(number) {
+                    state.ic = count_up(state.ic);
+                }
+            }
             _ => {}
         },
         Want::Cut | Want::Faulted { .. } => {}
@@ -49,7 +60,8 @@ pub fn absorb_in_place(state: &mut HartState, want: &Want, reply: Reply)
 /// The state of a hart after the reply to its ask.
 ///
 /// A load writes its register, SC writes 0 where it stored, else 1, and a system call writes its
-/// result to a0. Over leaves pc and registers as they were, and counts the ECALL of an exit.
+/// result to a0. Over leaves pc and registers as they were, and counts the ECALL of an exit, with
+/// number 93 or 94, and nothing else.
 pub fn absorb(ask: &Ask, reply: Reply) -> HartState
     requires { IsTrue (is_reply_to ask.now.want reply) }
     ensures { result ≡ absorbed ask.now reply }

@@ -4,6 +4,7 @@
 
 pub mod effect;
 pub mod kernel;
+mod laws;
 mod ranges;
 
 ghost use Rattle.std.specs.Prelude.{◌≡◌, ◌≤◌, ◌<◌, ◌-◌, ◌^◌, ℕ, slice_index};
@@ -14,6 +15,7 @@ ghost use Rattle.system_calls.specs.Calls.{error_answer, read_plan, write_plan, 
 use bn_base::{Addr, Image};
 pub use effect::Plan;
 pub use kernel::Kernel;
+pub use laws::exits_alone_end;
 use ranges::{all_mapped, all_writable};
 
 /// The most bytes that one read or write takes.

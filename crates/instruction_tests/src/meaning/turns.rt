@@ -63,8 +63,22 @@ fn a_system_call_writes_its_result(rt: HostRuntime) -> Result<(), AllocError> {
             (after.pc, after.ic, result(&after)),
             (0x10004, 6, 0xffff_fff7)
         );
-        let over = absorb(&ask, Reply::Over);
-        assert_eq!(rt; (over.pc, over.ic, over.x), (0x10000, 6, state.x));
+    }
+    Ok(())
+}
+
+#[test]
+fn over_counts_an_exit_and_no_other_call(rt: HostRuntime) -> Result<(), AllocError> {
+    let image = program(rt.alloc(), 0x73)?;
+    for (number, wanted) in [(93, 6), (94, 6), (64, 5), (0, 5)] {
+        let mut state = hart(1, 2);
+        state.x.put(Register::new(17), number);
+        let over = absorb(&quiet_run(&image, state, 9), Reply::Over);
+        assert_eq!(rt;
+            (over.pc, over.ic, over.x),
+            (0x10000, wanted, state.x),
+            "{number}"
+        );
     }
     Ok(())
 }
