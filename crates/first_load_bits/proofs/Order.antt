@@ -3,11 +3,11 @@ use Rattle.std.proofs.Common.{◌≡◌, ◌≢◌, ℕ, zero, suc, ◌<◌, ◌
 use Rattle.std.proofs.lemmas.List.{length-map}
 use Rattle.std.proofs.lemmas.Bool.{eq-eqb, ne_eqb, cases_Bool}
 use Rattle.std.proofs.lemmas.Bool.Decides.{eqb_tells, nat_tests}
-use Rattle.first_load_bits.specs.declared.line.Line.{Line}
-use Rattle.first_load_bits.specs.Events.{Geometry, Event, line_of, set_of}
+use Rattle.first_load_bits.specs.Lines.{Line}
+use Rattle.first_load_bits.specs.Events.{Geometry, Event, line_of, set_of, second_of}
 use Rattle.first_load_bits.specs.Events.{Touch, Drop, Clear}
 use Rattle.first_load_bits.specs.Warm.{fewer, with_first, without, later_lines}
-use Rattle.first_load_bits.specs.Lines.{all_but, touched_line, touched, cleared, lines, behind, in_front}
+use Rattle.first_load_bits.specs.Lines.{all_but, put, lost, put_in, put_lost, taken_out, touched_line, cleared, levels, lines, lines_below, behind, in_front}
 use Rattle.first_load_bits.proofs.Others.{tells, own, near, far}
 use Rattle.first_load_bits.proofs.Numbers.{except_here, except_there}
 use Rattle.first_load_bits.proofs.Listed.{later_touch_own, later_touch_near, later_touch_far, later_drop_own, later_drop_near, later_drop_far}
@@ -74,7 +74,7 @@ in_front-all_but l k h (x ∷ xs) = elim (eqb_tells x.number k) [
   ]
 ]
 
-in_front_gone : (l : ℕ) (xs : List Line) → in_front l (all_but l xs) ≡ None
+pub in_front_gone : (l : ℕ) (xs : List Line) → in_front l (all_but l xs) ≡ None
 in_front_gone l [] = refl
 in_front_gone l (x ∷ xs) = elim (eqb_tells x.number l) [
   | inl p ↦ ap (in_front l) (but_here l x xs p.0) ∙ in_front_gone l xs
@@ -85,67 +85,108 @@ in_front-cleared : (l : ℕ) (xs : List Line) → in_front l (map cleared xs) �
 in_front-cleared l [] = refl
 in_front-cleared l (x ∷ xs) = ap (λ o. elim (x.number == l) as (λ y. Option (List ℕ)) [ true ↦ Some [] | false ↦ behind x.number o ]) (in_front-cleared l xs)
 
--- ---- `lines` at each event
+-- ---- a line put in front of its set, or taken out
 
-pub lines_touch : (g : Geometry) (k a : ℕ) (es : List Event) → (set_of g (line_of g a) == k) ≡ true → lines g k (Touch a ∷ es) ≡ touched g a (lines g k es)
-lines_touch g k a es e = rw (e, lines) refl
+pub put_here : (g : Geometry) (x : Line) (ls : ℕ → List Line) (k : ℕ) → (set_of g x.number == k) ≡ true → put_in g x ls k ≡ put g.ways x (ls k)
+put_here g x ls k e = rw (e, put_in) refl
 
-pub lines_touch_far : (g : Geometry) (k a : ℕ) (es : List Event) → (set_of g (line_of g a) == k) ≡ false → lines g k (Touch a ∷ es) ≡ lines g k es
-lines_touch_far g k a es e = rw (e, lines) refl
+pub put_there : (g : Geometry) (x : Line) (ls : ℕ → List Line) (k : ℕ) → (set_of g x.number == k) ≡ false → put_in g x ls k ≡ ls k
+put_there g x ls k e = rw (e, put_in) refl
 
-pub lines_drop : (g : Geometry) (k a : ℕ) (es : List Event) → (set_of g (line_of g a) == k) ≡ true → lines g k (Drop a ∷ es) ≡ all_but (line_of g a) (lines g k es)
-lines_drop g k a es e = rw (e, lines) refl
+pub out_here : (g : Geometry) (l : ℕ) (ls : ℕ → List Line) (k : ℕ) → (set_of g l == k) ≡ true → taken_out g l ls k ≡ all_but l (ls k)
+out_here g l ls k e = rw (e, taken_out) refl
 
-pub lines_drop_far : (g : Geometry) (k a : ℕ) (es : List Event) → (set_of g (line_of g a) == k) ≡ false → lines g k (Drop a ∷ es) ≡ lines g k es
-lines_drop_far g k a es e = rw (e, lines) refl
+pub out_there : (g : Geometry) (l : ℕ) (ls : ℕ → List Line) (k : ℕ) → (set_of g l == k) ≡ false → taken_out g l ls k ≡ ls k
+out_there g l ls k e = rw (e, taken_out) refl
+
+in_front-put_own : (n l : ℕ) (x : Line) (xs : List Line) → 0 < n → x.number ≡ l → in_front l (put n x xs) ≡ Some []
+in_front-put_own zero l x xs w e = absurd (omega arith)
+in_front-put_own (suc n) l x xs w e = front_here l x (take n (all_but x.number xs)) e
+
+in_front-put_near : (n l : ℕ) (x : Line) (xs : List Line) → (x.number == l) ≡ false → x.number ≢ l → in_front l (put n x xs) ≡ fewer n (with_first x.number (in_front l xs))
+in_front-put_near n l x xs e d = let k = x.number in
+    in_front-take l n (x ∷ all_but k xs) ∙ (ap (fewer n) (front_there l x (all_but k xs) e) ∙ (ap (λ o. fewer n (behind k o)) (in_front-all_but l k d xs) ∙ ap (fewer n) (behind_without k (in_front l xs))))
 
 -- ---- the law
 
-in_front-touched_own : (g : Geometry) (l a : ℕ) (xs : List Line) → 0 < g.ways → line_of g a ≡ l → in_front l (touched g a xs) ≡ Some []
-in_front-touched_own g l a xs w e =
-    in_front-take l g.ways (touched_line g a xs ∷ all_but (line_of g a) xs) ∙ (ap (fewer g.ways) (front_here l (touched_line g a xs) (all_but (line_of g a) xs) e) ∙ some g.ways w)
-  where
-    some : (n : ℕ) → 0 < n → fewer n (Some []) ≡ Some []
-    some zero h = absurd (omega arith)
-    some (suc n) h = fewer_none n
-
-in_front-touched_near : (g : Geometry) (l a : ℕ) (xs : List Line) → (line_of g a == l) ≡ false → line_of g a ≢ l
-    → in_front l (touched g a xs) ≡ fewer g.ways (with_first (line_of g a) (in_front l xs))
-in_front-touched_near g l a xs e n = let k = line_of g a in
-    in_front-take l g.ways (touched_line g a xs ∷ all_but (line_of g a) xs) ∙ (ap (fewer g.ways) (front_there l (touched_line g a xs) (all_but k xs) e) ∙ (ap (λ o. fewer g.ways (behind k o)) (in_front-all_but l k n xs) ∙ ap (fewer g.ways) (behind_without k (in_front l xs))))
-
 -- a line that is listed stands in its set's list, behind those that were touched later
+abbrev pub Agrees : Geometry → (ℕ → List Line) → List Event → Type 0
+Agrees g ls es = (l : ℕ) → in_front l (ls (set_of g l)) ≡ later_lines g l es
+
+pub agrees_put : (g : Geometry) (x : Line) (a : ℕ) (ls : ℕ → List Line) (es : List Event) → 0 < g.ways → line_of g a ≡ x.number → Agrees g ls es → Agrees g (put_in g x ls) (Touch a ∷ es)
+agrees_put g x a ls es w e h l = let k = x.number in let s = set_of g l in elim (tells g l k) [
+  | own p ↦ ap (in_front l) (put_here g x ls s (eq-eqb (set_of g k) s (ap (set_of g) p))) ∙ (in_front-put_own g.ways l x (ls s) w p ∙ sym (later_touch_own g l a es (eq-eqb (line_of g a) l (e ∙ p))))
+  | near t p r f ↦
+      let now : (line_of g a == l) ≡ false = ap (λ j. j == l) e ∙ t in
+      let same : (set_of g (line_of g a) == s) ≡ true = ap (λ j. set_of g j == s) e ∙ r in
+      ap (in_front l) (put_here g x ls s r) ∙ (in_front-put_near g.ways l x (ls s) t p ∙ (ap (λ o. fewer g.ways (with_first k o)) (h l)
+      ∙ (ap (λ j. fewer g.ways (with_first j (later_lines g l es))) (sym e) ∙ sym (later_touch_near g l a es now same))))
+  | far t p r f ↦
+      let now : (line_of g a == l) ≡ false = ap (λ j. j == l) e ∙ t in
+      let other : (set_of g (line_of g a) == s) ≡ false = ap (λ j. set_of g j == s) e ∙ r in
+      ap (in_front l) (put_there g x ls s r) ∙ (h l ∙ sym (later_touch_far g l a es now other))
+]
+
+pub agrees_out : (g : Geometry) (a : ℕ) (ls : ℕ → List Line) (es : List Event) → Agrees g ls es → Agrees g (taken_out g (line_of g a) ls) (Drop a ∷ es)
+agrees_out g a ls es h l = let k = line_of g a in let s = set_of g l in elim (tells g l k) [
+  | own e ↦ ap (in_front l) (out_here g k ls s (eq-eqb (set_of g k) s (ap (set_of g) e))) ∙ (ap (λ x. in_front l (all_but x (ls s))) e ∙ (in_front_gone l (ls s) ∙ sym (later_drop_own g l a es (eq-eqb k l e))))
+  | near t e r f ↦ ap (in_front l) (out_here g k ls s r) ∙ (in_front-all_but l k e (ls s) ∙ (ap (without k) (h l) ∙ sym (later_drop_near g l a es t r)))
+  | far t e r f ↦ ap (in_front l) (out_there g k ls s r) ∙ (h l ∙ sym (later_drop_far g l a es t r))
+]
+
+pub agrees_clear : (g : Geometry) (ls : ℕ → List Line) (es : List Event) → Agrees g ls es → Agrees g (λ k. map cleared (ls k)) (Clear ∷ es)
+agrees_clear g ls es h l = in_front-cleared l (ls (set_of g l)) ∙ h l
+
+pub first_agrees : (g : Geometry) (es : List Event) → 0 < g.ways → Agrees g (levels g es).first es
+first_agrees g [] w = λ l. refl
+first_agrees g (Touch a ∷ es) w = agrees_put g (touched_line g a (levels g es)) a (levels g es).first es w refl (first_agrees g es w)
+first_agrees g (Drop a ∷ es) w = agrees_out g a (levels g es).first es (first_agrees g es w)
+first_agrees g (Clear ∷ es) w = agrees_clear g (levels g es).first es (first_agrees g es w)
+
 pub lines_law : (g : Geometry) (l : ℕ) (es : List Event) → 0 < g.ways → in_front l (lines g (set_of g l) es) ≡ later_lines g l es
-lines_law g l [] w = refl
-lines_law g l (Touch a ∷ es) w = let k = line_of g a in let s = set_of g l in elim (tells g l k) [
-  | own e ↦ ap (in_front l) (lines_touch g s a es (eq-eqb (set_of g k) s (ap (set_of g) e))) ∙ (in_front-touched_own g l a (lines g s es) w e ∙ sym (later_touch_own g l a es (eq-eqb k l e)))
-  | near t e r f ↦ ap (in_front l) (lines_touch g s a es r) ∙ (in_front-touched_near g l a (lines g s es) t e ∙ (ap (λ o. fewer g.ways (with_first k o)) (lines_law g l es w) ∙ sym (later_touch_near g l a es t r)))
-  | far t e r f ↦ ap (in_front l) (lines_touch_far g s a es r) ∙ (lines_law g l es w ∙ sym (later_touch_far g l a es t r))
-]
-lines_law g l (Drop a ∷ es) w = let k = line_of g a in let s = set_of g l in elim (tells g l k) [
-  | own e ↦ ap (in_front l) (lines_drop g s a es (eq-eqb (set_of g k) s (ap (set_of g) e))) ∙ (ap (λ x. in_front l (all_but x (lines g s es))) e ∙ (in_front_gone l (lines g s es) ∙ sym (later_drop_own g l a es (eq-eqb k l e))))
-  | near t e r f ↦ ap (in_front l) (lines_drop g s a es r) ∙ (in_front-all_but l k e (lines g s es) ∙ (ap (without k) (lines_law g l es w) ∙ sym (later_drop_near g l a es t r)))
-  | far t e r f ↦ ap (in_front l) (lines_drop_far g s a es r) ∙ (lines_law g l es w ∙ sym (later_drop_far g l a es t r))
-]
-lines_law g l (Clear ∷ es) w = in_front-cleared l (lines g (set_of g l) es) ∙ lines_law g l es w
+lines_law g l es w = first_agrees g es w l
 
--- ---- no list is longer than `ways`
+-- ---- no list is longer than there is room for
 
-length-all_but : (k : ℕ) (xs : List Line) → length (all_but k xs) ≤ length xs
+pub length-all_but : (k : ℕ) (xs : List Line) → length (all_but k xs) ≤ length xs
 length-all_but k [] = omega arith
 length-all_but k (x ∷ xs) = elim (eqb_tells x.number k) [
   | inl p ↦ rw (but_here k x xs p.0) (omega (arith, length-all_but k xs))
   | inr p ↦ rw (but_there k x xs p.0) (omega (arith, length-all_but k xs))
 ]
 
+-- so many lines at most in each set
+abbrev pub AreFew : ℕ → (ℕ → List Line) → Type 0
+AreFew n ls = (k : ℕ) → length (ls k) ≤ n
+
+few_put : (g : Geometry) (x : Line) (ls : ℕ → List Line) → AreFew g.ways ls → AreFew g.ways (put_in g x ls)
+few_put g x ls h k = elim (eqb_tells (set_of g x.number) k) [
+  | inl p ↦ rw (put_here g x ls k p.0) (omega (arith, length-take {A = Line}))
+  | inr p ↦ rw (put_there g x ls k p.0) (h k)
+]
+
+few_out : (g : Geometry) (l : ℕ) (ls : ℕ → List Line) → AreFew g.ways ls → AreFew g.ways (taken_out g l ls)
+few_out g l ls h k = elim (eqb_tells (set_of g l) k) [
+  | inl p ↦ rw (out_here g l ls k p.0) (omega (arith, length-all_but l (ls k), h k))
+  | inr p ↦ rw (out_there g l ls k p.0) (h k)
+]
+
+few_lost : (g : Geometry) (gone : List Line) (ls : ℕ → List Line) → AreFew g.ways ls → AreFew g.ways (put_lost g gone ls)
+few_lost g [] ls h = h
+few_lost g (x ∷ xs) ls h = few_put g x ls h
+
+few_cleared : (n : ℕ) (ls : ℕ → List Line) → AreFew n ls → AreFew n (λ k. map cleared (ls k))
+few_cleared n ls h k = rw length-map (h k)
+
 pub length-lines : (g : Geometry) (k : ℕ) (es : List Event) → length (lines g k es) ≤ g.ways
 length-lines g k [] = omega arith
-length-lines g k (Touch a ∷ es) = elim (eqb_tells (set_of g (line_of g a)) k) [
-  | inl p ↦ rw (lines_touch g k a es p.0) (omega (arith, length-take {A = Line}))
-  | inr p ↦ rw (lines_touch_far g k a es p.0) (length-lines g k es)
-]
-length-lines g k (Drop a ∷ es) = elim (eqb_tells (set_of g (line_of g a)) k) [
-  | inl p ↦ rw (lines_drop g k a es p.0) (omega (arith, length-all_but (line_of g a) (lines g k es), length-lines g k es))
-  | inr p ↦ rw (lines_drop_far g k a es p.0) (length-lines g k es)
-]
-length-lines g k (Clear ∷ es) = rw length-map (length-lines g k es)
+length-lines g k (Touch a ∷ es) = few_put g (touched_line g a (levels g es)) (levels g es).first (λ j. length-lines g j es) k
+length-lines g k (Drop a ∷ es) = few_out g (line_of g a) (levels g es).first (λ j. length-lines g j es) k
+length-lines g k (Clear ∷ es) = few_cleared g.ways (levels g es).first (λ j. length-lines g j es) k
+
+pub length-lines_below : (g : Geometry) (k : ℕ) (es : List Event) → length (lines_below g k es) ≤ g.ways2
+length-lines_below g k [] = omega arith
+length-lines_below g k (Touch a ∷ es) = let l = line_of g a in let ls = levels g es in
+    few_lost (second_of g) (lost g.ways (touched_line g a ls) (ls.first (set_of g l))) (taken_out (second_of g) l ls.second) (few_out (second_of g) l ls.second (λ j. length-lines_below g j es)) k
+length-lines_below g k (Drop a ∷ es) = few_out (second_of g) (line_of g a) (levels g es).second (λ j. length-lines_below g j es) k
+length-lines_below g k (Clear ∷ es) = few_cleared g.ways2 (levels g es).second (λ j. length-lines_below g j es) k

@@ -1,14 +1,15 @@
 -- The test for warm words says what the history says.
-use Rattle.std.proofs.Common.{◌≡◌, ◌≢◌, ◌↔◌, ℕ, zero, suc, ◌/◌, ◌<◌, ◌≤◌, true, false, IsTrue, ◌==◌, List, [], ◌∷◌, ◌++◌, length, drop, All, Option, Some, None, is_some, refl, sym, ◌∙◌, ap, arith, subst, inl, inr}
+use Rattle.std.proofs.Common.{◌≡◌, ◌≢◌, ◌↔◌, ℕ, zero, suc, ◌/◌, ◌<◌, ◌≤◌, Bool, true, false, IsTrue, ◌==◌, List, [], ◌∷◌, ◌++◌, length, drop, All, Option, Some, None, is_some, refl, sym, ◌∙◌, ap, arith, subst, inl, inr}
 use Rattle.std.proofs.Math.Nat.{div-div-eq-div-mul}
 use Rattle.std.proofs.lemmas.Bool.{cases_Bool, false≢true, eq-eqb, ne_eqb}
 use Rattle.std.proofs.lemmas.Bool.Decides.{eqb_tells}
 use Rattle.std.proofs.lemmas.List.Elements.{All-nil, All-cons, All-head, All-tail}
-use Rattle.first_load_bits.specs.Events.{Geometry, Event, word_of, line_of, set_of}
+use Rattle.first_load_bits.specs.Events.{Geometry, Event, word_of, line_of, set_of, second_of}
 use Rattle.first_load_bits.specs.Events.{Touch, Drop, Clear}
-use Rattle.first_load_bits.specs.Warm.{held, warm, later_lines, without}
+use Rattle.first_load_bits.specs.Warm.{listed, below, held, warm, later_lines, without, second_history}
 use Rattle.first_load_bits.specs.History.{IsHeld, IsWarm}
-use Rattle.first_load_bits.proofs.Listed.{listed_is, later_touch_own, later_drop_own, later_drop_near, later_drop_far}
+use Rattle.first_load_bits.proofs.Second.{held_is}
+use Rattle.first_load_bits.proofs.Listed.{later_touch_own, later_drop_own, later_drop_near, later_drop_far}
 
 -- one word lies in one line
 pub line_of_word : (g : Geometry) (a b : ℕ) → word_of a ≡ word_of b → line_of g a ≡ line_of g b
@@ -34,22 +35,45 @@ warm_drop_other g a b es e = rw (e, warm) refl
 
 -- ---- `held` at each event
 
-held_touch_own : (g : Geometry) (l a : ℕ) (es : List Event) → line_of g a ≡ l → held g l (Touch a ∷ es) ≡ true
-held_touch_own g l a es e = ap is_some (later_touch_own g l a es (eq-eqb (line_of g a) l e))
+pub held_listed : (g : Geometry) (l : ℕ) (es : List Event) → listed g l es ≡ true → held g l es ≡ true
+held_listed g l es e = rw (e, held) refl
 
-held_drop_own : (g : Geometry) (l a : ℕ) (es : List Event) → line_of g a ≡ l → held g l (Drop a ∷ es) ≡ false
-held_drop_own g l a es e = ap is_some (later_drop_own g l a es (eq-eqb (line_of g a) l e))
+pub held_unlisted : (g : Geometry) (l : ℕ) (es : List Event) → listed g l es ≡ false → held g l es ≡ below g l es
+held_unlisted g l es e = rw (e, held) refl
+
+pub held_touch_own : (g : Geometry) (l a : ℕ) (es : List Event) → line_of g a ≡ l → held g l (Touch a ∷ es) ≡ true
+held_touch_own g l a es e = held_listed g l (Touch a ∷ es) (ap is_some (later_touch_own g l a es (eq-eqb (line_of g a) l e)))
+
+listed_drop_own : (g : Geometry) (l a : ℕ) (es : List Event) → line_of g a ≡ l → listed g l (Drop a ∷ es) ≡ false
+listed_drop_own g l a es e = ap is_some (later_drop_own g l a es (eq-eqb (line_of g a) l e))
+
+below_drop_own : (g : Geometry) (l a : ℕ) (es : List Event) → line_of g a ≡ l → below g l (Drop a ∷ es) ≡ false
+below_drop_own g l a es e = elim (cases_Bool (g.ways2 == 0)) [
+  | inl p ↦ rw (p, below) refl
+  | inr p ↦ rw (p, below) (listed_drop_own (second_of g) l a (second_history g es) e)
+]
+
+pub held_drop_own : (g : Geometry) (l a : ℕ) (es : List Event) → line_of g a ≡ l → held g l (Drop a ∷ es) ≡ false
+held_drop_own g l a es e = held_unlisted g l (Drop a ∷ es) (listed_drop_own g l a es e) ∙ below_drop_own g l a es e
 
 is_some-without : (k : ℕ) (o : Option (List ℕ)) → is_some (without k o) ≡ is_some o
 is_some-without k None = refl
 is_some-without k (Some ls) = refl
 
--- a drop of another line leaves the line held or not
-held_drop_other : (g : Geometry) (l a : ℕ) (es : List Event) → (line_of g a == l) ≡ false → held g l (Drop a ∷ es) ≡ held g l es
-held_drop_other g l a es e = elim (eqb_tells (set_of g (line_of g a)) (set_of g l)) [
+-- a drop of another line leaves the line listed or not, below or not, and held or not
+pub listed_drop_other : (g : Geometry) (l a : ℕ) (es : List Event) → (line_of g a == l) ≡ false → listed g l (Drop a ∷ es) ≡ listed g l es
+listed_drop_other g l a es e = elim (eqb_tells (set_of g (line_of g a)) (set_of g l)) [
   | inl p ↦ ap is_some (later_drop_near g l a es e p.0) ∙ is_some-without (line_of g a) (later_lines g l es)
   | inr p ↦ ap is_some (later_drop_far g l a es e p.0)
 ]
+
+below_drop_other : (g : Geometry) (l a : ℕ) (es : List Event) → (line_of g a == l) ≡ false → below g l (Drop a ∷ es) ≡ below g l es
+below_drop_other g l a es e = ap (λ b. elim (g.ways2 == 0) as (λ x. Bool) [ true ↦ false | false ↦ b ]) (listed_drop_other (second_of g) l a (second_history g es) e)
+
+held_drop_other : (g : Geometry) (l a : ℕ) (es : List Event) → (line_of g a == l) ≡ false → held g l (Drop a ∷ es) ≡ held g l es
+held_drop_other g l a es e =
+    ap (λ b. elim b as (λ x. Bool) [ true ↦ true | false ↦ below g l (Drop a ∷ es) ]) (listed_drop_other g l a es e)
+    ∙ ap (λ b. elim (listed g l es) as (λ x. Bool) [ true ↦ true | false ↦ b ]) (below_drop_other g l a es e)
 
 -- ---- from the test to the history
 
@@ -76,7 +100,7 @@ warm_more g a e es u h w = record {
     held (suc n) m = w.held n (omega arith)
 
 is_held : (g : Geometry) (l : ℕ) (es : List Event) → 0 < g.ways → held g l es ≡ true → IsHeld g l es
-is_held g l es w h = (listed_is g l es w).0 h
+is_held g l es w h = (held_is g l es w).0 h
 
 is_warm : (g : Geometry) (a : ℕ) (es : List Event) → 0 < g.ways → warm g a es ≡ true → IsWarm g a es
 is_warm g a [] w h = absurd (false≢true h)
@@ -103,7 +127,7 @@ is_warm g a (Drop b ∷ es) w h = let l = line_of g a in elim (eqb_tells (line_o
   | inl p ↦ absurd (false≢true (sym (warm_drop_own g a b es p.0) ∙ h))
   | inr p ↦
       let i = is_warm g a es w (sym (warm_drop_other g a b es p.0) ∙ h) in
-      let t : held g l es ≡ true = (listed_is g l es w).1 (i.held 0 (omega arith)) in
+      let t : held g l es ≡ true = (held_is g l es w).1 (i.held 0 (omega arith)) in
       warm_more g a (Drop b) es (drop_unclear b) (is_held g l (Drop b ∷ es) w (held_drop_other g l b es p.0 ∙ t)) i
 ]
 is_warm g a (Clear ∷ es) w h = absurd (false≢true h)
@@ -116,12 +140,12 @@ warm_since g a b before [] w e u h = warm_touch_own g a b before (eq-eqb (word_o
 warm_since g a b before (Touch x ∷ since) w e u h = elim (eqb_tells (word_of x) (word_of a)) [
   | inl p ↦ warm_touch_own g a x (since ++ Touch b ∷ before) p.0
   | inr p ↦
-      let t : held g (line_of g a) (Touch x ∷ (since ++ Touch b ∷ before)) ≡ true = (listed_is g (line_of g a) (Touch x ∷ (since ++ Touch b ∷ before)) w).1 (h 0 (omega arith)) in
+      let t : held g (line_of g a) (Touch x ∷ (since ++ Touch b ∷ before)) ≡ true = (held_is g (line_of g a) (Touch x ∷ (since ++ Touch b ∷ before)) w).1 (h 0 (omega arith)) in
       warm_touch_held g a x (since ++ Touch b ∷ before) p.0 t ∙ warm_since g a b before since w e (All-tail (λ y. y ≢ Clear) (Touch x) since u) (λ n m. h (suc n) (omega arith))
 ]
 warm_since g a b before (Drop x ∷ since) w e u h = elim (eqb_tells (line_of g x) (line_of g a)) [
   | inl p ↦
-      let t : held g (line_of g a) (Drop x ∷ (since ++ Touch b ∷ before)) ≡ true = (listed_is g (line_of g a) (Drop x ∷ (since ++ Touch b ∷ before)) w).1 (h 0 (omega arith)) in
+      let t : held g (line_of g a) (Drop x ∷ (since ++ Touch b ∷ before)) ≡ true = (held_is g (line_of g a) (Drop x ∷ (since ++ Touch b ∷ before)) w).1 (h 0 (omega arith)) in
       absurd (false≢true (sym (held_drop_own g (line_of g a) x (since ++ Touch b ∷ before) p.1) ∙ t))
   | inr p ↦ warm_drop_other g a x (since ++ Touch b ∷ before) p.0 ∙ warm_since g a b before since w e (All-tail (λ y. y ≢ Clear) (Drop x) since u) (λ n m. h (suc n) (omega arith))
 ]

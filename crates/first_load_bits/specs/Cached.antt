@@ -1,16 +1,37 @@
 -- How the fields of a cache are seen, and what is true of them.
-use Rattle.std.specs.Prelude.{◌<◌, ◌≤◌, All, vec_len}
+use Rattle.std.specs.Prelude.{ℕ, ◌<◌, ◌≤◌, ◌≡◌, ◌*◌, ◌^◌, ◌==◌, true, false, All, AllPairs, vec_len}
 use Rattle.first_load_bits.specs.declared.cache.Cache.TheInside.{Inside}
-use Rattle.first_load_bits.specs.Sets.{lists_of, HasRoom}
-use Rattle.first_load_bits.specs.Stands.{Contents}
+use Rattle.first_load_bits.specs.Stands.{Level, Contents, ways_of, first_level, second_level}
+use Rattle.first_load_bits.specs.Ways.{AreApart}
+
+-- the number of sets of the second level: none where they would have no ways
+abbrev pub sets_below : Inside → ℕ
+sets_below c = elim (c.width_below == 0) [ true ↦ 0 | false ↦ 2 ^ c.set_bits_below ]
 
 abbrev pub contents : Inside → Contents
-contents c = record { geometry = record { sets = vec_len c.sets; ways = c.ways; line = c.line }; steps = c.steps; sets = lists_of c.sets.items }
+contents c = record {
+  geometry = record { sets = 2 ^ c.set_bits; ways = c.width; line = 2 ^ c.word_bits; sets2 = sets_below c; ways2 = c.width_below };
+  steps = c.steps;
+  generation = c.generation;
+  ways = c.ways.items;
+  ways_below = c.ways_below.items;
+}
 
--- there are sets, ways and words, no more words than bits, and room in each set
+-- Ages are numbers of touches so far, and generations those of clears; within a set, ways that aren't empty have ages and
+-- lines of their own.
+pub record AreKept (v : Level) : Type 0 where
+  pub cleared : v.generation ≤ v.steps
+  pub ages : All (λ w. w.age ≤ v.steps) v.ways
+  pub generations : All (λ w. w.generation ≤ v.generation) v.ways
+  pub apart : (k : ℕ) → k < v.geometry.sets → AllPairs AreApart (ways_of v k)
+
+-- there are at most 1,024 sets, 4,096 of the second level, and 16 words in a line, and ways for each set
 pub record IsCache (c : Inside) : Type 0 where
-  pub sets_low : 0 < vec_len c.sets
-  pub ways_low : 0 < c.ways
-  pub line_low : 0 < c.line
-  pub line_high : c.line ≤ 16
-  pub rooms : All (HasRoom c.ways) c.sets.items
+  pub some : 0 < c.width
+  pub sets : c.set_bits ≤ 10
+  pub sets_below : c.set_bits_below ≤ 12
+  pub words : c.word_bits ≤ 4
+  pub count : vec_len c.ways ≡ 2 ^ c.set_bits * c.width
+  pub count_below : vec_len c.ways_below ≡ 2 ^ c.set_bits_below * c.width_below
+  pub kept : AreKept (first_level (contents c))
+  pub kept_below : AreKept (second_level (contents c))

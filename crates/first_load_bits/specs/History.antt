@@ -1,8 +1,8 @@
 -- Which words are warm, by the history of a cache. A history is the list of its events, the latest first. A moment is
 -- named by the number n of events since: `drop n es` is the history es as it was then.
-use Rattle.std.specs.Prelude.{ℕ, ◌≡◌, ◌≢◌, ◌≤◌, List, ◌∷◌, ◌++◌, length, drop, All, AllPairs}
-use Rattle.first_load_bits.specs.Events.{Geometry, Event, word_of, line_of, set_of, IsTouchOf, IsDropOf}
-use Rattle.first_load_bits.specs.Events.{Touch, Clear}
+use Rattle.std.specs.Prelude.{ℕ, ◌≡◌, ◌≢◌, ◌≤◌, ◌⊎◌, List, [], ◌∷◌, ◌++◌, length, drop, All, AllPairs}
+use Rattle.first_load_bits.specs.Events.{Geometry, Event, word_of, line_of, set_of, second_of, line_start, IsTouchOf, IsDropOf}
+use Rattle.first_load_bits.specs.Events.{Touch, Drop, Clear}
 
 -- the history has a last touch of line l, and these events since
 pub record IsSinceTouch (g : Geometry) (l : ℕ) (since es : List Event) : Type 0 where
@@ -33,9 +33,31 @@ pub record IsListed (g : Geometry) (l : ℕ) (es : List Event) : Type 0 where
   pub undropped : All (λ e. ¬ IsDropOf g l e) since
   pub room : (n : ℕ) → n ≤ length since → ¬ HasOthers g l g.ways (drop n since)
 
--- the cache holds line l: with one level, it is listed
+-- Line l falls at a touch: it stops being listed there, without a drop.
+pub record Falls (g : Geometry) (l addr : ℕ) (es : List Event) : Type 0 where
+  pub listed : IsListed g l es
+  pub lost : ¬ IsListed g l (Touch addr ∷ es)
+
+-- What happened to the second level. A line that is touched or dropped leaves it, as by a drop of its own there; and then the
+-- line that falls at the touch comes to it, as by a touch of its own.
+pub data IsSecond (g : Geometry) : List Event → List Event → Type 0 where
+  Nothing : IsSecond g [] []
+  Comes : (addr l : ℕ) (es below : List Event) → IsSecond g es below → Falls g l addr es → IsSecond g (Touch addr ∷ es) (Touch (line_start g l) ∷ Drop addr ∷ below)
+  Stays : (addr : ℕ) (es below : List Event) → IsSecond g es below → ((l : ℕ) → ¬ Falls g l addr es) → IsSecond g (Touch addr ∷ es) (Drop addr ∷ below)
+  Leaves : (addr : ℕ) (es below : List Event) → IsSecond g es below → IsSecond g (Drop addr ∷ es) (Drop addr ∷ below)
+  Cleared : (es below : List Event) → IsSecond g es below → IsSecond g (Clear ∷ es) below
+
+-- Line l is below: since its fall it wasn't touched or dropped, and at no moment since were there `ways2` other lines of its
+-- second set that had fallen later and weren't touched or dropped since their own last fall. That is to be listed on the
+-- second level.
+pub record IsBelow (g : Geometry) (l : ℕ) (es : List Event) : Type 0 where
+  pub below : List Event
+  pub second : IsSecond g es below
+  pub listed : IsListed (second_of g) l below
+
+-- the cache holds line l: it is listed, or below
 abbrev pub IsHeld : Geometry → ℕ → List Event → Type 0
-IsHeld g l es = IsListed g l es
+IsHeld g l es = IsListed g l es ⊎ IsBelow g l es
 
 -- The word at address a is warm: since some touch of it after the last clear, its line was held at every moment.
 pub record IsWarm (g : Geometry) (a : ℕ) (es : List Event) : Type 0 where

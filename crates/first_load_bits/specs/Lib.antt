@@ -2,7 +2,8 @@ pub mod Cached
 pub mod Events
 pub mod History
 pub mod Lines
-pub mod Sets
 pub mod Stands
+pub mod Steps
 pub mod Warm
+pub mod Ways
 pub mod Worked

@@ -1,6 +1,6 @@
 -- Which words are warm, as a test that computes. Events are given latest first, as everywhere.
-use Rattle.std.specs.Prelude.{ℕ, ◌==◌, nat_lt, Bool, true, false, List, [], ◌∷◌, length, Option, Some, None, is_some}
-use Rattle.first_load_bits.specs.Events.{Geometry, Event, word_of, line_of, set_of}
+use Rattle.std.specs.Prelude.{ℕ, ◌==◌, nat_lt, Bool, true, false, not, ◌&&◌, List, [], ◌∷◌, length, Option, Some, None, is_some}
+use Rattle.first_load_bits.specs.Events.{Geometry, Event, word_of, line_of, set_of, second_of, line_start}
 use Rattle.first_load_bits.specs.Events.{Touch, Drop, Clear}
 
 -- the numbers but k
@@ -45,9 +45,37 @@ later_lines g l (Clear ∷ es) = later_lines g l es
 abbrev pub listed : Geometry → ℕ → List Event → Bool
 listed g l es = is_some (later_lines g l es)
 
--- whether the cache holds line l: with one level, whether it is listed
+-- whether line l falls at a touch: it stops being listed there
+abbrev pub falls : Geometry → ℕ → (addr : ℕ) → List Event → Bool
+falls g l a es = listed g l es && not (listed g l (Touch a ∷ es))
+
+-- the line among those touched in some events that falls at a touch, if one does
+abbrev pub fallen_among : Geometry → List Event → (addr : ℕ) → List Event → Option ℕ
+fallen_among g [] a es = None
+fallen_among g (Touch b ∷ bs) a es = elim (falls g (line_of g b) a es) [ true ↦ Some (line_of g b) | false ↦ fallen_among g bs a es ]
+fallen_among g (Drop b ∷ bs) a es = fallen_among g bs a es
+fallen_among g (Clear ∷ bs) a es = fallen_among g bs a es
+
+-- a line that falls comes to the second level
+abbrev pub with_fall : Geometry → Option ℕ → List Event → List Event
+with_fall g None below = below
+with_fall g (Some l) below = Touch (line_start g l) ∷ below
+
+-- the history of the second level: a line that is touched or dropped leaves it, and then the line that falls at the touch
+-- comes to it
+abbrev pub second_history : Geometry → List Event → List Event
+second_history g [] = []
+second_history g (Touch a ∷ es) = with_fall g (fallen_among g es a es) (Drop a ∷ second_history g es)
+second_history g (Drop a ∷ es) = Drop a ∷ second_history g es
+second_history g (Clear ∷ es) = second_history g es
+
+-- whether line l is below: whether the second level lists it. Without one no line is below
+abbrev pub below : Geometry → ℕ → List Event → Bool
+below g l es = elim (g.ways2 == 0) [ true ↦ false | false ↦ listed (second_of g) l (second_history g es) ]
+
+-- whether the cache holds line l: whether it is listed or below
 abbrev pub held : Geometry → ℕ → List Event → Bool
-held g l es = listed g l es
+held g l es = elim (listed g l es) [ true ↦ true | false ↦ below g l es ]
 
 -- whether the word at address a is warm
 abbrev pub warm : Geometry → ℕ → List Event → Bool

@@ -1,31 +1,41 @@
 //! A hart's cache.
-ghost use Rattle.std.specs.Prelude.{◌≡◌, ◌<◌, ◌+◌, ◌^◌, ◌↔◌, ◌∷◌, [], List, IfOk, if◌then◌else◌};
-ghost use Rattle.first_load_bits.specs.Events.{Event, Touch, Drop, Clear};
+ghost use Rattle.std.specs.Prelude.{◌≡◌, ◌<◌, ◌≤◌, ◌+◌, ◌*◌, ◌^◌, ◌↔◌, ◌∷◌, [], List, IfOk, IsTrue, All, length, replicate, vec_len, if◌then◌else◌};
+ghost use Rattle.std.specs.Int.{is_power_of_two};
+ghost use Rattle.first_load_bits.specs.Events.{Event, Touch, Drop, Clear, line_of, set_of, second_of};
 ghost use Rattle.first_load_bits.specs.History.{IsWarm};
 ghost use Rattle.first_load_bits.specs.Warm.{warm};
 ghost use Rattle.first_load_bits.specs.Stands.{StandsFor, geometry_of};
+ghost use Rattle.first_load_bits.specs.Lines.{place_of};
+ghost use Rattle.first_load_bits.specs.Ways.{empty_way};
+ghost use Rattle.first_load_bits.specs.Steps.{IsBitsBelow, IsTakenBelow, IsPutBelow, IsFallen, IsTakenListed};
 
-use crate::line::{Line, clear_sets, take_out, touch_line};
-use crate::warm::Warm;
+use crate::warm::{Warm, answer};
+use crate::way::{Way, bits, find, has_other, known_bits, place_for};
 use bn_base::{Addr, Settings};
 use std::alloc::{AllocError, Global};
 use std::marker::Model;
 
-/// A hart's cache: a list of lines for each of its sets. It keeps the lines' numbers and bits alone, and counts its
-/// touches and clears.
+/// A hart's cache: so many ways for each of its sets, and a second level of such sets, if the settings give one. It keeps
+/// the lines' numbers and bits alone, and counts its touches and clears.
 ///
-/// Contracts see a cache as its geometry, that count and those lists, and say by `StandsFor` which histories of touches,
-/// drops and clears it stands for. Only `new` takes memory.
+/// Contracts see a cache as its geometry, that count, the latest clear and its ways, and say by `StandsFor` which histories
+/// of touches, drops and clears it stands for. Only `new` takes memory.
 #[derive(Debug, Drop)]
 pub struct Cache {
-    // For each set its lines, the one touched latest first, with room for all its ways.
-    sets: Vec<Vec<Line>>,
-    // How many lines a set lists at most, 1 to 16.
-    ways: usize,
-    // How many words a line has, 1 to 16.
-    line: u32,
+    // The ways of all sets, those of a set side by side; and so those of the second level.
+    ways: Vec<Way>,
+    ways_below: Vec<Way>,
+    // How many ways a set has, 1 to 16; on the second level none where there is no such level.
+    width: usize,
+    width_below: usize,
+    // The numbers of sets are these powers of two, and so is the number of words in a line.
+    set_bits: u32,
+    set_bits_below: u32,
+    word_bits: u32,
     // How many touches and clears there were.
     steps: u64,
+    // The number of the latest clear among them, 0 before the first.
+    generation: u64,
 }
 
 impl Model for Cache {
@@ -40,6 +50,34 @@ impl Model for Cache {
     ghost invariant = { IsCache };
 }
 
+// So many empty ways for each of a number of sets, a power of two.
+fn empty_ways(alloc: Global, set_bits: u32, width: usize) -> Result<Vec<Way>, AllocError>
+    requires sets { set_bits ≤ 12 }
+    requires ways { width ≤ 16 }
+    ensures items { IfOk result (λ v. v.items ≡ replicate (2 ^ set_bits * width) empty_way) }
+    ensures count { IfOk result (λ v. vec_len v ≡ 2 ^ set_bits * width) }
+{
+    let empty = Way {
+        line: 0,
+        mask: 0,
+        age: 0,
+        generation: 0,
+    };
+    vec![in alloc; empty; (1 << set_bits) * width]
+}
+
+// Which power of two a number of sets is; 0 where there are none.
+fn power_of(sets: u64) -> u32
+    requires { sets ≤ 4096 }
+    ensures few { result ≤ 12 }
+    ensures power { 0 < sets → IsTrue (is_power_of_two sets) → 2 ^ result ≡ sets }
+{
+    match sets.checked_ilog2() {
+        Some(power) => power,
+        None => 0,
+    }
+}
+
 impl Cache {
     /// A cache that lists no line, of the sets, ways and words per line that the settings give. It takes all the memory
     /// that the cache will ever need, and the only error is want of it.
@@ -47,22 +85,92 @@ impl Cache {
         ensures geometry { IfOk result (λ c. c.geometry ≡ geometry_of settings.now) }
         ensures empty { IfOk result (λ c. StandsFor c []) }
     {
-        let ways = settings.ways() as usize;
-        let mut sets = Vec::with_capacity(alloc, settings.sets() as usize)?;
-        for _ in 0..settings.sets() {
-            sets.push(Vec::with_capacity(alloc, ways)?)?;
-        }
+        let raw = settings.raw();
+        let width = settings.ways() as usize;
+        let width_below = settings.second_ways() as usize;
+        let set_bits = raw.sets.ilog2();
+        let set_bits_below = power_of(raw.sets2);
+        let word_bits = raw.line.ilog2();
+        let ways = empty_ways(alloc, set_bits, width)?;
+        let ways_below = empty_ways(alloc, set_bits_below, width_below)?;
         Ok(Cache {
-            sets,
             ways,
-            line: settings.line(),
+            ways_below,
+            width,
+            width_below,
+            set_bits,
+            set_bits_below,
+            word_bits,
             steps: 0,
+            generation: 0,
         })
     }
 
+    // The number of the line that has the byte at an address.
+    fn line_of(&self, addr: Addr) -> u32
+        ensures { result ≡ line_of self.now.geometry addr }
+    {
+        addr >> (self.word_bits + 2)
+    }
+
+    // The place of an address's word in its line.
+    fn place_of(&self, addr: Addr) -> u32
+        ensures value { result ≡ place_of self.now.geometry addr }
+        ensures within { result < 16 }
+    {
+        (addr >> 2) % (1 << self.word_bits)
+    }
+
+    // The place of the first way of a line's set.
+    fn first_way(&self, line: u32) -> usize
+        ensures value { result ≡ set_of self.now.geometry line * self.now.geometry.ways }
+        ensures within { result + self.now.geometry.ways ≤ length self.now.ways }
+    {
+        (line % (1 << self.set_bits)) as usize * self.width
+    }
+
+    // The place of the first way of a line's second set.
+    fn first_way_below(&self, line: u32) -> usize
+        ensures value { result ≡ set_of (second_of self.now.geometry) line * self.now.geometry.ways2 }
+        ensures within { result + self.now.geometry.ways2 ≤ length self.now.ways_below }
+    {
+        (line % (1 << self.set_bits_below)) as usize * self.width_below
+    }
+
+    // Takes a line out of the second level, and gives its bits, none set where it isn't there.
+    fn take_below(&mut self, line: u32) -> u16
+        ensures bits { IsBitsBelow self.old line result }
+        ensures out { IsTakenBelow self.old line self.new }
+    {
+        let first = self.first_way_below(line);
+        match find(&self.ways_below[first..first + self.width_below], line) {
+            Some(at) => {
+                let bits = bits(&self.ways_below[first + at], self.generation);
+                self.ways_below[first + at].age = 0;
+                bits
+            }
+            None => 0,
+        }
+    }
+
+    // Puts a line into the second level, at the touch at which it fell.
+    fn put_below(&mut self, way: Way)
+        requires uncleared { self.old.generation < self.old.steps }
+        requires later { All (λ w. w.age < self.old.steps) self.old.ways_below }
+        requires fallen { way.age ≡ self.old.steps }
+        requires made { way.generation ≤ self.old.generation }
+        ensures { IsPutBelow self.old way self.new }
+    {
+        if self.width_below != 0 {
+            let first = self.first_way_below(way.line);
+            let at = first + place_for(&self.ways_below[first..first + self.width_below], way.line);
+            self.ways_below[at] = way;
+        }
+    }
+
     /// Touches the word that has the byte at an address, and tells whether it was warm just before: whether, since some
-    /// touch of it after the last clear, the cache held its line at every moment. Its line comes to the front of its
-    /// set's list, from which the last line goes where there are too many.
+    /// touch of it after the last clear, the cache held its line at every moment. Its line takes the way that it has, or
+    /// else an empty one of its set, or the one that was touched longest ago, whose line falls to the second level.
     pub fn touch(&mut self, addr: Addr) -> Warm
         requires { self.old.steps < 2 ^ 42 }
         ensures answer { (es : List Event) → StandsFor self.old es → result ≡ (if warm self.old.geometry addr es then Warm.Warm else Warm.Cold) }
@@ -71,25 +179,64 @@ impl Cache {
         ensures geometry { self.new.geometry ≡ self.old.geometry }
         ensures steps { self.new.steps ≡ self.old.steps + 1 }
     {
-        let number = addr / (4 * self.line);
-        let place = addr / 4 % self.line;
-        let set = number as usize % self.sets.len();
+        let line = self.line_of(addr);
+        let place = self.place_of(addr);
+        let below = self.take_below(line);
+        let first = self.first_way(line);
+        let at = first + place_for(&self.ways[first..first + self.width], line);
+        let old = self.ways[at];
+        let bits = known_bits(&old, line, self.generation, below);
         self.steps += 1;
-        touch_line(&mut self.sets[set], self.ways, number, place)
+        self.ways[at] = Way {
+            line,
+            mask: bits | (1 << place),
+            age: self.steps,
+            generation: self.generation,
+        };
+        self.let_fall(old, line);
+        answer(bits, place)
     }
 
-    /// Drops the line that has the byte at an address, with the bits of all its words. A line that isn't listed stays so.
+    // Lets the line of a way fall to the second level, if it had another than the touched one.
+    fn let_fall(&mut self, old: Way, line: u32)
+        requires uncleared { self.old.generation < self.old.steps }
+        requires later { All (λ w. w.age < self.old.steps) self.old.ways_below }
+        requires made { old.generation ≤ self.old.generation }
+        ensures { IsFallen self.old line old self.new }
+    {
+        if has_other(&old, line) {
+            self.put_below(Way {
+                age: self.steps,
+                ..old
+            });
+        }
+    }
+
+    /// Drops the line that has the byte at an address from both levels, with the bits of all its words. A line that isn't
+    /// listed or below stays so.
     pub fn drop_line(&mut self, addr: Addr)
         ensures stands { (es : List Event) → StandsFor self.old es → StandsFor self.new (Drop addr ∷ es) }
         ensures geometry { self.new.geometry ≡ self.old.geometry }
         ensures steps { self.new.steps ≡ self.old.steps }
     {
-        let number = addr / (4 * self.line);
-        let set = number as usize % self.sets.len();
-        take_out(&mut self.sets[set], number);
+        let line = self.line_of(addr);
+        self.take_below(line);
+        self.take_listed(line);
     }
 
-    /// Clears the bits of all words, and keeps the lines in their lists: so an interval begins.
+    // Takes a line out of the first level.
+    fn take_listed(&mut self, line: u32)
+        ensures { IsTakenListed self.old line self.new }
+    {
+        let first = self.first_way(line);
+        match find(&self.ways[first..first + self.width], line) {
+            Some(at) => self.ways[first + at].age = 0,
+            None => (),
+        }
+    }
+
+    /// Clears the bits of all words, and keeps the lines in their sets: so an interval begins. It writes one number,
+    /// whatever the size of the cache.
     pub fn clear_bits(&mut self)
         requires { self.old.steps < 2 ^ 42 }
         ensures stands { (es : List Event) → StandsFor self.old es → StandsFor self.new (Clear ∷ es) }
@@ -97,6 +244,6 @@ impl Cache {
         ensures steps { self.new.steps ≡ self.old.steps + 1 }
     {
         self.steps += 1;
-        clear_sets(&mut self.sets);
+        self.generation = self.steps;
     }
 }

@@ -1,10 +1,10 @@
 //! Laws between the definitions of a warm word, as functions whose contracts are the laws.
 ghost use Rattle.std.specs.Prelude.{ℕ, Bool, true, false, List, [], ◌∷◌, length, IsTrue, ◌↔◌, ◌<◌, ◌≤◌, ◌≡◌, ◌≢◌};
-ghost use Rattle.first_load_bits.specs.Events.{Geometry, Event, Touch, Drop, Clear, word_of, line_of, set_of};
+ghost use Rattle.first_load_bits.specs.Events.{Geometry, Event, Touch, Drop, Clear, word_of, line_of, set_of, second_of};
 ghost use Rattle.first_load_bits.specs.History.{IsListed, IsHeld, IsWarm};
-ghost use Rattle.first_load_bits.specs.Warm.{later_lines, listed, held, warm};
-ghost use Rattle.first_load_bits.specs.Lines.{lines, in_front, is_set};
-ghost use Rattle.first_load_bits.specs.Worked.{answers, smallest, small};
+ghost use Rattle.first_load_bits.specs.Warm.{later_lines, second_history, listed, held, warm};
+ghost use Rattle.first_load_bits.specs.Lines.{levels, lines, lines_below, in_front, is_set};
+ghost use Rattle.first_load_bits.specs.Worked.{answers, smallest, small, with_second};
 
 /// The tests that compute say what the history says: which lines are listed, which are held, and which words are warm.
 pub fn tests_say_the_history()
@@ -13,13 +13,17 @@ pub fn tests_say_the_history()
     ensures warm { (g : Geometry) (a : ℕ) (es : List Event) → 0 < g.ways → (IsTrue (warm g a es) ↔ IsWarm g a es) }
 {}
 
-/// The lists that the rules of a cache give say the same. A line is listed exactly where it stands in its set's list,
-/// behind the lines that were touched later; no list is longer than `ways`; and a word is warm exactly where its bit is
-/// set.
+/// The lists that the rules of a cache give say the same. A line is listed exactly where it stands in its set's list of the
+/// first level, behind the lines that were touched later; and it is below exactly where it stands in its set's list of the
+/// second, behind the lines that fell later. No list is longer than its level's ways; and a word is warm exactly where its
+/// bit is set.
 pub fn lists_say_the_history()
     ensures order { (g : Geometry) (l : ℕ) (es : List Event) → 0 < g.ways → in_front l (lines g (set_of g l) es) ≡ later_lines g l es }
     ensures few { (g : Geometry) (k : ℕ) (es : List Event) → length (lines g k es) ≤ g.ways }
-    ensures warm { (g : Geometry) (a : ℕ) (es : List Event) → 0 < g.ways → is_set g a (lines g (set_of g (line_of g a)) es) ≡ warm g a es }
+    ensures order_below { (g : Geometry) (l : ℕ) (es : List Event) → 0 < g.ways → 0 < g.ways2 →
+        in_front l (lines_below g (set_of (second_of g) l) es) ≡ later_lines (second_of g) l (second_history g es) }
+    ensures few_below { (g : Geometry) (k : ℕ) (es : List Event) → length (lines_below g k es) ≤ g.ways2 }
+    ensures warm { (g : Geometry) (a : ℕ) (es : List Event) → 0 < g.ways → is_set g a (levels g es) ≡ warm g a es }
 {}
 
 /// No event warms a word but a touch of that word, and no word of a dropped line is warm, nor any word after a clear.
@@ -46,6 +50,21 @@ pub fn worked_examples()
     // Of three lines of one set the one touched longest ago is lost. Lines of the other set count for nothing.
     ensures oldest { answers small [] (Touch 0 ∷ Touch 0x20 ∷ Touch 0 ∷ Touch 0x40 ∷ Touch 0 ∷ Touch 0x20 ∷ []) ≡ false ∷ false ∷ true ∷ false ∷ true ∷ false ∷ [] }
     ensures other_set { answers small [] (Touch 0 ∷ Touch 0x10 ∷ Touch 0x30 ∷ Touch 0x50 ∷ Touch 0 ∷ []) ≡ false ∷ false ∷ false ∷ false ∷ true ∷ [] }
+
+    // With a second level of one line, the line that falls is found below, and comes back with its bits.
+    ensures below { answers (with_second 1) [] (Touch 0 ∷ Touch 4 ∷ Touch 0 ∷ Touch 4 ∷ []) ≡ false ∷ false ∷ true ∷ true ∷ [] }
+    ensures fallen { lines_below (with_second 1) 0 (Touch 4 ∷ Touch 0 ∷ []) ≡ record { number = 0; bits = 1 } ∷ [] }
+    ensures taken_out { lines_below (with_second 1) 0 (Touch 0 ∷ Touch 4 ∷ Touch 0 ∷ []) ≡ record { number = 1; bits = 1 } ∷ [] }
+
+    // One more that falls puts the first out; a second level of two lines still holds both.
+    ensures put_out { answers (with_second 1) [] (Touch 0 ∷ Touch 4 ∷ Touch 8 ∷ Touch 0 ∷ []) ≡ false ∷ false ∷ false ∷ false ∷ [] }
+    ensures both_held { answers (with_second 2) [] (Touch 0 ∷ Touch 4 ∷ Touch 8 ∷ Touch 0 ∷ []) ≡ false ∷ false ∷ false ∷ true ∷ [] }
+
+    // A drop takes a line from both levels, and a clear clears both.
+    ensures dropped_below { answers (with_second 1) [] (Touch 0 ∷ Touch 4 ∷ Drop 0 ∷ Touch 0 ∷ []) ≡ false ∷ false ∷ false ∷ [] }
+    ensures none_below { lines_below (with_second 1) 0 (Drop 0 ∷ Touch 4 ∷ Touch 0 ∷ []) ≡ [] }
+    ensures cleared_below { answers (with_second 1) [] (Touch 0 ∷ Touch 4 ∷ Clear ∷ Touch 0 ∷ []) ≡ false ∷ false ∷ false ∷ [] }
+    ensures kept_below { lines_below (with_second 1) 0 (Clear ∷ Touch 4 ∷ Touch 0 ∷ []) ≡ record { number = 0; bits = 0 } ∷ [] }
 
     // A touch puts its line in front, and a clear keeps the lines in their order.
     ensures front { lines small 0 (Touch 4 ∷ Touch 0x28 ∷ Touch 0 ∷ []) ≡ record { number = 0; bits = 3 } ∷ record { number = 2; bits = 4 } ∷ [] }

@@ -1,4 +1,6 @@
 //! What a touch answers.
+ghost use Rattle.std.specs.Prelude.{◌≡◌, ◌<◌, ◌==◌, if◌then◌else◌};
+ghost use Rattle.std.specs.Int.{bit_at};
 
 /// What a cache knew of a word just before a touch of it.
 #[derive(Clone, Copy, Debug, PartialEq, Eq, Drop)]
@@ -7,4 +9,16 @@ pub enum Warm {
     Warm,
     /// The word wasn't touched since the last clear, or the cache has lost its line since each such touch.
     Cold,
+}
+
+// The answer where the bits of the touched word's line were so, and the word has this place.
+pub(crate) fn answer(bits: u16, place: u32) -> Warm
+    requires { place < 16 }
+    ensures { result ≡ (if bit_at bits place == 1 then Warm.Warm else Warm.Cold) }
+{
+    if (bits >> place) % 2 == 1 {
+        Warm::Warm
+    } else {
+        Warm::Cold
+    }
 }

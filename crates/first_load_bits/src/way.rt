@@ -1,0 +1,91 @@
+//! The ways of a set: what one keeps, and which one a line is put into.
+ghost use Rattle.std.specs.Prelude.{◌≡◌, ◌<◌, false, length, All, IfSome, IfNone};
+ghost use Rattle.first_load_bits.specs.Ways.{HasLine, IsOldest, IsPlaceFor, has_line, has_other, line_in, known_bits};
+
+/// A way of a set: room for a line, of which it keeps the number and bits, and no contents of memory.
+#[derive(Clone, Copy, Debug, PartialEq, Eq, Drop)]
+pub struct Way {
+    /// The number of its line: an address in it, divided by the number of bytes in a line.
+    pub line: u32,
+    /// One bit for each of the line's words, at most 16, the lowest bit for the first word.
+    pub mask: u16,
+    /// The number of the touch that put the line here last, among touches and clears; 0 where the way is empty.
+    pub age: u64,
+    /// Which clear came before the mask was made: it counts only until the next.
+    pub generation: u64,
+}
+
+// Whether a way has a line.
+fn has_line(way: &Way, line: u32) -> bool
+    ensures { result ≡ has_line line way.now }
+{
+    way.age != 0 && way.line == line
+}
+
+// Whether a way has another line.
+pub(crate) fn has_other(way: &Way, line: u32) -> bool
+    ensures { result ≡ has_other line way.now }
+{
+    way.age != 0 && way.line != line
+}
+
+// The bits of a way's line, none set where its mask is of an older generation.
+pub(crate) fn bits(way: &Way, generation: u64) -> u16
+    ensures { result ≡ (line_in generation way.now).bits }
+{
+    if way.generation == generation {
+        way.mask
+    } else {
+        0
+    }
+}
+
+// The bits that are known of a line: those of the way, if it has the line, or else those from below.
+pub(crate) fn known_bits(way: &Way, line: u32, generation: u64, below: u16) -> u16
+    ensures { result ≡ known_bits generation line below way.now }
+{
+    if has_line(way, line) {
+        bits(way, generation)
+    } else {
+        below
+    }
+}
+
+// The place of the way that has a line, if one has it.
+pub(crate) fn find(set: &[Way], line: u32) -> Option<usize>
+    ensures found { IfSome result (λ at. HasLine line at set.now) }
+    ensures none { IfNone result (All (λ w. has_line line w ≡ false) set.now) }
+{
+    for at in 0..set.len() {
+        if has_line(&set[at], line) {
+            return Some(at);
+        }
+    }
+    None
+}
+
+// The place of an empty way, or else of the one that was touched longest ago.
+fn oldest(set: &[Way]) -> usize
+    requires { 0 < length set.now }
+    ensures { IsOldest result set.now }
+{
+    let mut oldest = 0usize;
+    let mut least = set[0].age;
+    for at in 1..set.len() {
+        let age = set[at].age;
+        oldest = if age < least { at } else { oldest };
+        least = least.min(age);
+    }
+    oldest
+}
+
+// Where a line is to be put: into the way that has it, or else into an empty one or the one that was touched longest ago.
+pub(crate) fn place_for(set: &[Way], line: u32) -> usize
+    requires { 0 < length set.now }
+    ensures { IsPlaceFor line result set.now }
+{
+    match find(set, line) {
+        Some(at) => at,
+        None => oldest(set),
+    }
+}
