@@ -1,5 +1,5 @@
 -- The times in one access of a shadow.
-use Rattle.std.proofs.Common.{◌≡◌, ℕ, ◌+◌, ◌-◌, ◌<◌, Bool, true, false, ◌==◌, refl, inl, inr, arith, sym, ap, ◌∙◌, slice_get, slice_set, slice_index_or, if◌then◌else◌}
+use Rattle.std.proofs.Common.{◌≡◌, ◌≢◌, ℕ, ◌+◌, ◌-◌, ◌<◌, Bool, true, false, ◌==◌, refl, inl, inr, arith, sym, ap, ◌∙◌, slice_get, slice_set, slice_index_or, if◌then◌else◌, nat_lt}
 use Rattle.std.proofs.lemmas.Option.{slice_get_read}
 use Rattle.vector_time.specs.declared.times.Times.{Times}
 use Rattle.vector_time.specs.Times.{count_of}
@@ -7,7 +7,9 @@ use Rattle.race_log.specs.declared.mode.Mode.{Mode}
 use Rattle.race_log.specs.declared.shadow.Shadow.{Shadow}
 use Rattle.race_log.specs.Kept.{is_write}
 use Rattle.race_log.specs.Search.{gathered, counts_after}
-use Rattle.race_log.specs.Stands.{harts_of, times_of, next_count, kept_of, counts_at}
+use Rattle.race_log.specs.Slots.{counts_past}
+use Rattle.race_log.specs.Stands.{harts_of, times_of, next_count, kept_of}
+use Rattle.race_log.specs.Words.{counts_at}
 use Rattle.race_log.proofs.BoolFacts.{known, same_number, other_number}
 use Rattle.race_log.proofs.Steps.{counts_here, counts_there}
 
@@ -47,3 +49,23 @@ counts_set s hart count t low y set h = elim (known (h == hart)) [
   | inr apart ↦
       counts_there s.times.items hart h t (other_number h hart apart) h ∙ sym (there (count + 1) (next_count s h) h hart apart)
 ]
+
+-- the times that are kept by the present stretch are those after the point
+pub times_kept : (hart after : ℕ) (present found next : ℕ → ℕ) → ((h : ℕ) → next h ≡ (if h == hart then after else found h))
+    → ((h : ℕ) → h ≢ hart → present h ≡ next h) → (h : ℕ) → counts_past present hart after h ≡ next h
+times_kept hart after present found next set own h = elim (known (h == hart)) [
+  | inl same ↦
+      let is = same_number h hart same in
+      here after (present h) h hart is ∙ sym (set h ∙ here after (found h) h hart is)
+  | inr apart ↦ there after (present h) h hart apart ∙ own h (other_number h hart apart)
+]
+
+-- the hart's own count alone is set
+pub set_apart : (hart after : ℕ) (found next : ℕ → ℕ) → ((h : ℕ) → next h ≡ (if h == hart then after else found h)) → (h : ℕ) → h ≢ hart → next h ≡ found h
+set_apart hart after found next set h apart = elim (known (h == hart)) [
+  | inl same ↦ absurd (apart (same_number h hart same))
+  | inr f ↦ set h ∙ there after (found h) h hart f
+]
+
+pub not_less : (n : ℕ) → nat_lt 0 n ≡ false → n ≡ 0
+not_less n h = grind arith

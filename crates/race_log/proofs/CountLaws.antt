@@ -35,7 +35,7 @@ before_up c (inr d) = chain_join c d
 
 module _ (run : List Point) (up : IsInOrder run) where
   -- a point of the hart with a lower count has an earlier place
-  earlier_at : (m n : ℕ) (p q : Point) → slice_get run m ≡ Some p → slice_get run n ≡ Some q → p.hart ≡ q.hart → p.count < q.count → m < n
+  pub earlier_at : (m n : ℕ) (p q : Point) → slice_get run m ≡ Some p → slice_get run n ≡ Some q → p.hart ≡ q.hart → p.count < q.count → m < n
   earlier_at m n p q e f same low = elim (less_or m n) [
     | inl t ↦ t
     | inr t ↦ elim (less_or n m) [
@@ -57,7 +57,7 @@ module _ (run : List Point) (up : IsInOrder run) where
   ]
 
   -- a point of an earlier turn has an earlier place
-  turn_earlier : (m n : ℕ) (p q : Point) → slice_get run m ≡ Some p → slice_get run n ≡ Some q → p.turn < q.turn → m < n
+  pub turn_earlier : (m n : ℕ) (p q : Point) → slice_get run m ≡ Some p → slice_get run n ≡ Some q → p.turn < q.turn → m < n
   turn_earlier m n p q e f low = elim (less_or m n) [
     | inl t ↦ t
     | inr t ↦ elim (less_or n m) [

@@ -1,13 +1,11 @@
 -- What is kept of a word after one more point.
-use Rattle.std.proofs.Common.{◌≡◌, ℕ, Bool, true, false, not, ◌&&◌, ◌||◌, ◌⊎◌, ◌==◌, refl, inl, inr, sym, ap, ◌∙◌, List, [], ◌∷◌, ◌++◌, length, filter, subst}
-use Rattle.vector_time.specs.Times.{count_of}
+use Rattle.std.proofs.Common.{◌≡◌, ℕ, Bool, true, false, not, ◌&&◌, ◌||◌, ◌⊎◌, ◌==◌, refl, inl, inr, sym, ap, ◌∙◌, List, [], ◌∷◌, length, slice_get, Some, filter, subst}
 use Rattle.race_log.specs.Points.{Point}
 use Rattle.race_log.specs.Netzer.{Before}
 use Rattle.race_log.specs.Tests.{touches, writes_word}
 use Rattle.race_log.specs.ByCount.{IsInOrder}
 use Rattle.race_log.specs.Holds.{UpTo, TimesOf}
-use Rattle.race_log.specs.declared.kept.Kept.{Kept}
-use Rattle.race_log.specs.Kept.{is_write, after, In, KeptAt, AllKnow, Suffices, stays}
+use Rattle.race_log.specs.Kept.{Kept, is_write, Replaces, after, In, KeptAt, AllKnow, Suffices, stays}
 use Rattle.race_log.proofs.BoolFacts.{or_second, known, same_number, other_number}
 use Rattle.race_log.proofs.Agree.{is_touches, writes_is, any_map}
 use Rattle.race_log.proofs.MergeLaws.{is_in, of_hart_at}
@@ -28,7 +26,7 @@ kept_old run b w j k up at = record {
   count = at.count;
   touched = at.touched;
   written = at.written;
-  times = times_old run b j (count_of k.times) up (is_in run j at.point at.at) at.times;
+  times = times_old run b j k.times up (is_in run j at.point at.at) at.times;
 }
 
 in_filter : (test : Kept → Bool) (ks : List Kept) (k : Kept) → In (filter test ks) k → In ks k
@@ -45,21 +43,6 @@ filter_in test (x ∷ ks) k (inr i) t = elim (known (test x)) [
   | inl u ↦ rw u (inr (filter_in test ks k i t))
   | inr f ↦ rw f (filter_in test ks k i t)
 ]
-
-in_front : (xs : List Kept) (y k : Kept) → In xs k → In (xs ++ y ∷ []) k
-in_front [] y k i = absurd i
-in_front (x ∷ xs) y k (inl e) = inl e
-in_front (x ∷ xs) y k (inr i) = inr (in_front xs y k i)
-
-in_last : (xs : List Kept) (y : Kept) → In (xs ++ y ∷ []) y
-in_last [] y = inl refl
-in_last (x ∷ xs) y = inr (in_last xs y)
-
-in_parts : (xs : List Kept) (y k : Kept) → In (xs ++ y ∷ []) k → In xs k ⊎ (y ≡ k)
-in_parts [] y k (inl e) = inr e
-in_parts [] y k (inr i) = absurd i
-in_parts (x ∷ xs) y k (inl e) = inl (inl e)
-in_parts (x ∷ xs) y k (inr i) = elim (in_parts xs y k i) [ inl j ↦ inl (inr j) | inr e ↦ inr e ]
 
 not_stays : (hart : ℕ) (writes : Bool) (k : Kept) → stays hart writes k ≡ false → (writes ≡ true) ⊎ ((is_write k.mode ≡ false) × ((k.hart == hart) ≡ true))
 not_stays hart writes k h = go writes (is_write k.mode) (k.hart == hart) h
@@ -114,12 +97,12 @@ module _ (run : List Point) (live : ℕ → Bool) (b : Point) (writes : Bool) (k
   ]
 
   -- with the point's access in the place of those that go, what is kept of a word that it accesses suffices
-  pub same_word : (w : ℕ) (k : Kept) (ks : List Kept) → touches w b ≡ true → k.turn ≡ b.turn → k.hart ≡ b.hart → k.ic ≡ b.count → is_write k.mode ≡ writes
-      → TimesOf (after run b) (length run) (count_of k.times)
-      → Suffices run live w ks → Suffices (after run b) live w (filter (stays b.hart writes) ks ++ k ∷ [])
-  same_word w k ks in_b is_turn is_hart is_count is_writes times h = record {
-    each = λ o i. elim (in_parts (filter (stays b.hart writes) ks) k o i) [
-      | inl j ↦ let e = h.each o (in_filter (stays b.hart writes) ks o j) in (e.0, kept_old run b w e.0 o up e.1)
+  pub same_word : (w : ℕ) (k : Kept) (ks news : List Kept) → touches w b ≡ true → k.turn ≡ b.turn → k.hart ≡ b.hart → k.ic ≡ b.count → is_write k.mode ≡ writes
+      → TimesOf (after run b) (length run) k.times
+      → Replaces k ks news → Suffices run live w ks → Suffices (after run b) live w news
+  same_word w k ks news in_b is_turn is_hart is_count is_writes times r h = record {
+    each = λ o i. elim (r.only o i) [
+      | inl j ↦ let e = h.each o j.0 in (e.0, kept_old run b w e.0 o up e.1)
       | inr e ↦ (length run, rw e at kept_new)
     ];
     writes = λ m p e t. elim (in_after run b m p e) [
@@ -155,11 +138,11 @@ module _ (run : List Point) (live : ℕ → Bool) (b : Point) (writes : Bool) (k
     ];
   }
     where
-      last : In (filter (stays b.hart writes) ks ++ k ∷ []) k
-      last = in_last (filter (stays b.hart writes) ks) k
+      last : In news k
+      last = r.last
 
-      still : (o : Kept) → In ks o → stays b.hart writes o ≡ true → In (filter (stays b.hart writes) ks ++ k ∷ []) o
-      still o i stay = in_front (filter (stays b.hart writes) ks) k o (filter_in (stays b.hart writes) ks o i stay)
+      still : (o : Kept) → In ks o → stays b.hart writes o ≡ true → In news o
+      still o i stay = r.stay o i (rw (is_hart, is_writes) stay)
 
       kept_new : KeptAt (after run b) w (length run) k
       kept_new = record {
@@ -172,6 +155,19 @@ module _ (run : List Point) (live : ℕ → Bool) (b : Point) (writes : Bool) (k
         written = is_writes ∙ sym (kind.written w in_b);
         times = times;
       }
+
+-- where one hart has all points and alone is live, it knows of all, and what is kept suffices whatever it is
+pub alone_suffices : (run : List Point) (live : ℕ → Bool) (b : Point) → IsInOrder (after run b)
+    → ((m : ℕ) (p : Point) → slice_get (after run b) m ≡ Some p → p.hart ≡ 0) → ((g : ℕ) → live g ≡ true → g ≡ 0)
+    → (w : ℕ) (ks : List Kept) → Suffices run live w ks → Suffices (after run b) live w ks
+alone_suffices run live b up own lives w ks h = record {
+  each = λ k i. let e = h.each k i in (e.0, kept_old run b w e.0 k up e.1);
+  writes = λ m p e t. inr (all m p e);
+  accesses = λ m p e t. inr (all m p e);
+}
+  where
+    all : (m : ℕ) (p : Point) → slice_get (after run b) m ≡ Some p → AllKnow (after run b) live m
+    all m p e hart alive = (m, of_hart_at (after run b) hart m p e (own m p e ∙ sym (lives hart alive)), inl refl)
 
 -- kept accesses that each live hart knows of may go, and harts may end
 pub fewer_suffice : (run : List Point) (live still : ℕ → Bool) (w : ℕ) (ks : List Kept) (goes : Kept → Bool)

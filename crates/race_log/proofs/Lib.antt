@@ -16,6 +16,10 @@ pub mod Latest
 pub mod Sources
 pub mod Picks
 pub mod KeptLemmas
+pub mod SlotLemmas
+pub mod StretchLemmas
+pub mod PageLemmas
+pub mod PagesLemmas
 pub mod Steps
 pub mod NewLemmas
 pub mod AccessLemmas

@@ -5,7 +5,8 @@ use Rattle.vector_time.specs.Times.{count_of}
 use Rattle.race_log.specs.declared.shadow.Shadow.{Shadow}
 use Rattle.race_log.specs.Points.{Point}
 use Rattle.race_log.specs.Kept.{Suffices}
-use Rattle.race_log.specs.Stands.{Stands, times_of, kept_of, counts_at}
+use Rattle.race_log.specs.Stands.{Stands, lives_in, times_of, kept_of}
+use Rattle.race_log.specs.Words.{counts_at}
 
 no_point : (m : ℕ) (p : Point) → slice_get [] m ≡ Some p → ⊥
 no_point m p e = cc
@@ -27,7 +28,7 @@ stands_none s zeros none live = record {
     covered = λ m p e s. absurd (no_point m p e);
     exact = λ g. inl (zeros hart g);
   };
-  kept = λ w. subst (Suffices [] live w) (sym (none w)) (none_suffices live w);
+  kept = λ w. subst (Suffices [] (lives_in s live) w) (sym (none w)) (none_suffices (lives_in s live) w);
 }
   where
     sym : {X : Type 0} {a c : X} → a ≡ c → c ≡ a

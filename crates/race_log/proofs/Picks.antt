@@ -1,11 +1,9 @@
 -- The rounds find the sources of all edges into a new point.
 use Rattle.std.proofs.Common.{◌≡◌, ℕ, zero, suc, ◌-◌, ◌<◌, ◌≤◌, Bool, true, not, ◌&&◌, ◌||◌, ◌⊎◌, ◌==◌, refl, inl, inr, arith, sym, ap, ap₂, ◌∙◌, List, [], ◌∷◌, slice_get, Option, Some, None, nat_lt, lt-ltb, map}
-use Rattle.vector_time.specs.Times.{count_of}
 use Rattle.race_log.specs.Points.{Point}
 use Rattle.race_log.specs.Tests.{touches, name_of}
 use Rattle.race_log.specs.Holds.{UpTo, Holds}
-use Rattle.race_log.specs.declared.kept.Kept.{Kept}
-use Rattle.race_log.specs.Kept.{is_write, In, KeptAt}
+use Rattle.race_log.specs.Kept.{Kept, is_write, In, KeptAt}
 use Rattle.race_log.specs.Search.{is_source, latest, merged, sources, counts_after}
 use Rattle.race_log.proofs.BoolFacts.{and_left, and_right, both, known, not_true, same_number}
 use Rattle.race_log.proofs.Agree.{same_test}
@@ -57,17 +55,17 @@ module _ (run : List Point) (b : Point) (writes : Bool) (kind : IsOfOneKind b wr
 
   -- after the latest source is taken in, its hart has none
   fewer : (counts : ℕ → ℕ) (k : Kept) → IsLatest b.hart writes counts None ks k → (is_source b.hart writes counts k ≡ true) → In ks k
-      → passing (has_source b.hart writes (merged counts (count_of k.times)) ks) harts < passing (has_source b.hart writes counts ks) harts
+      → passing (has_source b.hart writes (merged counts k.times) ks) harts < passing (has_source b.hart writes counts ks) harts
   fewer counts k latest source among =
       let r = ready.each k among in
-      passing_less (has_source b.hart writes (merged counts (count_of k.times)) ks) (has_source b.hart writes counts ks) harts k.hart
+      passing_less (has_source b.hart writes (merged counts k.times) ks) (has_source b.hart writes counts ks) harts k.hart
       (rw r.2.hart (ready.few r.0 r.2.point r.2.at))
       (λ s h.
-      let o = source_found b.hart writes (merged counts (count_of k.times)) ks s h in
+      let o = source_found b.hart writes (merged counts k.times) ks s h in
       found_source b.hart writes counts ks s o.0 o.1 (still o.0 o.2) o.3)
-      (elim (known (has_source b.hart writes (merged counts (count_of k.times)) ks k.hart)) [
+      (elim (known (has_source b.hart writes (merged counts k.times) ks k.hart)) [
         | inl t ↦
-            let o = source_found b.hart writes (merged counts (count_of k.times)) ks k.hart t in
+            let o = source_found b.hart writes (merged counts k.times) ks k.hart t in
             absurd (gone o.0 o.1 o.2 (same_number o.0.hart k.hart o.3))
         | inr f ↦ f
       ])
@@ -76,14 +74,14 @@ module _ (run : List Point) (b : Point) (writes : Bool) (kind : IsOfOneKind b wr
       uncovered : (cs : ℕ → ℕ) (o : Kept) → is_source b.hart writes cs o ≡ true → not (nat_lt o.ic (cs o.hart)) ≡ true
       uncovered cs o t = and_right (not (o.hart == b.hart) && (is_write o.mode || writes)) (not (nat_lt o.ic (cs o.hart))) t
 
-      still : (o : Kept) → is_source b.hart writes (merged counts (count_of k.times)) o ≡ true → is_source b.hart writes counts o ≡ true
+      still : (o : Kept) → is_source b.hart writes (merged counts k.times) o ≡ true → is_source b.hart writes counts o ≡ true
       still o t =
-          let low : counts o.hart ≤ merged counts (count_of k.times) o.hart = omega arith in
+          let low : counts o.hart ≤ merged counts k.times o.hart = omega arith in
           both (not (o.hart == b.hart) && (is_write o.mode || writes)) (not (nat_lt o.ic (counts o.hart)))
-          (and_left (not (o.hart == b.hart) && (is_write o.mode || writes)) (not (nat_lt o.ic (merged counts (count_of k.times) o.hart))) t)
-          (up_test o.ic (counts o.hart) (merged counts (count_of k.times) o.hart) low (uncovered (merged counts (count_of k.times)) o t))
+          (and_left (not (o.hart == b.hart) && (is_write o.mode || writes)) (not (nat_lt o.ic (merged counts k.times o.hart))) t)
+          (up_test o.ic (counts o.hart) (merged counts k.times o.hart) low (uncovered (merged counts k.times) o t))
 
-      gone : (o : Kept) → In ks o → is_source b.hart writes (merged counts (count_of k.times)) o ≡ true → o.hart ≡ k.hart → ⊥
+      gone : (o : Kept) → In ks o → is_source b.hart writes (merged counts k.times) o ≡ true → o.hart ≡ k.hart → ⊥
       gone o in_ks t same =
           let earlier = latest.most o in_ks (still o t) in
           let at_k = ready.each k among in
@@ -91,9 +89,9 @@ module _ (run : List Point) (b : Point) (writes : Bool) (kind : IsOfOneKind b wr
           let order = turn_order run b writes kind ks live harts ready at_k.1 at_o.1 at_k.0 at_o.0 k o at_k.2 at_o.2 earlier in
           let counts_k = self_covered run at_k.1 at_k.0 k at_k.2 in
           let low : o.ic ≤ k.ic = no_later at_k.0 at_o.0 at_k.1 at_o.1 at_k.2 at_o.2 order in
-          let under : o.ic < merged counts (count_of k.times) k.hart = omega (arith, counts_k, low) in
-          not_true (nat_lt o.ic (merged counts (count_of k.times) o.hart)) (uncovered (merged counts (count_of k.times)) o t)
-          (rw same (lt-ltb o.ic (merged counts (count_of k.times) k.hart) under))
+          let under : o.ic < merged counts k.times k.hart = omega (arith, counts_k, low) in
+          not_true (nat_lt o.ic (merged counts k.times o.hart)) (uncovered (merged counts k.times) o t)
+          (rw same (lt-ltb o.ic (merged counts k.times k.hart) under))
         where
           no_later : (j i w v : ℕ) → KeptAt run w j k → KeptAt run v i o → i ≤ j → o.ic ≤ k.ic
           no_later j i w v at_k at_o order = elim (less_or i j) [
@@ -123,14 +121,14 @@ module _ (run : List Point) (b : Point) (writes : Bool) (kind : IsOfOneKind b wr
           ])
   picks (suc rounds) S bound counts few holds told =
       go (latest b.hart writes counts None ks) refl
-      (λ k f. picks rounds (λ m. S m ⊎ UpTo run m (ready.each k f).0) (ready.each k f).0 (merged counts (count_of k.times)))
+      (λ k f. picks rounds (λ m. S m ⊎ UpTo run m (ready.each k f).0) (ready.each k f).0 (merged counts k.times))
     where
       go : (o : Option Kept) → latest b.hart writes counts None ks ≡ o
           → ((k : Kept) (f : In ks k)
-          → passing (has_source b.hart writes (merged counts (count_of k.times)) ks) harts ≤ rounds
-          → Holds run (λ m. S m ⊎ UpTo run m (ready.each k f).0) (merged counts (count_of k.times))
+          → passing (has_source b.hart writes (merged counts k.times) ks) harts ≤ rounds
+          → Holds run (λ m. S m ⊎ UpTo run m (ready.each k f).0) (merged counts k.times)
           → Told run b writes kind ks live harts ready (λ m. S m ⊎ UpTo run m (ready.each k f).0) (ready.each k f).0
-          → Picked (ready.each k f).0 rounds (merged counts (count_of k.times)))
+          → Picked (ready.each k f).0 rounds (merged counts k.times))
           → Picked bound (suc rounds) counts
       go None e rest = finished S bound (suc rounds) counts holds told e
       go (Some k) e rest =
@@ -143,10 +141,10 @@ module _ (run : List Point) (b : Point) (writes : Bool) (kind : IsOfOneKind b wr
           one_more : (k : Kept) (f : In ks k) → is_source b.hart writes counts k ≡ true → latest b.hart writes counts None ks ≡ Some k
               → IsLatest b.hart writes counts None ks k
               → (at : (j : ℕ) × (w : ℕ) × KeptAt run w j k × (touches w b ≡ true))
-              → (passing (has_source b.hart writes (merged counts (count_of k.times)) ks) harts ≤ rounds
-              → Holds run (λ m. S m ⊎ UpTo run m at.0) (merged counts (count_of k.times))
+              → (passing (has_source b.hart writes (merged counts k.times) ks) harts ≤ rounds
+              → Holds run (λ m. S m ⊎ UpTo run m at.0) (merged counts k.times)
               → Told run b writes kind ks live harts ready (λ m. S m ⊎ UpTo run m at.0) at.0
-              → Picked at.0 rounds (merged counts (count_of k.times)))
+              → Picked at.0 rounds (merged counts k.times))
               → Picked bound (suc rounds) counts
           one_more k f source e l at rest =
               let t = taken run b writes kind ks live harts ready S counts at.1 at.0 k holds at.2 at.3 source in
@@ -176,7 +174,7 @@ module _ (run : List Point) (b : Point) (writes : Bool) (kind : IsOfOneKind b wr
                 ];
               } in
               let less = fewer counts k l source f in
-              let next_holds = holds_merge run S (λ m. UpTo run m at.0) counts (count_of k.times) holds at.2.times in
+              let next_holds = holds_merge run S (λ m. UpTo run m at.0) counts k.times holds at.2.times in
               let r = rest (omega arith) next_holds next_told in
               record {
                 places = at.0 ∷ r.places;

@@ -1,8 +1,7 @@
 -- The rounds of a search for sources.
 use Rattle.std.proofs.Common.{◌≡◌, ℕ, zero, suc, ◌+◌, ◌*◌, ◌-◌, ◌<◌, Bool, refl, arith, ap, ◌∙◌, sym, List, [], ◌∷◌, ◌++◌, ◌&&◌, cond, Option, Some, None}
-use Rattle.vector_time.specs.Times.{count_of}
 use Rattle.race_log.specs.Search.{gathered, is_source, newer, latest, merged, sources, counts_after}
-use Rattle.race_log.specs.declared.kept.Kept.{Kept}
+use Rattle.race_log.specs.Kept.{Kept}
 
 -- counts that are equal at each hart are equal
 pub same_counts : {f g : ℕ → ℕ} → ((h : ℕ) → f h ≡ g h) → f ≡ g
@@ -23,12 +22,12 @@ gathered_step kept first count i low =
 
 module _ (hart : ℕ) (writes : Bool) (counts : ℕ → ℕ) (ks : List Kept) where
   pub sources_more : (rounds : ℕ) (k : Kept) → latest hart writes counts None ks ≡ Some k
-      → sources hart writes (suc rounds) counts ks ≡ (k.hart, k.ic) ∷ sources hart writes rounds (merged counts (count_of k.times)) ks
+      → sources hart writes (suc rounds) counts ks ≡ (k.hart, k.ic) ∷ sources hart writes rounds (merged counts k.times) ks
   unfolding sources
   sources_more rounds k e = rw e
 
   pub counts_more : (rounds : ℕ) (k : Kept) → latest hart writes counts None ks ≡ Some k
-      → counts_after hart writes (suc rounds) counts ks ≡ counts_after hart writes rounds (merged counts (count_of k.times)) ks
+      → counts_after hart writes (suc rounds) counts ks ≡ counts_after hart writes rounds (merged counts k.times) ks
   unfolding counts_after
   counts_more rounds k e = rw e
 
@@ -51,17 +50,17 @@ module _ (hart : ℕ) (writes : Bool) (counts : ℕ → ℕ) (ks : List Kept) wh
   counts_zero = refl
 
   pub sources_step : (n r : ℕ) (k : Kept) (next : ℕ → ℕ) → r < n → latest hart writes counts None ks ≡ Some k
-      → ((h : ℕ) → next h ≡ merged counts (count_of k.times) h)
+      → ((h : ℕ) → next h ≡ merged counts k.times h)
       → sources hart writes (n - r) counts ks ≡ (k.hart, k.ic) ∷ sources hart writes (n - (r + 1)) next ks
   sources_step n r k next low e m =
       let s : n - r ≡ suc (n - (r + 1)) = omega arith in
-      let is : merged counts (count_of k.times) ≡ next = sym (same_counts m) in
+      let is : merged counts k.times ≡ next = sym (same_counts m) in
       rw s (sources_more (n - (r + 1)) k e ∙ ap (λ f. (k.hart, k.ic) ∷ sources hart writes (n - (r + 1)) f ks) is)
 
   pub counts_step : (n r : ℕ) (k : Kept) (next : ℕ → ℕ) → r < n → latest hart writes counts None ks ≡ Some k
-      → ((h : ℕ) → next h ≡ merged counts (count_of k.times) h)
+      → ((h : ℕ) → next h ≡ merged counts k.times h)
       → counts_after hart writes (n - r) counts ks ≡ counts_after hart writes (n - (r + 1)) next ks
   counts_step n r k next low e m =
       let s : n - r ≡ suc (n - (r + 1)) = omega arith in
-      let is : merged counts (count_of k.times) ≡ next = sym (same_counts m) in
+      let is : merged counts k.times ≡ next = sym (same_counts m) in
       rw s (counts_more (n - (r + 1)) k e ∙ ap (λ f. counts_after hart writes (n - (r + 1)) f ks) is)

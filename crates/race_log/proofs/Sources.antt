@@ -1,6 +1,5 @@
 -- Kept accesses of a new point's words, and when they are sources of edges into it.
 use Rattle.std.proofs.Common.{◌≡◌, ◌≢◌, ℕ, ◌<◌, ◌≤◌, Bool, true, not, ◌&&◌, ◌||◌, ◌⊎◌, ◌==◌, refl, inl, inr, arith, sym, ap, ◌∙◌, List, length, slice_get, Some, nat_lt, lt-ltb, ltb-true}
-use Rattle.vector_time.specs.Times.{count_of}
 use Rattle.race_log.specs.Points.{Point}
 use Rattle.race_log.specs.Netzer.{Before, Conflict, IsEdge}
 use Rattle.race_log.specs.Netzer.Chain.{one}
@@ -8,8 +7,7 @@ use Rattle.race_log.specs.Tests.{touches, writes_word, name_of}
 use Rattle.race_log.specs.Merges.{is_of_hart}
 use Rattle.race_log.specs.ByCount.{IsInOrder}
 use Rattle.race_log.specs.Holds.{UpTo, OwnUpTo, Holds}
-use Rattle.race_log.specs.declared.kept.Kept.{Kept}
-use Rattle.race_log.specs.Kept.{is_write, after, In, KeptAt, Suffices}
+use Rattle.race_log.specs.Kept.{Kept, is_write, after, In, KeptAt, Suffices}
 use Rattle.race_log.specs.Search.{is_source}
 use Rattle.race_log.proofs.BoolFacts.{and_left, and_right, both, or_split, or_first, or_second, known, not_true, true_not, same_number, other_number}
 use Rattle.race_log.proofs.Agree.{same_test}
@@ -41,7 +39,7 @@ pub record Ready (run : List Point) (live : ℕ → Bool) (harts : ℕ) (b : Poi
   pub few : (m : ℕ) (p : Point) → slice_get run m ≡ Some p → p.hart < harts
   pub lives : live b.hart ≡ true
 
-pub self_covered : (run : List Point) (w j : ℕ) (k : Kept) → KeptAt run w j k → k.ic < count_of k.times k.hart
+pub self_covered : (run : List Point) (w j : ℕ) (k : Kept) → KeptAt run w j k → k.ic < k.times k.hart
 self_covered run w j k at = rw (at.hart, at.count) (at.times.covered j at.point at.at (inl refl))
 
 pub same_source : (run : List Point) (w j : ℕ) (k : Kept) → KeptAt run w j k → (k.hart, k.ic) ≡ name_of (slice_get run j)

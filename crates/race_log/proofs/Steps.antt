@@ -1,33 +1,33 @@
 -- One access of a shadow.
-use Rattle.std.proofs.Common.{◌≡◌, ◌≢◌, ℕ, zero, suc, ◌+◌, ◌*◌, ◌-◌, ◌<◌, ◌≤◌, Bool, true, false, ◌⊎◌, ◌==◌, refl, inl, inr, arith, sym, ap, ap₂, ◌∙◌, List, [], ◌∷◌, ◌++◌, length, slice_get, slice_set, slice_index_or, Some, filter, map, subst, All, if◌then◌else◌}
+use Rattle.std.proofs.Common.{◌≡◌, ◌≢◌, ℕ, zero, suc, ◌+◌, ◌*◌, ◌-◌, ◌<◌, ◌≤◌, Bool, true, false, ◌⊎◌, ◌==◌, refl, inl, inr, arith, sym, ap, ap₂, ◌∙◌, List, [], ◌∷◌, ◌++◌, length, slice_get, slice_set, slice_index_or, Some, map, subst, All, if◌then◌else◌, ◌&&◌, nat_lt, lt-ltb, ltb-true}
 use Rattle.std.proofs.lemmas.Option.{get_or_from_slice_get, slice_get-get_or}
+use Rattle.std.proofs.lemmas.Bool.{cases_lt}
 use Rattle.std.proofs.lemmas.List.Quantifiers.{all_pairs_push}
 use Rattle.std.proofs.lemmas.List.Elements.{All-push}
 use Rattle.vector_time.specs.declared.times.Times.{Times}
 use Rattle.vector_time.specs.Times.{count_of}
 use Rattle.race_log.specs.declared.mode.Mode.{Mode}
-use Rattle.race_log.specs.declared.kept.Kept.{Kept}
 use Rattle.race_log.specs.declared.shadow.Shadow.{Shadow}
 use Rattle.race_log.specs.Points.{Point}
 use Rattle.race_log.specs.Tests.{touches, edge, edges_into, sources_into, name_of}
 use Rattle.race_log.specs.ByCount.{IsInOrder, IsTimesOf}
 use Rattle.race_log.specs.Holds.{OwnUpTo, Holds, TimesOf}
-use Rattle.race_log.specs.Kept.{is_write, access_point, after, In, Suffices, stays, kept_after}
+use Rattle.race_log.specs.Kept.{Kept, is_write, access_point, after, In, Suffices, Replaces}
 use Rattle.race_log.specs.Search.{gathered, sources, counts_after}
-use Rattle.race_log.specs.Words.{KeepsAccess}
-use Rattle.race_log.specs.Stands.{Stands, KnowsSame, harts_of, next_turn, next_count, times_of, kept_of, counts_at}
-use Rattle.race_log.proofs.BoolFacts.{known}
+use Rattle.race_log.specs.Words.{KeepsAccess, counts_at}
+use Rattle.race_log.specs.Stands.{Stands, KnowsSame, harts_of, lives_in, next_turn, next_count, times_of, kept_of}
+use Rattle.race_log.proofs.BoolFacts.{and_left, both, known}
 use Rattle.race_log.proofs.EdgeLaws.{edge_is, is_edge}
 use Rattle.race_log.proofs.MergeLaws.{is_in, of_hart_at}
 use Rattle.race_log.proofs.CountLaws.{times_of as times_are}
 use Rattle.race_log.proofs.Listed.{Falling, falling_is}
 use Rattle.race_log.proofs.Rounds.{same_counts}
 use Rattle.race_log.proofs.RangeLemmas.{IsOfOneKind, one_kind, range_words, in_range}
-use Rattle.race_log.proofs.Next.{get_old, get_new}
+use Rattle.race_log.proofs.Next.{get_old, get_new, in_after}
 use Rattle.race_log.proofs.AfterLemmas.{own_old, times_new, own_new}
 use Rattle.race_log.proofs.Sources.{Ready, start_told}
 use Rattle.race_log.proofs.Picks.{Picked, picks, first_few}
-use Rattle.race_log.proofs.KeptLemmas.{other_word, same_word}
+use Rattle.race_log.proofs.KeptLemmas.{other_word, same_word, alone_suffices}
 
 -- a fact of all elements, at one of them
 pub all_at : {X : Type 0} (P : X → Type 0) (xs : List X) (k : ℕ) (x : X) → All P xs → slice_get xs k ≡ Some x → k < length xs → P x
@@ -93,7 +93,8 @@ stands_same old new same run live s = record {
   harts = subst (λ n. All (λ p. p.hart < n) run) (sym same.harts) s.harts;
   past = subst (λ n. All (λ p. p.turn < n) run) (sym same.turn) s.past;
   own = λ hart low. subst (Holds run (OwnUpTo run hart)) (sym (same_counts (same.times hart))) (s.own hart (omega (arith, low, same.harts)));
-  kept = λ w. subst (Suffices run live w) (sym (same.kept w)) (s.kept w);
+  kept = λ w. subst (λ n. Suffices run (λ g. nat_lt g n && live g) w (kept_of new w)) (sym same.harts)
+      (subst (Suffices run (lives_in old live) w) (sym (same.kept w)) (s.kept w));
 }
 
 module _ (run : List Point) (hart count turn first n : ℕ) (mode : Mode) (live : ℕ → Bool) (old : Shadow) (stands : Stands run live old)
@@ -103,6 +104,13 @@ module _ (run : List Point) (hart count turn first n : ℕ) (mode : Mode) (live 
 
   abbrev ks : List Kept
   ks = gathered (kept_of old) first n
+
+  -- the shadow's live harts
+  abbrev lively : ℕ → Bool
+  lively = lives_in old live
+
+  lively_hart : lively hart ≡ true
+  lively_hart = both (nat_lt hart (harts_of old)) (live hart) (lt-ltb hart (harts_of old) in_harts) lives
 
   kind : IsOfOneKind b (is_write mode)
   kind = one_kind hart count turn first n mode
@@ -127,7 +135,7 @@ module _ (run : List Point) (hart count turn first n : ℕ) (mode : Mode) (live 
   few : (m : ℕ) (p : Point) → slice_get run m ≡ Some p → p.hart < harts_of old
   few m p e = all_at (λ p. p.hart < harts_of old) run m p stands.harts e (is_in run m p e)
 
-  ready : Ready run live (harts_of old) b ks
+  ready : Ready run lively (harts_of old) b ks
   ready = record {
     each = λ k i.
         let a = gathered_in (kept_of old) first n k i in
@@ -138,13 +146,13 @@ module _ (run : List Point) (hart count turn first n : ℕ) (mode : Mode) (live 
         (kept_of old w, stands.kept w, λ k i. in_gathered (kept_of old) first n r.0 k r.1 (subst (λ v. In (kept_of old v) k) r.2 i));
     in_order = stands.in_order;
     few = few;
-    lives = lives;
+    lives = lively_hart;
   }
 
-  picked : Picked run b (is_write mode) kind ks live (harts_of old) ready (length run) (harts_of old - 1) (times_of old hart)
-  picked = picks run b (is_write mode) kind ks live (harts_of old) ready (harts_of old - 1) (OwnUpTo run hart) (length run) (times_of old hart)
-      (first_few run b (is_write mode) kind ks live (harts_of old) ready (times_of old hart) in_harts) (stands.own hart in_harts)
-      (start_told run b (is_write mode) kind ks live (harts_of old) ready)
+  picked : Picked run b (is_write mode) kind ks lively (harts_of old) ready (length run) (harts_of old - 1) (times_of old hart)
+  picked = picks run b (is_write mode) kind ks lively (harts_of old) ready (harts_of old - 1) (OwnUpTo run hart) (length run) (times_of old hart)
+      (first_few run b (is_write mode) kind ks lively (harts_of old) ready (times_of old hart) in_harts) (stands.own hart in_harts)
+      (start_told run b (is_write mode) kind ks lively (harts_of old) ready)
 
   -- the sources found are those of the edges
   pub found_edges : sources hart (is_write mode) (harts_of old - 1) (times_of old hart) (gathered (kept_of old) first n)
@@ -170,9 +178,10 @@ module _ (run : List Point) (hart count turn first n : ℕ) (mode : Mode) (live 
 
     pub stands_after : (new : Shadow) (k : Kept) → harts_of new ≡ harts_of old → next_turn new ≡ turn + 1
         → ((h : ℕ) → times_of new hart h ≡ next h) → ((other : ℕ) → other ≢ hart → (h : ℕ) → times_of new other h ≡ times_of old other h)
-        → k.turn ≡ turn → k.hart ≡ hart → k.ic ≡ count → k.mode ≡ mode → ((h : ℕ) → count_of k.times h ≡ next h)
-        → KeepsAccess k first n (kept_of old) (kept_of new) → Stands (after run (access_point hart count turn first n mode)) live new
-    stands_after new k same_harts new_turn new_own new_others is_turn is_hart is_count is_mode is_times keeps = record {
+        → k.turn ≡ turn → k.hart ≡ hart → k.ic ≡ count → k.mode ≡ mode → ((h : ℕ) → k.times h ≡ next h)
+        → (1 < harts_of old → KeepsAccess k first n (kept_of old) (kept_of new)) → (harts_of old ≤ 1 → (w : ℕ) → kept_of new w ≡ kept_of old w)
+        → Stands (after run (access_point hart count turn first n mode)) live new
+    stands_after new k same_harts new_turn new_own new_others is_turn is_hart is_count is_mode is_times many alone = record {
       in_order = now_in_order;
       harts = All-push (λ p. p.hart < harts_of new) run b (subst (λ n. All (λ p. p.hart < n) run) (sym same_harts) stands.harts)
           (omega (arith, in_harts, same_harts));
@@ -189,23 +198,39 @@ module _ (run : List Point) (hart count turn first n : ℕ) (mode : Mode) (live 
             let own = own_old run b g (times_of old g) now_in_order other (stands.own g (omega (arith, low, same_harts))) in
             subst (Holds (after run b) (OwnUpTo (after run b) g)) (sym (same_counts (new_others g (λ e. other (sym e))))) own
       ];
-      kept = λ w. elim (known (touches w b)) [
-        | inl in_b ↦
-            let r = range_words first n w (is_write mode) in_b in
-            let times_k = subst (TimesOf (after run b) (length run)) (sym (same_counts is_times)) next_times in
-            let here = same_word run live b (is_write mode) kind now_in_order w k (kept_of old w) in_b is_turn is_hart is_count (ap is_write is_mode) times_k (stands.kept w) in
-            let shape : kept_of new w ≡ filter (stays hart (is_write mode)) (kept_of old w) ++ k ∷ [] =
-            subst (λ v. kept_of new v ≡ kept_after k (kept_of old v)) (sym r.2) (keeps.inside r.0 r.1)
-            ∙ ap₂ (λ h m. filter (stays h (is_write m)) (kept_of old w) ++ k ∷ []) is_hart is_mode in
-            subst (Suffices (after run b) live w) (sym shape) here
-        | inr out ↦
-            let same = keeps.outside w (λ i low e. clear (touches w b) (subst (λ v. touches v b ≡ true) (sym e) (in_range first n i (is_write mode) low)) out) in
-            subst (Suffices (after run b) live w) (sym same) (other_word run live b (is_write mode) kind now_in_order w (kept_of old w) out (stands.kept w))
-      ];
+      kept = λ w. subst (λ n. Suffices (after run b) (λ g. nat_lt g n && live g) w (kept_of new w)) (sym same_harts) (elim (cases_lt 1 (harts_of old)) [
+        | inl more ↦ among w (many more)
+        | inr one ↦
+            subst (Suffices (after run b) lively w) (sym (alone one w))
+            (alone_suffices run lively b now_in_order (λ m p e. single one m p e) (λ g up. single_live one g up) w (kept_of old w) (stands.kept w))
+      ]);
     }
       where
-        not_same : (x y : ℕ) → (x == y) ≡ false → x ≢ y
-        not_same x y h e = let t : (x == y) ≡ true = grind arith in cc
-
         clear : (x : Bool) → x ≡ true → x ≡ false → ⊥
         clear x h k = cc
+
+        among : (w : ℕ) → KeepsAccess k first n (kept_of old) (kept_of new) → Suffices (after run b) lively w (kept_of new w)
+        among w keeps = elim (known (touches w b)) [
+          | inl in_b ↦
+              let r = range_words first n w (is_write mode) in_b in
+              let times_k = subst (TimesOf (after run b) (length run)) (sym (same_counts is_times)) next_times in
+              let kept = subst (λ v. Replaces k (kept_of old v) (kept_of new v)) (sym r.2) (keeps.inside r.0 r.1) in
+              same_word run lively b (is_write mode) kind now_in_order w k (kept_of old w) (kept_of new w) in_b is_turn is_hart is_count (ap is_write is_mode) times_k kept (stands.kept w)
+          | inr out ↦
+              let same = keeps.outside w (λ i low e. clear (touches w b) (subst (λ v. touches v b ≡ true) (sym e) (in_range first n i (is_write mode) low)) out) in
+              subst (Suffices (after run b) lively w) (sym same) (other_word run lively b (is_write mode) kind now_in_order w (kept_of old w) out (stands.kept w))
+        ]
+
+        -- with one hart all points are its own, and it alone is live
+        single : harts_of old ≤ 1 → (m : ℕ) (p : Point) → slice_get (after run b) m ≡ Some p → p.hart ≡ 0
+        single one m p e = elim (in_after run b m p e) [
+          | inl old_p ↦ let low = few m p old_p.1 in omega (arith, low, one)
+          | inr new_p ↦ sym (ap (λ (x : Point). x.hart) new_p.1) ∙ omega (arith, in_harts, one)
+        ]
+
+        single_live : harts_of old ≤ 1 → (g : ℕ) → lively g ≡ true → g ≡ 0
+        single_live one g up =
+            let low = ltb-true g (harts_of old) (and_left (nat_lt g (harts_of old)) (live g) up) in omega (arith, low, one)
+
+        not_same : (x y : ℕ) → (x == y) ≡ false → x ≢ y
+        not_same x y h e = let t : (x == y) ≡ true = grind arith in cc

@@ -7,6 +7,13 @@ pub record IsInOrder (run : List Point) : Type 0 where
   pub turns : AllPairs (λ p q. p.turn < q.turn) run
   pub counts : AllPairs (λ p q. p.hart ≡ q.hart → p.count < q.count) run
 
+-- in a run whose points are in order a hart's points stand by their counts, and all points by their turns
+pub record StandByCounts : Type 0 where
+  pub counts : (run : List Point) → IsInOrder run → (m n : ℕ) (p q : Point) → slice_get run m ≡ Some p → slice_get run n ≡ Some q → p.hart ≡ q.hart
+      → (m < n) ↔ (p.count < q.count)
+  pub turns : (run : List Point) → IsInOrder run → (m n : ℕ) (p q : Point) → slice_get run m ≡ Some p → slice_get run n ≡ Some q
+      → (m < n) ↔ (p.turn < q.turn)
+
 -- p is a point of the run, that of the hart at the count
 pub record IsPointAt (run : List Point) (hart count : ℕ) (p : Point) : Type 0 where
   pub place : ℕ

@@ -1,12 +1,19 @@
 -- What is kept of the accesses of a word, so that the edges into later points can be told.
-use Rattle.std.specs.Prelude.{◌≡◌, ℕ, zero, suc, ◌+◌, Bool, true, false, not, ◌&&◌, ◌||◌, ◌⊎◌, List, [], ◌∷◌, ◌++◌, ◌==◌, filter, slice_get, Some}
-use Rattle.vector_time.specs.Times.{count_of}
+use Rattle.std.specs.Prelude.{◌≡◌, ℕ, zero, suc, ◌+◌, Bool, true, false, not, ◌&&◌, ◌||◌, ◌⊎◌, List, [], ◌∷◌, ◌++◌, ◌==◌, slice_get, Some}
 use Rattle.race_log.specs.declared.mode.Mode.{Mode}
 use Rattle.race_log.specs.declared.mode.Mode.TheVariants.{Read, Write}
-use Rattle.race_log.specs.declared.kept.Kept.{Kept}
 use Rattle.race_log.specs.Points.{Point, Access}
 use Rattle.race_log.specs.Tests.{touches, writes_word}
 use Rattle.race_log.specs.Holds.{UpTo, OwnUpTo, TimesOf}
+
+-- what is kept of a point's access of a word: the point's turn, hart and count, whether it writes the word, and the counts
+-- of the points that are the point or before it
+pub record Kept : Type 0 where
+  pub turn : ℕ
+  pub hart : ℕ
+  pub ic : ℕ
+  pub mode : Mode
+  pub times : ℕ → ℕ
 
 -- whether it is a write
 abbrev pub is_write : Mode → Bool
@@ -40,7 +47,7 @@ pub record KeptAt (run : List Point) (word m : ℕ) (k : Kept) : Type 0 where
   pub count : k.ic ≡ point.count
   pub touched : touches word point ≡ true
   pub written : is_write k.mode ≡ writes_word word point
-  pub times : TimesOf run m (count_of k.times)
+  pub times : TimesOf run m k.times
 
 -- each live hart knows of place m: it is, or is before, a point of that hart
 abbrev pub AllKnow : List Point → (ℕ → Bool) → ℕ → Type 0
@@ -64,6 +71,8 @@ pub record Suffices (run : List Point) (live : ℕ → Bool) (word : ℕ) (ks : 
 abbrev pub stays : ℕ → Bool → Kept → Bool
 stays hart writes k = not writes && (is_write k.mode || not (k.hart == hart))
 
--- what is kept of a word after an access of it
-abbrev pub kept_after : Kept → List Kept → List Kept
-kept_after k ks = filter (stays k.hart (is_write k.mode)) ks ++ k ∷ []
+-- an access of a word is kept, in the place of those that it puts out
+pub record Replaces (k : Kept) (old new : List Kept) : Type 0 where
+  pub last : In new k
+  pub stay : (x : Kept) → In old x → stays k.hart (is_write k.mode) x ≡ true → In new x
+  pub only : (x : Kept) → In new x → (In old x × (stays k.hart (is_write k.mode) x ≡ true)) ⊎ (k ≡ x)

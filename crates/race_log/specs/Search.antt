@@ -1,8 +1,6 @@
 -- How the sources of the edges into an access are found among the kept accesses of its words.
 use Rattle.std.specs.Prelude.{ℕ, zero, suc, ◌+◌, Bool, true, not, ◌&&◌, ◌||◌, List, [], ◌∷◌, ◌++◌, ◌==◌, nat_lt, max, cond, Option, Some, None}
-use Rattle.vector_time.specs.Times.{count_of}
-use Rattle.race_log.specs.declared.kept.Kept.{Kept}
-use Rattle.race_log.specs.Kept.{is_write}
+use Rattle.race_log.specs.Kept.{Kept, is_write}
 
 -- what is kept of so many words from the first
 abbrev pub gathered : (ℕ → List Kept) → ℕ → ℕ → List Kept
@@ -43,10 +41,10 @@ then_counts counts (Some k) rest = rest k
 unfoldable pub sources : ℕ → Bool → ℕ → (ℕ → ℕ) → List Kept → List (ℕ × ℕ)
 sources hart writes zero counts ks = []
 sources hart writes (suc rounds) counts ks =
-    then_sources (latest hart writes counts None ks) (λ k. sources hart writes rounds (merged counts (count_of k.times)) ks)
+    then_sources (latest hart writes counts None ks) (λ k. sources hart writes rounds (merged counts k.times) ks)
 
 -- the counts after them
 unfoldable pub counts_after : ℕ → Bool → ℕ → (ℕ → ℕ) → List Kept → ℕ → ℕ
 counts_after hart writes zero counts ks = counts
 counts_after hart writes (suc rounds) counts ks =
-    then_counts counts (latest hart writes counts None ks) (λ k. counts_after hart writes rounds (merged counts (count_of k.times)) ks)
+    then_counts counts (latest hart writes counts None ks) (λ k. counts_after hart writes rounds (merged counts k.times) ks)

@@ -1,28 +1,24 @@
 -- What a shadow knows and keeps of the points so far.
-use Rattle.std.specs.Prelude.{◌≡◌, ℕ, ◌+◌, ◌<◌, Bool, List, slice_get, Option, Some, None, All}
-use Rattle.vector_time.specs.declared.times.Times.{Times}
-use Rattle.vector_time.specs.Times.{count_of}
+use Rattle.std.specs.Prelude.{◌≡◌, ℕ, ◌+◌, ◌<◌, Bool, ◌&&◌, nat_lt, List, slice_get, Option, Some, None, All}
 use Rattle.race_log.specs.declared.shadow.Shadow.{Shadow}
-use Rattle.race_log.specs.declared.kept.Kept.{Kept}
 use Rattle.race_log.specs.Points.{Point}
 use Rattle.race_log.specs.ByCount.{IsInOrder}
 use Rattle.race_log.specs.Holds.{OwnUpTo, Holds}
-use Rattle.race_log.specs.Kept.{Suffices}
-use Rattle.race_log.specs.Words.{kept_in}
+use Rattle.race_log.specs.Kept.{Kept, Suffices}
+use Rattle.race_log.specs.Words.{kept_in, counts_at}
 
 -- a number past the turn, where there is one
 abbrev pub past_turn : Option ℕ → ℕ
 past_turn None = 0
 past_turn (Some turn) = turn + 1
 
--- the counts of the times, where there are any
-abbrev pub counts_at : Option Times → ℕ → ℕ
-counts_at None hart = 0
-counts_at (Some times) hart = count_of times hart
-
 -- how many harts there are
 abbrev pub harts_of : Shadow → ℕ
 harts_of s = s.harts
+
+-- whether the hart is one of the shadow's, and live
+abbrev pub lives_in : Shadow → (ℕ → Bool) → ℕ → Bool
+lives_in s live hart = nat_lt hart (harts_of s) && live hart
 
 -- the lowest turn that the next access may have
 abbrev pub next_turn : Shadow → ℕ
@@ -51,10 +47,10 @@ pub record KnowsSame (old new : Shadow) : Type 0 where
   pub times : (hart other : ℕ) → times_of new hart other ≡ times_of old hart other
   pub kept : (word : ℕ) → kept_of new word ≡ kept_of old word
 
--- the shadow stands for the run: it knows of these points and no others, and what it keeps suffices for the live harts
+-- the shadow stands for the run: it knows of these points and no others, and what it keeps suffices for its live harts
 pub record Stands (run : List Point) (live : ℕ → Bool) (s : Shadow) : Type 0 where
   pub in_order : IsInOrder run
   pub harts : All (λ p. p.hart < harts_of s) run
   pub past : All (λ p. p.turn < next_turn s) run
   pub own : (hart : ℕ) → hart < harts_of s → Holds run (OwnUpTo run hart) (times_of s hart)
-  pub kept : (word : ℕ) → Suffices run live word (kept_of s word)
+  pub kept : (word : ℕ) → Suffices run (lives_in s live) word (kept_of s word)

@@ -1,16 +1,16 @@
 ghost use Rattle.std.specs.Prelude.{◌≡◌, ◌<◌, ◌≤◌, ◌⊎◌, ◌↔◌, ◌∷◌, ◌++◌, [], ℕ, Bool, List, IsTrue, slice_get, Some, Contains, AllPairs, filter, not};
-ghost use Rattle.race_log.specs.Points.{Point, MeetAt, IsConflict, IsSameHart};
+ghost use Rattle.race_log.specs.Points.{Point, Writes, MeetAt, IsConflict, IsSameHart};
 ghost use Rattle.race_log.specs.Netzer.{AtPlaces, ProgramOrder, Conflict, Either, Chain, Before, IsEdge, Chosen, OtherThan, EndingAfter};
-ghost use Rattle.race_log.specs.ByCount.{IsInOrder, Leads, IsEdgeBetween, IsTimesOf};
+ghost use Rattle.race_log.specs.ByCount.{IsInOrder, StandByCounts, Leads, IsEdgeBetween, IsTimesOf};
 ghost use Rattle.race_log.specs.Holds.{TimesOf};
-ghost use Rattle.race_log.specs.Kept.{In, KeptAt, AllKnow, Suffices};
-ghost use Rattle.race_log.specs.declared.kept.Kept.{Kept};
+ghost use Rattle.race_log.specs.Kept.{Kept, In, KeptAt, AllKnow, Suffices};
 ghost use Rattle.race_log.specs.Noted.{NotesDecide};
-ghost use Rattle.race_log.specs.Tests.{is_conflict, program_order, conflict, before, edge, edges_into};
+ghost use Rattle.race_log.specs.Tests.{writes_word, is_conflict, program_order, conflict, before, edge, edges_into};
 ghost use Rattle.race_log.specs.Merges.{IsMerge, IsMergeBegun, IsNext, StandsIn, Precedes, Respects, AreKeptEdges, all_kept};
 
 /// The tests say what the definitions say.
 pub fn tests_decide()
+    ensures writes { (word : ℕ) (p : Point) → IsTrue (writes_word word p) ↔ Writes word p }
     ensures points { (p q : Point) → IsTrue (is_conflict p q) ↔ IsConflict p q }
     ensures program { (run : List Point) (m n : ℕ) → IsTrue (program_order run m n) ↔ ProgramOrder run m n }
     ensures conflict { (run : List Point) (m n : ℕ) → IsTrue (conflict run m n) ↔ Conflict run m n }
@@ -87,6 +87,11 @@ pub fn some_hart_goes_on()
         IsMergeBegun kept run order → Respects (Chosen edges) order →
         (hart m : ℕ) → IsNext kept run order hart m → ((k : ℕ) → Chosen edges k m → StandsIn order k) →
         IsMergeBegun kept run (order ++ m ∷ []) × Respects (Chosen edges) (order ++ m ∷ []) }
+{}
+
+/// In a run whose points are in order a hart's points stand by their counts, and all points by their turns.
+pub fn points_stand_by_counts()
+    ensures { StandByCounts }
 {}
 
 /// Chains and edges over places are those over instructions by hart and count, where also instructions between a hart's

@@ -13,11 +13,13 @@
 
 mod edges;
 mod examples;
-mod kept;
 mod laws;
 mod mode;
+mod page;
 mod search;
 mod shadow;
+mod slot;
+mod stretches;
 mod words;
 
 pub use edges::Edges;
@@ -28,7 +30,8 @@ pub use examples::{
 pub use laws::{
     edges_are_needed, edges_order_conflicts, known_accesses_may_go, late_edges_suffice,
     listed_edges_are_all, merges_keep_conflicts, no_edge_follows, notes_decide,
-    places_stand_for_counts, some_hart_goes_on, tests_decide, times_cover_instructions,
+    places_stand_for_counts, points_stand_by_counts, some_hart_goes_on, tests_decide,
+    times_cover_instructions,
 };
 pub use mode::Mode;
 pub use shadow::Shadow;

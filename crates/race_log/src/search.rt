@@ -1,46 +1,134 @@
-ghost use Rattle.std.specs.Prelude.{◌≡◌, ◌+◌, ◌*◌, ◌<◌, ◌≤◌, ◌^◌, ℕ, None, length};
+ghost use Rattle.std.specs.Prelude.{◌≡◌, ◌+◌, ◌*◌, ◌<◌, ◌≤◌, ◌^◌, ◌%◌, ℕ, true, None, length, slice_get};
 ghost use Rattle.vector_time.specs.Times.{count_of};
 ghost use Rattle.bn_base.specs.declared.settings.TheConstants.{HARTS};
 ghost use Rattle.race_log.specs.Search.{gathered, latest, newer, sources, counts_after};
-ghost use Rattle.race_log.specs.Words.{kept_in};
+ghost use Rattle.race_log.specs.Slots.{kept_here, write_in, read_in, reads_in, word_in, found_as};
+ghost use Rattle.race_log.specs.Words.{kept_in, stretch_counts};
 
 use crate::edges::Edges;
-use crate::kept::Kept;
+use crate::mode::Mode;
+use crate::slot::{Found, Slot};
 use crate::words::KeptWords;
 use bn_base::{Addr, HartId};
 use vector_time::Times;
 
 // Whether the turn is later than the best one's, if there is one.
-fn is_newer(best: &Option<Kept>, turn: u64) -> bool
-    ensures { result ≡ newer best.now turn }
+fn is_newer(best: &Option<Found>, turn: u64) -> bool
+    ensures { (counts : ℕ → ℕ → ℕ) → result ≡ newer (found_as counts best.now) turn }
 {
     match best {
         None => true,
-        Some(k) => k.turn < turn,
+        Some(found) => found.turn < turn,
     }
 }
 
-// The latest source among what is kept of a word, or `best` where none is later.
-fn latest_of(
-    best: Option<Kept>,
+// What the slot keeps, as an access of the hart `other`, where that is a later source than the best one;
+// else the best one.
+fn later_of(
+    best: Option<Found>,
     times: &Times,
     hart: HartId,
     writes: bool,
-    kept: &[Kept],
-) -> Option<Kept>
-    ensures { result ≡ latest hart writes (count_of times.now) best kept.now }
+    mode: Mode,
+    other: HartId,
+    slot: &Slot,
+) -> Option<Found>
+    requires { other < HARTS }
+    ensures { (counts : ℕ → ℕ → ℕ) → found_as counts result ≡ latest hart writes (count_of times.now) (found_as counts best) (kept_here counts mode other slot.now) }
+{
+    if slot.after > 0
+        && other != hart
+        && (mode.is_write() || writes)
+        && !times.covers(other, slot.after - 1)
+        && is_newer(&best, slot.turn)
+    {
+        Some(Found {
+            turn: slot.turn,
+            after: slot.after,
+            stretch: slot.stretch,
+            hart: other,
+            mode,
+        })
+    } else {
+        best
+    }
+}
+
+// The latest of the best source and the write in a word's first slot.
+fn later_write(
+    best: Option<Found>,
+    times: &Times,
+    hart: HartId,
+    writes: bool,
+    page: &[Slot],
+    at: usize,
+) -> Option<Found>
+    ensures { (counts : ℕ → ℕ → ℕ) → found_as counts result ≡ latest hart writes (count_of times.now) (found_as counts best) (write_in counts (slice_get page.now at)) }
+{
+    match page.get(at) {
+        None => best,
+        Some(slot) => later_of(best, times, hart, writes, Mode::Write, slot.hart, slot),
+    }
+}
+
+// The latest of the best source for a write and the read in the slot of the hart `other`.
+fn later_read(
+    best: Option<Found>,
+    times: &Times,
+    hart: HartId,
+    other: HartId,
+    page: &[Slot],
+    at: usize,
+) -> Option<Found>
+    requires { other < HARTS }
+    ensures { (counts : ℕ → ℕ → ℕ) → found_as counts result ≡ latest hart true (count_of times.now) (found_as counts best) (read_in counts other (slice_get page.now at)) }
+{
+    match page.get(at) {
+        None => best,
+        Some(slot) => later_of(best, times, hart, true, Mode::Read, other, slot),
+    }
+}
+
+// The latest source for a write among the reads that are kept of a word, whose slots begin at `at`.
+fn latest_read(
+    best: Option<Found>,
+    times: &Times,
+    hart: HartId,
+    harts: HartId,
+    page: &[Slot],
+    at: usize,
+) -> Option<Found>
+    requires harts { harts ≤ HARTS }
+    requires at { at < 2 ^ 32 }
+    ensures { (counts : ℕ → ℕ → ℕ) → found_as counts result ≡ latest hart true (count_of times.now) (found_as counts best) (reads_in counts page.now at 0 harts) }
 {
     let mut best = best;
-    for k in kept {
-        if k.hart != hart
-            && (k.mode.is_write() || writes)
-            && !times.covers(k.hart, k.ic)
-            && is_newer(&best, k.turn)
-        {
-            best = Some(*k);
-        }
+    for other in 0..harts {
+        best = later_read(best, times, hart, other, page, at + other as usize);
     }
     best
+}
+
+// The latest source among what is kept of the word whose slots begin at `at`.
+fn latest_of(
+    best: Option<Found>,
+    times: &Times,
+    hart: HartId,
+    writes: bool,
+    harts: HartId,
+    page: &[Slot],
+    at: usize,
+) -> Option<Found>
+    requires harts { harts ≤ HARTS }
+    requires at { at < 2 ^ 31 }
+    ensures { (counts : ℕ → ℕ → ℕ) → found_as counts result ≡ latest hart writes (count_of times.now) (found_as counts best) (word_in counts harts page.now at) }
+{
+    let best = later_write(best, times, hart, writes, page, at);
+    if writes {
+        latest_read(best, times, hart, harts, page, at + 1)
+    } else {
+        best
+    }
 }
 
 // The latest source among what is kept of `count` words from `first`.
@@ -51,13 +139,23 @@ fn latest_in(
     writes: bool,
     first: Addr,
     count: u32,
-) -> Option<Kept>
-    requires { first + 4 * count ≤ 2 ^ 32 }
-    ensures { result ≡ latest hart writes (count_of times.now) None (gathered (kept_in words.now) first count) }
+) -> Option<Found>
+    requires aligned { first % 4 ≡ 0 }
+    requires range { first + 4 * count ≤ 2 ^ 32 }
+    ensures { found_as (stretch_counts words.now.stretches) result ≡ latest hart writes (count_of times.now) None (gathered (kept_in words.now) first count) }
 {
     let mut best = None;
     for i in 0..count {
-        best = latest_of(best, times, hart, writes, words.get(first + 4 * i));
+        let word = first + 4 * i;
+        best = latest_of(
+            best,
+            times,
+            hart,
+            writes,
+            words.harts,
+            words.page(word),
+            words.place(word),
+        );
     }
     best
 }
@@ -73,20 +171,22 @@ pub fn find_sources(
     count: u32,
     most: usize,
 ) -> Edges
+    requires aligned { first % 4 ≡ 0 }
     requires range { first + 4 * count ≤ 2 ^ 32 }
     requires most { most < HARTS }
     ensures sources { result ≡ sources hart writes most (count_of times.old) (gathered (kept_in words.now) first count) }
     ensures counts { (h : ℕ) → count_of times.new h
         ≡ counts_after hart writes most (count_of times.old) (gathered (kept_in words.now) first count) h }
     ensures few { length result ≤ most }
+    ensures none { length result ≡ 0 → (h : ℕ) → count_of times.new h ≡ count_of times.old h }
 {
     let mut edges = Edges::new();
     for round in 0..most {
         match latest_in(words, times, hart, writes, first, count) {
             None => break,
             Some(k) => {
-                edges.push(k.hart, k.ic);
-                times.merge(&k.times);
+                edges.push(k.hart, k.after - 1);
+                times.merge(&words.stretches.times_after(k.stretch, k.hart, k.after));
             }
         }
     }

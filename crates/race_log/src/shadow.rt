@@ -1,10 +1,10 @@
-ghost use Rattle.std.specs.Prelude.{◌≡◌, ◌+◌, ◌*◌, ◌<◌, ◌≤◌, ◌^◌, ◌%◌, ◌==◌, ◌↔◌, ℕ, Bool, List, [], All, Contains, IfOk, IsOk, OnOk, OnErr, IsTrue, Some, None, length, vec_len, if◌then◌else◌, ◌≢◌};
+ghost use Rattle.std.specs.Prelude.{◌≡◌, ◌≢◌, ◌+◌, ◌*◌, ◌<◌, ◌≤◌, ◌^◌, ◌%◌, ◌==◌, ◌↔◌, ℕ, Bool, IsTrue, if◌then◌else◌};
+ghost use Rattle.std.specs.Prelude.{List, [], All, Contains, length, vec_len, Some, None, IfOk, IsOk, OnOk, OnErr};
 ghost use Rattle.std.specs.Option.{ForSome};
 ghost use Rattle.bn_base.specs.declared.settings.TheConstants.{HARTS};
-ghost use Rattle.race_log.specs.Words.{HasRoom};
+ghost use Rattle.race_log.specs.Words.{HasRoom, ArePresent};
 
 use crate::edges::Edges;
-use crate::kept::Kept;
 use crate::mode::Mode;
 use crate::search::find_sources;
 use crate::words::KeptWords;
@@ -20,9 +20,11 @@ pub struct Shadow {
     reserved: Option<(Addr, u32)>,
     times: Vec<Times>,
     words: KeptWords,
+    ghost same_harts: { words.harts ≡ harts },
     ghost some_hart: { 0 < harts },
     ghost few_harts: { harts ≤ HARTS },
     ghost each_hart: { vec_len times ≡ harts },
+    ghost present: { ArePresent words.stretches harts times.items },
     ghost room: { ForSome reserved (λ r. HasRoom words r.0 r.1) },
 }
 
@@ -52,7 +54,7 @@ impl Shadow {
             last_turn: None,
             reserved: None,
             times,
-            words: KeptWords::new(alloc),
+            words: KeptWords::new(alloc, harts)?,
         })
     }
 
@@ -115,7 +117,6 @@ impl Shadow {
         ensures reserved { reserved_range self.new ≡ None }
     {
         let mut times = self.times[hart as usize];
-        let most = self.harts as usize - 1;
         let edges = find_sources(
             &self.words,
             &mut times,
@@ -123,23 +124,14 @@ impl Shadow {
             mode.is_write(),
             first,
             count,
-            most,
+            self.harts as usize - 1,
         );
         times.set(hart, ic + 1);
-        self.times[hart as usize] = times;
         self.last_turn = Some(turn);
         self.reserved = None;
-        self.words.keep(
-            first,
-            count,
-            &Kept {
-                turn,
-                hart,
-                ic,
-                mode,
-                times,
-            },
-        );
+        self.words.go_on(hart, edges.count() > 0, &times);
+        self.times[hart as usize] = times;
+        self.words.keep(first, count, hart, mode, turn, ic + 1);
         edges
     }
 

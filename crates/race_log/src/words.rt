@@ -1,105 +1,258 @@
-ghost use Rattle.std.specs.Prelude.{◌≡◌, ◌+◌, ◌*◌, ◌<◌, ◌≤◌, ◌^◌, ℕ, [], IsTrue, IsOk, OnOk, None, ◌≢◌, vec_len, vec_capacity, if◌then◌else◌, ◌==◌};
-ghost use Rattle.race_log.specs.Kept.{kept_after};
+ghost use Rattle.std.specs.Prelude.{◌≡◌, ◌+◌, ◌*◌, ◌/◌, ◌%◌, ◌<◌, ◌≤◌, ◌^◌, ℕ, [], IsTrue, IsOk, OnOk, OnErr, IfOk, ◌≢◌, true, false, length, slice_get, vec_len};
+ghost use Rattle.bn_base.specs.declared.settings.TheConstants.{HARTS};
+ghost use Rattle.race_log.specs.Slots.{AreFull, AreSettled};
 
-use crate::kept::Kept;
-use bn_base::Addr;
+use crate::mode::Mode;
+use crate::page::{keep_in, make_slots, mark_page};
+use crate::slot::Slot;
+use crate::stretches::Stretches;
+use bn_base::{Addr, HartId, Ic};
 use std::alloc::{AllocError, Global};
-use std::collections::HashMap;
+use vector_time::Times;
 
-/// The accesses that are kept, by word.
+/// The bytes of memory whose words have their slots in one page: 64 words.
+const PAGE_BYTES: u32 = 256;
+
+/// How many stretches there are before the table is looked through for the first time.
+const FIRST_LIMIT: usize = 1024;
+
+/// The accesses that are kept, by word: of each word its last write, and of each hart its last read
+/// after that. Where there is one hart none is kept, since no edge can come from it.
+///
+/// The slots of 64 words are a page, which is made with the first access of one of them.
 #[derive(Drop)]
 pub struct KeptWords {
-    alloc: Global,
-    words: HashMap<Addr, Vec<Kept>>,
+    pub harts: HartId,
+    pub pages: Vec<Vec<Slot>>,
+    pub stretches: Stretches,
+    limit: usize,
+    ghost few: { harts ≤ HARTS },
+    ghost full: { AreFull harts pages.items },
+    ghost settled: { AreSettled stretches.table.items stretches.next pages.items },
 }
 
 impl KeptWords {
-    ghost use Rattle.race_log.specs.Kept.{kept_after};
-    ghost use Rattle.race_log.specs.Words.{kept_in, has_room, HasRoom, KeepsAccess};
+    ghost use Rattle.vector_time.specs.Times.{count_of};
+    ghost use Rattle.race_log.specs.Words.{page_of, place_of, kept_in, kept_now, kept_of_slot, stretch_counts, present_counts, has_stretch, has_room, HasPages, HasRoom, KeepsAccess};
+    ghost use Rattle.race_log.specs.Kept.{Replaces};
+    ghost use Rattle.race_log.specs.Slots.{slots_of, is_settled};
 
     /// Keeps nothing.
-    pub fn new(alloc: Global) -> KeptWords
-        ensures { (w : ℕ) → kept_in result w ≡ [] }
+    pub fn new(alloc: Global, harts: HartId) -> Result<KeptWords, AllocError>
+        requires { harts ≤ HARTS }
+        ensures harts { IfOk result (λ k. k.harts ≡ harts) }
+        ensures none { IfOk result (λ k. (w : ℕ) → kept_in k w ≡ []) }
+        ensures counts { IfOk result (λ k. (stretch h : ℕ) → stretch_counts k.stretches stretch h ≡ 0) }
     {
-        KeptWords {
-            alloc,
-            words: HashMap::new(alloc),
-        }
+        let stretches = Stretches::new(alloc)?;
+        Ok(KeptWords {
+            harts,
+            pages: Vec::new(alloc),
+            stretches,
+            limit: FIRST_LIMIT,
+        })
     }
 
-    /// What is kept of the word.
-    pub fn get(&self, word: Addr) -> &[Kept]
-        ensures { result.now ≡ kept_in self.now word }
+    /// The slots of the page of an address, none where it isn't made.
+    pub fn page(&self, word: Addr) -> &[Slot]
+        ensures { result.now ≡ page_of self.now word }
     {
-        match self.words.get(&word) {
-            Some(kept) => kept,
+        match self.pages.get((word / PAGE_BYTES) as usize) {
+            Some(page) => page,
             None => &[],
         }
     }
 
-    /// Makes room for one access more of each of `count` words from `first`. What is kept stays, and so does room.
+    /// Where the slots of an address's word begin in their page.
+    pub fn place(&self, word: Addr) -> usize
+        ensures { result ≡ place_of self.now.harts word }
+    {
+        (word / 4 % 64) as usize * (self.harts as usize + 1)
+    }
+
+    /// Makes room for an access of `count` words from `first`. What is kept stays, and so does room.
     pub fn make_room(&mut self, first: Addr, count: u32) -> Result<(), AllocError>
-        requires { first + 4 * count ≤ 2 ^ 32 }
+        requires aligned { first % 4 ≡ 0 }
+        requires range { first + 4 * count ≤ 2 ^ 32 }
+        ensures harts { self.new.harts ≡ self.old.harts }
         ensures same { (w : ℕ) → kept_in self.new w ≡ kept_in self.old w }
-        ensures stays { (w : ℕ) → IsTrue (has_room self.old w) → IsTrue (has_room self.new w) }
+        ensures present { (g h : ℕ) → present_counts self.new.stretches g h ≡ present_counts self.old.stretches g h }
         ensures room { OnOk result (HasRoom self.new first count) }
+        ensures stays { (f n : ℕ) → HasRoom self.old f n → HasRoom self.new f n }
         ensures ready { HasRoom self.old first count → IsOk result }
     {
-        for i in 0..count {
-            self.make_room_at(first + 4 * i)?;
+        if self.harts < 2 {
+            return Ok(());
+        }
+        self.make_pages(first, count)?;
+        self.look_through();
+        self.stretches.make_room()
+    }
+
+    // Frees stretches where none can begin but by growth, and the table has grown to its limit.
+    fn look_through(&mut self)
+        ensures harts { self.new.harts ≡ self.old.harts }
+        ensures pages { self.new.pages ≡ self.old.pages }
+        ensures counts { (stretch h : ℕ) → stretch_counts self.new.stretches stretch h ≡ stretch_counts self.old.stretches stretch h }
+        ensures present { self.new.stretches.present ≡ self.old.stretches.present }
+        ensures room { IsTrue (has_stretch self.old.stretches) → IsTrue (has_stretch self.new.stretches) }
+    {
+        if self.stretches.is_full() && self.stretches.len() >= self.limit {
+            self.free_stretches();
+        }
+    }
+
+    // Frees the stretches that no kept access names and that are no hart's present one. Until the table
+    // is looked through again, as many begin as it then has in use, and more by the number of pages.
+    fn free_stretches(&mut self)
+        requires { self.old.stretches.next ≡ length self.old.stretches.table.items }
+        ensures harts { self.new.harts ≡ self.old.harts }
+        ensures pages { self.new.pages ≡ self.old.pages }
+        ensures counts { (stretch h : ℕ) → stretch_counts self.new.stretches stretch h ≡ stretch_counts self.old.stretches stretch h }
+        ensures present { self.new.stretches.present ≡ self.old.stretches.present }
+    {
+        self.stretches.begin_marks();
+        for number in 0..self.pages.len() {
+            mark_page(&mut self.stretches, &self.pages[number]);
+        }
+        let used = self.stretches.used();
+        self.limit = used
+            .saturating_add(used)
+            .saturating_add(self.pages.len().saturating_mul(8));
+        self.stretches.restart();
+    }
+
+    // Makes the pages of `count` words from `first`.
+    fn make_pages(&mut self, first: Addr, count: u32) -> Result<(), AllocError>
+        requires aligned { first % 4 ≡ 0 }
+        requires range { first + 4 * count ≤ 2 ^ 32 }
+        ensures harts { self.new.harts ≡ self.old.harts }
+        ensures stretches { self.new.stretches ≡ self.old.stretches }
+        ensures same { (w : ℕ) → kept_in self.new w ≡ kept_in self.old w }
+        ensures stays { (w : ℕ) → IsTrue (has_room self.old w) → IsTrue (has_room self.new w) }
+        ensures room { OnOk result (HasPages self.new first count) }
+        ensures ready { HasPages self.old first count → IsOk result }
+    {
+        if count == 0 {
+            return Ok(());
+        }
+        let last = first + 4 * (count - 1);
+        self.reach((last / PAGE_BYTES) as usize + 1)?;
+        for number in first / PAGE_BYTES..last / PAGE_BYTES + 1 {
+            self.make_page(number as usize)?;
         }
         Ok(())
     }
 
-    // Makes room for one access more of the word.
-    fn make_room_at(&mut self, word: Addr) -> Result<(), AllocError>
+    // Has at least so many pages, of which those that are new aren't made.
+    fn reach(&mut self, count: usize) -> Result<(), AllocError>
+        ensures harts { self.new.harts ≡ self.old.harts }
+        ensures stretches { self.new.stretches ≡ self.old.stretches }
+        ensures same { (n : ℕ) → slots_of (slice_get self.new.pages.items n) ≡ slots_of (slice_get self.old.pages.items n) }
+        ensures count { OnOk result (count ≤ vec_len self.new.pages) }
+        ensures ready { count ≤ vec_len self.old.pages → IsOk result }
+    {
+        let alloc = *self.pages.allocator();
+        for _ in self.pages.len()..count {
+            self.pages.push(Vec::new(alloc))?;
+        }
+        Ok(())
+    }
+
+    // Makes the page of a number.
+    fn make_page(&mut self, number: usize) -> Result<(), AllocError>
+        requires { number < vec_len self.old.pages }
+        ensures harts { self.new.harts ≡ self.old.harts }
+        ensures stretches { self.new.stretches ≡ self.old.stretches }
+        ensures count { vec_len self.new.pages ≡ vec_len self.old.pages }
         ensures same { (w : ℕ) → kept_in self.new w ≡ kept_in self.old w }
         ensures stays { (w : ℕ) → IsTrue (has_room self.old w) → IsTrue (has_room self.new w) }
-        ensures room { OnOk result (IsTrue (has_room self.new word)) }
-        ensures ready { IsTrue (has_room self.old word) → IsOk result }
+        ensures room { OnOk result ((w : ℕ) → w / 256 ≡ number → IsTrue (has_room self.new w)) }
+        ensures ready { ((w : ℕ) → w / 256 ≡ number → IsTrue (has_room self.old w)) → IsOk result }
     {
-        if !self.words.contains_key(&word) {
-            self.words.insert(word, Vec::new(self.alloc))?;
-        }
-        match self.words.get_mut(&word) {
-            Some(kept) => kept.reserve_exact(1),
-            None => Ok(()),
+        let slots = 64 * (self.harts as usize + 1);
+        make_slots(&mut self.pages[number], slots)
+    }
+
+    /// The hart's present stretch goes on, or where `learns` holds ends and another begins with these
+    /// times. What is kept stays, and so do pages.
+    pub fn go_on(&mut self, hart: HartId, learns: bool, times: &Times)
+        requires hart { hart < HARTS }
+        requires room { learns ≡ true → IsTrue (has_stretch self.old.stretches) }
+        requires same { learns ≡ false → (h : ℕ) → h ≢ hart → present_counts self.old.stretches hart h ≡ count_of times.now h }
+        ensures harts { self.new.harts ≡ self.old.harts }
+        ensures pages { self.new.pages ≡ self.old.pages }
+        ensures kept { (w : ℕ) → kept_in self.new w ≡ kept_in self.old w }
+        ensures own { (h : ℕ) → h ≢ hart → present_counts self.new.stretches hart h ≡ count_of times.now h }
+        ensures others { (g : ℕ) → g ≢ hart → (h : ℕ) → present_counts self.new.stretches g h ≡ present_counts self.old.stretches g h }
+    {
+        if learns {
+            self.stretches.begin(hart, times);
         }
     }
 
-    /// Keeps an access of `count` words from `first`, in the place of those that it puts out.
-    pub fn keep(&mut self, first: Addr, count: u32, k: &Kept)
+    /// Keeps an access of `count` words from `first` by the hart in its present stretch, in the place of
+    /// those that it puts out. `after` is the count after its point.
+    pub fn keep(&mut self, first: Addr, count: u32, hart: HartId, mode: Mode, turn: u64, after: Ic)
+        requires aligned { first % 4 ≡ 0 }
         requires range { first + 4 * count ≤ 2 ^ 32 }
-        requires room { HasRoom self.old first count }
-        ensures { KeepsAccess k.now first count (kept_in self.old) (kept_in self.new) }
+        requires hart { hart < self.old.harts }
+        requires after { 0 < after }
+        requires pages { 1 < self.old.harts → HasPages self.old first count }
+        ensures harts { self.new.harts ≡ self.old.harts }
+        ensures stretches { self.new.stretches ≡ self.old.stretches }
+        ensures many { 1 < self.old.harts → KeepsAccess (kept_now self.old.stretches mode hart turn after) first count (kept_in self.old) (kept_in self.new) }
+        ensures alone { self.old.harts ≤ 1 → (w : ℕ) → kept_in self.new w ≡ kept_in self.old w }
+    {
+        let slot = Slot {
+            turn,
+            after,
+            stretch: self.stretches.present[hart as usize],
+            hart,
+        };
+        if self.harts > 1 {
+            self.keep_each(first, count, mode, &slot);
+        }
+    }
+
+    // Keeps an access of `count` words from `first`.
+    fn keep_each(&mut self, first: Addr, count: u32, mode: Mode, slot: &Slot)
+        requires aligned { first % 4 ≡ 0 }
+        requires range { first + 4 * count ≤ 2 ^ 32 }
+        requires hart { slot.now.hart < self.old.harts }
+        requires after { 0 < slot.now.after }
+        requires settled { IsTrue (is_settled self.old.stretches.table.items self.old.stretches.next slot.now.stretch) }
+        requires pages { HasPages self.old first count }
+        ensures harts { self.new.harts ≡ self.old.harts }
+        ensures stretches { self.new.stretches ≡ self.old.stretches }
+        ensures kept { KeepsAccess (kept_of_slot self.old.stretches mode slot.now) first count (kept_in self.old) (kept_in self.new) }
     {
         for i in 0..count {
-            self.keep_at(first + 4 * i, k);
+            self.keep_at(first + 4 * i, mode, slot);
         }
     }
 
     // Keeps an access of the word.
-    fn keep_at(&mut self, word: Addr, k: &Kept)
-        requires { IsTrue (has_room self.old word) }
-        ensures kept { (w : ℕ) → kept_in self.new w ≡ (if w == word then kept_after k.now (kept_in self.old w) else kept_in self.old w) }
-        ensures room { (w : ℕ) → w ≢ word → has_room self.new w ≡ has_room self.old w }
+    fn keep_at(&mut self, word: Addr, mode: Mode, slot: &Slot)
+        requires aligned { word % 4 ≡ 0 }
+        requires hart { slot.now.hart < self.old.harts }
+        requires after { 0 < slot.now.after }
+        requires settled { IsTrue (is_settled self.old.stretches.table.items self.old.stretches.next slot.now.stretch) }
+        requires room { IsTrue (has_room self.old word) }
+        ensures harts { self.new.harts ≡ self.old.harts }
+        ensures stretches { self.new.stretches ≡ self.old.stretches }
+        ensures kept { Replaces (kept_of_slot self.old.stretches mode slot.now) (kept_in self.old word) (kept_in self.new word) }
+        ensures others { (w : ℕ) → w ≢ word → kept_in self.new w ≡ kept_in self.old w }
+        ensures room { (w : ℕ) → has_room self.new w ≡ has_room self.old w }
     {
-        match self.words.get_mut(&word) {
-            Some(kept) => keep_in(kept, k),
-            None => unreachable!(),
-        }
-    }
-}
-
-// Keeps an access beside those that stay.
-fn keep_in(kept: &mut Vec<Kept>, k: &Kept)
-    requires { vec_len kept.old < vec_capacity kept.old }
-    ensures { kept.new.items ≡ kept_after k.now kept.old.items }
-{
-    let writes = k.mode.is_write();
-    kept.retain(|x| !writes && (x.mode.is_write() || x.hart != k.hart));
-    match kept.push(*k) {
-        Ok(()) => {}
-        Err(_) => unreachable!(),
+        let at = self.place(word);
+        let harts = self.harts;
+        keep_in(
+            &mut self.pages[(word / PAGE_BYTES) as usize],
+            at,
+            harts,
+            mode,
+            slot,
+        );
     }
 }

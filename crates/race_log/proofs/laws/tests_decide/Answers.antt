@@ -1,6 +1,9 @@
-use Rattle.race_log.proofs.Agree.{conflict_is, is_conflict_at, order_is, is_order, clash_is, is_clash}
+use Rattle.race_log.proofs.Agree.{writes_is, is_writes, conflict_is, is_conflict_at, order_is, is_order, clash_is, is_clash}
 use Rattle.race_log.proofs.EdgeLaws.{before_is, is_before, edge_is, is_edge}
 use Rattle.race_log.proofs.laws.tests_decide.Goals as goal
+
+pub returns-clause-writes : goal.returns-clause-writes
+returns-clause-writes c = λ word p. (writes_is word p, is_writes word p)
 
 pub returns-clause-points : goal.returns-clause-points
 returns-clause-points c = λ p q. (conflict_is p q, is_conflict_at p q)

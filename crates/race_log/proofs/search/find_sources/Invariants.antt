@@ -1,4 +1,4 @@
-use Rattle.std.proofs.Common.{◌≡◌, ◌≤◌, ◌-◌, ◌++◌, length}
+use Rattle.std.proofs.Common.{◌≡◌, ◌≤◌, ◌-◌, ◌++◌, ℕ, length}
 use Rattle.vector_time.specs.Times.{count_of}
 use Rattle.race_log.specs.Search.{sources, counts_after, gathered}
 use Rattle.race_log.specs.Words.{kept_in}
@@ -7,6 +7,7 @@ use Rattle.race_log.proofs.search.find_sources.Given as goal
 abbrev pub invariant-loop-round : goal.invariant-loop-round
 invariant-loop-round l =
     let kept = gathered (kept_in l.words) l.first l.count in record {
+      none : length l.edges ≡ 0 → (h : ℕ) → count_of l.times h ≡ count_of l.initial.times h;
       few : length l.edges ≤ l.round;
       found : l.edges ++ sources l.hart l.writes (l.most - l.round) (count_of l.times) kept
           ≡ sources l.hart l.writes l.most (count_of l.initial.times) kept;

@@ -1,12 +1,12 @@
-use Rattle.std.proofs.Common.{◌-◌, ◌∙◌, arith, refl, sym, ap, slice_get, slice_set, Contains, ◌↔◌, subst}
+use Rattle.std.proofs.Common.{◌≡◌, ◌+◌, ◌-◌, ◌*◌, ◌/◌, ◌==◌, ℕ, length, IsTrue, ltb-true, ◌∙◌, arith, refl, sym, ap, slice_get, slice_set, Contains, ◌↔◌, subst}
 use Rattle.vector_time.specs.Times.{count_of}
 use Rattle.race_log.specs.Kept.{is_write, access_point, after}
 use Rattle.race_log.specs.Points.{Point}
 use Rattle.race_log.specs.ByCount.{IsPointAt, IsEdgeBetween}
 use Rattle.race_log.specs.Search.{gathered, sources}
-use Rattle.race_log.specs.Words.{kept_in}
-use Rattle.race_log.specs.Stands.{counts_at}
-use Rattle.race_log.proofs.AccessLemmas.{read_times, set_times, counts_set}
+use Rattle.race_log.specs.Slots.{slots_of}
+use Rattle.race_log.specs.Words.{kept_in, kept_now, present_counts, KeepsAccess, counts_at}
+use Rattle.race_log.proofs.AccessLemmas.{read_times, set_times, counts_set, times_kept, set_apart, not_less}
 use Rattle.race_log.proofs.Known.{listed_exactly}
 use Rattle.race_log.proofs.Steps.{now_in_order, found_edges, stands_after, new_times, counts_here, counts_there}
 use Rattle.race_log.proofs.shadow.Shadow.access.Goals as goal
@@ -43,13 +43,18 @@ returns-clause-stands c = λ run live lives stands.
     let known = read_times c.args.self.now c.args.hart c.index.result.now c.requires.hart c.index.ensures in
     let set = set_times c.args.self.now c.args.hart c.args.ic c.args.first c.args.count c.args.mode c.index.result.now c.set.new.self known
     c.find_sources-edges.new.times c.is_write.result c.is_write.ensures c.find_sources-edges.ensures.counts c.set.ensures in
+    let kept : kept_in c.go_on.new.self ≡ kept_in c.args.self.now.words = λ i w. c.go_on.ensures.kept w i in
+    let k = kept_now c.go_on.new.self.stretches c.args.mode c.args.hart c.args.turn (c.args.ic + 1) in
     stands_after run c.args.hart c.args.ic c.args.turn c.args.first c.args.count c.args.mode live c.args.self.now stands
-    c.requires.hart c.requires.counts c.requires.turns lives (count_of c.set.new.self) set _
-    (record { turn = c.args.turn; hart = c.args.hart; ic = c.args.ic; mode = c.args.mode; times = c.set.new.self; in_range = _ })
+    c.requires.hart c.requires.counts c.requires.turns lives (count_of c.set.new.self) set _ k
     refl refl
     (λ h. counts_here c.args.self.now.times.items c.args.hart c.set.new.self (omega (arith, c.requires.hart, c.args.self.now.each_hart, c.args.self.now.times.ok)) h)
     (λ other apart h. counts_there c.args.self.now.times.items c.args.hart other c.set.new.self apart h)
-    refl refl refl refl (λ h. refl) c.keep.ensures
+    refl refl (omega arith) refl
+    (times_kept c.args.hart (c.args.ic + 1) (present_counts c.go_on.new.self.stretches c.args.hart) (count_of c.find_sources-edges.new.times) (count_of c.set.new.self) c.set.ensures c.go_on.ensures.own)
+    (λ more. subst (λ f. KeepsAccess k c.args.first c.args.count f (kept_in c.keep.new.self)) kept
+    (c.keep.ensures.many (omega (arith, more, c.args.self.now.same_harts, c.go_on.ensures.harts))))
+    (λ one w. c.keep.ensures.alone (omega (arith, one, c.args.self.now.same_harts, c.go_on.ensures.harts)) w ∙ c.go_on.ensures.kept w)
 
 pub returns-clause-others : goal.returns-clause-others
 returns-clause-others c = λ other apart h.
@@ -59,5 +64,22 @@ pub returns-clause-counts : goal.returns-clause-counts
 returns-clause-counts c = λ h.
     counts_set c.args.self.now c.args.hart c.args.ic c.set.new.self c.requires.hart _ (c.set.ensures c.args.hart) h
 
-pub keep-requires-clause-room : goal.keep-requires-clause-room
-keep-requires-clause-room c = c.args.self.now.room (c.args.first, c.args.count) c.requires.reserved
+pub go_on-requires-clause-room : goal.go_on-requires-clause-room
+go_on-requires-clause-room c = λ learns.
+    let some = ltb-true 0 c.count.result learns in
+    (c.args.self.now.room (c.args.first, c.args.count) c.requires.reserved).stretch
+    (omega (arith, some, c.count.ensures, c.find_sources-edges.ensures.few, c.args.self.now.same_harts))
+
+pub go_on-requires-clause-same : goal.go_on-requires-clause-same
+go_on-requires-clause-same c = λ none h apart.
+    let known = read_times c.args.self.now c.args.hart c.index.result.now c.requires.hart c.index.ensures in
+    let empty = sym c.count.ensures ∙ not_less c.count.result none in
+    c.args.self.now.present c.args.hart h c.requires.hart apart
+    ∙ (ap (λ (f : ℕ → ℕ). f h) known ∙ (sym (c.find_sources-edges.ensures.none empty h)
+    ∙ sym (set_apart c.args.hart (c.args.ic + 1) (count_of c.find_sources-edges.new.times) (count_of c.set.new.self) c.set.ensures h apart)))
+
+pub keep-requires-clause-pages : goal.keep-requires-clause-pages
+keep-requires-clause-pages c = λ more i low.
+    let was = (c.args.self.now.room (c.args.first, c.args.count) c.requires.reserved).pages (omega (arith, more, c.go_on.ensures.harts)) in
+    subst (λ p. IsTrue (length (slots_of (slice_get p.items ((c.args.first + 4 * i) / 256))) == 64 * (c.go_on.new.self.harts + 1))) (sym c.go_on.ensures.pages)
+    (subst (λ n. IsTrue (length (slots_of (slice_get c.args.self.now.words.pages.items ((c.args.first + 4 * i) / 256))) == 64 * (n + 1))) (sym c.go_on.ensures.harts) (was i low))

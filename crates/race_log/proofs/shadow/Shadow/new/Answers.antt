@@ -1,4 +1,5 @@
-use Rattle.std.proofs.Common.{arith, subst, sym}
+use Rattle.std.proofs.Common.{◌≡◌, ◌∙◌, ℕ, Option, Some, None, arith, subst, sym}
+use Rattle.race_log.specs.Words.{stretch_of}
 use Rattle.race_log.proofs.NewLemmas.{AllZero, zero_none, zero_more, zero_at, stands_none}
 use Rattle.race_log.proofs.shadow.Shadow.new.Goals as goal
 
@@ -17,5 +18,18 @@ loop-preserved c = record {
 pub returns-clause-counts : goal.returns-clause-counts
 returns-clause-counts c = λ h. zero_at c.loop.times.items h h c.loop.invariant.zeros
 
+pub invariant_of-result : goal.invariant_of-result
+invariant_of-result c = record {
+  same_harts = c.in_ok-new.ensures.harts;
+  some_hart = omega (arith, c.harts-harts.ensures.low);
+  few_harts = omega (arith, c.harts-harts.ensures.room);
+  each_hart = omega (arith, c.loop.invariant.size, c.loop-test.false, c.loop.auto.counter-end);
+  present = λ g h low apart. c.in_ok-new.ensures.counts (stretch_of c.in_ok-new.field-0.stretches g) h ∙ sym (zero_at c.loop.times.items g h c.loop.invariant.zeros);
+  room = λ r is. absurd (none is);
+}
+  where
+    none : {r : ℕ × ℕ} → ◌≡◌ {A = Option (ℕ × ℕ)} None (Some r) → ⊥
+    none e = cc
+
 pub returns-clause-stands : goal.returns-clause-stands
-returns-clause-stands c = stands_none _ (λ h g. zero_at c.loop.times.items h g c.loop.invariant.zeros) c.new-2.ensures
+returns-clause-stands c = stands_none _ (λ h g. zero_at c.loop.times.items h g c.loop.invariant.zeros) c.in_ok-new.ensures.none

@@ -1,0 +1,80 @@
+use Rattle.std.proofs.Common.{◌≡◌, ◌∙◌, ◌<◌, ◌+◌, ◌*◌, ◌/◌, ◌%◌, ◌==◌, cond, [], arith, sym, ap, subst, slice_get, slice_set, length, IsTrue, inl, inr}
+use Rattle.std.proofs.lemmas.Bool.{cases_eq, cases_lt}
+use Rattle.race_log.specs.Slots.{word_in, slots_of, is_settled, IsSettledPage}
+use Rattle.race_log.specs.Words.{place_of, stretch_counts}
+use Rattle.race_log.proofs.PagesLemmas.{page_at, page_here, page_there, full_set, settled_page_set, remade, room_is, is_room}
+use Rattle.race_log.proofs.words.KeptWords.make_page.Goals as goal
+
+pub invariant_of-self : goal.invariant_of-self
+invariant_of-self c =
+    let pages = c.args.self.now.pages.items in
+    let low : c.args.number < length pages = omega (arith, c.requires, c.args.self.now.pages.ok) in
+    let was = page_at pages c.args.number c.index_mut.result.now low c.index_mut.ensures.value in
+    let p = c.index_mut.result.now in
+    let v = c.make_slots.new.page in
+    record {
+      few = c.args.self.now.few;
+      full = full_set c.args.self.now.harts pages c.args.number v low
+          (λ more. elim (cases_lt 0 (length p.items)) [
+            | inl some ↦
+                let same = c.make_slots.ensures.stays (omega (arith, some, p.ok)) in
+                ap length same ∙ subst (λ xs. 0 < length xs → length xs ≡ 64 * (c.args.self.now.harts + 1)) was (c.args.self.now.full c.args.number) some
+            | inr none ↦ c.make_slots.ensures.full (omega (arith, none, p.ok)) more
+          ]) c.args.self.now.full;
+      settled = settled_page_set c.args.self.now.stretches.table.items c.args.self.now.stretches.next pages c.args.number v low
+          (elim (cases_lt 0 (length p.items)) [
+            | inl some ↦
+                let same = c.make_slots.ensures.stays (omega (arith, some, p.ok)) in
+                subst (IsSettledPage c.args.self.now.stretches.table.items c.args.self.now.stretches.next) (was ∙ sym same) (c.args.self.now.settled c.args.number)
+            | inr none ↦ λ at s e.
+                subst (λ i. IsTrue (is_settled c.args.self.now.stretches.table.items c.args.self.now.stretches.next i)) (sym (c.make_slots.ensures.none (omega (arith, none, p.ok)) at s e).1) c.args.self.now.stretches.first
+          ]) c.args.self.now.settled;
+    }
+
+pub returns-clause-same : goal.returns-clause-same
+returns-clause-same c = λ w.
+    let pages = c.args.self.now.pages.items in
+    let low : c.args.number < length pages = omega (arith, c.requires, c.args.self.now.pages.ok) in
+    let was = page_at pages c.args.number c.index_mut.result.now low c.index_mut.ensures.value in
+    let p = c.index_mut.result.now in
+    let v = c.make_slots.new.page in
+    let counts = stretch_counts c.args.self.now.stretches in
+    let harts = c.args.self.now.harts in
+    ap (λ ks. cond (w % 4 == 0) ks []) (elim (cases_eq (w / 256) c.args.number) [
+      | inl e ↦
+          let here = ap (λ n. slots_of (slice_get (slice_set pages c.args.number v) n)) e ∙ page_here pages c.args.number v low in
+          let there = ap (λ n. slots_of (slice_get pages n)) e ∙ was in
+          ap (λ xs. word_in counts harts xs (place_of harts w)) here
+          ∙ (remade counts harts p.items v.items (place_of harts w) (λ some. c.make_slots.ensures.stays (omega (arith, some, p.ok)))
+          (λ none j s at. (c.make_slots.ensures.none (omega (arith, none, p.ok)) j s at).0)
+          ∙ sym (ap (λ xs. word_in counts harts xs (place_of harts w)) there))
+      | inr apart ↦ ap (λ xs. word_in counts harts xs (place_of harts w)) (page_there pages c.args.number (w / 256) v apart)
+    ])
+
+pub returns-clause-stays : goal.returns-clause-stays
+returns-clause-stays c = λ w room.
+    let pages = c.args.self.now.pages.items in
+    let low : c.args.number < length pages = omega (arith, c.requires, c.args.self.now.pages.ok) in
+    let was = page_at pages c.args.number c.index_mut.result.now low c.index_mut.ensures.value in
+    let p = c.index_mut.result.now in
+    let v = c.make_slots.new.page in
+    elim (cases_eq (w / 256) c.args.number) [
+      | inl e ↦
+          let here = ap (λ n. slots_of (slice_get (slice_set pages c.args.number v) n)) e ∙ page_here pages c.args.number v low in
+          let there = ap (λ n. slots_of (slice_get pages n)) e ∙ was in
+          let size = sym (ap length there) ∙ room_is (slots_of (slice_get pages (w / 256))) c.args.self.now.harts room in
+          let same = c.make_slots.ensures.stays (omega (arith, size, p.ok)) in
+          is_room (slots_of (slice_get (slice_set pages c.args.number v) (w / 256))) c.args.self.now.harts (ap length here ∙ (ap length same ∙ size))
+      | inr apart ↦ is_room (slots_of (slice_get (slice_set pages c.args.number v) (w / 256))) c.args.self.now.harts (ap length (page_there pages c.args.number (w / 256) v apart) ∙ room_is (slots_of (slice_get pages (w / 256))) c.args.self.now.harts room)
+    ]
+
+pub returns-clause-ready : goal.returns-clause-ready
+returns-clause-ready c = λ all.
+    let pages = c.args.self.now.pages.items in
+    let low : c.args.number < length pages = omega (arith, c.requires, c.args.self.now.pages.ok) in
+    let was = page_at pages c.args.number c.index_mut.result.now low c.index_mut.ensures.value in
+    let p = c.index_mut.result.now in
+    let is : 256 * c.args.number / 256 ≡ c.args.number = omega arith in
+    let size = room_is (slots_of (slice_get pages (256 * c.args.number / 256))) c.args.self.now.harts (all (256 * c.args.number) is) in
+    let here = sym (ap length was) ∙ (sym (ap (λ n. length (slots_of (slice_get pages n))) is) ∙ size) in
+    c.make_slots.ensures.ready (omega (arith, here, p.ok))

@@ -1,0 +1,20 @@
+use Rattle.std.proofs.Common.{◌∙◌, arith}
+use Rattle.race_log.proofs.PagesLemmas.{push_or_same, full_same, settled_same}
+use Rattle.race_log.proofs.words.KeptWords.reach.Goals as goal
+
+pub invariant_of-self : goal.invariant_of-self
+invariant_of-self c =
+    let same = push_or_same _ c.loop.self.pages.items c.push.new.self.items c.new.result c.new.ensures.items c.push.ensures.items in
+    record {
+      few = c.loop.self.few;
+      full = full_same c.loop.self.harts c.loop.self.pages.items c.push.new.self.items same c.loop.self.full;
+      settled = settled_same c.loop.self.stretches.table.items c.loop.self.stretches.next c.loop.self.pages.items c.push.new.self.items same c.loop.self.settled;
+    }
+
+pub loop-preserved : goal.loop-preserved
+loop-preserved c = record {
+  harts = c.loop.invariant.harts;
+  stretches = c.loop.invariant.stretches;
+  same = λ n. push_or_same _ c.loop.self.pages.items c.push.new.self.items c.new.result c.new.ensures.items c.push.ensures.items n ∙ c.loop.invariant.same n;
+  count = omega (arith, c.in_ok-push.ensures.len, c.loop.invariant.count);
+}

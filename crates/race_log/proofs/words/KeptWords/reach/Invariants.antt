@@ -1,0 +1,11 @@
+use Rattle.std.proofs.Common.{◌≡◌, ℕ, slice_get, vec_len}
+use Rattle.race_log.specs.Slots.{slots_of}
+use Rattle.race_log.proofs.words.KeptWords.reach.Given as goal
+
+abbrev pub invariant-loop : goal.invariant-loop
+invariant-loop l = record {
+  harts : l.self.harts ≡ l.initial.self.harts;
+  stretches : l.self.stretches ≡ l.initial.self.stretches;
+  same : (n : ℕ) → slots_of (slice_get l.self.pages.items n) ≡ slots_of (slice_get l.initial.self.pages.items n);
+  count : vec_len l.self.pages ≡ l.counter;
+}
