@@ -24,11 +24,12 @@ pub record SinkState : Type 0 where
   pub calls : Calls
   pub faults : ℕ
 
--- a store: the names in order, each with its bytes, its calls and its counts
+-- a store: the names in order, each with its bytes, its calls and its counts, and how many saves it was asked for
 pub record StoreState : Type 0 where
   pub entries : List (List ℕ × List ℕ)
   pub calls : Calls
   pub counts : Counts
+  pub saves : ℕ
 
 -- a source of these bytes before its first call
 abbrev pub source_over : List ℕ → ℕ → List ℕ → SourceState
@@ -40,7 +41,7 @@ empty_sink most failing = record { written = []; most = most; calls = fresh_call
 
 -- a store with no file before its first call
 abbrev pub empty_store : List ℕ → StoreState
-empty_store failing = record { entries = []; calls = fresh_calls failing; counts = zero_counts }
+empty_store failing = record { entries = []; calls = fresh_calls failing; counts = zero_counts; saves = 0 }
 
 -- the names and bytes that a map keeps
 abbrev pub entries_of : {A B : Type 0} → List (String A × Vec ℕ B) → List (List ℕ × List ℕ)

@@ -1,5 +1,5 @@
 // The loops over a sink and a source. Each turn takes at least one byte.
-ghost use Rattle.std.specs.Prelude.{◌≡◌, ◌≤◌, ◌<◌, ℕ, List, IfOk, IfSome, OnOk, OnErr, Err, vec_len, length};
+ghost use Rattle.std.specs.Prelude.{◌≡◌, ◌≤◌, ◌<◌, ◌+◌, ◌++◌, ℕ, List, IfOk, IfSome, OnOk, OnErr, Err, vec_len, length};
 ghost use Rattle.std.specs.Io.KnownBytes.{Appends};
 ghost use Rattle.bn_outside.specs.Counts.{Rose};
 ghost use Rattle.bn_outside.specs.Streams.{AppendsPart, AppendsShort, ConsumesAll, ConsumesPart};
@@ -40,7 +40,7 @@ impl From<AllocError> for ReadError {
 }
 
 // How many bytes one read asks for.
-const PIECE: usize = 4096;
+const PIECE: usize = 65_536;
 
 /// Writes all of a text.
 ///
@@ -60,7 +60,21 @@ pub fn send_all<K: Sink>(sink: &mut K, text: &[u8]) -> Result<(), Failed>
     Ok(())
 }
 
+// Puts a piece behind what was read, for all of which room is made with the first piece.
+fn gather(bytes: &mut Vec<u8>, piece: &[u8], expected: usize) -> Result<(), AllocError>
+    ensures items { OnOk result (bytes.new.items ≡ bytes.old.items ++ piece.now) }
+    ensures len { OnOk result (vec_len bytes.new ≡ vec_len bytes.old + length piece.now) }
+{
+    if bytes.is_empty() {
+        bytes.reserve_exact(expected)?;
+    }
+    bytes.extend_from_slice(piece)
+}
+
 /// Reads all bytes that a source has left, where they are at most `limit`.
+///
+/// So many bytes are expected: room for them, or for `limit` where that is less, is made once, when
+/// the first bytes have come. It grows where more come.
 ///
 /// It stops once more than `limit` bytes have come. `Failed` comes only where a read failed, and
 /// memory is wanting only where some bytes were left and some may come. After a refusal some of the
@@ -68,6 +82,7 @@ pub fn send_all<K: Sink>(sink: &mut K, text: &[u8]) -> Result<(), Failed>
 pub fn read_to_end<I: Source>(
     alloc: Global,
     source: &mut I,
+    expected: usize,
     limit: usize,
 ) -> Result<Vec<u8>, ReadError>
     ensures bound { IfOk result (λ bytes. vec_len bytes ≤ limit) }
@@ -92,6 +107,6 @@ pub fn read_to_end<I: Source>(
         if count > limit - bytes.len() {
             return Err(ReadError::TooLong);
         }
-        bytes.extend_from_slice(&piece[..count])?;
+        gather(&mut bytes, &piece[..count], expected.min(limit))?;
     }
 }

@@ -1,6 +1,6 @@
 // A store in memory.
 ghost use Rattle.std.specs.Prelude.{◌≡◌, ◌≤◌, ◌↔◌, Some, Err, IfOk, OnOk, OnErr, option_map, vec_len};
-ghost use Rattle.bn_outside.specs.Counts.{NoneFell, LoadCause, SaveCause};
+ghost use Rattle.bn_outside.specs.Counts.{NoneFell, LoadCause, SaveCause, counted};
 ghost use Rattle.bn_outside.specs.Calls.{NextFails, after_call};
 ghost use Rattle.bn_outside.specs.Files.{LoadTells, SameElsewhere};
 ghost use Rattle.bn_outside.specs.InMemory.{empty_store, files_in, counts_after_load, counts_after_save};
@@ -21,6 +21,7 @@ pub struct MemoryStore {
     misses: u64,
     longs: u64,
     faults: u64,
+    saves: u64,
 }
 
 impl Model for MemoryStore {
@@ -32,6 +33,7 @@ impl Model for MemoryStore {
       entries = entries_of s.files.entries;
       calls = s.calls;
       counts = record { misses = s.misses; longs = s.longs; faults = s.faults };
+      saves = s.saves;
     } };
 }
 
@@ -47,6 +49,7 @@ impl MemoryStore {
             misses: 0,
             longs: 0,
             faults: 0,
+            saves: 0,
         }
     }
 
@@ -81,10 +84,13 @@ impl Store for MemoryStore {
 
     ghost counts = { λ s. s.counts };
 
+    ghost saves = { λ s. s.saves };
+
     fn load(&mut self, alloc: Global, name: &str, limit: usize) -> Result<Vec<u8>, LoadError>
         ensures bound { IfOk result (λ bytes. vec_len bytes ≤ limit) }
         ensures told { LoadTells (files_in self.old.entries name.now) limit result }
         ensures unchanged { Some (files_in self.new.entries) ≡ Some (files_in self.old.entries) }
+        ensures asked { self.new.saves ≡ self.old.saves }
         ensures later { NoneFell self.old.counts self.new.counts }
         ensures cause { LoadCause self.old.counts self.new.counts result }
 
@@ -114,6 +120,7 @@ impl Store for MemoryStore {
         ensures saved { OnOk result (files_in self.new.entries name.now ≡ Some bytes.now) }
         ensures others { SameElsewhere name.now
             (files_in self.old.entries) (files_in self.new.entries) }
+        ensures asked { self.new.saves ≡ counted self.old.saves }
         ensures later { NoneFell self.old.counts self.new.counts }
         ensures cause { SaveCause self.old.counts self.new.counts result }
 
@@ -124,8 +131,10 @@ impl Store for MemoryStore {
           entries = self.new.entries;
           calls = after_call self.old.calls;
           counts = counts_after_save result self.old.counts;
+          saves = counted self.old.saves;
         } }
     {
+        self.saves = self.saves.saturating_add(1);
         if self.calls.next_fails() {
             self.faults = self.faults.saturating_add(1);
             return Err(SaveError::Failed);

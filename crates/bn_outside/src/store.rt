@@ -1,6 +1,6 @@
 // A store of named files.
 ghost use Rattle.std.specs.Prelude.{◌≡◌, ◌≤◌, ℕ, Option, IfOk, IfSome, OnOk, Some, vec_len};
-ghost use Rattle.bn_outside.specs.Counts.{Counts, NoneFell, LoadCause, SaveCause};
+ghost use Rattle.bn_outside.specs.Counts.{Counts, counted, NoneFell, LoadCause, SaveCause};
 ghost use Rattle.bn_outside.specs.Files.{Files, LoadTells, SameElsewhere, WhereTold};
 ghost use Rattle.bn_outside.specs.declared.store.LoadError.TheVariants as load;
 ghost use Rattle.bn_outside.specs.declared.store.SaveError.TheVariants as save;
@@ -60,6 +60,9 @@ pub trait Store {
     /// How often a name was missing, had too many bytes, and a call failed.
     ghost counts: { Self → Counts };
 
+    /// How many saves it was asked for.
+    ghost saves: { Self → ℕ };
+
     /// The bytes under `name`, where they are at most `limit`.
     ///
     /// Whatever the answer, the files are as before. Where the store tells its files, `Missing` and
@@ -69,17 +72,20 @@ pub trait Store {
         ensures bound { IfOk result (λ bytes. vec_len bytes ≤ limit) }
         ensures told { IfSome (files self.old) (λ known. LoadTells (known name.now) limit result) }
         ensures unchanged { files self.new ≡ files self.old }
+        ensures asked { saves self.new ≡ saves self.old }
         ensures later { NoneFell (counts self.old) (counts self.new) }
         ensures cause { LoadCause (counts self.old) (counts self.new) result };
 
     /// Gives `name` these bytes, in place of what it had.
     ///
     /// After a refusal nothing is known of what the name has. All other names have what they had,
-    /// whatever the answer. `Failed` comes only in a call that counted it.
+    /// whatever the answer. `Failed` comes only in a call that counted it. Each call is a save that the
+    /// store was asked for.
     fn save(&mut self, name: &str, bytes: &[u8]) -> Result<(), SaveError>
         ensures saved { OnOk result (WhereTold (files self.old) (files self.new)
             (λ _ new. new name.now ≡ Some bytes.now)) }
         ensures others { WhereTold (files self.old) (files self.new) (SameElsewhere name.now) }
+        ensures asked { saves self.new ≡ counted (saves self.old) }
         ensures later { NoneFell (counts self.old) (counts self.new) }
         ensures cause { SaveCause (counts self.old) (counts self.new) result };
 }

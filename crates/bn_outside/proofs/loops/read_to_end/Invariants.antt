@@ -5,7 +5,7 @@ use Rattle.bn_outside.proofs.loops.read_to_end.Given as goal
 abbrev pub invariant-pieces : goal.invariant-pieces
 invariant-pieces g l = record {
   within : vec_len l.bytes ≤ l.limit;
-  room : length l.piece ≡ 4096;
+  room : length l.piece ≡ 65536;
   gone : Consumes (g.I.Source.left l.fn.source) (g.I.Source.left l.source) l.bytes.items;
   later : g.I.Source.faults l.fn.source ≤ g.I.Source.faults l.source;
 }
