@@ -15,7 +15,7 @@ use Rattle.le_numbers.specs.Laws.{HaveTheirWidth, AreRead}
 use Rattle.log_record.specs.declared.head.Head.{Head}
 use Rattle.log_record.specs.declared.record.Record.{Record}
 use Rattle.log_record.specs.declared.record.Record.TheVariants.{Header, FirstLoad, ScOk, ScFailed, Edge, End}
-use Rattle.log_record.specs.Spelling.{bytes_of, Fits}
+use Rattle.log_record.specs.Spelling.{bytes_of, Fits, total}
 use Rattle.log_record.specs.Laws.{BeginNoOther}
 use Rattle.log_order.specs.declared.walk.OrderBreak.{OrderBreak}
 use Rattle.log_order.specs.Order.{order_break, broken_by}
@@ -25,7 +25,7 @@ use Rattle.log_file.specs.declared.error.FileError.TheVariants.{Short, BadMagic,
 use Rattle.log_file.specs.Layout.{magic, signed_bytes, file_bytes, settings_in, head_in, dropped_in, size_in}
 use Rattle.log_file.specs.Faults.{head_fault, signed_of, file_fault}
 use Rattle.log_file.specs.File.{IsRecordsFault, IsRefusal}
-use Rattle.log_file.specs.Laws.{SayOneThing, AreNotRefused}
+use Rattle.log_file.specs.Laws.{SayOneThing, AreNotRefused, HaveTheirSize}
 use Rattle.log_file.proofs.Rows.{ArePrefixFree, no_stop, one_row}
 use Rattle.log_file.proofs.Heads.{spelled, signed_is_spelled}
 
@@ -243,12 +243,12 @@ digest_again c =
     let n : length (s ++ sha256 s) - 32 ≡ length s = omega (arith, length-append s (sha256 s), length-sha256 s) in
     ap (λ (k : ℕ). drop k (s ++ sha256 s)) n ∙ drop_at s (sha256 s) (length s) refl
 
--- the head of a file has 92 bytes
-long_signed : HaveTheirWidth → (c : Content) → IsContent c → 92 ≤ length (signed_for c)
-long_signed long c is = omega (arith, ap length (signed_is_spelled c.head c.dropped (flat_map bytes_of c.records)), length-spelled long c.head c.dropped (length (flat_map bytes_of c.records)) (flat_map bytes_of c.records), is.digest)
+-- the head of a file has 92 bytes, and the last digest 32
+signed_size : HaveTheirWidth → (c : Content) → IsContent c → length (signed_for c) ≡ total c.records + 92
+signed_size long c is = omega (arith, ap length (signed_is_spelled c.head c.dropped (flat_map bytes_of c.records)), length-spelled long c.head c.dropped (length (flat_map bytes_of c.records)) (flat_map bytes_of c.records), is.digest)
 
-long_file : HaveTheirWidth → (c : Content) → IsContent c → 124 ≤ length (file_bytes c)
-long_file long c is = omega (arith, length-append (signed_for c) (sha256 (signed_for c)), length-sha256 (signed_for c), long_signed long c is)
+pub file_size : HaveTheirWidth → HaveTheirSize
+file_size long c is = omega (arith, length-append (signed_for c) (sha256 (signed_for c)), length-sha256 (signed_for c), signed_size long c is)
 
 pub no_file_fault : (bytes : List ℕ) → 124 ≤ length bytes → head_fault (signed_of bytes) (drop (length bytes - 32) bytes) ≡ None → file_fault bytes ≡ None
 no_file_fault bytes le h = rw (le-ltb _ _ le) h
@@ -265,7 +265,7 @@ pub refused_again : HaveTheirWidth → AreRead → BeginNoOther → (c : Content
 refused_again long read alone c is e x =
     let a = content_again read c is in
     let fault : head_fault (signed_of (file_bytes c)) (drop (length (file_bytes c) - 32) (file_bytes c)) ≡ None = rw (signed_again c, digest_again c) (no_fault_again read c is) in
-    let enough : 124 ≤ length (file_bytes c) = long_file long c is in
+    let enough : 124 ≤ length (file_bytes c) = omega (arith, file_size long c is) in
     elim x [
       | inl one ↦ absurd (no_error e (sym (no_file_fault (file_bytes c) enough fault) ∙ one))
       | inr two ↦ records_fault_again alone c is e (at_content c e a (subst (λ (t : List ℕ). IsRecordsFault (head_in t) (dropped_in t) (drop 92 t) e) (signed_again c) two.1))

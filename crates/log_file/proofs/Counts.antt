@@ -21,10 +21,10 @@ some n = Some n
 abbrev none : Option ℕ
 none = None
 
-same_some : (a b : ℕ) → some a ≡ some b → a ≡ b
+pub same_some : (a b : ℕ) → some a ≡ some b → a ≡ b
 same_some a b e = cc
 
-no_some : {P : Type 0} (a : ℕ) → none ≡ some a → P
+pub no_some : {P : Type 0} (a : ℕ) → none ≡ some a → P
 no_some a e = absurd cc
 
 none_left : (left : List Record) → AllByRecursion (Fits 1) left → flat_map bytes_of left ≡ [] → length left ≡ 0

@@ -138,7 +138,7 @@ setting-named : (o : Option BadSetting) (e : FileError) (later : Option FileErro
 setting-named None e later rest h = rest h
 setting-named (Some bad) e later rest h = λ is. grind (arith, same-fault (BadHead bad.field bad.value) e h ∙ is)
 
-head-named : (signed kept : List ℕ) (e : FileError) → head_fault signed kept ≡ Some e → e ≢ OutOfMemory
+pub head-named : (signed kept : List ℕ) (e : FileError) → head_fault signed kept ≡ Some e → e ≢ OutOfMemory
 unfolding head_fault
 head-named signed kept e h =
     chosen (not (bytes_eq (take 8 signed) magic)) BadMagic e _ (λ x. grind (arith, x))

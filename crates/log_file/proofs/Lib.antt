@@ -4,3 +4,5 @@ pub mod Again
 pub mod Refusals
 pub mod Counts
 pub mod Decided
+pub mod Walks
+pub mod Counted

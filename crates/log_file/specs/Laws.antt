@@ -1,5 +1,6 @@
 -- Laws of files and logs, by their names.
-use Rattle.std.specs.Prelude.{◌≡◌}
+use Rattle.std.specs.Prelude.{◌≡◌, ◌+◌, length}
+use Rattle.log_record.specs.Spelling.{total}
 use Rattle.log_order.specs.Content.{Content, IsContent}
 use Rattle.log_file.specs.declared.error.FileError.{FileError}
 use Rattle.log_file.specs.declared.error.FileError.TheVariants.{OutOfMemory}
@@ -13,3 +14,7 @@ SayOneThing = (c d : Content) → IsContent c → IsContent d → file_bytes c �
 -- bytes that are a log's have no cause for a refusal
 abbrev pub AreNotRefused : Type 0
 AreNotRefused = (c : Content) → IsContent c → (e : FileError) → IsRefusal (file_bytes c) e → e ≡ OutOfMemory
+
+-- a file has 124 bytes beside those of its records: the head of 92, and the digest of 32 at its end
+abbrev pub HaveTheirSize : Type 0
+HaveTheirSize = (c : Content) → IsContent c → length (file_bytes c) ≡ total c.records + 124

@@ -22,6 +22,14 @@ pub const HEAD_SIZE: usize = 92;
 /// How many bytes a digest has.
 pub const DIGEST_SIZE: usize = 32;
 
+/// The bytes from a place on.
+pub(crate) fn tail(bytes: &[u8], at: usize) -> &[u8]
+    requires { at ≤ length bytes.now }
+    ensures { result.now ≡ drop at bytes.now }
+{
+    &bytes[at..]
+}
+
 fn settings_in(bytes: &[u8]) -> RawSettings
     requires { 92 ≤ length bytes.now }
     ensures { result ≡ settings_in bytes.now }

@@ -3,7 +3,7 @@ ghost use Rattle.std.specs.Prelude.{◌≡◌, ◌≢◌, List, ℕ};
 ghost use Rattle.log_file.specs.declared.error.FileError.{FileError};
 ghost use Rattle.log_file.specs.declared.error.FileError.TheVariants.{OutOfMemory};
 ghost use Rattle.log_file.specs.File.{IsRefusal};
-ghost use Rattle.log_file.specs.Laws.{SayOneThing, AreNotRefused};
+ghost use Rattle.log_file.specs.Laws.{SayOneThing, AreNotRefused, HaveTheirSize};
 
 use le_numbers::laws::{numbers_have_their_width, written_numbers_are_read};
 use log_record::laws::no_record_begins_another;
@@ -30,4 +30,11 @@ pub fn refusals_are_unique()
     ensures { (bytes : List ℕ) (e f : FileError) → IsRefusal bytes e → IsRefusal bytes f → e ≢ OutOfMemory → f ≢ OutOfMemory → e ≡ f }
 {
     no_record_begins_another();
+}
+
+/// The file of a log has 124 bytes more than the records that the log keeps.
+pub fn files_have_their_size()
+    ensures { HaveTheirSize }
+{
+    numbers_have_their_width();
 }

@@ -1,6 +1,7 @@
 // The log file, version 1: written, read back, and each damage named.
 #![tactic(auto)]
 
+pub mod counting;
 pub mod error;
 pub mod head;
 pub mod laws;
@@ -9,6 +10,7 @@ pub mod readings;
 pub mod splitting;
 pub mod writing;
 
+pub use counting::{LogCounts, count_file};
 pub use error::FileError;
 pub use reading::read_file;
 pub use writing::write_file;

@@ -7,7 +7,7 @@ ghost use Rattle.log_file.specs.Faults.{head_fault};
 ghost use Rattle.log_file.specs.File.{HasFields, IsRecordsFault, IsRefusal};
 
 use crate::error::FileError;
-use crate::head::{DIGEST_SIZE, HEAD_SIZE, checked_settings, digest_in};
+use crate::head::{DIGEST_SIZE, HEAD_SIZE, checked_settings, digest_in, tail};
 use crate::laws::{files_say_one_thing, logs_are_not_refused};
 use crate::splitting::split;
 use bn_base::Settings;
@@ -16,13 +16,6 @@ use le_numbers::read_u64;
 use log_order::KeptLog;
 use log_record::Head;
 use std::alloc::Global;
-
-fn tail(bytes: &[u8], at: usize) -> &[u8]
-    requires { at ≤ length bytes.now }
-    ensures { result.now ≡ drop at bytes.now }
-{
-    &bytes[at..]
-}
 
 // What a file says whose head has no fault and these settings.
 fn content_in(alloc: Global, signed: &[u8], settings: Settings) -> Result<KeptLog, FileError>

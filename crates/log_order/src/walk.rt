@@ -40,8 +40,9 @@ fn has_source(harts: usize, entry: &Record) -> bool
     }
 }
 
+/// Takes one more record into the views of all harts. The error is the lowest rule that it breaks.
 #[tactic(auto, unfolding(crate::specs::Order::step))]
-fn step(terms: &Terms, harts: &mut [HartView], entry: &Record) -> Result<(), u8>
+pub fn step(terms: &Terms, harts: &mut [HartView], entry: &Record) -> Result<(), u8>
     ensures { Steps result harts.new (step terms.now harts.old entry.now) }
 {
     let hart = entry.hart() as usize;
@@ -75,13 +76,17 @@ fn after_all(terms: &Terms, harts: &mut [HartView], records: &[Record]) -> Resul
     Ok(())
 }
 
-fn any_unfinished(all: bool, harts: &[HartView]) -> bool
+/// Tells whether a hart has to be done by the last record and isn't, where all records are kept or
+/// some were dropped.
+pub fn any_unfinished(all: bool, harts: &[HartView]) -> bool
     ensures { result ≡ list_any (is_unfinished all) harts.now }
 {
     harts.iter().any(|view| view.is_unfinished(all))
 }
 
-fn is_late(harts: &[HartView], entry: &Record) -> bool
+/// Tells whether a record is an Edge from an instruction that its source, whose last view is among
+/// these, hasn't done by its last End.
+pub fn is_late(harts: &[HartView], entry: &Record) -> bool
     ensures { result ≡ is_late harts.now entry.now }
 {
     match entry {

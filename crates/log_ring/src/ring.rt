@@ -123,7 +123,17 @@ impl Ring {
         self.bytes.is_empty()
     }
 
-    /// The bytes of its records, the oldest first.
+    /// The bytes of its records, the oldest first: those before a cut, and those behind it.
+    pub fn pieces(&self) -> (&[u8], &[u8])
+        ensures bytes { result.0.now ++ result.1.now ≡ flat_map bytes_of self.now.records }
+        ensures fit { AllByRecursion (Fits 2) self.now.records }
+        ensures bound { total self.now.records ≤ self.now.size }
+    {
+        let _within = self.bytes.len();
+        self.bytes.as_slices()
+    }
+
+    /// A copy of the bytes of its records, the oldest first.
     pub fn copy(&self, alloc: Global) -> Result<Vec<u8>, AllocError>
         ensures bytes { IfOk result (λ v. v.items ≡ flat_map bytes_of self.now.records) }
         ensures fit { AllByRecursion (Fits 2) self.now.records }

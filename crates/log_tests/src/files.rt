@@ -1,13 +1,19 @@
 use crate::first_log::first_log;
 use bn_base::{EndMark, RawSettings, Settings};
-use log_file::{FileError, read_file, write_file};
+use log_file::{FileError, LogCounts, count_file, read_file, write_file};
 use log_record::{Head, Record};
-use std::alloc::Global;
+use std::alloc::{AllocError, Global};
 use std::process::Abort;
 use std::test::*;
 
+// Why bytes are refused, where they are read and where they are counted alike.
 fn refusal(alloc: Global, bytes: &[u8]) -> Option<FileError> {
-    read_file(alloc, bytes).err()
+    let found = read_file(alloc, bytes).err();
+    if count_file(bytes).err() == found {
+        found
+    } else {
+        Some(FileError::OutOfMemory)
+    }
 }
 
 // What is read of the file made by hand is what it says, and it is written again.
@@ -26,9 +32,20 @@ fn a_file_is_read_and_written(rt: HostRuntime) -> Result<(), Fail> {
     assert_eq!(rt; log.records().get(1), Some(&Record::End { hart: 0, mark }));
     let _format = log.head().settings.format();
     let _size = log.head().settings.log_size();
-    let file = write_file(rt.alloc(), log.head(), 0, &bytes[92..253])?;
+    let file = write_file(rt.alloc(), log.head(), 0, &bytes[92..238], &bytes[238..253])?;
     assert_eq!(rt; file.as_slice(), bytes.as_slice());
     Ok(())
+}
+
+#[test]
+fn a_file_is_counted(rt: HostRuntime) {
+    let counts = LogCounts {
+        records: 2,
+        intervals: 1,
+        dropped: 0,
+        bytes: 161,
+    };
+    assert_eq!(rt; count_file(&first_log()), Ok(counts));
 }
 
 #[test]
@@ -156,7 +173,7 @@ fn forged(rt: &impl Abort, alloc: Global, dropped: u64, parts: &[&[u8]]) -> Opti
     let _format = head.settings.format();
     let fits = records.len() <= head.settings.log_size() as usize;
     assert!(rt; fits);
-    let file = write_file(alloc, &head, dropped, &records).expect(rt, "memory");
+    let file = write_file(alloc, &head, dropped, &records, &[]).expect(rt, "memory");
     refusal(alloc, &file)
 }
 
@@ -195,4 +212,43 @@ fn broken_rules_of_the_end_are_named(rt: HostRuntime) {
     );
     let expected = FileError::BadRecord { at: 15 };
     assert_eq!(rt; some(&[&end(1, 1, 3), &[7]]), Some(expected));
+}
+
+// Each error with its text.
+const TEXTS: [(FileError, &str); 9] = [
+    (
+        FileError::Short { length: 7 },
+        "7 bytes are too short for a log",
+    ),
+    (FileError::BadMagic, "not a log"),
+    (FileError::BadVersion { found: 7 }, "version 7 is not known"),
+    (
+        FileError::BadHead { field: 3, value: 7 },
+        "field 3 of the head is out of range: 7",
+    ),
+    (
+        FileError::LengthDiffers { said: 3, found: 7 },
+        "the head says 3 bytes of records, and there are 7",
+    ),
+    (
+        FileError::DigestDiffers {
+            kept: [3; 32],
+            found: [7; 32],
+        },
+        "the digest differs",
+    ),
+    (FileError::BadRecord { at: 7 }, "no record at 7"),
+    (
+        FileError::BadOrder { at: 7, rule: 3 },
+        "order broken at 7, rule 3",
+    ),
+    (FileError::OutOfMemory, "out of memory"),
+];
+
+#[test]
+fn errors_say_what_is_wrong(rt: HostRuntime) -> Result<(), AllocError> {
+    for (error, text) in TEXTS {
+        assert_eq!(rt; format!(in rt.alloc(); "{error}")?.as_str(), text);
+    }
+    Ok(())
 }

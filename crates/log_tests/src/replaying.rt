@@ -81,7 +81,7 @@ fn log(rt: &impl Abort, alloc: Global, harts: u64, parts: &[&[u8]]) -> KeptLog {
     let _format = head.settings.format();
     let fits = records.len() <= head.settings.log_size() as usize;
     assert!(rt; fits);
-    let file = write_file(alloc, &head, 0, &records).expect(rt, "memory");
+    let file = write_file(alloc, &head, 0, &records, &[]).expect(rt, "memory");
     read_file(alloc, &file).expect(rt, "a log")
 }
 

@@ -65,6 +65,10 @@ fn a_header_takes_the_room_of_73_records(rt: HostRuntime) -> Result<(), Fail> {
     assert_eq!(rt; ring.dropped(), 73);
     ring.append(&Record::ScFailed { hart: 2 });
     assert_eq!(rt; ring.copy(rt.alloc())?.as_slice(), [4, 2].as_slice());
+    let (front, back) = ring.pieces();
+    let mut bytes = Vec::from_slice(rt.alloc(), front)?;
+    bytes.extend_from_slice(back)?;
+    assert_eq!(rt; bytes.as_slice(), [4, 2].as_slice());
     assert_eq!(rt; ring.dropped(), 74);
     Ok(())
 }

@@ -1,0 +1,8 @@
+use Rattle.log_file.proofs.Walks.{breaks_by_rule, breaks_at_end}
+use Rattle.log_file.proofs.counting.first_break.Goals as goal
+
+pub returns-in-Some : goal.returns-in-Some
+returns-in-Some c = λ rs ran fit parts walked. breaks_by_rule c.args.all c.args.harts.now rs ran c.in-Some.found (rw c.in-Some.is at walked)
+
+pub returns-in-None : goal.returns-in-None
+returns-in-None c = λ rs ran fit parts walked. breaks_at_end c.args.all c.args.harts.now rs ran c.ended.result (rw c.in-None.is at walked) (c.ended.ensures rs fit parts)

@@ -1,0 +1,15 @@
+use Rattle.std.proofs.Common.{◌-◌, ◌≤◌, List, length, ◌≡◌}
+use Rattle.std.specs.List.{flat_map, AllByRecursion}
+use Rattle.log_record.specs.declared.record.Record.{Record}
+use Rattle.log_record.specs.Spelling.{bytes_of, Fits}
+use Rattle.log_file.proofs.Walks.{Left}
+use Rattle.log_file.proofs.counting.late_edge.Given as goal
+
+abbrev pub invariant-loop-rest : goal.invariant-loop-rest
+invariant-loop-rest l = record {
+  near : length l.rest ≤ length l.bytes;
+  left : (rs : List Record) → AllByRecursion (Fits 1) rs → l.bytes ≡ flat_map bytes_of rs → Left l.harts rs (length l.bytes - length l.rest) l.rest;
+}
+
+abbrev pub decreases-loop-rest : goal.decreases-loop-rest
+decreases-loop-rest l = length l.rest

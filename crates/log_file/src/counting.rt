@@ -1,0 +1,262 @@
+// Counting what a file has, with no list of its records.
+ghost use Rattle.std.specs.Prelude.{◌≡◌, ◌≢◌, ◌≤◌, ◌<◌, ◌++◌, ◌∷◌, [], List, ℕ, length, drop, Result, Ok, IfOk, IfErr};
+ghost use Rattle.std.specs.List.{flat_map, AllByRecursion};
+ghost use Rattle.log_record.specs.declared.record.Record.{Record};
+ghost use Rattle.log_record.specs.Spelling.{bytes_of, total, Fits};
+ghost use Rattle.log_order.specs.declared.view.HartView.{HartView};
+ghost use Rattle.log_order.specs.declared.walk.OrderBreak.{OrderBreak};
+ghost use Rattle.log_order.specs.Content.{Content, IsContent};
+ghost use Rattle.log_order.specs.Order.{after_all, is_late, late_edge, ended, broken_in};
+ghost use Rattle.log_file.specs.declared.error.FileError.TheVariants.{OutOfMemory};
+ghost use Rattle.log_file.specs.Layout.{settings_in, head_in, dropped_in, file_bytes};
+ghost use Rattle.log_file.specs.File.{IsRecordsFault, IsSplitError, IsRefusal};
+ghost use Rattle.log_file.specs.Counts.{headers_of, counts_of, Walks, IsWalked, IsCounted, CountsFields, CountsFile};
+
+use crate::error::FileError;
+use crate::head::{DIGEST_SIZE, HEAD_SIZE, checked_settings, digest_in, tail};
+use crate::laws::{files_say_one_thing, logs_are_not_refused};
+use bn_base::{HARTS, Settings};
+use le_numbers::laws::read_numbers_are_written;
+use le_numbers::read_u64;
+use log_order::walk::{any_unfinished, is_late, step};
+use log_order::{HartView, OrderBreak, Terms};
+use log_record::laws::tags_tell_sizes;
+use log_record::{Head, Record, read, size};
+
+/// What is counted of a log.
+#[derive(Clone, Copy, Debug, PartialEq, Eq, Drop)]
+pub struct LogCounts {
+    /// How many records it keeps.
+    pub records: u64,
+    /// How many of them are Headers.
+    pub intervals: u64,
+    /// How many records were given up before them.
+    pub dropped: u64,
+    /// How many bytes the kept records have.
+    pub bytes: u64,
+}
+
+/// What a walk along records found: how many they are, how many of them are Headers, and the first
+/// of them that breaks a rule.
+#[derive(Clone, Copy, Debug, PartialEq, Eq, Drop)]
+pub struct Walked {
+    records: u64,
+    headers: u64,
+    broken: Option<OrderBreak>,
+}
+
+// Whether a record is a Header.
+fn headers_of(entry: &Record) -> u64
+    ensures value { result ≡ headers_of entry.now }
+    ensures few { result ≤ 1 }
+{
+    match entry {
+        Record::Header { .. } => 1,
+        Record::FirstLoad { .. } => 0,
+        Record::ScOk { .. } => 0,
+        Record::ScFailed { .. } => 0,
+        Record::Edge { .. } => 0,
+        Record::End { .. } => 0,
+    }
+}
+
+// The first break once a record has come, which begins at a place; the harts go on only where there was none.
+fn advance(
+    terms: &Terms,
+    harts: &mut [HartView],
+    broken: Option<OrderBreak>,
+    at: u64,
+    entry: &Record,
+) -> Option<OrderBreak>
+    ensures { (start : List HartView) (rs : List Record) → at ≡ total rs → Walks (after_all terms.now 0 start rs) broken harts.old → Walks (after_all terms.now 0 start (rs ++ entry.now ∷ [])) result harts.new }
+{
+    match broken {
+        Some(found) => Some(found),
+        None => match step(terms, harts, entry) {
+            Ok(()) => None,
+            Err(rule) => Some(OrderBreak {
+                at,
+                rule: rule as u64,
+            }),
+        },
+    }
+}
+
+// Walks along the records of a log of version 1 whose bytes these are.
+fn walk(terms: &Terms, harts: &mut [HartView], bytes: &[u8]) -> Result<Walked, FileError>
+    ensures walked { IfOk result (IsWalked terms.now harts.old harts.new bytes.now) }
+    ensures refused { IfErr result (λ e. IsSplitError bytes.now e) }
+    ensures memory { IfErr result (λ e. e ≢ OutOfMemory) }
+{
+    let mut records = 0;
+    let mut headers = 0;
+    let mut broken = None;
+    let mut rest = bytes;
+    while !rest.is_empty() {
+        let at = (bytes.len() - rest.len()) as u64;
+        match read(rest) {
+            None => return Err(FileError::BadRecord { at }),
+            Some((entry, size)) => {
+                broken = advance(terms, harts, broken, at, &entry);
+                records += 1;
+                headers += headers_of(&entry);
+                rest = tail(rest, size);
+            }
+        }
+    }
+    Ok(Walked {
+        records,
+        headers,
+        broken,
+    })
+}
+
+// The byte that begins an Edge.
+const EDGE: u8 = 5;
+
+// Whether the record at the front of some bytes is a late Edge.
+fn late_at(harts: &[HartView], bytes: &[u8]) -> bool
+    requires { 0 < length bytes.now }
+    ensures { (r : Record) (rest : List ℕ) → Fits 1 r → bytes.now ≡ bytes_of r ++ rest → result ≡ is_late harts.now r }
+{
+    if bytes[0] != EDGE {
+        return false;
+    }
+    match read(bytes) {
+        Some((entry, _)) => is_late(harts, &entry),
+        None => false,
+    }
+}
+
+// The place of the first late Edge among the records of a log of version 1 whose bytes these are.
+fn late_edge(harts: &[HartView], bytes: &[u8]) -> Option<u64>
+    ensures { (rs : List Record) → AllByRecursion (Fits 1) rs → bytes.now ≡ flat_map bytes_of rs → result ≡ late_edge harts.now 0 rs }
+{
+    tags_tell_sizes();
+    let mut rest = bytes;
+    while !rest.is_empty() {
+        if late_at(harts, rest) {
+            return Some((bytes.len() - rest.len()) as u64);
+        }
+        match size(rest[0]) {
+            None => return None,
+            Some(size) => {
+                if rest.len() < size {
+                    return None;
+                }
+                rest = tail(rest, size);
+            }
+        }
+    }
+    None
+}
+
+// The first break of the two rules about the end, where these harts are left by the records of a log
+// of version 1 whose bytes these are.
+fn ended(all: bool, harts: &[HartView], bytes: &[u8]) -> Option<OrderBreak>
+    ensures { (rs : List Record) → AllByRecursion (Fits 1) rs → bytes.now ≡ flat_map bytes_of rs → result ≡ ended all harts.now rs }
+{
+    if any_unfinished(all, harts) {
+        return Some(OrderBreak {
+            at: bytes.len() as u64,
+            rule: 6,
+        });
+    }
+    match late_edge(harts, bytes) {
+        None => None,
+        Some(at) => Some(OrderBreak { at, rule: 7 }),
+    }
+}
+
+// The first break of the order of the records of a log of version 1 whose bytes these are, where a
+// walk along them found this break of a rule, or none and left the harts so.
+fn first_break(
+    all: bool,
+    harts: &[HartView],
+    found: Option<OrderBreak>,
+    bytes: &[u8],
+) -> Option<OrderBreak>
+    ensures { (rs : List Record) (ran : Result (List HartView) OrderBreak) → AllByRecursion (Fits 1) rs → bytes.now ≡ flat_map bytes_of rs → Walks ran found harts.now → result ≡ broken_in all rs ran }
+{
+    match found {
+        Some(found) => Some(found),
+        None => ended(all, harts, bytes),
+    }
+}
+
+// What the records of a log of version 1 are that has this head and dropped so many: how many, where
+// their bytes are these, or what is wrong with them.
+fn counted(head: &Head, dropped: u64, bytes: &[u8]) -> Result<LogCounts, FileError>
+    ensures counted { IfOk result (IsCounted head.now dropped bytes.now) }
+    ensures refused { IfErr result (λ e. IsRecordsFault head.now dropped bytes.now e) }
+    ensures memory { IfErr result (λ e. e ≢ OutOfMemory) }
+{
+    let all = dropped == 0;
+    let mut views = [HartView::fresh(all); HARTS];
+    let harts = &mut views[..head.settings.harts() as usize];
+    let walked = walk(&Terms::of(&head.settings), harts, bytes)?;
+    match first_break(all, harts, walked.broken, bytes) {
+        Some(found) => Err(FileError::BadOrder {
+            at: found.at,
+            rule: found.rule,
+        }),
+        None => Ok(LogCounts {
+            records: walked.records,
+            intervals: walked.headers,
+            dropped,
+            bytes: bytes.len() as u64,
+        }),
+    }
+}
+
+// What is counted of the log that a file has whose head has no fault and these settings.
+fn counts_in(signed: &[u8], settings: Settings) -> Result<LogCounts, FileError>
+    requires long { 92 ≤ length signed.now }
+    requires settings { settings ≡ settings_in signed.now }
+    requires bound { length (drop 92 signed.now) ≤ settings.log_size }
+    ensures counted { IfOk result (CountsFields signed.now) }
+    ensures refused { IfErr result (λ e. IsRecordsFault (head_in signed.now) (dropped_in signed.now) (drop 92 signed.now) e) }
+    ensures memory { IfErr result (λ e. e ≢ OutOfMemory) }
+{
+    let _range = settings.raw();
+    let head = Head {
+        settings,
+        digest: digest_in(signed),
+    };
+    let dropped = read_u64(signed, 80);
+    counted(&head, dropped, tail(signed, HEAD_SIZE))
+}
+
+fn count(bytes: &[u8]) -> Result<LogCounts, FileError>
+    ensures counted { IfOk result (CountsFile bytes.now) }
+    ensures refused { IfErr result (λ e. IsRefusal bytes.now e) }
+    ensures memory { IfErr result (λ e. e ≢ OutOfMemory) }
+{
+    read_numbers_are_written();
+    let length = bytes.len();
+    if length < HEAD_SIZE + DIGEST_SIZE {
+        return Err(FileError::Short {
+            length: length as u64,
+        });
+    }
+    let (signed, kept) = bytes.split_at(length - DIGEST_SIZE);
+    match checked_settings(signed, kept) {
+        Ok(settings) => counts_in(signed, settings),
+        Err(fault) => Err(fault),
+    }
+}
+
+/// What is counted of the log that a file says, without a list of its records: it takes no memory.
+/// A file is refused as `read_file` refuses it, but for want of memory.
+pub fn count_file(bytes: &[u8]) -> Result<LogCounts, FileError>
+    // The counts are those of a log, and the bytes are its spelling.
+    ensures counted { IfOk result (CountsFile bytes.now) }
+    // A log whose spelling the bytes are is counted.
+    ensures only { (c : Content) → IsContent c → bytes.now ≡ file_bytes c → result ≡ Ok (counts_of c) }
+    ensures refused { IfErr result (λ e. IsRefusal bytes.now e) }
+    ensures memory { IfErr result (λ e. e ≢ OutOfMemory) }
+{
+    files_say_one_thing();
+    logs_are_not_refused();
+    count(bytes)
+}
