@@ -7,6 +7,7 @@ use Rattle.first_load_bits.specs.Events.{Event}
 use Rattle.first_load_bits.specs.Events.{Touch}
 use Rattle.first_load_bits.specs.Stands.{Contents, StandsFor}
 use Rattle.run_model.specs.declared.next.Next.TheVariants.{GoesOn}
+use Rattle.system_calls.specs.declared.effect.Plan.{Plan}
 use Rattle.run_model.specs.declared.span.Span.{Span}
 use Rattle.run_model.specs.Turn.{dropped, events_after}
 use Rattle.run_model.specs.Stands.EachCache.{no_cache, cache_of, steps_in, AreCaches, is_spared, IsDropped, IsSetTo}
@@ -103,6 +104,21 @@ access_stands c old mid new h s events below t d a = record {
         let after : StandsFor (cache_of new k) (dropped s (events k)) =
         of_false (cache_of new k) (k == h) (events k) (dropped s (events k)) (ne_eqb k h other) (d.done k (within k in_harts) (events k) before) in
         at_false (cache_of new k) (k == h) (Touch s.first ∷ events h) (dropped s (events k)) (ne_eqb k h other) after
+
+-- ---- a system call of hart h: what it writes is dropped from all
+
+pub call_stands : (c : RawSettings) (old new : List Contents) (h : ℕ) (p : Plan) (s : Span) (events : ℕ → List Event) → IsDropped None (dropped s) (length old) old new
+    → AreCaches c old events → AreCaches c new (events_after GoesOn h (Some p) (Some s) events)
+call_stands c old new h p s events d a = record {
+  count = d.count ∙ a.count;
+  geometry = λ k in_harts. d.geometry k ∙ a.geometry k in_harts;
+  stands = λ k in_harts. each k (d.done k (omega (arith, a.count, in_harts)) (events k) (a.stands k in_harts)) (cases_eq k h);
+}
+  where
+    each : (k : ℕ) → StandsFor (cache_of new k) (dropped s (events k)) → (k ≡ h) ⊎ (k ≢ h) → StandsFor (cache_of new k) (events_after GoesOn h (Some p) (Some s) events k)
+    each k after (inl same) =
+        at_true (cache_of new k) (k == h) (dropped s (events h)) (dropped s (events k)) (eq-eqb k h same) (subst (λ (n : ℕ). StandsFor (cache_of new k) (dropped s (events n))) same after)
+    each k after (inr other) = at_false (cache_of new k) (k == h) (dropped s (events h)) (dropped s (events k)) (ne_eqb k h other) after
 
 -- ---- what is written through a slice of all items
 

@@ -1,6 +1,6 @@
 -- Each turn moves its hart on.
-use Rattle.std.proofs.Common.{◌≡◌, ℕ, ◌+◌, ◌-◌, ◌<◌, ◌≤◌, ◌^◌, Bool, true, false, nat_le, nat_lt, ◌&&◌, Option, Some, None, refl, ◌∙◌, arith, ◌==◌, List}
-use Rattle.std.specs.Prelude.{if◌then◌else◌}
+use Rattle.std.proofs.Common.{◌≡◌, ℕ, ◌+◌, ◌-◌, ◌<◌, ◌≤◌, ◌^◌, Bool, true, false, nat_le, nat_lt, ◌&&◌, Option, Some, None, refl, sym, ap, ◌∙◌, arith, ◌==◌, List}
+use Rattle.std.specs.Prelude.{slice_index, if◌then◌else◌}
 use Rattle.std.proofs.lemmas.Grind.{common_steps}
 use Rattle.bn_base.specs.Programs.{Program}
 use Rattle.bn_base.specs.Faults.{fault_number}
@@ -13,15 +13,16 @@ use Rattle.rv_meaning.specs.declared.asks.Want.{Want}
 use Rattle.rv_meaning.specs.declared.asks.Want.TheVariants.{Load, Store, LoadReserved, StoreConditional, Amo, System, Cut, Faulted}
 use Rattle.rv_meaning.specs.declared.asks.Reply.{Reply}
 use Rattle.rv_meaning.specs.declared.asks.Reply.TheVariants as replies
-use Rattle.rv_meaning.specs.Execute.{absorbed, count_up}
+use Rattle.rv_meaning.specs.Execute.{absorbed, count_up, count_up_if, is_exit}
 use Rattle.rv_meaning.specs.Orderly.{has_value}
 use Rattle.system_calls.specs.declared.effect.Plan.{Plan}
 use Rattle.system_calls.specs.declared.effect.Plan.TheVariants as plans
+use Rattle.system_calls.specs.Laws.{is_end, ExitsAloneEnd}
 use Rattle.run_model.specs.declared.hart.Hart.{Hart}
 use Rattle.run_model.specs.declared.next.Next.{Next}
 use Rattle.run_model.specs.declared.next.Next.TheVariants.{GoesOn, NewInterval, HartOver, RunOver}
 use Rattle.run_model.specs.declared.span.Span.{Span}
-use Rattle.run_model.specs.Machine.{Machine, answer_call, answer_sc, is_reserved, planned}
+use Rattle.run_model.specs.Machine.{Machine, answer_call, answer_sc, is_reserved, planned, kernel_of}
 use Rattle.run_model.specs.Turn.{budget, span_of, counted, after_call, is_orderly}
 use Rattle.run_model.specs.Stands.Logs.{is_marked_next}
 use Rattle.run_model.specs.Counts.{IsFit, MovesOn, AskMovesOn, EachTurnMovesOn, is_on}
@@ -155,15 +156,19 @@ sc_moves : (b : Bool) (c : RawSettings) (h : Hart) (s : HartState) (a rd v k : �
 sc_moves true c h s a rd v k m small fit b = access_moves c h s.ic _ _ None small fit b.from b.below refl
 sc_moves false c h s a rd v k m small fit b = access_moves c h s.ic _ _ None small fit b.from b.below refl
 
-plan_moves : (p : Plan) (c : RawSettings) (h : Hart) (s : HartState) (number k : ℕ) (args : List ℕ) (m : Machine) → c.limit < 2 ^ 63 → IsFit c h → InBudget c h s.ic
+-- an exit is counted
+exit_counts : (number n : ℕ) → is_exit number ≡ true → count_up_if (is_exit number) n ≡ count_up n
+exit_counts number n e = ap (λ (b : Bool). count_up_if b n) e
+
+plan_moves : (p : Plan) (c : RawSettings) (h : Hart) (s : HartState) (number k : ℕ) (args : List ℕ) (m : Machine) → is_end p ≡ is_exit number → c.limit < 2 ^ 63 → IsFit c h → InBudget c h s.ic
     → let ask : Ask = record { state = s; want = System number args } in let reply = (answer_call p k m).reply in
     MovesOn c h s.ic (absorbed ask reply).ic (after_call p reply) (span_of (Some p) ask.want reply) None
-plan_moves (plans.Fill a n) c h s number k args m small fit b = call_moves c h s.ic _ _ _ small fit b.from b.below refl refl (λ p. cc)
-plan_moves (plans.Send t a n) c h s number k args m small fit b = call_moves c h s.ic _ _ _ small fit b.from b.below refl refl (λ p. cc)
-plan_moves (plans.Break v) c h s number k args m small fit b = call_moves c h s.ic _ _ _ small fit b.from b.below refl refl (λ p. cc)
-plan_moves (plans.Answer v) c h s number k args m small fit b = call_moves c h s.ic _ _ _ small fit b.from b.below refl refl (λ p. cc)
-plan_moves (plans.EndHart v) c h s number k args m small fit b = call_moves c h s.ic _ _ _ small fit b.from b.below refl refl (λ p. cc)
-plan_moves (plans.EndRun v) c h s number k args m small fit b = call_moves c h s.ic _ _ _ small fit b.from b.below refl refl (λ p. cc)
+plan_moves (plans.Fill a n) c h s number k args m e small fit b = call_moves c h s.ic _ _ _ small fit b.from b.below refl refl (λ p. cc)
+plan_moves (plans.Send t a n) c h s number k args m e small fit b = call_moves c h s.ic _ _ _ small fit b.from b.below refl refl (λ p. cc)
+plan_moves (plans.Break v) c h s number k args m e small fit b = call_moves c h s.ic _ _ _ small fit b.from b.below refl refl (λ p. cc)
+plan_moves (plans.Answer v) c h s number k args m e small fit b = call_moves c h s.ic _ _ _ small fit b.from b.below refl refl (λ p. cc)
+plan_moves (plans.EndHart v) c h s number k args m e small fit b = call_moves c h s.ic _ _ _ small fit b.from b.below (exit_counts number s.ic (sym e)) refl (λ p. cc)
+plan_moves (plans.EndRun v) c h s number k args m e small fit b = call_moves c h s.ic _ _ _ small fit b.from b.below (exit_counts number s.ic (sym e)) refl (λ p. cc)
 
 cut_at : (b : Bool) (c : RawSettings) (h : Hart) (s : HartState) → IsFit c h → h.live ≡ true → s.ic ≡ h.state.ic + budget c h
     → let ask : Ask = record { state = s; want = Cut } in let reply : Reply = if b then replies.Over else replies.Went in
@@ -171,18 +176,18 @@ cut_at : (b : Bool) (c : RawSettings) (h : Hart) (s : HartState) → IsFit c h �
 cut_at true c h s fit live whole = cut_moves c h s.ic _ fit live whole refl
 cut_at false c h s fit live whole = cut_moves c h s.ic _ fit live whole refl
 
-want_moves : (want : Want) (c : RawSettings) (i : Program) (m : Machine) (h : Hart) (k : ℕ) (s : HartState) → c.limit < 2 ^ 63 → IsFit c h → h.live ≡ true
+want_moves : (want : Want) → ExitsAloneEnd → (c : RawSettings) (i : Program) (m : Machine) (h : Hart) (k : ℕ) (s : HartState) → c.limit < 2 ^ 63 → IsFit c h → h.live ≡ true
     → is_orderly c i h (record { state = s; want = want }) ≡ true → AskMovesOn c i m h k (record { state = s; want = want })
-want_moves (Load a w g rd) c i m h k s small fit live e = let b = in_budget c h s.ic (both _ _ e).0 in access_moves c h s.ic _ _ _ small fit b.from b.below refl
-want_moves (LoadReserved a rd) c i m h k s small fit live e = let b = in_budget c h s.ic (both _ _ e).0 in access_moves c h s.ic _ _ _ small fit b.from b.below refl
-want_moves (Store a w v) c i m h k s small fit live e = let b = in_budget c h s.ic (both _ _ e).0 in access_moves c h s.ic _ _ _ small fit b.from b.below refl
-want_moves (Amo a o rd v) c i m h k s small fit live e = let b = in_budget c h s.ic (both _ _ e).0 in access_moves c h s.ic _ _ _ small fit b.from b.below refl
-want_moves (StoreConditional a rd v) c i m h k s small fit live e = let b = in_budget c h s.ic (both _ _ e).0 in sc_moves (is_reserved (m.reserved k) a) c h s a rd v k m small fit b
-want_moves (System number args) c i m h k s small fit live e = let b = in_budget c h s.ic (both _ _ e).0 in plan_moves (planned i m number args) c h s number k args m small fit b
-want_moves Cut c i m h k s small fit live e = cut_at (nat_le c.limit s.ic) c h s fit live (same_of _ _ (both _ _ e).0)
-want_moves (Faulted kind value) c i m h k s small fit live e =
+want_moves (Load a w g rd) exits c i m h k s small fit live e = let b = in_budget c h s.ic (both _ _ e).0 in access_moves c h s.ic _ _ _ small fit b.from b.below refl
+want_moves (LoadReserved a rd) exits c i m h k s small fit live e = let b = in_budget c h s.ic (both _ _ e).0 in access_moves c h s.ic _ _ _ small fit b.from b.below refl
+want_moves (Store a w v) exits c i m h k s small fit live e = let b = in_budget c h s.ic (both _ _ e).0 in access_moves c h s.ic _ _ _ small fit b.from b.below refl
+want_moves (Amo a o rd v) exits c i m h k s small fit live e = let b = in_budget c h s.ic (both _ _ e).0 in access_moves c h s.ic _ _ _ small fit b.from b.below refl
+want_moves (StoreConditional a rd v) exits c i m h k s small fit live e = let b = in_budget c h s.ic (both _ _ e).0 in sc_moves (is_reserved (m.reserved k) a) c h s a rd v k m small fit b
+want_moves (System number args) exits c i m h k s small fit live e = let b = in_budget c h s.ic (both _ _ e).0 in plan_moves (planned i m number args) c h s number k args m (exits number (slice_index args 0) (slice_index args 1) (slice_index args 2) (kernel_of m) i) small fit b
+want_moves Cut exits c i m h k s small fit live e = cut_at (nat_le c.limit s.ic) c h s fit live (same_of _ _ (both _ _ e).0)
+want_moves (Faulted kind value) exits c i m h k s small fit live e =
     let b = in_budget c h s.ic (both _ _ e).0 in
     fault_moves c h s.ic _ _ _ b.from b.below refl (fault_marked kind value (both (nat_le h.state.ic s.ic && nat_lt s.ic (h.state.ic + budget c h)) _ e).1)
 
-pub ask_moves : EachTurnMovesOn
-ask_moves c i m h k ask small fit live e = want_moves ask.want c i m h k ask.state small fit live e
+pub ask_moves : ExitsAloneEnd → EachTurnMovesOn
+ask_moves exits c i m h k ask small fit live e = want_moves ask.want exits c i m h k ask.state small fit live e

@@ -20,12 +20,11 @@ use Rattle.run_model.specs.declared.span.Span.{Span}
 use Rattle.run_model.specs.declared.trace.Trace.{Trace}
 use Rattle.run_model.specs.Machine.{Machine, answer, call_of}
 use Rattle.run_model.specs.Turn.{is_orderly, span_of, next_of, loading, hart_after, harts_after, other_after, skipped_after}
-use Rattle.run_model.specs.Counts.{IsRested, MovesOn, AskMovesOn, turns_left, is_there, is_loading}
+use Rattle.run_model.specs.Counts.{IsRested, MovesOn, AskMovesOn, EachTurnMovesOn, turns_left, is_there, is_loading}
 use Rattle.run_model.specs.Stands.EachCache.{steps_in, touched_word, touches}
 use Rattle.run_model.specs.Stands.Harts.{AreHarts, hart_in, all_left}
-use Rattle.run_model.specs.Stands.Logs.{taken}
+use Rattle.run_model.specs.Stands.Logs.{taken, is_marked_next}
 use Rattle.run_model.specs.Stands.Plain.{IsTraceFit, IsHartFit, count_after, clears}
-use Rattle.run_model.proofs.MoveOn.{ask_moves}
 use Rattle.run_model.proofs.Fits.{fit_by, fewer_left, fit_other, no_more_left}
 
 -- ---- the hart whose turn it was
@@ -173,9 +172,16 @@ other_hart c old new turns k j ask call reply load next fit st at apart differ =
 eqb_same : (k : ℕ) → (k == k) ≡ true
 eqb_same k = grind arith
 
-pub fit_traced : (c : RawSettings) (i : Program) (m : Machine) (old new : Trace) (turns k : ℕ) (ask : Ask) (call : Option Plan) (reply : Reply) (load : Option Warm) → IsTraceFit c old turns → k < c.harts → (hart_in old.harts.items k).live ≡ true
+-- what ends with the turn of an orderly ask has a mark
+pub next_marked : EachTurnMovesOn → (c : RawSettings) (i : Program) (m : Machine) (old : Trace) (turns k : ℕ) (ask : Ask) (call : Option Plan) (reply : Reply) → IsTraceFit c old turns → k < c.harts → (hart_in old.harts.items k).live ≡ true
+    → IsTrue (is_orderly c i (hart_in old.harts.items k) ask) → call ≡ call_of i m ask.want → reply ≡ (answer c call m k ask).reply
+    → is_marked_next (next_of c call (hart_in old.harts.items k) ask.want reply (absorbed ask reply).ic) ≡ true
+next_marked each_moves c i m old turns k ask call reply fit within live ordered ec er =
+    (moves_as c i m (hart_in old.harts.items k) k ask call reply ec er (each_moves c i m (hart_in old.harts.items k) k ask (omega (arith, fit.settings.limit_high)) (fit.each k within).fit.fit live ordered)).marked
+
+pub fit_traced : EachTurnMovesOn → (c : RawSettings) (i : Program) (m : Machine) (old new : Trace) (turns k : ℕ) (ask : Ask) (call : Option Plan) (reply : Reply) (load : Option Warm) → IsTraceFit c old turns → k < c.harts → (hart_in old.harts.items k).live ≡ true
     → IsTrue (is_orderly c i (hart_in old.harts.items k) ask) → call ≡ call_of i m ask.want → reply ≡ (answer c call m k ask).reply → Steps c old new turns k ask call reply load → IsTraceFit c new (turns + 1)
-fit_traced c i m old new turns k ask call reply load fit within live ordered ec er st =
+fit_traced each_moves c i m old new turns k ask call reply load fit within live ordered ec er st =
     let h = hart_in old.harts.items k in
     let f : ℕ → Hart = hart_in old.harts.items in
     let g : ℕ → Hart = hart_in new.harts.items in
@@ -183,7 +189,7 @@ fit_traced c i m old new turns k ask call reply load fit within live ordered ec 
     let next = next_of c call h ask.want reply s.ic in
     let own = hart_after next s (skipped_after load h.skipped) new.log.bytes h in
     let each = fit.each k within in
-    let on = moves_as c i m h k ask call reply ec er (ask_moves c i m h k ask (omega (arith, fit.settings.limit_high)) each.fit.fit live ordered) in
+    let on = moves_as c i m h k ask call reply ec er (each_moves c i m h k ask (omega (arith, fit.settings.limit_high)) each.fit.fit live ordered) in
     let old_are : AreHarts old.harts.items f = λ j below. slice_get-get_or old.harts.items j _ below in
     let new_are : AreHarts new.harts.items (harts_after next k own f) = st.harts f old_are in
     let at : (j : ℕ) → j < c.harts → g j ≡ harts_after next k own f j = λ j below. in_new new.harts.items j (harts_after next k own f) new_are (omega (arith, below, st.len, fit.harts)) in

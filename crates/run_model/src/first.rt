@@ -18,7 +18,7 @@ const STACK: u32 = 65_536;
 
 /// A hart before the run: it starts at the program's entry, with its number in a0, the number of harts
 /// in a1, and in sp the end of memory less 65,536 bytes for each hart before it.
-fn start_state(settings: &Settings, image: &Image, number: HartId) -> HartState
+pub fn start_state(settings: &Settings, image: &Image, number: HartId) -> HartState
     ensures { result ≡ start_state settings.now image.now number }
 {
     let mut contents = [0; 32];

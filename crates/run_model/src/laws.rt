@@ -3,11 +3,15 @@ ghost use Rattle.run_model.specs.Counts.{EachTurnMovesOn, EachTurnFits, OthersSt
 ghost use Rattle.run_model.specs.Files.{FormatOneIsVersionOne};
 ghost use Rattle.run_model.specs.Guards.{FormatOneIsUnguarded, RecordsDecideNothing};
 
+use system_calls::exits_alone_end;
+
 /// The turn of a live hart's orderly ask moves on within its budget: by one instruction where it
 /// accesses memory, and by some where the hart goes on.
 pub fn each_turn_moves_on()
     ensures { EachTurnMovesOn }
-{}
+{
+    exits_alone_end();
+}
 
 /// After such a turn the hart's counts stay within the settings, and fewer turns are left to it.
 pub fn each_turn_fits()

@@ -27,6 +27,7 @@ pub use examples::{
     a_store_ends_the_reservation, an_exit_is_recorded, full_intervals_end, rows_are_told,
     the_first_load_is_logged, the_limit_comes_before_the_length,
 };
+pub use first::start_state;
 pub use guarded_examples::{
     a_late_fault_is_kept, a_load_is_guarded, a_load_is_not_guarded_in_format_1,
     a_number_can_pass_twice_the_count, a_turn_ends_two_intervals, edges_move_the_guard,

@@ -1,5 +1,6 @@
 // What a recording begins with.
 ghost use Rattle.std.specs.Prelude.{◌≡◌, IfOk};
+ghost use Rattle.std.specs.Bool.{Decides};
 
 use bn_base::{Image, Settings};
 use std::alloc::{AllocError, Global};
@@ -14,7 +15,25 @@ pub struct Start {
     pub digest: [u8; 32],
 }
 
+// Whether both settings are the same.
+fn same_settings(a: &Settings, b: &Settings) -> bool
+    ensures { Decides result (a.now ≡ b.now) }
+{
+    *a == *b
+}
+
 impl Start {
+    /// Whether recordings that begin with this and with the other begin alike: with the same program,
+    /// settings, input and digest.
+    pub fn is_same(&self, other: &Start) -> bool
+        ensures { Decides result ((self.now.image ≡ other.now.image) × (self.now.settings ≡ other.now.settings) × (self.now.input.items ≡ other.now.input.items) × (self.now.digest ≡ other.now.digest)) }
+    {
+        self.image == other.image
+            && same_settings(&self.settings, &other.settings)
+            && self.input == other.input
+            && self.digest == other.digest
+    }
+
     /// The same again. The only error is want of memory.
     pub fn copy(&self, alloc: Global) -> Result<Start, AllocError>
         ensures image { IfOk result (λ s. s.image ≡ self.now.image) }

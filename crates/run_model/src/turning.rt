@@ -14,6 +14,7 @@ ghost use Rattle.run_model.specs.Stands.Turning.{parts, is_alive};
 
 use crate::hart::{HEADER_SIZE, Hart};
 use crate::harts::end_each;
+use crate::laws::each_turn_moves_on;
 use crate::machine::{Machine, Streams};
 use crate::plain::Plain;
 use crate::span::Span;
@@ -117,6 +118,7 @@ impl Plain {
         ensures reply { (run : Run) → IsRun (parts self.old) run → result ≡ (serve_call self.old.start.settings run hart ask.now (is_guarded self.old.start.settings run hart ask.now.want) call).reply }
         ensures start { self.new.start ≡ self.old.start }
     {
+        each_turn_moves_on();
         let word = self.machine.word_before(&self.start.image, &ask.want);
         let reply = self
             .machine

@@ -1,16 +1,16 @@
 -- What the harts' caches keep together, and the histories that they stand for.
-use Rattle.std.specs.Prelude.{ℕ, ◌+◌, ◌≤◌, ◌<◌, ◌==◌, ◌≡◌, ◌≢◌, Bool, true, false, List, [], ◌∷◌, length, get_or, Option, Some, None}
+use Rattle.std.specs.Prelude.{ℕ, ◌+◌, ◌≤◌, ◌<◌, ◌==◌, ◌≡◌, ◌≢◌, Bool, true, false, List, ◌∷◌, length, get_or, Option, Some, None}
 use Rattle.bn_base.specs.declared.settings.RawSettings.{RawSettings}
 use Rattle.first_load_bits.specs.Events.{Event}
 use Rattle.first_load_bits.specs.Events.{Clear}
-use Rattle.first_load_bits.specs.Stands.{Contents, StandsFor, geometry_of}
+use Rattle.first_load_bits.specs.Stands.{Contents, StandsFor, geometry_of, no_contents}
 use Rattle.first_load_bits.specs.declared.warm.Warm.{Warm}
 use Rattle.system_calls.specs.declared.effect.Plan.{Plan}
 use Rattle.run_model.specs.declared.span.Span.{Span}
 
 -- what stands where there is no cache
 abbrev pub no_cache : Contents
-no_cache = record { geometry = record { sets = 0; ways = 0; line = 0 }; steps = 0; sets = [] }
+no_cache = no_contents
 
 abbrev pub cache_of : List Contents → ℕ → Contents
 cache_of cs k = get_or cs k no_cache

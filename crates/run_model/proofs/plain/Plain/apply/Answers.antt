@@ -1,4 +1,4 @@
-use Rattle.std.proofs.Common.{◌≡◌, ◌≤◌, ◌==◌, ◌+◌, ℕ, List, length, sym, subst, ap, ◌∙◌, arith}
+use Rattle.std.proofs.Common.{◌≡◌, ◌≤◌, ◌==◌, ◌+◌, ℕ, List, length, sym, subst, ap, ◌∙◌, arith, IsTrue}
 use Rattle.std.specs.Prelude.{Vec, if◌then◌else◌}
 use Rattle.std.specs.Global.{Global}
 use Rattle.rv_meaning.specs.Execute.{absorbed}
@@ -7,13 +7,14 @@ use Rattle.race_log.specs.Stands.{Stands, harts_of, next_turn, next_count}
 use Rattle.run_model.specs.declared.hart.Hart.{Hart}
 use Rattle.run_model.specs.Machine.{answer}
 use Rattle.run_model.specs.Stands.Parts.{IsMachine}
+use Rattle.run_model.specs.Stands.Logs.{is_marked_next}
 use Rattle.run_model.specs.Stands.EachCache.{steps_in, touched_word, touches}
 use Rattle.run_model.specs.Stands.Harts.{AreHarts, hart_in}
 use Rattle.run_model.specs.Turn.{span_of, next_of, hart_after, harts_after, skipped_after, points_after, point_of}
 use Rattle.run_model.specs.Stands.Plain.{everyone, meant, count_after, clears}
 use Rattle.run_model.proofs.Owns.{hart_of_run}
 use Rattle.run_model.proofs.PlainRuns.{traced}
-use Rattle.run_model.proofs.PlainFits.{fit_traced, two_ifs}
+use Rattle.run_model.proofs.PlainFits.{fit_traced, next_marked, two_ifs}
 use Rattle.run_model.proofs.Meant.{is_meant}
 use Rattle.run_model.proofs.plain.Plain.apply.Goals as goal
 
@@ -55,7 +56,7 @@ invariant_of-self c =
     let stands : IsMachine c.deref.result.now p.machine m = subst (λ (xs : List ℕ). IsMachine xs p.machine m) (sym c.deref.ensures.value) is in
     record {
       memory = c.answer-reply.ensures.size ∙ p.memory;
-      fits = fit_traced p.start.settings p.start.image m p.trace f.new.self p.turns c.args.hart c.args.ask.now c.args.call c.answer-reply.result a.result p.fits c.requires.hart c.requires.live c.requires.orderly
+      fits = fit_traced c.each_turn_moves_on.ensures p.start.settings p.start.image m p.trace f.new.self p.turns c.args.hart c.args.ask.now c.args.call c.answer-reply.result a.result p.fits c.requires.hart c.requires.live c.requires.orderly
           (c.requires.call m is) (c.answer-reply.ensures.answer.reply m stands)
           (record {
             harts = λ g are. subst (λ (v : Vec Hart Global). AreHarts v.items g → AreHarts f.new.self.harts.items (harts_after (next_of p.start.settings c.args.call (hart_in v.items c.args.hart) c.args.ask.now.want c.answer-reply.result (absorbed c.args.ask.now c.answer-reply.result).ic) c.args.hart (hart_after (next_of p.start.settings c.args.call (hart_in v.items c.args.hart) c.args.ask.now.want c.answer-reply.result (absorbed c.args.ask.now c.answer-reply.result).ic) (absorbed c.args.ask.now c.answer-reply.result) (skipped_after a.result (hart_in v.items c.args.hart).skipped) f.new.self.log.bytes (hart_in v.items c.args.hart)) g)) a.ensures.harts (f.ensures.harts g) are;
@@ -72,3 +73,12 @@ invariant_of-self c =
             size = f.ensures.size ∙ a.ensures.size;
           });
     }
+
+pub finish-requires-clause-marked : goal.finish-requires-clause-marked
+finish-requires-clause-marked c =
+    let p = c.args.self.now in
+    let m = meant p.start.input.items p.machine in
+    let is = is_meant p.start.input.items p.machine in
+    let stands : IsMachine c.deref.result.now p.machine m = subst (λ (xs : List ℕ). IsMachine xs p.machine m) (sym c.deref.ensures.value) is in
+    subst (λ (v : Vec Hart Global). IsTrue (is_marked_next (next_of p.start.settings c.args.call (hart_in v.items c.args.hart) c.args.ask.now.want c.answer-reply.result (absorbed c.args.ask.now c.answer-reply.result).ic))) (sym c.access-load.ensures.harts)
+    (next_marked c.each_turn_moves_on.ensures p.start.settings p.start.image m p.trace p.turns c.args.hart c.args.ask.now c.args.call c.answer-reply.result p.fits c.requires.hart c.requires.live c.requires.orderly (c.requires.call m is) (c.answer-reply.ensures.answer.reply m stands))
