@@ -35,7 +35,7 @@ live_by : (b : Bool) (x : Bool) → elim b as (λ z. Bool) [ true ↦ x | false 
 live_by true x e = (refl, e)
 live_by false x e = cc
 
-legal_first : (c : RawSettings) (i : Program) (run : Run) (k : ℕ) (ks : List ℕ) → legal_from c i run (k ∷ ks) ≡ true → (is_live c run k ≡ true) × (legal_from c i (turn c i run k) ks ≡ true)
+pub legal_first : (c : RawSettings) (i : Program) (run : Run) (k : ℕ) (ks : List ℕ) → legal_from c i run (k ∷ ks) ≡ true → (is_live c run k ≡ true) × (legal_from c i (turn c i run k) ks ≡ true)
 legal_first c i run k ks e = live_by (is_live c run k) (legal_from c i (turn c i run k) ks) e
 
 pub lawful : (c : RawSettings) (i : Program) (run : Run) (b : List ℕ) → legal_from c i run b ≡ true → IsLawful c i run (rows_from c i run b) × (after_rows c i run (rows_from c i run b) ≡ run_from c i run b)
@@ -54,10 +54,10 @@ AsksAreOrderly = (i : Program) (b : ℕ) (s : HartState) → s.ic + b < 2 ^ 64 �
 budget_limit : (c : RawSettings) (h : Hart) → budget c h ≤ c.limit - h.state.ic
 budget_limit c h = grind (arith, common_steps)
 
-ordered : AsksAreOrderly → (c : RawSettings) (i : Program) (h : Hart) → c.limit < 2 ^ 63 → IsFit c h → is_orderly c i h (ask_at c i h) ≡ true
+pub ordered : AsksAreOrderly → (c : RawSettings) (i : Program) (h : Hart) → c.limit < 2 ^ 63 → IsFit c h → is_orderly c i h (ask_at c i h) ≡ true
 ordered asks c i h small fit = asks i (budget c h) h.state (omega (arith, small, fit.limit, budget_limit c h))
 
-both : (a b : Bool) → (a && b) ≡ true → (a ≡ true) × (b ≡ true)
+pub both : (a b : Bool) → (a && b) ≡ true → (a ≡ true) × (b ≡ true)
 both true b e = (refl, e)
 both false b e = cc
 
@@ -74,7 +74,7 @@ pub record Laws : Type 0 where
   pub others : OthersStayFit
   pub guarded : GuardedAsksFit
 
-eqb_same : (k : ℕ) → (k == k) ≡ true
+pub eqb_same : (k : ℕ) → (k == k) ≡ true
 eqb_same k = grind arith
 
 -- ---- the hart that asks
@@ -137,7 +137,7 @@ reply_of c i run k = let ask = ask_at c i (run.harts k) in (answer c (call_of i 
 abbrev state_of : RawSettings → Program → Run → ℕ → HartState
 state_of c i run k = absorbed (ask_at c i (run.harts k)) (reply_of c i run k)
 
-abbrev next_at : RawSettings → Program → Run → ℕ → Next
+abbrev pub next_at : RawSettings → Program → Run → ℕ → Next
 next_at c i run k = let ask = ask_at c i (run.harts k) in next_of c (call_of i run.machine ask.want) ((asked_at c i run k).harts k) ask.want (reply_of c i run k) (state_of c i run k).ic
 
 abbrev load_at : RawSettings → Program → Run → ℕ → Option Warm
@@ -155,14 +155,14 @@ harts_of_turn c i run k j o =
 own_is : (c : RawSettings) (i : Program) (run : Run) (k j : ℕ) → is_orderly c i (run.harts k) (ask_at c i (run.harts k)) ≡ true → (j == k) ≡ true → (turn c i run k).harts j ≡ own_at c i run k
 own_is c i run k j o e = harts_of_turn c i run k j o ∙ ap (λ (b : Bool). elim b as (λ x. Hart) [ true ↦ own_at c i run k | false ↦ other_after (next_at c i run k) ((asked_at c i run k).harts j) ]) e
 
-other_is : (c : RawSettings) (i : Program) (run : Run) (k j : ℕ) → is_orderly c i (run.harts k) (ask_at c i (run.harts k)) ≡ true → (j == k) ≡ false → (turn c i run k).harts j ≡ other_after (next_at c i run k) (run.harts j)
+pub other_is : (c : RawSettings) (i : Program) (run : Run) (k j : ℕ) → is_orderly c i (run.harts k) (ask_at c i (run.harts k)) ≡ true → (j == k) ≡ false → (turn c i run k).harts j ≡ other_after (next_at c i run k) (run.harts j)
 other_is c i run k j o e = harts_of_turn c i run k j o ∙ ap (λ (b : Bool). elim b as (λ x. Hart) [ true ↦ own_at c i run k | false ↦ other_after (next_at c i run k) ((asked_at c i run k).harts j) ]) e
     ∙ ap (other_after (next_at c i run k)) (asking_other (guarded_at c i run k) run k j (ask_at c i (run.harts k)).state e)
 
 -- ---- counts
 
 -- how a turn changes what is left to each hart
-record Left (c : RawSettings) (old new : Run) (k : ℕ) : Type 0 where
+pub record Left (c : RawSettings) (old new : Run) (k : ℕ) : Type 0 where
   pub fit : (j : ℕ) → IsRested c (new.harts j)
   pub less : turns_left c (new.harts k) < turns_left c (old.harts k)
   pub others : (j : ℕ) → turns_left c (new.harts j) ≤ turns_left c (old.harts j)
@@ -176,7 +176,7 @@ asking laws c i run k setting fit live =
     subst (λ (x : Hart). IsAsking c i h x ask) (sym (asking_own g run k ask.state))
     (asking_if g laws c i h (run.bytes + total (guard_records run k ask.state)) ask setting.interval_low fit live o (uncut c run k ask.want))
 
-turn_left : Laws → (c : RawSettings) (i : Program) (run : Run) (k : ℕ) → IsSetting c → ((j : ℕ) → IsRested c (run.harts j)) → (run.harts k).live ≡ true → Left c run (turn c i run k) k
+pub turn_left : Laws → (c : RawSettings) (i : Program) (run : Run) (k : ℕ) → IsSetting c → ((j : ℕ) → IsRested c (run.harts j)) → (run.harts k).live ≡ true → Left c run (turn c i run k) k
 turn_left laws c i run k setting fit live =
     let h = run.harts k in
     let at = (asked_at c i run k).harts k in
@@ -216,7 +216,7 @@ one_less c (suc n) own f g within each less = elim (eqb_tells own n) [
     lower : (j n : ℕ) → j < suc n → j ≢ n → j < n
     lower j n h e = omega (arith, h, e)
 
-below_of : (a b : ℕ) → nat_lt a b ≡ true → a < b
+pub below_of : (a b : ℕ) → nat_lt a b ≡ true → a < b
 below_of a b e = grind arith
 
 pub few_turns : Laws → (c : RawSettings) (i : Program) (run : Run) (b : List ℕ) → IsSetting c → ((j : ℕ) → IsRested c (run.harts j)) → legal_from c i run b ≡ true → length b ≤ all_left c c.harts run.harts
@@ -283,13 +283,13 @@ stopped_place : (b : Bool) (h : Hart) → place_of (elim b as (λ x. Hart) [ tru
 stopped_place true h = refl
 stopped_place false h = refl
 
-other_place : (next : Next) (h : Hart) → place_of (other_after next h) ≡ place_of h
+pub other_place : (next : Next) (h : Hart) → place_of (other_after next h) ≡ place_of h
 other_place GoesOn h = refl
 other_place (NewInterval reason value) h = refl
 other_place (HartOver reason value) h = refl
 other_place (RunOver reason value) h = stopped_place h.live h
 
-own_place : (c : RawSettings) (i : Program) (run : Run) (k : ℕ) → is_orderly c i (run.harts k) (ask_at c i (run.harts k)) ≡ true
+pub own_place : (c : RawSettings) (i : Program) (run : Run) (k : ℕ) → is_orderly c i (run.harts k) (ask_at c i (run.harts k)) ≡ true
     → let row = row_at c i run k in place_after c (place_of (run.harts k)) row.ask row.guarded row.reply ≡ place_of ((turn c i run k).harts k)
 unfolding PlaceIs
 own_place c i run k o =
@@ -299,7 +299,7 @@ own_place c i run k o =
     ∙ ap (λ (n : ℕ). place_from c n ask (reply_of c i run k)) (sym (asking_begun (guarded_at c i run k) run k ask))
     ∙ sym (ap place_of (own_is c i run k k o (eqb_same k)) ∙ want_place ask.want c i run.machine k at ask.state _ _)
 
-differ : (j k : ℕ) → (j ≡ k → ⊥) → (j == k) ≡ false
+pub differ : (j k : ℕ) → (j ≡ k → ⊥) → (j == k) ≡ false
 differ j k f = elim (eqb_tells j k) [
   | inl p ↦ absurd (f p.1)
   | inr p ↦ p.0

@@ -1,13 +1,17 @@
 -- What holds of the turns of a legal list.
-use Rattle.std.specs.Prelude.{◌≡◌, ◌≤◌, ◌==◌, ℕ, true, false, List, length}
+use Rattle.std.specs.Prelude.{◌≡◌, ◌≤◌, ◌<◌, ◌==◌, ℕ, true, false, List, [], ◌∷◌, ◌++◌, length, map, IsTrue}
 use Rattle.rv_meaning.specs.Execute.{absorbed}
+use Rattle.rv_meaning.specs.Orderly.{is_reply_to}
+use Rattle.rv_meaning.specs.declared.asks.Ask.{Ask}
+use Rattle.bn_outside.specs.declared.turn_row.TurnRow.{TurnRow}
+use Rattle.run_model.specs.Counts.{IsRested}
 use Rattle.run_model.specs.Turn.{Run, serve, turn, ask_at, is_orderly}
 use Rattle.bn_base.specs.Programs.{Program}
 use Rattle.bn_base.specs.Ranges.{IsSetting}
 use Rattle.bn_base.specs.declared.settings.RawSettings.{RawSettings}
 use Rattle.run_model.specs.Files.{kept_of, IsEndOf}
-use Rattle.run_model.specs.Runs.{start, start_hart, start_state, run_of, legal_from, most_turns}
-use Rattle.run_laws.specs.History.{after_rows, IsLawful, IsOwn, place_of, rows_from, rows_by}
+use Rattle.run_model.specs.Runs.{start, start_hart, start_state, run_from, run_of, legal_from, most_turns}
+use Rattle.run_laws.specs.History.{after_rows, are_orderly, IsLawful, IsOwn, Place, place_of, place_after, ask_from, rows_from, rows_by}
 
 -- the rows of a legal list are lawful from the start, and lead to its run
 abbrev pub TurnsAreLawful : Type 0
@@ -38,3 +42,64 @@ pub record TurnsMoveTheirHart : Type 0 where
 -- what the log keeps is an end of the run's records
 abbrev pub KeptIsAnEnd : Type 0
 KeptIsAnEnd = (c : RawSettings) (run : Run) → IsEndOf run.stream (kept_of c run)
+
+-- ---- rows that are lawful and each hart's own
+
+-- the harts of rows, in order
+abbrev pub harts_of : List TurnRow → List ℕ
+harts_of rows = map (λ (r : TurnRow). r.hart) rows
+
+-- each hart's rows are the hart's own from where it is in a run
+abbrev pub AreOwn : RawSettings → Program → Run → List TurnRow → Type 0
+AreOwn c i run rows = (h : ℕ) → h < c.harts → IsOwn c i h (place_of (run.harts h)) (rows_by h rows)
+
+-- rows after a run are those of the turns of their harts: a legal list, whose run they lead to, by orderly asks alone
+pub record AreTurns (c : RawSettings) (i : Program) (run : Run) (rows : List TurnRow) : Type 0 where
+  pub legal : legal_from c i run (harts_of rows) ≡ true
+  pub rows_are : rows ≡ rows_from c i run (harts_of rows)
+  pub run_is : after_rows c i run rows ≡ run_from c i run (harts_of rows)
+  pub orderly : are_orderly c i run rows ≡ true
+
+-- lawful rows after a run, of which each hart's are its own, are those of the turns of their harts
+abbrev pub OwnRowsGoOn : Type 0
+OwnRowsGoOn = (c : RawSettings) (i : Program) (run : Run) (rows : List TurnRow) → IsSetting c → ((j : ℕ) → IsRested c (run.harts j)) → IsLawful c i run rows → AreOwn c i run rows → AreTurns c i run rows
+
+-- so are they from the start
+abbrev pub OwnRowsAreTurns : Type 0
+OwnRowsAreTurns = (c : RawSettings) (i : Program) (input : List ℕ) (rows : List TurnRow) → IsSetting c → IsLawful c i (start c i input) rows
+    → AreOwn c i (start c i input) rows → AreTurns c i (start c i input) rows
+
+-- ---- a hart that makes its own rows, and rows that go on
+
+-- where a hart is after rows of its own
+abbrev pub place_over : RawSettings → Place → List TurnRow → Place
+place_over c p [] = p
+place_over c p (r ∷ rs) = place_over c (place_after c p r.ask r.guarded r.reply) rs
+
+-- a hart that asks what it asks next has one more row of its own
+abbrev pub OwnRowsGrow : Type 0
+OwnRowsGrow = (c : RawSettings) (i : Program) (h : ℕ) (p : Place) (rows : List TurnRow) (r : TurnRow) → IsOwn c i h p rows → r.hart ≡ h → r.ask ≡ ask_from c i (place_over c p rows)
+    → IsOwn c i h p (rows ++ r ∷ []) × (place_over c p (rows ++ r ∷ []) ≡ place_after c (place_over c p rows) r.ask r.guarded r.reply)
+
+-- the run and the rows of a list that goes on
+pub record ListsGoOn : Type 0 where
+  pub run : (c : RawSettings) (i : Program) (run : Run) (b more : List ℕ) → run_from c i run (b ++ more) ≡ run_from c i (run_from c i run b) more
+  pub rows : (c : RawSettings) (i : Program) (run : Run) (b more : List ℕ) → rows_from c i run (b ++ more) ≡ rows_from c i run b ++ rows_from c i (run_from c i run b) more
+  pub legal : (c : RawSettings) (i : Program) (run : Run) (b more : List ℕ) → legal_from c i run b ≡ true → legal_from c i (run_from c i run b) more ≡ true → legal_from c i run (b ++ more) ≡ true
+
+-- Rows in threads, and the turns of a list after them: where the rows are lawful from the start, each hart's are its own, and
+-- the list is legal after them, all together are the rows of one legal list, lawful and each hart's own
+pub record AreJoined (c : RawSettings) (i : Program) (input : List ℕ) (rows : List TurnRow) (more : List ℕ) : Type 0 where
+  pub legal : legal_from c i (start c i input) (harts_of rows ++ more) ≡ true
+  pub rows_are : rows ++ rows_from c i (after_rows c i (start c i input) rows) more ≡ rows_from c i (start c i input) (harts_of rows ++ more)
+  pub run_is : run_from c i (after_rows c i (start c i input) rows) more ≡ run_of c i input (harts_of rows ++ more)
+  pub lawful : IsLawful c i (start c i input) (rows ++ rows_from c i (after_rows c i (start c i input) rows) more)
+  pub own : AreOwn c i (start c i input) (rows ++ rows_from c i (after_rows c i (start c i input) rows) more)
+
+abbrev pub OwnRowsAreJoined : Type 0
+OwnRowsAreJoined = (c : RawSettings) (i : Program) (input : List ℕ) (rows : List TurnRow) (more : List ℕ) → IsSetting c → IsLawful c i (start c i input) rows → AreOwn c i (start c i input) rows
+    → legal_from c i (after_rows c i (start c i input) rows) more ≡ true → AreJoined c i input rows more
+
+-- the reply to an ask, whoever made it, is one to what it wants
+abbrev pub RepliesFit : Type 0
+RepliesFit = (c : RawSettings) (i : Program) (run : Run) (k : ℕ) (ask : Ask) → IsTrue (is_reply_to ask.want (serve c i run k ask).reply)

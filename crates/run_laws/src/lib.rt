@@ -2,7 +2,7 @@
 //! nothing: their contracts are theorems over the definitions of `run_model`.
 #![tactic(auto)]
 
-ghost use Rattle.run_laws.specs.Laws.{TurnsAreLawful, TurnsAreOwn, RunsEnd, OwnAsksAreOrderly, TurnsMoveTheirHart, KeptIsAnEnd};
+ghost use Rattle.run_laws.specs.Laws.{TurnsAreLawful, TurnsAreOwn, RunsEnd, OwnAsksAreOrderly, TurnsMoveTheirHart, KeptIsAnEnd, OwnRowsGoOn, OwnRowsAreTurns, OwnRowsGrow, ListsGoOn, OwnRowsAreJoined, RepliesFit};
 
 mod examples;
 
@@ -63,3 +63,51 @@ pub fn kept_records_are_an_end()
 {
     a_suffix_is_kept();
 }
+
+/// Lawful rows after a run, of which each hart's are its own, are the rows of the turns of their harts.
+pub fn own_rows_go_on()
+    ensures { OwnRowsGoOn }
+{
+    each_ask_is_orderly();
+    each_turn_moves_on();
+    guarded_asks_fit();
+    each_turn_fits();
+    others_stay_fit();
+}
+
+/// Rows that are lawful from the start, of which each hart's are its own, are the rows of the turns of
+/// their harts: the list of these is legal, its run is the one that the rows lead to, and no ask was out
+/// of order.
+pub fn own_rows_are_turns()
+    ensures { OwnRowsAreTurns }
+{
+    own_rows_go_on();
+}
+
+/// A hart that asks what it asks next has one more row of its own, and is where the reply leaves it.
+pub fn own_rows_grow()
+    ensures { OwnRowsGrow }
+{}
+
+/// The run and the rows of a list that goes on, and that it is legal where both parts are.
+#[tactic(auto, using(crate::proofs::Converse::lists_go_on))]
+pub fn lists_go_on()
+    ensures { ListsGoOn }
+{}
+
+/// Rows as above, and behind them those of the turns of a list, are the rows of one legal list, lawful
+/// and each hart's own.
+pub fn own_rows_are_joined()
+    ensures { OwnRowsAreJoined }
+{
+    own_rows_are_turns();
+    lists_go_on();
+    turns_are_lawful();
+    turns_are_own();
+}
+
+/// The reply to an ask is one to what it wants, whoever made it.
+#[tactic(auto, using(crate::proofs::Replies::replies_fit))]
+pub fn replies_fit()
+    ensures { RepliesFit }
+{}
