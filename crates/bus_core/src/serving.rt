@@ -1,5 +1,6 @@
 // What a bus does.
-ghost use Rattle.std.specs.Prelude.{◌≡◌, ◌<◌, ◌+◌, ◌∷◌, ◌++◌, [], ℕ, Bool, true, false, not, ◌&&◌, ◌||◌, List, is_some, IfOk, OnOk, OnErr, IfSome};
+ghost use Rattle.std.specs.Prelude.{◌≡◌, ◌<◌, ◌+◌, ◌∷◌, ◌++◌, [], ℕ, Bool, true, false, not, ◌&&◌, ◌||◌, List, is_some, IfOk, OnOk, OnErr, IfSome, IsTrue};
+ghost use Rattle.rv_meaning.specs.Orderly.{is_reply_to};
 ghost use Rattle.log_ring.specs.Kept.{Holds};
 ghost use Rattle.run_model.specs.Stands.Harts.{hart_in};
 ghost use Rattle.run_model.specs.Runs.{is_live, is_over, most_turns};
@@ -14,6 +15,7 @@ use crate::turn::take;
 use bn_base::{HartId, HartState};
 use bn_outside::{Book, TurnRow};
 use race_log::notes_decide;
+use run_laws::replies_fit;
 use run_model::{Plain, Start};
 use rv_meaning::{Ask, Reply};
 use std::alloc::{AllocError, Global};
@@ -82,14 +84,16 @@ impl<B: Book> Bus<B> {
     }
 
     /// Serves what a live hart asks: the reply, whether the ask was guarded, and the next state are those of
-    /// the definition, from the state that the bus held, and the book has the row. An ask that isn't orderly, which no hart makes by itself,
-    /// ends all and is answered with `Over`.
+    /// the definition, from the state that the bus held, and the book has the row. The reply is one to what
+    /// is asked. An ask that isn't orderly, which no hart makes by itself, ends all and is answered with
+    /// `Over`.
     ///
     /// All memory is found first. On `Err`, for want of it, nothing has changed: served again, the ask has
     /// the same reply and leaves the same.
     pub fn serve(&mut self, hart: HartId, ask: &Ask) -> Result<(Reply, bool), AllocError>
         requires { live_in self.old hart ≡ true }
         ensures reply { IfOk result (λ r. (run : Run) → IsState self.old run → r.0 ≡ served_reply self.old.began run hart ask.now) }
+        ensures fits { IfOk result (λ r. IsTrue (is_reply_to ask.now.want r.0)) }
         ensures guarded { IfOk result (λ r. (run : Run) → IsState self.old run → r.1 ≡ served_guarded self.old.began run hart ask.now) }
         ensures state { OnOk result ((run : Run) → IsState self.old run → IsState self.new (served_run self.old.began run hart ask.now)) }
         ensures told { IfOk result (λ r. B.tells ≡ true → self.new.rows ≡ self.old.rows ++ row hart ask.now r.0 r.1 ∷ []) }
@@ -101,6 +105,7 @@ impl<B: Book> Bus<B> {
         ensures halted { self.new.halted ≡ self.old.halted }
     {
         notes_decide();
+        replies_fit();
         let orderly = self.plain.is_orderly(hart, ask);
         let served = take(&mut self.plain, &mut self.book, hart, ask, orderly)?;
         self.disordered = self.disordered || !orderly;

@@ -1,4 +1,7 @@
 use Rattle.std.proofs.Common.{◌≡◌, ℕ, ◌+◌, Bool, true, not, ◌||◌, List, ◌∷◌, ◌++◌, [], subst, sym, ◌∙◌, ap}
+use Rattle.std.specs.Prelude.{IsTrue}
+use Rattle.rv_meaning.specs.Orderly.{is_reply_to}
+use Rattle.rv_meaning.specs.declared.asks.Reply.{Reply}
 use Rattle.bn_outside.specs.declared.turn_row.TurnRow.{TurnRow}
 use Rattle.run_model.specs.Turn.{is_orderly, serve}
 use Rattle.run_model.specs.Stands.Turning.{parts}
@@ -92,3 +95,11 @@ returns-clause-turns g c =
     let run = run_after (began_of p.start) b.halted s.0 in
     (c.in_ok-served.ensures.run run s.1.run).turns ∙ served_turns p.start.settings p.start.image run c.args.hart c.args.ask.now
     ∙ ap (λ (n : ℕ). n + 1) (sym s.1.run.turns ∙ ap (λ (x : Seen). x.turns) c.self.view_is)
+
+pub returns-clause-fits : goal.returns-clause-fits
+returns-clause-fits g c =
+    let p = parts c.self.inside.plain in
+    let s = c.self.invariant.some in
+    let run = run_after (began_of p.start) c.self.inside.halted s.0 in
+    let ask = c.args.ask.now in
+    subst (λ (r : Reply). IsTrue (is_reply_to ask.want r)) (sym (c.in_ok-served.ensures.reply run s.1.run)) (c.replies_fit.ensures p.start.settings p.start.image run c.args.hart ask)
