@@ -4,3 +4,5 @@ pub mod Seeds
 pub mod Taken
 pub mod Errors
 pub mod Whole
+pub mod OwnRuns
+pub mod Own

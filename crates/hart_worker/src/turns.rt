@@ -1,8 +1,9 @@
 // The turns of harts on the caller's thread.
-ghost use Rattle.std.specs.Prelude.{◌≡◌, ◌+◌, ◌<◌, ◌∷◌, ◌++◌, [], ℕ, true, List, Some, OnOk, IfOk, IfErr, ◌⊎◌};
+ghost use Rattle.std.specs.Prelude.{◌≡◌, ◌+◌, ◌<◌, ◌∷◌, ◌++◌, [], ℕ, true, false, List, Some, OnOk, IfOk, IfErr, ◌⊎◌};
 ghost use Rattle.bus_core.specs.Bus.{live_in};
 ghost use Rattle.hart_worker.specs.Lists.{HasTaken, is_finished, seeded_after, list_run, error_of};
-ghost use Rattle.hart_worker.specs.Closed.{IsClosed};
+ghost use Rattle.bn_outside.specs.declared.turn_row.TurnRow.{TurnRow};
+ghost use Rattle.hart_worker.specs.Closed.{IsClosed, IsOfRows};
 ghost use Rattle.hart_worker.specs.declared.error.TurnError.TheVariants.{OutOfMemory};
 
 use crate::choosing::{choose, draw};
@@ -22,6 +23,7 @@ fn take_turn<B: Book>(code: &DecodedImage, bus: &mut Bus<B>, hart: HartId) -> Re
     ensures taken { OnOk result ((list : List ℕ) → HasTaken B.tells bus.old list → HasTaken B.tells bus.new (list ++ hart ∷ [])) }
     ensures turns { OnOk result (bus.new.turns ≡ bus.old.turns + 1) }
     ensures began { bus.new.began ≡ bus.old.began }
+    ensures halted { bus.new.halted ≡ bus.old.halted }
 {
     own_asks_are_orderly();
     let _settings = bus.start().settings.raw();
@@ -31,20 +33,20 @@ fn take_turn<B: Book>(code: &DecodedImage, bus: &mut Bus<B>, hart: HartId) -> Re
     Ok(())
 }
 
-/// Turns chosen by the draws after a number, from the first turn on, until no hart is live. What is given
-/// is their list: a byte for each, the number of its hart.
+/// Turns chosen by the draws after a number, until no hart is live. What is given is their list: a byte
+/// for each, the number of its hart.
 pub fn finish<B: Book>(
     alloc: Global,
     code: &DecodedImage,
     bus: &mut Bus<B>,
     seed: u64,
 ) -> Result<Vec<u8>, AllocError>
-    requires code { code.now ≡ bus.old.began.image }
-    requires start { HasTaken B.tells bus.old [] }
-    ensures list { IfOk result (λ list. list.items ≡ seeded_after bus.old.began [] seed) }
-    ensures taken { IfOk result (λ list. HasTaken B.tells bus.new list.items) }
-    ensures finished { IfOk result (λ list. is_finished bus.new.began list.items ≡ true) }
+    requires { code.now ≡ bus.old.began.image }
+    ensures list { IfOk result (λ more. (list : List ℕ) → HasTaken B.tells bus.old list → more.items ≡ seeded_after bus.old.began list seed) }
+    ensures taken { IfOk result (λ more. (list : List ℕ) → HasTaken B.tells bus.old list → HasTaken B.tells bus.new (list ++ more.items)) }
+    ensures finished { IfOk result (λ more. (list : List ℕ) → HasTaken B.tells bus.old list → is_finished bus.new.began (list ++ more.items) ≡ true) }
     ensures began { bus.new.began ≡ bus.old.began }
+    ensures halted { bus.new.halted ≡ bus.old.halted }
 {
     let mut list = Vec::new(alloc);
     let mut state = seed;
@@ -83,7 +85,11 @@ pub fn follow<B: Book>(code: &DecodedImage, bus: &mut Bus<B>, list: &[u8]) -> Re
 
 /// What the bus hands over after the turns of a list that leaves no hart live.
 pub fn close<B: Book>(bus: Bus<B>) -> Closed<B>
-    ensures { (list : List ℕ) → HasTaken B.tells bus list → is_finished bus.began list ≡ true → IsClosed B.tells bus.began list result (B.told result.book) }
+    ensures closed { (list : List ℕ) → HasTaken B.tells bus list → is_finished bus.began list ≡ true → IsClosed B.tells bus.began list result (B.told result.book) }
+    ensures running { result.finished ≡ true → bus.halted ≡ false }
+    ensures rows { B.told result.book ≡ bus.rows }
+    ensures size { result.ring.size ≡ bus.began.settings.log_size }
+    ensures of_rows { result.finished ≡ true → (rows : List TurnRow) × IsOfRows bus.began result rows }
 {
     bus.close()
 }

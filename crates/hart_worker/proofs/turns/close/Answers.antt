@@ -1,12 +1,13 @@
 use Rattle.std.proofs.Common.{◌∙◌}
 use Rattle.run_model.specs.Runs.{is_over}
+use Rattle.bus_core.specs.Bus.{run_after}
 use Rattle.hart_worker.specs.Lists.{list_run}
 use Rattle.hart_worker.proofs.Taken.{turns_are}
-use Rattle.hart_worker.proofs.Whole.{finished_is}
+use Rattle.hart_worker.proofs.Whole.{finished_is, running_of, of_rows}
 use Rattle.hart_worker.proofs.turns.close.Goals as goal
 
-pub returns : goal.returns
-returns g c = λ list h over.
+pub returns-clause-closed : goal.returns-clause-closed
+returns-clause-closed g c = λ list h over.
     let bus = c.args.bus in
     let run = list_run bus.began list in
     let e = c.close.ensures in
@@ -22,3 +23,19 @@ returns g c = λ list h over.
       log = e.log run h.state;
       told = λ t. e.book ∙ h.rows t;
     }
+
+pub returns-clause-running : goal.returns-clause-running
+returns-clause-running g c = λ whole.
+    let bus = c.args.bus in
+    let e = c.close.ensures in
+    let run = run_after bus.began bus.halted e.some.0 in
+    running_of c.close.result.finished bus.halted bus.disordered (is_over bus.began.settings run) (e.finished run e.some.1.state) whole
+
+pub returns-clause-of_rows : goal.returns-clause-of_rows
+returns-clause-of_rows g c = λ whole.
+    let bus = c.args.bus in
+    let e = c.close.ensures in
+    let rows = e.some.0 in
+    let l = e.some.1 in
+    let run = run_after bus.began bus.halted rows in
+    (rows, of_rows bus c.close.result rows l (e.finished run l.state) whole (e.out run l.state) (e.err run l.state) (e.ends run l.state) e.turns)

@@ -1,23 +1,28 @@
-use Rattle.std.proofs.Common.{◌≡◌, ℕ, List, ◌<◌, ◌∙◌, false, true, sym, ap, subst}
+use Rattle.std.proofs.Common.{◌≡◌, ℕ, List, ◌++◌, ◌<◌, ◌∙◌, false, true, refl, sym, ap, subst}
 use Rattle.run_model.specs.Runs.{any_live, chosen, draw, most_turns}
 use Rattle.bus_core.specs.Bus.{Began}
 use Rattle.hart_worker.specs.Lists.{list_run, live_in_run}
 use Rattle.hart_worker.proofs.Live.{over_none}
-use Rattle.hart_worker.proofs.Taken.{IsDrawn, drawn_next, drawn_all}
+use Rattle.hart_worker.proofs.Taken.{IsDrawn, drawn_first, drawn_next, drawn_all}
 use Rattle.hart_worker.proofs.turns.finish.Goals as goal
 
 pub returns-in-None-clause-list : goal.returns-in-None-clause-list
-returns-in-None-clause-list g c =
-    let list = c.drawing.list.items in
-    let d = c.drawing.invariant.drawn in
-    let none = subst (λ (b : Began). any_live b.settings.harts (list_run b list).harts ≡ false) c.drawing.invariant.began (c.in-None.ensures.value (list_run c.drawing.bus.began list) d.taken.state) in
-    drawn_all g.B.Book.tells c.args.bus.now.began c.args.seed c.drawing.bus c.drawing.state list d none
+returns-in-None-clause-list g c = λ list h.
+    let rest = c.drawing.list.items in
+    let d = c.drawing.invariant.drawn list h in
+    let none = subst (λ (b : Began). any_live b.settings.harts (list_run b (list ++ rest)).harts ≡ false) c.drawing.invariant.began (c.in-None.ensures.value (list_run c.drawing.bus.began (list ++ rest)) d.taken.state) in
+    drawn_all g.B.Book.tells c.args.bus.now.began list c.args.seed c.drawing.bus c.drawing.state rest d none
+
+pub returns-in-None-clause-taken : goal.returns-in-None-clause-taken
+returns-in-None-clause-taken g c = λ list h. (c.drawing.invariant.drawn list h).taken
 
 pub returns-in-None-clause-finished : goal.returns-in-None-clause-finished
-returns-in-None-clause-finished g c =
-    let list = c.drawing.list.items in
-    let bus = c.drawing.bus in
-    over_none bus.began.settings (list_run bus.began list) (c.in-None.ensures.value (list_run bus.began list) c.drawing.invariant.drawn.taken.state)
+returns-in-None-clause-finished g c = λ list h.
+    let run = list_run c.drawing.bus.began (list ++ c.drawing.list.items) in
+    over_none c.drawing.bus.began.settings run (c.in-None.ensures.value run (c.drawing.invariant.drawn list h).taken.state)
+
+pub drawing-init : goal.drawing-init
+drawing-init g c = record { began = refl; halted = refl; drawn = λ list h. subst (λ (xs : List ℕ). IsDrawn g.B.Book.tells c.args.bus.now.began list c.args.seed c.args.bus.now c.args.seed xs) (sym c.new-list.ensures.items) (drawn_first g.B.Book.tells c.args.bus.now list c.args.seed h) }
 
 pub drawing-preserved : goal.drawing-preserved
 drawing-preserved g c =
@@ -25,17 +30,20 @@ drawing-preserved g c =
     let e = c.drawing.invariant.began in
     let k = c.in-Some.hart in
     let now = c.drawing.state in
-    let list = c.drawing.list.items in
-    let d = c.drawing.invariant.drawn in
-    let chose = c.in-Some.ensures.value (list_run c.drawing.bus.began list) d.taken.state in
-    let any = subst (λ (x : Began). any_live x.settings.harts (list_run x list).harts ≡ true) e chose.0 in
-    let is = subst (λ (x : Began). k ≡ chosen c.draw-state.result (live_in_run x (list_run x list))) e chose.1 in
-    let drawn = is ∙ ap (λ (n : ℕ). chosen n (live_in_run b (list_run b list))) c.draw-state.ensures in
+    let rest = c.drawing.list.items in
     let few = subst (λ (x : Began). c.drawing.bus.turns < most_turns x.settings) e c.in-Some.ensures.left in
-    let taken = c.in_ok-take_turn-in-Some.ensures.taken list d.taken in
-    let next = drawn_next g.B.Book.tells b c.args.seed c.drawing.bus c.take_turn.new.bus now k list d e few any drawn taken in
-    let pushed = subst (λ (xs : List ℕ). IsDrawn g.B.Book.tells b c.args.seed c.take_turn.new.bus (draw now) xs) (sym c.in_ok-push-in-Some.ensures.items) next in
     record {
-      began = c.take_turn.ensures.began ∙ c.drawing.invariant.began;
-      drawn = subst (λ (n : ℕ). IsDrawn g.B.Book.tells b c.args.seed c.take_turn.new.bus n c.push.new.self.items) (sym c.draw-state.ensures) pushed;
+      began = c.take_turn.ensures.began ∙ e;
+      halted = c.take_turn.ensures.halted ∙ c.drawing.invariant.halted;
+      drawn = λ list h.
+          let d = c.drawing.invariant.drawn list h in
+          let all = list ++ rest in
+          let chose = c.in-Some.ensures.value (list_run c.drawing.bus.began all) d.taken.state in
+          let any = subst (λ (x : Began). any_live x.settings.harts (list_run x all).harts ≡ true) e chose.0 in
+          let is = subst (λ (x : Began). k ≡ chosen c.draw-state.result (live_in_run x (list_run x all))) e chose.1 in
+          let drawn = is ∙ ap (λ (n : ℕ). chosen n (live_in_run b (list_run b all))) c.draw-state.ensures in
+          let taken = c.in_ok-take_turn-in-Some.ensures.taken all d.taken in
+          let next = drawn_next g.B.Book.tells b list c.args.seed c.drawing.bus c.take_turn.new.bus now k rest d e few any drawn taken in
+          let pushed = subst (λ (xs : List ℕ). IsDrawn g.B.Book.tells b list c.args.seed c.take_turn.new.bus (draw now) xs) (sym c.in_ok-push-in-Some.ensures.items) next in
+          subst (λ (n : ℕ). IsDrawn g.B.Book.tells b list c.args.seed c.take_turn.new.bus n c.push.new.self.items) (sym c.draw-state.ensures) pushed;
     }

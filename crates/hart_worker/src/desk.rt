@@ -1,0 +1,123 @@
+//! Where a hart that runs by itself takes its turns.
+ghost use Rattle.std.specs.Prelude.{◌≡◌, true, false, [], IfOk, IfSome, OnOk, IsTrue};
+ghost use Rattle.rv_meaning.specs.Orderly.{is_reply_to};
+ghost use Rattle.run_laws.specs.History.{IsOwn};
+ghost use Rattle.run_laws.specs.Laws.{place_over};
+ghost use Rattle.hart_worker.specs.Threads.{place_at, taken_after, IsDriven};
+
+use crate::own_place::OwnPlace;
+use bn_base::{HartId, Settings};
+use bn_outside::{Gate, TurnRow};
+use run_laws::own_rows_grow;
+use rv_meaning::{Ask, DecodedImage, Reply, Want};
+use std::alloc::{AllocError, Global};
+use std::sync::Wait;
+
+/// Where a hart takes its turns.
+pub trait Desk {
+    ghost use Rattle.std.specs.Prelude.{Bool, List};
+    ghost use Rattle.bn_outside.specs.declared.turn_row.TurnRow.{TurnRow};
+
+    /// Whether desks of this type tell the turns that were taken.
+    ghost tells: { Bool };
+
+    /// The turns that were taken, the oldest first, where it tells them.
+    ghost taken: { Self → List TurnRow };
+
+    /// A turn: the reply, and whether the ask was guarded. None where the hart is over. The only error is
+    /// want of memory.
+    fn turn(&mut self, hart: HartId, ask: &Ask) -> Result<Option<(Reply, bool)>, AllocError>
+        ensures fits { IfOk result (λ o. IfSome o (λ r. IsTrue (is_reply_to ask.now.want r.0))) }
+        ensures taken { IfOk result (λ o. taken self.new ≡ taken_after tells (taken self.old) hart ask.now o) };
+}
+
+/// Runs one hart from a place until it is over, and gives where it is then. Each turn is one call of the
+/// desk, between the gate's `pass` and `served`; what is asked is what the hart asks next.
+pub fn drive<D: Desk, G: Gate, R: Wait>(
+    rt: &R,
+    desk: &mut D,
+    hart: HartId,
+    code: &DecodedImage,
+    settings: &Settings,
+    first: OwnPlace,
+    gate: &G,
+) -> Result<OwnPlace, AllocError>
+    requires { D.taken desk.old ≡ [] }
+    ensures { IfOk result (λ place. IsDriven D.tells settings.now code.now hart (place_at first) (D.taken desk.new) (place_at place)) }
+{
+    own_rows_grow();
+    let mut place = first;
+    for _ in rt.forever() {
+        let ask = place.ask(code, settings);
+        gate.pass(hart);
+        let Some((reply, guarded)) = desk.turn(hart, &ask)? else {
+            break;
+        };
+        gate.served(hart);
+        place = place.after(settings, &ask, guarded, reply);
+    }
+    Ok(place)
+}
+
+/// A desk in memory, for one hart: each turn takes the next word of a list, and the hart is over where
+/// the list ends. It keeps the turns.
+#[derive(Drop)]
+pub struct MemoryDesk {
+    words: Vec<u32>,
+    turns: Vec<TurnRow>,
+}
+
+impl MemoryDesk {
+    /// A desk that gives these words, before its first turn.
+    pub fn new(alloc: Global, words: Vec<u32>) -> MemoryDesk
+        ensures { result.turns.items ≡ [] }
+    {
+        MemoryDesk {
+            words,
+            turns: Vec::new(alloc),
+        }
+    }
+
+    /// The turns that were taken, the oldest first.
+    pub fn turns(&self) -> &[TurnRow]
+        ensures { result.now ≡ self.now.turns.items }
+    {
+        &self.turns
+    }
+}
+
+// A reply to a want that gives it a word.
+fn reply_with(want: &Want, word: u32) -> Reply
+    ensures { IsTrue (is_reply_to want.now result) }
+{
+    match want {
+        Want::Load { .. } | Want::LoadReserved { .. } | Want::Amo { .. } => Reply::Word(word),
+        Want::Store { .. } => Reply::Stored,
+        Want::StoreConditional { .. } => Reply::ScOk,
+        Want::System { .. } => Reply::Answer(word),
+        Want::Cut => Reply::Went,
+        Want::Faulted { .. } => Reply::Over,
+    }
+}
+
+impl Desk for MemoryDesk {
+    ghost use Rattle.std.specs.Prelude.{true};
+
+    ghost tells = { true };
+
+    ghost taken = { λ d. d.turns.items };
+
+    fn turn(&mut self, hart: HartId, ask: &Ask) -> Result<Option<(Reply, bool)>, AllocError> {
+        let Some(word) = self.words.get(self.turns.len()).copied() else {
+            return Ok(None);
+        };
+        let reply = reply_with(&ask.want, word);
+        self.turns.extend_from_slice(&[TurnRow {
+            hart,
+            ask: *ask,
+            reply,
+            guarded: false,
+        }])?;
+        Ok(Some((reply, false)))
+    }
+}

@@ -1,0 +1,84 @@
+// What is left to do when all harts that ran by themselves have stopped.
+ghost use Rattle.std.specs.Prelude.{◌≡◌, ◌<◌, ◌++◌, ℕ, true, false, List, length, IfOk};
+ghost use mathlib.Core.List.{IsPrefix};
+ghost use Rattle.bn_outside.specs.declared.turn_row.TurnRow.{TurnRow};
+ghost use Rattle.bus_core.specs.Bus.{began_of};
+ghost use Rattle.hart_worker.specs.Closed.{IsOfRows};
+ghost use Rattle.hart_worker.specs.Lists.{HasTaken, is_finished};
+ghost use Rattle.hart_worker.specs.Threads.{AreWorked, DoAgree, IsThreaded};
+
+use crate::comparing::{begins_with, compares};
+use crate::laws::rows_name_their_harts;
+use crate::runs::run_seeded;
+use crate::turns::{close, finish};
+use crate::worker::Worked;
+use bn_outside::Book;
+use bus_core::{Bus, Closed};
+use run_laws::{lists_go_on, turns_are_lawful, turns_are_own};
+use run_model::Start;
+use rv_meaning::DecodedImage;
+use std::alloc::{AllocError, Global};
+
+/// Finishes the run of a bus that began with this and whose book agrees with what the harts gave, by the
+/// turns of seed 0; else the book is cleared, and the run is made again by the turns of seed 0.
+///
+/// The only error is want of memory.
+pub fn settle<B: Book>(
+    alloc: Global,
+    code: &DecodedImage,
+    from: &Start,
+    mut bus: Bus<B>,
+    worked: &[Result<Worked, AllocError>],
+) -> Result<Closed<B>, AllocError>
+    requires code { code.now ≡ from.now.image }
+    requires len { length worked.now ≡ from.now.settings.harts }
+    requires each { AreWorked (began_of from.now) worked.now }
+    ensures finished { IfOk result (λ c. c.finished ≡ true) }
+    ensures size { IfOk result (λ c. c.ring.size ≡ from.now.settings.log_size) }
+    ensures of_rows { IfOk result (λ c. (rows : List TurnRow) × IsOfRows (began_of from.now) c rows) }
+    ensures run { IfOk result (λ c. B.tells ≡ true → IsThreaded (began_of from.now) c (B.told c.book)) }
+    ensures keeps { bus.began ≡ began_of from.now → DoAgree (began_of from.now) bus.rows worked.now → bus.halted ≡ false → B.tells ≡ true → IfOk result (λ c. IsPrefix bus.rows (B.told c.book)) }
+{
+    lists_go_on();
+    if begins_with(&bus, from) && compares(&bus, from, worked) {
+        let _more = finish(alloc, code, &mut bus, 0)?;
+        let closed = close_own(from, bus);
+        if closed.finished {
+            return Ok(closed);
+        }
+        return again(alloc, from, closed.book);
+    }
+    again(alloc, from, bus.close().book)
+}
+
+// What is handed over, after turns of which each hart's are its own.
+fn close_own<B: Book>(from: &Start, bus: Bus<B>) -> Closed<B>
+    requires { bus.began ≡ began_of from.now }
+    ensures run { (list : List ℕ) → HasTaken B.tells bus list → is_finished bus.began list ≡ true → B.tells ≡ true → IsThreaded (began_of from.now) result (B.told result.book) }
+    ensures rows { B.told result.book ≡ bus.rows }
+    ensures size { result.ring.size ≡ from.now.settings.log_size }
+    ensures of_rows { result.finished ≡ true → (rows : List TurnRow) × IsOfRows (began_of from.now) result rows }
+    ensures finished { (list : List ℕ) → HasTaken B.tells bus list → is_finished bus.began list ≡ true → result.finished ≡ true }
+    ensures running { result.finished ≡ true → bus.halted ≡ false }
+{
+    turns_are_lawful();
+    turns_are_own();
+    rows_name_their_harts();
+    let _settings = from.settings.raw();
+    close(bus)
+}
+
+// The run by the turns of seed 0.
+fn again<B: Book>(alloc: Global, from: &Start, book: B) -> Result<Closed<B>, AllocError>
+    ensures finished { IfOk result (λ c. c.finished ≡ true) }
+    ensures size { IfOk result (λ c. c.ring.size ≡ from.now.settings.log_size) }
+    ensures of_rows { IfOk result (λ c. (rows : List TurnRow) × IsOfRows (began_of from.now) c rows) }
+    ensures run { IfOk result (λ c. B.tells ≡ true → IsThreaded (began_of from.now) c (B.told c.book)) }
+{
+    turns_are_lawful();
+    turns_are_own();
+    rows_name_their_harts();
+    let _settings = from.settings.raw();
+    let closed = run_seeded(alloc, from, book, 0)?;
+    Ok(closed)
+}

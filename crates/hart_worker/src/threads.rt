@@ -1,0 +1,94 @@
+//! Runs whose harts are in threads of their own.
+ghost use Rattle.std.specs.Prelude.{◌≡◌, ◌<◌, ℕ, true, List, length, vec_len, slice_index_or, IfOk};
+ghost use Rattle.bn_outside.specs.declared.turn_row.TurnRow.{TurnRow};
+ghost use Rattle.bus_core.specs.Bus.{began_of};
+ghost use Rattle.hart_worker.specs.Closed.{IsOfRows};
+ghost use Rattle.hart_worker.specs.Threads.{AreWorked, IsHartsOwn, IsThreaded};
+
+use crate::own_place::OwnPlace;
+use crate::settling::settle;
+use crate::worker::{LockedBus, Worked, work_at};
+use bn_base::HartId;
+use bn_outside::{Book, Gate};
+use bus_core::{Bus, Closed};
+use run_model::Start;
+use rv_meaning::DecodedImage;
+use std::alloc::{AllocError, Global};
+use std::sync::{Mutex, Wait};
+use std::thread;
+use std::thread::Threads;
+
+/// Runs each hart in a thread of its own, on one bus under its lock. What is given is a whole run: where
+/// the book tells its rows, they are those of the list of their harts, which is legal and finished, each
+/// hart's are its own, and all else is as the turns of that list leave it. Which list comes isn't told.
+///
+/// Where the book and the harts don't agree on the turns, or the bus was begun otherwise, the run is made
+/// again by the turns of seed 0. The only error is want of memory, also that of a hart.
+pub fn run_threads<B: Book + Send, G: Gate, R: Threads + Wait + Sync>(
+    rt: &R,
+    alloc: Global,
+    from: &Start,
+    book: B,
+    gate: &G,
+) -> Result<Closed<B>, AllocError>
+    ensures finished { IfOk result (λ c. c.finished ≡ true) }
+    ensures size { IfOk result (λ c. c.ring.size ≡ from.now.settings.log_size) }
+    ensures of_rows { IfOk result (λ c. (rows : List TurnRow) × IsOfRows (began_of from.now) c rows) }
+    ensures run { IfOk result (λ c. B.tells ≡ true → IsThreaded (began_of from.now) c (B.told c.book)) }
+{
+    let code = DecodedImage::new(alloc, &from.image)?;
+    let bus = Mutex::new(Bus::new(alloc, from, book)?);
+    let worked = run_workers(rt, alloc, &bus, &code, from, gate)?;
+    for one in &worked {
+        if one.is_err() {
+            return Err(AllocError);
+        }
+    }
+    settle(alloc, &code, from, bus.into_inner(), &worked)
+}
+
+// What each hart did, in a thread of its own.
+fn run_workers<B: Book + Send, G: Gate, R: Threads + Wait + Sync>(
+    rt: &R,
+    alloc: Global,
+    bus: &Mutex<Bus<B>>,
+    code: &DecodedImage,
+    from: &Start,
+    gate: &G,
+) -> Result<Vec<Result<Worked, AllocError>>, AllocError>
+    requires { code.now ≡ from.now.image }
+    ensures len { IfOk result (λ v. vec_len v ≡ from.now.settings.harts) }
+    ensures each { IfOk result (λ v. AreWorked (began_of from.now) v.items) }
+{
+    let one = |hart: usize| -> Result<Worked, AllocError>
+        requires number { hart < 256 }
+        requires code { code.now ≡ from.now.image }
+        ensures { IfOk result (λ w. IsHartsOwn (began_of from.entry.now) hart w.mine.items) }
+    { run_one(rt, alloc, bus, hart as HartId, code, from, gate) };
+    thread::map_indices(rt, alloc, usize::from(from.settings.harts()), &one)
+}
+
+// What one hart did.
+fn run_one<B: Book, G: Gate, R: Wait>(
+    rt: &R,
+    alloc: Global,
+    bus: &Mutex<Bus<B>>,
+    hart: HartId,
+    code: &DecodedImage,
+    from: &Start,
+    gate: &G,
+) -> Result<Worked, AllocError>
+    requires { code.now ≡ from.now.image }
+    ensures { IfOk result (λ w. IsHartsOwn (began_of from.now) hart w.mine.items) }
+{
+    let first = OwnPlace::first(&from.settings, &from.image, hart);
+    work_at(
+        rt,
+        LockedBus::new(rt, alloc, bus),
+        hart,
+        code,
+        &from.settings,
+        first,
+        gate,
+    )
+}

@@ -1,0 +1,8 @@
+// Tests of harts in threads.
+// They stand in a crate of their own, since a crate with tests is proved twice.
+#![tactic(auto)]
+
+#[cfg(test)]
+mod desks;
+#[cfg(test)]
+mod threads;
