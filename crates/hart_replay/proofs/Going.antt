@@ -97,7 +97,7 @@ module _ (i : Program) (h : ℕ) (m : EndMark) (s : HartState) (called : Bool) (
 -- ---- the contracts of the steps
 
 abbrev pub side_of : Course → Side
-side_of c = side c.loads c.conditionals c.words
+side_of c = side c.loads c.conditionals c.words.pages
 
 -- the definition's next, where it depends on a word
 abbrev pub by_word : Course → Want → ℕ → (ℕ → Reply) → (load store : ℕ → Option (ℕ × ℕ)) → Option ℕ → Next
@@ -106,11 +106,11 @@ by_word c k w reply load store o = elim o as (λ y. Next) [ None ↦ missing c.h
 -- what a kept access says
 abbrev pub Kept : Course → Course → Want → Reply → (load store : Option (ℕ × ℕ)) → (ℕ × ℕ) → Result Row ReplayError → Type 0
 Kept mid new k reply load store told r =
-    IfOk r (λ row. (row ≡ row_of mid.hart mid.image.now mid.state (after k reply mid.state) load store) × Keeps mid.words told new.words × (new ≡ record mid { words = new.words; state = after k reply mid.state; called = false }))
+    IfOk r (λ row. (row ≡ row_of mid.hart mid.image.now mid.state (after k reply mid.state) load store) × Keeps mid.words.pages told new.words.pages × (new ≡ record mid { words = new.words; state = after k reply mid.state; called = false }))
     × IfErr r (λ e. (e ≡ OutOfMemory) × (new ≡ record mid { words = new.words }))
 
 keep_does : (a : Side) (n : Next) (mid new : Course) (k : Want) (reply : Reply) (load store : Option (ℕ × ℕ)) (told : ℕ × ℕ) (r : Result Row ReplayError)
-    → ((row : Row) → row ≡ row_of mid.hart mid.image.now mid.state (after k reply mid.state) load store → Keeps mid.words told new.words → Goes a n row (after k reply mid.state) false (side mid.loads mid.conditionals new.words))
+    → ((row : Row) → row ≡ row_of mid.hart mid.image.now mid.state (after k reply mid.state) load store → Keeps mid.words.pages told new.words.pages → Goes a n row (after k reply mid.state) false (side mid.loads mid.conditionals new.words.pages))
     → (after k reply mid.state).ic ≡ count_up mid.state.ic
     → KeepsWord n
     → Kept mid new k reply load store told r
@@ -123,27 +123,27 @@ abbrev pub met_course : Course → Course
 met_course c = record c { loads = met c.loads.skipped c.loads.loads }
 
 pub loading_does : (old mid new : Course) (k : Want) (w x : ℕ) (reply : ℕ → Reply) (load store : ℕ → Option (ℕ × ℕ)) (told : ℕ) (r : Result Row ReplayError)
-    → w < 2 ^ 32 → IsWaiting old.loads.skipped old.loads.loads → word_due old.loads (word_at old.words (w / 4)) ≡ Some x → mid ≡ met_course old
+    → w < 2 ^ 32 → IsWaiting old.loads.skipped old.loads.loads → word_due old.loads (word_at old.words.pages (w / 4)) ≡ Some x → mid ≡ met_course old
     → ((s : HartState) → (after k (reply x) s).ic ≡ count_up s.ic)
     → ((v : ℕ) (o : Option ℕ) → at_address (aligned v) (store x) (at_address (aligned v) (load x) o) ≡ at_address (aligned v) (Some (w, told)) o)
     → (is_some (load x) || is_some (store x)) ≡ true
     → Kept mid new k (reply x) (load x) (store x) (w, told) r
     → Does (side_of old) (by_word old k w reply load store (word_for (interval_at old.state old.mark (side_of old)) (position_at old.state old.called (side_of old)) w)) old.state r new.state new.called (side_of new)
 loading_does old mid new k w x reply load store told r fits waits is e up words tells kept =
-    let known_now = word_looked_up old.state old.state old.mark old.called old.loads old.conditionals old.words w (Some x) fits waits is in
+    let known_now = word_looked_up old.state old.state old.mark old.called old.loads old.conditionals old.words.pages w (Some x) fits waits is in
     keep_does (side_of old) _ (met_course old) new k (reply x) (load x) (store x) (w, told) r
-    (λ row same puts. load_goes old.image.now old.hart old.mark old.state old.called old.loads old.conditionals old.words k w x reply load store _ new.words row (after k (reply x) old.state)
+    (λ row same puts. load_goes old.image.now old.hart old.mark old.state old.called old.loads old.conditionals old.words.pages k w x reply load store _ new.words.pages row (after k (reply x) old.state)
     known_now refl (sym same) waits
-    (λ v. words v (known (aligned v) (rows_below old.words word_count)) ∙ known_put old.words new.words w told v fits puts))
+    (λ v. words v (known (aligned v) (rows_below old.words.pages word_count)) ∙ known_put old.words.pages new.words.pages w told v fits puts))
     (up old.state)
     (subst (λ (o : Option ℕ). KeepsWord (by_word old k w reply load store o)) (sym known_now) tells)
     (subst (λ (m : Course). Kept m new k (reply x) (load x) (store x) (w, told) r) e kept)
 
 pub missing_does : (old mid : Course) (k : Want) (w : ℕ) (reply : ℕ → Reply) (load store : ℕ → Option (ℕ × ℕ)) (e : ReplayError)
-    → w < 2 ^ 32 → IsWaiting old.loads.skipped old.loads.loads → word_due old.loads (word_at old.words (w / 4)) ≡ None → mid ≡ met_course old → e ≡ LoadMissing old.hart old.state.ic w
+    → w < 2 ^ 32 → IsWaiting old.loads.skipped old.loads.loads → word_due old.loads (word_at old.words.pages (w / 4)) ≡ None → mid ≡ met_course old → e ≡ LoadMissing old.hart old.state.ic w
     → Does (side_of old) (by_word old k w reply load store (word_for (interval_at old.state old.mark (side_of old)) (position_at old.state old.called (side_of old)) w)) old.state (Err e) mid.state mid.called (side_of mid)
 missing_does old mid k w reply load store e fits waits is same error = (
-  inl (load_stops old.image.now old.hart old.mark old.state old.called old.loads old.conditionals old.words k w reply load store _ (word_looked_up old.state old.state old.mark old.called old.loads old.conditionals old.words w None fits waits is) ∙ ap (λ (y : ReplayError). Stop (Refused y)) (sym error)),
+  inl (load_stops old.image.now old.hart old.mark old.state old.called old.loads old.conditionals old.words.pages k w reply load store _ (word_looked_up old.state old.state old.mark old.called old.loads old.conditionals old.words.pages w None fits waits is) ∙ ap (λ (y : ReplayError). Stop (Refused y)) (sym error)),
   ap (λ (c : Course). c.state) same,
 )
 
@@ -154,7 +154,7 @@ pub storing_does : (old new : Course) (w width y : ℕ) (r : Result Row ReplayEr
 storing_does old new w width y r fits full kept =
     subst (λ (b : Bool). Does (side_of old) (elim b as (λ z. Next) [ true ↦ after_ask old.image.now old.hart (position_at old.state old.called (side_of old)) (record { state = old.state; want = Store w width y }) Stored 0 None (Some (w, y)) | false ↦ by_word old (Store w width y) w (λ z. Stored) (λ z. None) (λ z. Some (w, stored_word w width y z)) (word_for (interval_at old.state old.mark (side_of old)) (position_at old.state old.called (side_of old)) w) ]) old.state r new.state new.called (side_of new)) (sym full)
     (keep_does (side_of old) (after_ask old.image.now old.hart (position_at old.state old.called (side_of old)) (record { state = old.state; want = Store w width y }) Stored 0 None (Some (w, y))) old new (Store w width y) Stored None (Some (w, y)) (w, y) r
-    (λ row same puts. (refl, refl, ap (λ (z : Row). z ∷ []) (sym same), store_alike old.loads old.conditionals old.words new.words (row_of old.hart old.image.now old.state (after (Store w width y) Stored old.state) None (Some (w, y))) (λ v. known_put old.words new.words w y v fits puts)))
+    (λ row same puts. (refl, refl, ap (λ (z : Row). z ∷ []) (sym same), store_alike old.loads old.conditionals old.words.pages new.words.pages (row_of old.hart old.image.now old.state (after (Store w width y) Stored old.state) None (Some (w, y))) (λ v. known_put old.words.pages new.words.pages w y v fits puts)))
     refl refl kept)
 
 -- a store of a part of a word
@@ -174,7 +174,7 @@ pub trying_does : (old mid new : Course) (w rd y : ℕ) (r : Result Row ReplayEr
 trying_does old mid new w rd y r fits is e kept =
     subst (λ (o : Option Bool). Does (side_of old) (elim o as (λ z. Next) [ None ↦ Stop (Refused (ScMissing old.hart old.state.ic)) | Some g ↦ after_sc old.image.now old.hart (position_at old.state old.called (side_of old)) (record { state = old.state; want = StoreConditional w rd y }) g w y ]) old.state r new.state new.called (side_of new)) (sym (slot-first old.conditionals ∙ is))
     (keep_does (side_of old) (after_sc old.image.now old.hart (position_at old.state old.called (side_of old)) (record { state = old.state; want = StoreConditional w rd y }) true w y) (tried_course old) new (StoreConditional w rd y) replies.ScOk None (Some (w, y)) (w, y) r
-    (λ row same puts. (refl, refl, ap (λ (z : Row). z ∷ []) (sym same), try_alike old.loads old.conditionals old.words new.words (row_of old.hart old.image.now old.state (after (StoreConditional w rd y) replies.ScOk old.state) None (Some (w, y))) (λ v. known_put old.words new.words w y v fits puts)))
+    (λ row same puts. (refl, refl, ap (λ (z : Row). z ∷ []) (sym same), try_alike old.loads old.conditionals old.words.pages new.words.pages (row_of old.hart old.image.now old.state (after (StoreConditional w rd y) replies.ScOk old.state) None (Some (w, y))) (λ v. known_put old.words.pages new.words.pages w y v fits puts)))
     refl
     refl
     (subst (λ (m : Course). Kept m new (StoreConditional w rd y) replies.ScOk None (Some (w, y)) (w, y) r) e kept))

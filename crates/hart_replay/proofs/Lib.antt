@@ -1,3 +1,4 @@
+mod Exits
 pub mod Marks
 pub mod Puts
 pub mod Places
@@ -7,3 +8,4 @@ pub mod Counts
 pub mod Going
 pub mod Stepping
 pub mod Asked
+pub mod Skipped

@@ -268,7 +268,7 @@ abbrev pub course_to_come : Course → Replayed
 course_to_come o = side_to_come o.image.now o.hart o.mark o.state o.called (side_of o)
 
 abbrev pub seen_as : Course → Option (Result (Unit {0}) ReplayError) → Replaying
-seen_as o ended = record { program = o.image.now; state = o.state; left = left_by ended (course_to_come o) }
+seen_as o ended = record { program = o.image.now; mark = o.mark; state = o.state; left = left_by ended (course_to_come o) }
 
 abbrev pub SamePlan : Course → Course → Type 0
 SamePlan o n = (n.image ≡ o.image) × (n.hart ≡ o.hart) × (n.mark ≡ o.mark)
@@ -283,24 +283,26 @@ same_to_come o n same =
 -- a row was given
 pub stepped_on : (o n : Course) (ended : Option (Result (Unit {0}) ReplayError)) (now : Replaying) (row : Row) → seen_as o ended ≡ now → ended ≡ None → o.state.ic < o.mark.ic → o.mark.ic < 2 ^ 64
     → Does (side_of o) (one_step o.image.now o.hart (interval_at o.state o.mark (side_of o)) (position_at o.state o.called (side_of o))) o.state (Ok row) n.state n.called (side_of n) → SamePlan o n
-    → (now.left ≡ with_rows (row ∷ []) (left_by ended (course_to_come n))) × (n.state ≡ after_row now.program now.state row) × (n.image.now ≡ now.program)
+    → (now.left ≡ with_rows (row ∷ []) (left_by ended (course_to_come n))) × (n.state ≡ after_row now.program now.state row) × (n.image.now ≡ now.program) × (n.mark ≡ now.mark)
 stepped_on o n ended now row view none lt fits does same =
     let gone : course_to_come o ≡ with_rows (row ∷ []) (course_to_come n) = gone_on o.image.now o.hart o.mark o.state o.called (side_of o) row n.state n.called (side_of n) lt fits does.0 does.1 ∙ ap (with_rows (row ∷ [])) (same_to_come o n same) in
-    subst (λ (r : Replaying). (r.left ≡ with_rows (row ∷ []) (left_by ended (course_to_come n))) × (n.state ≡ after_row r.program r.state row) × (n.image.now ≡ r.program)) view (
+    subst (λ (r : Replaying). (r.left ≡ with_rows (row ∷ []) (left_by ended (course_to_come n))) × (n.state ≡ after_row r.program r.state row) × (n.image.now ≡ r.program) × (n.mark ≡ r.mark)) view (
       ap (λ (x : Option (Result (Unit {0}) ReplayError)). left_by x (course_to_come o)) none ∙ gone ∙ sym (ap (λ (x : Option (Result (Unit {0}) ReplayError)). with_rows (row ∷ []) (left_by x (course_to_come n))) none),
       state_after o.image.now o.hart o.mark o.state o.called (side_of o) row n.state n.called (side_of n) does.0,
       ap (λ (b : Bor Program). b.now) same.0,
+      same.2,
     )
 
 -- it was refused
 pub stepped_out : (o n : Course) (ended : Option (Result (Unit {0}) ReplayError)) (now : Replaying) (e : ReplayError) → seen_as o ended ≡ now → ended ≡ None → o.state.ic < o.mark.ic
     → Does (side_of o) (one_step o.image.now o.hart (interval_at o.state o.mark (side_of o)) (position_at o.state o.called (side_of o))) o.state (Err e) n.state n.called (side_of n) → SamePlan o n
-    → ((now.left ≡ over (Refused e)) ⊎ (e ≡ OutOfMemory)) × (◌≡◌ {A = Replaying} (record { program = n.image.now; state = n.state; left = over (Refused e) }) (record { program = now.program; state = now.state; left = over (Refused e) }))
+    → ((now.left ≡ over (Refused e)) ⊎ (e ≡ OutOfMemory)) × (◌≡◌ {A = Replaying} (record { program = n.image.now; mark = n.mark; state = n.state; left = over (Refused e) }) (record { program = now.program; mark = now.mark; state = now.state; left = over (Refused e) }))
     × ((now.left ≡ over (Refused e)) ⊎ (a_word_comes now.left.rows ≡ true))
 stepped_out o n ended now e view none lt does same =
-    subst (λ (r : Replaying). ((r.left ≡ over (Refused e)) ⊎ (e ≡ OutOfMemory)) × (◌≡◌ {A = Replaying} (record { program = n.image.now; state = n.state; left = over (Refused e) }) (record { program = r.program; state = r.state; left = over (Refused e) })) × ((r.left ≡ over (Refused e)) ⊎ (a_word_comes r.left.rows ≡ true))) view (
+    subst (λ (r : Replaying). ((r.left ≡ over (Refused e)) ⊎ (e ≡ OutOfMemory)) × (◌≡◌ {A = Replaying} (record { program = n.image.now; mark = n.mark; state = n.state; left = over (Refused e) }) (record { program = r.program; mark = r.mark; state = r.state; left = over (Refused e) })) × ((r.left ≡ over (Refused e)) ⊎ (a_word_comes r.left.rows ≡ true))) view (
       by_answer does.0,
-      ap (λ (b : Bor Program). record { program = b.now; state = n.state; left = over (Refused e) }) same.0 ∙ ap (λ (s : HartState). record { program = o.image.now; state = s; left = over (Refused e) }) does.1,
+      ap (λ (b : Bor Program). record { program = b.now; mark = n.mark; state = n.state; left = over (Refused e) }) same.0 ∙ ap (λ (m : EndMark). record { program = o.image.now; mark = m; state = n.state; left = over (Refused e) }) same.2
+          ∙ ap (λ (s : HartState). record { program = o.image.now; mark = o.mark; state = s; left = over (Refused e) }) does.1,
       by_row does.0,
     )
   where
@@ -323,7 +325,7 @@ pub begins : (i : Program) (h c : ℕ) (records rs : List Record) (start : Start
     → interval_of h c rs ≡ Some (interval_from start.state (puts h (drop start.next rs) nothing)) → start.hart ≡ h
     → m ≡ mark_in start.hart (drop start.next rs) → lo ≡ record { loads = loads_in start.hart (drop start.next rs); skipped = 0 } → co ≡ conditionals_in start.hart (drop start.next rs)
     → ((k : ℕ) → word_at pages k ≡ None)
-    → Begins i h c records (record { program = i; state = start.state; left = side_to_come i start.hart m start.state false (side lo co pages) })
+    → Begins i h c records (record { program = i; mark = m; state = start.state; left = side_to_come i start.hart m start.state false (side lo co pages) })
 begins i h c records rs start m lo co pages all found hart mark loads conditionals none =
     let rest = drop start.next rs in
     let s = start.state in
@@ -332,6 +334,7 @@ begins i h c records rs start m lo co pages all found hart mark loads conditiona
       program = refl;
       interval = interval_from s (puts h rest nothing);
       found = there;
+      mark = mark ∙ ap (λ (k : ℕ). mark_in k rest) hart;
       state = refl;
       left =
           ap (λ (x : EndMark). side_to_come i start.hart x s false (side lo co pages)) mark

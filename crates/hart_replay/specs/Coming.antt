@@ -1,6 +1,7 @@
 -- What is still to come of a replay, and what of it a caller sees.
 use Rattle.std.specs.Prelude.{◌≡◌, ℕ, zero, suc, ◌⊎◌, ◌||◌, Bool, true, false, List, [], ◌∷◌, ◌++◌, take, Option, Some, None, is_some, Result, Ok, Err}
 use Rattle.bn_base.specs.Programs.{Program}
+use Rattle.bn_base.specs.declared.end_mark.EndMark.{EndMark}
 use Rattle.bn_base.specs.declared.row.Row.{Row}
 use Rattle.bn_base.specs.declared.state.HartState.{HartState}
 use Rattle.rv_meaning.specs.Execute.{Quiet, Asks, step, absorbed}
@@ -61,9 +62,11 @@ to_come i h v (suc n) p = elim (one_step i h v p) [ On q ↦ with_rows (take 1 q
 
 -- ---- what a caller sees
 
--- a replayer: its program, the hart's state after the rows given so far, and what is left of the replay
+-- a replayer: its program, the mark of the interval's End, the hart's state after the rows given so far, and what is left of
+-- the replay
 pub record Replaying : Type 0 where
   pub program : Program
+  pub mark : EndMark
   pub state : HartState
   pub left : Replayed
 
@@ -76,6 +79,7 @@ pub record Begins (i : Program) (h c : ℕ) (records : List Record) (r : Replayi
   pub program : r.program ≡ i
   pub interval : Interval
   pub found : interval_of h c records ≡ Some interval
+  pub mark : r.mark ≡ interval.mark
   pub state : r.state ≡ interval.start
   pub left : r.left ≡ replayed i records h c
 
@@ -92,5 +96,5 @@ a_word_comes (r ∷ rs) = tells_word r
 -- may come instead, but only where the first row that is left tells a word
 abbrev pub Stepped : Replaying → Result (Option Row) ReplayError → Replaying → Type 0
 Stepped old (Ok None) new = (old.left ≡ over Done) × (new ≡ old)
-Stepped old (Ok (Some row)) new = (old.left ≡ with_rows (row ∷ []) new.left) × (new.state ≡ after_row old.program old.state row) × (new.program ≡ old.program)
+Stepped old (Ok (Some row)) new = (old.left ≡ with_rows (row ∷ []) new.left) × (new.state ≡ after_row old.program old.state row) × (new.program ≡ old.program) × (new.mark ≡ old.mark)
 Stepped old (Err e) new = ((old.left ≡ over (Refused e)) ⊎ (e ≡ OutOfMemory)) × (new ≡ record old { left = over (Refused e) }) × ((old.left ≡ over (Refused e)) ⊎ (a_word_comes old.left.rows ≡ true))

@@ -2,11 +2,11 @@
 ghost use Rattle.std.specs.Prelude.{◌≡◌, ◌<◌, ◌/◌, ◌==◌, ◌&&◌, ◌||◌, ℕ, true, false, Some, None, if◌then◌else◌, IsTrue, IfOk, IfErr, OnOk};
 ghost use Rattle.rv_meaning.specs.Execute.{after};
 ghost use Rattle.rv_meaning.specs.Orderly.{is_reply_to, is_aligned, is_cut, passes};
-ghost use Rattle.rv_meaning.specs.declared.asks.Want.TheVariants.{Load, LoadReserved, Amo, Store, StoreConditional};
+ghost use Rattle.rv_meaning.specs.declared.asks.Want.TheVariants.{Load, LoadReserved, Amo, Store, StoreConditional, System};
 ghost use Rattle.hart_rows.specs.Rows.{row_of, call_row};
 ghost use Rattle.hart_rows.specs.Lookups.{fetched};
 ghost use Rattle.hart_replay.specs.declared.error.ReplayError.TheVariants.{LoadMissing, EndDiffers, OutOfMemory};
-ghost use Rattle.hart_replay.specs.Replay.{call_reason, found, left_over, system_step, ask_step, one_step, ended};
+ghost use Rattle.hart_replay.specs.Replay.{call_reason, found, left_over, ask_step, one_step, ended};
 ghost use Rattle.hart_replay.specs.Coming.{without_rows};
 ghost use Rattle.hart_replay.specs.Pages.{word_at};
 ghost use Rattle.hart_replay.specs.Sides.{interval_at, position_at, side, Does, IsSystem, Keeps, call_reg, call_answer, fault_in, word_due, outcome_of, rows_of};
@@ -69,8 +69,8 @@ impl<'a> Course<'a> {
     // The word for a loading access: the log's, where it has a first load of this place, else the
     // one that the rows tell.
     fn load_word(&mut self, addr: Addr) -> Result<u32, ReplayError>
-        ensures ok { IfOk result (λ x. word_due self.old.loads (word_at self.old.words (addr / 4)) ≡ Some x) }
-        ensures err { IfErr result (λ e. (e ≡ LoadMissing self.old.hart self.old.state.ic addr) × (word_due self.old.loads (word_at self.old.words (addr / 4)) ≡ None)) }
+        ensures ok { IfOk result (λ x. word_due self.old.loads (word_at self.old.words.pages (addr / 4)) ≡ Some x) }
+        ensures err { IfErr result (λ e. (e ≡ LoadMissing self.old.hart self.old.state.ic addr) × (word_due self.old.loads (word_at self.old.words.pages (addr / 4)) ≡ None)) }
         ensures waits { IsWaiting self.old.loads.skipped self.old.loads.loads }
         ensures rest { self.new ≡ record self.old { loads = met self.old.loads.skipped self.old.loads.loads } }
     {
@@ -89,7 +89,7 @@ impl<'a> Course<'a> {
 
     // Keeps a word that a row tells.
     fn put(&mut self, addr: Addr, word: u32) -> Result<(), ReplayError>
-        ensures ok { OnOk result ((k : ℕ) → word_at self.new.words k ≡ (if k == addr / 4 then Some word else word_at self.old.words k)) }
+        ensures ok { OnOk result ((k : ℕ) → word_at self.new.words.pages k ≡ (if k == addr / 4 then Some word else word_at self.old.words.pages k)) }
         ensures err { IfErr result (λ e. e ≡ OutOfMemory) }
         ensures rest { self.new ≡ record self.old { words = self.new.words } }
     {
@@ -130,7 +130,7 @@ impl<'a> Course<'a> {
     ) -> Result<Row, ReplayError>
         requires reply { IsTrue (is_reply_to want.now reply) }
         requires here { here.now ≡ fetched self.old.hart self.old.image.now self.old.state }
-        ensures ok { IfOk result (λ row. (row ≡ row_of self.old.hart self.old.image.now self.old.state (after want.now reply self.old.state) load store) × Keeps self.old.words told self.new.words × (self.new ≡ record self.old { words = self.new.words; state = after want.now reply self.old.state; called = false })) }
+        ensures ok { IfOk result (λ row. (row ≡ row_of self.old.hart self.old.image.now self.old.state (after want.now reply self.old.state) load store) × Keeps self.old.words.pages told self.new.words.pages × (self.new ≡ record self.old { words = self.new.words; state = after want.now reply self.old.state; called = false })) }
         ensures err { IfErr result (λ e. (e ≡ OutOfMemory) × (self.new ≡ record self.old { words = self.new.words })) }
     {
         match self.put(told.0, told.1) {
@@ -183,29 +183,24 @@ impl<'a> Course<'a> {
     }
 
     // A system call ends its interval, or it isn't the one that the log has.
-    fn call(
-        &mut self,
-        here: &Fetched,
-        want: &Want,
-        number: u32,
-        a0: u32,
-    ) -> Result<Row, ReplayError>
+    #[tactic(auto, using(crate::proofs::Exits::call_counts))]
+    fn call(&mut self, here: &Fetched, number: u32, args: [u32; 3]) -> Result<Row, ReplayError>
         requires here { here.now ≡ fetched self.old.hart self.old.image.now self.old.state }
-        requires system { IsSystem want.now }
         requires count { self.old.state.ic < self.old.mark.ic }
-        ensures answer { Does (side self.old.loads self.old.conditionals self.old.words) (system_step self.old.image.now self.old.hart (interval_at self.old.state self.old.mark (side self.old.loads self.old.conditionals self.old.words)) (position_at self.old.state self.old.called (side self.old.loads self.old.conditionals self.old.words)) (record { state = self.old.state; want = want.now }) number a0) self.old.state result self.new.state self.new.called (side self.new.loads self.new.conditionals self.new.words) }
+        ensures answer { Does (side self.old.loads self.old.conditionals self.old.words.pages) (ask_step self.old.image.now self.old.hart (interval_at self.old.state self.old.mark (side self.old.loads self.old.conditionals self.old.words.pages)) (position_at self.old.state self.old.called (side self.old.loads self.old.conditionals self.old.words.pages)) (System number args)) self.old.state result self.new.state self.new.called (side self.new.loads self.new.conditionals self.new.words.pages) }
         ensures same { (self.new.image ≡ self.old.image) × (self.new.hart ≡ self.old.hart) × (self.new.mark ≡ self.old.mark) }
     {
         let _last = self.mark.ic;
         let reason = call_reason(number);
-        let value = if reason == CALL { 0 } else { a0 };
+        let value = if reason == CALL { 0 } else { args[0] };
         let end = EndMark {
             ic: self.state.ic + 1,
             reason,
             value,
         };
         if self.is_end(end) {
-            Ok(self.call_done(here, want, reason))
+            let want = Want::System { number, args };
+            Ok(self.call_done(here, &want, reason))
         } else {
             Err(self.differs(end))
         }
@@ -216,7 +211,7 @@ impl<'a> Course<'a> {
         requires here { here.now ≡ fetched self.old.hart self.old.image.now self.old.state }
         requires asks { (is_cut want.now ≡ false) × IsTrue (passes self.old.image.now want.now) }
         requires count { self.old.state.ic < self.old.mark.ic }
-        ensures answer { Does (side self.old.loads self.old.conditionals self.old.words) (ask_step self.old.image.now self.old.hart (interval_at self.old.state self.old.mark (side self.old.loads self.old.conditionals self.old.words)) (position_at self.old.state self.old.called (side self.old.loads self.old.conditionals self.old.words)) want.now) self.old.state result self.new.state self.new.called (side self.new.loads self.new.conditionals self.new.words) }
+        ensures answer { Does (side self.old.loads self.old.conditionals self.old.words.pages) (ask_step self.old.image.now self.old.hart (interval_at self.old.state self.old.mark (side self.old.loads self.old.conditionals self.old.words.pages)) (position_at self.old.state self.old.called (side self.old.loads self.old.conditionals self.old.words.pages)) want.now) self.old.state result self.new.state self.new.called (side self.new.loads self.new.conditionals self.new.words.pages) }
         ensures same { (self.new.image ≡ self.old.image) × (self.new.hart ≡ self.old.hart) × (self.new.mark ≡ self.old.mark) }
     {
         match *want {
@@ -237,7 +232,7 @@ impl<'a> Course<'a> {
             Want::StoreConditional { addr, rd, value } => {
                 self.store_conditional(here, addr, rd, value)
             }
-            Want::System { number, args } => self.call(here, want, number, args[0]),
+            Want::System { number, args } => self.call(here, number, args),
             Want::Faulted { kind, value } => {
                 Err(self.differs(EndMark::of_fault(self.state.ic, kind, value)))
             }
@@ -254,7 +249,7 @@ impl<'a> Course<'a> {
         rd: Register,
     ) -> Result<Row, ReplayError>
         requires here { here.now ≡ fetched self.old.hart self.old.image.now self.old.state }
-        ensures answer { Does (side self.old.loads self.old.conditionals self.old.words) (ask_step self.old.image.now self.old.hart (interval_at self.old.state self.old.mark (side self.old.loads self.old.conditionals self.old.words)) (position_at self.old.state self.old.called (side self.old.loads self.old.conditionals self.old.words)) (Load addr width signed rd)) self.old.state result self.new.state self.new.called (side self.new.loads self.new.conditionals self.new.words) }
+        ensures answer { Does (side self.old.loads self.old.conditionals self.old.words.pages) (ask_step self.old.image.now self.old.hart (interval_at self.old.state self.old.mark (side self.old.loads self.old.conditionals self.old.words.pages)) (position_at self.old.state self.old.called (side self.old.loads self.old.conditionals self.old.words.pages)) (Load addr width signed rd)) self.old.state result self.new.state self.new.called (side self.new.loads self.new.conditionals self.new.words.pages) }
         ensures same { (self.new.image ≡ self.old.image) × (self.new.hart ≡ self.old.hart) × (self.new.mark ≡ self.old.mark) }
     {
         match self.load_word(addr) {
@@ -279,7 +274,7 @@ impl<'a> Course<'a> {
         rd: Register,
     ) -> Result<Row, ReplayError>
         requires here { here.now ≡ fetched self.old.hart self.old.image.now self.old.state }
-        ensures answer { Does (side self.old.loads self.old.conditionals self.old.words) (ask_step self.old.image.now self.old.hart (interval_at self.old.state self.old.mark (side self.old.loads self.old.conditionals self.old.words)) (position_at self.old.state self.old.called (side self.old.loads self.old.conditionals self.old.words)) (LoadReserved addr rd)) self.old.state result self.new.state self.new.called (side self.new.loads self.new.conditionals self.new.words) }
+        ensures answer { Does (side self.old.loads self.old.conditionals self.old.words.pages) (ask_step self.old.image.now self.old.hart (interval_at self.old.state self.old.mark (side self.old.loads self.old.conditionals self.old.words.pages)) (position_at self.old.state self.old.called (side self.old.loads self.old.conditionals self.old.words.pages)) (LoadReserved addr rd)) self.old.state result self.new.state self.new.called (side self.new.loads self.new.conditionals self.new.words.pages) }
         ensures same { (self.new.image ≡ self.old.image) × (self.new.hart ≡ self.old.hart) × (self.new.mark ≡ self.old.mark) }
     {
         match self.load_word(addr) {
@@ -301,7 +296,7 @@ impl<'a> Course<'a> {
         value: u32,
     ) -> Result<Row, ReplayError>
         requires here { here.now ≡ fetched self.old.hart self.old.image.now self.old.state }
-        ensures answer { Does (side self.old.loads self.old.conditionals self.old.words) (ask_step self.old.image.now self.old.hart (interval_at self.old.state self.old.mark (side self.old.loads self.old.conditionals self.old.words)) (position_at self.old.state self.old.called (side self.old.loads self.old.conditionals self.old.words)) (Amo addr op rd value)) self.old.state result self.new.state self.new.called (side self.new.loads self.new.conditionals self.new.words) }
+        ensures answer { Does (side self.old.loads self.old.conditionals self.old.words.pages) (ask_step self.old.image.now self.old.hart (interval_at self.old.state self.old.mark (side self.old.loads self.old.conditionals self.old.words.pages)) (position_at self.old.state self.old.called (side self.old.loads self.old.conditionals self.old.words.pages)) (Amo addr op rd value)) self.old.state result self.new.state self.new.called (side self.new.loads self.new.conditionals self.new.words.pages) }
         ensures same { (self.new.image ≡ self.old.image) × (self.new.hart ≡ self.old.hart) × (self.new.mark ≡ self.old.mark) }
     {
         match self.load_word(addr) {
@@ -332,7 +327,7 @@ impl<'a> Course<'a> {
         requires here { here.now ≡ fetched self.old.hart self.old.image.now self.old.state }
         requires part { (width == 4) ≡ false }
         requires aligned { IsTrue (is_aligned addr width) }
-        ensures answer { Does (side self.old.loads self.old.conditionals self.old.words) (ask_step self.old.image.now self.old.hart (interval_at self.old.state self.old.mark (side self.old.loads self.old.conditionals self.old.words)) (position_at self.old.state self.old.called (side self.old.loads self.old.conditionals self.old.words)) (Store addr width value)) self.old.state result self.new.state self.new.called (side self.new.loads self.new.conditionals self.new.words) }
+        ensures answer { Does (side self.old.loads self.old.conditionals self.old.words.pages) (ask_step self.old.image.now self.old.hart (interval_at self.old.state self.old.mark (side self.old.loads self.old.conditionals self.old.words.pages)) (position_at self.old.state self.old.called (side self.old.loads self.old.conditionals self.old.words.pages)) (Store addr width value)) self.old.state result self.new.state self.new.called (side self.new.loads self.new.conditionals self.new.words.pages) }
         ensures same { (self.new.image ≡ self.old.image) × (self.new.hart ≡ self.old.hart) × (self.new.mark ≡ self.old.mark) }
     {
         match self.load_word(addr) {
@@ -355,7 +350,7 @@ impl<'a> Course<'a> {
     ) -> Result<Row, ReplayError>
         requires here { here.now ≡ fetched self.old.hart self.old.image.now self.old.state }
         requires aligned { IsTrue (is_aligned addr width) }
-        ensures answer { Does (side self.old.loads self.old.conditionals self.old.words) (ask_step self.old.image.now self.old.hart (interval_at self.old.state self.old.mark (side self.old.loads self.old.conditionals self.old.words)) (position_at self.old.state self.old.called (side self.old.loads self.old.conditionals self.old.words)) (Store addr width value)) self.old.state result self.new.state self.new.called (side self.new.loads self.new.conditionals self.new.words) }
+        ensures answer { Does (side self.old.loads self.old.conditionals self.old.words.pages) (ask_step self.old.image.now self.old.hart (interval_at self.old.state self.old.mark (side self.old.loads self.old.conditionals self.old.words.pages)) (position_at self.old.state self.old.called (side self.old.loads self.old.conditionals self.old.words.pages)) (Store addr width value)) self.old.state result self.new.state self.new.called (side self.new.loads self.new.conditionals self.new.words.pages) }
         ensures same { (self.new.image ≡ self.old.image) × (self.new.hart ≡ self.old.hart) × (self.new.mark ≡ self.old.mark) }
     {
         if width == 4 {
@@ -376,7 +371,7 @@ impl<'a> Course<'a> {
         value: u32,
     ) -> Result<Row, ReplayError>
         requires here { here.now ≡ fetched self.old.hart self.old.image.now self.old.state }
-        ensures answer { Does (side self.old.loads self.old.conditionals self.old.words) (ask_step self.old.image.now self.old.hart (interval_at self.old.state self.old.mark (side self.old.loads self.old.conditionals self.old.words)) (position_at self.old.state self.old.called (side self.old.loads self.old.conditionals self.old.words)) (StoreConditional addr rd value)) self.old.state result self.new.state self.new.called (side self.new.loads self.new.conditionals self.new.words) }
+        ensures answer { Does (side self.old.loads self.old.conditionals self.old.words.pages) (ask_step self.old.image.now self.old.hart (interval_at self.old.state self.old.mark (side self.old.loads self.old.conditionals self.old.words.pages)) (position_at self.old.state self.old.called (side self.old.loads self.old.conditionals self.old.words.pages)) (StoreConditional addr rd value)) self.old.state result self.new.state self.new.called (side self.new.loads self.new.conditionals self.new.words.pages) }
         ensures same { (self.new.image ≡ self.old.image) × (self.new.hart ≡ self.old.hart) × (self.new.mark ≡ self.old.mark) }
     {
         let want = Want::StoreConditional { addr, rd, value };
@@ -400,7 +395,7 @@ impl<'a> Course<'a> {
     /// is as before.
     pub(crate) fn go_on(&mut self) -> Result<Row, ReplayError>
         requires { self.old.state.ic < self.old.mark.ic }
-        ensures answer { Does (side self.old.loads self.old.conditionals self.old.words) (one_step self.old.image.now self.old.hart (interval_at self.old.state self.old.mark (side self.old.loads self.old.conditionals self.old.words)) (position_at self.old.state self.old.called (side self.old.loads self.old.conditionals self.old.words))) self.old.state result self.new.state self.new.called (side self.new.loads self.new.conditionals self.new.words) }
+        ensures answer { Does (side self.old.loads self.old.conditionals self.old.words.pages) (one_step self.old.image.now self.old.hart (interval_at self.old.state self.old.mark (side self.old.loads self.old.conditionals self.old.words.pages)) (position_at self.old.state self.old.called (side self.old.loads self.old.conditionals self.old.words.pages))) self.old.state result self.new.state self.new.called (side self.new.loads self.new.conditionals self.new.words.pages) }
         ensures same { (self.new.image ≡ self.old.image) × (self.new.hart ≡ self.old.hart) × (self.new.mark ≡ self.old.mark) }
     {
         let here = Fetched::at(self.hart, self.image, &self.state);
@@ -416,7 +411,7 @@ impl<'a> Course<'a> {
 
     // What is left of the log.
     fn left_over(&self) -> Result<(), ReplayError>
-        ensures { outcome_of result ≡ left_over self.now.hart (interval_at self.now.state self.now.mark (side self.now.loads self.now.conditionals self.now.words)) (without_rows (position_at self.now.state self.now.called (side self.now.loads self.now.conditionals self.now.words))) }
+        ensures { outcome_of result ≡ left_over self.now.hart (interval_at self.now.state self.now.mark (side self.now.loads self.now.conditionals self.now.words.pages)) (without_rows (position_at self.now.state self.now.called (side self.now.loads self.now.conditionals self.now.words.pages))) }
     {
         let left = self.loads.left() + self.conditionals.left();
         if left == 0 {
@@ -432,7 +427,7 @@ impl<'a> Course<'a> {
     // The end of an interval whose mark is a fault: the next instruction has to be that fault.
     fn fault_end(&self) -> (Option<Row>, Result<(), ReplayError>)
         requires { 16 < self.now.mark.reason }
-        ensures { record { rows = rows_of result.0; outcome = outcome_of result.1 } ≡ ended self.now.image.now self.now.hart (interval_at self.now.state self.now.mark (side self.now.loads self.now.conditionals self.now.words)) (without_rows (position_at self.now.state self.now.called (side self.now.loads self.now.conditionals self.now.words))) }
+        ensures { record { rows = rows_of result.0; outcome = outcome_of result.1 } ≡ ended self.now.image.now self.now.hart (interval_at self.now.state self.now.mark (side self.now.loads self.now.conditionals self.now.words.pages)) (without_rows (position_at self.now.state self.now.called (side self.now.loads self.now.conditionals self.now.words.pages))) }
     {
         let here = Fetched::at(self.hart, self.image, &self.state);
         let mut state = self.state;
@@ -464,7 +459,7 @@ impl<'a> Course<'a> {
     /// The end of the interval, at the mark's count: the row of its fault, if it ends so, and the
     /// outcome.
     pub(crate) fn end(&self) -> (Option<Row>, Result<(), ReplayError>)
-        ensures { record { rows = rows_of result.0; outcome = outcome_of result.1 } ≡ ended self.now.image.now self.now.hart (interval_at self.now.state self.now.mark (side self.now.loads self.now.conditionals self.now.words)) (without_rows (position_at self.now.state self.now.called (side self.now.loads self.now.conditionals self.now.words))) }
+        ensures { record { rows = rows_of result.0; outcome = outcome_of result.1 } ≡ ended self.now.image.now self.now.hart (interval_at self.now.state self.now.mark (side self.now.loads self.now.conditionals self.now.words.pages)) (without_rows (position_at self.now.state self.now.called (side self.now.loads self.now.conditionals self.now.words.pages))) }
     {
         let reason = self.mark.reason;
         if reason > FAULT {

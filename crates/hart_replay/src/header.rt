@@ -1,5 +1,5 @@
 //! The Header that an interval begins with.
-ghost use Rattle.std.specs.Prelude.{◌≡◌, ◌∷◌, List, drop, IfSome};
+ghost use Rattle.std.specs.Prelude.{◌≡◌, ◌∷◌, List, None, take, drop, IfSome};
 ghost use Rattle.log_record.specs.declared.record.Record.{Record};
 ghost use Rattle.hart_replay.specs.Replay.{interval_of};
 ghost use Rattle.hart_replay.specs.Starts.{started, found_in};
@@ -42,12 +42,13 @@ fn start_in(hart: u64, interval: u64, entry: &Record) -> Option<(HartId, HartSta
     }
 }
 
-/// Finds the Header of an interval.
-pub(crate) fn find(hart: u64, interval: u64, records: &[Record]) -> Option<Start>
+/// Finds the Header of an interval, which doesn't stand before a place.
+pub(crate) fn find(hart: u64, interval: u64, records: &[Record], from: usize) -> Option<Start>
+    requires before { interval_of hart interval (take from records.now) ≡ None }
     ensures start { interval_of hart interval records.now ≡ found_in result hart records.now }
     ensures hart { IfSome result (λ s. s.hart ≡ hart) }
 {
-    for place in 0..records.len() {
+    for place in from..records.len() {
         if let Some((hart, state)) = start_in(hart, interval, &records[place]) {
             return Some(Start {
                 hart,

@@ -8,7 +8,8 @@ mod page;
 mod pending;
 pub mod replayer;
 mod scan;
-mod words;
+pub mod words;
 
 pub use error::ReplayError;
 pub use replayer::Replayer;
+pub use words::Words;

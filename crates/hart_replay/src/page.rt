@@ -1,6 +1,6 @@
 //! A page of known words.
 ghost use Rattle.std.specs.Prelude.{◌≡◌, ◌<◌, ◌==◌, ℕ, length, Some, None, if◌then◌else◌};
-ghost use Rattle.hart_replay.specs.Pages.{word_in, marked};
+ghost use Rattle.hart_replay.specs.Pages.{word_in, marked, cleared};
 
 use std::marker::Model;
 
@@ -64,5 +64,20 @@ impl Page {
         ensures { (k : ℕ) → word_in self.new k ≡ (if k == place then Some word else word_in self.old k) }
     {
         self.mark(place, word);
+    }
+
+    fn clear(&mut self, place: u32)
+        requires { place < 64 }
+        ensures { self.new ≡ cleared self.old place }
+    {
+        self.known &= !(1 << place);
+    }
+
+    /// Makes a word unknown.
+    pub(crate) fn forget(&mut self, place: u32)
+        requires { place < 64 }
+        ensures { (k : ℕ) → k < 64 → word_in self.new k ≡ (if k == place then None else word_in self.old k) }
+    {
+        self.clear(place);
     }
 }

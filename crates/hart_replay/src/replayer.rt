@@ -1,5 +1,5 @@
 //! The replay of one interval, row by row.
-ghost use Rattle.std.specs.Prelude.{◌≡◌, None, IfOk, IfErr};
+ghost use Rattle.std.specs.Prelude.{◌≡◌, None, take, IfOk, IfErr};
 ghost use Rattle.hart_replay.specs.declared.error.ReplayError.TheVariants.{NoInterval};
 ghost use Rattle.hart_replay.specs.Replay.{interval_of};
 ghost use Rattle.hart_replay.specs.Coming.{Begins, Stepped};
@@ -10,15 +10,15 @@ use crate::header::find;
 use crate::pending::{Conditionals, Loads};
 use crate::scan::next_mark;
 use crate::words::Words;
-use bn_base::{HartState, Image, Row};
+use bn_base::{EndMark, HartState, Image, Row};
 use log_order::KeptLog;
 use std::alloc::Global;
 use std::marker::Model;
 
 /// The replay of one checkpoint interval (BugNet, ISCA 2005), from its log and the program alone.
 ///
-/// Contracts see the program, the hart's state after the rows given so far, and what is left: the
-/// rows to come and the outcome. Each step takes constant time, but for records of the log that it
+/// Contracts see the program, the mark of the interval's End, the hart's state after the rows given
+/// so far, and what is left: the rows to come and the outcome. Each step takes constant time, but for records of the log that it
 /// passes; each record is passed at most twice. The memory that it takes is in proportion to the
 /// pages of 64 words that the interval touches.
 #[derive(Drop)]
@@ -34,7 +34,7 @@ impl<'a> Model for Replayer<'a> {
 
     ghost Value = { Replaying };
 
-    ghost view = { λ r. record { program = r.course.image.now; state = r.course.state; left = left_by r.over (side_to_come r.course.image.now r.course.hart r.course.mark r.course.state r.course.called (side r.course.loads r.course.conditionals r.course.words)) } };
+    ghost view = { λ r. record { program = r.course.image.now; mark = r.course.mark; state = r.course.state; left = left_by r.over (side_to_come r.course.image.now r.course.hart r.course.mark r.course.state r.course.called (side r.course.loads r.course.conditionals r.course.words.pages)) } };
 }
 
 impl<'a> Replayer<'a> {
@@ -50,8 +50,24 @@ impl<'a> Replayer<'a> {
         ensures begins { IfOk result (λ r. Begins image.now hart interval log.now.records r) }
         ensures refused { IfErr result (λ e. (e ≡ NoInterval hart interval) × (interval_of hart interval log.now.records ≡ None)) }
     {
+        Replayer::begin_from(alloc, image, log, hart, interval, 0)
+    }
+
+    /// As `begin`, where the Header isn't among the first records: it is looked for from a place on.
+    pub fn begin_from(
+        alloc: Global,
+        image: &'a Image,
+        log: &'a KeptLog,
+        hart: u64,
+        interval: u64,
+        place: usize,
+    ) -> Result<Replayer<'a>, ReplayError>
+        requires before { interval_of hart interval (take place log.now.records) ≡ None }
+        ensures begins { IfOk result (λ r. Begins image.now hart interval log.now.records r) }
+        ensures refused { IfErr result (λ e. (e ≡ NoInterval hart interval) × (interval_of hart interval log.now.records ≡ None)) }
+    {
         let records = log.records();
-        match find(hart, interval, records) {
+        match find(hart, interval, records, place) {
             None => Err(ReplayError::NoInterval { hart, interval }),
             Some(start) => Ok(Replayer {
                 course: Course {
@@ -104,6 +120,13 @@ impl<'a> Replayer<'a> {
                 }
             }
         }
+    }
+
+    /// The mark of the interval's End.
+    pub fn mark(&self) -> EndMark
+        ensures { result ≡ self.now.mark }
+    {
+        self.course.mark
     }
 
     /// The hart's state after the rows given so far.
