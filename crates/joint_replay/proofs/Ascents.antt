@@ -1,0 +1,142 @@
+-- The Edges into a hart of a log in order ascend.
+use Rattle.std.proofs.Common.{◌≡◌, ℕ, zero, suc, ◌+◌, ◌<◌, ◌≤◌, Bool, true, false, ◌==◌, ◌&&◌, refl, sym, ap, ◌∙◌, subst, arith, List, [], ◌∷◌, ◌++◌, length, take, drop, ltb, ◌-◌, replicate, slice_index_or, Option, Some, None, Result, Ok}
+use Rattle.std.proofs.Math.Seq.{drop-nil}
+use Rattle.std.proofs.lemmas.List.{take_rest}
+use Rattle.std.proofs.lemmas.Bool.{ne_eqb}
+use Rattle.std.specs.List.{AllWithin}
+use Rattle.std.specs.List.Sorted.{IsNonDecreasingBy}
+use Rattle.bn_base.specs.declared.settings.RawSettings.{RawSettings}
+use Rattle.log_record.specs.declared.record.Record.{Record}
+use Rattle.log_record.specs.declared.record.Record.TheVariants.{Header, FirstLoad, ScOk, ScFailed, Edge, End}
+use Rattle.log_record.specs.Spelling.{hart_of}
+use Rattle.log_order.specs.declared.view.Terms.{Terms}
+use Rattle.log_order.specs.declared.view.HartView.{HartView}
+use Rattle.log_order.specs.Rules.{after_one, fresh as fresh_view}
+use Rattle.log_order.specs.Order.{broken_by, terms_of}
+use Rattle.joint_replay.specs.declared.sources.Source.{Source}
+use Rattle.joint_replay.specs.Points.{sources_into}
+use Rattle.joint_replay.specs.Sources.{source_before, edges_into, AscendFrom, sources_at}
+use Rattle.joint_replay.specs.Laws.{EdgesAscend}
+use Rattle.joint_replay.proofs.Shapes.{◌>>◌, own_walk, goes_through, headed, other, edged, ended, project}
+use Rattle.joint_replay.proofs.Begins.{walk_of}
+use Rattle.joint_replay.proofs.Headers.{repeated}
+
+weaker : (low high : ℕ) (ss : List Source) → low ≤ high → AscendFrom high ss → AscendFrom low ss
+weaker low high [] le a = tt
+weaker low high (s ∷ ss) le a = let first = a.0 in (omega (arith, le, first), a.1)
+
+module _ (t : Terms) (h : ℕ) where
+  own_edge : (n s j low : ℕ) (b : Bool) (ss : List Source) → low ≤ n + 1 → low ≤ low → AscendFrom (n + 1) ss → AscendFrom low ss → AscendFrom low (source_before (elim b as (λ y. Option Source) [ true ↦ Some (record { target = n; hart = s; ic = j }) | false ↦ None ]) ss)
+  own_edge n s j low true ss le same above a = (le, above)
+  own_edge n s j low false ss le same above a = a
+
+  by_record : (r : Record) (rs : List Record) (v u : HartView) → after_one t v r ≡ Ok u → AscendFrom u.seen (edges_into h rs) → AscendFrom v.seen (edges_into h (r ∷ rs))
+  by_record (Header k n ic pc x) rs v u e a = let same = (headed t v u n ic e).seen in weaker v.seen u.seen (edges_into h rs) (omega (arith, same)) a
+  by_record (FirstLoad k skip value) rs v u e a = weaker v.seen u.seen (edges_into h rs) (other v u e).seen a
+  by_record (ScOk k) rs v u e a = weaker v.seen u.seen (edges_into h rs) (other v u e).seen a
+  by_record (ScFailed k) rs v u e a = weaker v.seen u.seen (edges_into h rs) (other v u e).seen a
+  by_record (Edge k n s j) rs v u e a =
+      let d = edged t v u n j e in
+      let next = d.next in
+      own_edge n s j v.seen (k == h) (edges_into h rs) d.low (omega arith) (weaker (n + 1) u.seen (edges_into h rs) (omega (arith, next)) a) (weaker v.seen u.seen (edges_into h rs) d.stays.seen a)
+  by_record (End k m) rs v u e a = let same = (ended t v u m e).seen in weaker v.seen u.seen (edges_into h rs) (omega (arith, same)) a
+
+  other_record : (r : Record) (rs : List Record) (low : ℕ) → (hart_of r == h) ≡ false → AscendFrom low (edges_into h rs) → AscendFrom low (edges_into h (r ∷ rs))
+  other_record (Header k n ic pc x) rs low e a = a
+  other_record (FirstLoad k skip value) rs low e a = a
+  other_record (ScOk k) rs low e a = a
+  other_record (ScFailed k) rs low e a = a
+  other_record (Edge k n s j) rs low e a = subst (λ b. AscendFrom low (source_before (elim b as (λ y. Option Source) [ true ↦ Some (record { target = n; hart = s; ic = j }) | false ↦ None ]) (edges_into h rs))) (sym e) a
+  other_record (End k m) rs low e a = a
+
+  ascend : (v w : HartView) (rs : List Record) → own_walk t h v rs ≡ Ok w → AscendFrom v.seen (edges_into h rs)
+  ascend v w [] e = tt
+  ascend v w (r ∷ rs) e = by (hart_of r == h) refl e (λ u walked. ascend u w rs walked)
+    where
+      by : (b : Bool) → (hart_of r == h) ≡ b → elim b as (λ x. Result HartView ℕ) [ true ↦ after_one t v r >> (λ u. own_walk t h u rs) | false ↦ own_walk t h v rs ] ≡ Ok w
+          → ((u : HartView) → own_walk t h u rs ≡ Ok w → AscendFrom u.seen (edges_into h rs)) → AscendFrom v.seen (edges_into h (r ∷ rs))
+      by true own f rest = let g = goes_through (after_one t v r) (λ u. own_walk t h u rs) w f in by_record r rs v g.0 g.1 (rest g.0 g.2)
+      by false apart f rest = other_record r rs v.seen apart (rest v f)
+
+pub edges_ascend : EdgesAscend
+edges_ascend t place harts ends rs e h v at = let p = project t h place harts ends rs v e at in ascend t h v p.0 rs p.2
+
+pub log_edges_ascend : EdgesAscend → (s : RawSettings) (dropped : ℕ) (records : List Record) → broken_by s dropped records ≡ None → (h : ℕ) → h < s.harts → AscendFrom 0 (edges_into h records)
+log_edges_ascend law s dropped records order h low =
+    let w = walk_of (terms_of s) s.harts (dropped == 0) records order in
+    law (terms_of s) 0 (replicate s.harts (fresh_view (dropped == 0))) w.0 records w.1 h (fresh_view (dropped == 0)) (repeated s.harts h (fresh_view (dropped == 0)) low)
+
+-- ---- the sources of an instruction
+
+pub same_sources : (h ic : ℕ) (rs : List Record) → sources_into rs h ic ≡ sources_at ic (edges_into h rs)
+same_sources h ic [] = refl
+same_sources h ic (Header k n c pc x ∷ rs) = same_sources h ic rs
+same_sources h ic (FirstLoad k skip value ∷ rs) = same_sources h ic rs
+same_sources h ic (ScOk k ∷ rs) = same_sources h ic rs
+same_sources h ic (ScFailed k ∷ rs) = same_sources h ic rs
+same_sources h ic (Edge k n s j ∷ rs) = by (k == h) (same_sources h ic rs)
+  where
+    by : (a : Bool) → sources_into rs h ic ≡ sources_at ic (edges_into h rs) → elim (a && (n == ic)) as (λ y. List (ℕ × ℕ)) [ true ↦ (s, j) ∷ sources_into rs h ic | false ↦ sources_into rs h ic ]
+        ≡ sources_at ic (source_before (elim a as (λ y. Option Source) [ true ↦ Some (record { target = n; hart = s; ic = j }) | false ↦ None ]) (edges_into h rs))
+    by true rest = ap (λ (xs : List (ℕ × ℕ)). elim (n == ic) as (λ y. List (ℕ × ℕ)) [ true ↦ (s, j) ∷ xs | false ↦ xs ]) rest
+    by false rest = rest
+same_sources h ic (End k m ∷ rs) = same_sources h ic rs
+
+-- past the sources of lower instructions
+pub lower_passed : (ic i : ℕ) (ss : List Source) → AllWithin (λ (s : Source). s.target < ic) ss 0 i → sources_at ic (drop i ss) ≡ sources_at ic ss
+lower_passed ic zero ss below = refl
+lower_passed ic (suc i) [] below = refl
+lower_passed ic (suc i) (s ∷ ss) below =
+    let first : s.target < ic = below 0 s (omega arith) (omega arith) in
+    lower_passed ic i ss (λ k d low high. below (suc k) d (omega arith) (omega (arith, high)))
+    ∙ sym (ap (λ b. elim b as (λ y. List (ℕ × ℕ)) [ true ↦ (s.hart, s.ic) ∷ sources_at ic ss | false ↦ sources_at ic ss ]) (ne_eqb s.target ic (λ e. absurd (omega (arith, first, e)))))
+
+-- past a higher instruction's there is none
+pub none_higher : (ic low : ℕ) (ss : List Source) → ic + 1 < low → AscendFrom low ss → sources_at ic ss ≡ []
+none_higher ic low [] lt a = refl
+none_higher ic low (s ∷ ss) lt a =
+    let first = a.0 in
+    ap (λ b. elim b as (λ y. List (ℕ × ℕ)) [ true ↦ (s.hart, s.ic) ∷ sources_at ic ss | false ↦ sources_at ic ss ]) (ne_eqb s.target ic (λ e. absurd (omega (arith, first, lt, e))))
+    ∙ none_higher ic (s.target + 1) ss (omega (arith, first, lt)) a.1
+
+-- from a place on they ascend
+pub drop_ascends : (low i : ℕ) (ss : List Source) → AscendFrom low ss → AscendFrom 0 (drop i ss)
+drop_ascends low zero ss a = weaker 0 low ss (omega arith) a
+drop_ascends low (suc i) [] a = tt
+drop_ascends low (suc i) (s ∷ ss) a = drop_ascends (s.target + 1) i ss a.1
+
+above : (low i : ℕ) (ss : List Source) (d : Source) → AscendFrom low ss → i < length ss → low ≤ (slice_index_or ss i d).target + 1
+above low i [] d a lt = absurd (omega (arith, lt))
+above low zero (s ∷ ss) d a lt = a.0
+above low (suc i) (s ∷ ss) d a lt = let first = a.0 in let rest = above (s.target + 1) i ss d a.1 (omega (arith, lt)) in omega (arith, first, rest)
+
+pub targets_rise : (low : ℕ) (ss : List Source) → AscendFrom low ss → IsNonDecreasingBy (λ (s : Source). s.target) ss
+targets_rise low [] a i j d order lt = absurd (omega (arith, lt))
+targets_rise low (s ∷ ss) a zero zero d order lt = omega arith
+targets_rise low (s ∷ ss) a zero (suc j) d order lt = let rest = above (s.target + 1) j ss d a.1 (omega (arith, lt)) in omega (arith, rest)
+targets_rise low (s ∷ ss) a (suc i) zero d order lt = absurd (omega (arith, order))
+targets_rise low (s ∷ ss) a (suc i) (suc j) d order lt = targets_rise (s.target + 1) ss a.1 i j d (omega (arith, order)) (omega (arith, lt))
+
+pub is_lower : (s : Source) (ic : ℕ) → ltb s.target ic ≡ true → s.target < ic
+is_lower s ic e = grind arith
+
+-- the Edges from a place on, past those of lower instructions
+pub from_place : (h ic n : ℕ) (records : List Record) (all ss : List Source) → all ≡ ss → ss ≡ edges_into h records → ((k : ℕ) (d : Source) → 0 ≤ k → k < n → ltb (slice_index_or ss k d).target ic ≡ true)
+    → sources_at ic (take (length all - n) (drop n all)) ≡ sources_into records h ic
+from_place h ic n records all ss same is below =
+    ap (sources_at ic) (take_rest all n) ∙ lower_passed ic n all (λ k d low high. is_lower (slice_index_or all k d) ic (ap (λ (xs : List Source). ltb (slice_index_or xs k d).target ic) same ∙ below k d low high)) ∙ ap (sources_at ic) (same ∙ is) ∙ sym (same_sources h ic records)
+
+pub rest_ascends : (n : ℕ) (all ss : List Source) → all ≡ ss → AscendFrom 0 ss → AscendFrom 0 (take (length all - n) (drop n all))
+rest_ascends n all ss same a = subst (AscendFrom 0) (sym (take_rest all n)) (drop_ascends 0 n all (subst (AscendFrom 0) (sym same) a))
+
+pub all_gathered : (h : ℕ) (records found rest : List Source) → rest ≡ [] → found ++ rest ≡ records → found ≡ records
+all_gathered h records found rest none e = sym (no_rest found) ∙ ap (λ (ss : List Source). found ++ ss) (sym none) ∙ e
+  where
+    no_rest : (ss : List Source) → ss ++ [] ≡ ss
+    no_rest [] = refl
+    no_rest (s ∷ ss) = ap (λ (xs : List Source). s ∷ xs) (no_rest ss)
+
+pub none_left : (h n : ℕ) (rs : List Record) → length rs ≤ n → edges_into h (drop n rs) ≡ []
+none_left h n [] low = ap (edges_into h) (drop-nil n)
+none_left h zero (r ∷ rs) low = absurd (omega (arith, low))
+none_left h (suc n) (r ∷ rs) low = none_left h n rs (omega (arith, low))

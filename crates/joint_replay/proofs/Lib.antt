@@ -1,0 +1,24 @@
+mod Worked
+pub mod Waiting
+pub mod Ascents
+pub mod Taking
+pub mod JointMoves
+pub mod Beginning
+pub mod Choosing
+pub mod LaneMoves
+pub mod Harts
+pub mod Retaining
+pub mod Headers
+pub mod InsertedKeys
+pub mod WordLists
+pub mod Follows
+pub mod RowsAre
+pub mod LaneSteps
+pub mod Soundness
+pub mod Walks
+pub mod Descent
+pub mod Shapes
+pub mod PointLists
+pub mod Insides
+pub mod Begins
+pub mod Onto

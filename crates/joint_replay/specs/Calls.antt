@@ -1,0 +1,83 @@
+-- What the calls of a joint replay do.
+use Rattle.std.specs.Prelude.{◌≡◌, ◌⊎◌, ℕ, ◌++◌, List, map, slice_get, Option, Some, None, Result, Ok, Err}
+use Rattle.bn_base.specs.declared.state.HartState.{HartState}
+use Rattle.hart_replay.specs.declared.error.ReplayError.{ReplayError}
+use Rattle.hart_replay.specs.declared.error.ReplayError.TheVariants as replay
+use Rattle.hart_replay.specs.Replay.{Done}
+use Rattle.hart_replay.specs.Coming.{over}
+use Rattle.joint_replay.specs.declared.error.JointError.{JointError}
+use Rattle.joint_replay.specs.declared.error.JointError.TheVariants as why
+use Rattle.joint_replay.specs.declared.kinds.Stepped.{Stepped}
+use Rattle.joint_replay.specs.declared.kinds.Stepped.TheVariants.{Passed, Did, Ended}
+use Rattle.joint_replay.specs.Lanes.{Course, Lane, Item, Passing, Doing, Ending, state_of}
+use Rattle.joint_replay.specs.Joining.{Joining, Walk, begun, error_of, next_step, run_for, run_all}
+use Rattle.joint_replay.specs.Orders.{IsBegun}
+use Rattle.joint_replay.specs.Texts.{steps_text}
+
+-- what a caller is told of a step
+abbrev pub told : ℕ → Item → Stepped
+told h (Passing ic) = Passed h ic
+told h (Doing before row) = Did row
+told h (Ending n m) = Ended h n m
+
+-- the state of a hart, where an interval of it is under way
+abbrev pub state_at : Joining → ℕ → Option HartState
+state_at j h = elim (slice_get j.lanes h) [ None ↦ None | Some lane ↦ state_of lane ]
+
+-- ---- want of memory
+
+-- a hart, whatever is left of its replays
+abbrev pub bare_course : Course → Course
+bare_course c = record c { left = over Done }
+
+abbrev pub bare : Lane → Lane
+bare lane = record lane { courses = map bare_course lane.courses }
+
+-- memory was wanting: all is as before, but that the refusal is repeated, and a replay that found no memory does the same
+pub record IsHalted (old new : Joining) : Type 0 where
+  pub program : new.program ≡ old.program
+  pub records : new.records ≡ old.records
+  pub lanes : map bare new.lanes ≡ map bare old.lanes
+  pub memory : new.memory ≡ old.memory
+  pub refused : new.refused ≡ Some replay.OutOfMemory
+
+-- an allowed order led to where a joint replay stands; a refusal changes nothing of what it shows
+pub record IsReached (harts : ℕ) (j : Joining) : Type 0 where
+  pub order : List ℕ
+  pub walk : Walk
+  pub begun : IsBegun j.program harts j.records order walk
+  pub lanes : map bare walk.now.lanes ≡ map bare j.lanes
+  pub memory : walk.now.memory ≡ j.memory
+  pub whole : j.refused ≡ None → walk.now ≡ j
+
+-- ---- steps and runs
+
+-- the replay of the hart's interval is refused there
+pub record IsRefused (old : Joining) (h : ℕ) (e : JointError) (new : Joining) : Type 0 where
+  pub refusal : ReplayError
+  pub there : next_step old h ≡ Some (Err refusal)
+  pub told : e ≡ error_of refusal
+  pub repeated : new ≡ record old { refused = Some refusal }
+
+-- a step does the hart's next item, or is refused as that is; or it finds no memory, but not after a refusal
+abbrev pub Steps : Joining → ℕ → Result Stepped JointError → Joining → Type 0
+Steps old h (Ok stepped) new = (item : Item) × (next_step old h ≡ Some (Ok (item, new))) × (stepped ≡ told h item)
+Steps old h (Err e) new = IsRefused old h e new ⊎ ((e ≡ why.OutOfMemory) × (old.refused ≡ None) × IsHalted old new)
+
+abbrev pub stopped_by : Result (Unit {0}) JointError → Option JointError
+stopped_by (Ok u) = None
+stopped_by (Err e) = Some e
+
+-- a run adds the text of all its steps, and ends as they do; or it finds no memory after some of them
+pub record RanToEnd (old : Joining) (result : Result (Unit {0}) JointError) (new : Joining) (out_old out_new : List ℕ) : Type 0 where
+  pub ends : (run_all old).stopped ≡ stopped_by result
+  pub now : (run_all old).walk.now ≡ new
+  pub text : out_new ≡ out_old ++ steps_text (run_all old).walk.taken
+
+pub record FoundNoMemory (old new : Joining) (out_old out_new : List ℕ) : Type 0 where
+  pub steps : ℕ
+  pub halted : IsHalted (run_for steps (begun old)).walk.now new
+  pub text : out_new ≡ out_old ++ steps_text (run_for steps (begun old)).walk.taken
+
+abbrev pub Runs : Joining → Result (Unit {0}) JointError → Joining → List ℕ → List ℕ → Type 0
+Runs old result new out_old out_new = RanToEnd old result new out_old out_new ⊎ ((result ≡ Err why.OutOfMemory) × FoundNoMemory old new out_old out_new)

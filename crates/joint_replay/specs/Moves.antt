@@ -1,0 +1,47 @@
+-- What a step of a hart does.
+use Rattle.std.specs.Prelude.{◌≡◌, ◌⊎◌, ℕ, [], ◌∷◌, slice_index, is_some, Option, Some, None, Result, Ok, Err}
+use Rattle.std.specs.Option.{option_map}
+use Rattle.bn_base.specs.declared.row.Row.{Row}
+use Rattle.bn_base.specs.declared.state.HartState.{HartState}
+use Rattle.hart_replay.specs.declared.error.ReplayError.{ReplayError}
+use Rattle.hart_replay.specs.declared.error.ReplayError.TheVariants.{OutOfMemory}
+use Rattle.hart_replay.specs.Replay.{Done, Refused}
+use Rattle.hart_replay.specs.Coming.{after_row, with_rows, over}
+use Rattle.joint_replay.specs.declared.calls.Asked.{Asked}
+use Rattle.joint_replay.specs.declared.lane.Did.{Did}
+use Rattle.joint_replay.specs.declared.lane.Moved.{Moved}
+use Rattle.joint_replay.specs.declared.lane.Moved.TheVariants as to
+use Rattle.joint_replay.specs.Lanes.{Item, Passing, Doing, Ending, lane_step}
+use Rattle.joint_replay.specs.Memory.{Bytes, filled}
+use Rattle.joint_replay.specs.Harts.{Running, HartLane}
+use Rattle.joint_replay.specs.Calls.{bare_course, bare}
+
+-- what a hart's registers ask of a system call
+abbrev pub asked_by : HartState → Asked
+asked_by s = record { number = slice_index s.x 17; file = slice_index s.x 10; buffer = slice_index s.x 11 }
+
+abbrev pub range_of : Bytes → ℕ × ℕ
+range_of b = (b.first, b.count)
+
+-- a row, with the bytes that it filled
+abbrev pub did : HartState → Row → Did
+did before row = record { row = row; filled = option_map range_of (filled before row) }
+
+-- a step of the interval under way: its next row, or its end, or its refusal; want of memory changes what is left alone
+abbrev pub CourseSteps : Running → Result (Option Did) ReplayError → Running → Type 0
+CourseSteps old (Ok None) new = (old.course.left ≡ over Done) × (new ≡ old)
+CourseSteps old (Ok (Some x)) new = (old.course.left ≡ with_rows (x.row ∷ []) new.course.left) × (x ≡ did old.course.state x.row) × (new.program ≡ old.program)
+    × (new.course ≡ record { number = old.course.number; mark = old.course.mark; state = after_row old.program old.course.state x.row; left = new.course.left; faulted = is_some x.row.fault })
+CourseSteps old (Err e) new = (new.program ≡ old.program) × (((old.course.left ≡ over (Refused e)) × (new.course ≡ old.course)) ⊎ ((e ≡ OutOfMemory) × (bare_course new.course ≡ bare_course old.course)))
+
+-- a step of a hart, as it is told
+abbrev pub moved : Item → Moved
+moved (Passing ic) = to.Passed ic
+moved (Doing before row) = to.Row (did before row)
+moved (Ending n mark) = to.Ended n mark
+
+-- a hart's next step is done, or refused; want of memory changes what is left of a replay alone
+abbrev pub LaneSteps : HartLane → Result Moved ReplayError → HartLane → Type 0
+LaneSteps old (Ok m) new = (item : Item) × (lane_step old.program old.lane ≡ Some (Ok (item, new.lane))) × (m ≡ moved item) × (new ≡ record old { lane = new.lane })
+LaneSteps old (Err e) new = (new ≡ record old { lane = new.lane })
+    × (((lane_step old.program old.lane ≡ Some (Err e)) × (new.lane ≡ old.lane)) ⊎ ((e ≡ OutOfMemory) × (bare new.lane ≡ bare old.lane)))

@@ -1,0 +1,34 @@
+-- All harts of a joint replay, as its parts make them.
+use Rattle.std.specs.Prelude.{◌≡◌, ◌+◌, ℕ, List, [], ◌∷◌, length, map, Option}
+use Rattle.bn_base.specs.Programs.{Program}
+use Rattle.log_record.specs.declared.record.Record.{Record}
+use Rattle.log_order.specs.Content.{Content}
+use Rattle.hart_replay.specs.declared.error.ReplayError.{ReplayError}
+use Rattle.joint_replay.specs.Lanes.{Lane}
+use Rattle.joint_replay.specs.Harts.{HartLane}
+use Rattle.joint_replay.specs.Joining.{Joining, lanes_from}
+use Rattle.joint_replay.specs.Calls.{IsReached}
+
+abbrev pub lanes_of : List HartLane → List Lane
+lanes_of harts = map (λ (l : HartLane). l.lane) harts
+
+abbrev pub joining : Program → List Record → List HartLane → List (ℕ × ℕ) → Option ReplayError → Joining
+joining i records harts memory refused = record { program = i; records = records; lanes = lanes_of harts; memory = memory; refused = refused }
+
+-- the harts stand by their numbers, from one on, each with the program and the records
+abbrev pub AreHarts : Program → List Record → ℕ → List HartLane → Type 0
+AreHarts i records h [] = Unit {0}
+AreHarts i records h (l ∷ ls) = (l.program ≡ i) × (l.records ≡ records) × (l.hart ≡ h) × AreHarts i records (h + 1) ls
+
+-- an allowed order led here
+pub record IsTogether (i : Program) (log : Content) (count : ℕ) (harts : List HartLane) (memory : List (ℕ × ℕ)) (refused : Option ReplayError) : Type 0 where
+  pub count_is : count ≡ length harts
+  pub number : log.head.settings.harts ≡ count
+  pub own : AreHarts i log.records 0 harts
+  pub reached : IsReached (length harts) (joining i log.records harts memory refused)
+
+-- so many harts before their first steps
+pub record AreBegun (i : Program) (records : List Record) (count : ℕ) (harts : List HartLane) : Type 0 where
+  pub lanes : lanes_of harts ≡ lanes_from i records 0 count
+  pub own : AreHarts i records 0 harts
+  pub length_is : length harts ≡ count

@@ -1,0 +1,256 @@
+//! The joint replay of all retained intervals.
+ghost use Rattle.std.specs.Prelude.{◌≡◌, ◌<◌, ◌==◌, ◌&&◌, not, length, slice_get, Some, None, IfOk, IfErr, MatchOption};
+ghost use Rattle.joint_replay.specs.declared.kinds.Readiness.TheVariants.{Ready};
+ghost use Rattle.joint_replay.specs.declared.error.JointError.TheVariants.{OutOfMemory};
+ghost use Rattle.joint_replay.specs.Points.{sources_into};
+ghost use Rattle.joint_replay.specs.Joining.{fresh, is_passed, first_waited, waits_for, readiness, coming, choice, error_of};
+ghost use Rattle.joint_replay.specs.Memory.{word_in};
+ghost use Rattle.joint_replay.specs.Calls.{Steps, state_at, IsReached};
+ghost use Rattle.joint_replay.specs.Together.{AreBegun};
+
+use crate::error::JointError;
+use crate::kinds::{Coming, Next, Readiness, Stepped};
+use crate::lane::{Lane, Moved};
+use crate::memory::Memory;
+use crate::sources::Source;
+use bn_base::{Addr, HartId, HartState, Ic, Image};
+use hart_replay::ReplayError;
+use log_order::KeptLog;
+use std::alloc::{AllocError, Global};
+use std::marker::Model;
+
+/// The replay of all retained intervals together, in an order that the log's Edges allow.
+///
+/// Contracts see what each hart has left to do, and the known words of the joint memory. After a
+/// refusal each step answers the same one.
+#[derive(Drop)]
+pub struct Joint<'a> {
+    image: &'a Image,
+    log: &'a KeptLog,
+    harts: HartId,
+    lanes: Vec<Lane<'a>>,
+    memory: Memory,
+    refused: Option<ReplayError>,
+}
+
+impl<'a> Model for Joint<'a> {
+    ghost use Rattle.joint_replay.specs.Joining.{Joining};
+    ghost use Rattle.joint_replay.specs.Together.{joining, IsTogether};
+
+    ghost Value = { Joining };
+
+    ghost view = { λ j. joining j.image.now j.log.now.records j.lanes.items j.memory.words j.refused };
+
+    ghost invariant = { λ j. IsTogether j.image.now j.log.now j.harts j.lanes.items j.memory.words j.refused };
+}
+
+impl<'a> Joint<'a> {
+    /// The joint replay of a log with a program, before its first step. The only error is want of
+    /// memory.
+    pub fn begin(alloc: Global, image: &'a Image, log: &'a KeptLog) -> Result<Joint<'a>, JointError>
+        ensures fresh { IfOk result (λ j. j ≡ fresh image.now log.now.head.settings.harts log.now.records) }
+        ensures refused { IfErr result (λ e. e ≡ OutOfMemory) }
+    {
+        match all_lanes(alloc, image, log) {
+            Ok(lanes) => Ok(Joint {
+                image,
+                log,
+                harts: log.head().settings.harts(),
+                lanes,
+                memory: Memory::new(alloc),
+                refused: None,
+            }),
+            Err(_) => Err(JointError::OutOfMemory),
+        }
+    }
+
+    /// Takes the next step of a hart that is ready.
+    ///
+    /// The replay of the hart's interval may be refused there, and memory may be wanting. After that
+    /// each step answers the same, and all else stays.
+    pub fn step(&mut self, hart: HartId) -> Result<Stepped, JointError>
+        requires there { hart < length self.old.lanes }
+        requires ready { readiness self.old hart ≡ Ready }
+        ensures { Steps self.old hart result self.new }
+    {
+        match self.refused {
+            Some(refusal) => Err(error_of(refusal)),
+            None => self.take(hart),
+        }
+    }
+
+    // The step, where none was refused yet.
+    fn take(&mut self, hart: HartId) -> Result<Stepped, JointError>
+        requires there { hart < length self.old.lanes }
+        requires ready { readiness self.old hart ≡ Ready }
+        requires none { self.old.refused ≡ None }
+        ensures { Steps self.old hart result self.new }
+    {
+        if self.memory.make_room().is_err() {
+            self.refused = Some(ReplayError::OutOfMemory);
+            return Err(JointError::OutOfMemory);
+        }
+        match self.lanes[hart as usize].step() {
+            Err(refusal) => {
+                self.refused = Some(refusal);
+                Err(error_of(refusal))
+            }
+            Ok(moved) => match moved {
+                Moved::Passed(ic) => Ok(Stepped::Passed { hart, ic }),
+                Moved::Row(did) => {
+                    self.memory.note(&did.row, did.filled);
+                    Ok(Stepped::Did(did.row))
+                }
+                Moved::Ended(interval, mark) => Ok(Stepped::Ended {
+                    hart,
+                    interval,
+                    mark,
+                }),
+            },
+        }
+    }
+
+    /// An allowed order of steps led here. This does nothing.
+    pub fn reached(&self)
+        ensures { IsReached (length self.now.lanes) self.now }
+    {
+        let _harts = self.harts;
+    }
+
+    /// How many harts there are.
+    pub fn harts(&self) -> u8
+        ensures { result ≡ length self.now.lanes }
+    {
+        self.harts
+    }
+
+    /// What comes next of a hart; `None` where it is done.
+    pub fn coming(&self, hart: HartId) -> Option<Coming>
+        requires { hart < length self.now.lanes }
+        ensures { result ≡ coming self.now hart }
+    {
+        self.lanes[hart as usize].coming()
+    }
+
+    /// The state of a hart, where an interval of it is under way.
+    pub fn state(&self, hart: HartId) -> Option<&HartState>
+        requires { hart < length self.now.lanes }
+        ensures { MatchOption result (state_at self.now hart ≡ None) (λ s. state_at self.now hart ≡ Some s.now) }
+    {
+        self.lanes[hart as usize].state()
+    }
+
+    /// What the joint memory has of the word at an address, which is a multiple of 4.
+    pub fn word(&self, addr: Addr) -> Option<u32>
+        ensures { result ≡ word_in self.now.memory addr }
+    {
+        self.memory.word(addr)
+    }
+
+    // Whether an instruction of a hart is passed.
+    fn is_passed(&self, hart: HartId, ic: Ic) -> bool
+        ensures { result ≡ is_passed (slice_get self.now.lanes hart) ic }
+    {
+        if hart < self.harts {
+            match self.lanes[hart as usize].coming() {
+                None => true,
+                Some(coming) => ic < coming.ic(),
+            }
+        } else {
+            true
+        }
+    }
+
+    // Whether an Edge leads into this instruction, and its source isn't passed.
+    fn holds_back(&self, source: Source, ic: Ic) -> bool
+        ensures { result ≡ (source.target == ic && not (is_passed (slice_get self.now.lanes source.hart) source.ic)) }
+    {
+        source.target == ic && !self.is_passed(source.hart, source.ic)
+    }
+
+    // Whether the sources of all Edges into an instruction of a hart are passed; the first in log
+    // order that isn't.
+    fn waits(&self, hart: HartId, ic: Ic) -> Readiness
+        requires { hart < length self.now.lanes }
+        ensures { result ≡ waits_for (first_waited self.now.lanes (sources_into self.now.records hart ic)) }
+    {
+        let sources = self.lanes[hart as usize].sources_from(ic);
+        for place in 0..sources.len() {
+            let source = sources[place];
+            if source.target > ic {
+                return Readiness::Ready;
+            }
+            if self.holds_back(source, ic) {
+                return Readiness::Waits {
+                    hart: source.hart,
+                    ic: source.ic,
+                };
+            }
+        }
+        Readiness::Ready
+    }
+
+    /// Whether a hart can take its next step: where that is at a point, the sources of all kept Edges
+    /// into it have to be passed; `Waits` names the first in log order that isn't.
+    pub fn ready(&self, hart: HartId) -> Readiness
+        requires { hart < length self.now.lanes }
+        ensures { result ≡ readiness self.now hart }
+    {
+        let lane = &self.lanes[hart as usize];
+        match lane.coming() {
+            None => Readiness::Done,
+            Some(_) => match lane.point() {
+                None => Readiness::Ready,
+                Some(ic) => self.waits(hart, ic),
+            },
+        }
+    }
+
+    /// The lowest hart that is ready.
+    pub fn next(&self) -> Next
+        ensures { result ≡ choice self.now }
+    {
+        let mut waiting = false;
+        for hart in 0..self.harts {
+            match self.ready(hart) {
+                Readiness::Ready => return Next::Hart(hart),
+                Readiness::Waits { .. } => waiting = true,
+                Readiness::Done => (),
+            }
+        }
+        if waiting {
+            Next::NoneReady
+        } else {
+            Next::AllDone
+        }
+    }
+}
+
+// All harts before their first steps.
+fn all_lanes<'a>(
+    alloc: Global,
+    image: &'a Image,
+    log: &'a KeptLog,
+) -> Result<Vec<Lane<'a>>, AllocError>
+    ensures { IfOk result (λ lanes. AreBegun image.now log.now.records log.now.head.settings.harts lanes.items) }
+{
+    let mut lanes = Vec::new(alloc);
+    for hart in 0..log.head().settings.harts() {
+        lanes.push(Lane::begin(alloc, image, log, hart)?)?;
+    }
+    Ok(lanes)
+}
+
+// How the refusal of a replay is told.
+fn error_of(refusal: ReplayError) -> JointError
+    ensures { result ≡ error_of refusal }
+{
+    match refusal {
+        ReplayError::NoInterval { .. } => JointError::Replay(refusal),
+        ReplayError::LoadMissing { .. } => JointError::Replay(refusal),
+        ReplayError::ScMissing { .. } => JointError::Replay(refusal),
+        ReplayError::RecordsLeft { .. } => JointError::Replay(refusal),
+        ReplayError::EndDiffers { .. } => JointError::Replay(refusal),
+        ReplayError::OutOfMemory => JointError::OutOfMemory,
+    }
+}

@@ -1,0 +1,278 @@
+//! What a hart has to do in a joint replay.
+ghost use Rattle.std.specs.Prelude.{◌≡◌, ◌<◌, true, is_some, Some, None, IfOk, MatchOption};
+ghost use Rattle.joint_replay.specs.Lanes.{has_row, lane_of, coming_of, point_of, state_of};
+ghost use Rattle.joint_replay.specs.Intervals.{AreThere};
+ghost use Rattle.joint_replay.specs.Moves.{CourseSteps, LaneSteps};
+ghost use Rattle.joint_replay.specs.Points.{sources_into};
+ghost use Rattle.joint_replay.specs.Sources.{AscendFrom, sources_at};
+ghost use Rattle.joint_replay.specs.Harts.{course_coming, course_point, later_courses, hart_courses, IsHartLane};
+
+use crate::calls::{Asked, filled};
+use crate::intervals::{Retained, retained_intervals};
+use crate::kinds::Coming;
+use crate::points::ordering_points;
+use crate::sources::{Source, Sources};
+use bn_base::end_mark::FAULT;
+use bn_base::{Addr, EndMark, HartId, HartState, Ic, Image, Row};
+use hart_replay::{ReplayError, Replayer};
+use log_order::KeptLog;
+use std::alloc::{AllocError, Global};
+use std::collections::BTreeSet;
+use std::marker::Model;
+
+/// The retained interval that is under way: its number, its replay, and whether the row of its
+/// fault was given.
+#[derive(Drop)]
+pub(crate) struct Course<'a> {
+    number: u64,
+    replayer: Replayer<'a>,
+    faulted: bool,
+}
+
+/// A row, and the bytes that its call filled: the address of the first, and how many they are.
+#[derive(Clone, Copy, Drop)]
+pub(crate) struct Did {
+    pub(crate) row: Row,
+    pub(crate) filled: Option<(Addr, u32)>,
+}
+
+/// What a step of a hart did: it passed an ordering point, did an instruction, or ended an interval.
+#[derive(Clone, Copy, Drop)]
+pub(crate) enum Moved {
+    Passed(Ic),
+    Row(Did),
+    Ended(u64, EndMark),
+}
+
+impl<'a> Model for Course<'a> {
+    ghost use Rattle.joint_replay.specs.Harts.{Running, running};
+
+    ghost Value = { Running };
+
+    ghost view = { λ c. running c.number c.replayer c.faulted };
+}
+
+impl<'a> Course<'a> {
+    /// Whether a row comes: of an instruction, or of the fault that the End tells of.
+    fn has_row(&self) -> bool
+        ensures { result ≡ has_row self.now.course }
+    {
+        let mark = self.replayer.mark();
+        self.replayer.state().ic < mark.ic || mark.reason > FAULT && !self.faulted
+    }
+
+    /// What comes next of the interval.
+    fn coming(&self) -> Coming
+        ensures { result ≡ course_coming self.now.course }
+    {
+        if self.has_row() {
+            Coming::RowAt {
+                ic: self.replayer.state().ic,
+            }
+        } else {
+            Coming::EndAt {
+                ic: self.replayer.mark().ic,
+            }
+        }
+    }
+
+    /// The instruction that comes next, if one does.
+    fn point(&self) -> Option<Ic>
+        ensures { result ≡ course_point self.now.course }
+    {
+        let ic = self.replayer.state().ic;
+        if ic < self.replayer.mark().ic {
+            Some(ic)
+        } else {
+            None
+        }
+    }
+}
+
+impl<'a> Course<'a> {
+    /// The next row; `None` where the interval ended as its log says.
+    fn step(&mut self) -> Result<Option<Did>, ReplayError>
+        ensures { CourseSteps self.old result self.new }
+    {
+        let asked = Asked::by(self.replayer.state());
+        match self.replayer.step() {
+            Ok(next) => match next {
+                Some(row) => {
+                    self.faulted = row.fault.is_some();
+                    Ok(Some(Did {
+                        row,
+                        filled: filled(asked, &row),
+                    }))
+                }
+                None => Ok(None),
+            },
+            Err(error) => Err(error),
+        }
+    }
+}
+
+/// A hart in a joint replay: its ordering points that are left, the interval that is under way, and
+/// those after it, the last first.
+#[derive(Drop)]
+pub(crate) struct Lane<'a> {
+    alloc: Global,
+    image: &'a Image,
+    log: &'a KeptLog,
+    hart: HartId,
+    sources: Sources<'a>,
+    points: BTreeSet<Ic>,
+    course: Option<Course<'a>>,
+    later: Vec<Retained>,
+}
+
+impl<'a> Model for Lane<'a> {
+    ghost use Rattle.std.specs.Prelude.{◌≡◌};
+    ghost use Rattle.joint_replay.specs.Harts.{HartLane, hart_lane, IsHartLane};
+    ghost use Rattle.joint_replay.specs.Sources.{hart_of};
+
+    ghost Value = { HartLane };
+
+    ghost view = { λ l. hart_lane l.image.now l.log.now.records l.hart l.points.keys l.course l.later.items };
+
+    ghost invariant = { λ l. IsHartLane l.image.now l.log.now l.hart l.course l.later.items × (l.sources ≡ hart_of l.log.now l.hart) };
+}
+
+impl<'a> Lane<'a> {
+    /// A hart before its first step.
+    pub(crate) fn begin(
+        alloc: Global,
+        image: &'a Image,
+        log: &'a KeptLog,
+        hart: HartId,
+    ) -> Result<Lane<'a>, AllocError>
+        requires { hart < log.now.head.settings.harts }
+        ensures { IfOk result (λ l. l ≡ record { program = image.now; records = log.now.records; hart = hart; lane = lane_of image.now log.now.records hart }) }
+    {
+        let sources = Sources::gather(alloc, log, hart)?;
+        let points = ordering_points(alloc, hart, log.records())?;
+        let mut later = retained_intervals(alloc, hart, log)?;
+        let course = next_course(alloc, image, log, hart, &mut later);
+        Ok(Lane {
+            alloc,
+            image,
+            log,
+            hart,
+            sources,
+            points,
+            course,
+            later,
+        })
+    }
+
+    /// What comes next of the hart.
+    pub(crate) fn coming(&self) -> Option<Coming>
+        ensures { result ≡ coming_of self.now.lane }
+    {
+        match self.points.first() {
+            Some(ic) => Some(Coming::PassAt { ic: *ic }),
+            None => match &self.course {
+                Some(course) => Some(course.coming()),
+                None => None,
+            },
+        }
+    }
+
+    /// The point that the next step is at; a fault's row and an interval's end are at none.
+    pub(crate) fn point(&self) -> Option<Ic>
+        ensures { result ≡ point_of self.now.lane }
+    {
+        match self.points.first() {
+            Some(ic) => Some(*ic),
+            None => match &self.course {
+                Some(course) => course.point(),
+                None => None,
+            },
+        }
+    }
+
+    /// The Edges into the hart, from the first into an instruction or a later one on.
+    pub(crate) fn sources_from(&self, ic: Ic) -> &[Source]
+        ensures sources { sources_at ic result.now ≡ sources_into self.now.records self.now.hart ic }
+        ensures order { AscendFrom 0 result.now }
+    {
+        self.sources.from(ic)
+    }
+
+    /// The hart's state, where an interval is under way.
+    pub(crate) fn state(&self) -> Option<&HartState>
+        ensures { MatchOption result (state_of self.now.lane ≡ None) (λ s. state_of self.now.lane ≡ Some s.now) }
+    {
+        match self.points.first() {
+            Some(_) => None,
+            None => match &self.course {
+                Some(course) => Some(course.replayer.state()),
+                None => None,
+            },
+        }
+    }
+}
+
+impl<'a> Lane<'a> {
+    /// Takes the hart's next step, of which there has to be one.
+    pub(crate) fn step(&mut self) -> Result<Moved, ReplayError>
+        requires { is_some (coming_of self.old.lane) ≡ true }
+        ensures { LaneSteps self.old result self.new }
+    {
+        match self.points.pop_first() {
+            Some(ic) => Ok(Moved::Passed(ic)),
+            None => match &mut self.course {
+                None => unreachable!(),
+                Some(course) => match course.step() {
+                    Err(error) => Err(error),
+                    Ok(next) => match next {
+                        Some(did) => Ok(Moved::Row(did)),
+                        None => {
+                            let ended = Moved::Ended(course.number, course.replayer.mark());
+                            self.course = next_course(
+                                self.alloc,
+                                self.image,
+                                self.log,
+                                self.hart,
+                                &mut self.later,
+                            );
+                            Ok(ended)
+                        }
+                    },
+                },
+            },
+        }
+    }
+}
+
+// Begins the next one of the hart's intervals, which are given last first.
+fn next_course<'a>(
+    alloc: Global,
+    image: &'a Image,
+    log: &'a KeptLog,
+    hart: HartId,
+    later: &mut Vec<Retained>,
+) -> Option<Course<'a>>
+    requires hart { hart < log.now.head.settings.harts }
+    requires there { AreThere hart log.now.records later.old.items }
+    ensures courses { hart_courses image.now log.now.records hart result later.new.items ≡ later_courses image.now log.now.records hart later.old.items }
+    ensures whole { IsHartLane image.now log.now hart result later.new.items }
+{
+    match later.pop() {
+        None => None,
+        Some(next) => match Replayer::begin_from(
+            alloc,
+            image,
+            log,
+            hart as u64,
+            next.number,
+            next.place,
+        ) {
+            Ok(replayer) => Some(Course {
+                number: next.number,
+                replayer,
+                faulted: false,
+            }),
+            Err(_) => unreachable!(),
+        },
+    }
+}

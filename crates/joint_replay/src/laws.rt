@@ -1,0 +1,72 @@
+//! Laws of joint replays. These functions do nothing: their contracts are theorems.
+ghost use Rattle.joint_replay.specs.Laws.{RowsGoOn, StepsPass, OrderedLogsHaveShape, EdgesAreInside, EdgesAscend, PointsAscend};
+ghost use Rattle.joint_replay.specs.Laws.{StartsAreSound, SoundnessStays, ChainsAreKept, NeverStuck};
+
+use rv_meaning::each_instruction_is_counted_or_asks;
+
+/// Rows to come have the counts from the hart's state on, one after another.
+pub fn the_rows_go_on()
+    ensures { RowsGoOn }
+{
+    each_instruction_is_counted_or_asks();
+}
+
+/// A step passes its own point alone.
+#[tactic(auto, using(crate::proofs::LaneSteps::steps_pass))]
+pub fn steps_pass_their_points()
+    ensures { StepsPass }
+{}
+
+/// A step of a ready hart keeps the sources of passed targets passed.
+pub fn soundness_stays()
+    ensures { SoundnessStays }
+{
+    steps_pass_their_points();
+}
+
+/// In every allowed order chains of program order and kept Edges are kept.
+pub fn chains_are_kept()
+    ensures { ChainsAreKept }
+{
+    steps_pass_their_points();
+}
+
+/// No order gets stuck where instructions have times that the Edges follow.
+#[tactic(auto, using(crate::proofs::Descent::never_stuck))]
+pub fn no_order_gets_stuck()
+    ensures { NeverStuck }
+{}
+
+/// The intervals of a hart in a log in order stand one after another.
+pub fn ordered_logs_have_shape()
+    ensures { OrderedLogsHaveShape }
+{}
+
+/// Ordering points ascend, and have each target of an Edge below the first Header's count.
+#[tactic(auto, using(crate::proofs::PointLists::points_ascend))]
+pub fn ordering_points_ascend()
+    ensures { PointsAscend }
+{}
+
+/// Edges into a hart lead to its intervals, or below the first of them.
+#[tactic(auto, using(crate::proofs::Insides::edges_are_inside))]
+pub fn edges_lead_into_intervals()
+    ensures { EdgesAreInside }
+{}
+
+/// The Edges into a hart stand by ascending targets.
+#[tactic(auto, using(crate::proofs::Ascents::edges_ascend))]
+pub fn edges_ascend()
+    ensures { EdgesAscend }
+{}
+
+/// The joint replay of a log in order begins sound.
+pub fn starts_are_sound()
+    ensures { StartsAreSound }
+{
+    each_instruction_is_counted_or_asks();
+    the_rows_go_on();
+    ordered_logs_have_shape();
+    edges_lead_into_intervals();
+    ordering_points_ascend();
+}

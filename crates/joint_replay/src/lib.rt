@@ -1,0 +1,18 @@
+//! The replay of all retained intervals together, in any order that the kept Edges allow.
+#![tactic(auto)]
+
+mod calls;
+mod error;
+mod examples;
+mod intervals;
+mod joint;
+mod kinds;
+mod lane;
+pub mod laws;
+mod memory;
+mod points;
+mod sources;
+
+pub use error::JointError;
+pub use joint::Joint;
+pub use kinds::{Coming, Next, Readiness, Stepped};

@@ -1,0 +1,112 @@
+//! The memory of a joint replay.
+ghost use Rattle.std.specs.Prelude.{◌≡◌, ◌≤◌, ◌<◌, ◌+◌, ◌/◌, ◌^◌, ◌⊎◌, [], Some, OnOk};
+ghost use Rattle.std.specs.Option.{option_map};
+ghost use Rattle.rv_meaning.specs.Words.{aligned};
+ghost use Rattle.joint_replay.specs.Memory.{forget, put_word, word_in, put_access};
+ghost use Rattle.joint_replay.specs.Words.{bytes_at};
+
+use bn_base::{Addr, Row};
+use hart_replay::Words;
+use std::alloc::{AllocError, Global};
+use std::marker::Model;
+
+/// The words that a joint replay knows. Contracts see them by ascending address, and for how many
+/// pages more there is room.
+#[derive(Drop)]
+pub(crate) struct Memory {
+    words: Words,
+}
+
+impl Model for Memory {
+    ghost use Rattle.joint_replay.specs.Words.{Remembered, words_of};
+
+    ghost Value = { Remembered };
+
+    ghost view = { λ m. record { words = words_of m.words.pages; room = m.words.room } };
+}
+
+impl Memory {
+    /// No word is known. It takes no memory.
+    pub(crate) fn new(alloc: Global) -> Memory
+        ensures { result.words ≡ [] }
+    {
+        Memory {
+            words: Words::new(alloc),
+        }
+    }
+
+    /// The known word at an address. None is at one that isn't a multiple of 4.
+    pub(crate) fn word(&self, addr: Addr) -> Option<u32>
+        ensures { result ≡ word_in self.now.words addr }
+    {
+        if addr % 4 == 0 {
+            self.words.get(addr)
+        } else {
+            None
+        }
+    }
+
+    /// Makes room for the words of one row. The words stay.
+    pub(crate) fn make_room(&mut self) -> Result<(), AllocError>
+        ensures room { OnOk result (2 ≤ self.new.room) }
+        ensures same { self.new.words ≡ self.old.words }
+    {
+        self.words.make_room(2)
+    }
+
+    // Makes the aligned word of an address known.
+    fn put(&mut self, addr: Addr, word: u32)
+        requires { 0 < self.old.room }
+        ensures word { self.new.words ≡ put_word (aligned addr) word self.old.words }
+        ensures room { self.old.room ≤ self.new.room + 1 }
+    {
+        match self.words.put(addr, word) {
+            Ok(()) => (),
+            Err(_) => unreachable!(),
+        }
+    }
+
+    // Makes the words unknown that have one of so many bytes from an address on.
+    fn forget(&mut self, first: Addr, count: u32)
+        ensures words { self.new.words ≡ forget (Some (record { first = first; count = count })) self.old.words }
+        ensures room { self.new.room ≡ self.old.room }
+    {
+        let last = last_word(first, count);
+        for number in first / 4..last {
+            self.words.forget(4 * number);
+        }
+    }
+
+    // Makes a word known that a row tells, if it tells one.
+    fn keep(&mut self, told: Option<(Addr, u32)>)
+        requires { 0 < self.old.room }
+        ensures words { self.new.words ≡ put_access told self.old.words }
+        ensures room { self.old.room ≤ self.new.room + 1 }
+    {
+        if let Some((addr, word)) = told {
+            self.put(addr, word);
+        }
+    }
+
+    /// Notes what a row tells: the word that it stored, else the one that it loaded, and nothing
+    /// more of the words of which a call filled bytes.
+    pub(crate) fn note(&mut self, row: &Row, filled: Option<(Addr, u32)>)
+        requires { 2 ≤ self.old.room }
+        ensures { self.new.words ≡ put_access row.now.store (put_access row.now.load (forget (option_map bytes_at filled) self.old.words)) }
+    {
+        if let Some((first, count)) = filled {
+            self.forget(first, count);
+        }
+        self.keep(row.load);
+        self.keep(row.store);
+    }
+}
+
+// The number after the last word that has one of so many bytes from an address on.
+fn last_word(first: Addr, count: u32) -> u32
+    ensures end { (result ≡ (first + count + 3) / 4) ⊎ ((result ≡ 2 ^ 30) × (2 ^ 30 ≤ (first + count + 3) / 4)) }
+    ensures bound { result ≤ 2 ^ 30 }
+{
+    let last = (first as u64 + count as u64 + 3) / 4;
+    if last < 1 << 30 { last as u32 } else { 1 << 30 }
+}

@@ -1,0 +1,112 @@
+//! The Edges into a hart.
+ghost use Rattle.std.specs.Prelude.{◌≡◌, ◌<◌, IfOk};
+ghost use Rattle.joint_replay.specs.Sources.{source_in, AscendFrom, sources_at};
+ghost use Rattle.joint_replay.specs.Points.{sources_into};
+
+use crate::laws::edges_ascend;
+use bn_base::{HartId, Ic};
+use log_order::KeptLog;
+use log_record::Record;
+use std::alloc::{AllocError, Global};
+use std::marker::Model;
+
+/// An Edge into a hart: the count of its target, and its source.
+#[derive(Clone, Copy, Drop)]
+pub(crate) struct Source {
+    pub(crate) target: Ic,
+    pub(crate) hart: HartId,
+    pub(crate) ic: Ic,
+}
+
+/// The kept Edges into a hart of a log, in their order.
+#[derive(Drop)]
+pub(crate) struct Sources<'a> {
+    log: &'a KeptLog,
+    hart: HartId,
+    edges: Vec<Source>,
+}
+
+impl<'a> Model for Sources<'a> {
+    ghost use Rattle.std.specs.Prelude.{◌≡◌};
+    ghost use Rattle.joint_replay.specs.Sources.{HartOf, edges_into, AscendFrom};
+
+    ghost Value = { HartOf };
+
+    ghost view = { λ s. record { log = s.log.now; hart = s.hart } };
+
+    ghost invariant = { λ s. (s.edges.items ≡ edges_into s.hart s.log.now.records) × AscendFrom 0 s.edges.items };
+}
+
+// The Edge into a hart that a record is, if it is one.
+fn source_in(hart: HartId, entry: &Record) -> Option<Source>
+    ensures { result ≡ source_in hart entry.now }
+{
+    match *entry {
+        Record::Edge {
+            hart: into,
+            ic: target,
+            from,
+            from_ic,
+        } => {
+            if into == hart {
+                Some(Source {
+                    target,
+                    hart: from,
+                    ic: from_ic,
+                })
+            } else {
+                None
+            }
+        }
+        Record::Header { .. } => None,
+        Record::FirstLoad { .. } => None,
+        Record::ScOk { .. } => None,
+        Record::ScFailed { .. } => None,
+        Record::End { .. } => None,
+    }
+}
+
+impl<'a> Sources<'a> {
+    /// Those of a hart.
+    pub(crate) fn gather(
+        alloc: Global,
+        log: &'a KeptLog,
+        hart: HartId,
+    ) -> Result<Sources<'a>, AllocError>
+        requires { hart < log.now.head.settings.harts }
+        ensures { IfOk result (λ s. s ≡ record { log = log.now; hart = hart }) }
+    {
+        edges_ascend();
+        let records = log.records();
+        let mut edges = Vec::new(alloc);
+        for place in 0..records.len() {
+            if let Some(source) = source_in(hart, &records[place]) {
+                edges.push(source)?;
+            }
+        }
+        Ok(Sources { log, hart, edges })
+    }
+
+    /// The hart.
+    pub(crate) fn hart(&self) -> HartId
+        ensures { result ≡ self.now.hart }
+    {
+        self.hart
+    }
+
+    /// The log.
+    pub(crate) fn log(&self) -> &'a KeptLog
+        ensures { result.now ≡ self.now.log }
+    {
+        self.log
+    }
+
+    /// The Edges from the first into an instruction or a later one on, by ascending targets.
+    pub(crate) fn from(&self, ic: Ic) -> &[Source]
+        ensures sources { sources_at ic result.now ≡ sources_into self.now.log.records self.now.hart ic }
+        ensures order { AscendFrom 0 result.now }
+    {
+        let start = self.edges.partition_point(|source| source.target < ic);
+        &self.edges[start..]
+    }
+}
