@@ -55,7 +55,13 @@ interval_none h n (suc m) = refl
 abbrev Cleared : RawSettings → List Event → Type 0
 Cleared c es = (b : ℕ) → warm (geometry_of c) b es ≡ false
 
--- Interval v of h, with number n, begins later in the run: at that run, with those turns left. Before it are the front rows.
+-- the run after the turns of a list
+abbrev pub served_from : RawSettings → Program → Run → List ℕ → Run
+served_from c i run [] = run
+served_from c i run (k ∷ ks) = served_from c i (served_turn c i run k) ks
+
+-- Interval v of h, with number n, begins later in the run: at that run, which the past turns lead to, with those turns left.
+-- Before it are the front rows.
 pub record Begins (c : RawSettings) (i : Program) (run : Run) (ks : List ℕ) (h n : ℕ) (v : Interval) : Type 0 where
   pub later : Run
   pub turns : List ℕ
@@ -69,6 +75,9 @@ pub record Begins (c : RawSettings) (i : Program) (run : Run) (ks : List ℕ) (h
   pub front : List Row
   pub all : served_all c i run ks h ≡ front ++ served_all c i later turns h
   pub count : (run.harts h).state.ic + length front ≡ (later.harts h).state.ic
+  pub past : List ℕ
+  pub list : ks ≡ past ++ turns
+  pub reached : later ≡ served_from c i run past
 
 -- it begins at once
 begins_here : (c : RawSettings) (i : Program) (h n : ℕ) (ks : List ℕ) (run : Run) (v : Interval) → IsServed c i run ks → Fit c (run.harts h) → (run.harts h).skipped ≡ 0
@@ -86,6 +95,9 @@ begins_here c i h n ks run v l f s w e is = record {
   front = [];
   all = refl;
   count = omega arith;
+  past = [];
+  list = refl;
+  reached = refl;
 }
 
 -- it begins after a turn of another hart, which leaves h
@@ -104,6 +116,9 @@ begins_past c i h n k ks run v p is b = record {
   front = b.front;
   all = all_skip c i run ks h k p ∙ b.all;
   count = ap (λ (x : Hart). x.state.ic + length b.front) (sym is) ∙ b.count;
+  past = k ∷ b.past;
+  list = ap (λ x. k ∷ x) b.list;
+  reached = b.reached;
 }
 
 -- it begins after an own turn of h, which goes on
@@ -128,6 +143,9 @@ begins_after c i h n ks run v z f q is none b =
       front = rows ++ b.front;
       all = all_own c i run ks h ∙ (ap (λ x. rows ++ x) b.all ∙ sym (append_assoc rows b.front (served_all c i b.later b.turns h)));
       count = omega (arith, whole, turn, next, rest, none);
+      past = h ∷ b.past;
+      list = ap (λ x. h ∷ x) b.list;
+      reached = b.reached;
     }
 
 -- ---- the Headers of a turn
@@ -282,11 +300,6 @@ gives c i h n z (k ∷ ks) run l q f = elim (eqb_tells k h) [
 ]
 
 -- ---- from the start
-
--- the run after the turns of a list
-abbrev pub served_from : RawSettings → Program → Run → List ℕ → Run
-served_from c i run [] = run
-served_from c i run (k ∷ ks) = served_from c i (served_turn c i run k) ks
 
 pub stream_is : (c : RawSettings) (i : Program) (ks : List ℕ) (run : Run) → (served_from c i run ks).stream ≡ run.stream ++ served_records c i run ks
 stream_is c i [] run = sym (append-nil run.stream)

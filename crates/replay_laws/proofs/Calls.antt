@@ -1,19 +1,20 @@
 -- A system call in the replay of an interval.
-use Rattle.std.proofs.Common.{◌≡◌, ℕ, ◌+◌, ◌-◌, ◌<◌, ◌^◌, min, Bool, true, false, not, ◌&&◌, List, ◌∷◌, Some, None, refl, sym, ◌∙◌, ap, arith, subst, inl, inr}
-use Rattle.std.specs.Prelude.{◌==◌, ◌||◌, ◌⊎◌, nat_lt, nat_le, slice_index, if◌then◌else◌}
+use Rattle.std.proofs.Common.{◌≡◌, ℕ, ◌+◌, ◌<◌, ◌^◌, Bool, true, false, not, ◌&&◌, List, ◌∷◌, Some, None, refl, sym, ◌∙◌, ap, arith, subst, inl, inr}
+use Rattle.std.specs.Prelude.{◌==◌, ◌||◌, ◌⊎◌, nat_lt, slice_index}
 use Rattle.std.proofs.lemmas.Bool.{false≢true, eq-eqb}
 use Rattle.std.proofs.lemmas.Bool.Decides.{eqb_tells}
-use Rattle.bn_base.specs.Programs.{Program, may_load, may_store, heap_start, heap_limit}
+use Rattle.bn_base.specs.Programs.{Program}
 use Rattle.bn_base.specs.declared.end_mark.EndMark.{EndMark}
 use Rattle.bn_base.specs.declared.state.HartState.{HartState}
-use Rattle.rv_meaning.specs.Execute.{Asks, step, absorbed, count_up}
+use Rattle.rv_meaning.specs.Execute.{Asks, step, absorbed, count_up, count_up_if, is_exit}
 use Rattle.rv_meaning.specs.declared.asks.Ask.{Ask}
 use Rattle.rv_meaning.specs.declared.asks.Want.TheVariants.{System}
 use Rattle.rv_meaning.specs.declared.asks.Reply.TheVariants.{Answer, Over}
 use Rattle.system_calls.specs.declared.kernel.Kernel.{Kernel}
 use Rattle.system_calls.specs.declared.effect.Plan.{Plan}
 use Rattle.system_calls.specs.declared.effect.Plan.TheVariants as plans
-use Rattle.system_calls.specs.Calls.{read_plan, write_plan, break_plan, plan_of, all_bytes, stream_size, stream_len}
+use Rattle.system_calls.specs.Calls.{plan_of}
+use Rattle.system_calls.specs.Laws.{is_end, ExitsAloneEnd}
 use Rattle.hart_rows.specs.Rows.{call_row}
 use Rattle.hart_replay.specs.Replay.{Interval, Position, Logged, puts, system_step, call_reason, found}
 use Rattle.hart_replay.specs.Replay.{Next as Goal}
@@ -39,52 +40,34 @@ Goes p = Unit {0}
 abbrev pub Kind : ℕ → ℕ → Plan → Type 0
 Kind n a0 p = ((call_reason n ≡ 3) × (p ≡ plans.EndHart a0)) ⊎ (((call_reason n ≡ 4) × (p ≡ plans.EndRun a0)) ⊎ ((call_reason n ≡ 2) × Goes p))
 
-then_case : (P : Plan → Type 0) (x : Bool) (a b : Plan) → x ≡ true → P a → P (if x then a else b)
-then_case P x a b e y = subst (λ (z : Bool). P (if z then a else b)) (sym e) y
+goes_on : (p : Plan) → is_end p ≡ false → Goes p
+goes_on (plans.Fill a n) e = tt
+goes_on (plans.Send f a n) e = tt
+goes_on (plans.Break v) e = tt
+goes_on (plans.Answer v) e = tt
+goes_on (plans.EndHart v) e = sym e
+goes_on (plans.EndRun v) e = sym e
 
-else_case : (P : Plan → Type 0) (x : Bool) (a b : Plan) → x ≡ false → P b → P (if x then a else b)
-else_case P x a b e y = subst (λ (z : Bool). P (if z then a else b)) (sym e) y
-
-goes_if : (x : Bool) (a b : Plan) → Goes a → Goes b → Goes (if x then a else b)
-goes_if true a b f g = f
-goes_if false a b f g = g
-
-read_goes : (a0 a1 a2 : ℕ) (k : Kernel) (i : Program) → Goes (read_plan a0 a1 a2 k i)
-read_goes a0 a1 a2 k i =
-    let count : ℕ = min a2 (min 4096 k.input_left) in
-    goes_if (a0 == 0) _ _ (goes_if (count == 0) _ _ tt (goes_if (all_bytes (may_store i) a1 count) _ _ tt tt)) tt
-
-write_goes : (a0 a1 a2 : ℕ) (k : Kernel) (i : Program) → Goes (write_plan a0 a1 a2 k i)
-write_goes a0 a1 a2 k i =
-    let room : ℕ = stream_size - stream_len a0 k in
-    goes_if (a0 == 1 || (a0 == 2)) _ _
-    (goes_if (a2 == 0) _ _ tt (goes_if (nat_le stream_size (stream_len a0 k)) _ _ tt (goes_if (all_bytes (may_load i) a1 (min a2 (min 4096 room))) _ _ tt tt))) tt
-
-break_goes : (a0 : ℕ) (k : Kernel) (i : Program) → Goes (break_plan a0 k i)
-break_goes a0 k i = goes_if (nat_le (heap_start i) a0 && nat_le a0 (heap_limit i)) _ _ tt tt
+neither : (x y : Bool) → x ≡ false → y ≡ false → (x || y) ≡ false
+neither true y e f = e
+neither false y e f = f
 
 other_reason : (n : ℕ) → (n == 93) ≡ false → (n == 94) ≡ false → call_reason n ≡ 2
 other_reason n e f =
     ap (λ (x : Bool). elim x as (λ y. ℕ) [ true ↦ 3 | false ↦ elim (n == 94) as (λ y. ℕ) [ true ↦ 4 | false ↦ 2 ] ]) e
     ∙ ap (λ (x : Bool). elim x as (λ y. ℕ) [ true ↦ 4 | false ↦ 2 ]) f
 
-plan_of_kind : (n a0 a1 a2 : ℕ) (k : Kernel) (i : Program) → Kind n a0 (plan_of n a0 a1 a2 k i)
-plan_of_kind n a0 a1 a2 k i = elim (eqb_tells n 63) [
-  | inl p ↦ then_case (Kind n a0) (n == 63) _ _ p.0 (inr (inr (ap call_reason p.1, read_goes a0 a1 a2 k i)))
-  | inr p ↦ else_case (Kind n a0) (n == 63) _ _ p.0 (elim (eqb_tells n 64) [
-    | inl p ↦ then_case (Kind n a0) (n == 64) _ _ p.0 (inr (inr (ap call_reason p.1, write_goes a0 a1 a2 k i)))
-    | inr p ↦ else_case (Kind n a0) (n == 64) _ _ p.0 (elim (eqb_tells n 93) [
-      | inl p ↦ then_case (Kind n a0) (n == 93) _ _ p.0 (inl (ap call_reason p.1, refl))
-      | inr q ↦ else_case (Kind n a0) (n == 93) _ _ q.0 (elim (eqb_tells n 94) [
-        | inl p ↦ then_case (Kind n a0) (n == 94) _ _ p.0 (inr (inl (ap call_reason p.1, refl)))
-        | inr p ↦ else_case (Kind n a0) (n == 94) _ _ p.0 (inr (inr (other_reason n q.0 p.0, goes_if (n == 214) _ _ (break_goes a0 k i) tt)))
-      ])
-    ])
-  ])
+plan_of_kind : ExitsAloneEnd → (n a0 a1 a2 : ℕ) (k : Kernel) (i : Program) → Kind n a0 (plan_of n a0 a1 a2 k i)
+plan_of_kind exits n a0 a1 a2 k i = elim (eqb_tells n 93) [
+  | inl p ↦ subst (λ x. Kind x a0 (plan_of x a0 a1 a2 k i)) (sym p.1) (inl (refl, refl))
+  | inr q ↦ elim (eqb_tells n 94) [
+    | inl p ↦ subst (λ x. Kind x a0 (plan_of x a0 a1 a2 k i)) (sym p.1) (inr (inl (refl, refl)))
+    | inr p ↦ inr (inr (other_reason n q.0 p.0, goes_on (plan_of n a0 a1 a2 k i) (exits n a0 a1 a2 k i ∙ neither (n == 93) (n == 94) q.0 p.0)))
+  ]
 ]
 
-pub plan_kind : (i : Program) (m : Machine) (n : ℕ) (args : List ℕ) → Kind n (slice_index args 0) (planned i m n args)
-plan_kind i m n args = plan_of_kind n (slice_index args 0) (slice_index args 1) (slice_index args 2) (kernel_of m) i
+pub plan_kind : ExitsAloneEnd → (i : Program) (m : Machine) (n : ℕ) (args : List ℕ) → Kind n (slice_index args 0) (planned i m n args)
+plan_kind exits i m n args = plan_of_kind exits n (slice_index args 0) (slice_index args 1) (slice_index args 2) (kernel_of m) i
 
 -- ---- the step
 
@@ -171,12 +154,22 @@ answered x i h v q n args m m2 sk k e b o =
       held = o;
     }
 
+-- a number with the reason of an exit is counted
+exit_by : (x y : Bool) → (elim x as (λ z. ℕ) [ true ↦ 3 | false ↦ elim y as (λ z. ℕ) [ true ↦ 4 | false ↦ 2 ] ] == 2) ≡ false → (x || y) ≡ true
+exit_by true y e = refl
+exit_by false true e = refl
+exit_by false false e = absurd (false≢true (sym e))
+
+pub exit_counts : (n k : ℕ) → (call_reason n == 2) ≡ false → count_up_if (is_exit n) k ≡ count_up k
+exit_counts n k e = ap (λ (b : Bool). count_up_if b k) (exit_by (n == 93) (n == 94) e)
+
 finished : (r x : ℕ) (i : Program) (h : ℕ) (v : Interval) (q : Position) (n : ℕ) (args : List ℕ) (m m2 : ℕ → ℕ) (sk : ℕ) → call_reason n ≡ r → (r == 2) ≡ false
-    → x ≡ slice_index args 0 → step i q.state ≡ Asks (System n args) → q.state.ic + 1 < 2 ^ 64 → Holds v sk (ended_at (count_up q.state.ic) r x) q.loads q.conditionals
-    → Stepped i h v q (System n args) m m2 Over None sk (ended_at (count_up q.state.ic) r x)
+    → x ≡ slice_index args 0 → step i q.state ≡ Asks (System n args) → q.state.ic + 1 < 2 ^ 64 → Holds v sk (ended_at (count_up_if (is_exit n) q.state.ic) r x) q.loads q.conditionals
+    → Stepped i h v q (System n args) m m2 Over None sk (ended_at (count_up_if (is_exit n) q.state.ic) r x)
 finished r x i h v q n args m m2 sk k f a e b o =
     let ask : Ask = asking (System n args) q.state in
-    let up : count_up q.state.ic ≡ q.state.ic + 1 = omega arith in
+    let once : count_up q.state.ic ≡ q.state.ic + 1 = omega arith in
+    let up : count_up_if (is_exit n) q.state.ic ≡ q.state.ic + 1 = exit_counts n q.state.ic (ap (λ y. y == 2) k ∙ f) ∙ once in
     let told : v.mark ≡ mark (q.state.ic + 1) r (slice_index args 0) = o.mark_is ∙ (ap (λ y. mark y r x) up ∙ ap (λ y. mark (q.state.ic + 1) r y) a) in
     record {
       next = over i h q ask;
@@ -212,6 +205,18 @@ unfolding code_of is_run
 kind_run n a0 x (inl k) = absurd (false≢true (sym (ap is_run k.1)))
 kind_run n a0 x (inr (inl k)) = (k.0, ap code_of k.1)
 kind_run n a0 x (inr (inr k)) = absurd (false≢true k.1)
+
+-- a planned call is counted
+call_counts : (pl : Plan) (h n : ℕ) (args : List ℕ) (m : Machine) (s : HartState) → Kind n (slice_index args 0) pl → (absorbed (asking (System n args) s) (answer_call pl h m).reply).ic ≡ count_up s.ic
+call_counts (plans.Fill a z) h n args m s k = refl
+call_counts (plans.Send f a z) h n args m s k = refl
+call_counts (plans.Break x) h n args m s k = refl
+call_counts (plans.Answer x) h n args m s k = refl
+call_counts (plans.EndHart x) h n args m s k = exit_counts n s.ic (ap (λ y. y == 2) (kind_hart n (slice_index args 0) x k).0)
+call_counts (plans.EndRun x) h n args m s k = exit_counts n s.ic (ap (λ y. y == 2) (kind_run n (slice_index args 0) x k).0)
+
+pub plan_counts : ExitsAloneEnd → (i : Program) (h n : ℕ) (args : List ℕ) (m : Machine) (s : HartState) → (absorbed (asking (System n args) s) (answer_call (planned i m n args) h m).reply).ic ≡ count_up s.ic
+plan_counts exits i h n args m s = call_counts (planned i m n args) h n args m s (plan_kind exits i m n args)
 
 -- what the turn of a planned call leaves to come
 abbrev call_log : Plan → ℕ → HartState → ℕ → List ℕ → Machine → Logged → Logged

@@ -9,8 +9,7 @@ use Rattle.rv_meaning.specs.Execute.{absorbed, count_up}
 use Rattle.rv_meaning.specs.declared.asks.Want.{Want}
 use Rattle.rv_meaning.specs.declared.asks.Want.TheVariants.{Load, Store, LoadReserved, StoreConditional, Amo, System, Cut, Faulted}
 use Rattle.rv_meaning.specs.declared.asks.Reply.TheVariants.{Went, Over}
-use Rattle.system_calls.specs.declared.effect.Plan.{Plan}
-use Rattle.system_calls.specs.declared.effect.Plan.TheVariants as plans
+use Rattle.system_calls.specs.Laws.{ExitsAloneEnd}
 use Rattle.first_load_bits.specs.declared.warm.Warm.{Warm}
 use Rattle.race_log.specs.Points.{Point}
 use Rattle.log_record.specs.declared.record.Record.{Record}
@@ -18,11 +17,12 @@ use Rattle.hart_replay.specs.Replay.{Interval, Logged, puts, nothing, first}
 use Rattle.run_model.specs.declared.hart.Hart.{Hart}
 use Rattle.run_model.specs.declared.next.Next.{Next}
 use Rattle.run_model.specs.declared.next.Next.TheVariants.{GoesOn, NewInterval}
-use Rattle.run_model.specs.Machine.{Machine, answer_call, answer_sc, planned, is_reserved}
+use Rattle.run_model.specs.Machine.{Machine, answer_sc, is_reserved}
 use Rattle.run_model.specs.Turn.{Run, ask_at, budget, loading, warmth, word_before, load_record, sc_record, skipped_after, point_of, hart_after, other_after, mark}
 use Rattle.run_model.specs.Rows.{reply_at}
 use Rattle.replay_laws.proofs.Asked.{asking, state_after, span_to, next_at, served_turn}
 use Rattle.replay_laws.proofs.Step.{of_memory}
+use Rattle.replay_laws.proofs.Calls.{plan_counts}
 use Rattle.replay_laws.proofs.Turns.{turn_records, end_log, own_log, foreign_log, other_log, own_hart, foreign_hart, puts_append}
 use Rattle.replay_laws.proofs.Way.{Sound, Came, way}
 
@@ -39,15 +39,6 @@ Counted s t = (s.ic ≤ t.ic) × (t.ic ≤ s.ic + 1)
 counted_up : (s t : HartState) → s.ic + 1 < 2 ^ 64 → t.ic ≡ count_up s.ic → Counted s t
 unfolding Counted
 counted_up s t b e = (omega arith, omega arith)
-
-pub plan_counts : (pl : Plan) (j n : ℕ) (args : List ℕ) (m : Machine) (s : HartState)
-    → (absorbed (asking (System n args) s) (answer_call pl j m).reply).ic ≡ count_up s.ic
-plan_counts (plans.Fill a z) j n args m s = refl
-plan_counts (plans.Send f a z) j n args m s = refl
-plan_counts (plans.Break x) j n args m s = refl
-plan_counts (plans.Answer x) j n args m s = refl
-plan_counts (plans.EndHart x) j n args m s = refl
-plan_counts (plans.EndRun x) j n args m s = refl
 
 sc_counts : (x : Bool) (j a rd w : ℕ) (m : Machine) (s : HartState) → (absorbed (asking (StoreConditional a rd w) s) (answer_sc x a w j m).reply).ic ≡ count_up s.ic
 sc_counts true j a rd w m s = refl
@@ -71,15 +62,15 @@ memory_counts (System n args) c i m j s e = absurd (false≢true e)
 memory_counts Cut c i m j s e = absurd (false≢true e)
 memory_counts (Faulted f y) c i m j s e = absurd (false≢true e)
 
-want_counts : (w : Want) (c : RawSettings) (i : Program) (m : Machine) (j : ℕ) (s : HartState) → s.ic + 1 < 2 ^ 64 → Counted s (state_after c i m j w s)
-want_counts (Load a wd g rd) c i m j s b = counted_up s _ b refl
-want_counts (LoadReserved a rd) c i m j s b = counted_up s _ b refl
-want_counts (Store a wd w) c i m j s b = counted_up s _ b refl
-want_counts (Amo a o rd w) c i m j s b = counted_up s _ b refl
-want_counts (StoreConditional a rd w) c i m j s b = counted_up s _ b (sc_counts (is_reserved (m.reserved j) a) j a rd w m s)
-want_counts (System n args) c i m j s b = counted_up s _ b (plan_counts (planned i m n args) j n args m s)
-want_counts Cut c i m j s b = subst (Counted s) (sym (cut_state (nat_le c.limit s.ic) s)) (same_count s)
-want_counts (Faulted f y) c i m j s b = same_count s
+want_counts : ExitsAloneEnd → (w : Want) (c : RawSettings) (i : Program) (m : Machine) (j : ℕ) (s : HartState) → s.ic + 1 < 2 ^ 64 → Counted s (state_after c i m j w s)
+want_counts exits (Load a wd g rd) c i m j s b = counted_up s _ b refl
+want_counts exits (LoadReserved a rd) c i m j s b = counted_up s _ b refl
+want_counts exits (Store a wd w) c i m j s b = counted_up s _ b refl
+want_counts exits (Amo a o rd w) c i m j s b = counted_up s _ b refl
+want_counts exits (StoreConditional a rd w) c i m j s b = counted_up s _ b (sc_counts (is_reserved (m.reserved j) a) j a rd w m s)
+want_counts exits (System n args) c i m j s b = counted_up s _ b (plan_counts exits i j n args m s)
+want_counts exits Cut c i m j s b = subst (Counted s) (sym (cut_state (nat_le c.limit s.ic) s)) (same_count s)
+want_counts exits (Faulted f y) c i m j s b = same_count s
 
 -- ---- names for what hart k's turn does
 
@@ -150,7 +141,7 @@ bounds_by c i m t h w s z f g (inl p) =
     let e : (state_after c i m h w s).ic ≡ s.ic = ap (λ (x : HartState). x.ic) (cut_next c i m h w s p.0) in
     (omega (arith, e, g), omega (arith, f.within, e, p.1))
 bounds_by c i m t h w s z f g (inr p) =
-    let e : Counted s (state_after c i m h w s) = want_counts w c i m h s (omega (arith, f.within, z.limit, p.1)) in
+    let e : Counted s (state_after c i m h w s) = want_counts z.exits w c i m h s (omega (arith, f.within, z.limit, p.1)) in
     (omega (arith, e.0, g), omega (arith, f.within, e.1, p.1))
 
 pub own_bounds : (c : RawSettings) (i : Program) (run : Run) (h : ℕ) → Sound c i → Fit c (run.harts h)

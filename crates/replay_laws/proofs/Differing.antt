@@ -16,6 +16,7 @@ use Rattle.rv_meaning.specs.declared.asks.Want.TheVariants.{Load, Store, LoadRes
 use Rattle.rv_meaning.specs.declared.asks.Reply.TheVariants.{Word, Stored}
 use Rattle.hart_replay.specs.Replay.{Outcome, Done, Refused, Replayed, Interval, Position, Next, On, Stop, found, finish, left_over, fault_end, ended, one_step, ask_step, after_ask, after_sc, system_step, missing, word_for, slot, call_reason, steps, first, replayed_in, taken_from}
 use Rattle.hart_replay.specs.declared.error.ReplayError.TheVariants.{EndDiffers, RecordsLeft, LoadMissing, ScMissing}
+use Rattle.replay_laws.proofs.Calls.{exit_counts}
 use Rattle.replay_laws.specs.Differing.{IsFair, EndsThatDifferAreTold}
 
 -- ---- single outcomes
@@ -152,10 +153,10 @@ call_stops h v p reason value t = differ_fair v.mark (found (p.state.ic + 1) rea
     (and_true (p.state.ic + 1 == v.mark.ic) (reason == v.mark.reason) (eqb_same _ _ (ap (λ (x : EndMark). x.ic) same)) (eqb_same _ _ (ap (λ (x : EndMark). x.reason) same)))
     (or_true (reason == 2) (value == v.mark.value) (eqb_same _ _ (ap (λ (x : EndMark). x.value) same)))) t)
 
-call_next : (m : EndMark) (p : Position) (goes : Bool) (on over : Position) → on.state.ic ≡ count_up p.state.ic → over.state.ic ≡ count_up p.state.ic → IsFairNext m p (elim goes as (λ z. Next) [ true ↦ On on | false ↦ On over ])
+call_next : (m : EndMark) (p : Position) (goes : Bool) (on over : Position) → on.state.ic ≡ count_up p.state.ic → (goes ≡ false → over.state.ic ≡ count_up p.state.ic) → IsFairNext m p (elim goes as (λ z. Next) [ true ↦ On on | false ↦ On over ])
 unfolding IsFairNext
 call_next m p true on over a b = a
-call_next m p false on over a b = b
+call_next m p false on over a b = b refl
 
 done_next : (m : EndMark) (p : Position) (b : Bool) (x : Next) (o : Outcome) → IsFairNext m p x → (b ≡ false → IsFair m o) → IsFairNext m p (elim b as (λ z. Next) [ true ↦ x | false ↦ Stop o ])
 unfolding IsFairNext
@@ -167,7 +168,7 @@ system_next i h v p n a0 args =
     let reason = call_reason n in
     let value : ℕ = elim (reason == 2) [ true ↦ 0 | false ↦ a0 ] in
     done_next v.mark p (p.state.ic + 1 == v.mark.ic && (reason == v.mark.reason) && ((reason == 2) || (value == v.mark.value))) _ _
-    (call_next v.mark p (reason == 2) _ _ refl refl)
+    (call_next v.mark p (reason == 2) _ _ refl (exit_counts n p.state.ic))
     (λ t. call_stops h v p reason value t)
 
 ask_next : (i : Program) (h : ℕ) (v : Interval) (p : Position) (k : Want) → p.state.ic ≢ v.mark.ic → IsFairNext v.mark p (ask_step i h v p k)

@@ -11,6 +11,7 @@ use Rattle.rv_meaning.specs.Execute.{Step, Quiet, Asks, step, ask_of, count_up}
 use Rattle.rv_meaning.specs.declared.asks.Ask.{Ask}
 use Rattle.rv_meaning.specs.declared.asks.Want.{Want}
 use Rattle.rv_meaning.specs.declared.asks.Want.TheVariants.{Load, Store, LoadReserved, StoreConditional, Amo, System, Cut, Faulted}
+use Rattle.system_calls.specs.Laws.{ExitsAloneEnd}
 use Rattle.system_calls.specs.declared.effect.Plan.{Plan}
 use Rattle.system_calls.specs.declared.effect.Plan.TheVariants as plans
 use Rattle.hart_rows.specs.Rows.{row_of}
@@ -22,7 +23,8 @@ use Rattle.run_model.specs.Turn.{Run, ask_at, budget, after_call, counted}
 use Rattle.run_model.specs.Rows.{quiet_rows, want_rows, turn_rows}
 use Rattle.replay_laws.specs.Law.{rows_at_end}
 use Rattle.replay_laws.proofs.Asked.{asking, reply_to, state_after, next_to, next_at}
-use Rattle.replay_laws.proofs.Counts.{Fit, want_at, asked_at, next_state, memory_counts, plan_counts, cut_state, own_came}
+use Rattle.replay_laws.proofs.Calls.{plan_counts}
+use Rattle.replay_laws.proofs.Counts.{Fit, want_at, asked_at, next_state, memory_counts, cut_state, own_came}
 use Rattle.replay_laws.proofs.Ends.{above}
 use Rattle.replay_laws.proofs.Way.{Sound, Came}
 
@@ -80,21 +82,21 @@ bounded w s (inl p) e = absurd (false≢true (sym (ap not_cut p) ∙ e))
 bounded w s (inr b) e = b
 
 -- an ask but a cut has one row, and one instruction is done, or it faults
-ask_count : (w : Want) (c : RawSettings) (i : Program) (m : Machine) (h : ℕ) (t : Hart) (s : HartState) → (w ≡ Cut) ⊎ (s.ic + 1 < 2 ^ 64)
+ask_count : ExitsAloneEnd → (w : Want) (c : RawSettings) (i : Program) (m : Machine) (h : ℕ) (t : Hart) (s : HartState) → (w ≡ Cut) ⊎ (s.ic + 1 < 2 ^ 64)
     → s.ic + length (want_rows h i m.memory w s (state_after c i m h w s) (reply_to c i m h w s)) ≡ (state_after c i m h w s).ic + extra (next_to c i m h t w s)
 unfolding not_cut
-ask_count (Load a wd g rd) c i m h t s b = one_row s.ic _ _ (bounded (Load a wd g rd) s b refl) (memory_counts (Load a wd g rd) c i m h s refl) (counted_extra c t _)
-ask_count (LoadReserved a rd) c i m h t s b =
+ask_count exits (Load a wd g rd) c i m h t s b = one_row s.ic _ _ (bounded (Load a wd g rd) s b refl) (memory_counts (Load a wd g rd) c i m h s refl) (counted_extra c t _)
+ask_count exits (LoadReserved a rd) c i m h t s b =
     one_row s.ic _ _ (bounded (LoadReserved a rd) s b refl) (memory_counts (LoadReserved a rd) c i m h s refl) (counted_extra c t _)
-ask_count (Store a wd v) c i m h t s b = one_row s.ic _ _ (bounded (Store a wd v) s b refl) (memory_counts (Store a wd v) c i m h s refl) (counted_extra c t _)
-ask_count (Amo a o rd v) c i m h t s b = one_row s.ic _ _ (bounded (Amo a o rd v) s b refl) (memory_counts (Amo a o rd v) c i m h s refl) (counted_extra c t _)
-ask_count (StoreConditional a rd v) c i m h t s b =
+ask_count exits (Store a wd v) c i m h t s b = one_row s.ic _ _ (bounded (Store a wd v) s b refl) (memory_counts (Store a wd v) c i m h s refl) (counted_extra c t _)
+ask_count exits (Amo a o rd v) c i m h t s b = one_row s.ic _ _ (bounded (Amo a o rd v) s b refl) (memory_counts (Amo a o rd v) c i m h s refl) (counted_extra c t _)
+ask_count exits (StoreConditional a rd v) c i m h t s b =
     one_row s.ic _ _ (bounded (StoreConditional a rd v) s b refl) (memory_counts (StoreConditional a rd v) c i m h s refl) (counted_extra c t _)
-ask_count (System n args) c i m h t s b =
-    one_row s.ic _ _ (bounded (System n args) s b refl) (plan_counts (planned i m n args) h n args m s) (call_extra (planned i m n args) h m)
-ask_count Cut c i m h t s b = let e : (state_after c i m h Cut s).ic ≡ s.ic = ap (λ (x : HartState). x.ic) (cut_state (nat_le c.limit s.ic) s) in let f : extra
+ask_count exits (System n args) c i m h t s b =
+    one_row s.ic _ _ (bounded (System n args) s b refl) (plan_counts exits i h n args m s) (call_extra (planned i m n args) h m)
+ask_count exits Cut c i m h t s b = let e : (state_after c i m h Cut s).ic ≡ s.ic = ap (λ (x : HartState). x.ic) (cut_state (nat_le c.limit s.ic) s) in let f : extra
     (next_to c i m h t Cut s) ≡ 0 = counted_extra c t _ in omega (arith, e, f)
-ask_count (Faulted f y) c i m h t s b = ap (λ (x : Bool). s.ic + (if x then 1 else 0)) (sym (above f (16 + fault_number f) refl))
+ask_count exits (Faulted f y) c i m h t s b = ap (λ (x : Bool). s.ic + (if x then 1 else 0)) (sym (above f (16 + fault_number f) refl))
 
 -- ---- a whole turn
 
@@ -114,5 +116,5 @@ turn_count c i run h z f =
     let both : length (turn_rows c i run h) ≡ length quiet + length last = length-append quiet last in
     let first : t.state.ic + length quiet ≡ s.ic = quiet_count c i h (budget c t) t.state z (let g = f.within in let b = z.limit in omega (arith, g, b)) in
     let row : s.ic + length last ≡ (next_state c i run h).ic + extra (next_at c i run h) =
-    ask_count w c i run.machine h t s (came_short c i t (ask_at c i t) z f (own_came c i t h z f).0) in
+    ask_count z.exits w c i run.machine h t s (came_short c i t (ask_at c i t) z f (own_came c i t h z f).0) in
     omega (arith, both, first, row)

@@ -128,7 +128,7 @@ left c i h (k ∷ ks) run z g e f = elim (eqb_tells k h) [
 
 -- ---- its rows, and those after them
 
-from_now : (c : RawSettings) (i : Program) (h n : ℕ) (ks : List ℕ) (run : Run) → n ≤ (run.harts h).number
+pub from_now : (c : RawSettings) (i : Program) (h n : ℕ) (ks : List ℕ) (run : Run) → n ≤ (run.harts h).number
     → (post : List Row) × (served_all c i run ks h ≡ served_rows c i run ks h n ++ post)
 from_now c i h n [] run b = ([], refl)
 from_now c i h n (k ∷ ks) run b =

@@ -31,8 +31,8 @@ use Rattle.run_model.specs.Machine.{Machine, answer_call, call_of, planned}
 use Rattle.run_model.specs.Turn.{counted, next_of, after_call, warmth, word_before, load_record, loading, sc_record, skipped_after}
 use Rattle.run_model.specs.Rows.{want_rows}
 use Rattle.replay_laws.proofs.Asked.{asking, reply_to, state_after, memory_after, next_to, touched_to}
-use Rattle.replay_laws.proofs.Calls.{Fine, Plain, call_step, plan_kind}
-use Rattle.replay_laws.proofs.Counts.{memory_counts, plan_counts}
+use Rattle.replay_laws.proofs.Calls.{Fine, Plain, call_step, plan_kind, plan_counts}
+use Rattle.replay_laws.proofs.Counts.{memory_counts}
 use Rattle.replay_laws.proofs.Ends.{none_left, plain_marked, fault_marked}
 use Rattle.replay_laws.specs.Known.{learned}
 use Rattle.replay_laws.proofs.Places.{Ahead}
@@ -181,8 +181,8 @@ turned (StoreConditional a rd w) c i m h t s es v p qs l z wy e o =
 turned (System n args) c i m h t s es v p qs l z wy e o =
     let pl : Plan = planned i m n args in
     let r =
-    call_step pl i h v (moved p s wy.rows_now wy.called_now) n args m t.skipped l (plan_kind i m n args) (not_cut (System n args) i s refl o.came) o.bound o.holds in
-    let up : (state_after c i m h (System n args) s).ic ≡ count_up s.ic = plan_counts pl h n args m s in
+    call_step pl i h v (moved p s wy.rows_now wy.called_now) n args m t.skipped l (plan_kind z.exits i m n args) (not_cut (System n args) i s refl o.came) o.bound o.holds in
+    let up : (state_after c i m h (System n args) s).ic ≡ count_up s.ic = plan_counts z.exits i h n args m s in
     join i h v p s qs (System n args) m.memory (answer_call pl h m).machine.memory (answer_call pl h m).reply None t.skipped
     (after_call pl (answer_call pl h m).reply) l wy r.0 (let b = o.bound in omega arith) r.1
 turned Cut c i m h t s es v p qs l z wy e o = cut_turn (nat_le c.limit s.ic) c i m h t s v p qs l wy o.holds

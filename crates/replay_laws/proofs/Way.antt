@@ -10,6 +10,7 @@ use Rattle.rv_meaning.specs.Orderly.{is_cut, passes, orderly}
 use Rattle.rv_meaning.specs.declared.asks.Ask.{Ask}
 use Rattle.rv_meaning.specs.declared.asks.Want.{Want}
 use Rattle.rv_meaning.specs.declared.asks.Want.TheVariants.{Cut}
+use Rattle.system_calls.specs.Laws.{ExitsAloneEnd}
 use Rattle.hart_rows.specs.Rows.{row_of, known}
 use Rattle.hart_replay.specs.Replay.{Interval, Position, Replayed, Next, steps, finish, ask_step, onto}
 use Rattle.hart_replay.specs.Replay.{On, Stop}
@@ -24,6 +25,7 @@ pub record Sound (c : RawSettings) (i : Program) : Type 0 where
   pub limit : c.limit < 2 ^ 63
   pub format : c.format ≡ 1
   pub guards : FormatOneIsUnguarded
+  pub exits : ExitsAloneEnd
 
 -- p with another state, rows and flag
 abbrev pub moved : Position → HartState → List Row → Bool → Position

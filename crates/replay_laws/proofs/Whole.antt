@@ -11,6 +11,7 @@ use Rattle.bn_base.specs.declared.state.HartState.{HartState}
 use Rattle.rv_meaning.specs.Execute.{Quiet, Asks, step, ask_of, count_up}
 use Rattle.rv_meaning.specs.Orderly.{is_cut, passes, orderly}
 use Rattle.rv_meaning.specs.declared.asks.Want.{Want}
+use Rattle.system_calls.specs.Laws.{ExitsAloneEnd}
 use Rattle.log_record.specs.declared.record.Record.{Record}
 use Rattle.log_ring.specs.Kept.{kept}
 use Rattle.hart_replay.specs.Replay.{Interval, interval_of, interval_from, replayed_in}
@@ -24,7 +25,7 @@ use Rattle.run_model.specs.Files.{kept_of, IsEndOf}
 use Rattle.run_model.specs.Guards.{FormatOneIsUnguarded}
 use Rattle.run_model.specs.Runs.{start, run_of, run_from, legal_from, any_live}
 use Rattle.run_model.specs.Rows.{rows_in, rows_of, turn_rows}
-use Rattle.replay_laws.specs.Law.{LogSuffices, EndsSuffice, RowsStandTogether, RowsAreCounted, IsWhole, end_of}
+use Rattle.replay_laws.specs.Law.{LogSuffices, EndsSuffice, RowsStandTogether, IntervalsBegin, RowsAreCounted, IsWhole, end_of}
 use Rattle.replay_laws.proofs.Asked.{next_at, served_turn}
 use Rattle.replay_laws.proofs.Coming.{IsServed, equal_flip}
 use Rattle.replay_laws.proofs.Counts.{Fit, log_from, own_harts, other_harts, own_fit, begun_fit}
@@ -32,7 +33,7 @@ use Rattle.replay_laws.proofs.Open.{Inv, suffices, done_with}
 use Rattle.replay_laws.proofs.Begins.{Begins, start_fit, served_from, suffix_begins, suffix_absent, there}
 use Rattle.replay_laws.proofs.ServedRows.{served_rows, served_all, rows_if, over_live}
 use Rattle.replay_laws.proofs.Numbered.{numbered, numbered_range}
-use Rattle.replay_laws.proofs.Parts.{part}
+use Rattle.replay_laws.proofs.Parts.{part, from_now}
 use Rattle.replay_laws.proofs.Way.{Sound}
 
 -- ---- each turn's ask is orderly
@@ -114,25 +115,44 @@ same_runs c i h n z (k ∷ ks) run a l f =
       all = ap (λ (x : List Row). rows_if (k == h) (turn_rows c i run h) x) (ap (λ x. rows_of c i x ks h) is ∙ rest.all);
     }
 
+-- the run after the turns in front, and the rows of those left
+record Fronts (c : RawSettings) (i : Program) (h : ℕ) (past left : List ℕ) (run : Run) : Type 0 where
+  runs : run_from c i run past ≡ served_from c i run past
+  all : rows_of c i (run_from c i run past) left h ≡ served_all c i (served_from c i run past) left h
+
+fronts : (c : RawSettings) (i : Program) (h : ℕ) → Sound c i → (past left : List ℕ) (run : Run) → ((j : ℕ) → Early c (run.harts j)) → legal_from c i run (past ++ left) ≡ true
+    → any_live c.harts (run_from c i run (past ++ left)).harts ≡ false → Fronts c i h past left run
+fronts c i h z [] left run a l f = record { runs = refl; all = (same_runs c i h 0 z left run a l f).all }
+fronts c i h z (k ∷ ks) left run a l f =
+    let p = at_true (nat_lt k c.harts && (run.harts k).live) (legal_from c i (turn c i run k) (ks ++ left)) l in
+    let q = and_parts (nat_lt k c.harts) (run.harts k).live p.0 in
+    let fit : Fit c (run.harts k) = fit_live c (run.harts k) (a k) q.1 in
+    let is : turn c i run k ≡ served_turn c i run k = turn_is c i run k z fit in
+    let rest =
+    fronts c i h z ks left (served_turn c i run k) (all_early c i run k z fit a) (subst (λ (x : Run). legal_from c i x (ks ++ left) ≡ true) is p.1)
+    (subst (λ (x : Run). any_live c.harts (run_from c i x (ks ++ left)).harts ≡ false) is f) in
+    record { runs = ap (λ x. run_from c i x ks) is ∙ rest.runs; all = ap (λ x. rows_of c i (run_from c i x ks) left h) is ∙ rest.all }
+
 -- ---- the laws
 
 drop_front : (xs ys : List Record) → drop (length xs) (xs ++ ys) ≡ ys
 drop_front [] ys = refl
 drop_front (x ∷ xs) ys = drop_front xs ys
 
--- what the laws stand on: what is known of instructions, and of guards
+-- what the laws stand on: what is known of instructions, of guards, and of the calls that end a hart or the run
 pub record Known : Type 0 where
   pub counts : (i : Program) (s t : HartState) → step i s ≡ Quiet t → t.ic ≡ count_up s.ic
   pub passing : (i : Program) (s : HartState) (w : Want) → step i s ≡ Asks w → (is_cut w ≡ false) × (passes i w ≡ true)
   pub orderly : (i : Program) (budget : ℕ) (s : HartState) → s.ic + budget < 2 ^ 64 → orderly i s.ic budget (ask_of i budget s) ≡ true
   pub guards : FormatOneIsUnguarded
+  pub exits : ExitsAloneEnd
 
 -- and that what is kept is a suffix
 abbrev pub KeepsSuffix : Type 0
 KeepsSuffix = (size : ℕ) (rs : List Record) → (front : List Record) × (rs ≡ front ++ kept size rs)
 
 sound : (c : RawSettings) (i : Program) → Known → c.format ≡ 1 → c.limit < 2 ^ 63 → Sound c i
-sound c i z format limit = record { counts = z.counts i; passing = z.passing i; orderly = z.orderly i; limit = limit; format = format; guards = z.guards }
+sound c i z format limit = record { counts = z.counts i; passing = z.passing i; orderly = z.orderly i; limit = limit; format = format; guards = z.guards; exits = z.exits }
 
 same_whole : (c : RawSettings) (i : Program) (input b : List ℕ) (h n : ℕ) → Sound c i → IsWhole c i input b → Same c i h n b (start c i input)
 same_whole c i input b h n z whole =
@@ -211,6 +231,27 @@ togetherness known c i input b h n format limit whole rs end v e =
     s.rows
     ∙ (part c i h n b (start c i input) v z g refl (kept_begins c i input b h n rs end z g s v e)
     ∙ ap (λ (xs : List Row). take (end_of v - v.start.ic) (drop v.start.ic xs)) (sym s.all))
+
+pub beginnings : Known → IntervalsBegin
+beginnings known c i input b h n format limit whole rs end v e =
+    let z : Sound c i = sound c i known format limit in
+    let s = same_whole c i input b h n z whole in
+    let g : h < c.harts = kept_hart c i input b h n rs end s v e in
+    let x : Begins c i (start c i input) b h n v = kept_begins c i input b h n rs end z g s v e in
+    let t =
+    fronts c i h z x.past x.turns (start c i input) (λ j. inl (start_fit c i j input)) (subst (λ ks. legal_from c i (start c i input) ks ≡ true) x.list whole.legal)
+    (subst (λ ks. any_live c.harts (run_from c i (start c i input) ks).harts ≡ false) x.list (none_live (any_live c.harts (run_from c i (start c i input) b).harts) whole.over)) in
+    let later : run_of c i input x.past ≡ x.later = t.runs ∙ sym x.reached in
+    let number : (x.later.harts h).number ≡ n = x.number in
+    let post = from_now c i h n x.turns x.later (omega (arith, number)) in
+    record {
+      past = x.past;
+      left = x.turns;
+      turns = x.list;
+      state = ap (λ (y : Interval). y.start) x.is ∙ sym (ap (λ (r : Run). (r.harts h).state) later);
+      more = post.0;
+      rows = t.all ∙ (ap (λ (r : Run). served_all c i r x.turns h) (sym x.reached) ∙ (post.1 ∙ ap (λ rows. rows ++ post.0) (sym (s.rows ∙ x.rows))));
+    }
 
 pub counted : Known → RowsAreCounted
 counted known c i input b h format limit whole =

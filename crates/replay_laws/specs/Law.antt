@@ -1,7 +1,8 @@
 -- What the last records of a run, as those that its log keeps, say of it.
-use Rattle.std.specs.Prelude.{ℕ, ◌≡◌, ◌+◌, ◌-◌, ◌<◌, ◌^◌, nat_lt, true, List, length, map, take, drop, Some, if◌then◌else◌}
+use Rattle.std.specs.Prelude.{ℕ, ◌≡◌, ◌+◌, ◌-◌, ◌<◌, ◌^◌, nat_lt, true, List, ◌++◌, length, map, take, drop, Some, if◌then◌else◌}
 use Rattle.std.specs.List.{range_with_len}
 use Rattle.bn_base.specs.Programs.{Program}
+use Rattle.bn_base.specs.declared.row.Row.{Row}
 use Rattle.bn_base.specs.declared.settings.RawSettings.{RawSettings}
 use Rattle.log_record.specs.declared.record.Record.{Record}
 use Rattle.run_model.specs.Files.{kept_of, IsEndOf}
@@ -42,6 +43,21 @@ abbrev pub RowsStandTogether : Type 0
 RowsStandTogether = (c : RawSettings) (i : Program) (input b : List ℕ) (h n : ℕ) → c.format ≡ 1 → c.limit < 2 ^ 63 → IsWhole c i input b
     → (rs : List Record) → IsEndOf (run_of c i input b).stream rs → (v : Interval) → interval_of h n rs ≡ Some v
     → rows_in c i (start c i input) b h n ≡ take (end_of v - v.start.ic) (drop v.start.ic (rows_of c i (start c i input) b h))
+
+-- where an interval begins in a list of turns: those before it lead its hart to the Header's state, and from there on the
+-- interval's rows are the hart's first ones
+pub record BeginsIn (c : RawSettings) (i : Program) (input b : List ℕ) (h n : ℕ) (v : Interval) : Type 0 where
+  pub past : List ℕ
+  pub left : List ℕ
+  pub turns : b ≡ past ++ left
+  pub state : v.start ≡ ((run_of c i input past).harts h).state
+  pub more : List Row
+  pub rows : rows_of c i (run_of c i input past) left h ≡ rows_in c i (start c i input) b h n ++ more
+
+-- An interval whose Header stands in an end of the records begins in the run, in the Header's state
+abbrev pub IntervalsBegin : Type 0
+IntervalsBegin = (c : RawSettings) (i : Program) (input b : List ℕ) (h n : ℕ) → c.format ≡ 1 → c.limit < 2 ^ 63 → IsWhole c i input b
+    → (rs : List Record) → IsEndOf (run_of c i input b).stream rs → (v : Interval) → interval_of h n rs ≡ Some v → BeginsIn c i input b h n v
 
 -- A hart's rows have its counts, one after another from 0
 abbrev pub RowsAreCounted : Type 0

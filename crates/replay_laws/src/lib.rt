@@ -2,7 +2,7 @@
 //! functions do nothing: their contracts are theorems.
 #![tactic(auto)]
 
-ghost use Rattle.replay_laws.specs.Law.{EndsSuffice, LogSuffices, RowsStandTogether, RowsAreCounted};
+ghost use Rattle.replay_laws.specs.Law.{EndsSuffice, LogSuffices, RowsStandTogether, IntervalsBegin, RowsAreCounted};
 ghost use Rattle.replay_laws.specs.Known.{WarmWordsStayKnown};
 ghost use Rattle.replay_laws.specs.Differing.{EndsThatDifferAreTold};
 ghost use Rattle.replay_laws.specs.Splits.{GuardedTurnsSplit};
@@ -16,6 +16,7 @@ pub use examples::{
 use log_ring::laws::a_suffix_is_kept;
 use run_model::format_1_is_unguarded;
 use rv_meaning::{each_ask_is_orderly, each_instruction_is_counted_or_asks};
+use system_calls::exits_alone_end;
 
 /// Log sufficiency: for every program, input, cache and interval length, every list of turns that
 /// is legal and finished, every end of its records, and every interval of a hart whose Header stands
@@ -27,6 +28,7 @@ pub fn ends_suffice()
     each_instruction_is_counted_or_asks();
     each_ask_is_orderly();
     format_1_is_unguarded();
+    exits_alone_end();
 }
 
 /// So it is of what the log keeps, which is such an end.
@@ -45,6 +47,18 @@ pub fn the_rows_of_an_interval_stand_together()
     each_instruction_is_counted_or_asks();
     each_ask_is_orderly();
     format_1_is_unguarded();
+    exits_alone_end();
+}
+
+/// An interval whose Header stands in an end of the records begins in the run: some of its turns lead the
+/// hart to the Header's state, and from there on the interval's rows are the hart's first ones.
+pub fn intervals_begin_in_the_run()
+    ensures { IntervalsBegin }
+{
+    each_instruction_is_counted_or_asks();
+    each_ask_is_orderly();
+    format_1_is_unguarded();
+    exits_alone_end();
 }
 
 /// The rows of a hart have its counts, one after another from 0.
@@ -54,6 +68,7 @@ pub fn the_rows_of_a_hart_are_counted()
     each_instruction_is_counted_or_asks();
     each_ask_is_orderly();
     format_1_is_unguarded();
+    exits_alone_end();
 }
 
 /// What a hart knows of the words that are warm to it stays true, through its own turns up to the

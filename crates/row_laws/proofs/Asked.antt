@@ -1,0 +1,98 @@
+-- Names for what a hart's turn asks and what it gets, and how the turn moves its hart.
+use Rattle.std.proofs.Common.{◌≡◌, ℕ, ◌%◌, Bool, true, false, ◌&&◌, Option, refl, sym, ◌∙◌, ap, inl, inr, arith}
+use Rattle.std.specs.Prelude.{◌==◌, ◌≢◌, ◌⊎◌, if◌then◌else◌}
+use Rattle.std.proofs.lemmas.Bool.{false≢true, eqb-true}
+use Rattle.std.proofs.lemmas.Bool.Decides.{eqb_tells}
+use Rattle.bn_base.specs.Programs.{Program}
+use Rattle.bn_base.specs.declared.settings.RawSettings.{RawSettings}
+use Rattle.bn_base.specs.declared.state.HartState.{HartState}
+use Rattle.rv_meaning.specs.Execute.{Asks, step, absorbed}
+use Rattle.rv_meaning.specs.Orderly.{is_cut}
+use Rattle.rv_meaning.specs.Words.{aligned}
+use Rattle.rv_meaning.specs.declared.asks.Ask.{Ask}
+use Rattle.rv_meaning.specs.declared.asks.Want.{Want}
+use Rattle.rv_meaning.specs.declared.asks.Want.TheVariants.{Cut}
+use Rattle.rv_meaning.specs.declared.asks.Reply.{Reply}
+use Rattle.rv_meaning.specs.declared.asks.Reply.TheVariants.{Went, Over}
+use Rattle.race_log.specs.Points.{Point}
+use Rattle.run_model.specs.declared.span.Span.{Span}
+use Rattle.run_model.specs.Machine.{Machine, Answered, answer, call_of}
+use Rattle.run_model.specs.Turn.{Run, serve, served_if, serve_call, is_guarded, turn, ask_at, span_of, point_of}
+use Rattle.run_laws.specs.Laws.{TurnsMoveTheirHart}
+use Rattle.row_laws.specs.States.{AsksOrderly}
+
+-- ---- an ask
+
+-- the ask of a want in a state
+abbrev pub asking : Want → HartState → Ask
+asking w s = record { state = s; want = w }
+
+-- the answer to hart h, its reply, and the state and the memory after it
+abbrev pub answer_to : RawSettings → Program → Machine → ℕ → Want → HartState → Answered
+answer_to c i m h w s = answer c (call_of i m w) m h (asking w s)
+
+abbrev pub reply_to : RawSettings → Program → Machine → ℕ → Want → HartState → Reply
+reply_to c i m h w s = (answer_to c i m h w s).reply
+
+abbrev pub answered_state : RawSettings → Program → Machine → ℕ → Want → HartState → HartState
+answered_state c i m h w s = absorbed (asking w s) (reply_to c i m h w s)
+
+abbrev pub answered_memory : RawSettings → Program → Machine → ℕ → Want → HartState → ℕ → ℕ
+answered_memory c i m h w s = (answer_to c i m h w s).machine.memory
+
+-- the words that it accesses
+abbrev pub span_to : RawSettings → Program → Machine → ℕ → Want → HartState → Option Span
+span_to c i m h w s = span_of (call_of i m w) w (reply_to c i m h w s)
+
+-- ---- a turn of hart h
+
+abbrev pub want_at : RawSettings → Program → Run → ℕ → Want
+want_at c i run h = (ask_at c i (run.harts h)).want
+
+abbrev pub asked_at : RawSettings → Program → Run → ℕ → HartState
+asked_at c i run h = (ask_at c i (run.harts h)).state
+
+abbrev pub point_at : RawSettings → Program → Run → ℕ → Option Point
+point_at c i run h = point_of h (asked_at c i run h).ic run.turns (span_to c i run.machine h (want_at c i run h) (asked_at c i run h))
+
+-- the run after it, where the ask is orderly; a guard, if the ask has one, leaves machine, turns and points
+abbrev pub served : RawSettings → Program → Run → ℕ → Run
+served c i run h = (serve_call c run h (ask_at c i (run.harts h)) (is_guarded c run h (want_at c i run h)) (call_of i run.machine (want_at c i run h))).run
+
+pub turn_served : (c : RawSettings) (i : Program) (run : Run) (h : ℕ) → AsksOrderly c i run h → turn c i run h ≡ served c i run h
+unfolding serve
+turn_served c i run h o = ap (λ (x : Bool). (served_if x c i run h (ask_at c i (run.harts h))).run) o
+
+-- such a turn sets its hart's state to the one after the reply, and leaves the others'
+pub record Moves (c : RawSettings) (i : Program) (run : Run) (h : ℕ) : Type 0 where
+  pub asks : AsksOrderly c i run h
+  pub own : ((turn c i run h).harts h).state ≡ answered_state c i run.machine h (want_at c i run h) (asked_at c i run h)
+  pub others : (j : ℕ) → (j == h) ≡ false → ((turn c i run h).harts j).state ≡ (run.harts j).state
+
+pub moves : TurnsMoveTheirHart → (c : RawSettings) (i : Program) (run : Run) (h : ℕ) → AsksOrderly c i run h → Moves c i run h
+unfolding serve
+moves law c i run h o = record {
+  asks = o;
+  own = law.own c i run h o ∙ ap (λ (x : Bool). absorbed (ask_at c i (run.harts h)) (served_if x c i run h (ask_at c i (run.harts h))).reply) o;
+  others = λ j apart. law.others c i run h j o apart;
+}
+
+-- ---- small facts
+
+pub cut_state : (b : Bool) (s : HartState) → absorbed (asking Cut s) (if b then Over else Went) ≡ s
+cut_state true s = refl
+cut_state false s = refl
+
+pub not_cut : (w : Want) (i : Program) (s : HartState) → is_cut w ≡ false → (w ≡ Cut) ⊎ (step i s ≡ Asks w) → step i s ≡ Asks w
+not_cut w i s e (inl p) = absurd (false≢true (sym e ∙ ap is_cut p))
+not_cut w i s e (inr p) = p
+
+pub equal_flip : (k h : ℕ) → k ≢ h → (h == k) ≡ false
+equal_flip k h p = elim (eqb_tells h k) [ inl q ↦ absurd (p (sym q.1)) | inr q ↦ q.0 ]
+
+pub aligned_own : (a : ℕ) (x : Bool) → ((a % 4 == 0) && x) ≡ true → aligned a ≡ a
+aligned_own a x e = let z : a % 4 ≡ 0 = eqb-true (a % 4) 0 (first (a % 4 == 0) x e) in omega arith
+  where
+    first : (a b : Bool) → (a && b) ≡ true → a ≡ true
+    first true b e = refl
+    first false b e = absurd (false≢true e)

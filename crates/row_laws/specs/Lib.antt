@@ -1,0 +1,5 @@
+pub mod States
+pub mod Words
+pub mod Fills
+pub mod Laws
+pub mod Examples
