@@ -1,4 +1,5 @@
 pub mod Edges
+pub mod Pairs
 pub mod Runs
 pub mod Since
 pub mod Orders

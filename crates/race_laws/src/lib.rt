@@ -6,14 +6,16 @@
 ghost use Rattle.race_laws.specs.Runs.{OfLists, OfRows};
 ghost use Rattle.race_laws.specs.Orders.{BeginningsGoOn};
 ghost use Rattle.race_laws.specs.Laws.{EdgesAreNetzers, HasOrder, HasEdgesByCount, KeepsLateEdges, OrdersConflicts};
+ghost use Rattle.race_laws.specs.Laws.{HasEdgesOfInstructions, HasNoImpliedEdge, HasLeastEdges};
 ghost use Rattle.race_laws.specs.Laws.{KeepsEdgesAlone, KeepsWords, ReplayedAreSinceHeaders};
 
 mod examples;
 
 pub use examples::{a_relay_has_two_edges, edges_through_a_dropped_interval_are_kept};
 use race_log::{
-    edges_order_conflicts, late_edges_suffice, listed_edges_are_all, places_stand_for_counts,
-    some_hart_goes_on, tests_decide,
+    edges_are_needed, edges_order_conflicts, late_edges_suffice, listed_edges_are_all,
+    no_edge_follows, places_stand_for_counts, points_stand_by_counts, some_hart_goes_on,
+    tests_decide,
 };
 use run_laws::turns_are_lawful;
 use run_model::{each_turn_fits, each_turn_moves_on, guarded_asks_fit, others_stay_fit};
@@ -54,6 +56,47 @@ pub fn edges_are_by_count()
     listed_edges_are_all();
     turns_are_lawful();
     places_stand_for_counts();
+}
+
+/// The Edges of a stream are the edges of Netzer's rule between instructions by hart and count: two
+/// that conflict, where no third one is after the earlier and before the later.
+pub fn edges_are_those_of_instructions()
+    ensures turns { OfLists HasEdgesOfInstructions }
+    ensures rows { OfRows HasEdgesOfInstructions }
+{
+    tests_decide();
+    listed_edges_are_all();
+    points_are_in_order();
+    points_stand_by_counts();
+    places_stand_for_counts();
+}
+
+/// No Edge of a stream is implied: no chain of program order and the other Edges leads from the
+/// instruction that it comes from to the one that it leads to.
+pub fn no_edge_is_implied()
+    ensures turns { OfLists HasNoImpliedEdge }
+    ensures rows { OfRows HasNoImpliedEdge }
+{
+    tests_decide();
+    listed_edges_are_all();
+    points_are_in_order();
+    points_stand_by_counts();
+    no_edge_follows();
+}
+
+/// The Edges of a stream are the least set that orders the conflicts: chains of program order and Edges
+/// lead from each instruction to each later one that conflicts with it, and each set of such pairs of
+/// which that holds has every Edge.
+pub fn edges_are_the_least()
+    ensures turns { OfLists HasLeastEdges }
+    ensures rows { OfRows HasLeastEdges }
+{
+    tests_decide();
+    listed_edges_are_all();
+    points_are_in_order();
+    points_stand_by_counts();
+    edges_order_conflicts();
+    edges_are_needed();
 }
 
 /// Whatever end of the records is kept, every edge that ends after a point of a kept interval is kept:
