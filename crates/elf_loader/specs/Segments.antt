@@ -1,5 +1,6 @@
 -- Segments: what a program header says of memory (ELF, "Program Header" and "Program Loading").
-use Rattle.std.specs.Prelude.{ℕ, ◌+◌, ◌-◌, ◌*◌, ◌/◌, ◌%◌, ◌^◌, ◌≤◌, ◌==◌, Bool, ◌&&◌, nat_le, nat_lt, if◌then◌else◌, List, [], ◌∷◌, map, filter, find, is_some, slice_index, bit_and}
+use Rattle.std.specs.Prelude.{ℕ, ◌+◌, ◌-◌, ◌*◌, ◌/◌, ◌%◌, ◌^◌, ◌≤◌, ◌==◌, Bool, ◌&&◌, nat_le, nat_lt, if◌then◌else◌}
+use Rattle.std.specs.Prelude.{List, [], ◌∷◌, map, filter, find, is_some, slice_index, bit_and}
 use Rattle.std.specs.List.{range_with_len}
 use Rattle.le_numbers.specs.Numbers.{number_at}
 use Rattle.bn_base.specs.Programs.{Part}

@@ -14,6 +14,7 @@ use Rattle.rv_meaning.specs.WordStates.{AreWords}
 use Rattle.rv_meaning.specs.declared.asks.Ask.{Ask}
 use Rattle.system_calls.specs.declared.effect.Plan.{Plan}
 use Rattle.race_log.specs.Points.{Point}
+use Rattle.elf_loader.specs.Laws.{IsImage}
 use Rattle.log_record.specs.declared.record.Record.{Record}
 use Rattle.log_record.specs.Spelling.{Fits, total}
 use Rattle.log_order.specs.Content.{IsContent}
@@ -27,7 +28,6 @@ use Rattle.run_model.specs.Turn.{Run, Served, turn, ask_at, after_ask, span_of, 
 use Rattle.run_model.specs.Runs.{start, start_state, first_headers, run_from, legal_from, is_live, most_turns}
 use Rattle.run_model.specs.Counts.{IsFit, MovesOn}
 use Rattle.run_model.specs.Files.{kept_of, dropped_of, content_of}
-use Rattle.file_laws.specs.Given.{IsImage}
 use Rattle.file_laws.specs.Recorded.{counts_of}
 use Rattle.file_laws.proofs.Asks.{StepsKeepWords, asks_well}
 use Rattle.file_laws.proofs.Machines.{HoldsMachine, IsWordState, EndIsWord, answer_well, state_after, end_word, code_words, first_words, heap_word}

@@ -11,5 +11,4 @@ pub mod Machines
 pub mod Few
 pub mod Fields
 pub mod Contents
-pub mod Loaded
 pub mod Worked

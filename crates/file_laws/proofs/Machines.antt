@@ -20,12 +20,12 @@ use Rattle.system_calls.specs.declared.effect.Plan.{Plan}
 use Rattle.system_calls.specs.declared.effect.Plan.TheVariants as plans
 use Rattle.system_calls.specs.Calls.{plan_of, read_plan, write_plan, break_plan, fill_plan, send_plan, error_answer, all_bytes, stream_size, stream_len}
 use Rattle.bus_memory.specs.Contents.{updated}
+use Rattle.elf_loader.specs.Laws.{HasWords}
 use Rattle.run_model.specs.declared.hart.Hart.{Hart}
 use Rattle.run_model.specs.declared.next.Next.{Next}
 use Rattle.run_model.specs.declared.next.Next.TheVariants.{GoesOn, NewInterval, HartOver, RunOver}
 use Rattle.run_model.specs.Machine.{Machine, Answered, answer, answer_access, answer_call, answer_sc, call_of, planned, kernel_of, put_byte, filled, is_reserved, bytes_in, sent}
 use Rattle.run_model.specs.Turn.{next_of, after_call}
-use Rattle.file_laws.specs.Given.{HasWords}
 use Rattle.file_laws.proofs.Asks.{IsFormed, HoldsWords, AsksWell, HasCode, put_words, formed_with, formed_at, next_pc}
 use Rattle.file_laws.proofs.Words.{with_byte, stored, amo_word, loaded_word}
 

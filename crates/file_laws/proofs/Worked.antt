@@ -1,6 +1,11 @@
 -- A small recording, and a row that no hart could make.
-use Rattle.std.proofs.Common.{◌≡◌, ◌∷◌, [], true, false, Some, refl, arith}
-use Rattle.le_numbers.specs.Numbers.{number_bytes}
+use Rattle.std.proofs.Common.{◌≡◌, ℕ, zero, suc, ◌&&◌, nat_lt, Bool, true, false, List, [], ◌∷◌, Some, Ok, refl, arith}
+use Rattle.std.specs.List.{list_all}
+use Rattle.le_numbers.specs.Numbers.{number_at, number_bytes, AreBytes}
+use Rattle.elf_loader.specs.Headers.{table}
+use Rattle.elf_loader.specs.Loaded as loaded
+use Rattle.elf_loader.specs.Loaded.{header_refusal, segment_refusal, refusal, image_of}
+use Rattle.elf_loader.specs.Segments.{segments, file_words}
 use Rattle.bn_base.specs.Ranges.{IsSetting, default_settings}
 use Rattle.log_order.specs.Order.{step, after_all, late_edge, ended, broken, order_break, broken_by}
 use Rattle.log_order.specs.Rules.{after_header}
@@ -10,8 +15,8 @@ use Rattle.run_model.specs.Examples.{an_exit, program_of}
 use Rattle.run_model.specs.Files.{kept_of, dropped_of}
 use Rattle.run_model.specs.Runs.{is_over}
 use Rattle.run_model.specs.Turn.{serve}
-use Rattle.file_laws.specs.Given.{IsImage, IsRecording}
-use Rattle.file_laws.specs.Examples.{a_digest, an_exit_begun, a_stray_store, after_a_stray_store}
+use Rattle.file_laws.specs.Given.{IsRecording}
+use Rattle.file_laws.specs.Examples.{file_of_words, an_exit_begun, a_stray_store, after_a_stray_store}
 
 defaults : IsSetting default_settings
 unfolding lib.Count.ones
@@ -41,16 +46,26 @@ defaults = record {
   second_ways = refl;
 }
 
-exit_image : IsImage (program_of an_exit)
-exit_image = record {
-  program = record { apart = (omega arith, omega arith); memory_low = omega arith; memory_high = omega arith; memory_pages = refl };
-  entry = omega arith;
-  words = ((omega arith, (omega arith, (omega arith, tt))), tt);
-}
+are_bytes : (bytes : List ℕ) → list_all (λ b. nat_lt b 256) bytes ≡ true → AreBytes bytes
+are_bytes [] e i = omega arith
+are_bytes (b ∷ bs) e zero = grind arith
+are_bytes (b ∷ bs) e (suc i) = are_bytes bs (later (nat_lt b 256) (list_all (λ b. nat_lt b 256) bs) e) i
+  where
+    later : (x y : Bool) → (x && y) ≡ true → y ≡ true
+    later true y f = f
+    later false y f = cc
 
-pub an_exit_is_one : IsRecording an_exit.settings (program_of an_exit) a_digest an_exit.input an_exit.turns
+exit_bytes : list_all (λ b. nat_lt b 256) (file_of_words an_exit) ≡ true
+unfolding number_bytes
+exit_bytes = refl
+
+exit_loaded : image_of (file_of_words an_exit) an_exit.settings ≡ Ok (program_of an_exit)
+unfolding image_of refusal header_refusal segment_refusal loaded.program_of table segments file_words number_at number_bytes
+exit_loaded = refl
+
+pub an_exit_is_one : IsRecording an_exit.settings (program_of an_exit) (file_of_words an_exit) an_exit.input an_exit.turns
 unfolding serve
-an_exit_is_one = record { setting = defaults; image = exit_image; digest_size = refl; legal = refl; over = refl }
+an_exit_is_one = record { setting = defaults; bytes = are_bytes (file_of_words an_exit) exit_bytes; loaded = exit_loaded; legal = refl; over = refl }
 
 pub stray_is_lawful : IsLawful an_exit.settings (program_of an_exit) an_exit_begun (a_stray_store ∷ [])
 unfolding serve

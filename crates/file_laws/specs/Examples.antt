@@ -1,16 +1,29 @@
 -- A small recording, and a row that no hart could make.
-use Rattle.std.specs.Prelude.{ℕ, false, List, [], ◌∷◌, replicate}
+use Rattle.std.specs.Prelude.{ℕ, ◌*◌, false, List, [], ◌∷◌, ◌++◌, replicate, length}
+use Rattle.std.specs.List.{flat_map}
+use Rattle.le_numbers.specs.Numbers.{number_bytes}
 use Rattle.rv_meaning.specs.declared.asks.Want.TheVariants.{Store}
 use Rattle.rv_meaning.specs.declared.asks.Reply.TheVariants.{Over}
 use Rattle.bn_outside.specs.declared.turn_row.TurnRow.{TurnRow}
-use Rattle.run_model.specs.Examples.{an_exit, program_of}
+use Rattle.run_model.specs.Examples.{Recording, an_exit, program_of}
 use Rattle.run_model.specs.Runs.{start, start_state}
 use Rattle.run_model.specs.Turn.{Run}
 use Rattle.run_laws.specs.History.{after_rows}
 
--- a digest of 32 bytes
-abbrev pub a_digest : List ℕ
-a_digest = replicate 32 0
+-- the ELF header of a RISC-V executable that begins at 0x10054, with one program header behind it
+abbrev pub elf_header : List ℕ
+elf_header =
+    (0x7f ∷ 0x45 ∷ 0x4c ∷ 0x46 ∷ 1 ∷ 1 ∷ 1 ∷ []) ++ replicate 9 0 ++ number_bytes 2 2 ++ number_bytes 2 243 ++ number_bytes 4 1 ++ number_bytes 4 0x10054
+    ++ number_bytes 4 52 ++ number_bytes 4 0 ++ number_bytes 4 0 ++ number_bytes 2 52 ++ number_bytes 2 32 ++ number_bytes 2 1 ++ replicate 6 0
+
+-- the program header of so many bytes of code, which stand behind it in the file and at 0x10054 in memory
+abbrev pub code_header : ℕ → List ℕ
+code_header size =
+    number_bytes 4 1 ++ number_bytes 4 84 ++ number_bytes 4 0x10054 ++ number_bytes 4 0x10054 ++ number_bytes 4 size ++ number_bytes 4 size ++ number_bytes 4 5 ++ number_bytes 4 4
+
+-- the program file of a recording of code words
+abbrev pub file_of_words : Recording → List ℕ
+file_of_words e = elf_header ++ code_header (4 * length e.words) ++ flat_map (number_bytes 4) e.words
 
 abbrev pub an_exit_begun : Run
 an_exit_begun = start an_exit.settings (program_of an_exit) an_exit.input

@@ -1,12 +1,10 @@
 -- What a recording keeps, as a log has it.
-use Rattle.std.specs.Prelude.{◌≡◌, ◌<◌, ◌^◌, ℕ, true, List, Some, None, Ok}
-use Rattle.std.specs.List.{AllByRecursion}
+use Rattle.std.specs.Prelude.{◌≡◌, ℕ, true, List, Some, None}
+use Rattle.sha2.specs.Sha256.{sha256}
 use Rattle.bn_base.specs.Programs.{Program}
 use Rattle.bn_base.specs.Ranges.{IsSetting}
 use Rattle.bn_base.specs.declared.settings.RawSettings.{RawSettings}
 use Rattle.bn_outside.specs.declared.turn_row.TurnRow.{TurnRow}
-use Rattle.le_numbers.specs.Numbers.{AreBytes}
-use Rattle.elf_loader.specs.Loaded.{image_of}
 use Rattle.log_order.specs.Order.{broken_by}
 use Rattle.log_order.specs.Content.{Content, IsContent}
 use Rattle.log_file.specs.declared.error.FileError.{FileError}
@@ -19,7 +17,7 @@ use Rattle.run_model.specs.Rows.{rows_in}
 use Rattle.run_model.specs.Runs.{start, run_of, is_over}
 use Rattle.run_model.specs.Files.{kept_of, dropped_of, content_of, file_of}
 use Rattle.run_laws.specs.History.{after_rows, are_orderly, IsLawful}
-use Rattle.file_laws.specs.Given.{HasWords, IsRecording}
+use Rattle.file_laws.specs.Given.{IsRecording}
 use Rattle.file_laws.specs.Recorded.{KeepsRules}
 
 -- After lawful rows, whoever made their asks, the kept records keep the rules of single records
@@ -35,22 +33,20 @@ FinishedLogsAreInOrder = (c : RawSettings) (i : Program) (input : List ℕ) (row
 
 -- What is kept of a recording is what a log can say
 abbrev pub LogsAreContents : Type 0
-LogsAreContents = (c : RawSettings) (i : Program) (digest input b : List ℕ) → IsRecording c i digest input b → IsContent (content_of c digest (run_of c i input b))
+LogsAreContents = (c : RawSettings) (i : Program) (elf input b : List ℕ) → IsRecording c i elf input b → IsContent (content_of c (sha256 elf) (run_of c i input b))
 
 -- Its file has no cause for a refusal
 abbrev pub FilesAreRead : Type 0
-FilesAreRead = (c : RawSettings) (i : Program) (digest input b : List ℕ) → IsRecording c i digest input b → (e : FileError) → IsRefusal (file_of c i digest input b) e → e ≡ OutOfMemory
+FilesAreRead = (c : RawSettings) (i : Program) (elf input b : List ℕ) → IsRecording c i elf input b
+    → (e : FileError) → IsRefusal (file_of c i (sha256 elf) input b) e → e ≡ OutOfMemory
 
 -- What a log says whose bytes are that file's is what was kept
 abbrev pub FilesSayTheRun : Type 0
-FilesSayTheRun = (c : RawSettings) (i : Program) (digest input b : List ℕ) → IsRecording c i digest input b → (d : Content) → IsContent d → file_bytes d ≡ file_of c i digest input b
-    → d ≡ content_of c digest (run_of c i input b)
+FilesSayTheRun = (c : RawSettings) (i : Program) (elf input b : List ℕ) → IsRecording c i elf input b
+    → (d : Content) → IsContent d → file_bytes d ≡ file_of c i (sha256 elf) input b → d ≡ content_of c (sha256 elf) (run_of c i input b)
 
 -- Each interval of a hart whose Header such a log has is replayed from it as it was recorded
 abbrev pub FilesSuffice : Type 0
-FilesSuffice = (c : RawSettings) (i : Program) (digest input b : List ℕ) → IsRecording c i digest input b → (d : Content) → IsContent d → file_bytes d ≡ file_of c i digest input b
+FilesSuffice = (c : RawSettings) (i : Program) (elf input b : List ℕ) → IsRecording c i elf input b
+    → (d : Content) → IsContent d → file_bytes d ≡ file_of c i (sha256 elf) input b
     → (h n : ℕ) (v : Interval) → interval_of h n d.records ≡ Some v → replayed i d.records h n ≡ record { rows = rows_in c i (start c i input) b h n; outcome = Done }
-
--- A program that was loaded from bytes has words and an entry of 32 bits
-abbrev pub LoadedProgramsHoldWords : Type 0
-LoadedProgramsHoldWords = (bytes : List ℕ) (s : RawSettings) (i : Program) → AreBytes bytes → image_of bytes s ≡ Ok i → (i.entry < 2 ^ 32) × AllByRecursion HasWords i.parts

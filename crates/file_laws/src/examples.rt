@@ -6,12 +6,12 @@ ghost use Rattle.run_model.specs.Examples.{an_exit, program_of};
 ghost use Rattle.run_model.specs.Files.{kept_of, dropped_of};
 ghost use Rattle.run_model.specs.Runs.{is_over};
 ghost use Rattle.file_laws.specs.Given.{IsRecording};
-ghost use Rattle.file_laws.specs.Examples.{a_digest, an_exit_begun, a_stray_store, after_a_stray_store};
+ghost use Rattle.file_laws.specs.Examples.{file_of_words, an_exit_begun, a_stray_store, after_a_stray_store};
 
-/// What the laws ask of a recording holds of three instructions that exit.
+/// What the laws ask of a recording holds of a file with three instructions that exit.
 #[tactic(auto, using(crate::proofs::Worked::an_exit_is_one))]
 pub fn an_exit_is_a_recording()
-    ensures { IsRecording an_exit.settings (program_of an_exit) a_digest an_exit.input an_exit.turns }
+    ensures { IsRecording an_exit.settings (program_of an_exit) (file_of_words an_exit) an_exit.input an_exit.turns }
 {}
 
 /// A row that no hart could make ends all, and adds no End: the log keeps a Header alone, which the

@@ -3,12 +3,12 @@
 //! `run_model` and `log_order`.
 #![tactic(auto)]
 
-ghost use Rattle.file_laws.specs.Laws.{KeptRecordsKeepTheRules, FinishedLogsAreInOrder, LogsAreContents, FilesAreRead, FilesSayTheRun, FilesSuffice, LoadedProgramsHoldWords};
+ghost use Rattle.file_laws.specs.Laws.{KeptRecordsKeepTheRules, FinishedLogsAreInOrder, LogsAreContents, FilesAreRead, FilesSayTheRun, FilesSuffice};
 
 mod examples;
 
+use elf_loader::laws::loaded_programs_are_images;
 pub use examples::{a_stray_store_leaves_a_header, an_exit_is_a_recording};
-use le_numbers::laws::read_numbers_are_written;
 use log_file::laws::{files_say_one_thing, logs_are_not_refused};
 use log_order::laws::{
     an_awaited_header_follows, an_edge_follows, an_end_follows, early_edges_are_not_late,
@@ -69,11 +69,12 @@ pub fn finished_logs_are_in_order()
     early_edges_are_not_late();
 }
 
-/// What is kept of a recording is what a log can say: the records fit their fields and the log,
-/// they are in order, and the numbers of the head are in range.
+/// What is kept of a recording is what a log can say, whatever program was loaded: the records fit
+/// their fields and the log, they are in order, and the numbers of the head are in range.
 pub fn logs_are_contents()
     ensures { LogsAreContents }
 {
+    loaded_programs_are_images();
     each_ask_is_orderly();
     registers_stay_words();
     each_turn_moves_on();
@@ -120,11 +121,4 @@ pub fn files_suffice()
 {
     files_say_the_run();
     the_log_suffices();
-}
-
-/// A program that was loaded from bytes has words and an entry of 32 bits, as `IsRecording` asks.
-pub fn loaded_programs_hold_words()
-    ensures { LoadedProgramsHoldWords }
-{
-    read_numbers_are_written();
 }
