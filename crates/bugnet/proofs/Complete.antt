@@ -19,10 +19,9 @@ use Rattle.log_file.specs.Readings.{AreReadOrRefused}
 use Rattle.log_file.specs.declared.error.FileError.TheVariants as file
 use Rattle.log_file.specs.declared.error.FileError.{FileError}
 use Rattle.hart_replay.specs.Replay.{Interval}
-use Rattle.run_model.specs.Files.{content_of, FormatOneIsVersionOne}
+use Rattle.run_model.specs.Files.{content_of}
 use Rattle.run_model.specs.Runs.{run_of}
 use Rattle.replay_laws.specs.Law.{LogSuffices}
-use Rattle.file_laws.specs.Laws.{LogsAreContents}
 use Rattle.bugnet.specs.Names.{FileNames, no_names, name_of}
 use Rattle.bugnet.specs.Told.{Told, refused}
 use Rattle.bugnet.specs.Commands.{Either, IsByFile, WithFile, Reads, by_log, IsByLog, list_of, check_of, replay_of, IsReplayOf, IsReplay, IsByInput, IsByProgram, IsByNames, IsBySettings, IsRecord, seeded_told}
@@ -30,9 +29,9 @@ use Rattle.bugnet.specs.Recordings.{end_status, recorded}
 use Rattle.bugnet.specs.Answers.{names_in, names_by, IsAnswer}
 use Rattle.bugnet.specs.Headline.{Part, ReplaysRun}
 use Rattle.bugnet.specs.Outside.{WithFiles}
-use Rattle.bugnet.specs.Run.{Call, IsFree, Tells, StoppedEarly, AnAnswer, Answers}
-use Rattle.bugnet.specs.Saves.{IsRecorded, input_by}
-use Rattle.bugnet.specs.Complete.{HoldsBytes, EachHasAnAnswer, CanRecord, HasLog, EachCanBeDone, IsDone}
+use Rattle.bugnet.specs.Run.{Call, IsFree, Tells, StoppedEarly, SomeTold, TellsAnswer}
+use Rattle.bugnet.specs.Saves.{IsRecorded, input_by, HoldsBytes}
+use Rattle.bugnet.specs.Complete.{EachHasAnAnswer, CanRecord, HasLog, EachCanBeDone, IsDone}
 use Rattle.bugnet.specs.Laws.{OneAnswer}
 use Rattle.bugnet.specs.declared.answer.RunEnd.{RunEnd}
 use Rattle.bugnet.specs.declared.answer.RunEnd.TheVariants as ends
@@ -41,7 +40,7 @@ use Rattle.bugnet.specs.declared.names.Role.TheVariants as role
 use Rattle.bugnet.specs.declared.refusal.Refusal.TheVariants.{WordsRefused, OutOfRange, SameName, Missing, TooLong, ElfRefused}
 use Rattle.bugnet.proofs.Tested.{in-range}
 use Rattle.bugnet.proofs.Loads.{by-bytes}
-use Rattle.bugnet.proofs.Suffices.{file-size, answer, Together}
+use Rattle.bugnet.proofs.Suffices.{FileLaws, file-size, answer, Together}
 use Rattle.bugnet.proofs.Tells.{with-files, stopped-free, early-free}
 
 -- ---- some answer
@@ -152,39 +151,39 @@ can-record r files h =
     subst (λ (b : Option BadSetting). IsBySettings b files names c r.seed has what) (sym h.settings)
     (subst (λ (b : Bool). IsByNames b files names c r.seed has what) (sym h.names) elf)
 
-can-log : LogsAreContents → FormatOneIsVersionOne → (files : Files) (names : FileNames) (go : Content → Told) (h : HasLog (files names.log)) → (what : Told) × WithFile files names role.Log 268500992 (λ log what. IsByLog names log go what) what
-    × (what ≡ go (content_of h.settings h.digest (run_of h.settings h.program h.input h.turns)))
-can-log contents version files names go h =
-    let d = content_of h.settings h.digest (run_of h.settings h.program h.input h.turns) in
-    let is : IsContent d = contents h.settings h.program h.digest h.input h.turns h.recording in
+can-log : FileLaws → (files : Files) (names : FileNames) (go : Content → Told) (h : HasLog (files names.log)) → (what : Told) × WithFile files names role.Log 268500992 (λ log what. IsByLog names log go what) what
+    × (what ≡ go (content_of h.settings (sha256 h.elf) (run_of h.settings h.program h.input h.turns)))
+can-log laws files names go h =
+    let d = content_of h.settings (sha256 h.elf) (run_of h.settings h.program h.input h.turns) in
+    let is : IsContent d = laws.contents h.settings h.program h.elf h.input h.turns h.recording in
     let one : h.settings.format ≡ 1 = omega (arith, h.recording.setting.format_low, h.recording.setting.format_high) in
-    let there : files names.log ≡ Some (file_bytes d) = h.log ∙ ap (λ (bytes : List ℕ). Some bytes) (version h.settings h.program h.digest h.input h.turns one) in
-    (go d, there-file files names role.Log 268500992 (file_bytes d) (λ log what. IsByLog names log go what) (go d) there (file-size d is) (record { says = Ok d; reads = (is, refl); is = refl }), refl)
+    let there : files names.log ≡ Some (file_bytes d) = h.log ∙ ap (λ (bytes : List ℕ). Some bytes) (laws.version h.settings h.program (sha256 h.elf) h.input h.turns one) in
+    (go d, there-file files names role.Log 268500992 (file_bytes d) (λ log what. IsByLog names log go what) (go d) there (file-size laws d is) (record { says = Ok d; reads = (is, refl); is = refl }), refl)
 
-can-replay : LogSuffices → Together → LogsAreContents → FormatOneIsVersionOne → (line : Option Line) (files : Files) (p : Part) (v : Interval) → ReplaysRun line files p v → (what : Told) × IsAnswer line files what × IsRecorded what.status
-can-replay law stand contents version line files p v r =
+can-replay : LogSuffices → Together → FileLaws → (line : Option Line) (files : Files) (p : Part) (v : Interval) → ReplaysRun line files p v → length p.elf ≤ 67108864 → (what : Told) × IsAnswer line files what × IsRecorded what.status
+can-replay law stand laws line files p v r small =
     let names = names_in (ReplayLine r.log_name r.elf_name p.hart p.number) in
     let d = content_of p.settings (sha256 p.elf) (run_of p.settings p.program p.input p.turns) in
-    let is : IsContent d = contents p.settings p.program (sha256 p.elf) p.input p.turns r.recording in
+    let is : IsContent d = laws.contents p.settings p.program p.elf p.input p.turns r.recording in
     let what = replay_of names p.hart p.number p.elf d in
     let one : p.settings.format ≡ 1 = omega (arith, r.recording.setting.format_low, r.recording.setting.format_high) in
-    let there : files r.log_name ≡ Some (file_bytes d) = r.log ∙ ap (λ (bytes : List ℕ). Some bytes) (version p.settings p.program (sha256 p.elf) p.input p.turns one) in
+    let there : files r.log_name ≡ Some (file_bytes d) = r.log ∙ ap (λ (bytes : List ℕ). Some bytes) (laws.version p.settings p.program (sha256 p.elf) p.input p.turns one) in
     let elf : IsReplayOf files names p.hart p.number (file_bytes d) what =
-    there-file files names role.Elf 67108864 p.elf (λ elf what. IsByLog names (file_bytes d) (replay_of names p.hart p.number elf) what) what r.program r.small (record { says = Ok d; reads = (is, refl); is = refl }) in
+    there-file files names role.Elf 67108864 p.elf (λ elf what. IsByLog names (file_bytes d) (replay_of names p.hart p.number elf) what) what r.program small (record { says = Ok d; reads = (is, refl); is = refl }) in
     let log : IsReplay files names p.hart p.number what =
-    there-file files names role.Log 268500992 (file_bytes d) (λ log what. IsReplayOf files names p.hart p.number log what) what there (file-size d is) elf in
+    there-file files names role.Log 268500992 (file_bytes d) (λ log what. IsReplayOf files names p.hart p.number log what) what there (file-size laws d is) elf in
     let done : IsRecorded what.status = inl (ap (λ (t : Told). t.status) (answer law stand names p v line files r)) in
     subst (λ (l : Option Line). (what : Told) × IsAnswer l files what × IsRecorded what.status) (sym r.command) (what, log, done)
 
-pub can-be-done : LogSuffices → Together → LogsAreContents → FormatOneIsVersionOne → EachCanBeDone
-can-be-done law stand contents version (RecordLine r) files h =
+pub can-be-done : LogSuffices → Together → FileLaws → EachCanBeDone
+can-be-done law stand laws (RecordLine r) files h =
     (seeded_told r.settings h.program (sha256 h.elf) r.seed h.input, can-record r files h, told-recorded r.settings h.program (sha256 h.elf) r.seed h.input)
-can-be-done law stand contents version (ReplayLine log elf hart interval) files h = can-replay law stand contents version (Some (ReplayLine log elf hart interval)) files h.0 h.1 h.2
-can-be-done law stand contents version (ListLine log) files h =
-    let l = can-log contents version files (names_in (ListLine log)) list_of h in
+can-be-done law stand laws (ReplayLine log elf hart interval) files h = can-replay law stand laws (Some (ReplayLine log elf hart interval)) files h.0 h.1 h.2 h.3
+can-be-done law stand laws (ListLine log) files h =
+    let l = can-log laws files (names_in (ListLine log)) list_of h in
     (l.0, l.1, inl (ap (λ (t : Told). t.status) l.2))
-can-be-done law stand contents version (CheckLine log) files h =
-    let l = can-log contents version files (names_in (CheckLine log)) check_of h in
+can-be-done law stand laws (CheckLine log) files h =
+    let l = can-log laws files (names_in (CheckLine log)) check_of h in
     (l.0, l.1, inl (ap (λ (t : Told). t.status) l.2))
 
 -- ---- a call
@@ -194,14 +193,14 @@ tells-done names what status k is (inl done) = inr (subst (λ (n : ℕ). IsRecor
 tells-done names what status k is (inr s) = inl (stopped-free names what status k s)
 
 is-done : EachCanBeDone → OneAnswer → (line : Option Line) (files : Files) (status : ℕ) (k : Call)
-    → AnAnswer (IsAnswer line files) (λ what. Tells (names_by line) what status k) ⊎ StoppedEarly line files status k → IsDone line files status
+    → SomeTold (IsAnswer line files) (λ what. Tells (names_by line) what status k) ⊎ StoppedEarly line files status k → IsDone line files status
 is-done can one None files status k a = tt
 is-done can one (Some line) files status k (inr early) = λ h. inl (early-free (Some line) files status k early)
 is-done can one (Some line) files status k (inl a) = λ h.
     let c = can line files h in
     tells-done (names_in line) a.0 status k (subst (λ (t : Told). IsRecorded t.status) (one (Some line) files c.0 a.0 c.1 a.1) c.2) a.2
 
-pub call-done : EachCanBeDone → OneAnswer → (line : Option Line) (status : ℕ) (k : Call) → Answers line status k → WithFiles k.old.files (λ files. IsDone line files status)
+pub call-done : EachCanBeDone → OneAnswer → (line : Option Line) (status : ℕ) (k : Call) → TellsAnswer line status k → WithFiles k.old.files (λ files. IsDone line files status)
 call-done can one line status k h =
-    with-files k.old.files (λ files. AnAnswer (IsAnswer line files) (λ what. Tells (names_by line) what status k) ⊎ StoppedEarly line files status k) (λ files. IsDone line files status)
+    with-files k.old.files (λ files. SomeTold (IsAnswer line files) (λ what. Tells (names_by line) what status k) ⊎ StoppedEarly line files status k) (λ files. IsDone line files status)
     (λ files a. is-done can one line files status k a) h

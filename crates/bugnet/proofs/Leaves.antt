@@ -1,21 +1,19 @@
 -- What a recording leaves, from what it has to answer.
 use Rattle.std.proofs.Common.{◌≡◌, ◌≢◌, ◌≤◌, ℕ, Bool, true, false, nat_lt, List, [], length, Option, Some, None, ◌∙◌, subst, sym, refl, arith, inl, inr, ◌⊎◌}
-use Rattle.std.specs.Prelude.{Result, Ok, Err, IfOk, is_some, unwrap_or}
+use Rattle.std.specs.Prelude.{Result, Ok, Err, is_some, unwrap_or}
 use Rattle.std.specs.Str.{bytes_eq}
 use Rattle.std.proofs.lemmas.Slice.Eq.{bytes_eq-Decides}
 use Rattle.std.proofs.lemmas.Bool.Decides.{nat_tests}
 use Rattle.sha2.specs.Sha256.{sha256}
-use Rattle.sha2.proofs.Facts256.{length-sha256}
 use Rattle.bn_base.specs.Programs.{Program}
 use Rattle.bn_base.specs.Ranges.{first_bad}
 use Rattle.bn_base.specs.declared.settings.BadSetting.{BadSetting}
-use Rattle.bn_base.specs.declared.settings.RawSettings.{RawSettings}
 use Rattle.bn_outside.specs.Files.{Files, WhereTold}
 use Rattle.command_words.specs.Words.{Line, RecordingLine, RecordLine, ReplayLine, ListLine, CheckLine}
 use Rattle.elf_loader.specs.Loaded.{image_of}
 use Rattle.elf_loader.specs.declared.error.ElfError.{ElfError}
-use Rattle.file_laws.specs.Given.{IsImage, IsRecording}
-use Rattle.file_sizes.specs.Laws.{FilesKeepToTheirSize}
+use Rattle.le_numbers.specs.Numbers.{AreBytes}
+use Rattle.file_laws.specs.Given.{IsRecording}
 use Rattle.hart_replay.specs.declared.error.ReplayError.{ReplayError}
 use Rattle.hart_replay.specs.declared.error.ReplayError.TheVariants as replay
 use Rattle.run_model.specs.Runs.{seeded}
@@ -26,9 +24,9 @@ use Rattle.bugnet.specs.Commands.{Either, IsByFile, WithFile, IsByInput, IsByPro
 use Rattle.bugnet.specs.Recordings.{recorded}
 use Rattle.bugnet.specs.Answers.{names_in, IsAnswer}
 use Rattle.bugnet.specs.Outside.{WithFiles, ToldRefusal, KeptFiles}
-use Rattle.bugnet.specs.Run.{Call, IsFree, AreKept, Tells, StoppedEarly, AnAnswer, Answers}
-use Rattle.bugnet.specs.Saves.{IsRecorded, input_by, Leaves, LeavesRun, HoldsImage, HasImage}
-use Rattle.bugnet.specs.Laws.{SeedsAreWhole}
+use Rattle.bugnet.specs.Run.{Call, IsFree, AreKept, Tells, StoppedEarly, SomeTold, TellsAnswer}
+use Rattle.bugnet.specs.Saves.{IsRecorded, input_by, Leaves, LeavesRun, HoldsBytes, HasElf}
+use Rattle.bugnet.specs.Laws.{SeedsAreWhole, FilesKeepToTheirSize}
 use Rattle.bugnet.specs.declared.names.Role.{Role}
 use Rattle.bugnet.specs.declared.names.Role.TheVariants as role
 use Rattle.bugnet.specs.declared.refusal.Refusal.{Refusal}
@@ -148,10 +146,8 @@ by-settings None files r what e h is = by-names (bytes_eq r.log r.book) files r 
 
 -- ---- what it leaves
 
-image-there : (there : Option (List ℕ)) (c : RawSettings) (elf : List ℕ) (i : Program) → there ≡ Some elf → image_of elf c ≡ Ok i → HoldsImage there c → IsImage i
-image-there there c elf i e loaded h =
-    let at : IfOk (image_of elf c) IsImage = subst (λ (o : Option (List ℕ)). HoldsImage o c) e h in
-    subst (λ (x : Result Program ElfError). IfOk x IsImage) loaded at
+bytes-there : (there : Option (List ℕ)) (elf : List ℕ) → there ≡ Some elf → HoldsBytes there → AreBytes elf
+bytes-there there elf e h = subst HoldsBytes e h
 
 apart-names : (log book : List ℕ) → bytes_eq log book ≡ false → log ≢ book
 apart-names log book e same = true-or (bytes_eq log book) ((bytes_eq-Decides log book).1 same) e
@@ -159,18 +155,18 @@ apart-names log book e same = true-or (bytes_eq log book) ((bytes_eq-Decides log
     true-or : (b : Bool) → b ≡ true → b ≡ false → ⊥
     true-or b x y = grind arith
 
-left : SeedsAreWhole → FilesKeepToTheirSize → (r : RecordingLine) (old new : Files) (what : Told) → Found r old what → HoldsImage (old r.elf) r.settings
+left : SeedsAreWhole → FilesKeepToTheirSize → (r : RecordingLine) (old new : Files) (what : Told) → Found r old what → HoldsBytes (old r.elf)
     → KeptFiles what.saved r.log r.book old new → Leaves r old new
 unfolding recorded
-left whole sizes r old new what f image kept =
+left whole sizes r old new what f bytes kept =
     let c = r.settings in
     let i = f.program in
     let turns = seeded c i f.input r.seed in
     let ends = whole c i f.input r.seed f.settings in
-    let recording : IsRecording c i (sha256 f.elf) f.input turns = record {
+    let recording : IsRecording c i f.elf f.input turns = record {
       setting = in-range c f.settings;
-      image = image-there (old r.elf) c f.elf i f.elf_there f.loaded image;
-      digest_size = length-sha256 f.elf;
+      bytes = bytes-there (old r.elf) f.elf f.elf_there bytes;
+      loaded = f.loaded;
       legal = ends.legal;
       over = ends.over;
     } in
@@ -182,13 +178,12 @@ left whole sizes r old new what f image kept =
       turns = turns;
       elf_there = f.elf_there;
       small = f.small;
-      loaded = f.loaded;
       input_there = f.input_there;
       chosen = refl;
       recording = recording;
       book = both.book_there;
       log = both.log_there (apart-names r.log r.book f.names);
-      within = sizes c i (sha256 f.elf) f.input turns recording;
+      within = sizes c i f.elf f.input turns recording;
       others = both.others;
     }
 
@@ -206,27 +201,27 @@ done-kept names what status k (inr s) is = absurd (free-apart status (stopped-fr
 
 -- by maps that are told
 so-left : SeedsAreWhole → FilesKeepToTheirSize → (r : RecordingLine) (status : ℕ) (old new : Option Files)
-    → WithFiles old (λ files. HoldsImage (files r.elf) r.settings)
+    → WithFiles old (λ files. HoldsBytes (files r.elf))
     → WithFiles old (λ files. (what : Told) × IsRecord files (names_in (RecordLine r)) r.settings r.seed (is_some r.input) what × IsRecorded what.status × WhereTold old new (KeptFiles what.saved r.log r.book))
     → WhereTold old new (Leaves r)
-so-left whole sizes r status None new image h = tt
-so-left whole sizes r status (Some x) None image h = absurd h.3
-so-left whole sizes r status (Some x) (Some y) image h = left whole sizes r x y h.0 (by-settings (first_bad r.settings) x r h.0 refl h.1 h.2) image h.3
+so-left whole sizes r status None new bytes h = tt
+so-left whole sizes r status (Some x) None bytes h = absurd h.3
+so-left whole sizes r status (Some x) (Some y) bytes h = left whole sizes r x y h.0 (by-settings (first_bad r.settings) x r h.0 refl h.1 h.2) bytes h.3
 
-pub call-leaves : SeedsAreWhole → FilesKeepToTheirSize → (line : Line) (status : ℕ) (k : Call) → HasImage line k.old.files → Answers (Some line) status k
+pub call-leaves : SeedsAreWhole → FilesKeepToTheirSize → (line : Line) (status : ℕ) (k : Call) → HasElf line k.old.files → TellsAnswer (Some line) status k
     → LeavesRun (Some line) status k.old.files k.new.files
-call-leaves whole sizes (RecordLine r) status k image h = λ is.
-    so-left whole sizes r status k.old.files k.new.files image
-    (with-files k.old.files (λ files. AnAnswer (IsAnswer (Some (RecordLine r)) files) (λ what. Tells (names_in (RecordLine r)) what status k) ⊎ StoppedEarly (Some (RecordLine r)) files status k)
+call-leaves whole sizes (RecordLine r) status k bytes h = λ is.
+    so-left whole sizes r status k.old.files k.new.files bytes
+    (with-files k.old.files (λ files. SomeTold (IsAnswer (Some (RecordLine r)) files) (λ what. Tells (names_in (RecordLine r)) what status k) ⊎ StoppedEarly (Some (RecordLine r)) files status k)
     (λ files. (what : Told) × IsRecord files (names_in (RecordLine r)) r.settings r.seed (is_some r.input) what × IsRecorded what.status × WhereTold k.old.files k.new.files (KeptFiles what.saved r.log r.book))
     (λ files x. found files is x) h)
   where
-    found : (files : Files) → IsRecorded status → AnAnswer (IsAnswer (Some (RecordLine r)) files) (λ what. Tells (names_in (RecordLine r)) what status k) ⊎ StoppedEarly (Some (RecordLine r)) files status k
+    found : (files : Files) → IsRecorded status → SomeTold (IsAnswer (Some (RecordLine r)) files) (λ what. Tells (names_in (RecordLine r)) what status k) ⊎ StoppedEarly (Some (RecordLine r)) files status k
         → (what : Told) × IsRecord files (names_in (RecordLine r)) r.settings r.seed (is_some r.input) what × IsRecorded what.status × WhereTold k.old.files k.new.files (KeptFiles what.saved r.log r.book)
     found files is (inl a) =
         let done = done-kept (names_in (RecordLine r)) a.0 status k a.2 is in
         (a.0, a.1, done.0, done.1)
     found files is (inr early) = absurd (free-apart status (early-free (Some (RecordLine r)) files status k early) is)
-call-leaves whole sizes (ReplayLine log elf hart interval) status k image h = tt
-call-leaves whole sizes (ListLine log) status k image h = tt
-call-leaves whole sizes (CheckLine log) status k image h = tt
+call-leaves whole sizes (ReplayLine log elf hart interval) status k bytes h = tt
+call-leaves whole sizes (ListLine log) status k bytes h = tt
+call-leaves whole sizes (CheckLine log) status k bytes h = tt

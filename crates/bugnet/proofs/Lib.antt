@@ -1,3 +1,4 @@
+mod Asks
 mod Marks
 mod Counts
 mod Prints

@@ -18,7 +18,7 @@ use Rattle.bugnet.specs.Names.{FileNames, name_of}
 use Rattle.bugnet.specs.Refusals.{line_of, said_of}
 use Rattle.bugnet.specs.Told.{Told, refused}
 use Rattle.bugnet.specs.Commands.{Either, IsByFile, WithFile, IsByLog, IsByInput, IsByProgram, IsBySettings, IsRecord, seeded_told}
-use Rattle.bugnet.specs.Answers.{names_in, IsAnswerTo}
+use Rattle.bugnet.specs.Answers.{names_in, IsAnswer}
 use Rattle.bugnet.specs.Outside.{WithFiles, FetchTells, LogTells, ProgramTells, Gives, unless, without, GivesBy}
 use Rattle.bugnet.specs.declared.names.Role.{Role}
 use Rattle.bugnet.specs.declared.names.Role.TheVariants.{Input}
@@ -206,7 +206,7 @@ mapped A B f (Some a) = refl
 -- what a recording's line asks for, by the names in it
 pub record-answers : (known : Option Files) (names : FileNames) (r : Recording) (has : Bool) (result : Result Answer Refusal) → names ≡ names_in (RecordLine (seen_recording r)) → has ≡ is_some r.input
     → WithFiles known (λ files. GivesBy names (λ f. IsRecord f names r.settings r.seed has) files result)
-    → WithFiles known (λ files. GivesBy names (IsAnswerTo (RecordLine (seen_recording r))) files result)
+    → WithFiles known (λ files. GivesBy names (IsAnswer (Some (RecordLine (seen_recording r)))) files result)
 record-answers known names r has result e input h =
     let s = seen_recording r in
     let there : has ≡ is_some s.input = input ∙ sym (mapped _ _ _ r.input) in

@@ -19,7 +19,7 @@ use Rattle.log_file.specs.declared.error.FileError.TheVariants as file
 use Rattle.bugnet.specs.Names.{FileNames, name_of}
 use Rattle.bugnet.specs.Told.{Told}
 use Rattle.bugnet.specs.Commands.{Either, IsByFile, WithFile, Reads, by_log, IsByLog, list_of, check_of, replay_of, IsReplayOf, IsReplay, IsByInput, seeded_told, IsByProgram, IsByNames, IsBySettings}
-use Rattle.bugnet.specs.Answers.{names_in, IsAnswerTo}
+use Rattle.bugnet.specs.Answers.{names_in, IsAnswer}
 use Rattle.bugnet.specs.Laws.{OneAnswer}
 use Rattle.bugnet.specs.declared.names.Role.{Role}
 use Rattle.bugnet.specs.declared.names.Role.TheVariants as role
@@ -87,7 +87,7 @@ one-settings : (bad : Option BadSetting) (files : Files) (names : FileNames) (c 
 one-settings (Some bad) files names c seed has_input a b p q = p ∙ sym q
 one-settings None files names c seed has_input a b p q = one-names (bytes_eq names.log names.book) files names c seed has_input a b p q
 
-one-line : Grammar → (line : Line) (files : Files) → One (IsAnswerTo line files)
+one-line : Grammar → (line : Line) (files : Files) → One (IsAnswer (Some line) files)
 one-line g (RecordLine r) files a b p q = one-settings (first_bad r.settings) files (names_in (RecordLine r)) r.settings r.seed _ a b p q
 one-line g (ReplayLine log elf hart interval) files a b p q = one-replay g files (names_in (ReplayLine log elf hart interval)) hart interval a b p q
 one-line g (ListLine log) files a b p q =

@@ -12,7 +12,7 @@ use Rattle.bugnet.specs.Refusals.{line_of, said_of, status_of}
 use Rattle.bugnet.specs.Told.{Told, Saved, refused, printed}
 use Rattle.bugnet.specs.Answers.{names_by, IsAnswer}
 use Rattle.bugnet.specs.Outside.{SendStops, ToldRefusal, WithFiles, IsEarly, GivesBy, told_of, told_of_recording, SameFiles, LogAlone, SaveBroke, KeptBoth, KeptFiles, MayChange, Unsaved}
-use Rattle.bugnet.specs.Run.{Call, IsFree, IsUnsaved, AreKept, SavingStopped, OutStopped, ErrStopped, ErrWaits, Stopped, Tells, StoppedEarly, AnAnswer, Answers, Keeps, ChangesFew}
+use Rattle.bugnet.specs.Run.{Call, IsFree, IsUnsaved, AreKept, SavingStopped, OutStopped, ErrStopped, ErrWaits, Stopped, Tells, StoppedEarly, SomeTold, TellsAnswer, Keeps, ChangesFew}
 use Rattle.bugnet.specs.declared.names.Role.{Role}
 use Rattle.bugnet.specs.declared.names.Role.TheVariants as role
 use Rattle.bugnet.specs.declared.answer.Answer.{Answer}
@@ -198,31 +198,31 @@ early-status line files status k s = by s.early
 pub early-free : (line : Option Line) (files : Files) (status : ℕ) (k : Call) → StoppedEarly line files status k → IsFree status
 early-free line files status k s = unsaved-free status (early-status line files status k s)
 
-pub answers-keep : (line : Option Line) (status : ℕ) (k : Call) → Answers line status k → Keeps line status k.old.files k.new.files
+pub answers-keep : (line : Option Line) (status : ℕ) (k : Call) → TellsAnswer line status k → Keeps line status k.old.files k.new.files
 answers-keep line status k h =
-    with-files k.old.files (λ files. AnAnswer (IsAnswer line files) (λ what. Tells (names_by line) what status k) ⊎ StoppedEarly line files status k)
-    (λ files. IsUnsaved status ⊎ AnAnswer (IsAnswer line files) (λ what. WhereTold k.old.files k.new.files (KeptFiles what.saved (names_by line).log (names_by line).book))) so h
+    with-files k.old.files (λ files. SomeTold (IsAnswer line files) (λ what. Tells (names_by line) what status k) ⊎ StoppedEarly line files status k)
+    (λ files. IsUnsaved status ⊎ SomeTold (IsAnswer line files) (λ what. WhereTold k.old.files k.new.files (KeptFiles what.saved (names_by line).log (names_by line).book))) so h
   where
     found : (files : Files) (what : Told) → IsAnswer line files what → IsUnsaved status ⊎ AreKept (names_by line) what k
-        → IsUnsaved status ⊎ AnAnswer (IsAnswer line files) (λ what. WhereTold k.old.files k.new.files (KeptFiles what.saved (names_by line).log (names_by line).book))
+        → IsUnsaved status ⊎ SomeTold (IsAnswer line files) (λ what. WhereTold k.old.files k.new.files (KeptFiles what.saved (names_by line).log (names_by line).book))
     found files what is (inl free) = inl free
     found files what is (inr kept) = inr (what, is, kept)
 
-    so : (files : Files) → AnAnswer (IsAnswer line files) (λ what. Tells (names_by line) what status k) ⊎ StoppedEarly line files status k
-        → IsUnsaved status ⊎ AnAnswer (IsAnswer line files) (λ what. WhereTold k.old.files k.new.files (KeptFiles what.saved (names_by line).log (names_by line).book))
+    so : (files : Files) → SomeTold (IsAnswer line files) (λ what. Tells (names_by line) what status k) ⊎ StoppedEarly line files status k
+        → IsUnsaved status ⊎ SomeTold (IsAnswer line files) (λ what. WhereTold k.old.files k.new.files (KeptFiles what.saved (names_by line).log (names_by line).book))
     so files (inl a) = found files a.0 a.1 (tells-keeps (names_by line) a.0 status k a.2)
     so files (inr s) = inl (early-status line files status k s)
 
-pub answers-few : ((l : Option Line) (files : Files) (x y : Told) → IsAnswer l files x → IsAnswer l files y → x ≡ y) → (line : Option Line) (status : ℕ) (k : Call) → Answers line status k
+pub answers-few : ((l : Option Line) (files : Files) (x y : Told) → IsAnswer l files x → IsAnswer l files y → x ≡ y) → (line : Option Line) (status : ℕ) (k : Call) → TellsAnswer line status k
     → ChangesFew line k.old.files k.new.files
 answers-few one line status k h =
-    with-files k.old.files (λ files. AnAnswer (IsAnswer line files) (λ what. Tells (names_by line) what status k) ⊎ StoppedEarly line files status k)
+    with-files k.old.files (λ files. SomeTold (IsAnswer line files) (λ what. Tells (names_by line) what status k) ⊎ StoppedEarly line files status k)
     (λ files. (what : Told) → IsAnswer line files what → WhereTold k.old.files k.new.files (MayChange what.saved (names_by line).log (names_by line).book)) so h
   where
     names : FileNames
     names = names_by line
 
-    so : (files : Files) → AnAnswer (IsAnswer line files) (λ what. Tells (names_by line) what status k) ⊎ StoppedEarly line files status k
+    so : (files : Files) → SomeTold (IsAnswer line files) (λ what. Tells (names_by line) what status k) ⊎ StoppedEarly line files status k
         → (what : Told) → IsAnswer line files what → WhereTold k.old.files k.new.files (MayChange what.saved (names_by line).log (names_by line).book)
     so files (inl a) what is =
         subst (λ (t : Told). WhereTold k.old.files k.new.files (MayChange t.saved (names_by line).log (names_by line).book)) (one line files a.0 what a.1 is) (tells-few (names_by line) a.0 status k a.2)
@@ -236,26 +236,26 @@ answers-few one line status k h =
 pub refusal-answers : (line : Option Line) (names : FileNames) (r : Refusal) (status : ℕ) (k : Call) → names ≡ names_by line
     → Appends k.old.out k.new.out [] → k.new.files ≡ k.old.files
     → WithFiles k.old.files (λ files. GivesBy names (λ files. IsAnswer line files) files (Err r))
-    → ToldRefusal names r status k.old.err k.new.err k.old.err_faults k.new.err_faults → Answers line status k
+    → ToldRefusal names r status k.old.err k.new.err k.old.err_faults k.new.err_faults → TellsAnswer line status k
 refusal-answers line names r status k e out same g line_told =
     with-files k.old.files (λ files. GivesBy names (λ files. IsAnswer line files) files (Err r))
-    (λ files. AnAnswer (IsAnswer line files) (λ what. Tells (names_by line) what status k) ⊎ StoppedEarly line files status k) (λ files h. so files (subst (λ (n : FileNames). GivesBy n (λ files. IsAnswer line files) files (Err r)) e h)) g
+    (λ files. SomeTold (IsAnswer line files) (λ what. Tells (names_by line) what status k) ⊎ StoppedEarly line files status k) (λ files h. so files (subst (λ (n : FileNames). GivesBy n (λ files. IsAnswer line files) files (Err r)) e h)) g
   where
     told : ToldRefusal (names_by line) r status k.old.err k.new.err k.old.err_faults k.new.err_faults
     told = subst (λ (n : FileNames). ToldRefusal n r status k.old.err k.new.err k.old.err_faults k.new.err_faults) e line_told
 
     so : (files : Files) → GivesBy (names_by line) (λ files. IsAnswer line files) files (Err r)
-        → AnAnswer (IsAnswer line files) (λ what. Tells (names_by line) what status k) ⊎ StoppedEarly line files status k
+        → SomeTold (IsAnswer line files) (λ what. Tells (names_by line) what status k) ⊎ StoppedEarly line files status k
     so files (inl early) = inr (record { refusal = r; early = early; out = out; same = same; told = told })
     so files (inr is) = inl (refused (names_by line) r, is, refused-told (names_by line) r status k out (same-files k.old.files k.new.files same) told)
 
 -- one that has its answer
 pub answer-answers : (line : Option Line) (names : FileNames) (known : Option Files) (a : Answer) (status : ℕ) (k : Call) → names ≡ names_by line → known ≡ k.old.files
     → WithFiles known (λ files. GivesBy names (λ files. IsAnswer line files) files (Ok a)) → Tells names (told_of names a) status k
-    → Answers line status k
+    → TellsAnswer line status k
 answer-answers line names known a status k n e g told =
     with-files k.old.files (λ files. GivesBy names (λ files. IsAnswer line files) files (Ok a))
-    (λ files. AnAnswer (IsAnswer line files) (λ what. Tells (names_by line) what status k) ⊎ StoppedEarly line files status k)
+    (λ files. SomeTold (IsAnswer line files) (λ what. Tells (names_by line) what status k) ⊎ StoppedEarly line files status k)
     (λ files is. inl (told_of names a, is, subst (λ (m : FileNames). Tells m (told_of names a) status k) n told))
     (subst (λ (x : Option Files). WithFiles x (λ files. GivesBy names (λ files. IsAnswer line files) files (Ok a))) e g)
 

@@ -41,14 +41,10 @@ abbrev pub refusal_by : Option Line → Option Refusal
 refusal_by None = Some WordsRefused
 refusal_by (Some line) = refusal_in line
 
--- what a line has to answer
-abbrev pub IsAnswerTo : Line → Files → Told → Type 0
-IsAnswerTo (RecordLine r) files what = IsRecord files (names_in (RecordLine r)) r.settings r.seed (is_some r.input) what
-IsAnswerTo (ReplayLine log elf hart interval) files what = IsReplay files (names_in (ReplayLine log elf hart interval)) hart interval what
-IsAnswerTo (ListLine log) files what = IsList files (names_in (ListLine log)) what
-IsAnswerTo (CheckLine log) files what = IsCheck files (names_in (CheckLine log)) what
-
 -- what words have to answer, by the line that they say; words that say none are refused
 abbrev pub IsAnswer : Option Line → Files → Told → Type 0
 IsAnswer None files what = what ≡ refused no_names WordsRefused
-IsAnswer (Some line) files what = IsAnswerTo line files what
+IsAnswer (Some (RecordLine r)) files what = IsRecord files (names_in (RecordLine r)) r.settings r.seed (is_some r.input) what
+IsAnswer (Some (ReplayLine log elf hart interval)) files what = IsReplay files (names_in (ReplayLine log elf hart interval)) hart interval what
+IsAnswer (Some (ListLine log)) files what = IsList files (names_in (ListLine log)) what
+IsAnswer (Some (CheckLine log)) files what = IsCheck files (names_in (CheckLine log)) what

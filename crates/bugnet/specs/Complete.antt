@@ -1,13 +1,13 @@
 -- Where a command has an answer, and where it is done.
-use Rattle.std.specs.Prelude.{◌≡◌, ◌≤◌, ◌⊎◌, ℕ, List, false, length, Option, Some, None, Ok, IfSome}
+use Rattle.std.specs.Prelude.{◌≡◌, ◌≤◌, ◌⊎◌, ℕ, List, false, length, Option, Some, None, Ok}
 use Rattle.std.specs.Str.{bytes_eq}
+use Rattle.sha2.specs.Sha256.{sha256}
 use Rattle.bn_base.specs.Programs.{Program}
 use Rattle.bn_base.specs.Ranges.{first_bad}
 use Rattle.bn_base.specs.declared.settings.RawSettings.{RawSettings}
 use Rattle.bn_outside.specs.Files.{Files}
 use Rattle.command_words.specs.Words.{Line, RecordingLine, RecordLine, ReplayLine, ListLine, CheckLine}
 use Rattle.elf_loader.specs.Loaded.{image_of}
-use Rattle.le_numbers.specs.Numbers.{AreBytes}
 use Rattle.hart_replay.specs.Replay.{Interval}
 use Rattle.run_model.specs.Files.{file_of}
 use Rattle.file_laws.specs.Given.{IsRecording}
@@ -15,15 +15,11 @@ use Rattle.bugnet.specs.Told.{Told}
 use Rattle.bugnet.specs.Answers.{IsAnswer}
 use Rattle.bugnet.specs.Headline.{Part, ReplaysRun}
 use Rattle.bugnet.specs.Run.{IsFree}
-use Rattle.bugnet.specs.Saves.{IsRecorded, input_by}
+use Rattle.bugnet.specs.Saves.{IsRecorded, input_by, HoldsBytes}
 
 -- ---- answers
 
--- what is there is bytes
-abbrev pub HoldsBytes : Option (List ℕ) → Type 0
-HoldsBytes there = IfSome there AreBytes
-
--- so is the log of a line that loads one
+-- the log of a line that loads one is bytes
 abbrev pub HasBytes : Option Line → Files → Type 0
 HasBytes None files = Unit {0}
 HasBytes (Some (RecordLine r)) files = Unit {0}
@@ -55,16 +51,16 @@ pub record CanRecord (r : RecordingLine) (files : Files) : Type 0 where
 pub record HasLog (there : Option (List ℕ)) : Type 0 where
   pub settings : RawSettings
   pub program : Program
-  pub digest : List ℕ
+  pub elf : List ℕ
   pub input : List ℕ
   pub turns : List ℕ
-  pub recording : IsRecording settings program digest input turns
-  pub log : there ≡ Some (file_of settings program digest input turns)
+  pub recording : IsRecording settings program elf input turns
+  pub log : there ≡ Some (file_of settings program (sha256 elf) input turns)
 
 -- what a line needs
 abbrev pub CanDo : Line → Files → Type 0
 CanDo (RecordLine r) files = CanRecord r files
-CanDo (ReplayLine log elf hart interval) files = (p : Part) × (v : Interval) × ReplaysRun (Some (ReplayLine log elf hart interval)) files p v
+CanDo (ReplayLine log elf hart interval) files = (p : Part) × (v : Interval) × ReplaysRun (Some (ReplayLine log elf hart interval)) files p v × (length p.elf ≤ 67108864)
 CanDo (ListLine log) files = HasLog (files log)
 CanDo (CheckLine log) files = HasLog (files log)
 

@@ -1,5 +1,5 @@
 -- The headline: the log that a recording saves gives the recorded run's rows.
-use Rattle.std.specs.Prelude.{◌≡◌, ◌⊎◌, ℕ, ◌-◌, ◌≤◌, List, ◌++◌, length, take, drop, Option, Some, Ok}
+use Rattle.std.specs.Prelude.{◌≡◌, ◌⊎◌, ℕ, ◌-◌, nat_lt, List, ◌++◌, length, take, drop, Option, Some}
 use Rattle.std.specs.Io.KnownBytes.{Appends}
 use Rattle.sha2.specs.Sha256.{sha256}
 use Rattle.bn_base.specs.Programs.{Program}
@@ -7,7 +7,6 @@ use Rattle.bn_base.specs.declared.row.Row.{Row}
 use Rattle.bn_base.specs.declared.settings.RawSettings.{RawSettings}
 use Rattle.bn_outside.specs.Files.{Files}
 use Rattle.command_words.specs.Words.{Line, RecordingLine, ReplayLine}
-use Rattle.elf_loader.specs.Loaded.{image_of}
 use Rattle.hart_replay.specs.Replay.{Interval, interval_of}
 use Rattle.run_model.specs.Files.{kept_of, file_of}
 use Rattle.run_model.specs.Rows.{rows_of}
@@ -15,10 +14,13 @@ use Rattle.replay_laws.specs.Law.{end_of}
 use Rattle.run_model.specs.Runs.{start, run_of}
 use Rattle.file_laws.specs.Given.{IsRecording}
 use Rattle.bugnet.specs.Texts.{begin_text, rows_text, end_text}
-use Rattle.bugnet.specs.Told.{Told, printed}
-use Rattle.bugnet.specs.Answers.{IsAnswer}
+use Rattle.bugnet.specs.Told.{Told, refused, printed}
+use Rattle.bugnet.specs.Commands.{Either}
+use Rattle.bugnet.specs.Answers.{names_by, IsAnswer}
 use Rattle.bugnet.specs.Run.{IsFree}
 use Rattle.bugnet.specs.Saves.{Leaves}
+use Rattle.bugnet.specs.declared.names.Role.TheVariants as role
+use Rattle.bugnet.specs.declared.refusal.Refusal.TheVariants.{TooLong}
 
 -- an interval of a run: the settings, the program file and its program, the input, the list of turns, the hart and number
 pub record Part : Type 0 where
@@ -44,15 +46,18 @@ pub record ReplaysRun (line : Option Line) (files : Files) (p : Part) (v : Inter
   pub elf_name : List ℕ
   pub command : line ≡ Some (ReplayLine log_name elf_name p.hart p.number)
   pub program : files elf_name ≡ Some p.elf
-  pub small : length p.elf ≤ 67108864
-  pub loaded : image_of p.elf p.settings ≡ Ok p.program
-  pub recording : IsRecording p.settings p.program (sha256 p.elf) p.input p.turns
+  pub recording : IsRecording p.settings p.program p.elf p.input p.turns
   pub log : files log_name ≡ Some (file_of p.settings p.program (sha256 p.elf) p.input p.turns)
   pub kept : interval_of p.hart p.number (kept_of p.settings (run_of p.settings p.program p.input p.turns)) ≡ Some v
 
--- its answer is the text of the recorded run's own rows, and it has no other
+-- what is answered is the text of the recorded run's own rows; but a program file of more than 2 ^ 26 bytes is too long for any
+-- command, also for the one that records
+abbrev pub IsReplayed : Option Line → Part → Interval → Told → Type 0
+IsReplayed line p v what = Either (nat_lt 67108864 (length p.elf)) (what ≡ refused (names_by line) (TooLong role.Elf)) (what ≡ printed (run_text p v))
+
+-- so is the answer, and there is no other
 abbrev pub Headline : Type 0
-Headline = (line : Option Line) (files : Files) (p : Part) (v : Interval) → ReplaysRun line files p v → (what : Told) → IsAnswer line files what → what ≡ printed (run_text p v)
+Headline = (line : Option Line) (files : Files) (p : Part) (v : Interval) → ReplaysRun line files p v → (what : Told) → IsAnswer line files what → IsReplayed line p v what
 
 -- an interval of the run that a recording left
 abbrev pub part_of : {r : RecordingLine} {old new : Files} → Leaves r old new → (hart number : ℕ) → Part
@@ -66,6 +71,7 @@ RecordingsAreReplayed = (r : RecordingLine) (old new : Files) (l : Leaves r old 
     → (files : Files) (log elf : List ℕ) → files log ≡ new r.log → files elf ≡ old r.elf
     → (what : Told) → IsAnswer (Some (ReplayLine log elf hart number)) files what → what ≡ printed (run_text (part_of l hart number) v)
 
--- then out gains that text, unless memory was wanting or the outside failed
+-- then out gains that text, unless memory was wanting, the outside failed, or the program file is too long
 abbrev pub PrintsRun : Option Line → Files → ℕ → Option (List ℕ) → Option (List ℕ) → Type 0
-PrintsRun line files status out_old out_new = (p : Part) (v : Interval) → ReplaysRun line files p v → IsFree status ⊎ ((status ≡ 0) × Appends out_old out_new (run_text p v))
+PrintsRun line files status out_old out_new = (p : Part) (v : Interval) → ReplaysRun line files p v
+    → IsFree status ⊎ Either (nat_lt 67108864 (length p.elf)) (status ≡ 5) ((status ≡ 0) × Appends out_old out_new (run_text p v))

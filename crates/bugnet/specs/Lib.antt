@@ -15,3 +15,4 @@ pub mod Saves
 pub mod Laws
 pub mod Headline
 pub mod Complete
+pub mod Asks

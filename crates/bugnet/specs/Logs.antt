@@ -4,8 +4,11 @@ use Rattle.bn_base.specs.declared.end_mark.EndMark.{EndMark}
 use Rattle.log_record.specs.declared.record.Record.{Record}
 use Rattle.hart_replay.specs.Coming.{Replaying}
 use Rattle.hart_replay.specs.Replay.{Interval, interval_of, replayed}
+use Rattle.hart_replay.specs.declared.error.ReplayError.TheVariants.{NoInterval}
 use Rattle.bugnet.specs.Texts.{mark_in}
 use Rattle.bugnet.specs.declared.answer.Reading.{Reading}
+use Rattle.bugnet.specs.declared.refusal.Refusal.{Refusal}
+use Rattle.bugnet.specs.declared.refusal.Refusal.TheVariants.{ReplayStopped}
 
 -- the mark of a record that has one, else the one after it
 abbrev pub mark_or : Option EndMark → EndMark → EndMark
@@ -21,6 +24,11 @@ mark_of (Some v) = Some v.mark
 abbrev pub mark_from : Option ℕ → List Record → Option EndMark → Option EndMark
 mark_from None rs later = later
 mark_from (Some hart) rs later = Some (mark_in hart rs)
+
+-- a refusal since the log has no such interval
+abbrev pub IsAbsent : Reading → Refusal → Type 0
+IsAbsent reading refusal =
+    (refusal ≡ ReplayStopped (NoInterval reading.hart reading.interval)) × (interval_of reading.hart reading.interval reading.log.records ≡ None)
 
 -- a replay before its first row, and the mark of its interval
 pub record IsBegun (reading : Reading) (r : Replaying) (mark : EndMark) : Type 0 where

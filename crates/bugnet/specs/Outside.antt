@@ -18,9 +18,10 @@ use Rattle.log_file.specs.declared.error.FileError.{FileError}
 use Rattle.log_file.specs.declared.error.FileError.TheVariants as file
 use Rattle.bugnet.specs.Names.{FileNames, name_of}
 use Rattle.bugnet.specs.Refusals.{status_of, line_of}
-use Rattle.bugnet.specs.Told.{Told, Saved, refused}
+use Rattle.bugnet.specs.Told.{Told, Saved, refused, printed}
+use Rattle.bugnet.specs.Texts.{check_line}
 use Rattle.bugnet.specs.Recordings.{end_status}
-use Rattle.bugnet.specs.Commands.{list_of, check_of, replay_with}
+use Rattle.bugnet.specs.Commands.{list_of, replay_with}
 use Rattle.bugnet.specs.declared.names.Role.{Role}
 use Rattle.bugnet.specs.declared.names.Role.TheVariants as role
 use Rattle.bugnet.specs.declared.refusal.Refusal.{Refusal}
@@ -70,14 +71,14 @@ abbrev pub told_of : FileNames → Answer → Told
 told_of names (Recorded r) = told_of_recording r
 told_of names (Interval r) = told_of_reading names r
 told_of names (Listed d) = list_of d
-told_of names (Checked d) = check_of d
+told_of names (Checked n) = printed (check_line n)
 
 -- an answer that saves nothing
 abbrev pub IsPrinted : Answer → Type 0
 IsPrinted (Recorded r) = ⊥
 IsPrinted (Interval r) = Unit {0}
 IsPrinted (Listed d) = Unit {0}
-IsPrinted (Checked d) = Unit {0}
+IsPrinted (Checked n) = Unit {0}
 
 -- what was made of loaded bytes is what the command has to answer, or memory was wanting
 abbrev pub Gives : FileNames → (Told → Type 0) → Result Answer Refusal → Type 0

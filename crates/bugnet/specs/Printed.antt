@@ -29,6 +29,10 @@ end_of_interval hart interval mark (Refused error) = []
 abbrev pub rest_text : (hart interval : ℕ) → EndMark → Replayed → List ℕ
 rest_text hart interval mark r = rows_text r.rows ++ end_of_interval hart interval mark r.outcome
 
+-- all that is printed of an interval that begins at this count and has this mark
+abbrev pub text_from : (hart interval ic : ℕ) → EndMark → Replayed → List ℕ
+text_from hart interval ic mark r = begin_text hart interval ic ++ rest_text hart interval mark r
+
 -- all that is printed
 abbrev pub replay_text : (hart interval : ℕ) → Interval → Replayed → List ℕ
-replay_text hart interval v r = begin_text hart interval v.start.ic ++ rest_text hart interval v.mark r
+replay_text hart interval v r = text_from hart interval v.start.ic v.mark r

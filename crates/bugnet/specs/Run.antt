@@ -124,12 +124,12 @@ pub record StoppedEarly (line : Option Line) (files : Files) (status : ℕ) (k :
   pub told : ToldRefusal (names_by line) refusal status k.old.err k.new.err k.old.err_faults k.new.err_faults
 
 -- there is such an answer, of which this holds
-abbrev pub AnAnswer : (Told → Type 0) → (Told → Type 0) → Type 0
-AnAnswer Is Holds = (what : Told) × Is what × Holds what
+abbrev pub SomeTold : (Told → Type 0) → (Told → Type 0) → Type 0
+SomeTold Is Holds = (what : Told) × Is what × Holds what
 
 -- by the files that are there it tells what it has to answer, or was stopped before there was an answer
-abbrev pub Answers : Option Line → ℕ → Call → Type 0
-Answers line status k = WithFiles k.old.files (λ files. AnAnswer (IsAnswer line files) (λ what. Tells (names_by line) what status k) ⊎ StoppedEarly line files status k)
+abbrev pub TellsAnswer : Option Line → ℕ → Call → Type 0
+TellsAnswer line status k = WithFiles k.old.files (λ files. SomeTold (IsAnswer line files) (λ what. Tells (names_by line) what status k) ⊎ StoppedEarly line files status k)
 
 abbrev pub IsByWords : Option Refusal → FileNames → ℕ → Call → Type 0
 IsByWords None names status k = status ≢ 2
@@ -142,7 +142,7 @@ ByWords line status k = IsByWords (refusal_by line) (names_by line) status k
 -- what was to be saved is saved, but where the store failed or memory was wanting
 abbrev pub Keeps : Option Line → ℕ → (old new : Option Files) → Type 0
 Keeps line status old new =
-    WithFiles old (λ files. IsUnsaved status ⊎ AnAnswer (IsAnswer line files) (λ what. WhereTold old new (KeptFiles what.saved (names_by line).log (names_by line).book)))
+    WithFiles old (λ files. IsUnsaved status ⊎ SomeTold (IsAnswer line files) (λ what. WhereTold old new (KeptFiles what.saved (names_by line).log (names_by line).book)))
 
 -- no more changes than what may
 abbrev pub ChangesFew : Option Line → (old new : Option Files) → Type 0

@@ -1,16 +1,15 @@
 -- What a recording leaves under LOG and BOOK.
-use Rattle.std.specs.Prelude.{◌≡◌, ◌≤◌, ◌⊎◌, ℕ, List, [], length, Option, Some, None, Ok, IfSome, IfOk}
+use Rattle.std.specs.Prelude.{◌≡◌, ◌≤◌, ◌⊎◌, ◌+◌, ℕ, List, [], length, Option, Some, None, IfSome}
 use Rattle.sha2.specs.Sha256.{sha256}
 use Rattle.bn_base.specs.Programs.{Program}
 use Rattle.bn_base.specs.declared.settings.RawSettings.{RawSettings}
 use Rattle.bn_outside.specs.Files.{Files, WhereTold}
 use Rattle.command_words.specs.Words.{Line, RecordingLine, RecordLine, ReplayLine, ListLine, CheckLine}
-use Rattle.elf_loader.specs.Loaded.{image_of}
+use Rattle.le_numbers.specs.Numbers.{AreBytes}
 use Rattle.log_record.specs.Spelling.{total}
 use Rattle.run_model.specs.Files.{kept_of, file_of}
 use Rattle.run_model.specs.Runs.{run_of, seeded}
-use Rattle.file_laws.specs.Given.{IsImage, IsRecording}
-use Rattle.file_sizes.specs.Laws.{IsWithin}
+use Rattle.file_laws.specs.Given.{IsRecording}
 use Rattle.bugnet.specs.Outside.{WithFiles, SameBut}
 
 -- a recording is done: the run ended in no fault and no limit, in a fault, or by the limit
@@ -22,6 +21,11 @@ abbrev pub input_by : Option (List ℕ) → Files → Option (List ℕ)
 input_by None files = Some []
 input_by (Some name) files = files name
 
+-- what is kept has at most the size of the log, and the file has 124 bytes beside it
+pub record IsWithin (c : RawSettings) (bytes whole : ℕ) : Type 0 where
+  pub kept : bytes ≤ c.log_size
+  pub file : whole ≡ bytes + 124
+
 -- the files before and after the recording of a line
 pub record Leaves (r : RecordingLine) (old new : Files) : Type 0 where
   pub elf : List ℕ
@@ -31,11 +35,10 @@ pub record Leaves (r : RecordingLine) (old new : Files) : Type 0 where
   -- what was there
   pub elf_there : old r.elf ≡ Some elf
   pub small : length elf ≤ 67108864
-  pub loaded : image_of elf r.settings ≡ Ok program
   pub input_there : input_by r.input old ≡ Some input
-  -- the turns are those that the seed chooses, legal and finished
+  -- the turns are those that the seed chooses, legal and finished for the program of ELF
   pub chosen : turns ≡ seeded r.settings program input r.seed
-  pub recording : IsRecording r.settings program (sha256 elf) input turns
+  pub recording : IsRecording r.settings program elf input turns
   -- BOOK has them, and LOG is the file of their run
   pub book : new r.book ≡ Some turns
   pub log : new r.log ≡ Some (file_of r.settings program (sha256 elf) input turns)
@@ -50,13 +53,13 @@ LeavesRun (Some (ReplayLine log elf hart interval)) status old new = Unit {0}
 LeavesRun (Some (ListLine log)) status old new = Unit {0}
 LeavesRun (Some (CheckLine log)) status old new = Unit {0}
 
--- the program file that is there has a program, as programs are by their type, if it has one
-abbrev pub HoldsImage : Option (List ℕ) → RawSettings → Type 0
-HoldsImage there c = IfSome there (λ bytes. IfOk (image_of bytes c) IsImage)
+-- what is there is bytes
+abbrev pub HoldsBytes : Option (List ℕ) → Type 0
+HoldsBytes there = IfSome there AreBytes
 
--- so it is of the one that a line records
-abbrev pub HasImage : Line → Option Files → Type 0
-HasImage (RecordLine r) known = WithFiles known (λ files. HoldsImage (files r.elf) r.settings)
-HasImage (ReplayLine log elf hart interval) known = Unit {0}
-HasImage (ListLine log) known = Unit {0}
-HasImage (CheckLine log) known = Unit {0}
+-- so is the program file that a line records
+abbrev pub HasElf : Line → Option Files → Type 0
+HasElf (RecordLine r) known = WithFiles known (λ files. HoldsBytes (files r.elf))
+HasElf (ReplayLine log elf hart interval) known = Unit {0}
+HasElf (ListLine log) known = Unit {0}
+HasElf (CheckLine log) known = Unit {0}

@@ -6,11 +6,11 @@ use Rattle.bn_base.specs.declared.row.Row.{Row}
 use Rattle.rv_text.specs.Rows.{row_text}
 use Rattle.log_record.specs.declared.record.Record.{Record}
 use Rattle.log_record.specs.declared.record.Record.TheVariants.{Header, FirstLoad, ScOk, ScFailed, Edge, End}
-use Rattle.log_record.specs.Spelling.{total}
 use Rattle.log_order.specs.Content.{Content}
 use Rattle.hart_replay.specs.Replay.{puts, nothing}
 use Rattle.bugnet.specs.Marks.{mark_text, counted}
-use Rattle.bugnet.specs.declared.texts.LogCounts.{LogCounts}
+use Rattle.log_file.specs.declared.counting.LogCounts.{LogCounts}
+use Rattle.log_file.specs.Counts.{counts_of}
 
 -- ---- the replay of an interval
 
@@ -50,26 +50,13 @@ unfoldable pub list_text : List Record → List ℕ
 list_text [] = []
 list_text (r ∷ rs) = record_text r rs ++ list_text rs
 
-abbrev pub headers_of : Record → ℕ
-headers_of (Header hart interval ic pc x) = 1
-headers_of (FirstLoad hart skip value) = 0
-headers_of (ScOk hart) = 0
-headers_of (ScFailed hart) = 0
-headers_of (Edge hart ic from from_ic) = 0
-headers_of (End hart mark) = 0
-
--- how many records are Headers
-abbrev pub header_count : List Record → ℕ
-header_count [] = 0
-header_count (r ∷ rs) = headers_of r + header_count rs
-
 -- the line of these counts of a log
 unfoldable pub check_line : LogCounts → List ℕ
 check_line n = counted (codes "ok records ") n.records ++ counted (codes " intervals ") n.intervals ++ (counted (codes " dropped ") n.dropped ++ counted (codes " bytes ") n.bytes ++ codes "\n")
 
 -- the line of a log: its records, its intervals, how many records were given up, and the bytes of those that are kept
 abbrev pub check_text : Content → List ℕ
-check_text d = check_line (record { records = length d.records; intervals = header_count d.records; dropped = d.dropped; bytes = total d.records })
+check_text d = check_line (counts_of d)
 
 -- ---- a recording
 

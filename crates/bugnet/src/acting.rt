@@ -1,14 +1,15 @@
 // What an answer does: it prints and saves.
-ghost use Rattle.std.specs.Prelude.{◌≡◌, ◌≢◌, ◌≤◌, ◌⊎◌, Option, None, IfOk, IfErr};
-ghost use Rattle.hart_replay.specs.Replay.{interval_of};
-ghost use Rattle.hart_replay.specs.declared.error.ReplayError.TheVariants.{NoInterval};
-ghost use Rattle.bn_outside.specs.Counts.{Counts, Rose, NoneFell};
+ghost use Rattle.std.specs.Prelude.{◌≡◌, ◌≢◌, ◌≤◌, ◌⊎◌, Option, None, IfOk, IfErr, OnOk};
+ghost use Rattle.bn_outside.specs.Counts.{Counts, Rose, NoneFell, counted};
 ghost use Rattle.bn_outside.specs.Files.{Files};
-ghost use Rattle.bugnet.specs.Commands.{list_of, check_of};
-ghost use Rattle.bugnet.specs.Logs.{IsBegun};
+ghost use Rattle.bugnet.specs.Asks.{AtMostTwo, SavesTwo, AnswerSaves};
+ghost use Rattle.bugnet.specs.Commands.{list_of};
+ghost use Rattle.bugnet.specs.Logs.{IsBegun, IsAbsent};
 ghost use Rattle.bugnet.specs.Outside.{told_of, told_of_reading, told_of_recording, saved_of, IsPrinted, SaveTells};
+ghost use Rattle.bugnet.specs.Texts.{check_line};
+ghost use Rattle.bugnet.specs.Told.{printed};
 ghost use Rattle.bugnet.specs.Run.{call, printing, Tells};
-ghost use Rattle.bugnet.specs.declared.refusal.Refusal.TheVariants.{OutOfMemory, ReplayStopped};
+ghost use Rattle.bugnet.specs.declared.refusal.Refusal.TheVariants.{OutOfMemory};
 
 use crate::answer::{Answer, Reading, Recording};
 use crate::logs::interval_mark;
@@ -18,6 +19,7 @@ use crate::refusal::Refusal;
 use bn_base::EndMark;
 use bn_outside::{SaveError, Sink, Store};
 use hart_replay::{ReplayError, Replayer};
+use log_file::LogCounts;
 use log_order::KeptLog;
 use std::alloc::Global;
 
@@ -31,7 +33,7 @@ struct Begun<'a> {
 // Begins the replay of an interval.
 fn begin(alloc: Global, reading: &Reading) -> Result<Begun<'_>, Refusal>
     ensures begun { IfOk result (λ b. IsBegun reading.now b.replayer b.mark) }
-    ensures refused { IfErr result (λ r. ((r ≡ ReplayStopped (NoInterval reading.now.hart reading.now.interval)) × (interval_of reading.now.hart reading.now.interval reading.now.log.records ≡ None)) ⊎ (r ≡ OutOfMemory)) }
+    ensures refused { IfErr result (λ r. IsAbsent reading.now r ⊎ (r ≡ OutOfMemory)) }
 {
     match Replayer::begin(
         alloc,
@@ -115,11 +117,11 @@ fn print_list<O: Sink, X: Sink>(
 fn print_check<O: Sink, X: Sink>(
     alloc: Global,
     names: &Names,
-    log: &KeptLog,
+    log: &LogCounts,
     out: &mut O,
     err: &mut X,
 ) -> u8
-    ensures told { (files : Option Files) (had : Counts) → Tells names.now (check_of log.now) result (printing files had O.written O.faults X.written X.faults out.old err.old out.new err.new) }
+    ensures told { (files : Option Files) (had : Counts) → Tells names.now (printed (check_line log.now)) result (printing files had O.written O.faults X.written X.faults out.old err.old out.new err.new) }
     ensures out_later { O.faults out.old ≤ O.faults out.new }
     ensures err_later { X.faults err.old ≤ X.faults err.new }
     ensures write { result ≡ 13 → Rose (O.faults out.old) (O.faults out.new) ⊎ Rose (X.faults err.old) (X.faults err.new) }
@@ -138,6 +140,8 @@ fn print_check<O: Sink, X: Sink>(
 fn save<S: Store>(store: &mut S, names: &Names, recording: &Recording) -> Result<(), Refusal>
     ensures told { SaveTells (saved_of recording.now) names.now (S.files store.old) (S.files store.new) (S.counts store.old) (S.counts store.new) result }
     ensures later { NoneFell (S.counts store.old) (S.counts store.new) }
+    ensures few { AtMostTwo (S.saves store.old) (S.saves store.new) }
+    ensures both { OnOk result (S.saves store.new ≡ counted (counted (S.saves store.old))) }
 {
     match store.save(names.log, &recording.log) {
         Ok(()) => match store.save(names.book, &recording.book) {
@@ -160,6 +164,7 @@ fn keep<S: Store, O: Sink, X: Sink>(
     err: &mut X,
 ) -> u8
     ensures told { Tells names.now (told_of_recording recording.now) result (call S.files S.counts O.written O.faults X.written X.faults store.old out.old err.old store.new out.new err.new) }
+    ensures saves { SavesTwo result (S.saves store.old) (S.saves store.new) }
     ensures later { NoneFell (S.counts store.old) (S.counts store.new) }
     ensures out_later { O.faults out.old ≤ O.faults out.new }
     ensures err_later { X.faults err.old ≤ X.faults err.new }
@@ -192,6 +197,7 @@ pub fn act<S: Store, O: Sink, X: Sink>(
 ) -> u8
     ensures told { Tells names.now (told_of names.now answer.now) result (call S.files S.counts O.written O.faults X.written X.faults store.old out.old err.old store.new out.new err.new) }
     ensures still { IsPrinted answer.now → S.files store.new ≡ S.files store.old }
+    ensures saves { AnswerSaves answer.now result (S.saves store.old) (S.saves store.new) }
     ensures later { NoneFell (S.counts store.old) (S.counts store.new) }
     ensures out_later { O.faults out.old ≤ O.faults out.new }
     ensures err_later { X.faults err.old ≤ X.faults err.new }

@@ -1,7 +1,6 @@
 // What a command answers, by the bytes that it has loaded.
 ghost use Rattle.std.specs.Prelude.{◌≡◌, ◌≢◌, IfOk};
 ghost use Rattle.sha2.specs.Sha256.{sha256};
-ghost use Rattle.file_laws.specs.Given.{IsImage};
 ghost use Rattle.bugnet.specs.Commands.{IsByLog, list_of, check_of, replay_loaded, replay_of};
 ghost use Rattle.bugnet.specs.Recordings.{end_status, end_word};
 ghost use Rattle.bugnet.specs.Outside.{Gives, IsOwn, LogTells, ProgramTells, IsPrinted};
@@ -10,8 +9,7 @@ use crate::names::Names;
 use crate::refusal::Refusal;
 use bn_base::{Image, Settings};
 use elf_loader::{ElfError, load};
-use file_laws::loaded_programs_hold_words;
-use log_file::{FileError, read_file};
+use log_file::{FileError, LogCounts, count_file, read_file};
 use log_order::KeptLog;
 use sha2::{Digest, Sha256};
 use std::alloc::Global;
@@ -81,7 +79,7 @@ pub enum Answer {
     /// The intervals of a log are listed.
     Listed(KeptLog),
     /// What a log has is counted.
-    Checked(KeptLog),
+    Checked(LogCounts),
 }
 
 /// The SHA-256 digest (FIPS 180-4).
@@ -116,24 +114,22 @@ pub fn list_of(alloc: Global, names: &Names, log: &[u8]) -> Result<Answer, Refus
 }
 
 /// The counts of a log.
-pub fn check_of(alloc: Global, names: &Names, log: &[u8]) -> Result<Answer, Refusal>
+pub fn check_of(names: &Names, log: &[u8]) -> Result<Answer, Refusal>
     ensures gives { Gives names.now (IsByLog names.now log.now check_of) result }
     ensures own { IsOwn result }
     ensures prints { IfOk result IsPrinted }
 {
-    match read_log(alloc, log) {
-        Ok(log) => Ok(Answer::Checked(log)),
-        Err(refusal) => Err(refusal),
+    match count_file(log) {
+        Ok(counts) => Ok(Answer::Checked(counts)),
+        Err(error) => Err(Refusal::LogRefused(error)),
     }
 }
 
 /// Loads a program with these settings.
 pub fn load_program(alloc: Global, elf: &[u8], settings: &Settings) -> Result<Image, Refusal>
     ensures loaded { ProgramTells elf.now settings.now result }
-    ensures image { IfOk result (λ i. IsImage i) }
     ensures own { IsOwn result }
 {
-    loaded_programs_hold_words();
     match load(alloc, elf, settings) {
         Ok(image) => Ok(image),
         Err(ElfError::OutOfMemory) => Err(Refusal::OutOfMemory),

@@ -1,11 +1,13 @@
 // What holds of answers.
-ghost use Rattle.bugnet.specs.Laws.{OneAnswer, SeedsAreWhole};
+ghost use Rattle.bugnet.specs.Laws.{OneAnswer, SeedsAreWhole, FilesKeepToTheirSize};
 ghost use Rattle.bugnet.specs.Complete.{EachHasAnAnswer, EachCanBeDone};
 ghost use Rattle.bugnet.specs.Headline.{Headline, RecordingsAreReplayed};
 
 use file_laws::logs_are_contents;
 use hart_worker::seeded_lists_end;
-use log_file::laws::{files_say_one_thing, logs_are_not_refused, refusals_are_unique};
+use log_file::laws::{
+    files_have_their_size, files_say_one_thing, logs_are_not_refused, refusals_are_unique,
+};
 use log_file::readings::files_are_read_or_refused;
 use replay_laws::{the_log_suffices, the_rows_of_an_interval_stand_together};
 use run_laws::kept_records_are_an_end;
@@ -22,7 +24,8 @@ pub fn one_answer()
 
 /// The answer to the replay of an interval from the log file of a run is the text of the run's own
 /// rows, from the count of the interval's Header to that of its End, whatever the program, its input,
-/// the list of turns and the settings.
+/// the list of turns and the settings. A program file that is longer than a command may load is
+/// refused, when it is recorded too.
 pub fn headline()
     ensures { Headline }
 {
@@ -34,6 +37,7 @@ pub fn headline()
     kept_records_are_an_end();
     logs_are_contents();
     format_1_is_version_1();
+    files_have_their_size();
 }
 
 /// Words and files have an answer, where what the files hold is bytes.
@@ -54,6 +58,7 @@ pub fn each_can_be_done()
     kept_records_are_an_end();
     logs_are_contents();
     format_1_is_version_1();
+    files_have_their_size();
 }
 
 /// Of the files that a recording leaves, the replay of each interval whose Header the log keeps prints
@@ -70,4 +75,14 @@ pub fn seeds_are_whole()
     ensures { SeedsAreWhole }
 {
     seeded_lists_end();
+}
+
+/// The records that the log of a recording keeps have at most the bytes that the settings give, and its
+/// file has 124 bytes more than they.
+pub fn files_keep_to_their_size()
+    ensures { FilesKeepToTheirSize }
+{
+    format_1_is_version_1();
+    logs_are_contents();
+    files_have_their_size();
 }

@@ -20,11 +20,11 @@ mod texts;
 
 pub use answer::{Answer, Reading, Recording, RunEnd};
 pub use laws::{
-    each_can_be_done, each_has_an_answer, headline, one_answer, recordings_are_replayed,
-    seeds_are_whole,
+    each_can_be_done, each_has_an_answer, files_keep_to_their_size, headline, one_answer,
+    recordings_are_replayed, seeds_are_whole,
 };
 pub use names::{Names, Role};
 pub use printing::Ending;
 pub use program::run;
 pub use refusal::Refusal;
-pub use texts::{LogCounts, RunCounts};
+pub use texts::RunCounts;

@@ -30,6 +30,7 @@ pub fn fetch<S: Store>(
 ) -> Result<Vec<u8>, Refusal>
     ensures told { WithFiles (S.files store.old) (λ files. FetchTells role limit (files (name_of names.now role)) result) }
     ensures same { S.files store.new ≡ S.files store.old }
+    ensures asks { S.saves store.new ≡ S.saves store.old }
     ensures later { NoneFell (S.counts store.old) (S.counts store.new) }
     ensures cause { ResultCause (S.counts store.old) (S.counts store.new) result }
 {
@@ -46,6 +47,7 @@ pub fn fetch<S: Store>(
 pub fn list_files<S: Store>(alloc: Global, names: &Names, store: &mut S) -> Result<Answer, Refusal>
     ensures told { WithFiles (S.files store.old) (λ files. GivesBy names.now (λ files. IsList files names.now) files result) }
     ensures same { S.files store.new ≡ S.files store.old }
+    ensures asks { S.saves store.new ≡ S.saves store.old }
     ensures later { NoneFell (S.counts store.old) (S.counts store.new) }
     ensures cause { ResultCause (S.counts store.old) (S.counts store.new) result }
     ensures prints { IfOk result IsPrinted }
@@ -60,12 +62,13 @@ pub fn list_files<S: Store>(alloc: Global, names: &Names, store: &mut S) -> Resu
 pub fn check_files<S: Store>(alloc: Global, names: &Names, store: &mut S) -> Result<Answer, Refusal>
     ensures told { WithFiles (S.files store.old) (λ files. GivesBy names.now (λ files. IsCheck files names.now) files result) }
     ensures same { S.files store.new ≡ S.files store.old }
+    ensures asks { S.saves store.new ≡ S.saves store.old }
     ensures later { NoneFell (S.counts store.old) (S.counts store.new) }
     ensures cause { ResultCause (S.counts store.old) (S.counts store.new) result }
     ensures prints { IfOk result IsPrinted }
 {
     match fetch(alloc, names, store, Role::Log, LOG_LIMIT) {
-        Ok(log) => check_of(alloc, names, &log),
+        Ok(log) => check_of(names, &log),
         Err(refusal) => Err(refusal),
     }
 }
@@ -81,6 +84,7 @@ fn replay_with<S: Store>(
 ) -> Result<Answer, Refusal>
     ensures told { WithFiles (S.files store.old) (λ files. GivesBy names.now (λ files. IsReplayOf files names.now hart interval log.now) files result) }
     ensures same { S.files store.new ≡ S.files store.old }
+    ensures asks { S.saves store.new ≡ S.saves store.old }
     ensures later { NoneFell (S.counts store.old) (S.counts store.new) }
     ensures cause { ResultCause (S.counts store.old) (S.counts store.new) result }
     ensures prints { IfOk result IsPrinted }
@@ -101,6 +105,7 @@ pub fn replay_files<S: Store>(
 ) -> Result<Answer, Refusal>
     ensures told { WithFiles (S.files store.old) (λ files. GivesBy names.now (λ files. IsReplay files names.now hart interval) files result) }
     ensures same { S.files store.new ≡ S.files store.old }
+    ensures asks { S.saves store.new ≡ S.saves store.old }
     ensures later { NoneFell (S.counts store.old) (S.counts store.new) }
     ensures cause { ResultCause (S.counts store.old) (S.counts store.new) result }
     ensures prints { IfOk result IsPrinted }

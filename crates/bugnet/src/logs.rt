@@ -1,9 +1,8 @@
 // What the records of a log tell of its intervals.
 ghost use Rattle.std.specs.Prelude.{◌≡◌, ◌<◌, ◌≤◌, ◌∷◌, ◌^◌, List, length, drop};
-ghost use Rattle.log_record.specs.Spelling.{total};
 ghost use Rattle.log_record.specs.declared.record.Record.{Record};
 ghost use Rattle.hart_replay.specs.Replay.{Logged, put, interval_of};
-ghost use Rattle.bugnet.specs.Texts.{mark_in, headers_of, header_count};
+ghost use Rattle.bugnet.specs.Texts.{mark_in};
 ghost use Rattle.bugnet.specs.Logs.{mark_or, mark_of, mark_from};
 
 use bn_base::{EndMark, HartId};
@@ -74,42 +73,4 @@ pub fn interval_mark(hart: u64, interval: u64, records: &[Record]) -> Option<End
         }
     }
     None
-}
-
-// Whether a record is a Header.
-fn headers_of(entry: &Record) -> u64
-    ensures value { result ≡ headers_of entry.now }
-    ensures few { result ≤ 1 }
-{
-    match entry {
-        Record::Header { .. } => 1,
-        Record::FirstLoad { .. } => 0,
-        Record::ScOk { .. } => 0,
-        Record::ScFailed { .. } => 0,
-        Record::Edge { .. } => 0,
-        Record::End { .. } => 0,
-    }
-}
-
-/// How many records are Headers.
-pub fn header_count(records: &[Record]) -> u64
-    ensures { result ≡ header_count records.now }
-{
-    let mut count = 0;
-    for place in 0..records.len() {
-        count += headers_of(&records[place]);
-    }
-    count
-}
-
-/// How many bytes records have.
-pub fn total(records: &[Record]) -> u64
-    requires { total records.now < 2 ^ 63 }
-    ensures { result ≡ total records.now }
-{
-    let mut size = 0;
-    for entry in records {
-        size += entry.size() as u64;
-    }
-    size
 }

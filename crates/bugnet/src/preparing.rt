@@ -4,11 +4,12 @@ ghost use Rattle.std.specs.Str.{bytes_eq};
 ghost use Rattle.sha2.specs.Sha256.{sha256};
 ghost use Rattle.bn_outside.specs.Counts.{NoneFell};
 ghost use Rattle.elf_loader.specs.Loaded.{image_of};
+ghost use Rattle.le_numbers.specs.Numbers.{AreBytes};
 ghost use Rattle.bn_base.specs.Ranges.{first_bad};
 ghost use Rattle.bugnet.specs.Answers.{name_refusal, setting_refusal};
+ghost use Rattle.bugnet.specs.Asks.{IsRecordedRun};
 ghost use Rattle.bugnet.specs.Commands.{seeded_told, IsByInput, IsByProgram, IsByNames, IsRecord};
-ghost use Rattle.file_laws.specs.Given.{IsImage};
-ghost use Rattle.bugnet.specs.Saves.{HoldsImage};
+ghost use Rattle.bugnet.specs.Saves.{HoldsBytes};
 ghost use Rattle.bugnet.specs.Outside.{Gives, GivesBy, IsOwn, CauseBy, ResultCause, WithFiles};
 
 use crate::answer::{Answer, digest_of, load_program};
@@ -25,6 +26,7 @@ use std::alloc::Global;
 fn record_start(alloc: Global, names: &Names, start: &Start, seed: u64) -> Result<Answer, Refusal>
     ensures gives { Gives names.now (λ what. what ≡ seeded_told start.now.settings start.now.image start.now.digest seed start.now.input.items) result }
     ensures own { IsOwn result }
+    ensures recorded { IfOk result IsRecordedRun }
 {
     let recording = record_run(alloc, start, seed)?;
     Ok(Answer::Recorded(recording))
@@ -42,6 +44,8 @@ fn record_input<S: Store>(
     requires { start.input.items ≡ [] }
     ensures told { WithFiles (S.files store.old) (λ files. GivesBy names.now (λ files. IsByInput has_input files names.now (seeded_told start.settings start.image start.digest seed)) files result) }
     ensures same { S.files store.new ≡ S.files store.old }
+    ensures asks { S.saves store.new ≡ S.saves store.old }
+    ensures recorded { IfOk result IsRecordedRun }
     ensures later { NoneFell (S.counts store.old) (S.counts store.new) }
     ensures cause { ResultCause (S.counts store.old) (S.counts store.new) result }
 {
@@ -67,9 +71,11 @@ fn record_program<S: Store>(
     has_input: bool,
     store: &mut S,
 ) -> Result<Answer, Refusal>
-    ensures image { IfOk result (λ _. IfOk (image_of elf.now settings.now) IsImage) }
+    ensures bytes { AreBytes elf.now }
     ensures told { WithFiles (S.files store.old) (λ files. GivesBy names.now (λ files. IsByProgram (image_of elf.now settings.now) files names.now settings.now seed has_input (sha256 elf.now)) files result) }
     ensures same { S.files store.new ≡ S.files store.old }
+    ensures asks { S.saves store.new ≡ S.saves store.old }
+    ensures recorded { IfOk result IsRecordedRun }
     ensures later { NoneFell (S.counts store.old) (S.counts store.new) }
     ensures cause { ResultCause (S.counts store.old) (S.counts store.new) result }
 {
@@ -96,9 +102,11 @@ fn record_elf<S: Store>(
     has_input: bool,
     store: &mut S,
 ) -> Result<Answer, Refusal>
-    ensures image { IfOk result (λ _. WithFiles (S.files store.old) (λ files. HoldsImage (files names.now.elf) settings.now)) }
+    ensures bytes { IfOk result (λ _. WithFiles (S.files store.old) (λ files. HoldsBytes (files names.now.elf))) }
     ensures told { WithFiles (S.files store.old) (λ files. GivesBy names.now (λ files. IsByNames false files names.now settings.now seed has_input) files result) }
     ensures same { S.files store.new ≡ S.files store.old }
+    ensures asks { S.saves store.new ≡ S.saves store.old }
+    ensures recorded { IfOk result IsRecordedRun }
     ensures later { NoneFell (S.counts store.old) (S.counts store.new) }
     ensures cause { ResultCause (S.counts store.old) (S.counts store.new) result }
 {
@@ -117,9 +125,11 @@ fn record_named<S: Store>(
     has_input: bool,
     store: &mut S,
 ) -> Result<Answer, Refusal>
-    ensures image { IfOk result (λ _. WithFiles (S.files store.old) (λ files. HoldsImage (files names.now.elf) settings.now)) }
+    ensures bytes { IfOk result (λ _. WithFiles (S.files store.old) (λ files. HoldsBytes (files names.now.elf))) }
     ensures told { WithFiles (S.files store.old) (λ files. GivesBy names.now (λ files. IsByNames (bytes_eq names.now.log names.now.book) files names.now settings.now seed has_input) files result) }
     ensures same { S.files store.new ≡ S.files store.old }
+    ensures asks { S.saves store.new ≡ S.saves store.old }
+    ensures recorded { IfOk result IsRecordedRun }
     ensures later { NoneFell (S.counts store.old) (S.counts store.new) }
     ensures cause { CauseBy (name_refusal (bytes_eq names.now.log names.now.book)) (S.counts store.old) (S.counts store.new) result }
 {
@@ -140,9 +150,11 @@ pub fn record_files<S: Store>(
     has_input: bool,
     store: &mut S,
 ) -> Result<Answer, Refusal>
-    ensures image { IfOk result (λ _. WithFiles (S.files store.old) (λ files. HoldsImage (files names.now.elf) settings.now)) }
+    ensures bytes { IfOk result (λ _. WithFiles (S.files store.old) (λ files. HoldsBytes (files names.now.elf))) }
     ensures told { WithFiles (S.files store.old) (λ files. GivesBy names.now (λ files. IsRecord files names.now settings.now seed has_input) files result) }
     ensures same { S.files store.new ≡ S.files store.old }
+    ensures asks { S.saves store.new ≡ S.saves store.old }
+    ensures recorded { IfOk result IsRecordedRun }
     ensures later { NoneFell (S.counts store.old) (S.counts store.new) }
     ensures cause { CauseBy (setting_refusal (first_bad settings.now) (bytes_eq names.now.log names.now.book)) (S.counts store.old) (S.counts store.new) result }
 {

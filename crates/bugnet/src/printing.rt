@@ -4,18 +4,19 @@ ghost use Rattle.bn_outside.specs.Counts.{Rose};
 ghost use Rattle.bn_outside.specs.Streams.{AppendsShort};
 ghost use Rattle.rv_text.specs.Rows.{row_text};
 ghost use Rattle.bugnet.specs.Refusals.{line_of, status_of};
-ghost use Rattle.bugnet.specs.Texts.{rows_text, begin_text, interval_text, list_text, check_line, check_text, record_text};
-ghost use Rattle.bugnet.specs.Printed.{outcome_of, ending_of, end_of_interval, rest_text};
+ghost use Rattle.bugnet.specs.Texts.{rows_text, begin_text, interval_text, list_text, check_line, record_text};
+ghost use Rattle.bugnet.specs.Printed.{outcome_of, ending_of, end_of_interval, rest_text, text_from};
 ghost use Rattle.bugnet.specs.Outside.{Wrote, Sent, Gathered, ToldRefusal};
 ghost use Rattle.bugnet.specs.declared.refusal.Refusal.TheVariants.{WriteFailed};
 
-use crate::logs::{header_count, next_mark, total};
+use crate::logs::next_mark;
 use crate::names::Names;
 use crate::refusal::Refusal;
-use crate::texts::{LogCounts, push_begin, push_check, push_end, push_interval};
+use crate::texts::{push_begin, push_check, push_end, push_interval};
 use bn_base::{EndMark, Row};
 use bn_outside::{Sink, send_all};
 use hart_replay::{ReplayError, Replayer};
+use log_file::LogCounts;
 use log_order::KeptLog;
 use log_record::Record;
 use rv_text::{Text, write_row};
@@ -226,7 +227,7 @@ pub fn send_interval<O: Sink>(
     out: &mut O,
 ) -> Result<Ending, Refusal>
     ensures sent { let r = replayer.old.left in
-        Sent (O.written out.old) (O.written out.new) (O.faults out.old) (O.faults out.new) (begin_text hart interval replayer.old.state.ic ++ rest_text hart interval mark.now r) (λ ending. outcome_of ending ≡ r.outcome) result }
+        Sent (O.written out.old) (O.written out.new) (O.faults out.old) (O.faults out.new) (text_from hart interval replayer.old.state.ic mark.now r) (λ ending. outcome_of ending ≡ r.outcome) result }
     ensures later { O.faults out.old ≤ O.faults out.new }
 {
     match send_begin(alloc, hart, interval, replayer.state().ic, out) {
@@ -298,25 +299,12 @@ pub fn send_list<O: Sink>(alloc: Global, log: &KeptLog, out: &mut O) -> Result<(
     send(out, &text)
 }
 
-// What is counted of a log.
-fn counts_of(log: &KeptLog) -> LogCounts
-    ensures { (check_text log.now ≡ check_line result) }
-{
-    let records = log.records();
-    LogCounts {
-        records: records.len() as u64,
-        intervals: header_count(records),
-        dropped: log.dropped(),
-        bytes: total(records),
-    }
-}
-
 /// Sends the line of a log.
-pub fn send_check<O: Sink>(alloc: Global, log: &KeptLog, out: &mut O) -> Result<(), Refusal>
-    ensures sent { Sent (O.written out.old) (O.written out.new) (O.faults out.old) (O.faults out.new) (check_text log.now) (λ _. Unit {0}) result }
+pub fn send_check<O: Sink>(alloc: Global, log: &LogCounts, out: &mut O) -> Result<(), Refusal>
+    ensures sent { Sent (O.written out.old) (O.written out.new) (O.faults out.old) (O.faults out.new) (check_line log.now) (λ _. Unit {0}) result }
     ensures later { O.faults out.old ≤ O.faults out.new }
 {
     let mut text = Text::new(alloc);
-    push_check(&mut text, &counts_of(log))?;
+    push_check(&mut text, log)?;
     send(out, &text)
 }

@@ -2,17 +2,20 @@
 ghost use Rattle.std.specs.Prelude.{◌≡◌, ◌≤◌, ◌⊎◌, Some, IfOk};
 ghost use Rattle.bn_outside.specs.Counts.{Rose, NoneFell};
 ghost use Rattle.command_words.specs.Words.{command_in, seen};
-ghost use Rattle.bugnet.specs.Answers.{names_in, refusal_in, IsAnswerTo};
+ghost use Rattle.bugnet.specs.Answers.{names_in, refusal_in, IsAnswer};
+ghost use Rattle.bugnet.specs.Asks.{LineSaves, RecordsRun};
 ghost use Rattle.bugnet.specs.Laws.{IsNoRecording};
 ghost use Rattle.bugnet.specs.Complete.{IsDone};
 ghost use Rattle.bugnet.specs.Headline.{PrintsRun};
 ghost use Rattle.bugnet.specs.Outside.{GivesBy, CauseBy, WithFiles, IsPrinted};
-ghost use Rattle.bugnet.specs.Saves.{LeavesRun, HasImage};
-ghost use Rattle.bugnet.specs.Run.{call, Answers, ByWords, Keeps, ChangesFew};
+ghost use Rattle.bugnet.specs.Saves.{LeavesRun, HasElf};
+ghost use Rattle.bugnet.specs.Run.{call, TellsAnswer, ByWords, Keeps, ChangesFew};
 
 use crate::acting::act;
 use crate::answer::Answer;
-use crate::laws::{each_can_be_done, headline, one_answer, seeds_are_whole};
+use crate::laws::{
+    each_can_be_done, files_keep_to_their_size, headline, one_answer, seeds_are_whole,
+};
 use crate::loading::{check_files, list_files, replay_files};
 use crate::names::Names;
 use crate::preparing::record_files;
@@ -20,7 +23,6 @@ use crate::printing::refuse;
 use crate::refusal::Refusal;
 use bn_outside::{Sink, Source, Store};
 use command_words::{Command, WordsError, read_words};
-use file_sizes::files_keep_to_their_size;
 use std::alloc::Global;
 
 // The names of the files of a command.
@@ -53,12 +55,14 @@ fn answer_to<S: Store>(
     store: &mut S,
 ) -> Result<Answer, Refusal>
     requires { names.now ≡ names_in (seen command.now) }
-    ensures told { WithFiles (S.files store.old) (λ files. GivesBy names.now (IsAnswerTo (seen command.now)) files result) }
+    ensures told { WithFiles (S.files store.old) (λ files. GivesBy names.now (IsAnswer (Some (seen command.now))) files result) }
     ensures same { S.files store.new ≡ S.files store.old }
     ensures later { NoneFell (S.counts store.old) (S.counts store.new) }
     ensures cause { CauseBy (refusal_in (seen command.now)) (S.counts store.old) (S.counts store.new) result }
     ensures prints { IsNoRecording (Some (seen command.now)) → IfOk result IsPrinted }
-    ensures image { IfOk result (λ _. HasImage (seen command.now) (S.files store.old)) }
+    ensures records { IfOk result (RecordsRun (seen command.now)) }
+    ensures asks { S.saves store.new ≡ S.saves store.old }
+    ensures bytes { IfOk result (λ _. HasElf (seen command.now) (S.files store.old)) }
 {
     match command {
         Command::Record(recording) => record_files(
@@ -85,13 +89,14 @@ fn obey<S: Store, O: Sink, X: Sink>(
     out: &mut O,
     err: &mut X,
 ) -> u8
-    ensures told { Answers (Some (seen command.now)) result (call S.files S.counts O.written O.faults X.written X.faults store.old out.old err.old store.new out.new err.new) }
+    ensures told { TellsAnswer (Some (seen command.now)) result (call S.files S.counts O.written O.faults X.written X.faults store.old out.old err.old store.new out.new err.new) }
     ensures words { ByWords (Some (seen command.now)) result (call S.files S.counts O.written O.faults X.written X.faults store.old out.old err.old store.new out.new err.new) }
     ensures later { NoneFell (S.counts store.old) (S.counts store.new) }
     ensures out_later { O.faults out.old ≤ O.faults out.new }
     ensures err_later { X.faults err.old ≤ X.faults err.new }
     ensures recorded { LeavesRun (Some (seen command.now)) result (S.files store.old) (S.files store.new) }
     ensures still { IsNoRecording (Some (seen command.now)) → S.files store.new ≡ S.files store.old }
+    ensures saves { LineSaves (Some (seen command.now)) result (S.saves store.old) (S.saves store.new) }
     ensures failed { result ≡ 3 → Rose (S.counts store.old).faults (S.counts store.new).faults }
     ensures missing { result ≡ 4 → Rose (S.counts store.old).misses (S.counts store.new).misses }
     ensures long { result ≡ 5 → Rose (S.counts store.old).longs (S.counts store.new).longs }
@@ -109,12 +114,16 @@ fn obey<S: Store, O: Sink, X: Sink>(
 /// The program. It reads its words, of which the first is its own name, loads what they name,
 /// answers, saves and prints, and gives the status that the process ends with.
 ///
-/// | words | what it does, in order |
+/// | words | what it does |
 /// |---|---|
-/// | `record [SETTINGS] --seed N [--input FILE] ELF LOG BOOK` | tests the settings and that LOG and BOOK are two names, loads ELF, loads FILE, which else is empty, runs the program by the turns that N chooses, saves the log under LOG and the list of turns under BOOK, writes the program's stream 1 to out, and its stream 2 and one line to err |
+/// | `record [SETTINGS] --seed N [--input FILE] ELF LOG BOOK` | runs the program by the turns that N chooses, and saves its log and these turns |
 /// | `replay LOG ELF HART INTERVAL` | prints what the recorded run did in one interval, instruction by instruction |
 /// | `list LOG` | prints a line for each interval that the log keeps, in the order of their Headers |
 /// | `check LOG` | prints what the log has |
+///
+/// A recording does this, in order: it tests the settings, and that LOG and BOOK are two names, loads
+/// ELF, loads FILE, which else is empty, runs the program, saves the log under LOG and the list of turns
+/// under BOOK, writes the program's stream 1 to out, and its stream 2 and one line to err.
 ///
 /// | status | comes |
 /// |---|---|
@@ -141,11 +150,11 @@ pub fn run<S: Store, I: Source, O: Sink, X: Sink>(
 ) -> u8
     // Where the store tells its files, they and the words say the status, the texts and what the files
     // are after it. Whatever the store tells, the words alone say where the status is 2.
-    ensures told { Answers (command_in words.now) result (call S.files S.counts O.written O.faults X.written X.faults store.old out.old err.old store.new out.new err.new) }
+    ensures told { TellsAnswer (command_in words.now) result (call S.files S.counts O.written O.faults X.written X.faults store.old out.old err.old store.new out.new err.new) }
     ensures words { ByWords (command_in words.now) result (call S.files S.counts O.written O.faults X.written X.faults store.old out.old err.old store.new out.new err.new) }
 
     // The log of a recording gives the recorded run: the replay of an interval from it prints that
-    // run's own rows.
+    // run's own rows. A program file of more than 2 ^ 26 bytes is too long, also for a recording.
     ensures headline { WithFiles (S.files store.old) (λ files. PrintsRun (command_in words.now) files result (O.written out.old) (O.written out.new)) }
 
     // Where the words and the files are as the command needs them, it is done, unless memory was
@@ -158,6 +167,10 @@ pub fn run<S: Store, I: Source, O: Sink, X: Sink>(
     ensures kept { Keeps (command_in words.now) result (S.files store.old) (S.files store.new) }
     ensures others { ChangesFew (command_in words.now) (S.files store.old) (S.files store.new) }
     ensures still { IsNoRecording (command_in words.now) → S.files store.new ≡ S.files store.old }
+
+    // A recording that is done has saved twice, and so each of its two files once; a refused one at most
+    // so often, and no other command saves.
+    ensures saves { LineSaves (command_in words.now) result (S.saves store.old) (S.saves store.new) }
 
     // A recording leaves under BOOK the turns that the seed chooses, legal and finished, and under LOG
     // the file of their run: its records have at most log-size bytes, and it has 124 more.

@@ -92,12 +92,12 @@ fn log_of(alloc: Global, start: &Start, ring: &Ring) -> Result<Vec<u8>, AllocErr
     ensures { IfOk result (λ log. log.items ≡ spelling (record { settings = start.now.settings; digest = start.now.digest }) ring.now.dropped (flat_map bytes_of ring.now.records)) }
 {
     let _format = start.settings.format();
-    let records = ring.copy(alloc)?;
+    let (front, back) = ring.pieces();
     let head = Head {
         settings: start.settings,
         digest: start.digest,
     };
-    write_file(alloc, &head, ring.dropped(), &records)
+    write_file(alloc, &head, ring.dropped(), front, back)
 }
 
 // Stream 2 of a run, and the line of its recording.

@@ -4,6 +4,7 @@ ghost use Rattle.bugnet.specs.Marks.{mark_text, counted};
 ghost use Rattle.bugnet.specs.Texts.{begin_text, end_text, interval_text, check_line, summary_text};
 
 use bn_base::EndMark;
+use log_file::LogCounts;
 use rv_text::Text;
 use std::alloc::AllocError;
 
@@ -112,16 +113,6 @@ fn push_last_counts(
     push_counted(text, first, a)?;
     push_counted(text, second, b)?;
     text.push_str("\n")
-}
-
-/// What is counted of a log: its records, its intervals, how many records were given up, and the
-/// bytes of those that are kept.
-#[derive(Clone, Copy, Debug, PartialEq, Eq, Drop)]
-pub struct LogCounts {
-    pub records: u64,
-    pub intervals: u64,
-    pub dropped: u64,
-    pub bytes: u64,
 }
 
 /// Appends the line of a log.

@@ -5,7 +5,7 @@ use crate::streams::Reading;
 use bn_outside::{LoadError, ReadError, SaveError, Store, read_to_end};
 use std::alloc::Global;
 use std::fs;
-use std::fs::Files;
+use std::fs::{Files, OpenFile};
 use std::io::ErrorKind;
 
 /// The files of the system. A name is a path.
@@ -17,6 +17,7 @@ pub struct FileStore<'a, R: Files> {
     misses: u64,
     longs: u64,
     faults: u64,
+    saves: u64,
 }
 
 impl<'a, R: Files> FileStore<'a, R> {
@@ -24,13 +25,23 @@ impl<'a, R: Files> FileStore<'a, R> {
         ensures misses { result.misses ≡ 0 }
         ensures longs { result.longs ≡ 0 }
         ensures faults { result.faults ≡ 0 }
+        ensures saves { result.saves ≡ 0 }
     {
         FileStore {
             rt,
             misses: 0,
             longs: 0,
             faults: 0,
+            saves: 0,
         }
+    }
+}
+
+// How many bytes an open file says that it has, and 0 where it doesn't say.
+fn size_of<F: OpenFile>(file: &F) -> usize {
+    match file.metadata() {
+        Ok(metadata) => usize::try_from(metadata.len()).unwrap_or(0),
+        Err(_) => 0,
     }
 }
 
@@ -44,12 +55,15 @@ fn read_file<R: Files>(
     ensures { IfOk result (λ bytes. vec_len bytes ≤ limit) }
 {
     match fs::open(rt, name) {
-        Ok(file) => match read_to_end(alloc, &mut Reading::new(file), limit) {
-            Ok(bytes) => Ok(bytes),
-            Err(ReadError::TooLong) => Err(LoadError::TooLong),
-            Err(ReadError::Failed) => Err(LoadError::Failed),
-            Err(ReadError::OutOfMemory) => Err(LoadError::OutOfMemory),
-        },
+        Ok(file) => {
+            let expected = size_of(&file);
+            match read_to_end(alloc, &mut Reading::new(file), expected, limit) {
+                Ok(bytes) => Ok(bytes),
+                Err(ReadError::TooLong) => Err(LoadError::TooLong),
+                Err(ReadError::Failed) => Err(LoadError::Failed),
+                Err(ReadError::OutOfMemory) => Err(LoadError::OutOfMemory),
+            }
+        }
         Err(error) => match error.kind() {
             ErrorKind::NotFound => Err(LoadError::Missing),
             ErrorKind::OutOfMemory => Err(LoadError::OutOfMemory),
@@ -63,6 +77,8 @@ impl<'a, R: Files> Store for FileStore<'a, R> {
 
     ghost counts = { λ s. record { misses = s.misses; longs = s.longs; faults = s.faults } };
 
+    ghost saves = { λ s. s.saves };
+
     fn load(&mut self, alloc: Global, name: &str, limit: usize) -> Result<Vec<u8>, LoadError> {
         let result = read_file(self.rt, alloc, name, limit);
         match &result {
@@ -75,6 +91,7 @@ impl<'a, R: Files> Store for FileStore<'a, R> {
     }
 
     fn save(&mut self, name: &str, bytes: &[u8]) -> Result<(), SaveError> {
+        self.saves = self.saves.saturating_add(1);
         match fs::write(self.rt, name, bytes) {
             Ok(()) => Ok(()),
             Err(_) => {

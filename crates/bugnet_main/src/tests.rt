@@ -54,12 +54,31 @@ fn files_are_saved_whole_and_loaded_within_the_limit(rt: HostRuntime) -> Result<
 }
 
 #[test]
+fn a_file_of_several_pieces_is_loaded_whole(rt: HostRuntime) -> Result<(), Fail> {
+    let folder = env::temp_dir(&rt)?;
+    let folder = folder.as_str();
+    let id = process::id(rt.process());
+    let name = format!(in rt.alloc(); "{folder}/bugnet_main_pieces_{id}")?;
+    let name = name.as_str();
+    let bytes = vec![in rt.alloc(); 7u8; 200_000]?;
+    let mut store = FileStore::new(&rt);
+    assert_eq!(rt; store.save(name, &bytes), Ok(()));
+    assert!(rt; loads(&rt, &mut store, name, 200_000, &bytes));
+    assert_eq!(rt;
+        refusal(&rt, &mut store, name, 199_999),
+        Some(LoadError::TooLong)
+    );
+    fs::remove_file(&rt, name)?;
+    Ok(())
+}
+
+#[test]
 fn a_source_gives_what_its_reader_gives(rt: HostRuntime) -> Result<(), Fail> {
     let alloc = rt.alloc();
     let mut source = Reading::new(b"text".as_slice());
     assert_eq!(rt; source.read(&mut [0]), Ok(1));
     assert_eq!(rt;
-        read_to_end(alloc, &mut source, 3)?.as_slice(),
+        read_to_end(alloc, &mut source, 0, 3)?.as_slice(),
         b"ext".as_slice()
     );
     // A folder can be opened, and not read.

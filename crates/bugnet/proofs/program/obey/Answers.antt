@@ -4,6 +4,7 @@ use Rattle.bugnet.specs.Names.{FileNames}
 use Rattle.bugnet.specs.Answers.{refusal_in}
 use Rattle.bugnet.specs.Outside.{told_of}
 use Rattle.bugnet.specs.Run.{call, IsByWords}
+use Rattle.bugnet.proofs.Asks.{none-saved, line-none, line-acts}
 use Rattle.bugnet.proofs.Prints.{appends-nothing}
 use Rattle.bugnet.proofs.Tells.{refusal-answers, answer-answers, tells-from}
 use Rattle.bugnet.proofs.Causes.{refusal-causes, refusal-words, answer-words}
@@ -57,4 +58,17 @@ returns-in-Err-clause-recorded g c =
 pub returns-in-Ok-clause-recorded : goal.returns-in-Ok-clause-recorded
 returns-in-Ok-clause-recorded g c =
     let k = call (g.S.Store.files) (g.S.Store.counts) (g.O.Sink.written) (g.O.Sink.faults) (g.X.Sink.written) (g.X.Sink.faults) c.args.store.now c.args.out.now c.args.err.now c.act.new.store c.act.new.out c.act.new.err in
-    call-leaves c.seeds_are_whole.ensures c.files_keep_to_their_size.ensures (seen c.args.command.now) c.act.result k c.in-Ok.ensures.image (returns-in-Ok-clause-told g c)
+    call-leaves c.seeds_are_whole.ensures c.files_keep_to_their_size.ensures (seen c.args.command.now) c.act.result k c.in-Ok.ensures.bytes (returns-in-Ok-clause-told g c)
+
+pub returns-in-Err-clause-saves : goal.returns-in-Err-clause-saves
+returns-in-Err-clause-saves g c =
+    line-none (Some (seen c.args.command.now)) c.refuse.result (g.S.Store.saves c.args.store.now) (g.S.Store.saves c.answer_to.new.store)
+    (none-saved c.refuse.result
+    (told-apart c.names_of-names.result c.in-Err.refusal c.refuse.result (g.X.Sink.written c.args.err.now) (g.X.Sink.written c.refuse.new.err) (g.X.Sink.faults c.args.err.now) (g.X.Sink.faults c.refuse.new.err) c.refuse.ensures.told)
+    (refusal-causes _ (refusal_in (seen c.args.command.now)) _ _ c.names_of-names.result c.in-Err.refusal c.refuse.result _ _ _ _ c.in-Err.ensures.cause c.refuse.ensures.told).write)
+    c.in-Err.ensures.asks
+
+pub returns-in-Ok-clause-saves : goal.returns-in-Ok-clause-saves
+returns-in-Ok-clause-saves g c =
+    line-acts (seen c.args.command.now) c.in-Ok.answer c.act.result (g.S.Store.saves c.args.store.now) (g.S.Store.saves c.answer_to.new.store) (g.S.Store.saves c.act.new.store)
+    c.in-Ok.ensures.records c.in-Ok.ensures.prints c.in-Ok.ensures.asks c.act.ensures.saves

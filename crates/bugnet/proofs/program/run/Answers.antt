@@ -6,8 +6,10 @@ use Rattle.bugnet.specs.Names.{FileNames}
 use Rattle.bugnet.specs.Answers.{names_by, refusal_by}
 use Rattle.bugnet.specs.Told.{refused}
 use Rattle.bugnet.specs.Outside.{ToldRefusal}
-use Rattle.bugnet.specs.Run.{call, Answers, ByWords}
+use Rattle.bugnet.specs.Run.{call, TellsAnswer, ByWords}
 use Rattle.bugnet.specs.declared.refusal.Refusal.TheVariants.{WordsRefused, OutOfMemory}
+use Rattle.bugnet.specs.Asks.{LineSaves}
+use Rattle.bugnet.proofs.Asks.{line-none, memory-saves}
 use Rattle.bugnet.proofs.Prints.{appends-nothing}
 use Rattle.bugnet.proofs.Tells.{refusal-answers, memory-names, with-any, answers-keep, answers-few}
 use Rattle.bugnet.proofs.Causes.{memory-words}
@@ -21,7 +23,7 @@ pub returns-in-Err-Refused-clause-told : goal.returns-in-Err-Refused-clause-told
 returns-in-Err-Refused-clause-told g c =
     let k = call (g.S.Store.files) (g.S.Store.counts) (g.O.Sink.written) (g.O.Sink.faults) (g.X.Sink.written) (g.X.Sink.faults) c.args.store.now c.args.out.now c.args.err.now c.args.store.now c.args.out.now c.refuse.new.err in
     let none : command_in c.args.words.now ≡ None = c.read_words.ensures.refused (c.in-Err-Refused.is ∙ ap (λ (e : WordsError). Err e) c.in-Err-Refused.field-0-is) in
-    subst (λ (l : Option Line). Answers l c.refuse.result k) (sym none)
+    subst (λ (l : Option Line). TellsAnswer l c.refuse.result k) (sym none)
     (refusal-answers None c.none.result WordsRefused c.refuse.result k c.none.ensures (appends-nothing (g.O.Sink.written c.args.out.now)) refl
     (with-any (g.S.Store.files c.args.store.now) _ (λ files. inr (ap (λ (n : FileNames). refused n WordsRefused) c.none.ensures))) c.refuse.ensures.told)
 
@@ -79,7 +81,7 @@ returns-in-Err-OutOfMemory-clause-others g c =
 pub returns-in-Ok-clause-told : goal.returns-in-Ok-clause-told
 returns-in-Ok-clause-told g c =
     let k = call (g.S.Store.files) (g.S.Store.counts) (g.O.Sink.written) (g.O.Sink.faults) (g.X.Sink.written) (g.X.Sink.faults) c.args.store.now c.args.out.now c.args.err.now c.obey.new.store c.obey.new.out c.obey.new.err in
-    subst (λ (l : Option Line). Answers l c.obey.result k) (sym c.in-Ok.ensures.taken) c.obey.ensures.told
+    subst (λ (l : Option Line). TellsAnswer l c.obey.result k) (sym c.in-Ok.ensures.taken) c.obey.ensures.told
 
 pub returns-in-Ok-clause-words : goal.returns-in-Ok-clause-words
 returns-in-Ok-clause-words g c =
@@ -130,3 +132,18 @@ pub returns-in-Ok-clause-done : goal.returns-in-Ok-clause-done
 returns-in-Ok-clause-done g c =
     let k = call (g.S.Store.files) (g.S.Store.counts) (g.O.Sink.written) (g.O.Sink.faults) (g.X.Sink.written) (g.X.Sink.faults) c.args.store.now c.args.out.now c.args.err.now c.obey.new.store c.obey.new.out c.obey.new.err in
     call-done c.each_can_be_done.ensures c.one_answer.ensures (command_in c.args.words.now) c.obey.result k (returns-in-Ok-clause-told g c)
+
+pub returns-in-Err-Refused-clause-saves : goal.returns-in-Err-Refused-clause-saves
+returns-in-Err-Refused-clause-saves g c =
+    let none : command_in c.args.words.now ≡ None = c.read_words.ensures.refused (c.in-Err-Refused.is ∙ ap (λ (e : WordsError). Err e) c.in-Err-Refused.field-0-is) in
+    subst (λ (l : Option Line). LineSaves l c.refuse.result (g.S.Store.saves c.args.store.now) (g.S.Store.saves c.args.store.now)) (sym none) refl
+
+pub returns-in-Err-OutOfMemory-clause-saves : goal.returns-in-Err-OutOfMemory-clause-saves
+returns-in-Err-OutOfMemory-clause-saves g c =
+    let refuse = c.refuse-in-Err-OutOfMemory in
+    line-none (command_in c.args.words.now) refuse.result (g.S.Store.saves c.args.store.now) (g.S.Store.saves c.args.store.now)
+    (memory-saves c.none-in-Err-OutOfMemory.result refuse.result (g.X.Sink.written c.args.err.now) (g.X.Sink.written refuse.new.err) (g.X.Sink.faults c.args.err.now) (g.X.Sink.faults refuse.new.err) refuse.ensures.told) refl
+
+pub returns-in-Ok-clause-saves : goal.returns-in-Ok-clause-saves
+returns-in-Ok-clause-saves g c =
+    subst (λ (l : Option Line). LineSaves l c.obey.result (g.S.Store.saves c.args.store.now) (g.S.Store.saves c.obey.new.store)) (sym c.in-Ok.ensures.taken) c.obey.ensures.saves
