@@ -1,9 +1,9 @@
 #!/usr/bin/env bash
 # Times the whole program on examples/sort.elf: its recording, the replay of its longest interval,
-# and the reading of a full log of 64 MiB. Beside them stand qemu-riscv32 on the same program, one
-# instruction at a time too, and sha256sum on the same log. Then how much memory the list of turns
-# takes, and last how far back a log of 1 MiB reaches in each example. It prints ratios; the times
-# beside them are those of the machine and of the moment.
+# and the reading of a full log of 64 MiB, with the memory that it takes. Beside them stand
+# qemu-riscv32 on the same program, one instruction at a time too, and sha256sum on the same log.
+# Then how much memory the list of turns takes, and last how far back a log of 1 MiB reaches in each
+# example. It prints ratios; the times beside them are those of the machine and of the moment.
 #
 # bench/programs.sh [RUNS]: each is run RUNS times (3), and the least processor time counts.
 set -eu
@@ -35,6 +35,16 @@ seconds() {
 
 # The number behind a word of the summary that was last on err.
 told() { sed -n "s/^bugnet: .*$1 \([0-9]*\).*/\1/p" "$work/err"; }
+
+peak() { # WORD..: the most memory that they took, in KiB; a recording may end with the limit's 11
+    local status=0
+    /usr/bin/time -f %M -o "$work/peak" "$@" >/dev/null 2>"$work/err" || status=$?
+    if [ "$status" -ne 0 ] && [ "$status" -ne 11 ]; then
+        cat "$work/err" >&2
+        exit 1
+    fi
+    tail -1 "$work/peak"
+}
 
 # rate WHAT COUNT UNIT SECONDS, then pairs of OTHER OTHER_SECONDS: how many a second, and beside
 # the others how many times their speed.
@@ -94,17 +104,15 @@ checked=$(seconds 0 "$zelkuma" check "$work/LOG")
 listed=$(seconds 0 "$zelkuma" list "$work/LOG")
 rate check "$kept" bytes "$checked" sha256sum "$digested"
 rate list "$kept" bytes "$listed" "check" "$checked"
+if [ -x /usr/bin/time ]; then
+    for command in check list; do
+        most=$(peak "$zelkuma" "$command" "$work/LOG")
+        awk -v what="$command" -v most="$most" -v bytes="$(stat -c %s "$work/LOG")" \
+            'BEGIN { printf "%s: %.2f bytes of memory at the peak for a byte of log\n", what, most * 1024 / bytes }'
+    done
+fi
 
 # What a turn takes is the difference between this recording and one of half as many instructions.
-peak() { # WORD..: the most memory that they took, in KiB; a recording may end with the limit's 11
-    local status=0
-    /usr/bin/time -f %M -o "$work/peak" "$@" >/dev/null 2>"$work/err" || status=$?
-    if [ "$status" -ne 0 ] && [ "$status" -ne 11 ]; then
-        cat "$work/err" >&2
-        exit 1
-    fi
-    tail -1 "$work/peak"
-}
 if [ -x /usr/bin/time ]; then
     most=$(peak "$zelkuma" "${record[@]}" "$elf" "$work/LOG" "$work/BOOK")
     less=$(peak "$zelkuma" "${record[@]}" --limit $((instructions / 2)) "$elf" "$work/LOG" "$work/BOOK")

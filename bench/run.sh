@@ -5,6 +5,8 @@
 #
 # bench/run.sh [COUNT [RUNS]]: the meaning of so many instructions is timed RUNS times, in turns with
 # its twin, and the best of each counts, so that a busy moment of the machine spoils no ratio.
+#
+# bench/touches.sh times touches of a cache beside those of an earlier commit.
 set -eu
 top=$(cd "$(dirname "$0")/.." && pwd)
 work=$(mktemp -d)

@@ -23,7 +23,7 @@ path=$work/kit/bin:$without
 cat >"$work/kit/bin/rt" <<'END'
 #!/usr/bin/env bash
 echo "$*" >>"$RT_CALLS"
-below="../low ../mid ../bugnet ."
+below="../low ../side ../mid ../bugnet ."
 case $1 in
 version) cat "$(dirname "$0")/../named" ;;
 all)
@@ -33,12 +33,21 @@ all)
         sleep "${RT_SLEEP:-0}"
         echo "== $name"
         echo "fn $name::quiet: proved"
-        grep -q wrong $folder/src/* && echo "fn $name::loud: not proved" && failed="$failed $name"
+        if grep -q wrong $folder/src/*; then
+            echo "fn $name::loud: not proved" && failed="$failed $name"
+        else
+            echo "logic=proved functions=1"
+        fi
     done
     echo "== summary"
     echo ended >>"$RT_CALLS"
     for name in $failed; do echo "$name: failed (1)"; done
     [ -z "$failed" ]
+    ;;
+lib)
+    sleep "${RT_SLEEP:-0}"
+    grep -q wrong src/* && echo "fn $(basename "$PWD")::loud: not proved" && exit 1
+    echo "logic=proved functions=1"
     ;;
 run)
     text=$(cat ../low/src/* ../mid/src/* ../bugnet/src/* src/*)
@@ -57,7 +66,7 @@ PROGRAM
         chmod +x out/bugnet_main
         echo "$text" >out/built
     fi
-    [ "$2 $3 $4" = "-- check data/example.log" ] && out/bugnet_main check data/example.log
+    [ "$2 $4 $5 $6" = "--jobs -- check data/example.log" ] && out/bugnet_main check data/example.log
     ;;
 esac
 END
@@ -68,12 +77,13 @@ cp -r "$top/zelkuma" "$top/tools" "$tree"
 cat >"$tree/crates.txt" <<'END'
 # a comment
 low: clap
+side:
 mid: low
-bugnet: mid low
+bugnet: mid low side
 bench: low # which the program doesn't stand on
 bugnet_main: bugnet
 END
-for name in low mid bugnet bench bugnet_main; do
+for name in low side mid bugnet bench bugnet_main; do
     mkdir -p "$tree/crates/$name/src"
     echo "$name as it was" >"$tree/crates/$name/src/lib.rt"
 done
@@ -119,12 +129,17 @@ path=$without runs 1 "$zelkuma" list LOG
 has err "no command rt of a Rattle kit.*rattle-kit-13f or rattle-kit-13b"
 
 what="the first call"
-runs 14 "$zelkuma" list "a LOG"
+RT_SLEEP=0.3 runs 14 "$zelkuma" list "a LOG"
 answers list a LOG
-has err "1 of 4, low; now or next: mid$"
-has err "3 of 4, bugnet; now or next: bugnet_main$"
+has err "1 of 5, low; now or next: mid side$"
+has err "4 of 5, bugnet; now or next: bugnet_main$"
 hasnt err note
-[ "$(grep -c " of 4, " "$work/err")" -eq 4 ] || fails "not one line a crate"
+[ "$(grep -c " of 5, " "$work/err")" -eq 5 ] || fails "not one line a crate"
+
+what="the crates that nothing can be proved beside"
+[ "$(grep -c ^all "$calls")" -eq 1 ] || fails "not one call for those that stand side by side"
+hasnt calls ended
+[ "$(grep ^lib "$calls")" = "lib --jobs $(grep '^run' "$calls" | cut -d ' ' -f 3)" ] || fails "the library under the program has one job"
 
 what="the second call"
 runs 14 "$zelkuma" list LOG

@@ -27,40 +27,85 @@ coming() {
     done | sort | tr '\n' ' '
 }
 
-# Runs rt on the program. It says on err which crates have ended, and what went wrong where rt fails.
+# Whether one crate alone is to come, which wasn't yet among those that were.
+comes_alone() { # BEFORE
+    local next
+    next=$(coming)
+    [[ -n $next && $next != *" "*" "* && " $1" != *" $next"* ]]
+}
+
+# Says that a crate has ended, once.
+ends() { # CRATE
+    local next
+    [[ ! -v ended[$1] ]] || return 0
+    ended[$1]=1
+    next=$(coming)
+    say "${#ended[@]} of ${#below[@]}, $1${next:+; now or next: ${next% }}"
+}
+
+# Runs rt in a crate's folder. It says on err which crates have ended, and what went wrong where rt fails.
 #
-# `rt all` proves the crates that changed side by side, each once those below it are done; calls of
-# `rt lib` would wait for each other, since each locks the crates below its own.
-rt_does() { # WORD..
-    local line at=start next failed=()
-    local -A ended said
-    exec 8< <(cd "$folder" && exec rt "$@" 2>&1 </dev/null)
+# `rt all` proves the crates that changed side by side, each on one processor, once those below it are
+# done; calls of `rt lib` would wait for each other, since each locks the crates below its own. Where the
+# crate that just ended lets only one begin, `rt all` is stopped: that crate has all processors then.
+rt_does() { # CRATE WORD..
+    local at=$1 line before next failed=()
+    local -A said open
+    [ "$2" != all ] || at=start
+    exec 8< <(cd "$top/crates/$1" && exec rt "${@:2}" 2>&1 </dev/null)
     child=$!
     while IFS= read -r line <&8; do
         case $line in
         "== summary") at=summary ;;
         "== "*)
             at=${line#== }
-            ended[$at]=1
-            next=$(coming)
-            say "${#ended[@]} of ${#below[@]}, $at${next:+; now or next: ${next% }}"
+            before=$(coming)
+            ends "$at"
+            continue
             ;;
         "rt: waiting"*) say "$line" ;;
         *": failed ("*) [[ $at != summary ]] || failed+=("${line%%:*}") ;;
         esac
         said[$at]+=$line$'\n'
+        # a crate that needed no proof says nothing, and one that was proved says this at its end
+        if [[ $line != "logic=proved "* ]]; then
+            open[$at]=1
+            continue
+        fi
+        unset "open[$at]"
+        if [[ $2 == all && ${#open[@]} -eq 0 ]] && comes_alone "$before"; then
+            kill "$child" 2>/dev/null
+            exec 8<&-
+            wait "$child"
+            return 0
+        fi
     done
     exec 8<&-
     wait "$child" && return
+    [ "$2" != lib ] || failed=("$1")
     for at in "${failed[@]:-$at}"; do
         printf '%s' "${said[$at]-}" | grep -vE ': proved|modules loaded=' | tail -n 40 >&2
     done
     stop 1 "the program was not built${failed:+; not proved: ${failed[*]}}"
 }
 
+# Proves the libraries that the program stands on: as many as there are lanes side by side, and one that
+# nothing can be proved beside with a job for each processor.
+prove() { # JOBS
+    local next
+    while next=$(coming) && [[ -n $next && $next != "bugnet_main " ]]; do
+        if [[ $next == *" "*" "* ]]; then
+            rt_does bugnet_main all check --jobs "$ZELKUMA_LANES"
+        else
+            rt_does "${next% }" lib --jobs "$1"
+            ends "${next% }"
+        fi
+    done
+}
+
 build() {
-    local kit sources name on child=
-    local -A below
+    local kit sources name on jobs child=
+    local -A below ended
     kit=$(kit) || stop 1 "there is no command rt of a Rattle kit here, which proves and builds the program: put the folder bin of ${kits/ / or } on PATH, or bring the program from where it is built ('zelkuma install')"
     [[ " $kits " == *" ${kit%% *} "* ]] ||
         say "note: rt is of ${kit%% *}; if a proof fails, put the folder bin of ${kits/ / or } first on PATH"
@@ -70,9 +115,11 @@ build() {
     sources=$(sources)
     trap 'kill $child 2>/dev/null; wait $child; stop 130 "stopped; the crates that are done stay proved"' INT TERM HUP
     say "proving and building the program, ${#below[@]} crates, up to ${ZELKUMA_LANES:=$(lanes)} at a time; README says how long that takes from nothing"
-    rt_does all check --jobs "$ZELKUMA_LANES"
+    jobs=$(($(nproc) < ZELKUMA_LANES ? $(nproc) : ZELKUMA_LANES))
+    prove "$jobs"
     # That the program checks an example's log tells that it was built: rt ends with its status.
-    rt_does run -- check data/example.log
+    rt_does bugnet_main run --jobs "$jobs" -- check data/example.log
+    ends bugnet_main
     trap - INT TERM HUP
     made "$sources" "$kit" >"$stamp"
 }

@@ -1,6 +1,4 @@
-use le_numbers::{
-    push_u16, push_u32, push_u64, read_u16, read_u32, read_u64, write_u32, write_u64,
-};
+use le_numbers::{push_u32, push_u64, read_u16, read_u32, read_u64, write_u32, write_u64};
 use std::test::*;
 
 #[test]
@@ -26,12 +24,11 @@ fn numbers_stand_where_they_are_written(rt: HostRuntime) -> Result<(), Fail> {
 #[test]
 fn numbers_are_appended(rt: HostRuntime) -> Result<(), Fail> {
     let mut out = Vec::new(rt.alloc());
-    push_u16(&mut out, 0x0201)?;
-    push_u32(&mut out, 0x0605_0403)?;
-    push_u64(&mut out, 0x0e0d_0c0b_0a09_0807)?;
+    push_u32(&mut out, 0x0403_0201)?;
+    push_u64(&mut out, 0x0c0b_0a09_0807_0605)?;
     assert_eq!(rt;
         out.as_slice(),
-        [1, 2, 3, 4, 5, 6, 7, 8, 9, 10, 11, 12, 13, 14].as_slice()
+        [1, 2, 3, 4, 5, 6, 7, 8, 9, 10, 11, 12].as_slice()
     );
     Ok(())
 }

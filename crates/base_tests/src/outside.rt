@@ -131,14 +131,14 @@ fn source_of(alloc: Global, bytes: &[u8], failing: u64) -> Result<MemorySource, 
 #[test]
 fn a_source_is_read_in_pieces_to_its_end_or_the_limit(rt: HostRuntime) -> Result<(), Fail> {
     let alloc = rt.alloc();
-    for (limit, failing, expected) in [
-        (8, 9, None),
-        (usize::MAX, 9, None),
-        (7, 9, Some(ReadError::TooLong)),
-        (8, 2, Some(ReadError::Failed)),
+    for (room, limit, failing, expected) in [
+        (0, 8, 9, None),
+        (100, usize::MAX, 9, None),
+        (8, 7, 9, Some(ReadError::TooLong)),
+        (5, 8, 2, Some(ReadError::Failed)),
     ] {
         let mut source = source_of(alloc, b"abcdefgh", failing)?;
-        match read_to_end(alloc, &mut source, limit) {
+        match read_to_end(alloc, &mut source, room, limit) {
             Ok(bytes) => {
                 assert_eq!(rt; None, expected);
                 assert_eq!(rt; bytes.as_slice(), b"abcdefgh".as_slice());

@@ -56,7 +56,7 @@ pub fn files(rt: &HostRuntime, count: u64) -> anyhow::Result<()> {
     };
     let _format = head.settings.format();
     let clock = Instant::now(rt)?;
-    let file = write_file(rt.alloc(), &head, 1, &records)?;
+    let file = write_file(rt.alloc(), &head, 1, &records, &[])?;
     let written = rate_since(rt, clock, file.len() as u64)?;
     let clock = Instant::now(rt)?;
     let log = read_file(rt.alloc(), &file);

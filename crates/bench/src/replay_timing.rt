@@ -74,7 +74,7 @@ fn file(alloc: Global, count: u64) -> anyhow::Result<Vec<u8>>
         records.len() <= head.settings.log_size() as usize,
         "a log too long"
     );
-    Ok(write_file(alloc, &head, 0, &records)?)
+    Ok(write_file(alloc, &head, 0, &records, &[])?)
 }
 
 // The value of a written register, or 0.

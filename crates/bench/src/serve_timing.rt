@@ -1,9 +1,10 @@
 // Served asks: how many a second, of one hart and of eight that take turns.
 use crate::meaning_timing::{MIXED, program};
 use crate::rate::rate_since;
-use bn_base::{HartId, RawSettings, Settings};
+use bn_base::{HartId, Image, RawSettings, Settings};
 use bn_outside::LeanBook;
 use bus_core::Bus;
+use log_ring::Ring;
 use run_model::Start;
 use rv_meaning::{Ask, DecodedImage};
 use std::alloc::Global;
@@ -44,20 +45,35 @@ fn serve(
     Ok(())
 }
 
-fn timed(rt: &HostRuntime, harts: HartId, count: u64) -> anyhow::Result<()> {
-    let start = beginning(rt.alloc(), harts)?;
-    let code = DecodedImage::new(rt.alloc(), &start.image)?;
-    let mut bus = Bus::new(rt.alloc(), &start, LeanBook)?;
+// How many asks a second a bus serves, with its code decoded ahead.
+fn rate_of(
+    rt: &HostRuntime,
+    bus: &mut Bus<LeanBook>,
+    image: &Image,
+    harts: HartId,
+    count: u64,
+) -> anyhow::Result<u64> {
+    let code = DecodedImage::new(rt.alloc(), image)?;
     let clock = Instant::now(rt)?;
-    serve(&mut bus, &code, harts, count)?;
-    let rate = rate_since(rt, clock, count)?;
-    let closed = bus.close();
-    let kept = closed.ring.len();
-    let dropped = closed.ring.dropped();
+    serve(bus, &code, harts, count)?;
+    rate_since(rt, clock, count)
+}
+
+// Prints it, and what the log kept.
+fn tell(rt: &HostRuntime, harts: HartId, rate: u64, ring: &Ring) -> anyhow::Result<()> {
+    let kept = ring.len();
+    let dropped = ring.dropped();
     println!(rt;
         "serve {harts} harts: {rate} asks a second, kept {kept} bytes, dropped {dropped} records"
     )?;
     Ok(())
+}
+
+fn timed(rt: &HostRuntime, harts: HartId, count: u64) -> anyhow::Result<()> {
+    let start = beginning(rt.alloc(), harts)?;
+    let mut bus = Bus::new(rt.alloc(), &start, LeanBook)?;
+    let rate = rate_of(rt, &mut bus, &start.image, harts, count)?;
+    tell(rt, harts, rate, &bus.close().ring)
 }
 
 /// Times so many served asks of one hart, and then of eight.

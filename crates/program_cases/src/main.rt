@@ -1,9 +1,11 @@
-//! Runs the top call on files in memory, by the cases on standard input, and prints what comes of
-//! each call: its status, its texts and the files that a case asks to see.
+//! Runs the cases on standard input, and prints what comes of each. Some call the program on files in
+//! memory: what is printed is its status, its texts and the files that a case asks to see. Others are
+//! runs below it, of the plain machine, of the bus and whole ones: what is printed is what they hand
+//! over, with a hart's End as its count, reason and value.
 //!
 //! | line | what it does |
 //! |---|---|
-//! | `# TEXT` | begins a case, with no file, and prints the line |
+//! | `# TEXT` | begins a case, with no file, code or input and by default settings, and prints the line |
 //! | `program NAME WORD ..` | a program file of these code words, in hexadecimal |
 //! | `bytes NAME HEX` | these bytes behind those that the file has |
 //! | `put NAME PLACE HEX` | these bytes in place of those from a place on |
@@ -13,19 +15,37 @@
 //! | `failing-out CALL ..` | the next call's out fails at its writes of these numbers |
 //! | `run WORD ..` | the program with these words |
 //! | `size NAME`, `show NAME` | how long a file is, and its bytes |
+//! | `code WORD ..` | at most 64 code words at 0x10054, in hexadecimal, which runs have in place of a file |
+//! | `input HEX` | the bytes that their calls read |
+//! | `set NAME N` | one of their settings: `harts`, `interval` or `line` |
+//! | `plain HART ..` | turns on a plain machine |
+//! | `serve STEP ..`, `serve-lean STEP ..` | steps on a bus whose book tells its rows, or tells nothing |
+//! | `turns HART ..`, `turns-lean HART ..` | the whole run of a list of turns, with such a book |
+//! | `seed N`, `seed-listed N` | the whole run of a number's turns; the same with their list, and a book that tells nothing |
+//! | `records FIRST END` | the bytes of the last run's records from a place up to another |
+//! | `same` | whether the last two runs have the same records |
+//!
+//! A step is a hart's number, for a turn; `ahead-HART`, where the hart does its quiet instructions but
+//! isn't served; `stray-HART`, where it asks to store into its code, which no hart can; or `halt`. Behind
+//! each stand the harts that are live.
 #![tactic(auto)]
 
 mod files;
 mod hex;
 mod machine;
+mod runs;
 mod script;
+mod serving;
+mod telling;
+mod whole_runs;
+mod words;
 
-use machine::Machine;
+use script::Case;
 
 fn main(rt: HostRuntime) -> anyhow::Result<()> {
-    let mut machine = Machine::new(rt.alloc(), Vec::new(rt.alloc()));
+    let mut case = Case::new(rt.alloc());
     for line in rt.lines(rt.alloc()) {
-        script::step(&rt, &mut machine, &line?)?;
+        case.step(&rt, &line?)?;
     }
     Ok(())
 }

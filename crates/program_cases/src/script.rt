@@ -1,42 +1,9 @@
 // The lines of a script of cases.
 use crate::machine::Machine;
+use crate::runs::Runs;
+use crate::words::{code, number, numbers, words_of};
 use crate::{files, hex};
 use std::alloc::Global;
-
-// The words of a line.
-fn words_of<'a>(alloc: Global, line: &'a str) -> anyhow::Result<Vec<&'a str>> {
-    let mut words = Vec::new(alloc);
-    for word in line.split_whitespace() {
-        words.push(word)?;
-    }
-    Ok(words)
-}
-
-// A word as a number.
-fn number(word: Option<&&str>) -> anyhow::Result<usize> {
-    match word {
-        Some(word) => Ok(word.parse::<usize>()?),
-        None => Err(anyhow::anyhow!("a number is wanted")),
-    }
-}
-
-// Numbers from words.
-fn numbers(alloc: Global, words: &[&str]) -> anyhow::Result<Vec<u64>> {
-    let mut numbers = Vec::new(alloc);
-    for word in words {
-        numbers.push(word.parse::<u64>()?)?;
-    }
-    Ok(numbers)
-}
-
-// Code words from their digits, the most significant first.
-fn code(alloc: Global, words: &[&str]) -> anyhow::Result<Vec<u32>> {
-    let mut code = Vec::new(alloc);
-    for word in words {
-        code.push(u32::from_str_radix(word, 16)?)?;
-    }
-    Ok(code)
-}
 
 // A file with these bytes in place of its own from a place on.
 fn patched(mut file: Vec<u8>, place: usize, bytes: &[u8]) -> Vec<u8> {
@@ -108,30 +75,57 @@ fn show<R: Print>(rt: &R, machine: &Machine, name: &str, whole: bool) -> anyhow:
     Ok(())
 }
 
-/// Does what a line of the script says.
-pub fn step<R: Print + AllocGlobal>(
-    rt: &R,
-    machine: &mut Machine,
-    line: &str,
-) -> anyhow::Result<()> {
-    let alloc = rt.alloc();
-    let words = words_of(alloc, line)?;
-    let verb = words.first().copied().unwrap_or("");
-    let name = words.get(1).copied().unwrap_or("");
-    if verb == "#" {
-        *machine = Machine::new(alloc, Vec::new(alloc));
-        println!(rt; "{line}")?;
-    } else if verb == "failing-store" {
-        *machine = Machine::new(alloc, numbers(alloc, words.get(1..).unwrap_or(&[]))?);
-    } else if verb == "failing-out" {
-        machine.failing = numbers(alloc, words.get(1..).unwrap_or(&[]))?;
-    } else if verb == "run" {
-        run(rt, machine, line, words.get(1..).unwrap_or(&[]))?;
-    } else if verb == "size" || verb == "show" {
-        show(rt, machine, name, verb == "show")?;
-    } else if verb != "" {
-        let file = changed(alloc, machine, verb, name, words.get(2..).unwrap_or(&[]))?;
-        machine.store.put(name, &file)?;
+/// What a case has made so far.
+#[derive(Drop)]
+pub struct Case {
+    alloc: Global,
+    machine: Machine,
+    runs: Runs,
+}
+
+impl Case {
+    /// A case with no file and no run.
+    pub fn new(alloc: Global) -> Case {
+        Case {
+            alloc,
+            machine: Machine::new(alloc, Vec::new(alloc)),
+            runs: Runs::new(alloc),
+        }
     }
-    Ok(())
+
+    // Does what a line about files and calls of the program says.
+    fn call_step<R: Print>(&mut self, rt: &R, line: &str, words: &[&str]) -> anyhow::Result<()> {
+        let verb = words.first().copied().unwrap_or("");
+        let name = words.get(1).copied().unwrap_or("");
+        if verb == "failing-store" {
+            let calls = numbers(self.alloc, words.get(1..).unwrap_or(&[]))?;
+            self.machine = Machine::new(self.alloc, calls);
+        } else if verb == "failing-out" {
+            self.machine.failing = numbers(self.alloc, words.get(1..).unwrap_or(&[]))?;
+        } else if verb == "run" {
+            run(rt, &mut self.machine, line, words.get(1..).unwrap_or(&[]))?;
+        } else if verb == "size" || verb == "show" {
+            show(rt, &self.machine, name, verb == "show")?;
+        } else {
+            let rest = words.get(2..).unwrap_or(&[]);
+            let file = changed(self.alloc, &self.machine, verb, name, rest)?;
+            self.machine.store.put(name, &file)?;
+        }
+        Ok(())
+    }
+
+    /// Does what a line of the script says.
+    pub fn step<R: Print>(&mut self, rt: &R, line: &str) -> anyhow::Result<()> {
+        let words = words_of(self.alloc, line)?;
+        let verb = words.first().copied().unwrap_or("");
+        if verb == "#" {
+            *self = Case::new(self.alloc);
+            println!(rt; "{line}")?;
+            return Ok(());
+        }
+        if verb == "" || self.runs.step(rt, verb, words.get(1..).unwrap_or(&[]))? {
+            return Ok(());
+        }
+        self.call_step(rt, line, &words)
+    }
 }
