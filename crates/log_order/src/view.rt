@@ -256,6 +256,7 @@ impl HartView {
     }
 
     /// The hart after a record of its own. The error is the lowest rule that the record breaks.
+    #[inline(always)]
     pub fn after(self, terms: &Terms, entry: &Record) -> Result<HartView, u8>
         ensures { result ≡ after_one terms.now self entry.now }
     {

@@ -42,6 +42,7 @@ fn has_source(harts: usize, entry: &Record) -> bool
 
 /// Takes one more record into the views of all harts. The error is the lowest rule that it breaks.
 #[tactic(auto, unfolding(crate::specs::Order::step))]
+#[inline(always)]
 pub fn step(terms: &Terms, harts: &mut [HartView], entry: &Record) -> Result<(), u8>
     ensures { Steps result harts.new (step terms.now harts.old entry.now) }
 {

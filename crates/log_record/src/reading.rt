@@ -17,6 +17,7 @@ const BREAKPOINT: u8 = FAULT + 2;
 const LAST_FAULT: u8 = FAULT + 9;
 
 /// How many bytes a record has that begins with this byte, its tag; `None` where none begins so.
+#[inline(always)]
 pub fn size(tag: u8) -> Option<usize>
     ensures value { result ≡ size_of tag }
     ensures bounds { IfSome result (λ size. (2 ≤ size) × (size ≤ 146)) }
@@ -58,6 +59,7 @@ fn is_mark(format: u8, mark: &EndMark) -> bool
     has_value(mark.reason) || (has_no_value(format, mark.reason) && mark.value == 0)
 }
 
+#[inline(always)]
 fn is_marked(format: u8, entry: &Record) -> bool
     ensures { result ≡ is_marked format entry.now }
 {
@@ -93,6 +95,7 @@ fn header_in(bytes: &[u8]) -> Record
 }
 
 #[tactic(auto, unfolding(crate::specs::Reading::first_load_in))]
+#[inline(always)]
 fn first_load_in(bytes: &[u8]) -> Record
     requires { 10 ≤ length bytes.now }
     ensures { result ≡ first_load_in bytes.now }
@@ -134,6 +137,7 @@ fn end_in(bytes: &[u8]) -> Record
 
 // The record that the fields make, whatever an End's mark.
 #[tactic(auto, unfolding(crate::specs::Reading::record_in))]
+#[inline(always)]
 fn record_in(bytes: &[u8], size: usize) -> Record
     requires size { size_of (slice_index bytes.now 0) ≡ Some size }
     requires enough { size ≤ length bytes.now }
@@ -152,6 +156,7 @@ fn record_in(bytes: &[u8], size: usize) -> Record
 /// The record of a log of this version that is at the front of some bytes, and how many bytes it
 /// has. Others may follow it. `None` comes exactly where no such record's bytes are at the front.
 /// Version 2 has one more reason of an End, the guard's.
+#[inline(always)]
 pub fn read_as(format: u8, bytes: &[u8]) -> Option<(Record, usize)>
     // What is read stands there.
     ensures found { IfSome result (λ x. BeginsWith format bytes.now x.0 x.1) }
@@ -176,6 +181,7 @@ pub fn read_as(format: u8, bytes: &[u8]) -> Option<(Record, usize)>
 
 /// The record of a log of version 1 that is at the front of some bytes, and how many bytes it has.
 /// `None` comes exactly where no such record's bytes are at the front.
+#[inline(always)]
 pub fn read(bytes: &[u8]) -> Option<(Record, usize)>
     ensures found { IfSome result (λ x. BeginsWith 1 bytes.now x.0 x.1) }
     ensures only { (r : Record) (rest : List ℕ) → Fits 1 r → bytes.now ≡ bytes_of r ++ rest → result ≡ Some (r, length (bytes_of r)) }
