@@ -27,3 +27,4 @@ pub mod Known
 pub mod NotedAlike
 pub mod SweepLemmas
 pub mod Swept
+pub mod HeldLemmas

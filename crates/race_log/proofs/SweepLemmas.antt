@@ -1,6 +1,5 @@
 -- Accesses that are given up.
-use Rattle.std.proofs.Common.{◌≡◌, ◌≢◌, ℕ, zero, suc, ◌+◌, ◌*◌, ◌<◌, ◌≤◌, not, refl, inl, inr, arith, sym, ap, ap₂, ◌∙◌, List, [], ◌∷◌, ◌++◌, Option, Some, slice_get, length, subst, length-append}
-use Rattle.std.proofs.lemmas.Bool.{cases_lt}
+use Rattle.std.proofs.Common.{◌≡◌, ◌≢◌, ℕ, zero, suc, ◌+◌, ◌*◌, ◌<◌, not, refl, arith, sym, ap, ap₂, ◌∙◌, List, [], ◌∷◌, ◌++◌, Option, Some, slice_get, length, subst, length-append}
 use Rattle.std.proofs.lemmas.List.{append_assoc, append-nil}
 use Rattle.std.proofs.lemmas.List.Elements.{filter-append}
 use Rattle.vector_time.specs.declared.times.Times.{Times}
@@ -8,7 +7,7 @@ use Rattle.race_log.specs.declared.slot.Slot.{Slot}
 use Rattle.race_log.specs.Kept.{Kept}
 use Rattle.race_log.specs.Slots.{write_in, read_in, reads_in, word_in}
 use Rattle.race_log.specs.Sweep.{is_covered, uncovered, GivesUp, sum_below}
-use Rattle.race_log.proofs.PageLemmas.{reads_same, word_none, places_apart}
+use Rattle.race_log.proofs.PageLemmas.{reads_same, word_none}
 
 -- ---- lists
 
@@ -35,7 +34,7 @@ reads_more counts page at hart (suc n) =
     (reads_more counts page at (suc hart) n ∙ ap (λ g. reads_in counts page at (suc hart) n ++ read_in counts g (slice_get page (at + g))) e)
     ∙ sym (append_assoc (read_in counts hart (slice_get page (at + hart))) (reads_in counts page at (suc hart) n) (read_in counts (hart + suc n) (slice_get page (at + (hart + suc n)))))
 
-read_next : (counts : ℕ → ℕ → ℕ) (page : List Slot) (at n : ℕ)
+pub read_next : (counts : ℕ → ℕ → ℕ) (page : List Slot) (at n : ℕ)
     → reads_in counts page at 0 (n + 1) ≡ reads_in counts page at 0 n ++ read_in counts n (slice_get page (at + n))
 read_next counts page at n =
     let next : n + 1 ≡ suc n = omega arith in

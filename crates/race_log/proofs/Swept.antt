@@ -1,5 +1,5 @@
 -- A shadow after a sweep.
-use Rattle.std.proofs.Common.{◌≡◌, ℕ, zero, suc, ◌<◌, ◌≤◌, ◌+◌, ◌*◌, Bool, true, false, not, ◌&&◌, ◌||◌, ◌==◌, nat_lt, ltb-true, refl, inl, inr, arith, sym, ap, ap₂, ◌∙◌, subst, min, bit_and, List, filter, slice_get, Some, All, IsTrue}
+use Rattle.std.proofs.Common.{◌≡◌, ℕ, zero, suc, ◌<◌, ◌+◌, ◌*◌, Bool, true, false, not, ◌&&◌, ◌||◌, ◌==◌, nat_lt, ltb-true, refl, inl, inr, arith, sym, ap, ap₂, ◌∙◌, subst, min, bit_and, List, filter, All, IsTrue}
 use Rattle.std.specs.Int.{bit_at}
 use Rattle.std.proofs.Math.Nat.{min-zero, zero-min}
 use Rattle.std.proofs.lemmas.Bool.{eq-eqb}
@@ -12,7 +12,7 @@ use Rattle.race_log.specs.Kept.{Kept, In, KeptAt, AllKnow, Suffices}
 use Rattle.race_log.specs.Sweep.{has_bit, all_below}
 use Rattle.race_log.specs.Words.{has_room, has_stretch, HasRoom}
 use Rattle.race_log.specs.Stands.{Stands, harts_of, lasts, lives_in, next_turn, times_of, kept_of, is_known}
-use Rattle.race_log.proofs.BoolFacts.{known, and_left, and_right, both, or_split, same_number}
+use Rattle.race_log.proofs.BoolFacts.{known, and_left, and_right, both, same_number}
 use Rattle.race_log.proofs.Rounds.{same_counts}
 use Rattle.race_log.proofs.KeptLemmas.{fewer_suffice}
 

@@ -37,8 +37,8 @@ impl Shadow {
     ghost use Rattle.race_log.specs.Tests.{sources_into};
     ghost use Rattle.race_log.specs.ByCount.{IsPointAt, IsEdgeBetween, IsLatestPoint, IsTimesOf};
     ghost use Rattle.race_log.specs.Kept.{access_point, after};
-    ghost use Rattle.race_log.specs.Sweep.{has_bit, is_covered};
-    ghost use Rattle.race_log.specs.Stands.{Stands, KnowsSame, harts_of, lasting_of, lasts, next_turn, next_count, times_of, kept_of, held_of, is_known, reserved_range};
+    ghost use Rattle.race_log.specs.Sweep.{has_bit, is_covered, accessed_below};
+    ghost use Rattle.race_log.specs.Stands.{Stands, KnowsSame, harts_of, lasting_of, lasts, next_turn, next_count, times_of, kept_of, words_of, held_of, is_known, reserved_range};
 
     /// Knows of no point and keeps nothing.
     pub fn new(alloc: Global, settings: &Settings) -> Result<Shadow, AllocError>
@@ -177,6 +177,15 @@ impl Shadow {
         let known = self.known_to_all(live);
         self.lasting &= live;
         self.words.sweep(&known)
+    }
+
+    /// How many accesses are kept: at most one more than there are harts for each word that was accessed so far.
+    pub fn held(&self) -> u64
+        ensures value { result ≡ held_of self.now }
+        ensures most { (run : List Point) (live : ℕ → Bool) → Stands run live self.now →
+            result ≤ (harts_of self.now + 1) * accessed_below run (words_of self.now) }
+    {
+        self.words.held()
     }
 
     // The points that the times of every hart of `live` cover: for each hart the least of their counts, and nothing where

@@ -1,5 +1,5 @@
 // What is given up of a page, and how many accesses it keeps.
-ghost use Rattle.std.specs.Prelude.{◌≡◌, ◌≢◌, ◌+◌, ◌-◌, ◌*◌, ◌<◌, ◌≤◌, ◌⊎◌, ◌&&◌, ◌||◌, not, ℕ, Some, length, nat_lt, slice_get, vec_len};
+ghost use Rattle.std.specs.Prelude.{◌≡◌, ◌≢◌, ◌+◌, ◌-◌, ◌*◌, ◌<◌, ◌≤◌, ◌^◌, ◌⊎◌, ◌&&◌, ◌||◌, not, ℕ, Some, length, nat_lt, slice_get, vec_len};
 ghost use Rattle.bn_base.specs.declared.settings.TheConstants.{HARTS};
 ghost use Rattle.race_log.specs.declared.mode.Mode.{Mode};
 ghost use Rattle.race_log.specs.declared.slot.Slot.{Slot};
@@ -149,4 +149,72 @@ pub fn give_up_page(page: &mut Vec<Slot>, harts: HartId, known: &Option<Times>) 
         gone += give_up_word(page, word * (harts as usize + 1), harts, known);
     }
     gone
+}
+
+// How many accesses a slot keeps.
+fn held_in(slot: &Slot) -> u64
+    ensures held { (counts : ℕ → ℕ → ℕ) (mode : Mode) (other : ℕ) → result ≡ length (kept_here counts mode other slot.now) }
+    ensures few { result ≤ 1 }
+{
+    if slot.after > 0 { 1 } else { 0 }
+}
+
+// How many accesses the first slot of a word keeps.
+fn held_write(page: &[Slot], at: usize) -> u64
+    ensures held { (counts : ℕ → ℕ → ℕ) → result ≡ length (write_in counts (slice_get page.now at)) }
+    ensures few { result ≤ 1 }
+{
+    match page.get(at) {
+        None => 0,
+        Some(slot) => held_in(slot),
+    }
+}
+
+// How many accesses the slot of a hart's read keeps.
+fn held_read(page: &[Slot], at: usize) -> u64
+    ensures held { (counts : ℕ → ℕ → ℕ) (other : ℕ) → result ≡ length (read_in counts other (slice_get page.now at)) }
+    ensures few { result ≤ 1 }
+{
+    match page.get(at) {
+        None => 0,
+        Some(slot) => held_in(slot),
+    }
+}
+
+// How many reads are kept of a word; their slots begin at `at`.
+fn held_reads(page: &[Slot], at: usize, harts: HartId) -> u64
+    requires { at < 2 ^ 32 }
+    ensures held { (counts : ℕ → ℕ → ℕ) → result ≡ length (reads_in counts page.now at 0 harts) }
+    ensures few { result ≤ harts }
+{
+    let mut held = 0u64;
+    for other in 0..harts {
+        held += held_read(page, at + other as usize);
+    }
+    held
+}
+
+// How many accesses are kept of the word whose slots begin at `at`.
+fn held_word(page: &[Slot], at: usize, harts: HartId) -> u64
+    requires { at < 2 ^ 31 }
+    ensures held { (counts : ℕ → ℕ → ℕ) → result ≡ length (word_in counts harts page.now at) }
+    ensures few { result ≤ harts + 1 }
+{
+    held_write(page, at) + held_reads(page, at + 1, harts)
+}
+
+/// How many accesses are kept of the words of a page.
+pub fn held_page(page: &[Slot], harts: HartId) -> u64
+    requires { harts ≤ HARTS }
+    ensures held { (counts : ℕ → ℕ → ℕ) → result ≡ sum_below (λ n. length (word_in counts harts page.now (n * (harts + 1)))) 64 }
+    ensures few { result ≤ 64 * (HARTS + 1) }
+{
+    if page.is_empty() {
+        return 0;
+    }
+    let mut held = 0u64;
+    for word in 0..64usize {
+        held += held_word(page, word * (harts as usize + 1), harts);
+    }
+    held
 }

@@ -4,7 +4,7 @@ ghost use Rattle.bn_base.specs.declared.settings.TheConstants.{HARTS};
 ghost use Rattle.race_log.specs.Words.{kept_in, has_room};
 ghost use Rattle.race_log.specs.Sweep.{uncovered, sum_below, held_below};
 
-use crate::sweep::give_up_page;
+use crate::sweep::{give_up_page, held_page};
 use crate::words::KeptWords;
 use vector_time::Times;
 
@@ -40,5 +40,16 @@ impl KeptWords {
     {
         let harts = self.harts;
         give_up_page(&mut self.pages[number], harts, known)
+    }
+
+    /// How many accesses are kept.
+    pub fn held(&self) -> u64
+        ensures { result ≡ held_below (kept_in self.now) (64 * length self.now.pages.items) }
+    {
+        let mut held = 0u64;
+        for number in 0..self.pages.len() {
+            held += held_page(&self.pages[number], self.harts);
+        }
+        held
     }
 }

@@ -1,4 +1,4 @@
-use Rattle.std.proofs.Common.{◌≡◌, ◌∙◌, ◌+◌, ◌*◌, ◌<◌, ℕ, arith, ap, sym, subst, length, inl, inr, vec_len}
+use Rattle.std.proofs.Common.{◌≡◌, ◌∙◌, ◌+◌, ◌*◌, ◌<◌, arith, ap, sym, subst, length, inl, inr, vec_len}
 use Rattle.std.proofs.lemmas.Bool.{cases_eq}
 use Rattle.race_log.specs.Slots.{word_in}
 use Rattle.race_log.specs.Sweep.{uncovered, sum_below}

@@ -1,4 +1,4 @@
-use Rattle.std.proofs.Common.{◌∙◌, ◌+◌, arith}
+use Rattle.std.proofs.Common.{◌∙◌, arith}
 use Rattle.race_log.proofs.PageLemmas.{word_same}
 use Rattle.race_log.proofs.SweepLemmas.{gives_word}
 use Rattle.race_log.proofs.sweep.give_up_word.Goals as goal

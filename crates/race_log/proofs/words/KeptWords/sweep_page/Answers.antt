@@ -1,4 +1,4 @@
-use Rattle.std.proofs.Common.{◌≡◌, ◌∙◌, ◌+◌, ◌*◌, ◌/◌, ◌==◌, ◌<◌, ℕ, arith, sym, ap, slice_get, slice_set, length, inl, inr}
+use Rattle.std.proofs.Common.{◌∙◌, ◌+◌, ◌*◌, ◌/◌, ◌==◌, ◌<◌, ℕ, arith, sym, ap, slice_get, slice_set, length, inl, inr}
 use Rattle.std.proofs.lemmas.Bool.{cases_eq}
 use Rattle.race_log.specs.Slots.{slots_of}
 use Rattle.race_log.specs.Words.{stretch_counts}
