@@ -25,3 +25,6 @@ pub mod NewLemmas
 pub mod AccessLemmas
 pub mod Known
 pub mod NotedAlike
+pub mod SweepLemmas
+pub mod Swept
+pub mod HeldLemmas

@@ -26,7 +26,7 @@ get_there (x ∷ xs) (suc i) (suc j) s apart = get_there xs i j s (λ e. apart (
 
 -- ---- words whose slots are the same
 
-reads_same : (counts : ℕ → ℕ → ℕ) (old new : List Slot) (at hart n : ℕ)
+pub reads_same : (counts : ℕ → ℕ → ℕ) (old new : List Slot) (at hart n : ℕ)
     → ((j : ℕ) → at + hart ≤ j → j < at + hart + n → slice_get new j ≡ slice_get old j) → reads_in counts new at hart n ≡ reads_in counts old at hart n
 reads_same counts old new at hart zero same = refl
 reads_same counts old new at hart (suc n) same =

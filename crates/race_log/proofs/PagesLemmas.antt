@@ -9,10 +9,12 @@ use Rattle.race_log.specs.declared.stretches.Stretch.{Stretch}
 use Rattle.race_log.specs.declared.words.KeptWords.{KeptWords}
 use Rattle.race_log.specs.Kept.{Kept, Replaces}
 use Rattle.race_log.specs.Slots.{word_in, slots_of, IsSettledPage, AreSettled, AreFull}
+use Rattle.race_log.specs.Sweep.{sum_below}
 use Rattle.race_log.specs.Words.{place_of, has_room, HasPages}
 use Rattle.race_log.proofs.BoolFacts.{known, same_number}
 use Rattle.race_log.proofs.Agree.{same_test}
 use Rattle.race_log.proofs.PageLemmas.{get_here, get_there, word_none, places_apart}
+use Rattle.race_log.proofs.SweepLemmas.{sum_same}
 
 -- ---- a page that is written
 
@@ -51,6 +53,11 @@ pub push_or_same : (b : Bool) (pages news : List (Vec Slot Global)) (v : Vec Slo
     → (n : ℕ) → slots_of (slice_get news n) ≡ slots_of (slice_get pages n)
 push_or_same true pages news v e is n = ap (λ ps. slots_of (slice_get ps n)) is ∙ push_same pages v e n
 push_or_same false pages news v e is n = ap (λ ps. slots_of (slice_get ps n)) is
+
+-- and there is at most one more
+pub push_most : (b : Bool) (old new : ℕ) → new ≡ cond b (old + 1) old → new ≤ old + 1
+push_most true old new e = omega (arith, e)
+push_most false old new e = omega (arith, e)
 
 pub full_same : (harts : ℕ) (pages news : List (Vec Slot Global)) → ((n : ℕ) → slots_of (slice_get news n) ≡ slots_of (slice_get pages n)) → AreFull harts pages → AreFull harts news
 full_same harts pages news same all n = subst (λ (xs : List Slot). 0 < length xs → length xs ≡ 64 * (harts + 1)) (sym (same n)) (all n)
@@ -152,3 +159,46 @@ slot_low [] n at s e = absurd (none n at e)
     none n at h = cc
 slot_low (p ∷ pages) zero at s e = omega arith
 slot_low (p ∷ pages) (suc n) at s e = let low = slot_low pages n at s e in omega (arith, low)
+
+-- ---- pages that are swept
+
+-- where the words of a page have their slots
+pub kept_word : (counts : ℕ → ℕ → ℕ) (harts : ℕ) (pages : List (Vec Slot Global)) (n i : ℕ) → i < 64
+    → cond (4 * (64 * n + i) % 4 == 0) (word_in counts harts (slots_of (slice_get pages (4 * (64 * n + i) / 256))) (place_of harts (4 * (64 * n + i)))) []
+    ≡ word_in counts harts (slots_of (slice_get pages n)) (i * (harts + 1))
+kept_word counts harts pages n i low =
+    let t : (4 * (64 * n + i) % 4 == 0) ≡ true = same_test (4 * (64 * n + i) % 4) 0 (omega arith) in
+    let page : 4 * (64 * n + i) / 256 ≡ n = omega (arith, low) in
+    let place : 4 * (64 * n + i) / 4 % 64 ≡ i = omega (arith, low) in
+    ap (λ b. cond b (word_in counts harts (slots_of (slice_get pages (4 * (64 * n + i) / 256))) (place_of harts (4 * (64 * n + i)))) []) t
+    ∙ (ap (λ m. word_in counts harts (slots_of (slice_get pages m)) (place_of harts (4 * (64 * n + i)))) page
+    ∙ ap (λ m. word_in counts harts (slots_of (slice_get pages n)) (m * (harts + 1))) place)
+
+-- how many accesses are kept of the words of a page
+pub page_sum : (counts : ℕ → ℕ → ℕ) (harts : ℕ) (pages : List (Vec Slot Global)) (n : ℕ) (xs : List Slot) → slots_of (slice_get pages n) ≡ xs
+    → sum_below (λ i. length (cond (4 * (64 * n + i) % 4 == 0) (word_in counts harts (slots_of (slice_get pages (4 * (64 * n + i) / 256))) (place_of harts (4 * (64 * n + i)))) [])) 64
+    ≡ sum_below (λ i. length (word_in counts harts xs (i * (harts + 1)))) 64
+page_sum counts harts pages n xs e =
+    sum_same (λ i. length (cond (4 * (64 * n + i) % 4 == 0) (word_in counts harts (slots_of (slice_get pages (4 * (64 * n + i) / 256))) (place_of harts (4 * (64 * n + i)))) []))
+    (λ i. length (word_in counts harts xs (i * (harts + 1)))) 64
+    (λ i low. ap length (kept_word counts harts pages n i low ∙ ap (λ ys. word_in counts harts ys (i * (harts + 1))) e))
+
+-- past the pages nothing is kept
+pub past_word : (counts : ℕ → ℕ → ℕ) (harts : ℕ) (pages : List (Vec Slot Global)) (w : ℕ) → length pages ≤ w / 256
+    → cond (w % 4 == 0) (word_in counts harts (slots_of (slice_get pages (w / 256))) (place_of harts w)) [] ≡ []
+past_word counts harts pages w past =
+    ap (λ ks. cond (w % 4 == 0) ks [])
+    (ap (λ xs. word_in counts harts xs (place_of harts w)) (none pages (w / 256) past) ∙ word_none counts harts [] (place_of harts w) (λ j s at. absurd (no_slot j s at)))
+    ∙ same (w % 4 == 0)
+  where
+    none : (ps : List (Vec Slot Global)) (n : ℕ) → length ps ≤ n → slots_of (slice_get ps n) ≡ []
+    none [] n low = refl
+    none (p ∷ ps) zero low = absurd (omega (arith, low))
+    none (p ∷ ps) (suc n) low = none ps n (omega (arith, low))
+
+    no_slot : (j : ℕ) (s : Slot) → slice_get [] j ≡ Some s → ⊥
+    no_slot j s at = cc
+
+    same : (b : Bool) → ◌≡◌ {A = List Kept} (cond b [] []) []
+    same true = refl
+    same false = refl

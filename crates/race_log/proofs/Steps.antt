@@ -14,8 +14,9 @@ use Rattle.race_log.specs.ByCount.{IsInOrder, IsTimesOf}
 use Rattle.race_log.specs.Holds.{OwnUpTo, Holds, TimesOf}
 use Rattle.race_log.specs.Kept.{Kept, is_write, access_point, after, In, Suffices, Replaces}
 use Rattle.race_log.specs.Search.{gathered, sources, counts_after}
+use Rattle.race_log.specs.Sweep.{has_bit}
 use Rattle.race_log.specs.Words.{KeepsAccess, counts_at}
-use Rattle.race_log.specs.Stands.{Stands, KnowsSame, harts_of, lives_in, next_turn, next_count, times_of, kept_of}
+use Rattle.race_log.specs.Stands.{Stands, KnowsSame, harts_of, lasting_of, lasts, lives_in, next_turn, next_count, times_of, kept_of}
 use Rattle.race_log.proofs.BoolFacts.{and_left, both, known}
 use Rattle.race_log.proofs.EdgeLaws.{edge_is, is_edge}
 use Rattle.race_log.proofs.MergeLaws.{is_in, of_hart_at}
@@ -93,12 +94,13 @@ stands_same old new same run live s = record {
   harts = subst (λ n. All (λ p. p.hart < n) run) (sym same.harts) s.harts;
   past = subst (λ n. All (λ p. p.turn < n) run) (sym same.turn) s.past;
   own = λ hart low. subst (Holds run (OwnUpTo run hart)) (sym (same_counts (same.times hart))) (s.own hart (omega (arith, low, same.harts)));
-  kept = λ w. subst (λ n. Suffices run (λ g. nat_lt g n && live g) w (kept_of new w)) (sym same.harts)
-      (subst (Suffices run (lives_in old live) w) (sym (same.kept w)) (s.kept w));
+  kept = λ w. subst (λ n. Suffices run (λ g. nat_lt g n && has_bit (lasting_of new) g && live g) w (kept_of new w)) (sym same.harts)
+      (subst (λ set. Suffices run (λ g. nat_lt g (harts_of old) && has_bit set g && live g) w (kept_of new w)) (sym same.lasting)
+      (subst (Suffices run (lives_in old live) w) (sym (same.kept w)) (s.kept w)));
 }
 
 module _ (run : List Point) (hart count turn first n : ℕ) (mode : Mode) (live : ℕ → Bool) (old : Shadow) (stands : Stands run live old)
-    (in_harts : hart < harts_of old) (later : next_count old hart ≤ count) (turn_later : next_turn old ≤ turn) (lives : live hart ≡ true) where
+    (in_harts : hart < harts_of old) (later : next_count old hart ≤ count) (turn_later : next_turn old ≤ turn) (lasting : lasts old hart ≡ true) (lives : live hart ≡ true) where
   abbrev b : Point
   b = access_point hart count turn first n mode
 
@@ -110,7 +112,8 @@ module _ (run : List Point) (hart count turn first n : ℕ) (mode : Mode) (live 
   lively = lives_in old live
 
   lively_hart : lively hart ≡ true
-  lively_hart = both (nat_lt hart (harts_of old)) (live hart) (lt-ltb hart (harts_of old) in_harts) lives
+  lively_hart = both (nat_lt hart (harts_of old) && lasts old hart) (live hart)
+      (both (nat_lt hart (harts_of old)) (lasts old hart) (lt-ltb hart (harts_of old) in_harts) lasting) lives
 
   kind : IsOfOneKind b (is_write mode)
   kind = one_kind hart count turn first n mode
@@ -176,12 +179,12 @@ module _ (run : List Point) (hart count turn first n : ℕ) (mode : Mode) (live 
     pub new_times : IsTimesOf (after run (access_point hart count turn first n mode)) (access_point hart count turn first n mode) next
     new_times = times_are (after run b) now_in_order (length run) b next (get_new run b) next_times
 
-    pub stands_after : (new : Shadow) (k : Kept) → harts_of new ≡ harts_of old → next_turn new ≡ turn + 1
+    pub stands_after : (new : Shadow) (k : Kept) → harts_of new ≡ harts_of old → lasting_of new ≡ lasting_of old → next_turn new ≡ turn + 1
         → ((h : ℕ) → times_of new hart h ≡ next h) → ((other : ℕ) → other ≢ hart → (h : ℕ) → times_of new other h ≡ times_of old other h)
         → k.turn ≡ turn → k.hart ≡ hart → k.ic ≡ count → k.mode ≡ mode → ((h : ℕ) → k.times h ≡ next h)
         → (1 < harts_of old → KeepsAccess k first n (kept_of old) (kept_of new)) → (harts_of old ≤ 1 → (w : ℕ) → kept_of new w ≡ kept_of old w)
         → Stands (after run (access_point hart count turn first n mode)) live new
-    stands_after new k same_harts new_turn new_own new_others is_turn is_hart is_count is_mode is_times many alone = record {
+    stands_after new k same_harts same_lasting new_turn new_own new_others is_turn is_hart is_count is_mode is_times many alone = record {
       in_order = now_in_order;
       harts = All-push (λ p. p.hart < harts_of new) run b (subst (λ n. All (λ p. p.hart < n) run) (sym same_harts) stands.harts)
           (omega (arith, in_harts, same_harts));
@@ -198,12 +201,13 @@ module _ (run : List Point) (hart count turn first n : ℕ) (mode : Mode) (live 
             let own = own_old run b g (times_of old g) now_in_order other (stands.own g (omega (arith, low, same_harts))) in
             subst (Holds (after run b) (OwnUpTo (after run b) g)) (sym (same_counts (new_others g (λ e. other (sym e))))) own
       ];
-      kept = λ w. subst (λ n. Suffices (after run b) (λ g. nat_lt g n && live g) w (kept_of new w)) (sym same_harts) (elim (cases_lt 1 (harts_of old)) [
-        | inl more ↦ among w (many more)
-        | inr one ↦
-            subst (Suffices (after run b) lively w) (sym (alone one w))
-            (alone_suffices run lively b now_in_order (λ m p e. single one m p e) (λ g up. single_live one g up) w (kept_of old w) (stands.kept w))
-      ]);
+      kept = λ w. subst (λ n. Suffices (after run b) (λ g. nat_lt g n && has_bit (lasting_of new) g && live g) w (kept_of new w)) (sym same_harts)
+          (subst (λ set. Suffices (after run b) (λ g. nat_lt g (harts_of old) && has_bit set g && live g) w (kept_of new w)) (sym same_lasting) (elim (cases_lt 1 (harts_of old)) [
+            | inl more ↦ among w (many more)
+            | inr one ↦
+                subst (Suffices (after run b) lively w) (sym (alone one w))
+                (alone_suffices run lively b now_in_order (λ m p e. single one m p e) (λ g up. single_live one g up) w (kept_of old w) (stands.kept w))
+          ]));
     }
       where
         clear : (x : Bool) → x ≡ true → x ≡ false → ⊥
@@ -230,7 +234,7 @@ module _ (run : List Point) (hart count turn first n : ℕ) (mode : Mode) (live 
 
         single_live : harts_of old ≤ 1 → (g : ℕ) → lively g ≡ true → g ≡ 0
         single_live one g up =
-            let low = ltb-true g (harts_of old) (and_left (nat_lt g (harts_of old)) (live g) up) in omega (arith, low, one)
+            let low = ltb-true g (harts_of old) (and_left (nat_lt g (harts_of old)) (lasts old g) (and_left (nat_lt g (harts_of old) && lasts old g) (live g) up)) in omega (arith, low, one)
 
         not_same : (x y : ℕ) → (x == y) ≡ false → x ≢ y
         not_same x y h e = let t : (x == y) ≡ true = grind arith in cc

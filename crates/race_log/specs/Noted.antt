@@ -6,12 +6,13 @@ use Rattle.race_log.specs.declared.shadow.Shadow.{Shadow}
 use Rattle.race_log.specs.declared.slot.Slot.{Slot}
 use Rattle.race_log.specs.declared.stretches.Stretch.{Stretch}
 use Rattle.race_log.specs.Points.{Point}
-use Rattle.race_log.specs.Stands.{Stands, harts_of, next_turn}
+use Rattle.race_log.specs.Stands.{Stands, harts_of, lasting_of, next_turn}
 
--- what a shadow notes: how many harts there are, the lowest turn that the next access may have, the times of each hart, the
+-- what a shadow notes: how many harts there are, which of them last, the lowest turn that the next access may have, the times of each hart, the
 -- slots of each page, and the stretches that they name
 pub record Noted : Type 0 where
   pub harts : ℕ
+  pub lasting : ℕ
   pub turn : ℕ
   pub times : List Times
   pub pages : List (List Slot)
@@ -20,6 +21,7 @@ pub record Noted : Type 0 where
 abbrev pub noted : Shadow → Noted
 noted s = record {
   harts = harts_of s;
+  lasting = lasting_of s;
   turn = next_turn s;
   times = s.times.items;
   pages = map (λ (page : Vec Slot Global). page.items) s.words.pages.items;

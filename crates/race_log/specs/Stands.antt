@@ -1,10 +1,11 @@
 -- What a shadow knows and keeps of the points so far.
-use Rattle.std.specs.Prelude.{◌≡◌, ℕ, ◌+◌, ◌<◌, Bool, ◌&&◌, nat_lt, List, slice_get, Option, Some, None, All}
+use Rattle.std.specs.Prelude.{◌≡◌, ℕ, ◌+◌, ◌*◌, ◌<◌, Bool, not, ◌&&◌, ◌||◌, nat_lt, List, length, slice_get, Option, Some, None, All}
 use Rattle.race_log.specs.declared.shadow.Shadow.{Shadow}
 use Rattle.race_log.specs.Points.{Point}
 use Rattle.race_log.specs.ByCount.{IsInOrder}
 use Rattle.race_log.specs.Holds.{OwnUpTo, Holds}
 use Rattle.race_log.specs.Kept.{Kept, Suffices}
+use Rattle.race_log.specs.Sweep.{has_bit, all_below, held_below}
 use Rattle.race_log.specs.Words.{kept_in, counts_at}
 
 -- a number past the turn, where there is one
@@ -16,9 +17,17 @@ past_turn (Some turn) = turn + 1
 abbrev pub harts_of : Shadow → ℕ
 harts_of s = s.harts
 
--- whether the hart is one of the shadow's, and live
+-- the harts whose bits were set at each sweep so far, one bit for each
+abbrev pub lasting_of : Shadow → ℕ
+lasting_of s = s.lasting
+
+-- whether the hart's bit was clear at no sweep so far
+abbrev pub lasts : Shadow → ℕ → Bool
+lasts s hart = has_bit (lasting_of s) hart
+
+-- whether the hart is one of the shadow's, lasts, and is live
 abbrev pub lives_in : Shadow → (ℕ → Bool) → ℕ → Bool
-lives_in s live hart = nat_lt hart (harts_of s) && live hart
+lives_in s live hart = nat_lt hart (harts_of s) && lasts s hart && live hart
 
 -- the lowest turn that the next access may have
 abbrev pub next_turn : Shadow → ℕ
@@ -40,9 +49,21 @@ reserved_range s = s.reserved
 abbrev pub kept_of : Shadow → ℕ → List Kept
 kept_of s word = kept_in s.words word
 
+-- whether the times of each hart of the set cover the hart's point at the count
+abbrev pub is_known : Shadow → (set hart count : ℕ) → Bool
+is_known s set hart count = all_below (λ g. not (has_bit set g) || nat_lt count (times_of s g hart)) (harts_of s)
+
+-- how many words have room, and how many accesses are kept of them
+abbrev pub words_of : Shadow → ℕ
+words_of s = 64 * length s.words.pages.items
+
+abbrev pub held_of : Shadow → ℕ
+held_of s = held_below (kept_of s) (words_of s)
+
 -- the two know of the same points and keep the same
 pub record KnowsSame (old new : Shadow) : Type 0 where
   pub harts : harts_of new ≡ harts_of old
+  pub lasting : lasting_of new ≡ lasting_of old
   pub turn : next_turn new ≡ next_turn old
   pub times : (hart other : ℕ) → times_of new hart other ≡ times_of old hart other
   pub kept : (word : ℕ) → kept_of new word ≡ kept_of old word

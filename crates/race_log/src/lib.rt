@@ -20,6 +20,8 @@ mod search;
 mod shadow;
 mod slot;
 mod stretches;
+mod sweep;
+mod sweeping;
 mod words;
 
 pub use edges::Edges;

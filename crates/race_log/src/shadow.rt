@@ -1,5 +1,5 @@
 ghost use Rattle.std.specs.Prelude.{◌≡◌, ◌≢◌, ◌+◌, ◌*◌, ◌<◌, ◌≤◌, ◌^◌, ◌%◌, ◌==◌, ◌↔◌, ℕ, Bool, IsTrue, if◌then◌else◌};
-ghost use Rattle.std.specs.Prelude.{List, [], All, Contains, length, vec_len, Some, None, IfOk, IsOk, OnOk, OnErr};
+ghost use Rattle.std.specs.Prelude.{List, [], filter, not, ◌&&◌, All, Contains, length, vec_len, Some, None, IfOk, IsOk, OnOk, OnErr};
 ghost use Rattle.std.specs.Option.{ForSome};
 ghost use Rattle.bn_base.specs.declared.settings.TheConstants.{HARTS};
 ghost use Rattle.race_log.specs.Words.{HasRoom, ArePresent};
@@ -7,6 +7,7 @@ ghost use Rattle.race_log.specs.Words.{HasRoom, ArePresent};
 use crate::edges::Edges;
 use crate::mode::Mode;
 use crate::search::find_sources;
+use crate::sweep::{has_bit, least_with};
 use crate::words::KeptWords;
 use bn_base::{Addr, HartId, Ic, Settings};
 use std::alloc::{AllocError, Global};
@@ -20,6 +21,8 @@ pub struct Shadow {
     reserved: Option<(Addr, u32)>,
     times: Vec<Times>,
     words: KeptWords,
+    // One bit for each hart, set where it was at each sweep so far.
+    lasting: u16,
     ghost same_harts: { words.harts ≡ harts },
     ghost some_hart: { 0 < harts },
     ghost few_harts: { harts ≤ HARTS },
@@ -34,7 +37,8 @@ impl Shadow {
     ghost use Rattle.race_log.specs.Tests.{sources_into};
     ghost use Rattle.race_log.specs.ByCount.{IsPointAt, IsEdgeBetween, IsLatestPoint, IsTimesOf};
     ghost use Rattle.race_log.specs.Kept.{access_point, after};
-    ghost use Rattle.race_log.specs.Stands.{Stands, KnowsSame, harts_of, next_turn, next_count, times_of, reserved_range};
+    ghost use Rattle.race_log.specs.Sweep.{has_bit, is_covered, accessed_below};
+    ghost use Rattle.race_log.specs.Stands.{Stands, KnowsSame, harts_of, lasting_of, lasts, next_turn, next_count, times_of, kept_of, words_of, held_of, is_known, reserved_range};
 
     /// Knows of no point and keeps nothing.
     pub fn new(alloc: Global, settings: &Settings) -> Result<Shadow, AllocError>
@@ -42,6 +46,7 @@ impl Shadow {
         ensures turn { IfOk result (λ s. next_turn s ≡ 0) }
         ensures counts { IfOk result (λ s. (h : ℕ) → next_count s h ≡ 0) }
         ensures reserved { IfOk result (λ s. reserved_range s ≡ None) }
+        ensures lasting { IfOk result (λ s. (h : ℕ) → h < harts_of s → IsTrue (lasts s h)) }
         ensures stands { IfOk result (λ s. (live : ℕ → Bool) → Stands [] live s) }
     {
         let harts = settings.harts();
@@ -55,6 +60,7 @@ impl Shadow {
             reserved: None,
             times,
             words: KeptWords::new(alloc, harts)?,
+            lasting: u16::MAX,
         })
     }
 
@@ -77,7 +83,7 @@ impl Shadow {
     }
 
     /// Takes in the hart's instruction at the count `ic`, done in this turn, which reads or writes `count` words from
-    /// `first`, and answers the edges into it.
+    /// `first`, and answers the edges into it. The hart's bit was clear at no sweep so far.
     pub fn access(
         &mut self,
         hart: HartId,
@@ -94,6 +100,7 @@ impl Shadow {
         requires reserved { reserved_range self.old ≡ Some (first, count) }
         requires turns { next_turn self.old ≤ turn }
         requires counts { next_count self.old hart ≤ ic }
+        requires lasting { IsTrue (lasts self.old hart) }
         // The points that the edges into this one come from are answered, each once, and the latest first.
         ensures edges { (run : List Point) (live : ℕ → Bool) → IsTrue (live hart) → Stands run live self.old →
             result ≡ sources_into (after run (access_point hart ic turn first count mode)) (length run) }
@@ -112,6 +119,7 @@ impl Shadow {
 
         // How the conditions of the next access change.
         ensures harts { harts_of self.new ≡ harts_of self.old }
+        ensures lasting { lasting_of self.new ≡ lasting_of self.old }
         ensures turn { next_turn self.new ≡ turn + 1 }
         ensures counts { (h : ℕ) → next_count self.new h ≡ (if h == hart then ic + 1 else next_count self.old h) }
         ensures reserved { reserved_range self.new ≡ None }
@@ -146,5 +154,49 @@ impl Shadow {
             All (λ p. p.hart ≢ hart) run → (h : ℕ) → count_of result.now h ≡ 0 }
     {
         &self.times[hart as usize]
+    }
+
+    /// Gives up the kept accesses whose points the times of every hart of `live` cover, and answers how many; `live` has one
+    /// bit for each hart, the lowest for hart 0. Where it has none set all are given up. It takes no memory.
+    ///
+    /// What is kept then suffices for the harts whose bits were set at each sweep so far, and the others can access nothing
+    /// any more.
+    pub fn sweep(&mut self, live: u16) -> u64
+        requires { live < 2 ^ harts_of self.old }
+        ensures kept { (word : ℕ) → kept_of self.new word ≡ filter (λ k. not (is_known self.old live k.hart k.ic)) (kept_of self.old word) }
+        ensures gone { result + held_of self.new ≡ held_of self.old }
+        ensures stands { (run : List Point) (alive : ℕ → Bool) → Stands run alive self.old → Stands run alive self.new }
+
+        // How the conditions of the next access change.
+        ensures lasting { (h : ℕ) → lasts self.new h ≡ (lasts self.old h && has_bit live h) }
+        ensures harts { harts_of self.new ≡ harts_of self.old }
+        ensures turn { next_turn self.new ≡ next_turn self.old }
+        ensures times { (h other : ℕ) → times_of self.new h other ≡ times_of self.old h other }
+        ensures reserved { reserved_range self.new ≡ reserved_range self.old }
+    {
+        let known = self.known_to_all(live);
+        self.lasting &= live;
+        self.words.sweep(&known)
+    }
+
+    /// How many accesses are kept: at most one more than there are harts for each word that was accessed so far.
+    pub fn held(&self) -> u64
+        ensures value { result ≡ held_of self.now }
+        ensures most { (run : List Point) (live : ℕ → Bool) → Stands run live self.now →
+            result ≤ (harts_of self.now + 1) * accessed_below run (words_of self.now) }
+    {
+        self.words.held()
+    }
+
+    // The points that the times of every hart of `live` cover: for each hart the least of their counts, and nothing where
+    // there is no hart in `live`.
+    fn known_to_all(&self, live: u16) -> Option<Times>
+        ensures { (hart count : ℕ) → is_covered result hart count ≡ is_known self.now live hart count }
+    {
+        let mut least = None;
+        for hart in 0..self.harts {
+            least = least_with(least, &self.times[hart as usize], has_bit(live, hart));
+        }
+        least
     }
 }

@@ -27,6 +27,7 @@ pub struct KeptWords {
     pub stretches: Stretches,
     limit: usize,
     ghost few: { harts ≤ HARTS },
+    ghost few_pages: { vec_len pages ≤ 2 ^ 24 },
     ghost full: { AreFull harts pages.items },
     ghost settled: { AreSettled stretches.table.items stretches.next pages.items },
 }
@@ -146,6 +147,7 @@ impl KeptWords {
 
     // Has at least so many pages, of which those that are new aren't made.
     fn reach(&mut self, count: usize) -> Result<(), AllocError>
+        requires { count ≤ 2 ^ 24 }
         ensures harts { self.new.harts ≡ self.old.harts }
         ensures stretches { self.new.stretches ≡ self.old.stretches }
         ensures same { (n : ℕ) → slots_of (slice_get self.new.pages.items n) ≡ slots_of (slice_get self.old.pages.items n) }

@@ -1,4 +1,4 @@
-ghost use Rattle.std.specs.Prelude.{◌≡◌, ◌<◌, ◌↔◌, ◌==◌, ℕ, IsTrue, length, max, if◌then◌else◌};
+ghost use Rattle.std.specs.Prelude.{◌≡◌, ◌<◌, ◌↔◌, ◌==◌, ℕ, IsTrue, length, max, min, if◌then◌else◌};
 ghost use Rattle.bn_base.specs.declared.settings.TheConstants.{HARTS};
 
 use bn_base::{HARTS, HartId, Ic};
@@ -36,6 +36,15 @@ impl Times {
     {
         for hart in 0..HARTS {
             self.counts[hart] = self.counts[hart].max(other.counts[hart]);
+        }
+    }
+
+    /// Takes each hart's lower count.
+    pub fn meet(&mut self, other: &Times)
+        ensures { (h : ℕ) → count_of self.new h ≡ min (count_of self.old h) (count_of other.now h) }
+    {
+        for place in 0..HARTS {
+            self.counts[place] = self.counts[place].min(other.counts[place]);
         }
     }
 

@@ -19,7 +19,7 @@ returns-clause-edges c = λ run live lives stands.
     ∙ (ap (λ w. sources c.args.hart w (c.args.self.now.harts - 1) (count_of c.index.result.now) kept) c.is_write.ensures
     ∙ (ap (λ counts. sources c.args.hart (is_write c.args.mode) (c.args.self.now.harts - 1) counts kept) (sym known)
     ∙ found_edges run c.args.hart c.args.ic c.args.turn c.args.first c.args.count c.args.mode live c.args.self.now stands
-    c.requires.hart c.requires.counts c.requires.turns lives))
+    c.requires.hart c.requires.counts c.requires.turns c.requires.lasting lives))
 
 pub returns-clause-exact : goal.returns-clause-exact
 returns-clause-exact c = λ run live lives stands h i.
@@ -27,7 +27,7 @@ returns-clause-exact c = λ run live lives stands h i.
     let is = returns-clause-edges c run live lives stands in
     subst (λ xs. Contains xs (h, i) ↔ ((p : Point) × IsPointAt run h i p × IsEdgeBetween (after run b) p b)) (sym is)
     (listed_exactly run b (now_in_order run c.args.hart c.args.ic c.args.turn c.args.first c.args.count c.args.mode live c.args.self.now stands
-    c.requires.hart c.requires.counts c.requires.turns lives) h i)
+    c.requires.hart c.requires.counts c.requires.turns c.requires.lasting lives) h i)
 
 pub returns-clause-times : goal.returns-clause-times
 returns-clause-times c = λ run live lives stands h i.
@@ -35,7 +35,7 @@ returns-clause-times c = λ run live lives stands h i.
     let set = set_times c.args.self.now c.args.hart c.args.ic c.args.first c.args.count c.args.mode c.index.result.now c.set.new.self known
     c.find_sources-edges.new.times c.is_write.result c.is_write.ensures c.find_sources-edges.ensures.counts c.set.ensures in
     new_times run c.args.hart c.args.ic c.args.turn c.args.first c.args.count c.args.mode live c.args.self.now stands
-    c.requires.hart c.requires.counts c.requires.turns lives (counts_at (slice_get (slice_set c.args.self.now.times.items c.args.hart c.set.new.self) c.args.hart))
+    c.requires.hart c.requires.counts c.requires.turns c.requires.lasting lives (counts_at (slice_get (slice_set c.args.self.now.times.items c.args.hart c.set.new.self) c.args.hart))
     (λ g. counts_here c.args.self.now.times.items c.args.hart c.set.new.self (omega (arith, c.requires.hart, c.args.self.now.each_hart, c.args.self.now.times.ok)) g ∙ set g) h i
 
 pub returns-clause-stands : goal.returns-clause-stands
@@ -46,8 +46,8 @@ returns-clause-stands c = λ run live lives stands.
     let kept : kept_in c.go_on.new.self ≡ kept_in c.args.self.now.words = λ i w. c.go_on.ensures.kept w i in
     let k = kept_now c.go_on.new.self.stretches c.args.mode c.args.hart c.args.turn (c.args.ic + 1) in
     stands_after run c.args.hart c.args.ic c.args.turn c.args.first c.args.count c.args.mode live c.args.self.now stands
-    c.requires.hart c.requires.counts c.requires.turns lives (count_of c.set.new.self) set _ k
-    refl refl
+    c.requires.hart c.requires.counts c.requires.turns c.requires.lasting lives (count_of c.set.new.self) set _ k
+    refl refl refl
     (λ h. counts_here c.args.self.now.times.items c.args.hart c.set.new.self (omega (arith, c.requires.hart, c.args.self.now.each_hart, c.args.self.now.times.ok)) h)
     (λ other apart h. counts_there c.args.self.now.times.items c.args.hart other c.set.new.self apart h)
     refl refl (omega arith) refl

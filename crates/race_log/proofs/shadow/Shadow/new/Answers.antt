@@ -1,6 +1,7 @@
 use Rattle.std.proofs.Common.{◌≡◌, ◌∙◌, ℕ, Option, Some, None, arith, subst, sym}
 use Rattle.race_log.specs.Words.{stretch_of}
 use Rattle.race_log.proofs.NewLemmas.{AllZero, zero_none, zero_more, zero_at, stands_none}
+use Rattle.race_log.proofs.Swept.{all_have}
 use Rattle.race_log.proofs.shadow.Shadow.new.Goals as goal
 
 pub loop-init : goal.loop-init
@@ -33,3 +34,6 @@ invariant_of-result c = record {
 
 pub returns-clause-stands : goal.returns-clause-stands
 returns-clause-stands c = stands_none _ (λ h g. zero_at c.loop.times.items h g c.loop.invariant.zeros) c.in_ok-new.ensures.none
+
+pub returns-clause-lasting : goal.returns-clause-lasting
+returns-clause-lasting c = λ h low. all_have h (omega (arith, low, c.harts-harts.ensures.room))

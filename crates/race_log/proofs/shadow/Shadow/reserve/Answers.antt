@@ -18,8 +18,8 @@ returns-in_err-make_room-clause-ready c is = absurd (false≢true (c.in_err-make
 
 pub returns-in_err-make_room-clause-stands : goal.returns-in_err-make_room-clause-stands
 returns-in_err-make_room-clause-stands c = λ run live.
-    stands_same _ _ (record { harts = refl; turn = refl; times = λ hart other. refl; kept = c.make_room.ensures.same }) run live
+    stands_same _ _ (record { harts = refl; lasting = refl; turn = refl; times = λ hart other. refl; kept = c.make_room.ensures.same }) run live
 
 pub returns-clause-stands : goal.returns-clause-stands
 returns-clause-stands c = λ run live.
-    stands_same _ _ (record { harts = refl; turn = refl; times = λ hart other. refl; kept = c.make_room.ensures.same }) run live
+    stands_same _ _ (record { harts = refl; lasting = refl; turn = refl; times = λ hart other. refl; kept = c.make_room.ensures.same }) run live

@@ -11,6 +11,7 @@ invariant_of-self c =
     let old = c.args.self.now in
     record {
       few = old.few;
+      few_pages = old.few_pages;
       full = old.full;
       settled = λ n at s e. settled_grown old.stretches.table.items c.begin_marks.new.self.table.items old.stretches.next c.begin_marks.new.self.next s.stretch
           c.requires c.begin_marks.ensures.full.0 (old.settled n at s e);
@@ -48,6 +49,7 @@ invariant_of-self-3 c =
     let i = c.loop-number.invariant in
     record {
       few = mid.few;
+      few_pages = mid.few_pages;
       full = mid.full;
       settled = λ n at s e.
           let was = subst (λ p. slice_get (slots_of (slice_get p.items n)) at ≡ Some s) i.pages e in

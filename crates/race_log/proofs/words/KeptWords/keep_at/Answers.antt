@@ -25,6 +25,7 @@ invariant_of-self c =
     let v = c.keep_in.new.page in
     record {
       few = old.few;
+      few_pages = old.few_pages;
       full = full_set old.harts old.pages.items (c.args.word / 256) v low (λ more. c.keep_in.ensures.len ∙ (sym (ap length was) ∙ size)) old.full;
       settled = settled_page_set old.stretches.table.items old.stretches.next old.pages.items (c.args.word / 256) v low
           (c.keep_in.ensures.settled old.stretches.table.items old.stretches.next old.stretches.first c.requires.settled

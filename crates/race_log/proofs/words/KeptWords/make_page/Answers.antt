@@ -14,6 +14,7 @@ invariant_of-self c =
     let v = c.make_slots.new.page in
     record {
       few = c.args.self.now.few;
+      few_pages = c.args.self.now.few_pages;
       full = full_set c.args.self.now.harts pages c.args.number v low
           (λ more. elim (cases_lt 0 (length p.items)) [
             | inl some ↦

@@ -1,5 +1,5 @@
-use Rattle.std.proofs.Common.{◌∙◌, arith}
-use Rattle.race_log.proofs.PagesLemmas.{push_or_same, full_same, settled_same}
+use Rattle.std.proofs.Common.{◌∙◌, arith, vec_len}
+use Rattle.race_log.proofs.PagesLemmas.{push_or_same, push_most, full_same, settled_same}
 use Rattle.race_log.proofs.words.KeptWords.reach.Goals as goal
 
 pub invariant_of-self : goal.invariant_of-self
@@ -7,6 +7,7 @@ invariant_of-self c =
     let same = push_or_same _ c.loop.self.pages.items c.push.new.self.items c.new.result c.new.ensures.items c.push.ensures.items in
     record {
       few = c.loop.self.few;
+      few_pages = let most = push_most _ (vec_len c.loop.self.pages) (vec_len c.push.new.self) c.push.ensures.len in omega (arith, most, c.loop.invariant.count, c.loop-test.true, c.requires);
       full = full_same c.loop.self.harts c.loop.self.pages.items c.push.new.self.items same c.loop.self.full;
       settled = settled_same c.loop.self.stretches.table.items c.loop.self.stretches.next c.loop.self.pages.items c.push.new.self.items same c.loop.self.settled;
     }
