@@ -69,7 +69,7 @@ rows_kept laws c i run [] setting known lawful = written c run known
 rows_kept laws c i run (r ∷ rs) setting known lawful =
     by_order (is_orderly c i (run.harts r.hart) r.ask) laws c i run r rs setting known lawful (λ next k l. rows_kept laws c i next rs setting k l) refl
 
-orderly_first : (b x : Bool) → elim b as (λ z. Bool) [ true ↦ x | false ↦ false ] ≡ true → (b ≡ true) × (x ≡ true)
+pub orderly_first : (b x : Bool) → elim b as (λ z. Bool) [ true ↦ x | false ↦ false ] ≡ true → (b ≡ true) × (x ≡ true)
 orderly_first true x e = (refl, e)
 orderly_first false x e = cc
 
