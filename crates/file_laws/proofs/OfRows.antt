@@ -1,5 +1,5 @@
 -- What a ring holds after lawful rows is what a log says.
-use Rattle.std.proofs.Common.{◌≡◌, ℕ, zero, suc, ◌+◌, ◌-◌, ◌*◌, ◌<◌, ◌≤◌, ◌^◌, Bool, true, false, not, ◌&&◌, nat_lt, Option, Some, None, List, [], ◌∷◌, ◌++◌, length, refl, sym, ◌∙◌, ap, subst, arith, inl, inr}
+use Rattle.std.proofs.Common.{◌≡◌, ℕ, zero, suc, ◌+◌, ◌*◌, ◌<◌, ◌≤◌, ◌^◌, Bool, true, false, not, ◌&&◌, nat_lt, Option, Some, None, List, [], ◌∷◌, ◌++◌, length, refl, sym, ◌∙◌, ap, subst, arith, inl, inr}
 use Rattle.std.specs.Prelude.{◌≢◌, ◌==◌}
 use Rattle.std.specs.List.{AllByRecursion}
 use Rattle.std.proofs.lemmas.Bool.Decides.{eqb_tells}
@@ -41,7 +41,7 @@ use Rattle.file_laws.proofs.Nexts.{EndsAs, next_ends}
 use Rattle.file_laws.proofs.Few.{EdgesFall, few_edges}
 use Rattle.file_laws.proofs.Fields.{plain_mark, load_few, conditional_few, next_few, over_few}
 use Rattle.file_laws.proofs.Turns.{Laws, Recording, all_both, own_hart, own_is, other_is, format_is_1, served, turn_kept}
-use Rattle.file_laws.proofs.Rows.{SuffixIsKept, both, below_of, last_part, orderly_first}
+use Rattle.file_laws.proofs.Rows.{SuffixIsKept, both, below_of, last_part, orderly_first, held_records, held_dropped}
 use Rattle.file_laws.proofs.Contents.{KeptFit, few_harts, five_parts, headers_count, turns_bound}
 
 -- ---- records that a log of version 1 has, but for the size of their numbers
@@ -226,9 +226,6 @@ rows_end laws fall c i input rows setting known lawful orderly = rows_counted la
 least : (a b m : ℕ) → a + b ≤ m → a ≤ m
 least a b m h = omega (arith, h)
 
-counted_is : (d l s : ℕ) → d + l ≡ s → d ≡ s - l
-counted_is d l s e = omega (arith, e)
-
 low_of : (dropped kept stream turns most : ℕ) → dropped + kept ≡ stream → stream ≤ 16 + 40 * turns → turns ≤ most → most ≤ 16 * (2 ^ 40 + 1) → dropped < 2 ^ 64
 low_of dropped kept stream turns most e f t m = omega (arith, e, f, t, m)
 
@@ -238,8 +235,8 @@ ring_is_content suffix bound c i input digest rows ring h size a order =
     let run = after_rows c i (start c i input) rows in
     let setting = h.setting in
     let part = suffix c.log_size run.stream in
-    let records : ring.records ≡ kept_of c run = h.log.latest ∙ ap (λ (n : ℕ). kept n run.stream) h.size in
-    let dropped : ring.dropped ≡ dropped_of c run = counted_is ring.dropped (length ring.records) (length run.stream) h.log.counted ∙ ap (λ (rs : List Record). length run.stream - length rs) records in
+    let records = held_records c run ring h.log h.size in
+    let dropped = held_dropped c run ring h.log h.size in
     let plain : AllByRecursion IsPlain ring.records = subst (AllByRecursion IsPlain) (sym records) (last_part IsPlain part.0 (kept_of c run) (subst (AllByRecursion IsPlain) part.1 a.counted.plain)) in record {
       settings = setting;
       digest = size;

@@ -3,7 +3,7 @@
 //! `run_model` and `log_order`.
 #![tactic(auto)]
 
-ghost use Rattle.file_laws.specs.Laws.{KeptRecordsKeepTheRules, FinishedLogsAreInOrder, LogsAreContents, FilesAreRead, FilesSayTheRun, FilesSuffice, LogsOfRowsAreContents, FilesOfRowsAreRead};
+ghost use Rattle.file_laws.specs.Laws.{KeptRecordsKeepTheRules, RingsKeepTheRules, FinishedLogsAreInOrder, LogsAreContents, FilesAreRead, FilesSayTheRun, FilesSuffice, LogsOfRowsAreContents, FilesOfRowsAreRead};
 
 mod examples;
 
@@ -45,6 +45,14 @@ pub fn kept_records_keep_their_rules()
     an_edge_follows();
     an_end_follows();
     kept_records_keep_the_rules();
+}
+
+/// So do, at all times, the records of a ring of the log's size that holds the log of lawful rows,
+/// whoever made their asks.
+pub fn rings_keep_their_rules()
+    ensures { RingsKeepTheRules }
+{
+    kept_records_keep_their_rules();
 }
 
 /// Where each ask was one that its hart could make, and no hart is live any more, the kept records
