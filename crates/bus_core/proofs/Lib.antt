@@ -2,3 +2,4 @@ pub mod Serves
 pub mod Marks
 pub mod Rows
 pub mod History
+pub mod LastMarks

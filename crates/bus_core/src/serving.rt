@@ -1,11 +1,14 @@
 // What a bus does.
 ghost use Rattle.std.specs.Prelude.{◌≡◌, ◌<◌, ◌+◌, ◌∷◌, ◌++◌, [], ℕ, Bool, true, false, not, ◌&&◌, ◌||◌, List, is_some, IfOk, OnOk, OnErr, IfSome, IsTrue};
+ghost use Rattle.std.specs.List.{AllByRecursion};
 ghost use Rattle.rv_meaning.specs.Orderly.{is_reply_to};
+ghost use Rattle.log_record.specs.Spelling.{Fits};
 ghost use Rattle.log_ring.specs.Kept.{Holds};
 ghost use Rattle.run_model.specs.Stands.Harts.{hart_in};
 ghost use Rattle.run_model.specs.Runs.{is_live, is_over, most_turns};
 ghost use Rattle.run_model.specs.Turn.{Run, budget, halted, is_orderly};
 ghost use Rattle.bn_outside.specs.declared.turn_row.TurnRow.{TurnRow};
+ghost use Rattle.run_laws.specs.Ends.{AreLastMarks};
 ghost use Rattle.bus_core.specs.Bus.{began_of, first_run, run_after, served_run, served_reply, served_guarded, row, live_in, marks, IsState, IsTold, IsLogged};
 
 use crate::bus::Bus;
@@ -14,8 +17,9 @@ use crate::ends::{Ends, any_live, is_finished};
 use crate::turn::take;
 use bn_base::{HartId, HartState};
 use bn_outside::{Book, TurnRow};
+use log_ring::laws::a_suffix_is_kept;
 use race_log::notes_decide;
-use run_laws::replies_fit;
+use run_laws::{kept_ends_are_marks, replies_fit};
 use run_model::{Plain, Start};
 use rv_meaning::{Ask, Reply};
 use std::alloc::{AllocError, Global};
@@ -126,7 +130,8 @@ impl<B: Book> Bus<B> {
     }
 
     /// Hands over the ring, the streams, the book, each hart's last mark and the number of turns. The ring
-    /// holds the log of the run, whatever the book tells. It takes no memory.
+    /// holds the log of the run, whatever the book tells: a hart that has an End among the kept records has
+    /// the mark of its last one. It takes no memory.
     pub fn close(self) -> Closed<B>
         ensures told { B.tells ≡ true → IsLogged self result.ring self.rows }
         ensures some { (rows : List TurnRow) × IsLogged self result.ring rows }
@@ -138,7 +143,11 @@ impl<B: Book> Bus<B> {
         ensures turns { result.turns ≡ self.turns }
         ensures finished { (run : Run) → IsState self run → result.finished ≡ (not self.halted && not self.disordered && is_over self.began.settings run) }
         ensures book { B.told result.book ≡ self.rows }
+        ensures last_marks { AreLastMarks result.ring.records result.ends.items }
+        ensures fit { AllByRecursion (Fits 2) result.ring.records }
     {
+        a_suffix_is_kept();
+        kept_ends_are_marks();
         let Bus {
             plain,
             ends,
@@ -148,6 +157,7 @@ impl<B: Book> Bus<B> {
         } = self;
         let recorded = plain.into_recorded();
         let live = any_live(&recorded.harts);
+        let _kept = recorded.ring.pieces();
         Closed {
             ring: recorded.ring,
             out: recorded.out,

@@ -59,7 +59,7 @@ by_format : (b : Bool) → (if b then 16 else 8) ≤ 16
 by_format true = omega arith
 by_format false = omega arith
 
-few_harts : (c : RawSettings) → IsSetting c → c.harts ≤ 16
+pub few_harts : (c : RawSettings) → IsSetting c → c.harts ≤ 16
 few_harts c setting = omega (arith, setting.harts_high, by_format (c.format == 2))
 
 -- ---- a turn
@@ -88,7 +88,7 @@ states_on c run k ask next s bytes states w j within = elim (eqb_tells j k) [
   | inr p ↦ subst IsWordState (sym (ap (λ (h : Hart). h.state) (other_is next k j (own_hart c run k ask next s bytes) run.harts p.0) ∙ other_state next (run.harts j))) (states j within)
 ]
 
-five_parts : (a e l s n o : List Record) → length (a ++ (e ++ (l ++ (s ++ (n ++ o))))) ≡ length a + (length e + (length l + (length s + (length n + length o))))
+pub five_parts : (a e l s n o : List Record) → length (a ++ (e ++ (l ++ (s ++ (n ++ o))))) ≡ length a + (length e + (length l + (length s + (length n + length o))))
 five_parts a e l s n o = omega (arith, length-append a (e ++ (l ++ (s ++ (n ++ o)))), length-append e (l ++ (s ++ (n ++ o))), length-append l (s ++ (n ++ o)), length-append s (n ++ o), length-append n o)
 
 worded_after : AllLaws → (c : RawSettings) (run : Run) (k : ℕ) (ask : Ask) (call : Option Plan) (answered : Answered) (span : Option Span) (next : Next) (s : HartState) → IsSetting c → Recording c run → Worded c run → k < c.harts
@@ -211,7 +211,7 @@ headers_fit c i k zero setting image within = tt
 headers_fit c i k (suc m) setting image within =
     (header_fits k 0 (start_state c i k) (omega (arith, within)) (omega arith) (omega arith) (start_words c i k setting image (omega (arith, within))), headers_fit c i (k + 1) m setting image (omega (arith, within)))
 
-headers_count : (c : RawSettings) (i : Program) (k m : ℕ) → length (first_headers c i k m) ≡ m
+pub headers_count : (c : RawSettings) (i : Program) (k m : ℕ) → length (first_headers c i k m) ≡ m
 headers_count c i k zero = refl
 headers_count c i k (suc m) = ap suc (headers_count c i (k + 1) m)
 
@@ -228,7 +228,7 @@ start_worded c i input setting image = record {
 abbrev pub KeptFit : Type 0
 KeptFit = (size : ℕ) (rs : List Record) → total (kept size rs) ≤ size
 
-turns_bound : (harts limit : ℕ) → harts ≤ 16 → limit ≤ 2 ^ 40 → harts * (limit + 1) ≤ 16 * (2 ^ 40 + 1)
+pub turns_bound : (harts limit : ℕ) → harts ≤ 16 → limit ≤ 2 ^ 40 → harts * (limit + 1) ≤ 16 * (2 ^ 40 + 1)
 turns_bound harts limit h l = (let up : limit + 1 ≤ 2 ^ 40 + 1 = omega (arith, l) in mul-le-mul h up)
 
 pub is_content : SuffixIsKept → KeptFit → (c : RawSettings) (digest : List ℕ) (n : ℕ) (run : Run) → IsSetting c → length digest ≡ 32 → After c n run → n ≤ most_turns c → broken_by c (dropped_of c run) (kept_of c run) ≡ None

@@ -61,7 +61,7 @@ conditional_fits replies.ScFailed k small = (record { fields = small; mark = ref
 conditional_fits reply k small = tt
 
 -- a mark that isn't the guard's is one of format 1
-plain_mark : (ic reason value : ℕ) → (reason == 6) ≡ false → is_mark 2 (mark ic reason value) ≡ is_mark 1 (mark ic reason value)
+pub plain_mark : (ic reason value : ℕ) → (reason == 6) ≡ false → is_mark 2 (mark ic reason value) ≡ is_mark 1 (mark ic reason value)
 plain_mark ic reason value e = ap (λ (b : Bool). has_value reason || ((reason == 1 || reason == 5 || reason == 7 || reason == 18 || b) && (value == 0))) e
 
 end_fits : (k ic reason value : ℕ) → k < 256 → ic < 2 ^ 64 → reason < 256 → value < 2 ^ 32 → (reason == 6) ≡ false → is_mark 2 (mark ic reason value) ≡ true → Fits 1 (End k (mark ic reason value))

@@ -11,4 +11,5 @@ pub mod Machines
 pub mod Few
 pub mod Fields
 pub mod Contents
+pub mod OfRows
 pub mod Worked

@@ -17,7 +17,7 @@ use Rattle.log_order.specs.Rules.{fresh, is_over}
 use Rattle.log_order.specs.Order.{after_all, terms_of, late_edge, broken, broken_by}
 use Rattle.log_order.specs.Suffix.{Keeps, IsEarly, EndsLast}
 use Rattle.log_order.specs.Weak.{AreWeak}
-use Rattle.log_ring.specs.Kept.{kept}
+use Rattle.log_ring.specs.Kept.{Held, Holds, kept}
 use Rattle.run_model.specs.declared.hart.Hart.{Hart}
 use Rattle.run_model.specs.Turn.{Run, Served, serve, serve_disorderly, served_if, is_orderly}
 use Rattle.run_model.specs.Runs.{is_live, any_live}
@@ -69,7 +69,7 @@ rows_kept laws c i run [] setting known lawful = written c run known
 rows_kept laws c i run (r ∷ rs) setting known lawful =
     by_order (is_orderly c i (run.harts r.hart) r.ask) laws c i run r rs setting known lawful (λ next k l. rows_kept laws c i next rs setting k l) refl
 
-orderly_first : (b x : Bool) → elim b as (λ z. Bool) [ true ↦ x | false ↦ false ] ≡ true → (b ≡ true) × (x ≡ true)
+pub orderly_first : (b x : Bool) → elim b as (λ z. Bool) [ true ↦ x | false ↦ false ] ≡ true → (b ≡ true) × (x ≡ true)
 orderly_first true x e = (refl, e)
 orderly_first false x e = cc
 
@@ -120,10 +120,26 @@ kept_early suffix c run w =
     let part = suffix c.log_size run.stream in
     last_part (IsEarly (counts_of run)) part.0 (kept_of c run) (subst (AllByRecursion (IsEarly (counts_of run))) part.1 w.early)
 
-pub kept_rules : SuffixIsKept → FirstAreGivenUp → KeptKeepRules → (c : RawSettings) (run : Run) → Written c run → KeepsRules c run
+pub kept_rules : SuffixIsKept → FirstAreGivenUp → KeptKeepRules → (c : RawSettings) (run : Run) → Written c run → KeepsRules c (counts_of run) (dropped_of c run) (kept_of c run)
 kept_rules suffix given rules c run w =
     let r = rules (terms_of c) c.harts (dropped_of c run) (kept_of c run) w.views (kept_keeps suffix given c run w) in
     record { views = r.0; ran = r.1; early = kept_early suffix c run w }
+
+-- ---- a ring
+
+counted_is : (d l s : ℕ) → d + l ≡ s → d ≡ s - l
+counted_is d l s e = omega (arith, e)
+
+pub held_records : (c : RawSettings) (run : Run) (ring : Held) → Holds ring run.stream → ring.size ≡ c.log_size → ring.records ≡ kept_of c run
+held_records c run ring log size = log.latest ∙ ap (λ (n : ℕ). kept n run.stream) size
+
+pub held_dropped : (c : RawSettings) (run : Run) (ring : Held) → Holds ring run.stream → ring.size ≡ c.log_size → ring.dropped ≡ dropped_of c run
+held_dropped c run ring log size = counted_is ring.dropped (length ring.records) (length run.stream) log.counted ∙ ap (λ (rs : List Record). length run.stream - length rs) (held_records c run ring log size)
+
+pub held_rules : (c : RawSettings) (run : Run) (ring : Held) → Holds ring run.stream → ring.size ≡ c.log_size → KeepsRules c (counts_of run) (dropped_of c run) (kept_of c run) → KeepsRules c (counts_of run) ring.dropped ring.records
+held_rules c run ring log size rules =
+    subst (λ (n : ℕ). KeepsRules c (counts_of run) n ring.records) (sym (held_dropped c run ring log size))
+    (subst (λ (rs : List Record). KeepsRules c (counts_of run) (dropped_of c run) rs) (sym (held_records c run ring log size)) rules)
 
 -- ---- where no hart is live
 

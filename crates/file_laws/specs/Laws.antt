@@ -1,10 +1,11 @@
 -- What a recording keeps, as a log has it.
-use Rattle.std.specs.Prelude.{◌≡◌, ℕ, true, List, Some, None}
+use Rattle.std.specs.Prelude.{◌≡◌, ℕ, true, List, length, Some, None}
 use Rattle.sha2.specs.Sha256.{sha256}
 use Rattle.bn_base.specs.Programs.{Program}
 use Rattle.bn_base.specs.Ranges.{IsSetting}
 use Rattle.bn_base.specs.declared.settings.RawSettings.{RawSettings}
 use Rattle.bn_outside.specs.declared.turn_row.TurnRow.{TurnRow}
+use Rattle.log_ring.specs.Kept.{Held, Holds}
 use Rattle.log_order.specs.Order.{broken_by}
 use Rattle.log_order.specs.Content.{Content, IsContent}
 use Rattle.log_file.specs.declared.error.FileError.{FileError}
@@ -18,12 +19,17 @@ use Rattle.run_model.specs.Runs.{start, run_of, is_over}
 use Rattle.run_model.specs.Files.{kept_of, dropped_of, content_of, file_of}
 use Rattle.run_laws.specs.History.{after_rows, are_orderly, IsLawful}
 use Rattle.file_laws.specs.Given.{IsRecording}
-use Rattle.file_laws.specs.Recorded.{KeepsRules}
+use Rattle.file_laws.specs.Recorded.{counts_of, KeepsRules, HoldsLogOfRows, ring_content}
 
 -- After lawful rows, whoever made their asks, the kept records keep the rules of single records
 abbrev pub KeptRecordsKeepTheRules : Type 0
 KeptRecordsKeepTheRules = (c : RawSettings) (i : Program) (input : List ℕ) (rows : List TurnRow) → IsSetting c → IsLawful c i (start c i input) rows
-    → KeepsRules c (after_rows c i (start c i input) rows)
+    → let run = after_rows c i (start c i input) rows in KeepsRules c (counts_of run) (dropped_of c run) (kept_of c run)
+
+-- So do the records of a ring of the log's size that holds the log
+abbrev pub RingsKeepTheRules : Type 0
+RingsKeepTheRules = (c : RawSettings) (i : Program) (input : List ℕ) (rows : List TurnRow) (ring : Held) → IsSetting c → IsLawful c i (start c i input) rows
+    → let run = after_rows c i (start c i input) rows in Holds ring run.stream → ring.size ≡ c.log_size → KeepsRules c (counts_of run) ring.dropped ring.records
 
 -- After lawful rows of orderly asks that leave no hart live, they keep all rules
 abbrev pub FinishedLogsAreInOrder : Type 0
@@ -50,3 +56,13 @@ abbrev pub FilesSuffice : Type 0
 FilesSuffice = (c : RawSettings) (i : Program) (elf input b : List ℕ) → IsRecording c i elf input b
     → (d : Content) → IsContent d → file_bytes d ≡ file_of c i (sha256 elf) input b
     → (h n : ℕ) (v : Interval) → interval_of h n d.records ≡ Some v → replayed i d.records h n ≡ record { rows = rows_in c i (start c i input) b h n; outcome = Done }
+
+-- What a ring holds after lawful rows of orderly asks that leave no hart live, whoever made these, is what a log can say
+abbrev pub LogsOfRowsAreContents : Type 0
+LogsOfRowsAreContents = (c : RawSettings) (i : Program) (input digest : List ℕ) (rows : List TurnRow) (ring : Held) → HoldsLogOfRows c i input rows ring → length digest ≡ 32
+    → IsContent (ring_content c digest ring)
+
+-- Its file has no cause for a refusal
+abbrev pub FilesOfRowsAreRead : Type 0
+FilesOfRowsAreRead = (c : RawSettings) (i : Program) (input digest : List ℕ) (rows : List TurnRow) (ring : Held) → HoldsLogOfRows c i input rows ring → length digest ≡ 32
+    → (e : FileError) → IsRefusal (file_bytes (ring_content c digest ring)) e → e ≡ OutOfMemory

@@ -3,7 +3,7 @@
 //! `run_model` and `log_order`.
 #![tactic(auto)]
 
-ghost use Rattle.file_laws.specs.Laws.{KeptRecordsKeepTheRules, FinishedLogsAreInOrder, LogsAreContents, FilesAreRead, FilesSayTheRun, FilesSuffice};
+ghost use Rattle.file_laws.specs.Laws.{KeptRecordsKeepTheRules, RingsKeepTheRules, FinishedLogsAreInOrder, LogsAreContents, FilesAreRead, FilesSayTheRun, FilesSuffice, LogsOfRowsAreContents, FilesOfRowsAreRead};
 
 mod examples;
 
@@ -45,6 +45,14 @@ pub fn kept_records_keep_their_rules()
     an_edge_follows();
     an_end_follows();
     kept_records_keep_the_rules();
+}
+
+/// So do, at all times, the records of a ring of the log's size that holds the log of lawful rows,
+/// whoever made their asks.
+pub fn rings_keep_their_rules()
+    ensures { RingsKeepTheRules }
+{
+    kept_records_keep_their_rules();
 }
 
 /// Where each ask was one that its hart could make, and no hart is live any more, the kept records
@@ -121,4 +129,35 @@ pub fn files_suffice()
 {
     files_say_the_run();
     the_log_suffices();
+}
+
+/// What a ring holds after lawful rows of orderly asks that leave no hart live is what a log can say,
+/// whoever made the asks: nothing is asked of the harts' own lists, nor of the program.
+pub fn logs_of_rows_are_contents()
+    ensures { LogsOfRowsAreContents }
+{
+    each_turn_moves_on();
+    each_turn_fits();
+    others_stay_fit();
+    format_1_is_unguarded();
+    listed_edges_are_all();
+    a_suffix_is_kept();
+    kept_records_fit();
+    no_records_are_kept();
+    one_more_is_kept();
+    the_first_are_given_up();
+    an_awaited_header_follows();
+    loads_and_conditionals_follow();
+    an_edge_follows();
+    an_end_follows();
+    kept_records_are_in_order();
+    early_edges_are_not_late();
+}
+
+/// The file of such a ring is read: it has no cause for a refusal.
+pub fn files_of_rows_are_read()
+    ensures { FilesOfRowsAreRead }
+{
+    logs_of_rows_are_contents();
+    logs_are_not_refused();
 }

@@ -6,3 +6,4 @@ pub mod Errors
 pub mod Whole
 pub mod OwnRuns
 pub mod Own
+pub mod Contents

@@ -1,13 +1,16 @@
 -- From a bus that took the turns of a list to what is handed over, or to what is wrong with the list.
 use Rattle.std.proofs.Common.{◌≡◌, ℕ, suc, ◌+◌, ◌-◌, ◌<◌, Bool, true, false, not, ◌&&◌, List, [], ◌∷◌, ◌++◌, length, get_or, take, drop, length-take, drop-cons, refl, sym, ◌∙◌, ap, subst, arith}
 use Rattle.std.specs.Prelude.{Some, slice_get}
+use Rattle.std.specs.List.{AllByRecursion}
 use Rattle.std.proofs.Math.Seq.{take-suc}
 use Rattle.std.proofs.lemmas.List.{take-append-drop}
 use Rattle.run_model.specs.Runs.{is_live, is_over, seeded, seeded_from, most_turns}
+use Rattle.log_record.specs.Spelling.{Fits}
 use Rattle.log_ring.specs.Kept.{Holds}
 use Rattle.bn_outside.specs.declared.turn_row.TurnRow.{TurnRow}
 use Rattle.run_model.specs.Turn.{Run}
 use Rattle.run_laws.specs.History.{are_orderly}
+use Rattle.run_laws.specs.Ends.{AreLastMarks}
 use Rattle.bus_core.specs.Bus.{Began, Seen, IsState, IsLogged, first_run, run_after, marks}
 use Rattle.bus_core.specs.declared.closed.Closed.{Closed}
 use Rattle.hart_worker.specs.Closed.{IsOfRows}
@@ -83,8 +86,9 @@ orderly_if disordered true e d = refl
 orderly_if disordered false e d = cc
 
 pub of_rows : {B : Type 0} (s : Seen) (closed : Closed B) (rows : List TurnRow) → IsLogged s closed.ring rows → closed.finished ≡ (not s.halted && not s.disordered && is_over s.began.settings (run_after s.began s.halted rows)) → closed.finished ≡ true
-    → closed.out.items ≡ (run_after s.began s.halted rows).machine.out → closed.err.items ≡ (run_after s.began s.halted rows).machine.err → closed.ends.items ≡ marks 0 s.began.settings.harts (run_after s.began s.halted rows).harts → closed.turns ≡ s.turns → IsOfRows s.began closed rows
-of_rows {B} s closed rows l finished whole out err ends turns =
+    → closed.out.items ≡ (run_after s.began s.halted rows).machine.out → closed.err.items ≡ (run_after s.began s.halted rows).machine.err → closed.ends.items ≡ marks 0 s.began.settings.harts (run_after s.began s.halted rows).harts → closed.turns ≡ s.turns
+    → AllByRecursion (Fits 2) closed.ring.records → AreLastMarks closed.ring.records closed.ends.items → IsOfRows s.began closed rows
+of_rows {B} s closed rows l finished whole out err ends turns fit last =
     let b = s.began in
     let end = ended_of s.halted s.disordered (is_over b.settings (run_after b s.halted rows)) (sym finished ∙ whole) in
     let same = ap (λ (x : Bool). run_after b x rows) end.0 in record {
@@ -96,4 +100,6 @@ of_rows {B} s closed rows l finished whole out err ends turns =
       ends = ends ∙ ap (λ (r : Run). marks 0 b.settings.harts r.harts) same;
       turns = turns ∙ l.state.turns ∙ ap (λ (r : Run). r.turns) same;
       log = subst (λ (r : Run). Holds closed.ring r.stream) same l.log;
+      fit = fit;
+      last_marks = last;
     }

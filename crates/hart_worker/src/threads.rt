@@ -2,7 +2,7 @@
 ghost use Rattle.std.specs.Prelude.{◌≡◌, ◌<◌, ℕ, true, List, length, vec_len, slice_index_or, IfOk};
 ghost use Rattle.bn_outside.specs.declared.turn_row.TurnRow.{TurnRow};
 ghost use Rattle.bus_core.specs.Bus.{began_of};
-ghost use Rattle.hart_worker.specs.Closed.{IsOfRows};
+ghost use Rattle.hart_worker.specs.Closed.{IsOfRows, HoldsContent};
 ghost use Rattle.hart_worker.specs.Threads.{AreWorked, IsHartsOwn, IsThreaded};
 
 use crate::own_place::OwnPlace;
@@ -11,6 +11,7 @@ use crate::worker::{LockedBus, Worked, work_at};
 use bn_base::HartId;
 use bn_outside::{Book, Gate};
 use bus_core::{Bus, Closed};
+use file_laws::logs_of_rows_are_contents;
 use run_model::Start;
 use rv_meaning::DecodedImage;
 use std::alloc::{AllocError, Global};
@@ -21,6 +22,7 @@ use std::thread::Threads;
 /// Runs each hart in a thread of its own, on one bus under its lock. What is given is a whole run: where
 /// the book tells its rows, they are those of the list of their harts, which is legal and finished, each
 /// hart's are its own, and all else is as the turns of that list leave it. Which list comes isn't told.
+/// With any book the ring holds what a log can say.
 ///
 /// Where the book and the harts don't agree on the turns, or the bus was begun otherwise, the run is made
 /// again by the turns of seed 0. The only error is want of memory, also that of a hart.
@@ -34,8 +36,11 @@ pub fn run_threads<B: Book + Send, G: Gate, R: Threads + Wait + Sync>(
     ensures finished { IfOk result (λ c. c.finished ≡ true) }
     ensures size { IfOk result (λ c. c.ring.size ≡ from.now.settings.log_size) }
     ensures of_rows { IfOk result (λ c. (rows : List TurnRow) × IsOfRows (began_of from.now) c rows) }
+    ensures content { IfOk result (λ c. HoldsContent from.now.settings c) }
     ensures run { IfOk result (λ c. B.tells ≡ true → IsThreaded (began_of from.now) c (B.told c.book)) }
 {
+    logs_of_rows_are_contents();
+    let _settings = from.settings.raw();
     let code = DecodedImage::new(alloc, &from.image)?;
     let bus = Mutex::new(Bus::new(alloc, from, book)?);
     let worked = run_workers(rt, alloc, &bus, &code, from, gate)?;

@@ -1,5 +1,5 @@
 -- What holds of the turns of a legal list.
-use Rattle.std.specs.Prelude.{◌≡◌, ◌≤◌, ◌<◌, ◌==◌, ℕ, true, false, List, [], ◌∷◌, ◌++◌, length, map, IsTrue}
+use Rattle.std.specs.Prelude.{◌≡◌, ◌≤◌, ◌<◌, ◌==◌, ℕ, true, false, List, [], ◌∷◌, ◌++◌, length, map, IsTrue, Some}
 use Rattle.rv_meaning.specs.Execute.{absorbed}
 use Rattle.rv_meaning.specs.Orderly.{is_reply_to}
 use Rattle.rv_meaning.specs.declared.asks.Ask.{Ask}
@@ -9,9 +9,12 @@ use Rattle.run_model.specs.Turn.{Run, serve, turn, ask_at, is_orderly}
 use Rattle.bn_base.specs.Programs.{Program}
 use Rattle.bn_base.specs.Ranges.{IsSetting}
 use Rattle.bn_base.specs.declared.settings.RawSettings.{RawSettings}
+use Rattle.bn_base.specs.declared.end_mark.EndMark.{EndMark}
+use Rattle.log_record.specs.declared.record.Record.{Record}
 use Rattle.run_model.specs.Files.{kept_of, IsEndOf}
 use Rattle.run_model.specs.Runs.{start, start_hart, start_state, run_from, run_of, legal_from, most_turns}
 use Rattle.run_laws.specs.History.{after_rows, are_orderly, IsLawful, IsOwn, Place, place_of, place_after, ask_from, rows_from, rows_by}
+use Rattle.run_laws.specs.Ends.{last_end}
 
 -- the rows of a legal list are lawful from the start, and lead to its run
 abbrev pub TurnsAreLawful : Type 0
@@ -103,3 +106,16 @@ OwnRowsAreJoined = (c : RawSettings) (i : Program) (input : List ℕ) (rows : Li
 -- the reply to an ask, whoever made it, is one to what it wants
 abbrev pub RepliesFit : Type 0
 RepliesFit = (c : RawSettings) (i : Program) (run : Run) (k : ℕ) (ask : Ask) → IsTrue (is_reply_to ask.want (serve c i run k ask).reply)
+
+-- ---- marks
+
+-- After any rows, whoever made their asks, each hart's last mark is that of its last End in the stream, and it has none where
+-- it has no End
+abbrev pub LastEndsAreMarks : Type 0
+LastEndsAreMarks = (c : RawSettings) (i : Program) (input : List ℕ) (rows : List TurnRow) (h : ℕ) → h < c.harts
+    → let run = after_rows c i (start c i input) rows in last_end h run.stream ≡ (run.harts h).mark
+
+-- So is that of its last End at the end of the stream, where it has one there
+abbrev pub KeptEndsAreMarks : Type 0
+KeptEndsAreMarks = (c : RawSettings) (i : Program) (input : List ℕ) (rows : List TurnRow) (rs : List Record) (h : ℕ) (m : EndMark) → h < c.harts
+    → let run = after_rows c i (start c i input) rows in IsEndOf run.stream rs → last_end h rs ≡ Some m → (run.harts h).mark ≡ Some m

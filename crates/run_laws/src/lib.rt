@@ -2,7 +2,7 @@
 //! nothing: their contracts are theorems over the definitions of `run_model`.
 #![tactic(auto)]
 
-ghost use Rattle.run_laws.specs.Laws.{TurnsAreLawful, TurnsAreOwn, RunsEnd, OwnAsksAreOrderly, TurnsMoveTheirHart, KeptIsAnEnd, OwnRowsGoOn, OwnRowsAreTurns, OwnRowsGrow, ListsGoOn, OwnRowsAreJoined, RepliesFit};
+ghost use Rattle.run_laws.specs.Laws.{TurnsAreLawful, TurnsAreOwn, RunsEnd, OwnAsksAreOrderly, TurnsMoveTheirHart, KeptIsAnEnd, OwnRowsGoOn, OwnRowsAreTurns, OwnRowsGrow, ListsGoOn, OwnRowsAreJoined, RepliesFit, LastEndsAreMarks, KeptEndsAreMarks};
 
 mod examples;
 
@@ -110,4 +110,17 @@ pub fn own_rows_are_joined()
 #[tactic(auto, using(crate::proofs::Replies::replies_fit))]
 pub fn replies_fit()
     ensures { RepliesFit }
+{}
+
+/// Each hart's last mark is that of its last End in the stream, after any rows, whoever made their asks;
+/// a hart that has no mark has no End.
+#[tactic(auto, using(crate::proofs::LastEnds::ends_are_marks))]
+pub fn last_ends_are_marks()
+    ensures { LastEndsAreMarks }
+{}
+
+/// So is that of the last End that a hart has at the end of the stream, which is what a log keeps.
+#[tactic(auto, using(crate::proofs::LastEnds::kept_ends_are_marks))]
+pub fn kept_ends_are_marks()
+    ensures { KeptEndsAreMarks }
 {}

@@ -5,9 +5,11 @@ use Rattle.run_model.specs.declared.hart.Hart.{Hart}
 use Rattle.run_model.specs.Runs.{any_live, is_over}
 use Rattle.run_model.specs.Stands.Harts.{hart_in}
 use Rattle.run_model.specs.Stands.Turning.{parts}
-use Rattle.bus_core.specs.Bus.{Seen, seen, marks, IsState, IsLogged}
+use Rattle.log_ring.specs.Kept.{Held, Holds}
+use Rattle.bus_core.specs.Bus.{Seen, seen, marks, began_of, run_after, IsState, IsLogged}
 use Rattle.bus_core.proofs.History.{logged_is}
 use Rattle.bus_core.proofs.Marks.{marks_are, live_is, over_is}
+use Rattle.bus_core.proofs.LastMarks.{last_marks_are}
 use Rattle.bus_core.proofs.bus.Bus.close.Goals as goal
 
 pub returns-clause-ends : goal.returns-clause-ends
@@ -42,3 +44,16 @@ returns-clause-some g c =
     let ring = c.into_recorded-recorded.result.ring in
     let some = c.self.invariant.some in
     (some.0, subst (λ (s : Seen). IsLogged s ring some.0) c.self.view_is (logged_is p b.halted b.disordered told some.0 ring c.into_recorded-recorded.ensures.ring some.1))
+
+pub returns-clause-last_marks : goal.returns-clause-last_marks
+returns-clause-last_marks g c =
+    let b = c.self.inside in
+    let p = parts b.plain in
+    let some = c.self.invariant.some in
+    let s = p.start in
+    let ring = c.into_recorded-recorded.result.ring in
+    let run = run_after (began_of s) b.halted some.0 in
+    let log : Holds ring run.stream = subst (λ (r : Held). Holds r run.stream) (sym c.into_recorded-recorded.ensures.ring) some.1.run.trace.log.holds in
+    let ends = c.of.ensures ∙ ap (λ (v : Vec Hart Global). map (λ (h : Hart). h.mark) v.items) c.into_recorded-recorded.ensures.harts
+    ∙ marks_are p.trace.harts.items run.harts s.settings.harts some.1.run.trace.harts b.plain.fits.harts in
+    last_marks_are c.a_suffix_is_kept.ensures c.kept_ends_are_marks.ensures (began_of s) b.halted some.0 ring c.of.result.items log ends

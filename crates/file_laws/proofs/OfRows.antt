@@ -1,0 +1,247 @@
+-- What a ring holds after lawful rows is what a log says.
+use Rattle.std.proofs.Common.{◌≡◌, ℕ, zero, suc, ◌+◌, ◌*◌, ◌<◌, ◌≤◌, ◌^◌, Bool, true, false, not, ◌&&◌, nat_lt, Option, Some, None, List, [], ◌∷◌, ◌++◌, length, refl, sym, ◌∙◌, ap, subst, arith, inl, inr}
+use Rattle.std.specs.Prelude.{◌≢◌, ◌==◌}
+use Rattle.std.specs.List.{AllByRecursion}
+use Rattle.std.proofs.lemmas.Bool.Decides.{eqb_tells}
+use Rattle.bn_base.specs.Programs.{Program}
+use Rattle.bn_base.specs.Ranges.{IsSetting}
+use Rattle.bn_base.specs.declared.settings.RawSettings.{RawSettings}
+use Rattle.bn_base.specs.declared.state.HartState.{HartState}
+use Rattle.rv_meaning.specs.Execute.{absorbed}
+use Rattle.rv_meaning.specs.declared.asks.Ask.{Ask}
+use Rattle.rv_meaning.specs.declared.asks.Reply.{Reply}
+use Rattle.rv_meaning.specs.declared.asks.Reply.TheVariants as replies
+use Rattle.system_calls.specs.declared.effect.Plan.{Plan}
+use Rattle.first_load_bits.specs.declared.warm.Warm.{Warm}
+use Rattle.first_load_bits.specs.declared.warm.Warm.TheVariants as answers
+use Rattle.race_log.specs.Points.{Point}
+use Rattle.race_log.specs.Kept.{after}
+use Rattle.race_log.specs.Tests.{sources_into}
+use Rattle.bn_outside.specs.declared.turn_row.TurnRow.{TurnRow}
+use Rattle.log_record.specs.declared.record.Record.{Record}
+use Rattle.log_record.specs.declared.record.Record.TheVariants.{End}
+use Rattle.log_record.specs.Spelling.{Fits, is_mark, is_marked, total}
+use Rattle.log_order.specs.Content.{IsContent}
+use Rattle.log_order.specs.Order.{broken_by}
+use Rattle.log_ring.specs.Kept.{Held, kept}
+use Rattle.run_model.specs.declared.hart.Hart.{Hart}
+use Rattle.run_model.specs.declared.next.Next.{Next}
+use Rattle.run_model.specs.declared.next.Next.TheVariants.{GoesOn, NewInterval, HartOver, RunOver}
+use Rattle.run_model.specs.declared.span.Span.{Span}
+use Rattle.run_model.specs.Machine.{Answered, answer, call_of}
+use Rattle.run_model.specs.Stands.Harts.{all_left}
+use Rattle.run_model.specs.Stands.Logs.{is_marked_next}
+use Rattle.run_model.specs.Turn.{Run, Served, serve, after_ask, span_of, next_of, loading, warmth, word_before, point_of, edges_from, edge_records, load_record, sc_record, next_records, stopped_records, run_over_records, harts_after, is_orderly, mark}
+use Rattle.run_model.specs.Runs.{start, start_hart, start_state, first_headers, most_turns}
+use Rattle.run_model.specs.Counts.{MovesOn, turns_left}
+use Rattle.run_model.specs.Files.{kept_of, dropped_of}
+use Rattle.run_laws.specs.History.{after_rows, are_orderly, IsLawful}
+use Rattle.file_laws.specs.Recorded.{counts_of, HoldsLogOfRows, ring_content}
+use Rattle.file_laws.proofs.Nexts.{EndsAs, next_ends}
+use Rattle.file_laws.proofs.Few.{EdgesFall, few_edges}
+use Rattle.file_laws.proofs.Fields.{plain_mark, load_few, conditional_few, next_few, over_few}
+use Rattle.file_laws.proofs.Turns.{Laws, Recording, all_both, own_hart, own_is, other_is, format_is_1, served, turn_kept}
+use Rattle.file_laws.proofs.Rows.{SuffixIsKept, both, below_of, last_part, orderly_first, held_records, held_dropped}
+use Rattle.file_laws.proofs.Contents.{KeptFit, few_harts, five_parts, headers_count, turns_bound}
+
+-- ---- records that a log of version 1 has, but for the size of their numbers
+
+pub IsPlain : Record → Type 0
+IsPlain r = is_marked 1 r ≡ true
+
+edges_plain : (k ic : ℕ) (ss : List (ℕ × ℕ)) → AllByRecursion IsPlain (edges_from k ic ss)
+unfolding IsPlain
+edges_plain k ic [] = tt
+edges_plain k ic (s ∷ ss) = (refl, edges_plain k ic ss)
+
+point_plain : (point : Option Point) (points : List Point) → AllByRecursion IsPlain (edge_records point points)
+point_plain None points = tt
+point_plain (Some p) points = edges_plain p.hart p.count (sources_into (after points p) (length points))
+
+load_plain : (load : Option Warm) (k skipped word : ℕ) → AllByRecursion IsPlain (load_record load k skipped word)
+unfolding IsPlain
+load_plain (Some answers.Cold) k skipped word = (refl, tt)
+load_plain (Some answers.Warm) k skipped word = tt
+load_plain None k skipped word = tt
+
+conditional_plain : (reply : Reply) (k : ℕ) → AllByRecursion IsPlain (sc_record reply k)
+unfolding IsPlain
+conditional_plain replies.ScOk k = (refl, tt)
+conditional_plain replies.ScFailed k = (refl, tt)
+conditional_plain reply k = tt
+
+end_plain : (k ic reason value : ℕ) → (reason == 6) ≡ false → is_mark 2 (mark ic reason value) ≡ true → IsPlain (End k (mark ic reason value))
+unfolding IsPlain
+end_plain k ic reason value u m = sym (plain_mark ic reason value u) ∙ m
+
+next_plain : (next : Next) (c : RawSettings) (h : Hart) (k number : ℕ) (s : HartState) → EndsAs c h s.ic next → is_marked_next next ≡ true → AllByRecursion IsPlain (next_records next k number s)
+unfolding IsPlain
+next_plain GoesOn c h k number s so m = tt
+next_plain (NewInterval reason v) c h k number s so m = (end_plain k s.ic reason v so.unguarded m, (refl, tt))
+next_plain (HartOver reason v) c h k number s so m = (end_plain k s.ic reason v so.unguarded m, tt)
+next_plain (RunOver reason v) c h k number s so m = (end_plain k s.ic reason v so.unguarded m, tt)
+
+stop_plain : (b : Bool) (j ic : ℕ) (rs : List Record) → AllByRecursion IsPlain rs → AllByRecursion IsPlain (elim b as (λ x. List Record) [ true ↦ End j (mark ic 5 0) ∷ rs | false ↦ rs ])
+unfolding IsPlain
+stop_plain true j ic rs a = (refl, a)
+stop_plain false j ic rs a = a
+
+stops_plain : (k j n : ℕ) (harts : ℕ → Hart) → AllByRecursion IsPlain (stopped_records k j n harts)
+stops_plain k j zero harts = tt
+stops_plain k j (suc n) harts = stop_plain (not (j == k) && (harts j).live) j (harts j).state.ic (stopped_records k (j + 1) n harts) (stops_plain k (j + 1) n harts)
+
+over_plain : (next : Next) (k n : ℕ) (harts : ℕ → Hart) → AllByRecursion IsPlain (run_over_records next k n harts)
+over_plain (RunOver reason value) k n harts = stops_plain k 0 n harts
+over_plain GoesOn k n harts = tt
+over_plain (NewInterval reason value) k n harts = tt
+over_plain (HartOver reason value) k n harts = tt
+
+headers_plain : (c : RawSettings) (i : Program) (k m : ℕ) → AllByRecursion IsPlain (first_headers c i k m)
+unfolding IsPlain
+headers_plain c i k zero = tt
+headers_plain c i k (suc m) = (refl, headers_plain c i (k + 1) m)
+
+-- such records of a ring, which has those of version 2, are those of version 1
+plain_fits : (rs : List Record) → AllByRecursion (Fits 2) rs → AllByRecursion IsPlain rs → AllByRecursion (Fits 1) rs
+unfolding IsPlain
+plain_fits [] fit plain = tt
+plain_fits (r ∷ rs) fit plain = (record { fields = fit.0.fields; mark = plain.0 }, plain_fits rs fit.1 plain.1)
+
+-- ---- how many turns are left
+
+all_less : (c : RawSettings) (n : ℕ) (f g : ℕ → Hart) → ((k : ℕ) → turns_left c (g k) ≤ turns_left c (f k)) → all_left c n g ≤ all_left c n f
+all_less c zero f g each = omega arith
+all_less c (suc n) f g each = omega (arith, each n, all_less c n f g each)
+
+one_less : (c : RawSettings) (n own : ℕ) (f g : ℕ → Hart) → own < n → ((k : ℕ) → turns_left c (g k) ≤ turns_left c (f k)) → turns_left c (g own) < turns_left c (f own) → all_left c n g < all_left c n f
+one_less c zero own f g within each less = omega (arith, within)
+one_less c (suc n) own f g within each less = elim (eqb_tells own n) [
+  | inl p ↦ omega (arith, all_less c n f g each, subst (λ (k : ℕ). turns_left c (g k) < turns_left c (f k)) p.1 less)
+  | inr p ↦ omega (arith, each n, one_less c n own f g (lower own n within p.1) each less)
+]
+  where
+    lower : (j n : ℕ) → j < suc n → j ≢ n → j < n
+    lower j n h e = omega (arith, h, e)
+
+all_first : (c : RawSettings) (i : Program) (n : ℕ) → all_left c n (λ k. start_hart k (start_state c i k)) ≡ n * (c.limit + 1)
+all_first c i zero = omega arith
+all_first c i (suc n) = omega (arith, all_first c i n)
+
+-- ---- a turn
+
+-- what holds of a run all of whose asks were orderly, beside the order of its records
+pub record Counted (c : RawSettings) (run : Run) : Type 0 where
+  pub plain : AllByRecursion IsPlain run.stream
+  pub few : length run.stream ≤ 16 + 40 * run.turns
+  pub left : run.turns + all_left c c.harts run.harts ≤ most_turns c
+
+one_later : (turns old new most : ℕ) → new < old → turns + old ≤ most → turns + 1 + new ≤ most
+one_later turns old new most h l = omega (arith, h, l)
+
+few_more : (stream more turns harts : ℕ) → stream ≤ 16 + 40 * turns → more ≤ harts + (1 + (1 + (2 + harts))) → harts ≤ 16 → stream + more ≤ 16 + 40 * (turns + 1)
+few_more stream more turns harts h m l = omega (arith, h, m, l)
+
+parts_few : (e l s n o harts : ℕ) → e ≤ harts → l ≤ 1 → s ≤ 1 → n ≤ 2 → o ≤ harts → e + (l + (s + (n + o))) ≤ harts + (1 + (1 + (2 + harts)))
+parts_few e l s n o harts a b c d f = omega (arith, a, b, c, d, f)
+
+counted_after : Laws → EdgesFall → (c : RawSettings) (run : Run) (k : ℕ) (ask : Ask) (call : Option Plan) (answered : Answered) (span : Option Span) (next : Next) (s : HartState) → IsSetting c → Recording c run → Counted c run → k < c.harts → (run.harts k).live ≡ true
+    → MovesOn c (run.harts k) ask.state.ic s.ic next span (loading ask.want) → EndsAs c (run.harts k) s.ic next → Counted c (after_ask c run k ask call answered span next s)
+counted_after laws fall c run k ask call answered span next s setting known w there live on so =
+    let h = run.harts k in
+    let new = after_ask c run k ask call answered span next s in
+    let own : Hart = own_hart c run k ask next s new.bytes in
+    let point = point_of k ask.state.ic run.turns span in
+    let load = warmth c (loading ask.want) (run.events k) in
+    let word = word_before run.machine.memory (loading ask.want) in
+    let es : List Record = edge_records point run.points in
+    let ls : List Record = load_record load k h.skipped word in
+    let cs : List Record = sc_record answered.reply k in
+    let ns : List Record = next_records next k h.number s in
+    let os : List Record = run_over_records next k c.harts run.harts in
+    let limits : (j : ℕ) → counts_of run j ≤ c.limit = λ j. (known.fit j).fit.limit in
+    let edges : length es ≤ c.harts = few_edges laws.listed fall point run.points c.harts c.limit (counts_of run) known.points limits in
+    let fits = laws.fits c h ask.state.ic new.bytes s next span (loading ask.want) (run.events k) setting.interval_low live (known.fit k).fit on in
+    let mine : turns_left c (harts_after next k own run.harts k) < turns_left c h = subst (λ (x : Hart). turns_left c x < turns_left c h) (sym (own_is next k k own run.harts (same_self k))) fits.1 in
+    let each : (j : ℕ) → turns_left c (harts_after next k own run.harts j) ≤ turns_left c (run.harts j) = λ j. elim (eqb_tells j k) [
+      | inl p ↦ subst (λ (n : ℕ). turns_left c (harts_after next k own run.harts n) ≤ turns_left c (run.harts n)) (sym p.1) (omega (arith, mine))
+      | inr p ↦ subst (λ (x : Hart). turns_left c x ≤ turns_left c (run.harts j)) (sym (other_is next k j own run.harts p.0)) (laws.others c (run.harts j) next (known.fit j)).1
+    ] in record {
+      plain = all_both IsPlain run.stream (es ++ (ls ++ (cs ++ (ns ++ os)))) w.plain
+          (all_both IsPlain es (ls ++ (cs ++ (ns ++ os))) (point_plain point run.points)
+          (all_both IsPlain ls (cs ++ (ns ++ os)) (load_plain load k h.skipped word)
+          (all_both IsPlain cs (ns ++ os) (conditional_plain answered.reply k)
+          (all_both IsPlain ns os (next_plain next c h k h.number s so on.marked) (over_plain next k c.harts run.harts)))));
+      few = (let more = parts_few (length es) (length ls) (length cs) (length ns) (length os) c.harts edges (load_few load k h.skipped word) (conditional_few answered.reply k) (next_few next k h.number s) (over_few next k c.harts run.harts) in
+          let all = few_more (length run.stream) _ run.turns c.harts w.few more (few_harts c setting) in
+          subst (λ (n : ℕ). n ≤ 16 + 40 * (run.turns + 1)) (sym (five_parts run.stream es ls cs ns os)) all);
+      left = one_later run.turns (all_left c c.harts run.harts) (all_left c c.harts (harts_after next k own run.harts)) (most_turns c) (one_less c c.harts k run.harts (harts_after next k own run.harts) there each mine) w.left;
+    }
+  where
+    same_self : (k : ℕ) → (k == k) ≡ true
+    same_self k = grind arith
+
+turn_counted : Laws → EdgesFall → (c : RawSettings) (i : Program) (run : Run) (k : ℕ) (ask : Ask) → IsSetting c → Recording c run → Counted c run → k < c.harts → (run.harts k).live ≡ true → is_orderly c i (run.harts k) ask ≡ true → Counted c (serve c i run k ask).run
+turn_counted laws fall c i run k ask setting known w there live o =
+    let h = run.harts k in
+    let call : Option Plan = call_of i run.machine ask.want in
+    let answered : Answered = answer c call run.machine k ask in
+    let s : HartState = absorbed ask answered.reply in
+    let next : Next = next_of c call h ask.want answered.reply s.ic in
+    let on = laws.moves c i run.machine h k ask (omega (arith, setting.limit_high)) (known.fit k).fit live o in
+    let so = next_ends call c h ask.want answered.reply s.ic setting.interval_low in
+    subst (λ (x : Served). Counted c x.run) (sym (served laws c i run k ask setting o)) (counted_after laws fall c run k ask call answered (span_of call ask.want answered.reply) next s setting known w there live on so)
+
+-- ---- lawful rows of orderly asks
+
+-- a run after them
+pub record AfterRows (c : RawSettings) (run : Run) : Type 0 where
+  pub known : Recording c run
+  pub counted : Counted c run
+
+rows_counted : Laws → EdgesFall → (c : RawSettings) (i : Program) (run : Run) (rows : List TurnRow) → IsSetting c → AfterRows c run → IsLawful c i run rows → are_orderly c i run rows ≡ true → AfterRows c (after_rows c i run rows)
+rows_counted laws fall c i run [] setting a lawful orderly = a
+rows_counted laws fall c i run (r ∷ rs) setting a lawful orderly =
+    let live = both (nat_lt r.hart c.harts) (run.harts r.hart).live lawful.0 in
+    let there = below_of r.hart c.harts live.0 in
+    let first = orderly_first (is_orderly c i (run.harts r.hart) r.ask) (are_orderly c i (serve c i run r.hart r.ask).run rs) orderly in
+    let next : AfterRows c (serve c i run r.hart r.ask).run = record {
+      known = turn_kept laws c i run r.hart r.ask setting a.known there live.1 first.0;
+      counted = turn_counted laws fall c i run r.hart r.ask setting a.known a.counted there live.1 first.0;
+    } in
+    rows_counted laws fall c i (serve c i run r.hart r.ask).run rs setting next lawful.3 first.1
+
+start_counted : (c : RawSettings) (i : Program) (input : List ℕ) → IsSetting c → Counted c (start c i input)
+start_counted c i input setting = record {
+  plain = headers_plain c i 0 c.harts;
+  few = omega (arith, headers_count c i 0 c.harts, few_harts c setting);
+  left = omega (arith, all_first c i c.harts);
+}
+
+pub rows_end : Laws → EdgesFall → (c : RawSettings) (i : Program) (input : List ℕ) (rows : List TurnRow) → IsSetting c → Recording c (start c i input) → IsLawful c i (start c i input) rows → are_orderly c i (start c i input) rows ≡ true
+    → AfterRows c (after_rows c i (start c i input) rows)
+rows_end laws fall c i input rows setting known lawful orderly = rows_counted laws fall c i (start c i input) rows setting (record { known = known; counted = start_counted c i input setting }) lawful orderly
+
+-- ---- the content
+
+least : (a b m : ℕ) → a + b ≤ m → a ≤ m
+least a b m h = omega (arith, h)
+
+low_of : (dropped kept stream turns most : ℕ) → dropped + kept ≡ stream → stream ≤ 16 + 40 * turns → turns ≤ most → most ≤ 16 * (2 ^ 40 + 1) → dropped < 2 ^ 64
+low_of dropped kept stream turns most e f t m = omega (arith, e, f, t, m)
+
+pub ring_is_content : SuffixIsKept → KeptFit → (c : RawSettings) (i : Program) (input digest : List ℕ) (rows : List TurnRow) (ring : Held) → HoldsLogOfRows c i input rows ring → length digest ≡ 32 → AfterRows c (after_rows c i (start c i input) rows)
+    → (let run = after_rows c i (start c i input) rows in broken_by c (dropped_of c run) (kept_of c run) ≡ None) → IsContent (ring_content c digest ring)
+ring_is_content suffix bound c i input digest rows ring h size a order =
+    let run = after_rows c i (start c i input) rows in
+    let setting = h.setting in
+    let part = suffix c.log_size run.stream in
+    let records = held_records c run ring h.log h.size in
+    let dropped = held_dropped c run ring h.log h.size in
+    let plain : AllByRecursion IsPlain ring.records = subst (AllByRecursion IsPlain) (sym records) (last_part IsPlain part.0 (kept_of c run) (subst (AllByRecursion IsPlain) part.1 a.counted.plain)) in record {
+      settings = setting;
+      digest = size;
+      dropped = low_of ring.dropped (length ring.records) (length run.stream) run.turns (most_turns c) h.log.counted a.counted.few (least run.turns _ (most_turns c) a.counted.left) (turns_bound c.harts c.limit (few_harts c setting) setting.limit_high);
+      fit = subst (λ (format : ℕ). AllByRecursion (Fits format) ring.records) (sym (format_is_1 c setting)) (plain_fits ring.records h.fit plain);
+      bound = subst (λ (rs : List Record). total rs ≤ c.log_size) (sym records) (bound c.log_size run.stream);
+      order = ap (λ (n : ℕ). broken_by c n ring.records) dropped ∙ ap (broken_by c (dropped_of c run)) records ∙ order;
+    }
