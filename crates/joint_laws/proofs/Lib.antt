@@ -1,0 +1,11 @@
+pub mod ByCount
+pub mod RaceOrder
+pub mod Times
+pub mod Filled
+pub mod Moves
+pub mod Follows
+pub mod Steps
+pub mod Rows
+pub mod Words
+pub mod Once
+pub mod Memory

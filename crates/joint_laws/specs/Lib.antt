@@ -1,0 +1,5 @@
+pub mod Recordings
+pub mod Steps
+pub mod Chains
+pub mod Filled
+pub mod Laws
