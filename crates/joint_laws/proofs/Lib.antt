@@ -9,3 +9,7 @@ pub mod Rows
 pub mod Words
 pub mod Once
 pub mod Memory
+pub mod Starts
+pub mod States
+pub mod Said
+pub mod Worked

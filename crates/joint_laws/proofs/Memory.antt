@@ -30,9 +30,9 @@ use Rattle.joint_replay.specs.Joining.{Taken, Walk}
 use Rattle.joint_replay.specs.Ways.{IsRowAt}
 use Rattle.joint_replay.specs.Sound.{IsSound}
 use Rattle.joint_replay.specs.Chains.{Did}
-use Rattle.joint_replay.specs.Laws.{StepsPass, StartsAreSound}
+use Rattle.joint_replay.specs.Laws.{StepsPass}
 use Rattle.joint_laws.specs.Filled.{FillsAreFilled}
-use Rattle.joint_laws.specs.Laws.{KeepsOrder, HasMemory, IsRecordedWord}
+use Rattle.joint_laws.specs.Laws.{BeginsSound, KeepsOrder, HasMemory, IsRecordedWord}
 use Rattle.joint_laws.specs.Recordings.{Recording, IsLogOf, OfBeginnings, begin, points_of}
 use Rattle.joint_laws.specs.Steps.{told_by}
 use Rattle.joint_laws.proofs.ByCount.{some_is}
@@ -146,7 +146,7 @@ same_row i s rows b d q r counted x y e =
 
 -- ---- the steps that were taken
 
-item_of : (r : Recording) (records : List Record) (ts : List Taken) (x : ℕ) (t : Taken) → AreTaken r records ts → slice_get ts x ≡ Some t → IsItemOf r records t.hart t.item
+pub item_of : (r : Recording) (records : List Record) (ts : List Taken) (x : ℕ) (t : Taken) → AreTaken r records ts → slice_get ts x ≡ Some t → IsItemOf r records t.hart t.item
 item_of r records [] x t all e = absurd cc
 item_of r records (u ∷ us) zero t all e = subst (λ (v : Taken). IsItemOf r records v.hart v.item) (some_is u t (Some u) refl e) all.0
 item_of r records (u ∷ us) (suc x) t all e = item_of r records us x t all.1 e
@@ -239,14 +239,14 @@ module _ (r : Recording) (records : List Record) (order : List ℕ) (w : Walk) (
       point = has.point;
       at = has.at;
       did = did;
+      touches = touched;
       value = sym has.value;
       no_later = no_later;
     }
 
-pub has_memory : StepsPass → StartsAreSound → OfBeginnings IsFollowed → OfBeginnings KeepsOrder → LoadedProgramsAreImages → PartsHaveCodeWords → RunRowsTellWords → RunWritersHaveRows → TurnRowsAreRows → RowsAreCounted → FillsAreFilled → OfBeginnings HasMemory
+pub has_memory : StepsPass → BeginsSound → OfBeginnings IsFollowed → OfBeginnings KeepsOrder → LoadedProgramsAreImages → PartsHaveCodeWords → RunRowsTellWords → RunWritersHaveRows → TurnRowsAreRows → RowsAreCounted → FillsAreFilled → OfBeginnings HasMemory
 has_memory pass starts follow keeps images parts tell writers turn_rows counted fills r records order w log b a word e =
-    let high = log.recording.setting.limit_high in
-    let sound : IsSound (begin r records) = starts r.program r.settings log.dropped records (omega (arith, high)) log.order in
+    let sound : IsSound (begin r records) = starts r records log in
     let image = images r.elf r.settings r.program log.recording.bytes log.recording.setting log.recording.loaded in
     let codes : HasCodeWords r.program = parts r.program image.words in
     let l : IsLatest w.taken a word = latest w.taken a word (sym (words_are r records order w b a) ∙ e) in

@@ -1,5 +1,5 @@
 -- Race order: chains of the run, in allowed orders.
-use Rattle.std.proofs.Common.{◌≡◌, ℕ, zero, suc, ◌+◌, ◌<◌, ◌≤◌, ◌^◌, inl, inr, refl, subst, arith, List, [], ◌∷◌, slice_get, Option, Some, None}
+use Rattle.std.proofs.Common.{◌≡◌, ℕ, zero, suc, ◌+◌, ◌<◌, ◌≤◌, inl, inr, refl, subst, arith, List, [], ◌∷◌, slice_get, Option, Some, None}
 use Rattle.std.proofs.lemmas.Bool.Decides.{eqb_tells}
 use Rattle.bn_base.specs.Programs.{Program}
 use Rattle.log_record.specs.declared.record.Record.{Record}
@@ -12,11 +12,11 @@ use Rattle.joint_replay.specs.Points.{intervals_in}
 use Rattle.joint_replay.specs.Lanes.{with_course, courses_of, lane_of}
 use Rattle.joint_replay.specs.Joining.{lanes_from}
 use Rattle.joint_replay.specs.Ways.{InCourses}
-use Rattle.joint_replay.specs.Laws.{StartsAreSound, ChainsAreKept}
+use Rattle.joint_replay.specs.Laws.{ChainsAreKept}
 use Rattle.joint_replay.specs.Chains.{Leads, IsLeft, one as lead_one}
 use Rattle.joint_laws.specs.Chains.{ChainsLead}
 use Rattle.joint_laws.specs.Recordings.{points_of, OfBeginnings}
-use Rattle.joint_laws.specs.Laws.{KeepsOrder}
+use Rattle.joint_laws.specs.Laws.{BeginsSound, KeepsOrder}
 use Rattle.joint_laws.proofs.ByCount.{pair_at}
 
 -- an instruction that is to do is of an interval that can be replayed
@@ -35,12 +35,10 @@ own_lane i records zero k h c e = absurd e
 own_lane i records (suc n) k zero c e = let same : k ≡ k + 0 = omega arith in subst (λ m. InCourses (lane_of i records m).courses c) same e
 own_lane i records (suc n) k (suc h) c e = let same : k + 1 + h ≡ k + suc h = omega arith in subst (λ m. InCourses (lane_of i records m).courses c) same (own_lane i records n (k + 1) h c e)
 
-pub keeps_order : StartsAreSound → ChainsAreKept → OfLists HasOrder → OfLists OrdersConflicts → ReplayedAreSinceHeaders → ChainsLead → OfBeginnings KeepsOrder
+pub keeps_order : BeginsSound → ChainsAreKept → OfLists HasOrder → OfLists OrdersConflicts → ReplayedAreSinceHeaders → ChainsLead → OfBeginnings KeepsOrder
 keeps_order starts chains in_order conflicts since leads r records order w log b word m n p q at_m at_n up meet retained y did =
     let setting = log.recording.setting in
-    let high = setting.limit_high in
-    let settings : r.settings.limit < 2 ^ 64 = omega (arith, high) in
-    let sound = starts r.program r.settings log.dropped records settings log.order in
+    let sound = starts r records log in
     let points_in_order : IsInOrder (points_of r) = in_order r.settings r.program r.input r.turns setting log.recording.legal in
     let is_since : IsSinceHeader records (points_of r) m =
     (let lane = own_lane r.program records r.settings.harts 0 p.hart p.count retained in

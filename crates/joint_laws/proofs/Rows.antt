@@ -12,7 +12,7 @@ use Rattle.joint_replay.specs.Points.{sources_into}
 use Rattle.joint_replay.specs.Lanes.{Course, Lane, has_row, coming_of, point_of}
 use Rattle.joint_replay.specs.Joining.{readiness_of, waits_for, first_waited, choice_from}
 use Rattle.joint_laws.specs.Recordings.{OfBeginnings}
-use Rattle.joint_laws.specs.Laws.{HasRows}
+use Rattle.joint_laws.specs.Laws.{HasFirstRows, HasRows}
 use Rattle.joint_laws.specs.Steps.{rows_done}
 use Rattle.joint_laws.proofs.ByCount.{some_is}
 use Rattle.joint_laws.proofs.Follows.{IsFollowed, rows_left}
@@ -75,3 +75,9 @@ has_rows follow r records order w log a h low =
     let l = f.there h low in
     let none : l.0.courses ≡ [] = nothing_comes l.0.points l.0.courses (all_done w.now.records w.now.lanes w.now.lanes 0 a.whole h l.0 l.1) in
     sym (append-nil (rows_done h w.taken)) ∙ (ap (λ (cs : List Course). rows_done h w.taken ++ rows_left cs) (sym none) ∙ f.rows h l.0 l.1)
+
+pub first_rows : OfBeginnings IsFollowed → OfBeginnings HasFirstRows
+first_rows follow r records order w log b h low =
+    let f : IsFollowed r records w = follow r records order w log b in
+    let l = f.there h low in
+    (rows_left l.0.courses, f.rows h l.0 l.1)

@@ -3,3 +3,4 @@ pub mod Steps
 pub mod Chains
 pub mod Filled
 pub mod Laws
+pub mod Examples

@@ -1,10 +1,10 @@
 -- Recordings, the records that logs have of them, and the orders that these allow.
-use Rattle.std.specs.Prelude.{◌≡◌, ℕ, ◌+◌, List, take, None}
+use Rattle.std.specs.Prelude.{ℕ, ◌+◌, List, take}
+use Rattle.std.specs.List.{flat_map}
 use Rattle.bn_base.specs.Programs.{Program}
 use Rattle.bn_base.specs.declared.row.Row.{Row}
 use Rattle.bn_base.specs.declared.settings.RawSettings.{RawSettings}
 use Rattle.log_record.specs.declared.record.Record.{Record}
-use Rattle.log_order.specs.Order.{broken_by}
 use Rattle.race_log.specs.Points.{Point}
 use Rattle.run_model.specs.Files.{IsEndOf, kept_of}
 use Rattle.run_model.specs.Rows.{rows_in}
@@ -14,6 +14,7 @@ use Rattle.file_laws.specs.Given.{IsRecording}
 use Rattle.joint_replay.specs.Chains.{IsToDo}
 use Rattle.joint_replay.specs.Joining.{Joining, Walk, fresh}
 use Rattle.joint_replay.specs.Orders.{IsBegun, IsAllowed}
+use Rattle.joint_replay.specs.Points.{intervals_in}
 
 -- what is recorded: settings, program, the bytes of its file, input, list of turns
 pub record Recording : Type 0 where
@@ -36,6 +37,10 @@ points_of r = (recorded r).points
 abbrev pub interval_rows : Recording → (h n : ℕ) → List Row
 interval_rows r h n = rows_in r.settings r.program (start r.settings r.program r.input) r.turns h n
 
+-- the rows of its intervals of which the Headers are among the records, one interval after another
+abbrev pub retained_rows : Recording → List Record → (h : ℕ) → List Row
+retained_rows r records h = flat_map (interval_rows r h) (intervals_in h records)
+
 -- memory right after the turn of a point
 abbrev pub memory_right_after : Recording → Point → ℕ → ℕ
 memory_right_after r p = (run_of r.settings r.program r.input (take (p.turn + 1) r.turns)).machine.memory
@@ -44,12 +49,10 @@ memory_right_after r p = (run_of r.settings r.program r.input (take (p.turn + 1)
 abbrev pub kept : Recording → List Record
 kept r = kept_of r.settings (recorded r)
 
--- a log of the recording may have these records: they are the last ones of its stream, and in order where so many were given up
+-- a log of the recording may have these records: they are the last ones of its stream, wherever they begin
 pub record IsLogOf (r : Recording) (records : List Record) : Type 0 where
   pub recording : IsRecorded r
   pub end : IsEndOf (recorded r).stream records
-  pub dropped : ℕ
-  pub order : broken_by r.settings dropped records ≡ None
 
 -- ---- orders
 
