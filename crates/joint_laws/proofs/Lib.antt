@@ -13,3 +13,4 @@ pub mod Starts
 pub mod States
 pub mod Said
 pub mod Worked
+pub mod Stands

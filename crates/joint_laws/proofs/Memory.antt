@@ -171,7 +171,7 @@ of_row r records h k (Ending n m) o d = absurd d
 touches : (a : ℕ) (q : Point) → Writes a q → Touches a q
 touches a q w = (w.0, w.1, w.2, w.3, w.4.0)
 
-module _ (r : Recording) (records : List Record) (order : List ℕ) (w : Walk) (log : IsLogOf r records) (f : IsFollowed r records w) (once : IsDoneOnce (begin r records) w.taken) (keeps : KeepsOrder r records w)
+module _ (r : Recording) (records : List Record) (order : List ℕ) (w : Walk) (log : IsLogOf r records) (f : IsFollowed r records w) (once : IsDoneOnce (begin r records) w) (keeps : KeepsOrder r records w)
     (writers : RunWritersHaveRows) (turn_rows : TurnRowsAreRows) (counted : RowsAreCounted) (fills : FillsAreFilled) (codes : HasCodeWords r.program) where
   -- a step that did a point which writes the word tells it, or fills bytes of it
   writer_step : (a n y : ℕ) (q : Point) (t : Taken) → aligned a ≡ a → slice_get (points_of r) n ≡ Some q → Writes a q → slice_get w.taken y ≡ Some t → t.hart ≡ q.hart → IsRowAt q.count t.item

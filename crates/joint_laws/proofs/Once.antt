@@ -113,10 +113,12 @@ record IsOnce (start : Joining) (w : Walk) : Type 0 where
   back : (h k : ℕ) → IsToDo w.now h k → IsToDo start h k
   to_do : (x h k : ℕ) → Did w.taken x h k → IsToDo start h k
   once : (x y h k : ℕ) → Did w.taken x h k → Did w.taken y h k → x ≡ y
+  left : (h k : ℕ) → IsToDo start h k → ((x : ℕ) × Did w.taken x h k) ⊎ IsToDo w.now h k
 
-pub record IsDoneOnce (start : Joining) (taken : List Taken) : Type 0 where
-  pub to_do : (x h k : ℕ) → Did taken x h k → IsToDo start h k
-  pub once : (x y h k : ℕ) → Did taken x h k → Did taken y h k → x ≡ y
+pub record IsDoneOnce (start : Joining) (w : Walk) : Type 0 where
+  pub to_do : (x h k : ℕ) → Did w.taken x h k → IsToDo start h k
+  pub once : (x y h k : ℕ) → Did w.taken x h k → Did w.taken y h k → x ≡ y
+  pub left : (h k : ℕ) → IsToDo start h k → ((x : ℕ) × Did w.taken x h k) ⊎ IsToDo w.now h k
 
 module _ (pass : StepsPass) (start : Joining) (w : Walk) (h : ℕ) (x : Item × Joining) (o : IsOnce start w) (m : IsMove w.now h x) where
   lane_is : IsLane w.now.program m.lane
@@ -172,6 +174,22 @@ module _ (pass : StepsPass) (start : Joining) (w : Walk) (h : ℕ) (x : Item × 
   now_once (suc y) zero k c d u = absurd (not_again y k c u (earlier y k c d))
   now_once (suc y) (suc z) k c d u = ap suc (o.once y z k c (earlier y k c d) (earlier z k c u))
 
+  -- what was to do is so still, or this step did it
+  still : (k c : ℕ) → IsToDo w.now k c → ((y : ℕ) × Did new y k c) ⊎ IsLeft (slice_get (slice_set w.now.lanes h m.next) k) c
+  still k c t = elim (eqb_tells h k) [
+    | inl same ↦ elim (passes.rows c (subst (λ s. IsLeft s c) m.at (subst (λ n. IsToDo w.now n c) (sym same.1) t))) [
+      | inl l ↦ inr (subst (λ n. IsLeft (slice_get (slice_set w.now.lanes h m.next) n) c) same.1 (subst (λ s. IsLeft s c) (sym (get_same w.now.lanes h m.lane m.next m.at)) l))
+      | inr row ↦ inl (0, record { step = record { hart = h; item = x.0 }; at = refl; hart_is = same.1; row = row })
+    ]
+    | inr apart ↦ inr (subst (λ s. IsLeft s c) (sym (get_other w.now.lanes h k m.next apart.1)) t)
+  ]
+
+  now_left : (k c : ℕ) → IsToDo start k c → ((y : ℕ) × Did new y k c) ⊎ IsLeft (slice_get (slice_set w.now.lanes h m.next) k) c
+  now_left k c t = elim (o.left k c t) [
+    | inl d ↦ inl (suc d.0, record { step = d.1.step; at = d.1.at; hart_is = d.1.hart_is; row = d.1.row })
+    | inr l ↦ still k c l
+  ]
+
   step_once : IsOnce start (longer w h x)
   step_once = record {
     sound = subst IsSound (sym m.is) (after_sound w.now h o.sound m.lane m.at m.ready m.next x.0 passes);
@@ -179,12 +197,13 @@ module _ (pass : StepsPass) (start : Joining) (w : Walk) (h : ℕ) (x : Item × 
     back = λ k c l. o.back k c (left_back k c (subst (λ ls. IsLeft (slice_get ls k) c) (sym lanes_are) l));
     to_do = now_to_do;
     once = now_once;
+    left = λ k c t. subst (λ ls. ((y : ℕ) × Did new y k c) ⊎ IsLeft (slice_get ls k) c) lanes_are (now_left k c t);
   }
 
 nothing_did : (x h k : ℕ) → Did [] x h k → ⊥
 nothing_did x h k d = let e = d.at in cc
 
-pub done_once : StepsPass → (r : Recording) (records : List Record) (order : List ℕ) (w : Walk) → IsSound (begin r records) → IsBegun r.program r.settings.harts records order w → IsDoneOnce (begin r records) w.taken
+pub done_once : StepsPass → (r : Recording) (records : List Record) (order : List ℕ) (w : Walk) → IsSound (begin r records) → IsBegun r.program r.settings.harts records order w → IsDoneOnce (begin r records) w
 done_once pass r records order w sound b =
     let o : IsOnce (begin r records) w = along (IsOnce (begin r records)) (λ v h x o m. step_once pass (begin r records) v h x o m) (begun (begin r records)) order (record {
       sound = sound;
@@ -192,5 +211,6 @@ done_once pass r records order w sound b =
       back = λ h k l. l;
       to_do = λ x h k d. absurd (nothing_did x h k d);
       once = λ x y h k d u. absurd (nothing_did x h k d);
+      left = λ h k t. inr t;
     }) w b.allowed in
-    record { to_do = o.to_do; once = o.once }
+    record { to_do = o.to_do; once = o.once; left = o.left }

@@ -18,7 +18,7 @@ use Rattle.joint_laws.proofs.ByCount.{some_is}
 use Rattle.joint_laws.proofs.Follows.{IsFollowed, rows_left}
 
 -- a hart that is done has nothing left
-nothing_comes : (points : List ℕ) (courses : List Course) → coming_of (record { points = points; courses = courses }) ≡ None → courses ≡ []
+pub nothing_comes : (points : List ℕ) (courses : List Course) → coming_of (record { points = points; courses = courses }) ≡ None → courses ≡ []
 nothing_comes (p ∷ ps) courses e = absurd cc
 nothing_comes [] [] e = refl
 nothing_comes [] (c ∷ cs) e = by (has_row c) e
@@ -56,7 +56,7 @@ module _ (records : List Record) (lanes : List Lane) where
       by (is.Waits s ic) f rest = rest f
       by is.Done f rest = rest f
 
-  all_done : (ls : List Lane) (h : ℕ) → choice_from records lanes h ls false ≡ AllDone → (k : ℕ) (lane : Lane) → slice_get ls k ≡ Some lane → coming_of lane ≡ None
+  pub all_done : (ls : List Lane) (h : ℕ) → choice_from records lanes h ls false ≡ AllDone → (k : ℕ) (lane : Lane) → slice_get ls k ≡ Some lane → coming_of lane ≡ None
   all_done [] h e k lane at = absurd cc
   all_done (l ∷ ls) h e k lane at = by (readiness_of records lanes h l) refl e (all_done ls (h + 1)) k at
     where

@@ -6,9 +6,9 @@ use Rattle.run_model.specs.Files.{content_of}
 use Rattle.file_laws.specs.Laws.{FilesSayTheRun}
 use Rattle.joint_replay.specs.Joining.{run_all, fresh}
 use Rattle.joint_laws.specs.Recordings.{OfBeginnings, begin, kept, recorded}
-use Rattle.joint_laws.specs.Laws.{OwnLogsAreLogs, KeepsOrder, HasStates, HasMemory, HasWordsOnce, HasRows, RunsToTheEnd, SaysTheRun, JointReplaysSayTheRun, JointFilesSayTheRun}
+use Rattle.joint_laws.specs.Laws.{OwnLogsAreLogs, StandsInOrder, HasStates, HasMemory, HasWordsOnce, HasRows, RunsToTheEnd, SaysTheRun, JointReplaysSayTheRun, JointFilesSayTheRun}
 
-pub say_the_run : RunsToTheEnd → OfBeginnings KeepsOrder → OfBeginnings HasStates → OfBeginnings HasMemory → OfBeginnings HasWordsOnce → HasRows → JointReplaysSayTheRun
+pub say_the_run : RunsToTheEnd → StandsInOrder → OfBeginnings HasStates → OfBeginnings HasMemory → OfBeginnings HasWordsOnce → HasRows → JointReplaysSayTheRun
 say_the_run runs keeps states memory once rows r records log =
     let x = runs r records log in
     let w = (run_all (begin r records)).walk in
@@ -17,7 +17,7 @@ say_the_run runs keeps states memory once rows r records log =
       stopped = x.stopped;
       order = x.order;
       allowed = x.allowed;
-      keeps = keeps r records x.order w log x.allowed.begun;
+      keeps = keeps r records x.order w log x.allowed;
       rows = rows r records x.order w log x.allowed;
       states = states r records x.order w log x.allowed.begun;
       ascend = words.0;

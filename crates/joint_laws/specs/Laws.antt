@@ -12,7 +12,7 @@ use Rattle.run_model.specs.Files.{file_of}
 use Rattle.row_laws.specs.States.{IsRowOfTurn}
 use Rattle.joint_replay.specs.declared.kinds.Readiness.TheVariants.{Ready}
 use Rattle.joint_replay.specs.declared.kinds.Next.TheVariants.{NoneReady}
-use Rattle.joint_replay.specs.Chains.{Did}
+use Rattle.joint_replay.specs.Chains.{Did, IsToDo}
 use Rattle.joint_replay.specs.Joining.{Joining, Taken, Walk, Ran, fresh, readiness, choice, next_step, run_all}
 use Rattle.joint_replay.specs.Lanes.{Item, Doing}
 use Rattle.joint_replay.specs.Memory.{word_in}
@@ -83,6 +83,20 @@ HasWordsOnce r records w = AscendFrom 0 w.now.memory × ((m : ℕ × ℕ) → Co
 
 -- ---- whole orders
 
+-- in a whole order each instruction of a retained interval was done, once; and two such points that access a common word, one of
+-- them writing it, stand in it as they were recorded
+pub record IsInOrder (r : Recording) (records : List Record) (taken : List Taken) : Type 0 where
+  pub done : (h k : ℕ) → IsToDo (begin r records) h k → (x : ℕ) × Did taken x h k
+  pub once : (x y h k : ℕ) → Did taken x h k → Did taken y h k → x ≡ y
+  pub order : (word m n : ℕ) (p q : Point) → slice_get (points_of r) m ≡ Some p → slice_get (points_of r) n ≡ Some q
+      → IsRetained r records p → IsRetained r records q → m < n → MeetAt word p q
+      → (x : ℕ) × (y : ℕ) × Did taken x p.hart p.count × Did taken y q.hart q.count × (y < x)
+
+-- Race order in whole allowed orders
+abbrev pub StandsInOrder : Type 0
+StandsInOrder = (r : Recording) (records : List Record) (order : List ℕ) (w : Walk) → IsLogOf r records → Allowed r records order w
+    → IsInOrder r records w.taken
+
 -- In a whole allowed order each hart's rows are its retained intervals' part of the run's
 abbrev pub HasRows : Type 0
 HasRows = (r : Recording) (records : List Record) (order : List ℕ) (w : Walk) → IsLogOf r records → Allowed r records order w
@@ -105,7 +119,7 @@ pub record SaysTheRun (r : Recording) (records : List Record) (x : Ran) : Type 0
   pub stopped : x.stopped ≡ None
   pub order : List ℕ
   pub allowed : Allowed r records order x.walk
-  pub keeps : KeepsOrder r records x.walk
+  pub keeps : IsInOrder r records x.walk.taken
   pub rows : (h : ℕ) → h < r.settings.harts → rows_done h x.walk.taken ≡ retained_rows r records h
   pub states : HasStates r records x.walk
   pub ascend : AscendFrom 0 x.walk.now.memory

@@ -3,7 +3,7 @@
 #![tactic(auto)]
 
 ghost use Rattle.joint_laws.specs.Recordings.{OfBeginnings};
-ghost use Rattle.joint_laws.specs.Laws.{OwnLogsAreLogs, BeginsSound, KeepsOrder, GoesOn, IsNotRefused, HasFirstRows, HasRows, HasStates, HasMemory, HasWordsOnce};
+ghost use Rattle.joint_laws.specs.Laws.{OwnLogsAreLogs, BeginsSound, KeepsOrder, StandsInOrder, GoesOn, IsNotRefused, HasFirstRows, HasRows, HasStates, HasMemory, HasWordsOnce};
 ghost use Rattle.joint_laws.specs.Laws.{RunsToTheEnd, JointReplaysSayTheRun, JointFilesSayTheRun};
 ghost use Rattle.joint_laws.specs.Chains.{ChainsLead};
 ghost use Rattle.joint_laws.specs.Filled.{FillsAreFilled};
@@ -59,10 +59,13 @@ pub fn fills_are_filled()
 
 /// Race order: in each beginning of an allowed order each word's retained writes come as recorded, and
 /// each of its retained reads between the same retained writes, by whatever hart. It rests on the kept
-/// Edges alone, those through intervals that were given up among them.
+/// Edges alone, those through intervals that were given up among them. In a whole allowed order all of
+/// them are done, each once.
 pub fn the_race_order_is_kept()
-    ensures { OfBeginnings KeepsOrder }
+    ensures begun { OfBeginnings KeepsOrder }
+    ensures whole { StandsInOrder }
 {
+    steps_pass_their_points();
     joint_replays_begin_sound();
     chains_are_kept();
     points_are_in_order();
