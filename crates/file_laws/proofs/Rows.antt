@@ -202,3 +202,12 @@ kept_in_order suffix given order early c run known over =
     order (terms_of c) c.harts (dropped_of c run) (kept_of c run) known.views (kept_keeps suffix given c run w)
     (all_over known.views (λ j v e. (ended_at c run known none j v e).over))
     (early (counts_of run) known.views 0 (kept_of c run) (ends_last c run known none) (kept_early suffix c run w))
+
+-- so are all records, where none are given up
+pub stream_in_order : KeptAreInOrder → EarlyAreNotLate → (c : RawSettings) (run : Run) → Recording c run → runs.is_over c run ≡ true → broken_by c 0 run.stream ≡ None
+stream_in_order order early c run known over =
+    let none = over_known (any_live c.harts run.harts) over in
+    let w = written c run known in
+    order (terms_of c) c.harts 0 run.stream known.views w.keeps
+    (all_over known.views (λ j v e. (ended_at c run known none j v e).over))
+    (early (counts_of run) known.views 0 run.stream (ends_last c run known none) w.early)

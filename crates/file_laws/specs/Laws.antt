@@ -41,6 +41,10 @@ FinishedLogsAreInOrder = (c : RawSettings) (i : Program) (input : List ℕ) (row
 abbrev pub LogsAreContents : Type 0
 LogsAreContents = (c : RawSettings) (i : Program) (elf input b : List ℕ) → IsRecording c i elf input b → IsContent (content_of c (sha256 elf) (run_of c i input b))
 
+-- All records of a recording are in order, whatever of them is kept
+abbrev pub StreamsAreInOrder : Type 0
+StreamsAreInOrder = (c : RawSettings) (i : Program) (elf input b : List ℕ) → IsRecording c i elf input b → broken_by c 0 (run_of c i input b).stream ≡ None
+
 -- Its file has no cause for a refusal
 abbrev pub FilesAreRead : Type 0
 FilesAreRead = (c : RawSettings) (i : Program) (elf input b : List ℕ) → IsRecording c i elf input b

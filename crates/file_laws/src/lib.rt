@@ -3,7 +3,7 @@
 //! `run_model` and `log_order`.
 #![tactic(auto)]
 
-ghost use Rattle.file_laws.specs.Laws.{KeptRecordsKeepTheRules, RingsKeepTheRules, FinishedLogsAreInOrder, LogsAreContents, FilesAreRead, FilesSayTheRun, FilesSuffice, LogsOfRowsAreContents, FilesOfRowsAreRead};
+ghost use Rattle.file_laws.specs.Laws.{KeptRecordsKeepTheRules, RingsKeepTheRules, FinishedLogsAreInOrder, LogsAreContents, StreamsAreInOrder, FilesAreRead, FilesSayTheRun, FilesSuffice, LogsOfRowsAreContents, FilesOfRowsAreRead};
 
 mod examples;
 
@@ -96,6 +96,29 @@ pub fn logs_are_contents()
     no_records_are_kept();
     one_more_is_kept();
     the_first_are_given_up();
+    an_awaited_header_follows();
+    loads_and_conditionals_follow();
+    an_edge_follows();
+    an_end_follows();
+    kept_records_are_in_order();
+    early_edges_are_not_late();
+}
+
+/// All records of a recording are in order. So are the last ones of them, wherever they begin
+/// (`log_order::laws::order_stays_without_the_first_records`).
+pub fn streams_are_in_order()
+    ensures { StreamsAreInOrder }
+{
+    loaded_programs_are_images();
+    each_ask_is_orderly();
+    registers_stay_words();
+    each_turn_moves_on();
+    each_turn_fits();
+    others_stay_fit();
+    format_1_is_unguarded();
+    listed_edges_are_all();
+    no_records_are_kept();
+    one_more_is_kept();
     an_awaited_header_follows();
     loads_and_conditionals_follow();
     an_edge_follows();

@@ -1,0 +1,71 @@
+-- Chains of program order and kept Edges, by hart and count.
+use Rattle.std.proofs.Common.{◌≡◌, ℕ, zero, suc, ◌<◌, inl, inr, refl, sym, ap, ◌∙◌, subst, subst₂, arith, List, [], ◌∷◌, length, slice_get, slice_index_or, Option, Some, Contains, AllPairs}
+use Rattle.std.proofs.lemmas.Option.{slice_get_within}
+use Rattle.log_record.specs.declared.record.Record.{Record}
+use Rattle.log_record.specs.declared.record.Record.TheVariants.{Header, FirstLoad, ScOk, ScFailed, Edge, End}
+use Rattle.race_log.specs.Points.{Point, IsSameHart}
+use Rattle.race_log.specs.Netzer.{ProgramOrder, Either, Chain, one, more}
+use Rattle.race_log.specs.ByCount.{IsInOrder}
+use Rattle.race_log.specs.Tests.{name_of}
+use Rattle.race_laws.specs.Edges.{edge_record, edge_between}
+use Rattle.race_laws.specs.Since.{KeptEdge}
+use Rattle.joint_replay.specs.Sound.{HasEdge}
+use Rattle.joint_replay.specs.Chains.{StepTo, Leads, one as lead_one, more as lead_more}
+use Rattle.joint_laws.specs.Chains.{ChainsLead}
+
+pub some_is : {X : Type 0} (x y : X) (o : Option X) → o ≡ Some x → o ≡ Some y → x ≡ y
+some_is {X = X} x y o e f = let g : ◌≡◌ {A = Option X} (Some x) (Some y) = sym e ∙ f in cc
+
+get_index : {X : Type 0} (xs : List X) (k : ℕ) (x d : X) → slice_get xs k ≡ Some x → slice_index_or xs k d ≡ x
+get_index [] k x d e = cc
+get_index (y ∷ ys) zero x d e = some_is y x (Some y) refl e
+get_index (y ∷ ys) (suc k) x d e = get_index ys k x d e
+
+pub pair_at : (R : Point → Point → Type 0) (run : List Point) (m n : ℕ) (p q : Point) → AllPairs R run → m < n → slice_get run m ≡ Some p → slice_get run n ≡ Some q → R p q
+pair_at R run m n p q all up e f = subst₂ R (get_index run m p p e) (get_index run n q p f) (all m n p up (slice_get_within run n q f))
+
+abbrev pub of_edge : (ℕ → ℕ → ℕ → ℕ → ℕ) → Record → ℕ
+of_edge f (Header a n c pc x) = 0
+of_edge f (FirstLoad a skip value) = 0
+of_edge f (ScOk a) = 0
+of_edge f (ScFailed a) = 0
+of_edge f (Edge x y z w) = f x y z w
+of_edge f (End a m) = 0
+
+has_edge : (rs : List Record) (h ic s j k : ℕ) → k < length rs → slice_index_or rs k (Edge h ic s j) ≡ Edge h ic s j → HasEdge rs h ic s j
+has_edge [] h ic s j k low e = absurd (omega arith)
+has_edge (Header a n c pc x ∷ rs) h ic s j zero low e = cc
+has_edge (FirstLoad a skip value ∷ rs) h ic s j zero low e = cc
+has_edge (ScOk a ∷ rs) h ic s j zero low e = cc
+has_edge (ScFailed a ∷ rs) h ic s j zero low e = cc
+has_edge (End a m ∷ rs) h ic s j zero low e = cc
+has_edge (Edge a n b c ∷ rs) h ic s j zero low e = inl (ap (of_edge (λ x y z w. x)) e, ap (of_edge (λ x y z w. y)) e, ap (of_edge (λ x y z w. z)) e, ap (of_edge (λ x y z w. w)) e)
+has_edge (Header a n c pc x ∷ rs) h ic s j (suc k) low e = has_edge rs h ic s j k (omega arith) e
+has_edge (FirstLoad a skip value ∷ rs) h ic s j (suc k) low e = has_edge rs h ic s j k (omega arith) e
+has_edge (ScOk a ∷ rs) h ic s j (suc k) low e = has_edge rs h ic s j k (omega arith) e
+has_edge (ScFailed a ∷ rs) h ic s j (suc k) low e = has_edge rs h ic s j k (omega arith) e
+has_edge (End a m ∷ rs) h ic s j (suc k) low e = has_edge rs h ic s j k (omega arith) e
+has_edge (Edge a n b c ∷ rs) h ic s j (suc k) low e = inr (has_edge rs h ic s j k (omega arith) e)
+
+module _ (records : List Record) (points : List Point) (order : IsInOrder points) where
+  step_to : (m n : ℕ) → Either (ProgramOrder points) (KeptEdge records points) m n → (p q : Point) → slice_get points m ≡ Some p → slice_get points n ≡ Some q → StepTo records p.hart p.count q.hart q.count
+  step_to m n (inl own) p q e f =
+      let first : own.first ≡ p = some_is own.first p (slice_get points m) own.first_at e in
+      let second : own.second ≡ q = some_is own.second q (slice_get points n) own.second_at f in
+      let same : p.hart ≡ q.hart = subst₂ IsSameHart first second own.related in
+      inl (same, pair_at (λ a b. a.hart ≡ b.hart → a.count < b.count) points m n p q order.counts own.earlier e f same)
+  step_to m n (inr kept) p q e f =
+      let is : edge_between points m n ≡ Edge q.hart q.count p.hart p.count = ap (λ o. edge_record (name_of o, name_of (slice_get points m))) f ∙ ap (λ o. edge_record ((q.hart, q.count), name_of o)) e in
+      let c = subst (Contains records) is kept.kept in
+      inr (has_edge records q.hart q.count p.hart p.count c.0 c.1 c.2)
+
+  point_at : (m n : ℕ) → Either (ProgramOrder points) (KeptEdge records points) m n → (p : Point) × (slice_get points m ≡ Some p)
+  point_at m n (inl own) = (own.first, own.first_at)
+  point_at m n (inr kept) = (kept.edge.conflicts.first, kept.edge.conflicts.first_at)
+
+  along : {m n : ℕ} → Chain (Either (ProgramOrder points) (KeptEdge records points)) m n → (p q : Point) → slice_get points m ≡ Some p → slice_get points n ≡ Some q → Leads records p.hart p.count q.hart q.count
+  along (one {m = m} {n = n} step) p q e f = lead_one (step_to m n step p q e f)
+  along (more {m = m} {k = k} {n = n} before step) p q e f = let r = point_at k n step in lead_more (along before p r.0 e r.1) (step_to k n step r.0 q r.1 f)
+
+pub chains_lead : ChainsLead
+chains_lead records points order m n chain p q e f = along records points order chain p q e f

@@ -1,0 +1,253 @@
+-- The joint memory, by the rows and points of the run.
+use Rattle.std.proofs.Common.{◌≡◌, ℕ, zero, suc, ◌+◌, ◌<◌, ◌≤◌, Bool, true, false, ◌⊎◌, inl, inr, refl, sym, ap, ◌∙◌, subst, arith, List, [], ◌∷◌, ◌++◌, length, map, slice_get, is_some, Option, Some, None, ◌==◌}
+use Rattle.std.specs.List.{range_with_len}
+use Rattle.std.proofs.lemmas.Bool.{false≢true}
+use Rattle.bn_base.specs.Programs.{Program}
+use Rattle.bn_base.specs.declared.row.Row.{Row}
+use Rattle.bn_base.specs.declared.settings.RawSettings.{RawSettings}
+use Rattle.bn_base.specs.declared.state.HartState.{HartState}
+use Rattle.rv_meaning.specs.Words.{aligned}
+use Rattle.rv_meaning.specs.declared.asks.Want.{Want}
+use Rattle.rv_meaning.specs.declared.asks.Want.TheVariants.{Load, Store, LoadReserved, StoreConditional, Amo, System, Cut, Faulted}
+use Rattle.hart_rows.specs.Rows.{fault_row, at_address}
+use Rattle.log_record.specs.declared.record.Record.{Record}
+use Rattle.race_log.specs.Points.{Point, Touches, Writes}
+use Rattle.elf_loader.specs.Laws.{LoadedProgramsAreImages}
+use Rattle.run_model.specs.Machine.{Machine}
+use Rattle.run_model.specs.Runs.{run_of}
+use Rattle.run_model.specs.Turn.{Run}
+use Rattle.replay_laws.specs.Law.{RowsAreCounted}
+use Rattle.row_laws.specs.Fills.{HasCodeWords, Fills}
+use Rattle.row_laws.specs.Laws.{RunRowsTellWords, RunWritersHaveRows, TurnRowsAreRows, PartsHaveCodeWords}
+use Rattle.row_laws.specs.States.{state_after, HasRow, TurnHasRow, RunHasRow, IsRowOfTurn}
+use Rattle.row_laws.specs.Words.{word_told, HasWord}
+use Rattle.row_laws.proofs.Along.{asked_rows}
+use Rattle.row_laws.proofs.Asked.{want_at, asked_at}
+use Rattle.row_laws.proofs.Cases.{heads, rests, turn_row}
+use Rattle.row_laws.proofs.Telling.{not_some, no_row}
+use Rattle.joint_replay.specs.Lanes.{Item, Passing, Doing, Ending}
+use Rattle.joint_replay.specs.Joining.{Taken, Walk}
+use Rattle.joint_replay.specs.Ways.{IsRowAt}
+use Rattle.joint_replay.specs.Sound.{IsSound}
+use Rattle.joint_replay.specs.Chains.{Did}
+use Rattle.joint_replay.specs.Laws.{StepsPass}
+use Rattle.joint_laws.specs.Filled.{FillsAreFilled}
+use Rattle.joint_laws.specs.Laws.{BeginsSound, KeepsOrder, HasMemory, IsRecordedWord}
+use Rattle.joint_laws.specs.Recordings.{Recording, IsLogOf, OfBeginnings, begin, points_of}
+use Rattle.joint_laws.specs.Steps.{told_by}
+use Rattle.joint_laws.proofs.ByCount.{some_is}
+use Rattle.joint_laws.proofs.Follows.{IsFollowed, IsItemOf, AreTaken}
+use Rattle.joint_laws.proofs.Once.{IsDoneOnce, done_once}
+use Rattle.joint_laws.proofs.Words.{IsLatest, forgets, latest, words_are}
+
+-- ---- a row that tells a word is of no fault
+
+module _ (c : RawSettings) (i : Program) (m : Machine) (h : ℕ) (s : HartState) (a word : ℕ) (r : Row) where
+  abbrev Faultless : Want → Type 0
+  Faultless w = asked_rows c i m h w s ≡ r ∷ [] → word_told r a ≡ Some word → r.fault ≡ None
+
+  is_first : (x : Row) → x.fault ≡ None → x ∷ [] ≡ r ∷ [] → r.fault ≡ None
+  is_first x e f = ap (λ (y : Row). y.fault) (sym (heads x r [] [] f)) ∙ e
+
+  want_faultless : (w : Want) → Faultless w
+  want_faultless (Load b wd g rd) e t = is_first _ refl e
+  want_faultless (LoadReserved b rd) e t = is_first _ refl e
+  want_faultless (Store b wd v) e t = is_first _ refl e
+  want_faultless (Amo b o rd v) e t = is_first _ refl e
+  want_faultless (StoreConditional b rd v) e t = is_first _ refl e
+  want_faultless (System n args) e t = is_first _ refl e
+  want_faultless Cut e t = absurd (no_row r e)
+  want_faultless (Faulted f y) e t = absurd (not_some word (ap (λ (x : Row). word_told x a) (heads (fault_row h i s f y) r [] [] e) ∙ t))
+
+row_faultless : (c : RawSettings) (i : Program) (run : Run) (h : ℕ) (before : HartState) (r : Row) (a word : ℕ) → TurnHasRow c i run h before r → word_told r a ≡ Some word → r.fault ≡ None
+row_faultless c i run h before r a word has t = elim (turn_row c i run h before r has) [
+  | inl q ↦ absurd (not_some word (ap (λ (x : Row). word_told x a) q.row ∙ t))
+  | inr q ↦ want_faultless c i run.machine h (asked_at c i run h) a word r (want_at c i run h) q.row t
+]
+
+-- the word that it tells is aligned
+told_access : (o : Option (ℕ × ℕ)) (rest : Option ℕ) (a : ℕ) → (rest ≡ None) ⊎ (aligned a ≡ a) → is_some (at_address a o rest) ≡ true → aligned a ≡ a
+told_access None rest a (inl e) t = absurd (false≢true (ap is_some (sym e) ∙ t))
+told_access None rest a (inr own) t = own
+told_access (Some x) rest a q t = by (aligned x.0 == a) refl t
+  where
+    number : (m n : ℕ) → (m == n) ≡ true → m ≡ n
+    number m n e = grind arith
+
+    own : (b a : ℕ) → aligned b ≡ a → aligned a ≡ a
+    own b a e = omega (arith, e)
+
+    left : (rest ≡ None) ⊎ (aligned a ≡ a) → is_some rest ≡ true → aligned a ≡ a
+    left (inl e) t = absurd (false≢true (ap is_some (sym e) ∙ t))
+    left (inr o) t = o
+
+    by : (b : Bool) → (aligned x.0 == a) ≡ b → is_some (elim b as (λ y. Option ℕ) [ true ↦ Some x.1 | false ↦ rest ]) ≡ true → aligned a ≡ a
+    by true e t = own x.0 a (number (aligned x.0) a e)
+    by false e t = left q t
+
+load_or : (o : Option (ℕ × ℕ)) (a : ℕ) → (at_address a o None ≡ None) ⊎ (aligned a ≡ a)
+load_or o a = by (at_address a o None) refl
+  where
+    by : (t : Option ℕ) → at_address a o None ≡ t → (at_address a o None ≡ None) ⊎ (aligned a ≡ a)
+    by None e = inl e
+    by (Some v) e = inr (told_access o None a (inl refl) (ap is_some e))
+
+told_aligned : (r : Row) (a word : ℕ) → word_told r a ≡ Some word → aligned a ≡ a
+told_aligned r a word e = told_access r.store (at_address a r.load None) a (load_or r.load a) (ap is_some e)
+
+-- a row that stores the word tells it
+store_tells : (o : Option (ℕ × ℕ)) (rest : Option ℕ) (a v : ℕ) → at_address a o None ≡ Some v → at_address a o rest ≡ Some v
+store_tells None rest a v e = absurd (not_some v e)
+store_tells (Some x) rest a v e = by (aligned x.0 == a) e
+  where
+    by : (b : Bool) → elim b as (λ y. Option ℕ) [ true ↦ Some x.1 | false ↦ None ] ≡ Some v → elim b as (λ y. Option ℕ) [ true ↦ Some x.1 | false ↦ rest ] ≡ Some v
+    by true f = f
+    by false f = absurd (not_some v f)
+
+-- ---- a hart has one row of a count
+
+first_or : List ℕ → ℕ
+first_or [] = 0
+first_or (x ∷ xs) = x
+
+first_same : (x y : ℕ) (xs ys : List ℕ) → x ∷ xs ≡ y ∷ ys → x ≡ y
+unfolding first_or
+first_same x y xs ys e = ap first_or e
+
+rest_or : List ℕ → List ℕ
+rest_or [] = []
+rest_or (x ∷ xs) = xs
+
+rest_same : (x y : ℕ) (xs ys : List ℕ) → x ∷ xs ≡ y ∷ ys → xs ≡ ys
+unfolding rest_or
+rest_same x y xs ys e = ap rest_or e
+
+counted_at : (front back : List Row) (r : Row) (k n : ℕ) → map (λ (x : Row). x.ic) (front ++ r ∷ back) ≡ range_with_len k n → r.ic ≡ k + length front
+counted_at [] back r k zero e = absurd cc
+counted_at [] back r k (suc n) e = let same : r.ic ≡ k = first_same r.ic k _ _ e in omega (arith, same)
+counted_at (f ∷ fs) back r k zero e = absurd cc
+counted_at (f ∷ fs) back r k (suc n) e = let rest = counted_at fs back r (k + 1) n (rest_same _ _ _ _ e) in omega (arith, rest)
+
+same_place : (xs ys : List Row) (r s : Row) (us vs : List Row) → length xs ≡ length ys → xs ++ r ∷ us ≡ ys ++ s ∷ vs → (xs ≡ ys) × (r ≡ s)
+same_place [] [] r s us vs n e = (refl, heads r s us vs e)
+same_place [] (y ∷ ys) r s us vs n e = absurd (omega (arith, n))
+same_place (x ∷ xs) [] r s us vs n e = absurd (omega (arith, n))
+same_place (x ∷ xs) (y ∷ ys) r s us vs n e =
+    let first : x ≡ y = heads x y (xs ++ r ∷ us) (ys ++ s ∷ vs) e in
+    let rest = same_place xs ys r s us vs (omega (arith, n)) (rests x y (xs ++ r ∷ us) (ys ++ s ∷ vs) e) in
+    (ap (λ z. z ∷ xs) first ∙ ap (λ zs. y ∷ zs) rest.0, rest.1)
+
+same_row : (i : Program) (s : HartState) (rows : List Row) (b d : HartState) (q r : Row) → map (λ (x : Row). x.ic) rows ≡ range_with_len 0 (length rows) → HasRow i s rows b q → HasRow i s rows d r → q.ic ≡ r.ic → (b ≡ d) × (q ≡ r)
+same_row i s rows b d q r counted x y e =
+    let first : q.ic ≡ 0 + length x.front = counted_at x.front x.back q 0 (length rows) (ap (map (λ (z : Row). z.ic)) (sym x.rows_are) ∙ counted) in
+    let second : r.ic ≡ 0 + length y.front = counted_at y.front y.back r 0 (length rows) (ap (map (λ (z : Row). z.ic)) (sym y.rows_are) ∙ counted) in
+    let same = same_place x.front y.front q r x.back y.back (omega (arith, first, second, e)) (sym x.rows_are ∙ y.rows_are) in
+    (x.state ∙ (ap (state_after i s) same.0 ∙ sym y.state), same.1)
+
+-- ---- the steps that were taken
+
+pub item_of : (r : Recording) (records : List Record) (ts : List Taken) (x : ℕ) (t : Taken) → AreTaken r records ts → slice_get ts x ≡ Some t → IsItemOf r records t.hart t.item
+item_of r records [] x t all e = absurd cc
+item_of r records (u ∷ us) zero t all e = subst (λ (v : Taken). IsItemOf r records v.hart v.item) (some_is u t (Some u) refl e) all.0
+item_of r records (u ∷ us) (suc x) t all e = item_of r records us x t all.1 e
+
+-- a step that did an instruction did a row of the run
+pub record IsDoing (r : Recording) (h : ℕ) (item : Item) : Type 0 where
+  pub before : HartState
+  pub row : Row
+  pub is : item ≡ Doing before row
+  pub of_run : IsRowOfTurn r.settings r.program r.input r.turns h before row
+
+of_told : (r : Recording) (records : List Record) (h : ℕ) (item : Item) (a word : ℕ) → IsItemOf r records h item → told_by a item ≡ Some word → IsDoing r h item
+of_told r records h (Passing ic) a word o t = absurd (not_some word t)
+of_told r records h (Doing before row) a word o t = record { before = before; row = row; is = refl; of_run = o }
+of_told r records h (Ending n m) a word o t = absurd (not_some word t)
+
+of_row : (r : Recording) (records : List Record) (h k : ℕ) (item : Item) → IsItemOf r records h item → IsRowAt k item → IsDoing r h item
+of_row r records h k (Passing ic) o d = absurd d
+of_row r records h k (Doing before row) o d = record { before = before; row = row; is = refl; of_run = o }
+of_row r records h k (Ending n m) o d = absurd d
+
+touches : (a : ℕ) (q : Point) → Writes a q → Touches a q
+touches a q w = (w.0, w.1, w.2, w.3, w.4.0)
+
+module _ (r : Recording) (records : List Record) (order : List ℕ) (w : Walk) (log : IsLogOf r records) (f : IsFollowed r records w) (once : IsDoneOnce (begin r records) w) (keeps : KeepsOrder r records w)
+    (writers : RunWritersHaveRows) (turn_rows : TurnRowsAreRows) (counted : RowsAreCounted) (fills : FillsAreFilled) (codes : HasCodeWords r.program) where
+  -- a step that did a point which writes the word tells it, or fills bytes of it
+  writer_step : (a n y : ℕ) (q : Point) (t : Taken) → aligned a ≡ a → slice_get (points_of r) n ≡ Some q → Writes a q → slice_get w.taken y ≡ Some t → t.hart ≡ q.hart → IsRowAt q.count t.item
+      → told_by a t.item ≡ None → forgets a t.item ≡ false → ⊥
+  writer_step a n y q t own at writes at_step hart row_at none kept =
+      let setting = log.recording.setting in
+      let legal = log.recording.legal in
+      let low = setting.format_low in
+      let high = setting.format_high in
+      let limit = setting.limit_high in
+      let x = writers r.settings r.program r.input r.turns n q a setting codes legal at writes in
+      let d : IsDoing r t.hart t.item = of_row r records t.hart q.count t.item (item_of r records w.taken y t f.taken at_step) row_at in
+      let mine : RunHasRow r.settings r.program r.input r.turns q.hart d.before d.row =
+      subst (λ h. RunHasRow r.settings r.program r.input r.turns h d.before d.row) hart (turn_rows r.settings r.program r.input r.turns t.hart d.before d.row setting legal d.of_run) in
+      let count : d.row.ic ≡ q.count = (subst (IsRowAt q.count) d.is row_at).0 in
+      let same = same_row r.program _ _ d.before x.before d.row x.row
+      (counted r.settings r.program r.input r.turns q.hart (omega (arith, low, high)) (omega (arith, limit)) (record { legal = legal; over = log.recording.over })) mine x.has (count ∙ x.count) in
+      elim x.writes [
+        | inl stored ↦ not_some _ (sym none ∙ (ap (told_by a) d.is ∙ (ap (λ (z : Row). word_told z a) same.1 ∙ store_tells x.row.store (at_address a x.row.load None) a _ stored)))
+        | inr fill ↦ false≢true (sym kept ∙ (ap (forgets a) d.is ∙ (fills d.before d.row a own).0 (subst (λ (s : HartState). Fills s d.row a) (sym same.0) (subst (λ (z : Row). Fills x.before z a) (sym same.1) fill))))
+      ]
+
+  module _ (tell : RunRowsTellWords) (a word : ℕ) (l : IsLatest w.taken a word) where
+    d : IsDoing r l.step.hart l.step.item
+    d = of_told r records l.step.hart l.step.item a word (item_of r records w.taken l.place l.step f.taken l.at) l.tells
+
+    row_tells : word_told d.row a ≡ Some word
+    row_tells = sym (ap (told_by a) d.is) ∙ l.tells
+
+    has : HasWord r.settings r.program r.input r.turns l.step.hart d.row a word
+    has = tell r.settings r.program r.input r.turns l.step.hart d.before d.row a word log.recording.setting log.recording.legal d.of_run row_tells
+
+    did : Did w.taken l.place has.point.hart has.point.count
+    did = record {
+      step = l.step;
+      at = l.at;
+      hart_is = ap (λ (p : Point). p.hart) (sym has.is);
+      row = subst (IsRowAt has.point.count) (sym d.is) (ap (λ (p : Point). p.count) (sym has.is), row_faultless r.settings r.program (run_of r.settings r.program r.input d.of_run.front) l.step.hart d.before d.row a word d.of_run.has row_tells);
+    }
+
+    own : aligned a ≡ a
+    own = told_aligned d.row a word row_tells
+
+    touched : Touches a has.point
+    touched = subst (Touches a) (sym has.is) ((0, record { word = a; writes = is_some d.row.store }, omega arith, refl, refl))
+
+    less_or : (m n : ℕ) → (m < n) ⊎ (n ≤ m)
+    less_or m n = grind arith
+
+    no_later : (n : ℕ) (q : Point) → slice_get (points_of r) n ≡ Some q → Writes a q → (y : ℕ) → Did w.taken y q.hart q.count → n ≤ has.place
+    no_later n q at writes y dq = elim (less_or has.place n) [
+      | inr low ↦ low
+      | inl later ↦ (let x = keeps a has.place n has.point q has.at at later (record { first = touched; second = touches a q writes; written = inr writes }) (once.to_do l.place has.point.hart has.point.count did) y dq in
+          let same : x.0 ≡ l.place = once.once x.0 l.place has.point.hart has.point.count x.1 did in
+          let up = x.2 in
+          let quiet = l.no_later y dq.step (omega (arith, up, same)) dq.at in
+          absurd (writer_step a n y q dq.step own at writes dq.at dq.hart_is dq.row quiet.0 quiet.1))
+    ]
+
+    pub is_recorded : IsRecordedWord r w a word
+    is_recorded = record {
+      step = l.place;
+      last = record { step = l.step; at = l.at; tells = λ e. not_some word (sym e ∙ l.tells); no_later = λ y t low at. (l.no_later y t low at).0 };
+      place = has.place;
+      point = has.point;
+      at = has.at;
+      did = did;
+      touches = touched;
+      value = sym has.value;
+      no_later = no_later;
+    }
+
+pub has_memory : StepsPass → BeginsSound → OfBeginnings IsFollowed → OfBeginnings KeepsOrder → LoadedProgramsAreImages → PartsHaveCodeWords → RunRowsTellWords → RunWritersHaveRows → TurnRowsAreRows → RowsAreCounted → FillsAreFilled → OfBeginnings HasMemory
+has_memory pass starts follow keeps images parts tell writers turn_rows counted fills r records order w log b a word e =
+    let sound : IsSound (begin r records) = starts r records log in
+    let image = images r.elf r.settings r.program log.recording.bytes log.recording.setting log.recording.loaded in
+    let codes : HasCodeWords r.program = parts r.program image.words in
+    let l : IsLatest w.taken a word = latest w.taken a word (sym (words_are r records order w b a) ∙ e) in
+    is_recorded r records order w log (follow r records order w log b) (done_once pass r records order w sound b) (keeps r records order w log b) writers turn_rows counted fills codes tell a word l

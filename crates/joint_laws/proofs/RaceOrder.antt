@@ -1,0 +1,54 @@
+-- Race order: chains of the run, in allowed orders.
+use Rattle.std.proofs.Common.{◌≡◌, ℕ, zero, suc, ◌+◌, ◌<◌, ◌≤◌, inl, inr, refl, subst, arith, List, [], ◌∷◌, slice_get, Option, Some, None}
+use Rattle.std.proofs.lemmas.Bool.Decides.{eqb_tells}
+use Rattle.bn_base.specs.Programs.{Program}
+use Rattle.log_record.specs.declared.record.Record.{Record}
+use Rattle.hart_replay.specs.Replay.{Interval, interval_of, replayed}
+use Rattle.race_log.specs.ByCount.{IsInOrder}
+use Rattle.race_laws.specs.Runs.{OfLists}
+use Rattle.race_laws.specs.Since.{IsSinceHeader}
+use Rattle.race_laws.specs.Laws.{HasOrder, OrdersConflicts, ReplayedAreSinceHeaders}
+use Rattle.joint_replay.specs.Points.{intervals_in}
+use Rattle.joint_replay.specs.Lanes.{with_course, courses_of, lane_of}
+use Rattle.joint_replay.specs.Joining.{lanes_from}
+use Rattle.joint_replay.specs.Ways.{InCourses}
+use Rattle.joint_replay.specs.Laws.{ChainsAreKept}
+use Rattle.joint_replay.specs.Chains.{Leads, IsLeft, one as lead_one}
+use Rattle.joint_laws.specs.Chains.{ChainsLead}
+use Rattle.joint_laws.specs.Recordings.{points_of, OfBeginnings}
+use Rattle.joint_laws.specs.Laws.{BeginsSound, KeepsOrder}
+use Rattle.joint_laws.proofs.ByCount.{pair_at}
+
+-- an instruction that is to do is of an interval that can be replayed
+found : (i : Program) (records : List Record) (h : ℕ) (ns : List ℕ) (k : ℕ) → InCourses (courses_of i records h ns) k → (n : ℕ) × (v : Interval) × (interval_of h n records ≡ Some v) × (v.start.ic ≤ k)
+found i records h [] k e = absurd e
+found i records h (n ∷ ns) k e = by (interval_of h n records) refl e (found i records h ns k)
+  where
+    by : (o : Option Interval) → interval_of h n records ≡ o → InCourses (with_course o n (replayed i records h n) (courses_of i records h ns)) k
+        → (InCourses (courses_of i records h ns) k → (n : ℕ) × (v : Interval) × (interval_of h n records ≡ Some v) × (v.start.ic ≤ k)) → (n : ℕ) × (v : Interval) × (interval_of h n records ≡ Some v) × (v.start.ic ≤ k)
+    by None is e rest = rest e
+    by (Some v) is e rest = (n, v, is, e.0)
+
+-- and of its hart's own lane
+own_lane : (i : Program) (records : List Record) (n k h c : ℕ) → IsLeft (slice_get (lanes_from i records k n) h) c → InCourses (lane_of i records (k + h)).courses c
+own_lane i records zero k h c e = absurd e
+own_lane i records (suc n) k zero c e = let same : k ≡ k + 0 = omega arith in subst (λ m. InCourses (lane_of i records m).courses c) same e
+own_lane i records (suc n) k (suc h) c e = let same : k + 1 + h ≡ k + suc h = omega arith in subst (λ m. InCourses (lane_of i records m).courses c) same (own_lane i records n (k + 1) h c e)
+
+pub keeps_order : BeginsSound → ChainsAreKept → OfLists HasOrder → OfLists OrdersConflicts → ReplayedAreSinceHeaders → ChainsLead → OfBeginnings KeepsOrder
+keeps_order starts chains in_order conflicts since leads r records order w log b word m n p q at_m at_n up meet retained y did =
+    let setting = log.recording.setting in
+    let sound = starts r records log in
+    let points_in_order : IsInOrder (points_of r) = in_order r.settings r.program r.input r.turns setting log.recording.legal in
+    let is_since : IsSinceHeader records (points_of r) m =
+    (let lane = own_lane r.program records r.settings.harts 0 p.hart p.count retained in
+    let same : 0 + p.hart ≡ p.hart = omega arith in
+    let f = found r.program records p.hart (intervals_in p.hart records) p.count (subst (λ h. InCourses (lane_of r.program records h).courses p.count) same lane) in
+    since records (points_of r) p.hart f.0 f.1 f.2 m p at_m refl f.3) in
+    let chain : Leads records p.hart p.count q.hart q.count = elim (eqb_tells p.hart q.hart) [
+      | inl same ↦ lead_one (inl (same.1, pair_at (λ a b. a.hart ≡ b.hart → a.count < b.count) (points_of r) m n p q points_in_order.counts up at_m at_n same.1))
+      | inr apart ↦ leads records (points_of r) points_in_order m n
+          (conflicts r.settings r.program r.input r.turns setting log.recording.legal records log.end m n is_since (record { earlier = up; first = p; second = q; first_at = at_m; second_at = at_n; related = record { apart = apart.1; word = word; meet = meet } }))
+          p q at_m at_n
+    ] in
+    chains r.program r.settings.harts records order w sound b y q.hart q.count did p.hart p.count chain retained

@@ -1,0 +1,37 @@
+-- Race order in whole allowed orders.
+use Rattle.std.proofs.Common.{◌≡◌, ℕ, inl, inr, refl, subst, List, [], slice_get, Option, Some, None}
+use Rattle.log_record.specs.declared.record.Record.{Record}
+use Rattle.joint_replay.specs.Chains.{Did, IsLeft, IsToDo}
+use Rattle.joint_replay.specs.Joining.{Walk}
+use Rattle.joint_replay.specs.Lanes.{Lane}
+use Rattle.joint_replay.specs.Laws.{StepsPass}
+use Rattle.joint_replay.specs.Ways.{InCourses}
+use Rattle.joint_laws.specs.Laws.{BeginsSound, KeepsOrder, StandsInOrder}
+use Rattle.joint_laws.specs.Recordings.{Recording, Allowed, OfBeginnings, begin}
+use Rattle.joint_laws.proofs.Once.{IsDoneOnce, done_once}
+use Rattle.joint_laws.proofs.Rows.{all_done, nothing_comes}
+
+-- at the end nothing is to do
+none_left : (r : Recording) (records : List Record) (order : List ℕ) (w : Walk) → Allowed r records order w → (h k : ℕ) → IsToDo w.now h k → ⊥
+none_left r records order w a h k t = by (slice_get w.now.lanes h) (λ lane at. nothing_comes lane.points lane.courses (all_done w.now.records w.now.lanes w.now.lanes 0 a.whole h lane at)) t
+  where
+    by : (o : Option Lane) → ((lane : Lane) → o ≡ Some lane → lane.courses ≡ []) → IsLeft o k → ⊥
+    by None none l = l
+    by (Some lane) none l = subst (λ cs. InCourses cs k) (none lane refl) l
+
+-- so all that was to do was done
+was_done : (r : Recording) (records : List Record) (order : List ℕ) (w : Walk) → Allowed r records order w → IsDoneOnce (begin r records) w → (h k : ℕ) → IsToDo (begin r records) h k → (x : ℕ) × Did w.taken x h k
+was_done r records order w a once h k t = elim (once.left h k t) [ inl d ↦ d | inr l ↦ absurd (none_left r records order w a h k l) ]
+
+pub stands_in_order : StepsPass → BeginsSound → OfBeginnings KeepsOrder → StandsInOrder
+stands_in_order pass starts keeps r records order w log a = record {
+  done = λ h k t. was_done r records order w a once h k t;
+  once = once.once;
+  order = λ word m n p q at_m at_n kept_p kept_q up meet.
+      (let y = was_done r records order w a once q.hart q.count kept_q in
+      let x = keeps r records order w log a.begun word m n p q at_m at_n up meet kept_p y.0 y.1 in
+      (x.0, y.0, x.1, y.1, x.2));
+}
+  where
+    once : IsDoneOnce (begin r records) w
+    once = done_once pass r records order w (starts r records log) a.begun

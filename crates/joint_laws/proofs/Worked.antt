@@ -1,0 +1,35 @@
+-- The examples, by computation.
+use Rattle.std.proofs.Common.{◌≡◌, [], ◌∷◌, Some, replicate, refl}
+use Rattle.le_numbers.specs.Numbers.{number_bytes}
+use Rattle.race_log.specs.Tests.{at_places, leads, any_below, before, edge, greatest_first, edges_into}
+use Rattle.run_model.specs.Examples.{is_whole}
+use Rattle.run_model.specs.Turn.{serve}
+use Rattle.joint_laws.specs.Examples.{orders_from, merges, allowed_of, words_after, a_short_relay, late_relay, relay_orders, a_spoiled_store, late_store, store_orders}
+
+pub relay_whole : is_whole a_short_relay
+unfolding serve at_places leads any_below before edge greatest_first edges_into number_bytes
+relay_whole = (refl, refl)
+
+pub relay_is : orders_from 7 late_relay ≡ relay_orders
+unfolding serve at_places leads any_below before edge greatest_first edges_into number_bytes
+relay_is = refl
+
+pub relay_words : words_after late_relay relay_orders ≡ replicate 18 (Some ((0x20000, 3) ∷ (0x20004, 3) ∷ []))
+unfolding serve at_places leads any_below before edge greatest_first edges_into number_bytes
+relay_words = refl
+
+pub store_whole : is_whole a_spoiled_store
+unfolding serve at_places leads any_below before edge greatest_first edges_into number_bytes
+store_whole = (refl, refl)
+
+pub store_is : orders_from 6 late_store ≡ store_orders
+unfolding serve at_places leads any_below before edge greatest_first edges_into number_bytes
+store_is = refl
+
+pub store_others : allowed_of late_store (merges 3 3) ≡ store_orders
+unfolding serve at_places leads any_below before edge greatest_first edges_into number_bytes
+store_others = refl
+
+pub store_words : words_after late_store store_orders ≡ replicate 10 (Some ((0x20000, 2) ∷ []))
+unfolding serve at_places leads any_below before edge greatest_first edges_into number_bytes
+store_words = refl

@@ -1,0 +1,12 @@
+-- Chains over places of a run are chains over instructions by hart and count.
+use Rattle.std.specs.Prelude.{◌≡◌, ℕ, List, slice_get, Some}
+use Rattle.log_record.specs.declared.record.Record.{Record}
+use Rattle.race_log.specs.Points.{Point}
+use Rattle.race_log.specs.Netzer.{ProgramOrder, Either, Chain}
+use Rattle.race_log.specs.ByCount.{IsInOrder}
+use Rattle.race_laws.specs.Since.{KeptEdge}
+use Rattle.joint_replay.specs.Chains.{Leads}
+
+abbrev pub ChainsLead : Type 0
+ChainsLead = (records : List Record) (points : List Point) → IsInOrder points → (m n : ℕ) → Chain (Either (ProgramOrder points) (KeptEdge records points)) m n
+    → (p q : Point) → slice_get points m ≡ Some p → slice_get points n ≡ Some q → Leads records p.hart p.count q.hart q.count

@@ -1,0 +1,135 @@
+-- What the joint replay of a recording's log says of the run.
+use Rattle.std.specs.Prelude.{◌≡◌, ℕ, ◌+◌, ◌<◌, ◌≤◌, List, [], ◌∷◌, ◌++◌, slice_get, Some, None, Ok}
+use Rattle.std.specs.List.{Contains}
+use Rattle.sha2.specs.Sha256.{sha256}
+use Rattle.bn_base.specs.declared.row.Row.{Row}
+use Rattle.bn_base.specs.declared.state.HartState.{HartState}
+use Rattle.log_record.specs.declared.record.Record.{Record}
+use Rattle.log_order.specs.Content.{Content, IsContent}
+use Rattle.log_file.specs.Layout.{file_bytes}
+use Rattle.race_log.specs.Points.{Point, MeetAt, Touches, Writes}
+use Rattle.run_model.specs.Files.{file_of}
+use Rattle.row_laws.specs.States.{IsRowOfTurn}
+use Rattle.joint_replay.specs.declared.kinds.Readiness.TheVariants.{Ready}
+use Rattle.joint_replay.specs.declared.kinds.Next.TheVariants.{NoneReady}
+use Rattle.joint_replay.specs.Chains.{Did, IsToDo}
+use Rattle.joint_replay.specs.Joining.{Joining, Taken, Walk, Ran, fresh, readiness, choice, next_step, run_all}
+use Rattle.joint_replay.specs.Lanes.{Item, Doing}
+use Rattle.joint_replay.specs.Memory.{word_in}
+use Rattle.joint_replay.specs.Sound.{IsSound}
+use Rattle.joint_laws.specs.Recordings.{Recording, IsRecorded, IsLogOf, IsRetained, Allowed, begin, kept, points_of, retained_rows, memory_right_after}
+use Rattle.joint_laws.specs.Steps.{IsLastTold, rows_done}
+
+-- The recording's own log is a log of it
+abbrev pub OwnLogsAreLogs : Type 0
+OwnLogsAreLogs = (r : Recording) → IsRecorded r → IsLogOf r (kept r)
+
+-- The joint replay of a log of a recording begins sound
+abbrev pub BeginsSound : Type 0
+BeginsSound = (r : Recording) (records : List Record) → IsLogOf r records → IsSound (begin r records)
+
+-- ---- each beginning of an allowed order
+
+-- Race order. Of two points that access a common word, one of them writing it, the earlier one being of a retained interval:
+-- once the later one's row is done, that of the earlier one was done before it. So each word's retained writes come as
+-- recorded, and each of its retained reads stands between the same retained writes
+abbrev pub KeepsOrder : Recording → List Record → Walk → Type 0
+KeepsOrder r records w = (word m n : ℕ) (p q : Point) → slice_get (points_of r) m ≡ Some p → slice_get (points_of r) n ≡ Some q
+    → m < n → MeetAt word p q → IsRetained r records p
+    → (y : ℕ) → Did w.taken y q.hart q.count → (x : ℕ) × Did w.taken x p.hart p.count × (y < x)
+
+-- No order gets stuck: all harts are done, or one is ready
+abbrev pub GoesOn : Recording → List Record → Walk → Type 0
+GoesOn r records w = choice w.now ≡ NoneReady → ⊥
+
+-- and the step of a ready hart is not refused
+abbrev pub IsNotRefused : Recording → List Record → Walk → Type 0
+IsNotRefused r records w = (h : ℕ) → readiness w.now h ≡ Ready → (x : Item × Joining) × (next_step w.now h ≡ Some (Ok x))
+
+-- Each hart's rows so far are the first of its retained intervals' part of the run's
+abbrev pub HasFirstRows : Recording → List Record → Walk → Type 0
+HasFirstRows r records w = (h : ℕ) → h < r.settings.harts → (rest : List Row) × (rows_done h w.taken ++ rest ≡ retained_rows r records h)
+
+-- and each of them was done from the state that the run had before it
+abbrev pub HasStates : Recording → List Record → Walk → Type 0
+HasStates r records w = (x : ℕ) (t : Taken) (before : HartState) (row : Row) → slice_get w.taken x ≡ Some t → t.item ≡ Doing before row
+    → IsRowOfTurn r.settings r.program r.input r.turns t.hart before row
+
+-- a word that the joint memory has is the recorded word right after the latest row that stored or loaded it, and no retained
+-- write of it that was done came later in the run than that row
+pub record IsRecordedWord (r : Recording) (w : Walk) (a word : ℕ) : Type 0 where
+  pub step : ℕ
+  pub last : IsLastTold w.taken a step
+  pub place : ℕ
+  pub point : Point
+  pub at : slice_get (points_of r) place ≡ Some point
+  pub did : Did w.taken step point.hart point.count
+  pub touches : Touches a point
+  pub value : word ≡ memory_right_after r point a
+  pub no_later : (n : ℕ) (q : Point) → slice_get (points_of r) n ≡ Some q → Writes a q → (y : ℕ) → Did w.taken y q.hart q.count → n ≤ place
+
+-- Memory: so it is with each word after each beginning of an allowed order
+abbrev pub HasMemory : Recording → List Record → Walk → Type 0
+HasMemory r records w = (a word : ℕ) → word_in w.now.memory a ≡ Some word → IsRecordedWord r w a word
+
+-- words stand by ascending address, from an address on; so each has one value
+abbrev pub AscendFrom : ℕ → List (ℕ × ℕ) → Type 0
+AscendFrom low [] = Unit {0}
+AscendFrom low (m ∷ ms) = (low ≤ m.0) × AscendFrom (m.0 + 1) ms
+
+-- The list of the known words is by ascending address, and each of its words is the known one at its address
+abbrev pub HasWordsOnce : Recording → List Record → Walk → Type 0
+HasWordsOnce r records w = AscendFrom 0 w.now.memory × ((m : ℕ × ℕ) → Contains w.now.memory m → word_in w.now.memory m.0 ≡ Some m.1)
+
+-- ---- whole orders
+
+-- in a whole order each instruction of a retained interval was done, once; and two such points that access a common word, one of
+-- them writing it, stand in it as they were recorded
+pub record IsInOrder (r : Recording) (records : List Record) (taken : List Taken) : Type 0 where
+  pub done : (h k : ℕ) → IsToDo (begin r records) h k → (x : ℕ) × Did taken x h k
+  pub once : (x y h k : ℕ) → Did taken x h k → Did taken y h k → x ≡ y
+  pub order : (word m n : ℕ) (p q : Point) → slice_get (points_of r) m ≡ Some p → slice_get (points_of r) n ≡ Some q
+      → IsRetained r records p → IsRetained r records q → m < n → MeetAt word p q
+      → (x : ℕ) × (y : ℕ) × Did taken x p.hart p.count × Did taken y q.hart q.count × (y < x)
+
+-- Race order in whole allowed orders
+abbrev pub StandsInOrder : Type 0
+StandsInOrder = (r : Recording) (records : List Record) (order : List ℕ) (w : Walk) → IsLogOf r records → Allowed r records order w
+    → IsInOrder r records w.taken
+
+-- In a whole allowed order each hart's rows are its retained intervals' part of the run's
+abbrev pub HasRows : Type 0
+HasRows = (r : Recording) (records : List Record) (order : List ℕ) (w : Walk) → IsLogOf r records → Allowed r records order w
+    → (h : ℕ) → h < r.settings.harts → rows_done h w.taken ≡ retained_rows r records h
+
+-- a run with the lowest ready hart first goes through a whole allowed order, and isn't stopped
+pub record RanToTheEnd (r : Recording) (records : List Record) : Type 0 where
+  pub order : List ℕ
+  pub allowed : Allowed r records order (run_all (begin r records)).walk
+  pub stopped : (run_all (begin r records)).stopped ≡ None
+
+abbrev pub RunsToTheEnd : Type 0
+RunsToTheEnd = (r : Recording) (records : List Record) → IsLogOf r records → RanToTheEnd r records
+
+-- ---- all of it, of the run that a text tells
+
+-- a joint replay of a log of the recording that wasn't stopped: it took an allowed order to the end, which keeps the recorded
+-- order; its rows are the recorded ones, done from the recorded states; and each word known at the end is the recorded one
+pub record SaysTheRun (r : Recording) (records : List Record) (x : Ran) : Type 0 where
+  pub stopped : x.stopped ≡ None
+  pub order : List ℕ
+  pub allowed : Allowed r records order x.walk
+  pub keeps : IsInOrder r records x.walk.taken
+  pub rows : (h : ℕ) → h < r.settings.harts → rows_done h x.walk.taken ≡ retained_rows r records h
+  pub states : HasStates r records x.walk
+  pub ascend : AscendFrom 0 x.walk.now.memory
+  pub words : (m : ℕ × ℕ) → Contains x.walk.now.memory m → IsRecordedWord r x.walk m.0 m.1
+
+-- The joint replay of each log of a recording says the run
+abbrev pub JointReplaysSayTheRun : Type 0
+JointReplaysSayTheRun = (r : Recording) (records : List Record) → IsLogOf r records → SaysTheRun r records (run_all (begin r records))
+
+-- So does that of what a log says whose bytes are those of the recording's file
+abbrev pub JointFilesSayTheRun : Type 0
+JointFilesSayTheRun = (r : Recording) → IsRecorded r → (d : Content) → IsContent d → file_bytes d ≡ file_of r.settings r.program (sha256 r.elf) r.input r.turns
+    → SaysTheRun r d.records (run_all (fresh r.program d.head.settings.harts d.records))

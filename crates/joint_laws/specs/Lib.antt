@@ -1,0 +1,6 @@
+pub mod Recordings
+pub mod Steps
+pub mod Chains
+pub mod Filled
+pub mod Laws
+pub mod Examples

@@ -1,0 +1,167 @@
+//! Laws of joint replays of recordings: what each beginning of each order that a log of a recording
+//! allows says of the recorded run. These functions do nothing: their contracts are theorems.
+#![tactic(auto)]
+
+ghost use Rattle.joint_laws.specs.Recordings.{OfBeginnings};
+ghost use Rattle.joint_laws.specs.Laws.{OwnLogsAreLogs, BeginsSound, KeepsOrder, StandsInOrder, GoesOn, IsNotRefused, HasFirstRows, HasRows, HasStates, HasMemory, HasWordsOnce};
+ghost use Rattle.joint_laws.specs.Laws.{RunsToTheEnd, JointReplaysSayTheRun, JointFilesSayTheRun};
+ghost use Rattle.joint_laws.specs.Chains.{ChainsLead};
+ghost use Rattle.joint_laws.specs.Filled.{FillsAreFilled};
+
+mod examples;
+
+use elf_loader::laws::loaded_programs_are_images;
+pub use examples::{a_relay_has_eighteen_orders, a_spoiled_store_has_ten_orders};
+use file_laws::{files_say_the_run, streams_are_in_order};
+use joint_replay::laws::{
+    chains_are_kept, no_order_gets_stuck, starts_are_sound, steps_pass_their_points,
+};
+use log_order::laws::order_stays_without_the_first_records;
+use race_laws::{
+    kept_edges_are_edges, kept_edges_order_conflicts, points_are_in_order,
+    replayed_points_are_since_headers,
+};
+use replay_laws::{ends_suffice, the_rows_of_a_hart_are_counted};
+use row_laws::{
+    interval_rows_are_of_turns, parts_have_code_words, run_rows_tell_words, run_writers_have_rows,
+    turn_rows_are_rows,
+};
+use run_laws::kept_records_are_an_end;
+
+/// What its own log keeps of a recording is a log of it, so all laws here hold of it. They hold as well
+/// of a log of which the front is lost, wherever the records that are left begin.
+pub fn own_logs_are_logs()
+    ensures { OwnLogsAreLogs }
+{
+    kept_records_are_an_end();
+}
+
+/// The joint replay of a log of a recording begins sound: its records are in order.
+pub fn joint_replays_begin_sound()
+    ensures { BeginsSound }
+{
+    starts_are_sound();
+    streams_are_in_order();
+    order_stays_without_the_first_records();
+}
+
+/// A chain of program order and kept Edges over places of a run is one over instructions by hart and
+/// count.
+#[tactic(auto, using(crate::proofs::ByCount::chains_lead))]
+pub fn chains_lead()
+    ensures { ChainsLead }
+{}
+
+/// A row fills bytes of an aligned word exactly where the joint memory forgets it.
+pub fn fills_are_filled()
+    ensures { FillsAreFilled }
+{}
+
+/// Race order: in each beginning of an allowed order each word's retained writes come as recorded, and
+/// each of its retained reads between the same retained writes, by whatever hart. It rests on the kept
+/// Edges alone, those through intervals that were given up among them. In a whole allowed order all of
+/// them are done, each once.
+pub fn the_race_order_is_kept()
+    ensures begun { OfBeginnings KeepsOrder }
+    ensures whole { StandsInOrder }
+{
+    steps_pass_their_points();
+    joint_replays_begin_sound();
+    chains_are_kept();
+    points_are_in_order();
+    kept_edges_order_conflicts();
+    replayed_points_are_since_headers();
+    chains_lead();
+}
+
+/// No beginning of an allowed order gets stuck: it is whole, or some hart is ready.
+pub fn beginnings_go_on()
+    ensures { OfBeginnings GoesOn }
+{
+    no_order_gets_stuck();
+    points_are_in_order();
+    kept_edges_are_edges();
+}
+
+/// The step of a ready hart is not refused.
+pub fn steps_are_not_refused()
+    ensures { OfBeginnings IsNotRefused }
+{
+    ends_suffice();
+    interval_rows_are_of_turns();
+}
+
+/// The lowest ready hart first, the joint replay goes through a whole allowed order, and isn't stopped.
+pub fn recordings_run_to_the_end()
+    ensures { RunsToTheEnd }
+{
+    ends_suffice();
+    interval_rows_are_of_turns();
+    beginnings_go_on();
+}
+
+/// Each hart's rows are the first of its retained intervals' part of the run's rows, and all of them in a
+/// whole allowed order.
+pub fn the_rows_are_recorded()
+    ensures first { OfBeginnings HasFirstRows }
+    ensures all { HasRows }
+{
+    ends_suffice();
+    interval_rows_are_of_turns();
+}
+
+/// Each row is done from the state that the run had before it.
+pub fn the_states_are_recorded()
+    ensures { OfBeginnings HasStates }
+{
+    ends_suffice();
+    interval_rows_are_of_turns();
+}
+
+/// The known words stand by ascending address, each once.
+pub fn known_words_ascend()
+    ensures { OfBeginnings HasWordsOnce }
+{}
+
+/// Each word that the joint memory knows is the run's word right after the latest row that stored or
+/// loaded it, and no retained write of it that was done came later in the run than that row. Nothing
+/// is said of a word that no retained row stored or loaded.
+pub fn the_memory_is_recorded()
+    ensures { OfBeginnings HasMemory }
+{
+    steps_pass_their_points();
+    joint_replays_begin_sound();
+    loaded_programs_are_images();
+    parts_have_code_words();
+    run_rows_tell_words();
+    run_writers_have_rows();
+    turn_rows_are_rows();
+    the_rows_of_a_hart_are_counted();
+    ends_suffice();
+    interval_rows_are_of_turns();
+    fills_are_filled();
+    the_race_order_is_kept();
+}
+
+/// All of it of one run: the joint replay of a log of a recording, the lowest ready hart first, isn't
+/// stopped, keeps the recorded order, gives the recorded rows from the recorded states, and ends with
+/// recorded words.
+pub fn joint_replays_say_the_run()
+    ensures { JointReplaysSayTheRun }
+{
+    recordings_run_to_the_end();
+    the_race_order_is_kept();
+    the_states_are_recorded();
+    the_memory_is_recorded();
+    known_words_ascend();
+    the_rows_are_recorded();
+}
+
+/// So it is of what a log says whose bytes are those of the recording's file.
+pub fn files_say_the_run_jointly()
+    ensures { JointFilesSayTheRun }
+{
+    joint_replays_say_the_run();
+    own_logs_are_logs();
+    files_say_the_run();
+}
