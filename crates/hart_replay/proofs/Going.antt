@@ -21,6 +21,7 @@ use Rattle.hart_replay.specs.Replay.{Refused, Next, Stop, logged, taken_from, sl
 use Rattle.hart_replay.specs.Scans.{Pending, due, met, IsWaiting, first_of, rest_of}
 use Rattle.hart_replay.specs.Pages.{Frame, word_at}
 use Rattle.hart_replay.specs.Sides.{Side, Alike, Goes, word_count, rows_below, side, interval_at, position_at, word_due, Keeps, KeepsWord, Does}
+use Rattle.hart_replay.specs.Courses.{side_of, DoneAndKept}
 use Rattle.hart_replay.proofs.Places.{logged-due, logged-met, left-met, slot-first, slot-rest, length-rest}
 use Rattle.hart_replay.proofs.KnownRows.{known_word, known_put}
 use Rattle.hart_replay.proofs.Alike.{moved, tried_once}
@@ -96,9 +97,6 @@ module _ (i : Program) (h : ℕ) (m : EndMark) (s : HartState) (called : Bool) (
 
 -- ---- the contracts of the steps
 
-abbrev pub side_of : Course → Side
-side_of c = side c.loads c.conditionals c.words.pages
-
 -- the definition's next, where it depends on a word
 abbrev pub by_word : Course → Want → ℕ → (ℕ → Reply) → (load store : ℕ → Option (ℕ × ℕ)) → Option ℕ → Next
 by_word c k w reply load store o = elim o as (λ y. Next) [ None ↦ missing c.hart (position_at c.state c.called (side_of c)) w | Some y ↦ after_ask c.image.now c.hart (position_at c.state c.called (side_of c)) (record { state = c.state; want = k }) (reply y) 1 (load y) (store y) ]
@@ -106,7 +104,7 @@ by_word c k w reply load store o = elim o as (λ y. Next) [ None ↦ missing c.h
 -- what a kept access says
 abbrev pub Kept : Course → Course → Want → Reply → (load store : Option (ℕ × ℕ)) → (ℕ × ℕ) → Result Row ReplayError → Type 0
 Kept mid new k reply load store told r =
-    IfOk r (λ row. (row ≡ row_of mid.hart mid.image.now mid.state (after k reply mid.state) load store) × Keeps mid.words.pages told new.words.pages × (new ≡ record mid { words = new.words; state = after k reply mid.state; called = false }))
+    IfOk r (λ row. DoneAndKept mid k reply load store told row new)
     × IfErr r (λ e. (e ≡ OutOfMemory) × (new ≡ record mid { words = new.words }))
 
 keep_does : (a : Side) (n : Next) (mid new : Course) (k : Want) (reply : Reply) (load store : Option (ℕ × ℕ)) (told : ℕ × ℕ) (r : Result Row ReplayError)

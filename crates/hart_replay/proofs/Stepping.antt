@@ -29,7 +29,7 @@ use Rattle.hart_replay.specs.declared.error.ReplayError.TheVariants.{OutOfMemory
 use Rattle.hart_replay.specs.declared.header.Start.{Start}
 use Rattle.hart_replay.specs.Scans.{Pending, loads_in, conditionals_in, mark_in}
 use Rattle.hart_replay.specs.Pages.{Frame, word_at}
-use Rattle.hart_replay.proofs.Going.{side_of}
+use Rattle.hart_replay.specs.Courses.{side_of}
 use Rattle.hart_replay.proofs.Alike.{coming_alike}
 use Rattle.hart_replay.proofs.KnownRows.{known_none}
 

@@ -125,7 +125,10 @@ abbrev pub missing : ℕ → Position → ℕ → Next
 missing h p a = Stop (Refused (LoadMissing h p.state.ic a))
 
 abbrev pub after_sc : Program → ℕ → Position → Ask → Bool → ℕ → ℕ → Next
-after_sc i h p ask good a value = let t = absorbed ask (cond good replies.ScOk replies.ScFailed) in On (record { state = t; loads = p.loads; conditionals = p.conditionals + 1; rows = row_of h i p.state t None (cond good (Some (a, value)) None) ∷ p.rows; called = false })
+after_sc i h p ask good a value =
+    let t = absorbed ask (cond good replies.ScOk replies.ScFailed) in
+    let row = row_of h i p.state t None (cond good (Some (a, value)) None) in
+    On (record { state = t; loads = p.loads; conditionals = p.conditionals + 1; rows = row ∷ p.rows; called = false })
 
 -- the reason of an end by the system call with this number: 93 is exit, 94 is exit_group, any other goes on
 abbrev pub call_reason : ℕ → ℕ
@@ -149,7 +152,10 @@ ask_step i h v p k = elim k as (λ x. Next) [
   | Load a w s rd ↦ elim (word_for v p a) [ None ↦ missing h p a | Some x ↦ after_ask i h p (record { state = p.state; want = k }) (Word x) 1 (Some (a, x)) None ]
   | LoadReserved a rd ↦ elim (word_for v p a) [ None ↦ missing h p a | Some x ↦ after_ask i h p (record { state = p.state; want = k }) (Word x) 1 (Some (a, x)) None ]
   | Amo a o rd y ↦ elim (word_for v p a) [ None ↦ missing h p a | Some x ↦ after_ask i h p (record { state = p.state; want = k }) (Word x) 1 (Some (a, x)) (Some (a, amo_result o x y)) ]
-  | Store a w y ↦ elim (w == 4) [ true ↦ after_ask i h p (record { state = p.state; want = k }) Stored 0 None (Some (a, y)) | false ↦ elim (word_for v p a) [ None ↦ missing h p a | Some x ↦ after_ask i h p (record { state = p.state; want = k }) Stored 1 None (Some (a, stored_word a w y x)) ] ]
+  | Store a w y ↦ elim (w == 4) [
+    | true ↦ after_ask i h p (record { state = p.state; want = k }) Stored 0 None (Some (a, y))
+    | false ↦ elim (word_for v p a) [ None ↦ missing h p a | Some x ↦ after_ask i h p (record { state = p.state; want = k }) Stored 1 None (Some (a, stored_word a w y x)) ]
+  ]
   | StoreConditional a rd y ↦ elim (slot v.conditionals p.conditionals) [ None ↦ Stop (Refused (ScMissing h p.state.ic)) | Some b ↦ after_sc i h p (record { state = p.state; want = k }) b a y ]
   | System n args ↦ system_step i h v p (record { state = p.state; want = k }) n (slice_index args 0)
   | Cut ↦ Stop Done
@@ -179,7 +185,10 @@ finish rows o = record { rows = onto rows []; outcome = o }
 
 -- what is asked at the mark's count, where the mark is a fault
 abbrev pub fault_end : Program → ℕ → Interval → Position → Want → Replayed
-fault_end i h v p (Faulted f y) = elim (16 + fault_number f == v.mark.reason && (y == v.mark.value)) [ true ↦ finish (fault_row h i p.state f y ∷ p.rows) (left_over h v p) | false ↦ finish p.rows (Refused (EndDiffers h v.mark (found p.state.ic (16 + fault_number f) y))) ]
+fault_end i h v p (Faulted f y) = elim (16 + fault_number f == v.mark.reason && (y == v.mark.value)) [
+  | true ↦ finish (fault_row h i p.state f y ∷ p.rows) (left_over h v p)
+  | false ↦ finish p.rows (Refused (EndDiffers h v.mark (found p.state.ic (16 + fault_number f) y)))
+]
 fault_end i h v p k = finish p.rows (Refused (EndDiffers h v.mark (found p.state.ic 1 0)))
 
 -- the mark's count is reached: a fault (above 16) has to come next; a call (2), exit (3) or exit_group (4) has to be the
@@ -187,7 +196,10 @@ fault_end i h v p k = finish p.rows (Refused (EndDiffers h v.mark (found p.state
 abbrev pub ended : Program → ℕ → Interval → Position → Replayed
 ended i h v p = elim (nat_lt 16 v.mark.reason) [
   | true ↦ elim (step i p.state) [ Quiet t ↦ finish p.rows (Refused (EndDiffers h v.mark (found p.state.ic 1 0))) | Asks k ↦ fault_end i h v p k ]
-  | false ↦ elim ((v.mark.reason == 2 || (v.mark.reason == 3) || (v.mark.reason == 4)) && not p.called) [ true ↦ finish p.rows (Refused (EndDiffers h v.mark (found p.state.ic 1 0))) | false ↦ finish p.rows (left_over h v p) ]
+  | false ↦ elim ((v.mark.reason == 2 || (v.mark.reason == 3) || (v.mark.reason == 4)) && not p.called) [
+    | true ↦ finish p.rows (Refused (EndDiffers h v.mark (found p.state.ic 1 0)))
+    | false ↦ finish p.rows (left_over h v p)
+  ]
 ]
 
 -- n instructions are left up to the mark's count

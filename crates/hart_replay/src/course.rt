@@ -3,13 +3,13 @@ ghost use Rattle.std.specs.Prelude.{◌≡◌, ◌<◌, ◌/◌, ◌==◌, ◌&&
 ghost use Rattle.rv_meaning.specs.Execute.{after};
 ghost use Rattle.rv_meaning.specs.Orderly.{is_reply_to, is_aligned, is_cut, passes};
 ghost use Rattle.rv_meaning.specs.declared.asks.Want.TheVariants.{Load, LoadReserved, Amo, Store, StoreConditional, System};
-ghost use Rattle.hart_rows.specs.Rows.{row_of, call_row};
+ghost use Rattle.hart_rows.specs.Rows.{call_row};
 ghost use Rattle.hart_rows.specs.Lookups.{fetched};
 ghost use Rattle.hart_replay.specs.declared.error.ReplayError.TheVariants.{LoadMissing, EndDiffers, OutOfMemory};
-ghost use Rattle.hart_replay.specs.Replay.{call_reason, found, left_over, ask_step, one_step, ended};
-ghost use Rattle.hart_replay.specs.Coming.{without_rows};
+ghost use Rattle.hart_replay.specs.Replay.{call_reason, found};
 ghost use Rattle.hart_replay.specs.Pages.{word_at};
-ghost use Rattle.hart_replay.specs.Sides.{interval_at, position_at, side, Does, IsSystem, Keeps, call_reg, call_answer, fault_in, word_due, outcome_of, rows_of};
+ghost use Rattle.hart_replay.specs.Sides.{IsSystem, call_reg, call_answer, fault_in, word_due, outcome_of, rows_of};
+ghost use Rattle.hart_replay.specs.Courses.{CourseDoes, DoneAndKept, next_asked, next_of, replied_row, replied, left_of, end_of};
 ghost use Rattle.hart_replay.specs.Scans.{met, IsWaiting};
 
 use crate::error::ReplayError;
@@ -110,8 +110,8 @@ impl<'a> Course<'a> {
     ) -> Row
         requires reply { IsTrue (is_reply_to want.now reply) }
         requires here { here.now ≡ fetched self.old.hart self.old.image.now self.old.state }
-        ensures row { result ≡ row_of self.old.hart self.old.image.now self.old.state (after want.now reply self.old.state) load store }
-        ensures rest { self.new ≡ record self.old { state = after want.now reply self.old.state; called = false } }
+        ensures row { result ≡ replied_row self.old want.now reply load store }
+        ensures rest { self.new ≡ replied self.old want.now reply }
     {
         absorb_in_place(&mut self.state, want, reply);
         self.called = false;
@@ -130,7 +130,7 @@ impl<'a> Course<'a> {
     ) -> Result<Row, ReplayError>
         requires reply { IsTrue (is_reply_to want.now reply) }
         requires here { here.now ≡ fetched self.old.hart self.old.image.now self.old.state }
-        ensures ok { IfOk result (λ row. (row ≡ row_of self.old.hart self.old.image.now self.old.state (after want.now reply self.old.state) load store) × Keeps self.old.words.pages told self.new.words.pages × (self.new ≡ record self.old { words = self.new.words; state = after want.now reply self.old.state; called = false })) }
+        ensures ok { IfOk result (λ row. DoneAndKept self.old want.now reply load store told row self.new) }
         ensures err { IfErr result (λ e. (e ≡ OutOfMemory) × (self.new ≡ record self.old { words = self.new.words })) }
     {
         match self.put(told.0, told.1) {
@@ -187,7 +187,7 @@ impl<'a> Course<'a> {
     fn call(&mut self, here: &Fetched, number: u32, args: [u32; 3]) -> Result<Row, ReplayError>
         requires here { here.now ≡ fetched self.old.hart self.old.image.now self.old.state }
         requires count { self.old.state.ic < self.old.mark.ic }
-        ensures answer { Does (side self.old.loads self.old.conditionals self.old.words.pages) (ask_step self.old.image.now self.old.hart (interval_at self.old.state self.old.mark (side self.old.loads self.old.conditionals self.old.words.pages)) (position_at self.old.state self.old.called (side self.old.loads self.old.conditionals self.old.words.pages)) (System number args)) self.old.state result self.new.state self.new.called (side self.new.loads self.new.conditionals self.new.words.pages) }
+        ensures answer { CourseDoes self.old (next_asked self.old (System number args)) result self.new }
         ensures same { (self.new.image ≡ self.old.image) × (self.new.hart ≡ self.old.hart) × (self.new.mark ≡ self.old.mark) }
     {
         let _last = self.mark.ic;
@@ -211,7 +211,7 @@ impl<'a> Course<'a> {
         requires here { here.now ≡ fetched self.old.hart self.old.image.now self.old.state }
         requires asks { (is_cut want.now ≡ false) × IsTrue (passes self.old.image.now want.now) }
         requires count { self.old.state.ic < self.old.mark.ic }
-        ensures answer { Does (side self.old.loads self.old.conditionals self.old.words.pages) (ask_step self.old.image.now self.old.hart (interval_at self.old.state self.old.mark (side self.old.loads self.old.conditionals self.old.words.pages)) (position_at self.old.state self.old.called (side self.old.loads self.old.conditionals self.old.words.pages)) want.now) self.old.state result self.new.state self.new.called (side self.new.loads self.new.conditionals self.new.words.pages) }
+        ensures answer { CourseDoes self.old (next_asked self.old want.now) result self.new }
         ensures same { (self.new.image ≡ self.old.image) × (self.new.hart ≡ self.old.hart) × (self.new.mark ≡ self.old.mark) }
     {
         match *want {
@@ -249,7 +249,7 @@ impl<'a> Course<'a> {
         rd: Register,
     ) -> Result<Row, ReplayError>
         requires here { here.now ≡ fetched self.old.hart self.old.image.now self.old.state }
-        ensures answer { Does (side self.old.loads self.old.conditionals self.old.words.pages) (ask_step self.old.image.now self.old.hart (interval_at self.old.state self.old.mark (side self.old.loads self.old.conditionals self.old.words.pages)) (position_at self.old.state self.old.called (side self.old.loads self.old.conditionals self.old.words.pages)) (Load addr width signed rd)) self.old.state result self.new.state self.new.called (side self.new.loads self.new.conditionals self.new.words.pages) }
+        ensures answer { CourseDoes self.old (next_asked self.old (Load addr width signed rd)) result self.new }
         ensures same { (self.new.image ≡ self.old.image) × (self.new.hart ≡ self.old.hart) × (self.new.mark ≡ self.old.mark) }
     {
         match self.load_word(addr) {
@@ -274,7 +274,7 @@ impl<'a> Course<'a> {
         rd: Register,
     ) -> Result<Row, ReplayError>
         requires here { here.now ≡ fetched self.old.hart self.old.image.now self.old.state }
-        ensures answer { Does (side self.old.loads self.old.conditionals self.old.words.pages) (ask_step self.old.image.now self.old.hart (interval_at self.old.state self.old.mark (side self.old.loads self.old.conditionals self.old.words.pages)) (position_at self.old.state self.old.called (side self.old.loads self.old.conditionals self.old.words.pages)) (LoadReserved addr rd)) self.old.state result self.new.state self.new.called (side self.new.loads self.new.conditionals self.new.words.pages) }
+        ensures answer { CourseDoes self.old (next_asked self.old (LoadReserved addr rd)) result self.new }
         ensures same { (self.new.image ≡ self.old.image) × (self.new.hart ≡ self.old.hart) × (self.new.mark ≡ self.old.mark) }
     {
         match self.load_word(addr) {
@@ -296,7 +296,7 @@ impl<'a> Course<'a> {
         value: u32,
     ) -> Result<Row, ReplayError>
         requires here { here.now ≡ fetched self.old.hart self.old.image.now self.old.state }
-        ensures answer { Does (side self.old.loads self.old.conditionals self.old.words.pages) (ask_step self.old.image.now self.old.hart (interval_at self.old.state self.old.mark (side self.old.loads self.old.conditionals self.old.words.pages)) (position_at self.old.state self.old.called (side self.old.loads self.old.conditionals self.old.words.pages)) (Amo addr op rd value)) self.old.state result self.new.state self.new.called (side self.new.loads self.new.conditionals self.new.words.pages) }
+        ensures answer { CourseDoes self.old (next_asked self.old (Amo addr op rd value)) result self.new }
         ensures same { (self.new.image ≡ self.old.image) × (self.new.hart ≡ self.old.hart) × (self.new.mark ≡ self.old.mark) }
     {
         match self.load_word(addr) {
@@ -327,7 +327,7 @@ impl<'a> Course<'a> {
         requires here { here.now ≡ fetched self.old.hart self.old.image.now self.old.state }
         requires part { (width == 4) ≡ false }
         requires aligned { IsTrue (is_aligned addr width) }
-        ensures answer { Does (side self.old.loads self.old.conditionals self.old.words.pages) (ask_step self.old.image.now self.old.hart (interval_at self.old.state self.old.mark (side self.old.loads self.old.conditionals self.old.words.pages)) (position_at self.old.state self.old.called (side self.old.loads self.old.conditionals self.old.words.pages)) (Store addr width value)) self.old.state result self.new.state self.new.called (side self.new.loads self.new.conditionals self.new.words.pages) }
+        ensures answer { CourseDoes self.old (next_asked self.old (Store addr width value)) result self.new }
         ensures same { (self.new.image ≡ self.old.image) × (self.new.hart ≡ self.old.hart) × (self.new.mark ≡ self.old.mark) }
     {
         match self.load_word(addr) {
@@ -350,7 +350,7 @@ impl<'a> Course<'a> {
     ) -> Result<Row, ReplayError>
         requires here { here.now ≡ fetched self.old.hart self.old.image.now self.old.state }
         requires aligned { IsTrue (is_aligned addr width) }
-        ensures answer { Does (side self.old.loads self.old.conditionals self.old.words.pages) (ask_step self.old.image.now self.old.hart (interval_at self.old.state self.old.mark (side self.old.loads self.old.conditionals self.old.words.pages)) (position_at self.old.state self.old.called (side self.old.loads self.old.conditionals self.old.words.pages)) (Store addr width value)) self.old.state result self.new.state self.new.called (side self.new.loads self.new.conditionals self.new.words.pages) }
+        ensures answer { CourseDoes self.old (next_asked self.old (Store addr width value)) result self.new }
         ensures same { (self.new.image ≡ self.old.image) × (self.new.hart ≡ self.old.hart) × (self.new.mark ≡ self.old.mark) }
     {
         if width == 4 {
@@ -371,7 +371,7 @@ impl<'a> Course<'a> {
         value: u32,
     ) -> Result<Row, ReplayError>
         requires here { here.now ≡ fetched self.old.hart self.old.image.now self.old.state }
-        ensures answer { Does (side self.old.loads self.old.conditionals self.old.words.pages) (ask_step self.old.image.now self.old.hart (interval_at self.old.state self.old.mark (side self.old.loads self.old.conditionals self.old.words.pages)) (position_at self.old.state self.old.called (side self.old.loads self.old.conditionals self.old.words.pages)) (StoreConditional addr rd value)) self.old.state result self.new.state self.new.called (side self.new.loads self.new.conditionals self.new.words.pages) }
+        ensures answer { CourseDoes self.old (next_asked self.old (StoreConditional addr rd value)) result self.new }
         ensures same { (self.new.image ≡ self.old.image) × (self.new.hart ≡ self.old.hart) × (self.new.mark ≡ self.old.mark) }
     {
         let want = Want::StoreConditional { addr, rd, value };
@@ -395,7 +395,7 @@ impl<'a> Course<'a> {
     /// is as before.
     pub(crate) fn go_on(&mut self) -> Result<Row, ReplayError>
         requires { self.old.state.ic < self.old.mark.ic }
-        ensures answer { Does (side self.old.loads self.old.conditionals self.old.words.pages) (one_step self.old.image.now self.old.hart (interval_at self.old.state self.old.mark (side self.old.loads self.old.conditionals self.old.words.pages)) (position_at self.old.state self.old.called (side self.old.loads self.old.conditionals self.old.words.pages))) self.old.state result self.new.state self.new.called (side self.new.loads self.new.conditionals self.new.words.pages) }
+        ensures answer { CourseDoes self.old (next_of self.old) result self.new }
         ensures same { (self.new.image ≡ self.old.image) × (self.new.hart ≡ self.old.hart) × (self.new.mark ≡ self.old.mark) }
     {
         let here = Fetched::at(self.hart, self.image, &self.state);
@@ -411,7 +411,7 @@ impl<'a> Course<'a> {
 
     // What is left of the log.
     fn left_over(&self) -> Result<(), ReplayError>
-        ensures { outcome_of result ≡ left_over self.now.hart (interval_at self.now.state self.now.mark (side self.now.loads self.now.conditionals self.now.words.pages)) (without_rows (position_at self.now.state self.now.called (side self.now.loads self.now.conditionals self.now.words.pages))) }
+        ensures { outcome_of result ≡ left_of self.now }
     {
         let left = self.loads.left() + self.conditionals.left();
         if left == 0 {
@@ -427,7 +427,7 @@ impl<'a> Course<'a> {
     // The end of an interval whose mark is a fault: the next instruction has to be that fault.
     fn fault_end(&self) -> (Option<Row>, Result<(), ReplayError>)
         requires { 16 < self.now.mark.reason }
-        ensures { record { rows = rows_of result.0; outcome = outcome_of result.1 } ≡ ended self.now.image.now self.now.hart (interval_at self.now.state self.now.mark (side self.now.loads self.now.conditionals self.now.words.pages)) (without_rows (position_at self.now.state self.now.called (side self.now.loads self.now.conditionals self.now.words.pages))) }
+        ensures { record { rows = rows_of result.0; outcome = outcome_of result.1 } ≡ end_of self.now }
     {
         let here = Fetched::at(self.hart, self.image, &self.state);
         let mut state = self.state;
@@ -459,7 +459,7 @@ impl<'a> Course<'a> {
     /// The end of the interval, at the mark's count: the row of its fault, if it ends so, and the
     /// outcome.
     pub(crate) fn end(&self) -> (Option<Row>, Result<(), ReplayError>)
-        ensures { record { rows = rows_of result.0; outcome = outcome_of result.1 } ≡ ended self.now.image.now self.now.hart (interval_at self.now.state self.now.mark (side self.now.loads self.now.conditionals self.now.words.pages)) (without_rows (position_at self.now.state self.now.called (side self.now.loads self.now.conditionals self.now.words.pages))) }
+        ensures { record { rows = rows_of result.0; outcome = outcome_of result.1 } ≡ end_of self.now }
     {
         let reason = self.mark.reason;
         if reason > FAULT {

@@ -30,11 +30,12 @@ pub struct Replayer<'a> {
 
 impl<'a> Model for Replayer<'a> {
     ghost use Rattle.hart_replay.specs.Coming.{Replaying};
-    ghost use Rattle.hart_replay.specs.Sides.{side, side_to_come, left_by};
+    ghost use Rattle.hart_replay.specs.Sides.{left_by};
+    ghost use Rattle.hart_replay.specs.Courses.{course_to_come};
 
     ghost Value = { Replaying };
 
-    ghost view = { λ r. record { program = r.course.image.now; mark = r.course.mark; state = r.course.state; left = left_by r.over (side_to_come r.course.image.now r.course.hart r.course.mark r.course.state r.course.called (side r.course.loads r.course.conditionals r.course.words.pages)) } };
+    ghost view = { λ r. record { program = r.course.image.now; mark = r.course.mark; state = r.course.state; left = left_by r.over (course_to_come r.course) } };
 }
 
 impl<'a> Replayer<'a> {

@@ -1,5 +1,5 @@
 use Rattle.std.proofs.Common.{refl}
-use Rattle.hart_replay.specs.Sides.{side}
+use Rattle.hart_replay.specs.Courses.{side_of}
 use Rattle.hart_replay.proofs.Asked.{asks_ready, does_asked, does_quiet}
 use Rattle.hart_replay.proofs.course.Course.go_on.Goals as goal
 
@@ -10,12 +10,12 @@ ask-requires c =
 
 pub returns-in-Cut-clause-answer : goal.returns-in-Cut-clause-answer
 returns-in-Cut-clause-answer c =
-    does_quiet c.args.self.now.image.now c.args.self.now.hart c.args.self.now.mark c.args.self.now.state c.quiet_run_in_place.new.state c.args.self.now.called (side c.args.self.now.loads c.args.self.now.conditionals c.args.self.now.words.pages) c.quiet_run_in_place.result c.row.result c.quiet_run_in_place.ensures c.in-Cut.is
+    does_quiet c.args.self.now.image.now c.args.self.now.hart c.args.self.now.mark c.args.self.now.state c.quiet_run_in_place.new.state c.args.self.now.called (side_of c.args.self.now) c.quiet_run_in_place.result c.row.result c.quiet_run_in_place.ensures c.in-Cut.is
     c.each_instruction_is_counted_or_asks.ensures.asks c.each_instruction_is_counted_or_asks.ensures.counted (c.row.ensures.looked_up c.args.self.now.hart c.args.self.now.image.now c.args.self.now.state c.quiet_run_in_place.new.state c.at-here.ensures refl)
 
 pub returns-in_default : goal.returns-in_default
 returns-in_default c =
     record {
-      answer = does_asked c.args.self.now.image.now c.args.self.now.hart c.args.self.now.mark c.args.self.now.state c.quiet_run_in_place.new.state c.args.self.now.called (side c.args.self.now.loads c.args.self.now.conditionals c.args.self.now.words.pages) c.quiet_run_in_place.result c.ask.result c.ask.new.self.state c.ask.new.self.called (side c.ask.new.self.loads c.ask.new.self.conditionals c.ask.new.self.words.pages) c.quiet_run_in_place.ensures c.in_default.not-Cut c.ask.ensures.answer;
+      answer = does_asked c.args.self.now.image.now c.args.self.now.hart c.args.self.now.mark c.args.self.now.state c.quiet_run_in_place.new.state c.args.self.now.called (side_of c.args.self.now) c.quiet_run_in_place.result c.ask.result c.ask.new.self.state c.ask.new.self.called (side_of c.ask.new.self) c.quiet_run_in_place.ensures c.in_default.not-Cut c.ask.ensures.answer;
       same = c.ask.ensures.same;
     }

@@ -2,7 +2,8 @@ use Rattle.std.proofs.Common.{ℕ, Some, None, Err, refl, subst, arith}
 use Rattle.rv_meaning.specs.declared.asks.Want.TheVariants.{Store}
 use Rattle.rv_meaning.specs.declared.asks.Reply.TheVariants.{Stored}
 use Rattle.rv_meaning.specs.Access.{stored_word}
-use Rattle.hart_replay.proofs.Going.{loading_does, missing_does, part_does, side_of, Kept}
+use Rattle.hart_replay.specs.Courses.{side_of}
+use Rattle.hart_replay.proofs.Going.{loading_does, missing_does, part_does, Kept}
 use Rattle.hart_replay.proofs.course.Course.store_part.Goals as goal
 
 pub returns-in-Ok-clause-answer : goal.returns-in-Ok-clause-answer
