@@ -1,0 +1,3 @@
+pub mod Digits
+pub mod Bytes
+pub mod Worked

@@ -1,0 +1,10 @@
+use Rattle.std.proofs.Common.{◌≡◌, ◌<◌, ◌^◌, drop}
+use Rattle.step_debugger.specs.Numbers.{number_in}
+use Rattle.step_debugger.proofs.Digits.{more}
+use Rattle.step_debugger.proofs.numbers.number_in.Given as goal
+
+abbrev pub invariant-loop-place : goal.invariant-loop-place
+invariant-loop-place l = record {
+  spells : more l.base l.number (drop l.place l.text) ≡ number_in l.base l.text;
+  small : l.number < 16 ^ l.place;
+}

@@ -1,0 +1,234 @@
+-- What each command does, and what it prints.
+use Rattle.std.specs.Prelude.{ℕ, zero, suc, ◌+◌, ◌==◌, nat_lt, Bool, true, false, not, List, [], ◌∷◌, ◌++◌, length, slice_index, codes, decimal, Option, Some, None, Result, Ok, Err}
+use Rattle.std.specs.List.{list_any, filter}
+use Rattle.bn_base.specs.declared.state.HartState.{HartState}
+use Rattle.rv_text.specs.Instructions.{hex8}
+use Rattle.rv_text.specs.Names.{register_name}
+use Rattle.hart_replay.specs.declared.error.ReplayError.{ReplayError}
+use Rattle.joint_replay.specs.declared.error.JointError.TheVariants.{Stuck}
+use Rattle.joint_replay.specs.declared.kinds.Coming.TheVariants.{PassAt, RowAt, EndAt}
+use Rattle.joint_replay.specs.declared.kinds.Readiness.{Readiness}
+use Rattle.joint_replay.specs.declared.kinds.Readiness.TheVariants as is
+use Rattle.joint_replay.specs.declared.kinds.Next.{Next}
+use Rattle.joint_replay.specs.declared.kinds.Next.TheVariants as next
+use Rattle.joint_replay.specs.declared.kinds.Stepped.{Stepped}
+use Rattle.joint_replay.specs.declared.kinds.Stepped.TheVariants as did
+use Rattle.joint_replay.specs.Lanes.{Item, count_of}
+use Rattle.joint_replay.specs.Joining.{Joining, readiness, coming, choice, next_step, error_of, positions_from, steps_left}
+use Rattle.joint_replay.specs.Memory.{word_in}
+use Rattle.joint_replay.specs.Calls.{state_at}
+use Rattle.joint_replay.specs.Texts.{item_text, pass_text, end_text}
+use Rattle.rv_text.specs.Rows.{row_text}
+use Rattle.step_debugger.specs.declared.command.Command.{Command}
+use Rattle.step_debugger.specs.declared.command.Command.TheVariants as to
+use Rattle.step_debugger.specs.declared.session.Ending.{Ending}
+use Rattle.step_debugger.specs.declared.session.Ending.TheVariants.{GoesOn, Quits, Refused}
+
+-- ---- the lines
+
+-- a hart and its count
+unfoldable pub point_text : ℕ → ℕ → List ℕ
+point_text h ic = decimal h ++ codes " " ++ decimal ic
+
+unfoldable pub hart_text : ℕ → List ℕ
+hart_text h = codes "hart " ++ decimal h ++ codes "\n"
+
+unfoldable pub waits_text : ℕ → ℕ → List ℕ
+waits_text s ic = codes "waits " ++ point_text s ic ++ codes "\n"
+
+unfoldable pub stop_text : ℕ → ℕ → ℕ → List ℕ
+stop_text h ic pc = codes "stop " ++ point_text h ic ++ codes " " ++ hex8 pc ++ codes "\n"
+
+-- a line of a word and an address
+unfoldable pub address_text : List ℕ → ℕ → List ℕ
+address_text word addr = word ++ hex8 addr ++ codes "\n"
+
+-- what is known of a word
+unfoldable pub word_text : ℕ → Option ℕ → List ℕ
+word_text addr None = hex8 addr ++ codes " unknown\n"
+word_text addr (Some w) = hex8 addr ++ codes "=" ++ hex8 w ++ codes "\n"
+
+-- a register and what it holds
+unfoldable pub register_text : List ℕ → ℕ → List ℕ
+register_text x r = register_name r ++ codes "=" ++ hex8 (slice_index x r)
+
+-- two registers, and a line of four
+unfoldable pub two_text : List ℕ → ℕ → List ℕ
+two_text x r = register_text x r ++ codes " " ++ register_text x (r + 1)
+
+unfoldable pub four_text : List ℕ → ℕ → List ℕ
+four_text x r = two_text x r ++ codes " " ++ two_text x (r + 2) ++ codes "\n"
+
+-- four lines, and all eight
+unfoldable pub half_text : List ℕ → ℕ → List ℕ
+half_text x r = four_text x r ++ four_text x (r + 4) ++ four_text x (r + 8) ++ four_text x (r + 12)
+
+abbrev pub registers_text : Option HartState → List ℕ
+registers_text None = codes "no state\n"
+registers_text (Some s) = half_text s.x 0 ++ half_text s.x 16
+
+-- the pc of a hart that isn't at an ordering point
+abbrev pub pc_text : Option HartState → List ℕ
+pc_text None = codes "--------"
+pc_text (Some s) = hex8 s.pc
+
+abbrev pub readiness_text : Readiness → List ℕ
+readiness_text is.Ready = codes "ready\n"
+readiness_text (is.Waits s ic) = waits_text s ic
+readiness_text is.Done = codes "done\n"
+
+-- the count and the pc of what comes next of a hart, and whether it waits
+unfoldable pub place_text : ℕ → ℕ → Option HartState → Readiness → List ℕ
+place_text h ic state ready = point_text h ic ++ codes " " ++ pc_text state ++ codes " " ++ readiness_text ready
+
+unfoldable pub hart_done_text : ℕ → List ℕ
+hart_done_text h = decimal h ++ codes " done\n"
+
+abbrev pub hart_place : Joining → ℕ → List ℕ
+hart_place j h = elim (coming j h) [ None ↦ hart_done_text h | Some c ↦ place_text h (count_of c) (state_at j h) (readiness j h) ]
+
+-- so many harts from one on
+abbrev pub places_from : Joining → ℕ → ℕ → List ℕ
+places_from j h zero = []
+places_from j h (suc n) = hart_place j h ++ places_from j (h + 1) n
+
+-- ---- steps
+
+-- the line of a step
+abbrev pub stepped_text : Stepped → List ℕ
+stepped_text (did.Passed h ic) = pass_text h ic
+stepped_text (did.Did row) = row_text row
+stepped_text (did.Ended h n m) = end_text h n m
+
+-- steps of a joint replay: what they print, where it stands then, and how they end
+pub record Moves : Type 0 where
+  pub text : List ℕ
+  pub now : Joining
+  pub ends : Ending
+
+abbrev pub stays : Joining → List ℕ → Moves
+stays j text = record { text = text; now = j; ends = GoesOn }
+
+abbrev pub refuses : Joining → ReplayError → Moves
+refuses j e = record { text = []; now = record j { refused = Some e }; ends = Refused (error_of e) }
+
+-- moves that print this first
+abbrev pub after : List ℕ → Moves → Moves
+after text m = record m { text = text ++ m.text }
+
+-- one more step of a hart, which is told, and how it goes on; where it isn't ready, what it waits for
+abbrev pub step_by : Joining → ℕ → Readiness → Option (Result (Item × Joining) ReplayError) → (Joining → Moves) → Moves
+step_by j h is.Ready None go = stays j []
+step_by j h is.Ready (Some (Err e)) go = refuses j e
+step_by j h is.Ready (Some (Ok x)) go = after (item_text h x.0) (go x.1)
+step_by j h (is.Waits s ic) step go = stays j (waits_text s ic)
+step_by j h is.Done step go = stays j (codes "done\n")
+
+-- a hart steps up to so many times
+abbrev pub step_up_to : ℕ → ℕ → Joining → Moves
+step_up_to h zero j = stays j []
+step_up_to h (suc k) j = step_by j h (readiness j h) (next_step j h) (λ i. step_up_to h k i)
+
+-- ---- breakpoints
+
+-- the most breakpoints
+abbrev pub break_limit : ℕ
+break_limit = 64
+
+abbrev pub is_set : List ℕ → ℕ → Bool
+is_set breaks addr = list_any (λ b. b == addr) breaks
+
+-- the count and the pc of a hart's next row, where that is at a breakpoint
+abbrev pub stop_at : List ℕ → Joining → ℕ → Option (ℕ × ℕ)
+stop_at breaks j h = elim (coming j h) [
+  | None ↦ None
+  | Some c ↦ elim c [
+    | PassAt ic ↦ None
+    | RowAt ic ↦ elim (state_at j h) [ None ↦ None | Some s ↦ elim (is_set breaks s.pc) [ true ↦ Some (ic, s.pc) | false ↦ None ] ]
+    | EndAt ic ↦ None
+  ]
+]
+
+-- the first step doesn't stop
+abbrev pub stop_unless : Bool → List ℕ → Joining → ℕ → Option (ℕ × ℕ)
+stop_unless true breaks j h = None
+stop_unless false breaks j h = stop_at breaks j h
+
+-- one more step, which isn't told, and how it goes on; but before it the stop at a breakpoint
+abbrev pub go_past : Joining → ℕ → Option (ℕ × ℕ) → Option (Result (Item × Joining) ReplayError) → (Joining → Moves) → Moves
+go_past j h (Some at) step go = stays j (stop_text h at.0 at.1)
+go_past j h None None go = stays j []
+go_past j h None (Some (Err e)) go = refuses j e
+go_past j h None (Some (Ok x)) go = go x.1
+
+-- the lowest ready hart steps
+abbrev pub go_by : Bool → List ℕ → Joining → Next → (Joining → Moves) → Moves
+go_by first breaks j next.AllDone go = stays j (codes "done\n")
+go_by first breaks j next.NoneReady go = record { text = []; now = j; ends = Refused (Stuck (positions_from 0 j.lanes)) }
+go_by first breaks j (next.Hart h) go = go_past j h (stop_unless first breaks j h) (next_step j h) go
+
+-- at most n steps
+abbrev pub go_for : ℕ → Bool → List ℕ → Joining → Moves
+go_for zero first breaks j = stays j []
+go_for (suc n) first breaks j = go_by first breaks j (choice j) (λ i. go_for n false breaks i)
+
+-- steps until all harts are done, none is ready, one is refused, or a row is at a breakpoint
+abbrev pub go_on : Bool → List ℕ → Joining → Moves
+go_on first breaks j = go_for (steps_left j.lanes + 1) first breaks j
+
+-- ---- a session
+
+-- where a session stands: its joint replay, the chosen hart, and the breakpoints
+pub record Session : Type 0 where
+  pub now : Joining
+  pub hart : ℕ
+  pub breaks : List ℕ
+
+abbrev pub begin : Joining → Session
+begin j = record { now = j; hart = 0; breaks = [] }
+
+-- what a command prints, where the session stands after it, and whether it ends then
+pub record Answer : Type 0 where
+  pub text : List ℕ
+  pub session : Session
+  pub ends : Ending
+
+abbrev pub says : Session → List ℕ → Answer
+says s text = record { text = text; session = s; ends = GoesOn }
+
+abbrev pub moved : Session → Moves → Answer
+moved s m = record { text = m.text; session = record s { now = m.now }; ends = m.ends }
+
+abbrev pub unknown : Session → Answer
+unknown s = says s (codes "?\n")
+
+abbrev pub choose : Session → ℕ → Answer
+choose s n = elim (nat_lt n (length s.now.lanes)) [ true ↦ says (record s { hart = n }) (hart_text n) | false ↦ unknown s ]
+
+abbrev pub add_break : Session → ℕ → Answer
+add_break s addr = elim (is_set s.breaks addr) [
+  | true ↦ says s (address_text (codes "break ") addr)
+  | false ↦ elim (nat_lt (length s.breaks) break_limit) [
+    | true ↦ says (record s { breaks = s.breaks ++ addr ∷ [] }) (address_text (codes "break ") addr)
+    | false ↦ says s (codes "full\n")
+  ]
+]
+
+abbrev pub take_break : Session → ℕ → Answer
+take_break s addr = elim (is_set s.breaks addr) [
+  | true ↦ says (record s { breaks = filter (λ b. not (b == addr)) s.breaks }) (address_text (codes "unbreak ") addr)
+  | false ↦ says s (codes "none\n")
+]
+
+abbrev pub answer : Session → Command → Answer
+answer s to.Empty = says s []
+answer s (to.Hart n) = choose s n
+answer s (to.Step k) = moved s (step_up_to s.hart k s.now)
+answer s to.Go = moved s (go_on true s.breaks s.now)
+answer s (to.Break addr) = add_break s addr
+answer s (to.Unbreak addr) = take_break s addr
+answer s to.Registers = says s (registers_text (state_at s.now s.hart))
+answer s (to.Word addr) = says s (word_text addr (word_in s.now.memory addr))
+answer s to.Where = says s (places_from s.now 0 (length s.now.lanes))
+answer s to.Quit = record { text = []; session = s; ends = Quits }
+answer s to.Other = unknown s

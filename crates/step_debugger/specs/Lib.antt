@@ -1,0 +1,6 @@
+pub mod Numbers
+pub mod Commands
+pub mod Lines
+pub mod Answers
+pub mod Transcript
+pub mod Examples

@@ -1,0 +1,88 @@
+-- The lines of the commands.
+use Rattle.std.specs.Prelude.{◌≡◌, ℕ, ◌+◌, ◌^◌, ◌≤◌, ◌==◌, nat_lt, Bool, true, false, not, ◌&&◌, List, [], ◌∷◌, ◌++◌, length, Option, Some, None, Result, Ok, Err}
+use Rattle.std.specs.Io.KnownBytes.{Consumes}
+use Rattle.bn_outside.specs.Counts.{Rose}
+use Rattle.bn_outside.specs.Streams.{ConsumesAll}
+use Rattle.bn_outside.specs.declared.Failed.{Failed}
+use Rattle.step_debugger.specs.declared.error.DebugError.{DebugError}
+use Rattle.step_debugger.specs.declared.error.DebugError.TheVariants.{ReadFault, LineTooLong, TooMuch, OutOfMemory}
+
+-- the most bytes of a line, its LF not counted, and of all commands
+abbrev pub line_limit : ℕ
+line_limit = 256
+
+abbrev pub input_limit : ℕ
+input_limit = 2 ^ 24
+
+-- lines that end with LF, given without it; the bytes behind the last LF; and why no more is read, if it is so
+pub record Input : Type 0 where
+  pub lines : List (List ℕ)
+  pub last : List ℕ
+  pub refused : Option DebugError
+
+abbrev pub ends_in : List ℕ → Option DebugError → Input
+ends_in last refused = record { lines = []; last = last; refused = refused }
+
+abbrev pub with_line : List ℕ → Input → Input
+with_line line input = record input { lines = line ∷ input.lines }
+
+abbrev pub is_line_feed : ℕ → Bool
+is_line_feed byte = byte == 10
+
+-- a line is full, and another byte than LF comes
+abbrev pub is_over : List ℕ → ℕ → Bool
+is_over line byte = not (is_line_feed byte) && not (nat_lt (length line) line_limit)
+
+-- what further bytes hold, where so many came before them and the line begins with these of those
+abbrev pub input_from : ℕ → List ℕ → List ℕ → Input
+input_from count line [] = ends_in line None
+input_from count line (byte ∷ bytes) = elim (is_over line byte) [
+  | true ↦ ends_in line (Some (LineTooLong (length line + 1)))
+  | false ↦ elim (nat_lt count input_limit) [
+    | false ↦ ends_in line (Some (TooMuch (count + 1)))
+    | true ↦ elim (is_line_feed byte) [ true ↦ with_line line (input_from (count + 1) [] bytes) | false ↦ input_from (count + 1) (line ++ byte ∷ []) bytes ]
+  ]
+]
+
+-- what the bytes of all commands hold
+abbrev pub input_of : List ℕ → Input
+input_of bytes = input_from 0 [] bytes
+
+-- ---- one line after another
+
+-- the bytes that came, and those of the line so far
+pub record Reading : Type 0 where
+  pub count : ℕ
+  pub line : List ℕ
+
+-- one byte more: the line ends with it (`true`), or it belongs to the line, or it is one too many
+abbrev pub TakesByte : Reading → ℕ → Result Bool DebugError → Reading → Type 0
+TakesByte old byte (Ok true) new = (more : List ℕ) → input_from old.count old.line (byte ∷ more) ≡ with_line new.line (input_from new.count [] more)
+TakesByte old byte (Ok false) new = (new.line ≡ old.line ++ byte ∷ []) × (length new.line ≤ line_limit) × ((more : List ℕ) → input_from old.count old.line (byte ∷ more) ≡ input_from new.count new.line more)
+TakesByte old byte (Err (LineTooLong n)) new = (more : List ℕ) → input_from old.count old.line (byte ∷ more) ≡ ends_in new.line (Some (LineTooLong n))
+TakesByte old byte (Err (TooMuch n)) new = (more : List ℕ) → input_from old.count old.line (byte ∷ more) ≡ ends_in new.line (Some (TooMuch n))
+TakesByte old byte (Err OutOfMemory) new = Unit {0}
+TakesByte old byte (Err e) new = ⊥
+
+-- a source gives its next byte, or is at its end, or fails
+abbrev pub GivesByte : (old new : Option (List ℕ)) → (before now : ℕ) → Result (Option ℕ) Failed → Type 0
+GivesByte old new before now (Ok (Some byte)) = Consumes old new (byte ∷ [])
+GivesByte old new before now (Ok None) = ConsumesAll old new []
+GivesByte old new before now (Err e) = Consumes old new [] × Rose before now
+
+-- what is read next, of a source of which these bytes are gone then: a line that ends with LF (`true`); the end of the source,
+-- and the bytes before it; or why there is none
+abbrev pub ReadsLine : Reading → (gone : List ℕ) → (left now_left : Option (List ℕ)) → (before now : ℕ) → Result Bool DebugError → Reading → Type 0
+ReadsLine old gone left now_left before now (Ok true) new = (more : List ℕ) → input_from old.count [] (gone ++ more) ≡ with_line new.line (input_from new.count [] more)
+ReadsLine old gone left now_left before now (Ok false) new = (input_from old.count [] gone ≡ ends_in new.line None) × ConsumesAll left now_left gone
+ReadsLine old gone left now_left before now (Err ReadFault) new = (input_from old.count [] gone ≡ ends_in new.line None) × Rose before now
+ReadsLine old gone left now_left before now (Err (LineTooLong n)) new = (more : List ℕ) → input_from old.count [] (gone ++ more) ≡ ends_in new.line (Some (LineTooLong n))
+ReadsLine old gone left now_left before now (Err (TooMuch n)) new = (more : List ℕ) → input_from old.count [] (gone ++ more) ≡ ends_in new.line (Some (TooMuch n))
+ReadsLine old gone left now_left before now (Err OutOfMemory) new = Unit {0}
+ReadsLine old gone left now_left before now (Err e) new = ⊥
+
+-- bytes of the source are gone, and they are what is read
+pub record NextLine (old : Reading) (left now_left : Option (List ℕ)) (before now : ℕ) (result : Result Bool DebugError) (new : Reading) : Type 0 where
+  pub gone : List ℕ
+  pub taken : Consumes left now_left gone
+  pub read : ReadsLine old gone left now_left before now result new

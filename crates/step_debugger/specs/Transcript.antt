@@ -1,0 +1,73 @@
+-- The transcript of a session.
+use Rattle.std.specs.Prelude.{◌≡◌, ◌⊎◌, ℕ, List, [], ◌∷◌, ◌++◌, Option, Some, None, Result, Ok, Err}
+use Rattle.std.specs.Io.KnownBytes.{Appends}
+use Rattle.bn_outside.specs.Counts.{Rose}
+use Rattle.bn_outside.specs.Streams.{AppendsPart, ConsumesAll}
+use Rattle.joint_replay.specs.Joining.{Joining}
+use Rattle.step_debugger.specs.declared.error.DebugError.{DebugError}
+use Rattle.step_debugger.specs.declared.error.DebugError.TheVariants.{ReadFault, WriteFault, LineTooLong, TooMuch, OutOfMemory}
+use Rattle.step_debugger.specs.declared.error.DebugError.TheVariants as why
+use Rattle.step_debugger.specs.declared.session.Ending.{Ending}
+use Rattle.step_debugger.specs.declared.session.Ending.TheVariants.{GoesOn, Quits, Refused}
+use Rattle.step_debugger.specs.Commands.{command_of}
+use Rattle.step_debugger.specs.Lines.{Input, input_of}
+use Rattle.step_debugger.specs.Answers.{Session, Answer, begin, says, answer}
+
+-- the answer behind another
+abbrev pub behind : List ℕ → Answer → Answer
+behind text a = record a { text = text ++ a.text }
+
+-- how it goes on behind an answer
+abbrev pub goes_on_by : Ending → Answer → (Session → Answer) → Answer
+goes_on_by GoesOn a go = behind a.text (go a.session)
+goes_on_by Quits a go = a
+goes_on_by (Refused e) a go = a
+
+-- lines one after another, up to one that ends the session
+abbrev pub answers : List (List ℕ) → Session → Answer
+answers [] s = says s []
+answers (line ∷ lines) s = let a : Answer = answer s (command_of line) in goes_on_by a.ends a (λ t. answers lines t)
+
+-- the lines of all commands: a last one without LF counts, unless it is empty or too long
+abbrev pub last_line : List ℕ → List (List ℕ)
+last_line [] = []
+last_line (b ∷ bs) = (b ∷ bs) ∷ []
+
+abbrev pub lines_in : Input → List (List ℕ)
+lines_in input = elim input.refused [ None ↦ input.lines ++ last_line input.last | Some e ↦ input.lines ]
+
+-- the text that a session prints, and how it ends
+pub record Told : Type 0 where
+  pub text : List ℕ
+  pub result : Result (Unit {0}) DebugError
+
+-- how a session ends by its last answer, and by what is read
+abbrev pub result_by : Ending → Option DebugError → Result (Unit {0}) DebugError
+result_by GoesOn None = Ok (tt {0})
+result_by GoesOn (Some e) = Err e
+result_by Quits refused = Ok (tt {0})
+result_by (Refused e) refused = Err (why.Joint e)
+
+-- a session with the joint replay from where that stands, and these commands
+abbrev pub transcript : Joining → Input → Told
+transcript j input = let a : Answer = answers (lines_in input) (begin j) in record { text = a.text; result = result_by a.ends input.refused }
+
+-- ---- what a session does
+
+-- a session ends as its transcript does: its text is written, and where no command ended it all commands were read. Or a read
+-- failed before a command ended it, and the whole lines before that are answered; or a write failed, or memory was wanting,
+-- and a front of the text is written
+abbrev pub Debugs : Joining → (gone : List ℕ) → (left now_left : Option (List ℕ)) → (read_before read_now : ℕ) → (written now_written : Option (List ℕ)) → (before now : ℕ) → Result (Unit {0}) DebugError → Type 0
+Debugs j gone left now_left read_before read_now written now_written before now (Ok u) =
+    let t : Told = transcript j (input_of gone) in
+    (t.result ≡ Ok (tt {0})) × Appends written now_written t.text × (((answers (input_of gone).lines (begin j)).ends ≡ Quits) ⊎ ConsumesAll left now_left gone)
+Debugs j gone left now_left read_before read_now written now_written before now (Err ReadFault) =
+    let a : Answer = answers (input_of gone).lines (begin j) in
+    (a.ends ≡ GoesOn) × ((input_of gone).refused ≡ None) × Appends written now_written a.text × Rose read_before read_now
+Debugs j gone left now_left read_before read_now written now_written before now (Err WriteFault) =
+    AppendsPart written now_written (transcript j (input_of gone)).text × Rose before now
+Debugs j gone left now_left read_before read_now written now_written before now (Err OutOfMemory) =
+    AppendsPart written now_written (transcript j (input_of gone)).text
+Debugs j gone left now_left read_before read_now written now_written before now (Err e) =
+    let t : Told = transcript j (input_of gone) in
+    (t.result ≡ Err e) × Appends written now_written t.text

@@ -1,0 +1,29 @@
+// The commands of the debugger.
+use bn_base::Addr;
+
+/// What a line asks for.
+#[derive(Clone, Copy, Debug, PartialEq, Eq, Drop)]
+pub enum Command {
+    /// Nothing: the line is empty.
+    Empty,
+    /// The hart of this number is chosen.
+    Hart(u32),
+    /// The chosen hart steps up to so many times.
+    Step(u32),
+    /// All harts step, up to a breakpoint.
+    Go,
+    /// A breakpoint is added.
+    Break(Addr),
+    /// A breakpoint is taken out.
+    Unbreak(Addr),
+    /// The registers of the chosen hart.
+    Registers,
+    /// A word of the memory.
+    Word(Addr),
+    /// Where each hart is.
+    Where,
+    /// The end.
+    Quit,
+    /// Any other line.
+    Other,
+}

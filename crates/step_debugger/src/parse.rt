@@ -1,0 +1,136 @@
+//! Which line is which command.
+ghost use Rattle.std.specs.Prelude.{◌≡◌, Some, None, MatchOption};
+ghost use Rattle.std.specs.Str.{bytes_eq};
+ghost use Rattle.step_debugger.specs.Commands.{behind, decimal_in, address_in, hart_of, step_of, break_of, unbreak_of, word_of, numbered, command_of};
+
+use crate::command::Command;
+use crate::numbers::number_of;
+use bn_base::Addr;
+
+fn is_same(one: &[u8], other: &[u8]) -> bool
+    ensures { result ≡ bytes_eq one.now other.now }
+{
+    one == other
+}
+
+// What stands behind a word at the front of a line.
+fn behind<'a>(word: &[u8], line: &'a [u8]) -> Option<&'a [u8]>
+    ensures { MatchOption result (behind word.now line.now ≡ None) (λ rest. behind word.now line.now ≡ Some rest.now) }
+{
+    line.strip_prefix(word)
+}
+
+fn decimal_in(text: &[u8]) -> Option<u32>
+    ensures { result ≡ decimal_in text.now }
+{
+    number_of(10, 7, text)
+}
+
+fn address_in(text: &[u8]) -> Option<Addr>
+    ensures { result ≡ address_in text.now }
+{
+    match behind(b"0x", text) {
+        None => number_of(16, 8, text),
+        Some(digits) => number_of(16, 8, digits),
+    }
+}
+
+fn hart_of(number: Option<u32>) -> Command
+    ensures { result ≡ hart_of number }
+{
+    match number {
+        None => Command::Other,
+        Some(hart) => Command::Hart(hart),
+    }
+}
+
+fn step_of(number: Option<u32>) -> Command
+    ensures { result ≡ step_of number }
+{
+    match number {
+        None => Command::Other,
+        Some(count) => {
+            if 0 < count && count <= 1_000_000 {
+                Command::Step(count)
+            } else {
+                Command::Other
+            }
+        }
+    }
+}
+
+fn break_of(number: Option<Addr>) -> Command
+    ensures { result ≡ break_of number }
+{
+    match number {
+        None => Command::Other,
+        Some(addr) => Command::Break(addr),
+    }
+}
+
+fn unbreak_of(number: Option<Addr>) -> Command
+    ensures { result ≡ unbreak_of number }
+{
+    match number {
+        None => Command::Other,
+        Some(addr) => Command::Unbreak(addr),
+    }
+}
+
+fn word_of(number: Option<Addr>) -> Command
+    ensures { result ≡ word_of number }
+{
+    match number {
+        None => Command::Other,
+        Some(addr) => {
+            if addr % 4 == 0 {
+                Command::Word(addr)
+            } else {
+                Command::Other
+            }
+        }
+    }
+}
+
+// A command with a number.
+fn numbered(line: &[u8]) -> Command
+    ensures { result ≡ numbered line.now }
+{
+    match behind(b"hart ", line) {
+        Some(text) => hart_of(decimal_in(text)),
+        None => match behind(b"step ", line) {
+            Some(text) => step_of(decimal_in(text)),
+            None => match behind(b"break ", line) {
+                Some(text) => break_of(address_in(text)),
+                None => match behind(b"unbreak ", line) {
+                    Some(text) => unbreak_of(address_in(text)),
+                    None => match behind(b"word ", line) {
+                        Some(text) => word_of(address_in(text)),
+                        None => Command::Other,
+                    },
+                },
+            },
+        },
+    }
+}
+
+/// The command that a line is, which is given without its LF.
+pub(crate) fn command_of(line: &[u8]) -> Command
+    ensures { result ≡ command_of line.now }
+{
+    if is_same(line, b"") {
+        Command::Empty
+    } else if is_same(line, b"step") {
+        Command::Step(1)
+    } else if is_same(line, b"go") {
+        Command::Go
+    } else if is_same(line, b"regs") {
+        Command::Registers
+    } else if is_same(line, b"where") {
+        Command::Where
+    } else if is_same(line, b"quit") {
+        Command::Quit
+    } else {
+        numbered(line)
+    }
+}
