@@ -221,10 +221,10 @@ module _ (r : Recording) (records : List Record) (order : List ℕ) (w : Walk) (
     less_or : (m n : ℕ) → (m < n) ⊎ (n ≤ m)
     less_or m n = grind arith
 
-    no_later : (n : ℕ) (q : Point) → slice_get (points_of r) n ≡ Some q → Writes a q → (y : ℕ) → Did w.taken y q.hart q.count → n ≤ has.place
-    no_later n q at writes y dq = elim (less_or has.place n) [
+    no_later : (n y : ℕ) (q : Point) → slice_get (points_of r) n ≡ Some q → Writes a q → Did w.taken y q.hart q.count → n ≤ has.place
+    no_later n y q at writes dq = elim (less_or has.place n) [
       | inr low ↦ low
-      | inl later ↦ (let x = keeps a has.place n has.point q has.at at later (record { first = touched; second = touches a q writes; written = inr writes }) (once.to_do l.place has.point.hart has.point.count did) y dq in
+      | inl later ↦ (let x = keeps a has.place n y (record { earlier = later; first = has.point; second = q; first_at = has.at; second_at = at; related = record { first = touched; second = touches a q writes; written = inr writes } }) (once.to_do l.place has.point.hart has.point.count did) dq in
           let same : x.0 ≡ l.place = once.once x.0 l.place has.point.hart has.point.count x.1 did in
           let up = x.2 in
           let quiet = l.no_later y dq.step (omega (arith, up, same)) dq.at in

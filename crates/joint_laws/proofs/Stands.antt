@@ -27,9 +27,9 @@ pub stands_in_order : StepsPass → BeginsSound → OfBeginnings KeepsOrder → 
 stands_in_order pass starts keeps r records order w log a = record {
   done = λ h k t. was_done r records order w a once h k t;
   once = once.once;
-  order = λ word m n p q at_m at_n kept_p kept_q up meet.
-      (let y = was_done r records order w a once q.hart q.count kept_q in
-      let x = keeps r records order w log a.begun word m n p q at_m at_n up meet kept_p y.0 y.1 in
+  order = λ word m n c kept_p kept_q.
+      (let y = was_done r records order w a once c.second.hart c.second.count kept_q in
+      let x = keeps r records order w log a.begun word m n y.0 c kept_p y.1 in
       (x.0, y.0, x.1, y.1, x.2));
 }
   where
