@@ -1,5 +1,5 @@
 -- Chains of program order and kept Edges, by hart and count.
-use Rattle.std.proofs.Common.{◌≡◌, ℕ, zero, suc, ◌<◌, inl, inr, refl, sym, ap, ◌∙◌, subst, subst₂, arith, List, [], ◌∷◌, length, slice_get, slice_index_or, Option, Some, Contains, AllPairs}
+use Rattle.std.proofs.Common.{◌≡◌, ℕ, zero, suc, ◌<◌, inl, inr, refl, ap, ◌∙◌, subst, subst₂, arith, List, [], ◌∷◌, length, slice_get, slice_index_or, Some, Contains, AllPairs}
 use Rattle.std.proofs.lemmas.Option.{slice_get_within}
 use Rattle.log_record.specs.declared.record.Record.{Record}
 use Rattle.log_record.specs.declared.record.Record.TheVariants.{Header, FirstLoad, ScOk, ScFailed, Edge, End}
@@ -12,9 +12,7 @@ use Rattle.race_laws.specs.Since.{KeptEdge}
 use Rattle.joint_replay.specs.Sound.{HasEdge}
 use Rattle.joint_replay.specs.Chains.{StepTo, Leads, one as lead_one, more as lead_more}
 use Rattle.joint_laws.specs.Chains.{ChainsLead}
-
-pub some_is : {X : Type 0} (x y : X) (o : Option X) → o ≡ Some x → o ≡ Some y → x ≡ y
-some_is {X = X} x y o e f = let g : ◌≡◌ {A = Option X} (Some x) (Some y) = sym e ∙ f in cc
+use Rattle.joint_laws.proofs.Lists.{some_is}
 
 get_index : {X : Type 0} (xs : List X) (k : ℕ) (x d : X) → slice_get xs k ≡ Some x → slice_index_or xs k d ≡ x
 get_index [] k x d e = cc

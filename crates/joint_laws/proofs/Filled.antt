@@ -5,7 +5,7 @@ use Rattle.std.proofs.lemmas.Bool.{false≢true, eq-eqb, eqb-true}
 use Rattle.rv_meaning.specs.Words.{aligned}
 use Rattle.joint_replay.specs.Memory.{Bytes, call_result, filled, has_byte}
 use Rattle.row_laws.specs.Fills.{HasByte, Fills, result_of}
-use Rattle.row_laws.proofs.Telling.{not_some}
+use Rattle.joint_laws.proofs.Lists.{not_some}
 use Rattle.joint_laws.specs.Filled.{FillsAreFilled}
 
 both : (a b : Bool) → a ≡ true → b ≡ true → (a && b) ≡ true

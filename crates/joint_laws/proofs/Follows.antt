@@ -18,11 +18,11 @@ use Rattle.joint_replay.specs.Orders.{IsBegun}
 use Rattle.replay_laws.specs.Law.{EndsSuffice, IsWhole}
 use Rattle.row_laws.specs.Laws.{IntervalRowsAreOfTurns}
 use Rattle.row_laws.specs.States.{state_after, IsRowOfTurn}
-use Rattle.row_laws.proofs.Along.{after_append}
-use Rattle.joint_replay.proofs.Soundness.{get_same, get_other}
+use Rattle.joint_laws.proofs.Lists.{after_append}
+use Rattle.joint_laws.proofs.Lists.{get_same, get_other}
 use Rattle.joint_laws.specs.Recordings.{Recording, IsLogOf, begin, interval_rows}
 use Rattle.joint_laws.specs.Steps.{row_in, rows_done}
-use Rattle.joint_laws.proofs.ByCount.{some_is}
+use Rattle.joint_laws.proofs.Lists.{some_is}
 use Rattle.joint_laws.proofs.Moves.{IsMove, StepOf, along, by_kind}
 
 -- ---- the retained intervals are there

@@ -1,3 +1,4 @@
+pub mod Lists
 pub mod ByCount
 pub mod RaceOrder
 pub mod Times

@@ -4,66 +4,34 @@ use Rattle.std.specs.List.{range_with_len}
 use Rattle.std.proofs.lemmas.Bool.{false≢true}
 use Rattle.bn_base.specs.Programs.{Program}
 use Rattle.bn_base.specs.declared.row.Row.{Row}
-use Rattle.bn_base.specs.declared.settings.RawSettings.{RawSettings}
 use Rattle.bn_base.specs.declared.state.HartState.{HartState}
 use Rattle.rv_meaning.specs.Words.{aligned}
-use Rattle.rv_meaning.specs.declared.asks.Want.{Want}
-use Rattle.rv_meaning.specs.declared.asks.Want.TheVariants.{Load, Store, LoadReserved, StoreConditional, Amo, System, Cut, Faulted}
-use Rattle.hart_rows.specs.Rows.{fault_row, at_address}
+use Rattle.hart_rows.specs.Rows.{at_address}
 use Rattle.log_record.specs.declared.record.Record.{Record}
 use Rattle.race_log.specs.Points.{Point, Touches, Writes}
 use Rattle.elf_loader.specs.Laws.{LoadedProgramsAreImages}
-use Rattle.run_model.specs.Machine.{Machine}
 use Rattle.run_model.specs.Runs.{run_of}
-use Rattle.run_model.specs.Turn.{Run}
 use Rattle.replay_laws.specs.Law.{RowsAreCounted}
 use Rattle.row_laws.specs.Fills.{HasCodeWords, Fills}
-use Rattle.row_laws.specs.Laws.{RunRowsTellWords, RunWritersHaveRows, TurnRowsAreRows, PartsHaveCodeWords}
-use Rattle.row_laws.specs.States.{state_after, HasRow, TurnHasRow, RunHasRow, IsRowOfTurn}
+use Rattle.row_laws.specs.Laws.{RowsThatTellHaveNoFault, RunRowsTellWords, RunWritersHaveRows, TurnRowsAreRows, PartsHaveCodeWords}
+use Rattle.row_laws.specs.States.{state_after, HasRow, RunHasRow, IsRowOfTurn}
 use Rattle.row_laws.specs.Words.{word_told, HasWord}
-use Rattle.row_laws.proofs.Along.{asked_rows}
-use Rattle.row_laws.proofs.Asked.{want_at, asked_at}
-use Rattle.row_laws.proofs.Cases.{heads, rests, turn_row}
-use Rattle.row_laws.proofs.Telling.{not_some, no_row}
 use Rattle.joint_replay.specs.Lanes.{Item, Passing, Doing, Ending}
 use Rattle.joint_replay.specs.Joining.{Taken, Walk}
 use Rattle.joint_replay.specs.Ways.{IsRowAt}
 use Rattle.joint_replay.specs.Sound.{IsSound}
 use Rattle.joint_replay.specs.Chains.{Did}
-use Rattle.joint_replay.specs.Laws.{StepsPass}
+use Rattle.joint_replay.specs.Laws.{StepsPass, SoundnessStays}
 use Rattle.joint_laws.specs.Filled.{FillsAreFilled}
 use Rattle.joint_laws.specs.Laws.{BeginsSound, KeepsOrder, HasMemory, IsRecordedWord}
 use Rattle.joint_laws.specs.Recordings.{Recording, IsLogOf, OfBeginnings, begin, points_of}
 use Rattle.joint_laws.specs.Steps.{told_by}
-use Rattle.joint_laws.proofs.ByCount.{some_is}
+use Rattle.joint_laws.proofs.Lists.{some_is, not_some, heads, rests}
 use Rattle.joint_laws.proofs.Follows.{IsFollowed, IsItemOf, AreTaken}
 use Rattle.joint_laws.proofs.Once.{IsDoneOnce, done_once}
 use Rattle.joint_laws.proofs.Words.{IsLatest, forgets, latest, words_are}
 
--- ---- a row that tells a word is of no fault
-
-module _ (c : RawSettings) (i : Program) (m : Machine) (h : ℕ) (s : HartState) (a word : ℕ) (r : Row) where
-  abbrev Faultless : Want → Type 0
-  Faultless w = asked_rows c i m h w s ≡ r ∷ [] → word_told r a ≡ Some word → r.fault ≡ None
-
-  is_first : (x : Row) → x.fault ≡ None → x ∷ [] ≡ r ∷ [] → r.fault ≡ None
-  is_first x e f = ap (λ (y : Row). y.fault) (sym (heads x r [] [] f)) ∙ e
-
-  want_faultless : (w : Want) → Faultless w
-  want_faultless (Load b wd g rd) e t = is_first _ refl e
-  want_faultless (LoadReserved b rd) e t = is_first _ refl e
-  want_faultless (Store b wd v) e t = is_first _ refl e
-  want_faultless (Amo b o rd v) e t = is_first _ refl e
-  want_faultless (StoreConditional b rd v) e t = is_first _ refl e
-  want_faultless (System n args) e t = is_first _ refl e
-  want_faultless Cut e t = absurd (no_row r e)
-  want_faultless (Faulted f y) e t = absurd (not_some word (ap (λ (x : Row). word_told x a) (heads (fault_row h i s f y) r [] [] e) ∙ t))
-
-row_faultless : (c : RawSettings) (i : Program) (run : Run) (h : ℕ) (before : HartState) (r : Row) (a word : ℕ) → TurnHasRow c i run h before r → word_told r a ≡ Some word → r.fault ≡ None
-row_faultless c i run h before r a word has t = elim (turn_row c i run h before r has) [
-  | inl q ↦ absurd (not_some word (ap (λ (x : Row). word_told x a) q.row ∙ t))
-  | inr q ↦ want_faultless c i run.machine h (asked_at c i run h) a word r (want_at c i run h) q.row t
-]
+-- ---- a row that tells a word
 
 -- the word that it tells is aligned
 told_access : (o : Option (ℕ × ℕ)) (rest : Option ℕ) (a : ℕ) → (rest ≡ None) ⊎ (aligned a ≡ a) → is_some (at_address a o rest) ≡ true → aligned a ≡ a
@@ -106,27 +74,11 @@ store_tells (Some x) rest a v e = by (aligned x.0 == a) e
 
 -- ---- a hart has one row of a count
 
-first_or : List ℕ → ℕ
-first_or [] = 0
-first_or (x ∷ xs) = x
-
-first_same : (x y : ℕ) (xs ys : List ℕ) → x ∷ xs ≡ y ∷ ys → x ≡ y
-unfolding first_or
-first_same x y xs ys e = ap first_or e
-
-rest_or : List ℕ → List ℕ
-rest_or [] = []
-rest_or (x ∷ xs) = xs
-
-rest_same : (x y : ℕ) (xs ys : List ℕ) → x ∷ xs ≡ y ∷ ys → xs ≡ ys
-unfolding rest_or
-rest_same x y xs ys e = ap rest_or e
-
 counted_at : (front back : List Row) (r : Row) (k n : ℕ) → map (λ (x : Row). x.ic) (front ++ r ∷ back) ≡ range_with_len k n → r.ic ≡ k + length front
 counted_at [] back r k zero e = absurd cc
-counted_at [] back r k (suc n) e = let same : r.ic ≡ k = first_same r.ic k _ _ e in omega (arith, same)
+counted_at [] back r k (suc n) e = let same : r.ic ≡ k = heads r.ic k _ _ e in omega (arith, same)
 counted_at (f ∷ fs) back r k zero e = absurd cc
-counted_at (f ∷ fs) back r k (suc n) e = let rest = counted_at fs back r (k + 1) n (rest_same _ _ _ _ e) in omega (arith, rest)
+counted_at (f ∷ fs) back r k (suc n) e = let rest = counted_at fs back r (k + 1) n (rests _ _ _ _ e) in omega (arith, rest)
 
 same_place : (xs ys : List Row) (r s : Row) (us vs : List Row) → length xs ≡ length ys → xs ++ r ∷ us ≡ ys ++ s ∷ vs → (xs ≡ ys) × (r ≡ s)
 same_place [] [] r s us vs n e = (refl, heads r s us vs e)
@@ -194,7 +146,7 @@ module _ (r : Recording) (records : List Record) (order : List ℕ) (w : Walk) (
         | inr fill ↦ false≢true (sym kept ∙ (ap (forgets a) d.is ∙ (fills d.before d.row a own).0 (subst (λ (s : HartState). Fills s d.row a) (sym same.0) (subst (λ (z : Row). Fills x.before z a) (sym same.1) fill))))
       ]
 
-  module _ (tell : RunRowsTellWords) (a word : ℕ) (l : IsLatest w.taken a word) where
+  module _ (faultless : RowsThatTellHaveNoFault) (tell : RunRowsTellWords) (a word : ℕ) (l : IsLatest w.taken a word) where
     d : IsDoing r l.step.hart l.step.item
     d = of_told r records l.step.hart l.step.item a word (item_of r records w.taken l.place l.step f.taken l.at) l.tells
 
@@ -209,7 +161,7 @@ module _ (r : Recording) (records : List Record) (order : List ℕ) (w : Walk) (
       step = l.step;
       at = l.at;
       hart_is = ap (λ (p : Point). p.hart) (sym has.is);
-      row = subst (IsRowAt has.point.count) (sym d.is) (ap (λ (p : Point). p.count) (sym has.is), row_faultless r.settings r.program (run_of r.settings r.program r.input d.of_run.front) l.step.hart d.before d.row a word d.of_run.has row_tells);
+      row = subst (IsRowAt has.point.count) (sym d.is) (ap (λ (p : Point). p.count) (sym has.is), faultless r.settings r.program (run_of r.settings r.program r.input d.of_run.front) l.step.hart d.before d.row a word d.of_run.has row_tells);
     }
 
     own : aligned a ≡ a
@@ -221,10 +173,10 @@ module _ (r : Recording) (records : List Record) (order : List ℕ) (w : Walk) (
     less_or : (m n : ℕ) → (m < n) ⊎ (n ≤ m)
     less_or m n = grind arith
 
-    no_later : (n : ℕ) (q : Point) → slice_get (points_of r) n ≡ Some q → Writes a q → (y : ℕ) → Did w.taken y q.hart q.count → n ≤ has.place
-    no_later n q at writes y dq = elim (less_or has.place n) [
+    no_later : (n y : ℕ) (q : Point) → slice_get (points_of r) n ≡ Some q → Writes a q → Did w.taken y q.hart q.count → n ≤ has.place
+    no_later n y q at writes dq = elim (less_or has.place n) [
       | inr low ↦ low
-      | inl later ↦ (let x = keeps a has.place n has.point q has.at at later (record { first = touched; second = touches a q writes; written = inr writes }) (once.to_do l.place has.point.hart has.point.count did) y dq in
+      | inl later ↦ (let x = keeps a has.place n y (record { earlier = later; first = has.point; second = q; first_at = has.at; second_at = at; related = record { first = touched; second = touches a q writes; written = inr writes } }) (once.to_do l.place has.point.hart has.point.count did) dq in
           let same : x.0 ≡ l.place = once.once x.0 l.place has.point.hart has.point.count x.1 did in
           let up = x.2 in
           let quiet = l.no_later y dq.step (omega (arith, up, same)) dq.at in
@@ -244,10 +196,10 @@ module _ (r : Recording) (records : List Record) (order : List ℕ) (w : Walk) (
       no_later = no_later;
     }
 
-pub has_memory : StepsPass → BeginsSound → OfBeginnings IsFollowed → OfBeginnings KeepsOrder → LoadedProgramsAreImages → PartsHaveCodeWords → RunRowsTellWords → RunWritersHaveRows → TurnRowsAreRows → RowsAreCounted → FillsAreFilled → OfBeginnings HasMemory
-has_memory pass starts follow keeps images parts tell writers turn_rows counted fills r records order w log b a word e =
+pub has_memory : StepsPass → SoundnessStays → RowsThatTellHaveNoFault → BeginsSound → OfBeginnings IsFollowed → OfBeginnings KeepsOrder → LoadedProgramsAreImages → PartsHaveCodeWords → RunRowsTellWords → RunWritersHaveRows → TurnRowsAreRows → RowsAreCounted → FillsAreFilled → OfBeginnings HasMemory
+has_memory pass stay faultless starts follow keeps images parts tell writers turn_rows counted fills r records order w log b a word e =
     let sound : IsSound (begin r records) = starts r records log in
     let image = images r.elf r.settings r.program log.recording.bytes log.recording.setting log.recording.loaded in
     let codes : HasCodeWords r.program = parts r.program image.words in
     let l : IsLatest w.taken a word = latest w.taken a word (sym (words_are r records order w b a) ∙ e) in
-    is_recorded r records order w log (follow r records order w log b) (done_once pass r records order w sound b) (keeps r records order w log b) writers turn_rows counted fills codes tell a word l
+    is_recorded r records order w log (follow r records order w log b) (done_once pass stay r records order w sound b) (keeps r records order w log b) writers turn_rows counted fills codes faultless tell a word l

@@ -10,21 +10,19 @@ use Rattle.joint_replay.specs.Lanes.{Course, Lane, Item, Passing, Doing, Ending,
 use Rattle.joint_replay.specs.Memory.{memory_after}
 use Rattle.joint_replay.specs.Joining.{Joining, Walk, longer, readiness_of, move}
 use Rattle.joint_replay.specs.Orders.{ready_step, walk_on}
-use Rattle.joint_laws.proofs.ByCount.{some_is}
-
-no_some : {X : Type 0} (x : X) → ◌≡◌ {A = Option X} None (Some x) → ⊥
-no_some x e = cc
+use Rattle.joint_laws.proofs.Lists.{some_is, not_some}
 
 -- a hart of those that there are takes its next step, and isn't refused
 pub record IsMove (now : Joining) (h : ℕ) (x : Item × Joining) : Type 0 where
   pub lane : Lane
   pub at : slice_get now.lanes h ≡ Some lane
+  pub taken : ready_step now h ≡ Some x
   pub ready : readiness_of now.records now.lanes h lane ≡ is.Ready
   pub next : Lane
   pub step : lane_step now.program lane ≡ Some (Ok (x.0, next))
   pub is : x.1 ≡ record now { lanes = slice_set now.lanes h next; memory = memory_after x.0 now.memory }
 
-module _ (now : Joining) (h : ℕ) (x : Item × Joining) where
+module _ (now : Joining) (h : ℕ) (x : Item × Joining) (goes : ready_step now h ≡ Some x) where
   abbrev only_ok : Option (Result (Item × Joining) ReplayError) → Option (Item × Joining)
   only_ok o = elim o [ None ↦ None | Some r ↦ elim r [ Err e ↦ None | Ok y ↦ Some y ] ]
 
@@ -36,14 +34,15 @@ module _ (now : Joining) (h : ℕ) (x : Item × Joining) where
 
   by_step : (lane : Lane) → slice_get now.lanes h ≡ Some lane → readiness_of now.records now.lanes h lane ≡ is.Ready
       → (o : Option (Result (Item × Lane) ReplayError)) → lane_step now.program lane ≡ o → only_ok (move now h o) ≡ Some x → IsMove now h x
-  by_step lane at ready None e f = absurd (no_some x f)
-  by_step lane at ready (Some (Err g)) e f = absurd (no_some x f)
+  by_step lane at ready None e f = absurd (not_some x f)
+  by_step lane at ready (Some (Err g)) e f = absurd (not_some x f)
   by_step lane at ready (Some (Ok y)) e f =
       let made : Item × Joining = (y.0, record now { lanes = slice_set now.lanes h y.1; memory = memory_after y.0 now.memory }) in
       let same : made ≡ x = some_is made x (Some made) refl f in
       record {
         lane = lane;
         at = at;
+        taken = goes;
         ready = ready;
         next = y.1;
         step = subst (λ (z : Item × Joining). lane_step now.program lane ≡ Some (Ok (z.0, y.1))) same e;
@@ -52,24 +51,24 @@ module _ (now : Joining) (h : ℕ) (x : Item × Joining) where
 
   by_refusal : (lane : Lane) → slice_get now.lanes h ≡ Some lane → readiness_of now.records now.lanes h lane ≡ is.Ready
       → (refused : Option ReplayError) → only_ok (unrefused refused (move now h (lane_step now.program lane))) ≡ Some x → IsMove now h x
-  by_refusal lane at ready (Some g) f = absurd (no_some x f)
+  by_refusal lane at ready (Some g) f = absurd (not_some x f)
   by_refusal lane at ready None f = by_step lane at ready (lane_step now.program lane) refl f
 
   by_ready : (lane : Lane) → slice_get now.lanes h ≡ Some lane → (r : Readiness) → readiness_of now.records now.lanes h lane ≡ r
       → if_ready r (only_ok (unrefused now.refused (move now h (lane_step now.program lane)))) ≡ Some x → IsMove now h x
   by_ready lane at is.Ready e f = by_refusal lane at e now.refused f
-  by_ready lane at (is.Waits s ic) e f = absurd (no_some x f)
-  by_ready lane at is.Done e f = absurd (no_some x f)
+  by_ready lane at (is.Waits s ic) e f = absurd (not_some x f)
+  by_ready lane at is.Done e f = absurd (not_some x f)
 
   by_lane : (o : Option Lane) → slice_get now.lanes h ≡ o
       → if_ready (elim o as (λ y. Readiness) [ None ↦ is.Done | Some lane ↦ readiness_of now.records now.lanes h lane ])
       (only_ok (unrefused now.refused (elim o as (λ y. Option (Result (Item × Joining) ReplayError)) [ None ↦ None | Some lane ↦ move now h (lane_step now.program lane) ]))) ≡ Some x
       → IsMove now h x
-  by_lane None e f = absurd (no_some x f)
+  by_lane None e f = absurd (not_some x f)
   by_lane (Some lane) e f = by_ready lane e (readiness_of now.records now.lanes h lane) refl f
 
-  pub is_move : ready_step now h ≡ Some x → IsMove now h x
-  is_move e = by_lane (slice_get now.lanes h) refl e
+  pub is_move : IsMove now h x
+  is_move = by_lane (slice_get now.lanes h) refl goes
 
 -- what holds at first and is kept by each step holds of each beginning
 pub along : (P : Walk → Type 0) → ((w : Walk) (h : ℕ) (x : Item × Joining) → P w → IsMove w.now h x → P (longer w h x))
@@ -79,7 +78,7 @@ along P keeps w (h ∷ hs) p v e = by (ready_step w.now h) refl (λ x q f. along
   where
     by : (o : Option (Item × Joining)) → ready_step w.now h ≡ o → ((x : Item × Joining) → P (longer w h x) → walk_on (longer w h x) hs ≡ Some v → P v)
         → elim o as (λ y. Option Walk) [ None ↦ None | Some x ↦ walk_on (longer w h x) hs ] ≡ Some v → P v
-    by None f rest g = absurd (no_some v g)
+    by None f rest g = absurd (not_some v g)
     by (Some x) f rest g = rest x (keeps w h x p (is_move w.now h x f)) g
 
 -- ---- the three steps of a hart
@@ -116,7 +115,7 @@ module _ (i : Program) (P : Item → Lane → Type 0) (lane : Lane) (does : Step
 
   by_courses : lane.points ≡ [] → (courses : List Course) → lane.courses ≡ courses
       → elim courses as (λ y. Option (Result (Item × Lane) ReplayError)) [ [] ↦ None | c ∷ cs ↦ Some (course_step i c cs) ] ≡ Some (Ok (item, next)) → P item next
-  by_courses e [] f k = absurd (no_some (Ok (item, next)) k)
+  by_courses e [] f k = absurd (not_some (Ok (item, next)) k)
   by_courses e (c ∷ cs) f k = by_rows c cs e f c.left.rows refl k
 
   by_points : (points : List ℕ) → lane.points ≡ points

@@ -1,5 +1,5 @@
 -- In each beginning of an allowed order an instruction is done once at most, and it is one of a retained interval.
-use Rattle.std.proofs.Common.{◌≡◌, ℕ, zero, suc, ◌<◌, ◌≤◌, true, ◌⊎◌, inl, inr, refl, sym, ap, ◌∙◌, subst, arith, List, [], ◌∷◌, slice_get, slice_set, is_some, Option, Some, None}
+use Rattle.std.proofs.Common.{nat_lt, Bool, false, not, ◌&&◌, ◌||◌, ◌≡◌, ℕ, zero, suc, ◌<◌, ◌≤◌, true, ◌⊎◌, inl, inr, refl, sym, ap, ◌∙◌, subst, arith, List, [], ◌∷◌, slice_get, slice_set, is_some, Option, Some, None}
 use Rattle.std.proofs.lemmas.Bool.{false≢true}
 use Rattle.std.proofs.lemmas.Bool.Decides.{eqb_tells}
 use Rattle.bn_base.specs.Programs.{Program}
@@ -7,18 +7,18 @@ use Rattle.bn_base.specs.declared.row.Row.{Row}
 use Rattle.bn_base.specs.declared.state.HartState.{HartState}
 use Rattle.log_record.specs.declared.record.Record.{Record}
 use Rattle.hart_replay.specs.Coming.{after_row}
-use Rattle.joint_replay.specs.Lanes.{Course, Lane, Item, Doing, row_given}
+use Rattle.joint_replay.specs.declared.kinds.Coming.{Coming}
+use Rattle.joint_replay.specs.declared.kinds.Coming.TheVariants.{RowAt, EndAt}
+use Rattle.joint_replay.specs.Lanes.{count_of, has_row, is_within, Course, Lane, Item, Doing, row_given}
 use Rattle.joint_replay.specs.Joining.{Joining, Taken, Walk, begun, longer, is_passed}
 use Rattle.joint_replay.specs.Orders.{IsBegun}
 use Rattle.joint_replay.specs.Counts.{RowsFrom}
-use Rattle.joint_replay.specs.Ways.{AreFrom, AreCourses, IsLane, last_count, InCourses, IsRowAt, Passes, PassesIf}
-use Rattle.joint_replay.specs.Sound.{IsSound}
+use Rattle.joint_replay.specs.Ways.{GoesOn, AreFrom, AreCourses, IsLane, last_count, InCourses, IsRowAt, Passes, PassesIf}
+use Rattle.joint_replay.specs.Sound.{IsSound, SoundIf}
 use Rattle.joint_replay.specs.Chains.{Did, IsLeft, IsToDo}
-use Rattle.joint_replay.specs.Laws.{StepsPass}
-use Rattle.joint_replay.proofs.LaneSteps.{course_passed, first_goes, lt_true, true_lt}
-use Rattle.joint_replay.proofs.Soundness.{get_same, get_other, stays, after_sound}
+use Rattle.joint_replay.specs.Laws.{StepsPass, SoundnessStays}
 use Rattle.joint_laws.specs.Recordings.{Recording, begin}
-use Rattle.joint_laws.proofs.ByCount.{some_is}
+use Rattle.joint_laws.proofs.Lists.{some_is, lt_true, true_lt, get_same, get_other}
 use Rattle.joint_laws.proofs.Moves.{IsMove, StepOf, along, by_kind}
 
 -- ---- a step of one hart
@@ -37,10 +37,31 @@ none_some : {X : Type 0} (o : Option X) → o ≡ None → is_some o ≡ true �
 none_some None e f = false≢true f
 none_some (Some x) e f = absurd cc
 
+-- what is passed of a hart at an interval, by the count that comes next
+false_le : (m n : ℕ) → nat_lt m n ≡ false → n ≤ m
+false_le m n h = grind arith
+
+or_left : (a b : Bool) → (a || b) ≡ false → a ≡ false
+or_left true b e = e
+or_left false b e = refl
+
+passed_by : (c : Course) (k : ℕ) (b : Bool) → (b ≡ false → c.mark.ic ≡ c.state.ic)
+    → elim (elim b as (λ x. Option Coming) [ true ↦ Some (RowAt c.state.ic) | false ↦ Some (EndAt c.mark.ic) ]) as (λ x. Bool) [ None ↦ true | Some d ↦ nat_lt k (count_of d) ] ≡ nat_lt k c.state.ic
+passed_by c k true e = refl
+passed_by c k false e = ap (nat_lt k) (e refl)
+
 module _ (i : Program) where
+  course_passed : (c : Course) (cs : List Course) (k : ℕ) → c.state.ic ≤ c.mark.ic → is_passed (Some (record { points = []; courses = c ∷ cs })) k ≡ nat_lt k c.state.ic
+  course_passed c cs k low =
+      passed_by c k (has_row c) (λ e. let past = false_le c.state.ic c.mark.ic (or_left (is_within c) (nat_lt 16 c.mark.reason && not c.faulted) e) in omega (arith, past, low))
+
+  first_goes : (c : Course) (cs : List Course) → AreFrom i c cs → GoesOn i c
+  first_goes c [] a = a
+  first_goes c (d ∷ ds) a = a.0
+
   last_up : (c : Course) (cs : List Course) → AreFrom i c cs → c.mark.ic ≤ last_count c cs
   last_up c [] a = omega arith
-  last_up c (d ∷ ds) a = let rest = last_up d ds a.2 in let goes = (first_goes i d ds a.2).0 in omega (arith, rest, goes, a.1)
+  last_up c (d ∷ ds) a = let rest = last_up d ds a.2 in let goes = (first_goes d ds a.2).0 in omega (arith, rest, goes, a.1)
 
   -- a hart at a row
   module _ (c : Course) (cs : List Course) (row : Row) (rs : List Row) (all : AreFrom i c cs) (rows : c.left.rows ≡ row ∷ rs) where
@@ -51,7 +72,7 @@ module _ (i : Program) where
     next_at = record { points = []; courses = row_given i c row rs ∷ cs }
 
     from : RowsFrom i c.mark.ic c.left.outcome c.state (row ∷ rs)
-    from = subst (RowsFrom i c.mark.ic c.left.outcome c.state) rows (first_goes i c cs all).1
+    from = subst (RowsFrom i c.mark.ic c.left.outcome c.state) rows (first_goes c cs all).1
 
     -- an instruction, and no fault, is below the End's count
     within : row.fault ≡ None → c.state.ic < c.mark.ic
@@ -74,9 +95,9 @@ module _ (i : Program) where
     row_fresh = record {
       back = λ k h. (let low = h.0 in let up = higher in let last = last_same (row_given i c row rs) refl in let high = h.1 in (omega (arith, low, up), omega (arith, high, last)));
       to_do = λ k d. (let at : c.state.ic ≡ k = sym from.0 ∙ d.0 in let low = within d.1 in let up = last_up c cs all in (omega (arith, at), omega (arith, at, low, up)));
-      before = λ k d e. (let at : c.state.ic ≡ k = sym from.0 ∙ d.0 in let low = true_lt k c.state.ic (sym (course_passed i c cs k (first_goes i c cs all).0) ∙ e) in omega (arith, at, low));
+      before = λ k d e. (let at : c.state.ic ≡ k = sym from.0 ∙ d.0 in let low = true_lt k c.state.ic (sym (course_passed c cs k (first_goes c cs all).0) ∙ e) in omega (arith, at, low));
       after = λ k d. (let at : c.state.ic ≡ k = sym from.0 ∙ d.0 in let low = within d.1 in let up = (from.1 low).1 in
-          course_passed i (row_given i c row rs) cs k (omega (arith, low, up)) ∙ lt_true k (after_row i c.state row).ic (omega (arith, at, up)));
+          course_passed (row_given i c row rs) cs k (omega (arith, low, up)) ∙ lt_true k (after_row i c.state row).ic (omega (arith, at, up)));
     }
 
   end_back : (c : Course) (cs : List Course) → AreFrom i c cs → (k : ℕ) → InCourses cs k → InCourses (c ∷ cs) k
@@ -120,7 +141,7 @@ pub record IsDoneOnce (start : Joining) (w : Walk) : Type 0 where
   pub once : (x y h k : ℕ) → Did w.taken x h k → Did w.taken y h k → x ≡ y
   pub left : (h k : ℕ) → IsToDo start h k → ((x : ℕ) × Did w.taken x h k) ⊎ IsToDo w.now h k
 
-module _ (pass : StepsPass) (start : Joining) (w : Walk) (h : ℕ) (x : Item × Joining) (o : IsOnce start w) (m : IsMove w.now h x) where
+module _ (pass : StepsPass) (stay : SoundnessStays) (start : Joining) (w : Walk) (h : ℕ) (x : Item × Joining) (o : IsOnce start w) (m : IsMove w.now h x) where
   lane_is : IsLane w.now.program m.lane
   lane_is = o.sound.lanes h m.lane m.at
 
@@ -152,11 +173,20 @@ module _ (pass : StepsPass) (start : Joining) (w : Walk) (h : ℕ) (x : Item × 
     | inr apart ↦ subst (λ s. IsLeft s c) (get_other w.now.lanes h k m.next apart.1) l
   ]
 
+  -- what was passed stays so
+  stays : (k c : ℕ) → is_passed (slice_get w.now.lanes k) c ≡ true → is_passed (slice_get (slice_set w.now.lanes h m.next) k) c ≡ true
+  stays k c e = elim (eqb_tells h k) [
+    | inl same ↦
+        subst (λ n. is_passed (slice_get (slice_set w.now.lanes h m.next) n) c ≡ true) same.1
+        (ap (λ s. is_passed s c) (get_same w.now.lanes h m.lane m.next m.at) ∙ passes.stays c (ap (λ s. is_passed s c) (sym m.at) ∙ subst (λ n. is_passed (slice_get w.now.lanes n) c ≡ true) (sym same.1) e))
+    | inr apart ↦ ap (λ s. is_passed s c) (get_other w.now.lanes h k m.next apart.1) ∙ e
+  ]
+
   now_passed : (y k c : ℕ) → Did new y k c → is_passed (slice_get (slice_set w.now.lanes h m.next) k) c ≡ true
   now_passed zero k c d =
       let e = here k c d in
       subst (λ n. is_passed (slice_get (slice_set w.now.lanes h m.next) n) c ≡ true) e.0 (ap (λ s. is_passed s c) (get_same w.now.lanes h m.lane m.next m.at) ∙ is_fresh.after c e.1)
-  now_passed (suc y) k c d = stays w.now h o.sound m.lane m.at m.ready m.next x.0 passes k c (o.passed y k c (earlier y k c d))
+  now_passed (suc y) k c d = stays k c (o.passed y k c (earlier y k c d))
 
   now_to_do : (y k c : ℕ) → Did new y k c → IsToDo start k c
   now_to_do zero k c d = let e = here k c d in o.back k c (subst (λ n. IsToDo w.now n c) e.0 (subst (λ s. IsLeft s c) (sym m.at) (is_fresh.to_do c e.1)))
@@ -192,7 +222,7 @@ module _ (pass : StepsPass) (start : Joining) (w : Walk) (h : ℕ) (x : Item × 
 
   step_once : IsOnce start (longer w h x)
   step_once = record {
-    sound = subst IsSound (sym m.is) (after_sound w.now h o.sound m.lane m.at m.ready m.next x.0 passes);
+    sound = subst SoundIf m.taken (stay w.now h o.sound);
     passed = λ y k c d. ap (λ ls. is_passed (slice_get ls k) c) (sym lanes_are) ∙ now_passed y k c d;
     back = λ k c l. o.back k c (left_back k c (subst (λ ls. IsLeft (slice_get ls k) c) (sym lanes_are) l));
     to_do = now_to_do;
@@ -203,9 +233,9 @@ module _ (pass : StepsPass) (start : Joining) (w : Walk) (h : ℕ) (x : Item × 
 nothing_did : (x h k : ℕ) → Did [] x h k → ⊥
 nothing_did x h k d = let e = d.at in cc
 
-pub done_once : StepsPass → (r : Recording) (records : List Record) (order : List ℕ) (w : Walk) → IsSound (begin r records) → IsBegun r.program r.settings.harts records order w → IsDoneOnce (begin r records) w
-done_once pass r records order w sound b =
-    let o : IsOnce (begin r records) w = along (IsOnce (begin r records)) (λ v h x o m. step_once pass (begin r records) v h x o m) (begun (begin r records)) order (record {
+pub done_once : StepsPass → SoundnessStays → (r : Recording) (records : List Record) (order : List ℕ) (w : Walk) → IsSound (begin r records) → IsBegun r.program r.settings.harts records order w → IsDoneOnce (begin r records) w
+done_once pass stay r records order w sound b =
+    let o : IsOnce (begin r records) w = along (IsOnce (begin r records)) (λ v h x o m. step_once pass stay (begin r records) v h x o m) (begun (begin r records)) order (record {
       sound = sound;
       passed = λ x h k d. absurd (nothing_did x h k d);
       back = λ h k l. l;

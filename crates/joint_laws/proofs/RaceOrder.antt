@@ -5,6 +5,7 @@ use Rattle.bn_base.specs.Programs.{Program}
 use Rattle.log_record.specs.declared.record.Record.{Record}
 use Rattle.hart_replay.specs.Replay.{Interval, interval_of, replayed}
 use Rattle.race_log.specs.ByCount.{IsInOrder}
+use Rattle.race_log.specs.Points.{Point}
 use Rattle.race_laws.specs.Runs.{OfLists}
 use Rattle.race_laws.specs.Since.{IsSinceHeader}
 use Rattle.race_laws.specs.Laws.{HasOrder, OrdersConflicts, ReplayedAreSinceHeaders}
@@ -36,7 +37,9 @@ own_lane i records (suc n) k zero c e = let same : k ≡ k + 0 = omega arith in 
 own_lane i records (suc n) k (suc h) c e = let same : k + 1 + h ≡ k + suc h = omega arith in subst (λ m. InCourses (lane_of i records m).courses c) same (own_lane i records n (k + 1) h c e)
 
 pub keeps_order : BeginsSound → ChainsAreKept → OfLists HasOrder → OfLists OrdersConflicts → ReplayedAreSinceHeaders → ChainsLead → OfBeginnings KeepsOrder
-keeps_order starts chains in_order conflicts since leads r records order w log b word m n p q at_m at_n up meet retained y did =
+keeps_order starts chains in_order conflicts since leads r records order w log b word m n y c retained did =
+    let p : Point = c.first in
+    let q : Point = c.second in
     let setting = log.recording.setting in
     let sound = starts r records log in
     let points_in_order : IsInOrder (points_of r) = in_order r.settings r.program r.input r.turns setting log.recording.legal in
@@ -44,11 +47,11 @@ keeps_order starts chains in_order conflicts since leads r records order w log b
     (let lane = own_lane r.program records r.settings.harts 0 p.hart p.count retained in
     let same : 0 + p.hart ≡ p.hart = omega arith in
     let f = found r.program records p.hart (intervals_in p.hart records) p.count (subst (λ h. InCourses (lane_of r.program records h).courses p.count) same lane) in
-    since records (points_of r) p.hart f.0 f.1 f.2 m p at_m refl f.3) in
+    since records (points_of r) p.hart f.0 f.1 f.2 m p c.first_at refl f.3) in
     let chain : Leads records p.hart p.count q.hart q.count = elim (eqb_tells p.hart q.hart) [
-      | inl same ↦ lead_one (inl (same.1, pair_at (λ a b. a.hart ≡ b.hart → a.count < b.count) (points_of r) m n p q points_in_order.counts up at_m at_n same.1))
+      | inl same ↦ lead_one (inl (same.1, pair_at (λ a b. a.hart ≡ b.hart → a.count < b.count) (points_of r) m n p q points_in_order.counts c.earlier c.first_at c.second_at same.1))
       | inr apart ↦ leads records (points_of r) points_in_order m n
-          (conflicts r.settings r.program r.input r.turns setting log.recording.legal records log.end m n is_since (record { earlier = up; first = p; second = q; first_at = at_m; second_at = at_n; related = record { apart = apart.1; word = word; meet = meet } }))
-          p q at_m at_n
+          (conflicts r.settings r.program r.input r.turns setting log.recording.legal records log.end m n is_since (record { earlier = c.earlier; first = p; second = q; first_at = c.first_at; second_at = c.second_at; related = record { apart = apart.1; word = word; meet = c.related } }))
+          p q c.first_at c.second_at
     ] in
     chains r.program r.settings.harts records order w sound b y q.hart q.count did p.hart p.count chain retained

@@ -14,7 +14,7 @@ use Rattle.joint_replay.specs.Joining.{readiness_of, waits_for, first_waited, ch
 use Rattle.joint_laws.specs.Recordings.{OfBeginnings}
 use Rattle.joint_laws.specs.Laws.{HasFirstRows, HasRows}
 use Rattle.joint_laws.specs.Steps.{rows_done}
-use Rattle.joint_laws.proofs.ByCount.{some_is}
+use Rattle.joint_laws.proofs.Lists.{some_is}
 use Rattle.joint_laws.proofs.Follows.{IsFollowed, rows_left}
 
 -- a hart that is done has nothing left

@@ -4,7 +4,7 @@ use Rattle.log_record.specs.declared.record.Record.{Record}
 use Rattle.joint_replay.specs.Chains.{Did, IsLeft, IsToDo}
 use Rattle.joint_replay.specs.Joining.{Walk}
 use Rattle.joint_replay.specs.Lanes.{Lane}
-use Rattle.joint_replay.specs.Laws.{StepsPass}
+use Rattle.joint_replay.specs.Laws.{StepsPass, SoundnessStays}
 use Rattle.joint_replay.specs.Ways.{InCourses}
 use Rattle.joint_laws.specs.Laws.{BeginsSound, KeepsOrder, StandsInOrder}
 use Rattle.joint_laws.specs.Recordings.{Recording, Allowed, OfBeginnings, begin}
@@ -23,15 +23,15 @@ none_left r records order w a h k t = by (slice_get w.now.lanes h) (λ lane at. 
 was_done : (r : Recording) (records : List Record) (order : List ℕ) (w : Walk) → Allowed r records order w → IsDoneOnce (begin r records) w → (h k : ℕ) → IsToDo (begin r records) h k → (x : ℕ) × Did w.taken x h k
 was_done r records order w a once h k t = elim (once.left h k t) [ inl d ↦ d | inr l ↦ absurd (none_left r records order w a h k l) ]
 
-pub stands_in_order : StepsPass → BeginsSound → OfBeginnings KeepsOrder → StandsInOrder
-stands_in_order pass starts keeps r records order w log a = record {
+pub stands_in_order : StepsPass → SoundnessStays → BeginsSound → OfBeginnings KeepsOrder → StandsInOrder
+stands_in_order pass stay starts keeps r records order w log a = record {
   done = λ h k t. was_done r records order w a once h k t;
   once = once.once;
-  order = λ word m n p q at_m at_n kept_p kept_q up meet.
-      (let y = was_done r records order w a once q.hart q.count kept_q in
-      let x = keeps r records order w log a.begun word m n p q at_m at_n up meet kept_p y.0 y.1 in
+  order = λ word m n c kept_p kept_q.
+      (let y = was_done r records order w a once c.second.hart c.second.count kept_q in
+      let x = keeps r records order w log a.begun word m n y.0 c kept_p y.1 in
       (x.0, y.0, x.1, y.1, x.2));
 }
   where
     once : IsDoneOnce (begin r records) w
-    once = done_once pass r records order w (starts r records log) a.begun
+    once = done_once pass stay r records order w (starts r records log) a.begun

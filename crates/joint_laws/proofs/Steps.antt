@@ -18,7 +18,7 @@ use Rattle.joint_replay.specs.Joining.{Joining, Walk, Ran, begun, longer, readin
 use Rattle.joint_replay.specs.Orders.{ready_step, walk_on, IsBegun}
 use Rattle.joint_laws.specs.Recordings.{Recording, IsLogOf, Allowed, OfBeginnings, begin}
 use Rattle.joint_laws.specs.Laws.{GoesOn, RanToTheEnd}
-use Rattle.joint_laws.proofs.ByCount.{some_is}
+use Rattle.joint_laws.proofs.Lists.{some_is}
 use Rattle.joint_laws.proofs.Moves.{IsMove, StepOf, by_kind, is_move}
 use Rattle.joint_laws.proofs.Follows.{AreOf, IsFollowed}
 

@@ -22,7 +22,8 @@ use Rattle.joint_replay.specs.Chains.{HaveTimes}
 use Rattle.joint_replay.specs.Laws.{NeverStuck}
 use Rattle.joint_laws.specs.Recordings.{Recording, points_of, recorded, OfBeginnings}
 use Rattle.joint_laws.specs.Laws.{GoesOn}
-use Rattle.joint_laws.proofs.ByCount.{some_is, pair_at, of_edge}
+use Rattle.joint_laws.proofs.Lists.{some_is}
+use Rattle.joint_laws.proofs.ByCount.{pair_at, of_edge}
 
 -- the place of the first point of hart h with count k or more
 abbrev time : List Point → ℕ → ℕ → ℕ

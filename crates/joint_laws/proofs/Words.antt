@@ -12,7 +12,7 @@ use Rattle.joint_replay.specs.Orders.{IsBegun}
 use Rattle.joint_laws.specs.Recordings.{Recording, OfBeginnings, begin}
 use Rattle.joint_laws.specs.Laws.{AscendFrom, HasWordsOnce}
 use Rattle.joint_laws.specs.Steps.{told_by}
-use Rattle.joint_laws.proofs.ByCount.{some_is}
+use Rattle.joint_laws.proofs.Lists.{some_is}
 use Rattle.joint_laws.proofs.Moves.{along}
 
 -- ---- one step

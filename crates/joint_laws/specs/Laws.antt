@@ -7,6 +7,7 @@ use Rattle.bn_base.specs.declared.state.HartState.{HartState}
 use Rattle.log_record.specs.declared.record.Record.{Record}
 use Rattle.log_order.specs.Content.{Content, IsContent}
 use Rattle.log_file.specs.Layout.{file_bytes}
+use Rattle.race_log.specs.Netzer.{AtPlaces}
 use Rattle.race_log.specs.Points.{Point, MeetAt, Touches, Writes}
 use Rattle.run_model.specs.Files.{file_of}
 use Rattle.row_laws.specs.States.{IsRowOfTurn}
@@ -18,7 +19,7 @@ use Rattle.joint_replay.specs.Lanes.{Item, Doing}
 use Rattle.joint_replay.specs.Memory.{word_in}
 use Rattle.joint_replay.specs.Sound.{IsSound}
 use Rattle.joint_laws.specs.Recordings.{Recording, IsRecorded, IsLogOf, IsRetained, Allowed, begin, kept, points_of, retained_rows, memory_right_after}
-use Rattle.joint_laws.specs.Steps.{IsLastTold, rows_done}
+use Rattle.joint_laws.specs.Steps.{DidPoint, IsLastTold, rows_done}
 
 -- The recording's own log is a log of it
 abbrev pub OwnLogsAreLogs : Type 0
@@ -34,9 +35,8 @@ BeginsSound = (r : Recording) (records : List Record) → IsLogOf r records → 
 -- once the later one's row is done, that of the earlier one was done before it. So each word's retained writes come as
 -- recorded, and each of its retained reads stands between the same retained writes
 abbrev pub KeepsOrder : Recording → List Record → Walk → Type 0
-KeepsOrder r records w = (word m n : ℕ) (p q : Point) → slice_get (points_of r) m ≡ Some p → slice_get (points_of r) n ≡ Some q
-    → m < n → MeetAt word p q → IsRetained r records p
-    → (y : ℕ) → Did w.taken y q.hart q.count → (x : ℕ) × Did w.taken x p.hart p.count × (y < x)
+KeepsOrder r records w = (word m n y : ℕ) (c : AtPlaces (MeetAt word) (points_of r) m n) → IsRetained r records c.first
+    → DidPoint w.taken y c.second → (x : ℕ) × DidPoint w.taken x c.first × (y < x)
 
 -- No order gets stuck: all harts are done, or one is ready
 abbrev pub GoesOn : Recording → List Record → Walk → Type 0
@@ -63,10 +63,10 @@ pub record IsRecordedWord (r : Recording) (w : Walk) (a word : ℕ) : Type 0 whe
   pub place : ℕ
   pub point : Point
   pub at : slice_get (points_of r) place ≡ Some point
-  pub did : Did w.taken step point.hart point.count
+  pub did : DidPoint w.taken step point
   pub touches : Touches a point
   pub value : word ≡ memory_right_after r point a
-  pub no_later : (n : ℕ) (q : Point) → slice_get (points_of r) n ≡ Some q → Writes a q → (y : ℕ) → Did w.taken y q.hart q.count → n ≤ place
+  pub no_later : (n y : ℕ) (q : Point) → slice_get (points_of r) n ≡ Some q → Writes a q → DidPoint w.taken y q → n ≤ place
 
 -- Memory: so it is with each word after each beginning of an allowed order
 abbrev pub HasMemory : Recording → List Record → Walk → Type 0
@@ -88,9 +88,8 @@ HasWordsOnce r records w = AscendFrom 0 w.now.memory × ((m : ℕ × ℕ) → Co
 pub record IsInOrder (r : Recording) (records : List Record) (taken : List Taken) : Type 0 where
   pub done : (h k : ℕ) → IsToDo (begin r records) h k → (x : ℕ) × Did taken x h k
   pub once : (x y h k : ℕ) → Did taken x h k → Did taken y h k → x ≡ y
-  pub order : (word m n : ℕ) (p q : Point) → slice_get (points_of r) m ≡ Some p → slice_get (points_of r) n ≡ Some q
-      → IsRetained r records p → IsRetained r records q → m < n → MeetAt word p q
-      → (x : ℕ) × (y : ℕ) × Did taken x p.hart p.count × Did taken y q.hart q.count × (y < x)
+  pub order : (word m n : ℕ) (both : AtPlaces (MeetAt word) (points_of r) m n) → IsRetained r records both.first → IsRetained r records both.second
+      → (x : ℕ) × (y : ℕ) × DidPoint taken x both.first × DidPoint taken y both.second × (y < x)
 
 -- Race order in whole allowed orders
 abbrev pub StandsInOrder : Type 0

@@ -3,7 +3,13 @@ use Rattle.std.specs.Prelude.{◌≡◌, ◌≢◌, ℕ, ◌<◌, ◌==◌, true
 use Rattle.bn_base.specs.declared.row.Row.{Row}
 use Rattle.joint_replay.specs.Lanes.{Item, Passing, Doing, Ending}
 use Rattle.joint_replay.specs.Joining.{Taken}
+use Rattle.joint_replay.specs.Chains.{Did}
+use Rattle.race_log.specs.Points.{Point}
 use Rattle.row_laws.specs.Words.{word_told}
+
+-- step number x from the latest did the instruction of a point
+abbrev pub DidPoint : List Taken → ℕ → Point → Type 0
+DidPoint taken x p = Did taken x p.hart p.count
 
 -- the word at the aligned address a that the row of a step stored, else loaded
 abbrev pub told_by : ℕ → Item → Option ℕ

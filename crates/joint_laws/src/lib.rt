@@ -14,7 +14,8 @@ use elf_loader::laws::loaded_programs_are_images;
 pub use examples::{a_relay_has_eighteen_orders, a_spoiled_store_has_ten_orders};
 use file_laws::{files_say_the_run, streams_are_in_order};
 use joint_replay::laws::{
-    chains_are_kept, no_order_gets_stuck, starts_are_sound, steps_pass_their_points,
+    chains_are_kept, no_order_gets_stuck, soundness_stays, starts_are_sound,
+    steps_pass_their_points,
 };
 use log_order::laws::order_stays_without_the_first_records;
 use race_laws::{
@@ -23,8 +24,8 @@ use race_laws::{
 };
 use replay_laws::{ends_suffice, the_rows_of_a_hart_are_counted};
 use row_laws::{
-    interval_rows_are_of_turns, parts_have_code_words, run_rows_tell_words, run_writers_have_rows,
-    turn_rows_are_rows,
+    interval_rows_are_of_turns, parts_have_code_words, rows_that_tell_have_no_fault,
+    run_rows_tell_words, run_writers_have_rows, turn_rows_are_rows,
 };
 use run_laws::kept_records_are_an_end;
 
@@ -66,6 +67,7 @@ pub fn the_race_order_is_kept()
     ensures whole { StandsInOrder }
 {
     steps_pass_their_points();
+    soundness_stays();
     joint_replays_begin_sound();
     chains_are_kept();
     points_are_in_order();
@@ -130,6 +132,8 @@ pub fn the_memory_is_recorded()
     ensures { OfBeginnings HasMemory }
 {
     steps_pass_their_points();
+    soundness_stays();
+    rows_that_tell_have_no_fault();
     joint_replays_begin_sound();
     loaded_programs_are_images();
     parts_have_code_words();

@@ -3,6 +3,7 @@ pub mod Points
 pub mod Along
 pub mod Cases
 pub mod Telling
+pub mod Faultless
 pub mod Lists
 pub mod Ecalls
 pub mod Plans

@@ -1,6 +1,6 @@
 -- What the rows of a run tell of its states, its words and its points. What is said of one turn is said of whichever run
 -- there is before it; what is said of a list of turns, of every legal one.
-use Rattle.std.specs.Prelude.{◌≡◌, ℕ, ◌<◌, ◌^◌, true, List, ◌++◌, length, slice_get, slice_index, Some}
+use Rattle.std.specs.Prelude.{◌≡◌, ℕ, ◌<◌, ◌^◌, true, List, ◌++◌, length, slice_get, slice_index, Some, None}
 use Rattle.std.specs.List.{AllByRecursion}
 use Rattle.bn_base.specs.Programs.{Program}
 use Rattle.bn_base.specs.Ranges.{IsSetting}
@@ -69,6 +69,11 @@ RowsTellWords = (c : RawSettings) (i : Program) (run : Run) (h : ℕ) (before : 
 abbrev pub RunRowsTellWords : Type 0
 RunRowsTellWords = (c : RawSettings) (i : Program) (input b : List ℕ) (h : ℕ) (before : HartState) (r : Row) (a word : ℕ) → IsSetting c → legal_from c i (start c i input) b ≡ true
     → IsRowOfTurn c i input b h before r → word_told r a ≡ Some word → HasWord c i input b h r a word
+
+-- Such a row is of no fault
+abbrev pub RowsThatTellHaveNoFault : Type 0
+RowsThatTellHaveNoFault = (c : RawSettings) (i : Program) (run : Run) (h : ℕ) (before : HartState) (r : Row) (a word : ℕ)
+    → TurnHasRow c i run h before r → word_told r a ≡ Some word → r.fault ≡ None
 
 -- ---- points
 

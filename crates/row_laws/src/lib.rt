@@ -3,7 +3,7 @@
 #![tactic(auto)]
 
 ghost use Rattle.row_laws.specs.Laws.{RowsTellStates, RowsTellRegisters, RowsTellRuns, RowsAreOfTurns, TurnRowsAreRows, IntervalRowsAreOfTurns};
-ghost use Rattle.row_laws.specs.Laws.{RowsTellWords, RunRowsTellWords, PointsAreOfTurns, WritersHaveRows, RunWritersHaveRows, PartsHaveCodeWords, FillRowsFill, RunFillRowsFill};
+ghost use Rattle.row_laws.specs.Laws.{RowsTellWords, RunRowsTellWords, RowsThatTellHaveNoFault, PointsAreOfTurns, WritersHaveRows, RunWritersHaveRows, PartsHaveCodeWords, FillRowsFill, RunFillRowsFill};
 
 mod examples;
 
@@ -74,6 +74,11 @@ pub fn run_rows_tell_words()
     own_asks_are_orderly();
     turns_move_their_hart();
 }
+
+/// A row of a turn that tells a word is that of an instruction, and of no fault.
+pub fn rows_that_tell_have_no_fault()
+    ensures { RowsThatTellHaveNoFault }
+{}
 
 /// Each point of a run is the one that a turn of its hart added, at its place.
 pub fn points_are_of_turns()
