@@ -1,13 +1,13 @@
 -- What is traced before the first turn.
 use Rattle.std.proofs.Common.{◌≡◌, [], ℕ, zero, suc, ◌+◌, ◌-◌, ◌*◌, ◌<◌, ◌≤◌, ◌==◌, Bool, true, false, List, length, refl, sym, ◌∙◌, ap, subst, arith}
-use Rattle.std.specs.Prelude.{if◌then◌else◌}
+use Rattle.std.specs.Prelude.{if◌then◌else◌, IsTrue}
 use Rattle.bn_base.specs.Programs.{Program}
 use Rattle.bn_base.specs.Ranges.{IsSetting}
 use Rattle.bn_base.specs.declared.settings.RawSettings.{RawSettings}
 use Rattle.bn_base.specs.declared.settings.TheConstants.{HARTS}
 use Rattle.log_ring.specs.Kept.{Held, Holds, held, kept}
 use Rattle.run_model.specs.declared.log.Log.{Log}
-use Rattle.race_log.specs.Stands.{Stands, harts_of, next_turn, next_count}
+use Rattle.race_log.specs.Stands.{Stands, harts_of, lasts, next_turn, next_count}
 use Rattle.run_model.specs.declared.hart.Hart.{Hart}
 use Rattle.run_model.specs.declared.trace.Trace.{Trace}
 use Rattle.run_model.specs.Runs.{start, start_state, first_headers}
@@ -54,8 +54,8 @@ all_first c i (suc n) f each =
     omega (arith, one, rest)
 
 pub trace_fits : (c : RawSettings) (i : Program) (n : ℕ) (old : Log) (t : Trace) → IsSetting c → n ≡ c.harts → AreFirst c i n old t.harts.items t.log → old.ring ≡ held [] 0 c.log_size → length t.caches ≡ c.harts → ((k : ℕ) → steps_in t.caches k ≡ 0)
-    → harts_of t.shadow ≡ c.harts → next_turn t.shadow ≡ 0 → ((k : ℕ) → next_count t.shadow k ≡ 0) → IsTraceFit c t 0
-trace_fits c i n old t settings e first empty caches steps harts turn counts =
+    → harts_of t.shadow ≡ c.harts → next_turn t.shadow ≡ 0 → ((k : ℕ) → next_count t.shadow k ≡ 0) → ((k : ℕ) → k < harts_of t.shadow → IsTrue (lasts t.shadow k)) → IsTraceFit c t 0
+trace_fits c i n old t settings e first empty caches steps harts turn counts lasting =
     let at : (k : ℕ) → k < c.harts → hart_in t.harts.items k ≡ first_hart c i k = λ k below. hart_of_run t.harts.items k (first_hart c i) first.each (omega (arith, below, first.len, e)) in
     let size : old.ring.size ≡ c.log_size = ap (λ (r : Held). r.size) empty in
     let dropped : old.ring.dropped ≡ 0 = ap (λ (r : Held). r.dropped) empty in
@@ -71,6 +71,7 @@ trace_fits c i n old t settings e first empty caches steps harts turn counts =
         fit = subst (λ (h : Hart). IsRested c h) (sym (at k below)) (fit_start c k (start_state c i k) refl settings.interval_low);
         steps = omega (arith, steps k);
         count = omega (arith, counts k);
+        lasting = λ e. lasting k (omega (arith, below, harts));
       };
       turn = omega (arith, turn);
       left = omega (arith, all_first c i c.harts (hart_in t.harts.items) at);

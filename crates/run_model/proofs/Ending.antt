@@ -1,5 +1,6 @@
 -- No hart is live any more.
 use Rattle.std.proofs.Common.{◌≡◌, ◌<◌, ◌≤◌, ℕ, zero, suc, ◌+◌, ◌-◌, true, false, List, length, refl, sym, ◌∙◌, ap, subst, arith, inl, inr, length-set}
+use Rattle.std.proofs.lemmas.Bool.{true≢false}
 use Rattle.std.specs.Prelude.{Vec, get_or, slice_get, slice_set, Some, ◌≢◌}
 use Rattle.std.specs.Global.{Global}
 use Rattle.std.proofs.lemmas.Bool.Decides.{eqb_tells}
@@ -80,6 +81,7 @@ hart_fit c t v k e fit = record {
   fit = subst (λ (h : Hart). IsRested c h) (sym e) (fit_dead c (hart_in t.harts.items k) fit.fit);
   steps = omega (arith, fit.steps, ap (λ (h : Hart). h.state.ic) e, ap (λ (h : Hart). h.number) e);
   count = omega (arith, fit.count, ap (λ (h : Hart). h.state.ic) e);
+  lasting = λ live. let over : (hart_in v.items k).live ≡ false = ap (λ (h : Hart). h.live) e in absurd (true≢false (sym live ∙ over));
 }
 
 pub ended_fits : (c : RawSettings) (t : Trace) (v : Vec Hart Global) (turns later : ℕ) → AreEnded t.harts.items v.items → IsTraceFit c t turns → turns ≤ later → later ≤ most_turns c → IsTraceFit c (record t { harts = v }) later

@@ -19,3 +19,4 @@ pub mod Ending
 pub mod FormatOne
 pub mod Bytes
 pub mod Alike
+pub mod LiveSets

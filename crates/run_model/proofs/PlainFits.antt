@@ -1,6 +1,9 @@
 -- A turn of a plain machine keeps its counts within the settings.
 use Rattle.std.proofs.Common.{◌≡◌, ℕ, zero, suc, ◌+◌, ◌<◌, ◌≤◌, ◌==◌, Bool, true, false, List, length, refl, sym, ◌∙◌, ap, subst, arith, inl, inr}
-use Rattle.std.specs.Prelude.{Option, Some, None, is_some, IsTrue, ◌≢◌, if◌then◌else◌}
+use Rattle.std.specs.Global.{Global}
+use Rattle.first_load_bits.specs.Stands.{Contents}
+use Rattle.run_model.specs.declared.log.Log.{Log}
+use Rattle.std.specs.Prelude.{Vec, Option, Some, None, is_some, IsTrue, ◌≢◌, if◌then◌else◌}
 use Rattle.std.proofs.lemmas.Bool.Decides.{eqb_tells}
 use Rattle.std.proofs.lemmas.Option.{slice_get-get_or, get_or_from_slice_get}
 use Rattle.bn_base.specs.Programs.{Program}
@@ -12,19 +15,20 @@ use Rattle.rv_meaning.specs.declared.asks.Reply.{Reply}
 use Rattle.system_calls.specs.declared.effect.Plan.{Plan}
 use Rattle.first_load_bits.specs.declared.warm.Warm.{Warm}
 use Rattle.first_load_bits.specs.declared.warm.Warm.TheVariants as answers
-use Rattle.race_log.specs.Stands.{harts_of, next_turn, next_count}
+use Rattle.race_log.specs.Sweep.{has_bit}
+use Rattle.race_log.specs.Stands.{harts_of, lasting_of, next_turn, next_count}
 use Rattle.run_model.specs.declared.hart.Hart.{Hart}
 use Rattle.run_model.specs.declared.next.Next.{Next}
 use Rattle.run_model.specs.declared.next.Next.TheVariants.{GoesOn, NewInterval, HartOver, RunOver}
 use Rattle.run_model.specs.declared.span.Span.{Span}
 use Rattle.run_model.specs.declared.trace.Trace.{Trace}
 use Rattle.run_model.specs.Machine.{Machine, answer, call_of}
-use Rattle.run_model.specs.Turn.{is_orderly, span_of, next_of, loading, hart_after, harts_after, other_after, skipped_after}
+use Rattle.run_model.specs.Turn.{Run, is_orderly, span_of, next_of, loading, hart_after, harts_after, other_after, skipped_after}
 use Rattle.run_model.specs.Counts.{IsRested, MovesOn, AskMovesOn, EachTurnMovesOn, turns_left, is_there, is_loading}
-use Rattle.run_model.specs.Stands.EachCache.{steps_in, touched_word, touches}
+use Rattle.run_model.specs.Stands.EachCache.{AreCaches, steps_in, touched_word, touches}
 use Rattle.run_model.specs.Stands.Harts.{AreHarts, hart_in, all_left}
-use Rattle.run_model.specs.Stands.Logs.{taken, is_marked_next}
-use Rattle.run_model.specs.Stands.Plain.{IsTraceFit, IsHartFit, count_after, clears}
+use Rattle.run_model.specs.Stands.Logs.{taken, IsLog, is_marked_next}
+use Rattle.run_model.specs.Stands.Plain.{IsTrace, IsTraceFit, IsHartFit, IsSwept, count_after, clears}
 use Rattle.run_model.proofs.Fits.{fit_by, fewer_left, fit_other, no_more_left}
 
 -- ---- the hart whose turn it was
@@ -68,6 +72,16 @@ other_number (RunOver reason value) h = by_live h.live h
     by_live true x = refl
     by_live false x = refl
 
+other_live : (next : Next) (h : Hart) → (other_after next h).live ≡ true → h.live ≡ true
+other_live GoesOn h e = e
+other_live (NewInterval reason value) h e = e
+other_live (HartOver reason value) h e = e
+other_live (RunOver reason value) h e = by_live h.live h refl e
+  where
+    by_live : (b : Bool) (x : Hart) → x.live ≡ b → (elim b as (λ y. Hart) [ true ↦ record x { live = false; mark = Some (record { ic = x.state.ic; reason = 5; value = 0 }) } | false ↦ x ]).live ≡ true → b ≡ true
+    by_live true x q e = refl
+    by_live false x q e = sym q ∙ e
+
 -- ---- the turns that are left
 
 all_less : (c : RawSettings) (n : ℕ) (f g : ℕ → Hart) → ((k : ℕ) → k < n → turns_left c (g k) ≤ turns_left c (f k)) → all_left c n g ≤ all_left c n f
@@ -97,6 +111,7 @@ pub record Steps (c : RawSettings) (old new : Trace) (turns k : ℕ) (ask : Ask)
   pub steps : (j : ℕ) → steps_in new.caches j ≡ (if j == k then steps_in old.caches j + touches (touched_word call (span_of call ask.want reply)) + clears (next_of c call (hart_in old.harts.items k) ask.want reply (absorbed ask reply).ic) else steps_in old.caches j)
   pub loading : is_some load ≡ true → is_loading (loading ask.want) ≡ true
   pub shadow : harts_of new.shadow ≡ harts_of old.shadow
+  pub lasting : lasting_of new.shadow ≡ lasting_of old.shadow
   pub turn : next_turn new.shadow ≤ turns + 1
   pub next : next_count new.shadow k ≤ count_after (span_of call ask.want reply) ask.state.ic (next_count old.shadow k)
   pub others : (j : ℕ) → j ≢ k → next_count new.shadow j ≡ next_count old.shadow j
@@ -138,9 +153,9 @@ if_false b x y e = ap (λ (t : Bool). if t then x else y) e
 -- the hart whose turn it was
 own_hart : (c : RawSettings) (old new : Trace) (turns k : ℕ) (ask : Ask) (call : Option Plan) (reply : Reply) (load : Option Warm) (next : Next) (own : Hart)
     → let h = hart_in old.harts.items k in let s = absorbed ask reply in
-    next ≡ next_of c call h ask.want reply s.ic → own ≡ hart_after next s (skipped_after load h.skipped) new.log.bytes h → 1 ≤ c.interval → IsHartFit c old k → MovesOn c h ask.state.ic s.ic next (span_of call ask.want reply) (loading ask.want)
+    next ≡ next_of c call h ask.want reply s.ic → own ≡ hart_after next s (skipped_after load h.skipped) new.log.bytes h → 1 ≤ c.interval → (hart_in old.harts.items k).live ≡ true → IsHartFit c old k → MovesOn c h ask.state.ic s.ic next (span_of call ask.want reply) (loading ask.want)
     → Steps c old new turns k ask call reply load → hart_in new.harts.items k ≡ own → (k == k) ≡ true → IsHartFit c new k
-own_hart c old new turns k ask call reply load next own en eo some fit on st at same =
+own_hart c old new turns k ask call reply load next own en eo some live fit on st at same =
     let h = hart_in old.harts.items k in let s = absorbed ask reply in
     let span = span_of call ask.want reply in
     let is : hart_in new.harts.items k ≡ hart_after next s (skipped_after load h.skipped) new.log.bytes h = at ∙ eo in
@@ -153,6 +168,7 @@ own_hart c old new turns k ask call reply load next own en eo some fit on st at 
       fit = subst (λ (x : Hart). IsRested c x) (sym is) fits;
       steps = omega (arith, stepped, cleared, fit.steps, touched_less call span ask.state.ic s.ic on.low on.accessed, on.from, ic, number, number_after next s (skipped_after load h.skipped) new.log.bytes h);
       count = omega (arith, st.next, ic, counted_less span ask.state.ic (next_count old.shadow k) s.ic (omega (arith, fit.count, on.from)) on.low on.accessed);
+      lasting = λ e. subst (λ (set : ℕ). has_bit set k ≡ true) (sym st.lasting) (fit.lasting live);
     }
 
 -- another hart
@@ -167,6 +183,7 @@ other_hart c old new turns k j ask call reply load next fit st at apart differ =
       fit = subst (λ (x : Hart). IsRested c x) (sym at) (fit_other next c h fit.fit);
       steps = omega (arith, stepped, fit.steps, ic, number);
       count = omega (arith, st.others j differ, fit.count, ic);
+      lasting = λ e. subst (λ (set : ℕ). has_bit set j ≡ true) (sym st.lasting) (fit.lasting (other_live next h (sym (ap (λ (x : Hart). x.live) at) ∙ e)));
     }
 
 eqb_same : (k : ℕ) → (k == k) ≡ true
@@ -208,7 +225,7 @@ fit_traced each_moves c i m old new turns k ask call reply load fit within live 
       caches = st.caches ∙ fit.caches;
       shadow = st.shadow ∙ fit.shadow;
       each = λ j below. elim (eqb_tells j k) [
-        | inl p ↦ subst (λ (n : ℕ). IsHartFit c new n) (sym p.1) (own_hart c old new turns k ask call reply load next own refl refl fit.settings.interval_low each on st own_is (eqb_same k))
+        | inl p ↦ subst (λ (n : ℕ). IsHartFit c new n) (sym p.1) (own_hart c old new turns k ask call reply load next own refl refl fit.settings.interval_low live each on st own_is (eqb_same k))
         | inr p ↦ other_hart c old new turns k j ask call reply load next (fit.each j below) st (at j below ∙ other_at j k next own f p.0) p.0 p.1
       ];
       turn = st.turn;
@@ -221,3 +238,36 @@ fit_traced each_moves c i m old new turns k ask call reply load fit within live 
 pub two_ifs : (b : Bool) (new middle old more clear : ℕ) → new ≡ (if b then middle + clear else middle) → middle ≡ (if b then old + more else old) → new ≡ (if b then old + more + clear else old)
 two_ifs true new middle old more clear e f = e ∙ ap (λ (x : ℕ). x + clear) f
 two_ifs false new middle old more clear e f = e ∙ f
+
+-- ---- what the race log gives up
+
+pub swept_fit : (c : RawSettings) (old new : Trace) (turns : ℕ) → IsTraceFit c old turns → IsSwept old.shadow new.shadow old.harts.items → new.harts ≡ old.harts → new.caches ≡ old.caches → new.log ≡ old.log → IsTraceFit c new turns
+swept_fit c old new turns fit swept harts caches log = record {
+  settings = fit.settings;
+  few = fit.few;
+  harts = ap (λ (v : Vec Hart Global). length v.items) harts ∙ fit.harts;
+  caches = ap (λ (cs : List Contents). length cs) caches ∙ fit.caches;
+  shadow = swept.harts ∙ fit.shadow;
+  each = λ k below.
+      let one = fit.each k below in
+      let at : hart_in new.harts.items k ≡ hart_in old.harts.items k = ap (λ (v : Vec Hart Global). hart_in v.items k) harts in
+      record {
+        fit = subst (λ (h : Hart). IsRested c h) (sym at) one.fit;
+        steps = omega (arith, one.steps, ap (λ (cs : List Contents). steps_in cs k) caches, ap (λ (h : Hart). h.state.ic) at, ap (λ (h : Hart). h.number) at);
+        count = omega (arith, one.count, swept.counts k, ap (λ (h : Hart). h.state.ic) at);
+        lasting = λ e. let was : (hart_in old.harts.items k).live ≡ true = sym (ap (λ (h : Hart). h.live) at) ∙ e in swept.lasting k (omega (arith, below, fit.harts)) was (one.lasting was);
+      };
+  turn = omega (arith, fit.turn, swept.turn);
+  left = omega (arith, fit.left, ap (λ (v : Vec Hart Global). all_left c c.harts (hart_in v.items)) harts);
+  log = omega (arith, fit.log, ap (λ (l : Log). taken l.ring) log);
+  log_size = ap (λ (l : Log). l.ring.size) log ∙ fit.log_size;
+}
+
+pub swept_trace : (c : RawSettings) (old new : Trace) (run : Run) → IsTrace c old run → IsSwept old.shadow new.shadow old.harts.items → new.harts ≡ old.harts → new.caches ≡ old.caches → new.log ≡ old.log → IsTrace c new run
+swept_trace c old new run is swept harts caches log = record {
+  harts = subst (λ (v : Vec Hart Global). AreHarts v.items run.harts) (sym harts) is.harts;
+  caches = subst (λ (cs : List Contents). AreCaches c cs run.events) (sym caches) is.caches;
+  shadow = swept.stands run.points is.shadow;
+  log = subst (λ (l : Log). IsLog l run.stream) (sym log) is.log;
+  bytes = ap (λ (l : Log). l.bytes) log ∙ is.bytes;
+}

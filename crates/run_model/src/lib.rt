@@ -8,6 +8,7 @@ mod guarded_examples;
 mod hart;
 mod harts;
 mod laws;
+mod live;
 mod log;
 mod machine;
 mod next;

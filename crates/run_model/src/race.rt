@@ -1,13 +1,15 @@
 // The race log's part of a turn.
-ghost use Rattle.std.specs.Prelude.{◌≡◌, ◌≤◌, ◌<◌, ◌+◌, ◌^◌, ◌++◌, ◌≢◌, ℕ, List};
+ghost use Rattle.std.specs.Prelude.{◌≡◌, ◌≤◌, ◌<◌, ◌+◌, ◌^◌, ◌++◌, ◌≢◌, ℕ, List, IsTrue, length};
 ghost use Rattle.log_record.specs.declared.record.Record.{Record};
 ghost use Rattle.bn_base.specs.declared.settings.TheConstants.{HARTS};
 ghost use Rattle.race_log.specs.Points.{Point};
-ghost use Rattle.race_log.specs.Stands.{Stands, harts_of, next_turn, next_count};
+ghost use Rattle.race_log.specs.Stands.{Stands, harts_of, lasting_of, lasts, next_turn, next_count};
 ghost use Rattle.run_model.specs.Turn.{point_of, points_after, edge_records};
 ghost use Rattle.run_model.specs.Stands.Logs.{taken, IsLog};
-ghost use Rattle.run_model.specs.Stands.Plain.{everyone, IsRaceReady, count_after};
+ghost use Rattle.run_model.specs.Stands.Plain.{everyone, IsRaceReady, IsSwept, count_after};
 
+use crate::hart::Hart;
+use crate::live::live_set;
 use crate::log::Log;
 use crate::records::append_edges;
 use crate::span::Span;
@@ -30,12 +32,14 @@ pub fn record_access(
     requires ready { IsRaceReady shadow.old span }
     requires turns { next_turn shadow.old ≤ turn }
     requires counts { next_count shadow.old hart ≤ ic }
+    requires lasting { IsTrue (lasts shadow.old hart) }
     requires room { taken log.old.ring + HARTS < 2 ^ 56 }
     ensures shadow { (points : List Point) → Stands points everyone shadow.old → Stands (points_after (point_of hart ic turn span) points) everyone shadow.new }
     ensures holds { (points : List Point) (rs : List Record) → Stands points everyone shadow.old → IsLog log.old rs → IsLog log.new (rs ++ edge_records (point_of hart ic turn span) points) }
     ensures took { taken log.new.ring ≤ taken log.old.ring + HARTS }
     ensures size { log.new.ring.size ≡ log.old.ring.size }
     ensures harts { harts_of shadow.new ≡ harts_of shadow.old }
+    ensures lasting { lasting_of shadow.new ≡ lasting_of shadow.old }
     ensures turn { next_turn shadow.new ≤ turn + 1 }
     ensures counts { next_count shadow.new hart ≤ count_after span ic (next_count shadow.old hart) }
     ensures others { (h : ℕ) → h ≢ hart → next_count shadow.new h ≡ next_count shadow.old h }
@@ -44,4 +48,13 @@ pub fn record_access(
         let edges = shadow.access(hart, ic, turn, span.first, span.count, span.mode);
         append_edges(log, hart, ic, &edges);
     }
+}
+
+/// The race log gives up the accesses that all live harts know of.
+pub fn sweep_known(shadow: &mut Shadow, harts: &[Hart])
+    requires few { length harts.now ≤ HARTS }
+    requires harts { harts_of shadow.old ≡ length harts.now }
+    ensures { IsSwept shadow.old shadow.new harts.now }
+{
+    shadow.sweep(live_set(harts));
 }

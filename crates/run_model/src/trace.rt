@@ -8,7 +8,7 @@ ghost use Rattle.first_load_bits.specs.Events.{Event};
 ghost use Rattle.log_record.specs.declared.record.Record.{Record};
 ghost use Rattle.bn_base.specs.declared.settings.TheConstants.{HARTS};
 ghost use Rattle.race_log.specs.Points.{Point};
-ghost use Rattle.race_log.specs.Stands.{Stands, KnowsSame, harts_of, next_turn, next_count};
+ghost use Rattle.race_log.specs.Stands.{Stands, KnowsSame, harts_of, lasting_of, lasts, next_turn, next_count};
 ghost use Rattle.run_model.specs.declared.hart.Hart.{Hart};
 ghost use Rattle.run_model.specs.declared.next.Next.TheVariants.{GoesOn};
 ghost use Rattle.run_model.specs.declared.span.Span.{Span};
@@ -19,14 +19,14 @@ ghost use Rattle.run_model.specs.Stands.Logs.{taken, IsLog, is_marked_next};
 ghost use Rattle.run_model.specs.Stands.EachCache.{AreCaches, steps_in, where_loading, touched_word, touches};
 ghost use Rattle.run_model.specs.Counts.{is_loading};
 ghost use Rattle.run_model.specs.Stands.Parts.{AreAddresses};
-ghost use Rattle.run_model.specs.Stands.Plain.{everyone, IsRaceReady, count_after, clears};
+ghost use Rattle.run_model.specs.Stands.Plain.{everyone, IsRaceReady, IsSwept, count_after, clears};
 
 use crate::caches::Caches;
 use crate::hart::{Hart, skipped_after};
 use crate::harts::finish_turn;
 use crate::log::Log;
 use crate::next::Next;
-use crate::race::record_access;
+use crate::race::{record_access, sweep_known};
 use crate::records::{append_conditional, append_load, append_next};
 use crate::span::{Span, loading};
 use bn_base::{HartId, Settings};
@@ -95,6 +95,7 @@ impl Trace {
         requires ready { IsRaceReady self.old.shadow (span_of call ask.now.want reply) }
         requires turns { next_turn self.old.shadow ≤ turn }
         requires counts { next_count self.old.shadow hart ≤ ask.now.state.ic }
+        requires lasting { IsTrue (lasts self.old.shadow hart) }
         requires room { taken self.old.log.ring + 18 < 2 ^ 56 }
         ensures load { (c : RawSettings) (i : Program) (m : Machine) (events : ℕ → List Event) → call ≡ call_of i m ask.now.want → AreCaches c self.old.caches events →
             result ≡ warmth c (loading ask.now.want) (events hart) }
@@ -110,6 +111,7 @@ impl Trace {
         ensures count { length self.new.caches ≡ length self.old.caches }
         ensures steps { (k : ℕ) → steps_in self.new.caches k ≡ (if k == hart then steps_in self.old.caches k + touches (touched_word call (span_of call ask.now.want reply)) else steps_in self.old.caches k) }
         ensures shadow_harts { harts_of self.new.shadow ≡ harts_of self.old.shadow }
+        ensures lasting { lasting_of self.new.shadow ≡ lasting_of self.old.shadow }
         ensures turn { next_turn self.new.shadow ≤ turn + 1 }
         ensures next { next_count self.new.shadow hart ≤ count_after (span_of call ask.now.want reply) ask.now.state.ic (next_count self.old.shadow hart) }
         ensures others { (h : ℕ) → h ≢ hart → next_count self.new.shadow h ≡ next_count self.old.shadow h }
@@ -154,7 +156,8 @@ impl Trace {
     }
 
     /// The reply to a hart's ask gives its next state, and what comes next for it and for the others;
-    /// the Ends and the next Header are appended. `load` is how the word of a loading access was.
+    /// the Ends and the next Header are appended, and what comes next is answered. `load` is how the word of a
+    /// loading access was.
     pub fn finish(
         &mut self,
         settings: &Settings,
@@ -163,7 +166,7 @@ impl Trace {
         ask: &Ask,
         reply: Reply,
         load: Option<Warm>,
-    )
+    ) -> Next
         requires hart { hart < length self.old.harts.items }
         requires few { length self.old.harts.items ≤ HARTS }
         requires caches { hart < length self.old.caches }
@@ -205,5 +208,23 @@ impl Trace {
         self.begin(hart, next);
         own.take(next, skipped, self.log.bytes);
         finish_turn(&mut self.harts, &mut self.log, hart, next, own);
+        next
+    }
+
+    /// Where an interval ended, the race log gives up the accesses that all live harts know of.
+    pub fn forget(&mut self, next: Next)
+        requires few { length self.old.harts.items ≤ HARTS }
+        requires shadow { harts_of self.old.shadow ≡ length self.old.harts.items }
+        ensures shadow { IsSwept self.old.shadow self.new.shadow self.old.harts.items }
+        ensures harts { self.new.harts ≡ self.old.harts }
+        ensures caches { self.new.caches ≡ self.old.caches }
+        ensures log { self.new.log ≡ self.old.log }
+    {
+        match next {
+            Next::GoesOn => {}
+            Next::NewInterval { .. } | Next::HartOver { .. } | Next::RunOver { .. } => {
+                sweep_known(&mut self.shadow, &self.harts)
+            }
+        }
     }
 }

@@ -4,7 +4,9 @@ use Rattle.bn_base.specs.Ranges.{IsSetting}
 use Rattle.bn_base.specs.declared.settings.RawSettings.{RawSettings}
 use Rattle.bn_base.specs.declared.settings.TheConstants.{HARTS}
 use Rattle.race_log.specs.declared.shadow.Shadow.{Shadow}
-use Rattle.race_log.specs.Stands.{Stands, harts_of, next_turn, next_count, reserved_range}
+use Rattle.race_log.specs.Points.{Point}
+use Rattle.race_log.specs.Stands.{Stands, harts_of, lasts, next_turn, next_count, reserved_range}
+use Rattle.run_model.specs.declared.hart.Hart.{Hart}
 use Rattle.run_model.specs.declared.next.Next.{Next}
 use Rattle.run_model.specs.declared.next.Next.TheVariants.{GoesOn, NewInterval, HartOver, RunOver}
 use Rattle.run_model.specs.declared.span.Span.{Span}
@@ -27,6 +29,15 @@ everyone k = true
 abbrev pub IsRaceReady : Shadow → Option Span → Type 0
 IsRaceReady s None = ⊤
 IsRaceReady s (Some x) = (x.first % 4 ≡ 0) × (x.first + 4 * x.count ≤ 2 ^ 32) × (reserved_range s ≡ Some (x.first, x.count))
+
+-- accesses may have been given up that all live harts know of: the race log stands for the same points, and the live harts
+-- last that did before
+pub record IsSwept (old new : Shadow) (hs : List Hart) : Type 0 where
+  pub stands : (points : List Point) → Stands points everyone old → Stands points everyone new
+  pub harts : harts_of new ≡ harts_of old
+  pub turn : next_turn new ≡ next_turn old
+  pub counts : (k : ℕ) → next_count new k ≡ next_count old k
+  pub lasting : (k : ℕ) → k < length hs → (hart_in hs k).live ≡ true → lasts old k ≡ true → lasts new k ≡ true
 
 -- the lowest count that the hart's next access may have, once instruction ic accessed these words, if it did
 abbrev pub count_after : Option Span → (ic before : ℕ) → ℕ
@@ -63,11 +74,12 @@ pub record IsRun (p : PlainParts) (run : Run) : Type 0 where
   pub trace : IsTrace p.start.settings p.trace run
   pub turns : p.turns ≡ run.turns
 
--- the counts of a hart, its cache and its knowledge fit each other
+-- the counts of a hart, its cache and its knowledge fit each other, and while it is live it lasts
 pub record IsHartFit (c : RawSettings) (t : Trace) (k : ℕ) : Type 0 where
   pub fit : IsRested c (hart_in t.harts.items k)
   pub steps : steps_in t.caches k ≤ (hart_in t.harts.items k).state.ic + (hart_in t.harts.items k).number
   pub count : next_count t.shadow k ≤ (hart_in t.harts.items k).state.ic
+  pub lasting : (hart_in t.harts.items k).live ≡ true → lasts t.shadow k ≡ true
 
 -- what is traced fits the settings and the number of turns
 pub record IsTraceFit (c : RawSettings) (t : Trace) (turns : ℕ) : Type 0 where

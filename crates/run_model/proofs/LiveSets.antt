@@ -1,0 +1,33 @@
+-- Sets of harts, one bit for each.
+use Rattle.std.proofs.Common.{◌≡◌, ◌≢◌, ℕ, suc, ◌+◌, ◌*◌, ◌^◌, ◌%◌, ◌<◌, ◌==◌, Bool, true, false, ◌&&◌, bit_or, ap, arith, pow-suc, shl_exact}
+use Rattle.std.specs.Int.{bit_at}
+use Rattle.std.proofs.lemmas.Bool.{eq-eqb}
+use Rattle.std.proofs.lemmas.Nat.{or_lt}
+use Rattle.std.proofs.lemmas.Nat.Bits.{bit_at_or, bit_at-pow_same, bit_at-pow_other, bit_at-lt, bit_at_above}
+use Rattle.race_log.specs.Sweep.{has_bit}
+
+-- a set of harts below n hasn't hart n
+pub has_none : (set n : ℕ) → set < 2 ^ n → has_bit set n ≡ false
+has_none set n low = ap (λ b. b == 1) (bit_at_above set n n low (omega arith))
+
+pub has_own : (set n : ℕ) → has_bit (bit_or set (2 ^ n)) n ≡ true
+has_own set n = eq-eqb (bit_at (bit_or set (2 ^ n)) n) 1 (omega (arith, bit_at_or set (2 ^ n) n, bit_at-pow_same n, bit_at-lt set n))
+
+pub has_other : (set n k : ℕ) → k ≢ n → has_bit (bit_or set (2 ^ n)) k ≡ has_bit set k
+has_other set n k apart =
+    let e : bit_at (bit_or set (2 ^ n)) k ≡ bit_at set k = omega (arith, bit_at_or set (2 ^ n) k, bit_at-pow_other n k apart) in
+    ap (λ b. b == 1) e
+
+pub one_more : (n : ℕ) → 2 ^ (n + 1) ≡ 2 ^ n + 2 ^ n
+one_more n = let e : 2 ^ (n + 1) ≡ 2 ^ suc n = ap (λ m. 2 ^ m) (omega arith) in omega (arith, e, pow-suc 2 n)
+
+pub set_below : (set n : ℕ) → set < 2 ^ n → bit_or set (2 ^ n) < 2 ^ (n + 1)
+set_below set n low = or_lt (n + 1) set (2 ^ n) (omega (arith, low, one_more n)) (omega (arith, low, one_more n))
+
+-- the one bit of hart n
+pub bit_of : (n : ℕ) → n < 16 → 1 * 2 ^ n % 65536 ≡ 2 ^ n
+bit_of n low = let e = shl_exact {a = 1} 1 n 16 (omega arith) (omega (arith, low)) in omega (arith, e)
+
+pub and_true : (a b : Bool) → a ≡ true → b ≡ true → (a && b) ≡ true
+and_true true b h k = k
+and_true false b h k = h

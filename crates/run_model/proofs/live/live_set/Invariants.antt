@@ -1,0 +1,10 @@
+use Rattle.std.proofs.Common.{◌≡◌, ◌<◌, ◌^◌, ℕ}
+use Rattle.race_log.specs.Sweep.{has_bit}
+use Rattle.run_model.specs.Stands.Harts.{hart_in}
+use Rattle.run_model.proofs.live.live_set.Given as goal
+
+abbrev pub invariant-loop-number : goal.invariant-loop-number
+invariant-loop-number l = record {
+  own : (k : ℕ) → k < l.number → has_bit l.set k ≡ (hart_in l.harts k).live;
+  below : l.set < 2 ^ l.number;
+}

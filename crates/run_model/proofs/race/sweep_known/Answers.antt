@@ -1,0 +1,15 @@
+use Rattle.std.proofs.Common.{◌∙◌}
+use Rattle.run_model.specs.Stands.Plain.{everyone}
+use Rattle.run_model.proofs.LiveSets.{and_true}
+use Rattle.run_model.proofs.race.sweep_known.Goals as goal
+
+pub returns : goal.returns
+returns c =
+    let e = c.sweep.ensures in
+    record {
+      stands = λ points. e.stands points everyone;
+      harts = e.harts;
+      turn = e.turn;
+      counts = λ k. e.times k k;
+      lasting = λ k low live was. e.lasting k ∙ and_true _ _ was (c.live_set.ensures.own k low ∙ live);
+    }
