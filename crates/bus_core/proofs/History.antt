@@ -11,6 +11,9 @@ use Rattle.log_ring.specs.Kept.{Held, Holds}
 use Rattle.race_log.specs.Noted.{NotesDecide}
 use Rattle.run_laws.specs.History.{after_rows, are_orderly}
 use Rattle.bus_core.specs.Bus.{seen, IsState, IsHistory, IsLogged, AreTold, began_of, first_run, run_after, halted_if, row}
+use Rattle.bn_base.specs.Ranges.{IsSetting}
+use Rattle.file_laws.specs.Laws.{RingsKeepTheRules}
+use Rattle.bus_core.proofs.Order.{rules_are}
 use Rattle.bus_core.proofs.Rows.{after_snoc, lawful_snoc, orderly_snoc, not_both, live_as, none_alive}
 
 -- what one ask that was served says of the machine before and after it
@@ -97,9 +100,11 @@ run_is decide p h d told run is = record {
 }
 
 -- rows that led to what is kept, and its ring
-pub logged_is : (p : PlainParts) (h d : Bool) (told rows : List TurnRow) (ring : Held) → ring ≡ p.trace.log.ring → IsHistory p h d rows → IsLogged (seen p h d told) ring rows
-logged_is p h d told rows ring e is = record {
-  told = is.told;
-  state = state_is p h d told (run_after (began_of p.start) h rows) is.run;
-  log = subst (λ (r : Held). Holds r (run_after (began_of p.start) h rows).stream) (sym e) is.run.trace.log.holds;
-}
+pub logged_is : RingsKeepTheRules → (p : PlainParts) (h d : Bool) (told rows : List TurnRow) (ring : Held) → IsSetting p.start.settings → ring.size ≡ p.start.settings.log_size → ring ≡ p.trace.log.ring → IsHistory p h d rows → IsLogged (seen p h d told) ring rows
+logged_is law p h d told rows ring setting size e is =
+    let log : Holds ring (run_after (began_of p.start) h rows).stream = subst (λ (r : Held). Holds r (run_after (began_of p.start) h rows).stream) (sym e) is.run.trace.log.holds in record {
+      told = is.told;
+      state = state_is p h d told (run_after (began_of p.start) h rows) is.run;
+      log = log;
+      rules = rules_are law (began_of p.start) h d rows ring setting is.told log size;
+    }

@@ -38,7 +38,7 @@ first_mark n h f within = mark_at 0 n h f within ∙ ap (λ (x : ℕ). Some (f x
     same h = omega arith
 
 -- a halt leaves the records and the marks
-halted_stream : (b : Bool) (run : Run) → (halted_if b run).stream ≡ run.stream
+pub halted_stream : (b : Bool) (run : Run) → (halted_if b run).stream ≡ run.stream
 halted_stream true run = refl
 halted_stream false run = refl
 

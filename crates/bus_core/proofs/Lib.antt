@@ -3,3 +3,4 @@ pub mod Marks
 pub mod Rows
 pub mod History
 pub mod LastMarks
+pub mod Order

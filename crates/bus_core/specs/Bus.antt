@@ -22,6 +22,7 @@ use Rattle.run_model.specs.Stands.Harts.{AreHarts, alive}
 use Rattle.run_model.specs.Turn.{Run, halted, serve}
 use Rattle.run_model.specs.Runs.{start}
 use Rattle.run_laws.specs.History.{after_rows, are_orderly, IsLawful}
+use Rattle.file_laws.specs.Recorded.{counts_of, KeepsRules}
 
 -- what a run begins with
 pub record Began : Type 0 where
@@ -128,11 +129,13 @@ pub record IsTold (s : Seen) : Type 0 where
   pub told : AreTold s.began s.disordered s.rows
   pub state : IsState s (run_after s.began s.halted s.rows)
 
--- and of those that a book doesn't tell, with a ring that holds the log
+-- and of those that a book doesn't tell, with a ring that holds the log: its records keep the rules of single records, and
+-- each of their Edges comes from an instruction that its source has done
 pub record IsLogged (s : Seen) (ring : Held) (rows : List TurnRow) : Type 0 where
   pub told : AreTold s.began s.disordered rows
   pub state : IsState s (run_after s.began s.halted rows)
   pub log : Holds ring (run_after s.began s.halted rows).stream
+  pub rules : KeepsRules s.began.settings (counts_of (run_after s.began s.halted rows)) ring.dropped ring.records
 
 abbrev pub live_in : Seen → ℕ → Bool
 live_in s k = alive (slice_get s.harts k)

@@ -1,8 +1,9 @@
 // What a bus does.
-ghost use Rattle.std.specs.Prelude.{◌≡◌, ◌<◌, ◌+◌, ◌∷◌, ◌++◌, [], ℕ, Bool, true, false, not, ◌&&◌, ◌||◌, List, is_some, IfOk, OnOk, OnErr, IfSome, IsTrue};
+ghost use Rattle.std.specs.Prelude.{◌≡◌, ◌<◌, ◌+◌, ◌∷◌, ◌++◌, [], ℕ, Bool, true, false, not, ◌&&◌, ◌||◌, List, None, is_some, IfOk, OnOk, OnErr, IfSome, IsTrue};
 ghost use Rattle.std.specs.List.{AllByRecursion};
 ghost use Rattle.rv_meaning.specs.Orderly.{is_reply_to};
 ghost use Rattle.log_record.specs.Spelling.{Fits};
+ghost use Rattle.log_order.specs.Order.{broken_by};
 ghost use Rattle.log_ring.specs.Kept.{Holds};
 ghost use Rattle.run_model.specs.Stands.Harts.{hart_in};
 ghost use Rattle.run_model.specs.Runs.{is_live, is_over, most_turns};
@@ -17,6 +18,7 @@ use crate::ends::{Ends, any_live, is_finished};
 use crate::turn::take;
 use bn_base::{HartId, HartState};
 use bn_outside::{Book, TurnRow};
+use file_laws::{logs_of_rows_are_contents, rings_keep_their_rules};
 use log_ring::laws::a_suffix_is_kept;
 use race_log::notes_decide;
 use run_laws::{kept_ends_are_marks, replies_fit};
@@ -130,8 +132,9 @@ impl<B: Book> Bus<B> {
     }
 
     /// Hands over the ring, the streams, the book, each hart's last mark and the number of turns. The ring
-    /// holds the log of the run, whatever the book tells: a hart that has an End among the kept records has
-    /// the mark of its last one. It takes no memory.
+    /// holds the log of the run, whatever the book tells: its records keep the rules of single records, and
+    /// all rules of their order once the run is finished; a hart that has an End among them has the mark of
+    /// its last one. It takes no memory.
     pub fn close(self) -> Closed<B>
         ensures told { B.tells ≡ true → IsLogged self result.ring self.rows }
         ensures some { (rows : List TurnRow) × IsLogged self result.ring rows }
@@ -143,11 +146,14 @@ impl<B: Book> Bus<B> {
         ensures turns { result.turns ≡ self.turns }
         ensures finished { (run : Run) → IsState self run → result.finished ≡ (not self.halted && not self.disordered && is_over self.began.settings run) }
         ensures book { B.told result.book ≡ self.rows }
+        ensures order { result.finished ≡ true → broken_by self.began.settings result.ring.dropped result.ring.records ≡ None }
         ensures last_marks { AreLastMarks result.ring.records result.ends.items }
         ensures fit { AllByRecursion (Fits 2) result.ring.records }
     {
         a_suffix_is_kept();
         kept_ends_are_marks();
+        rings_keep_their_rules();
+        logs_of_rows_are_contents();
         let Bus {
             plain,
             ends,
@@ -155,6 +161,7 @@ impl<B: Book> Bus<B> {
             halted,
             disordered,
         } = self;
+        let _settings = plain.start().settings.raw();
         let recorded = plain.into_recorded();
         let live = any_live(&recorded.harts);
         let _kept = recorded.ring.pieces();

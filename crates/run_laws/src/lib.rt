@@ -6,7 +6,10 @@ ghost use Rattle.run_laws.specs.Laws.{TurnsAreLawful, TurnsAreOwn, RunsEnd, OwnA
 
 mod examples;
 
-pub use examples::{a_relay_goes_on_over_intervals, a_seeded_list_ends, seed_0_begins_with_hart_1};
+pub use examples::{
+    a_relay_goes_on_over_intervals, a_seeded_list_ends, seed_0_begins_with_hart_1,
+    the_latest_end_is_the_last,
+};
 use log_ring::laws::a_suffix_is_kept;
 use run_model::{each_turn_fits, each_turn_moves_on, guarded_asks_fit, others_stay_fit};
 use rv_meaning::each_ask_is_orderly;

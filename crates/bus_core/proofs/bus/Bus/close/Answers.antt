@@ -1,7 +1,9 @@
-use Rattle.std.proofs.Common.{Bool, not, ◌&&◌, length, subst, sym, ◌∙◌, ap, map}
+use Rattle.std.proofs.Common.{◌≡◌, Bool, not, ◌&&◌, None, length, subst, sym, ◌∙◌, ap, map}
 use Rattle.std.specs.Prelude.{Vec}
 use Rattle.std.specs.Global.{Global}
+use Rattle.bn_base.specs.Ranges.{IsSetting}
 use Rattle.run_model.specs.declared.hart.Hart.{Hart}
+use Rattle.run_model.specs.declared.start.Start.{Start}
 use Rattle.run_model.specs.Runs.{any_live, is_over}
 use Rattle.run_model.specs.Stands.Harts.{hart_in}
 use Rattle.run_model.specs.Stands.Turning.{parts}
@@ -9,7 +11,9 @@ use Rattle.log_ring.specs.Kept.{Held, Holds}
 use Rattle.bus_core.specs.Bus.{Seen, seen, marks, began_of, run_after, IsState, IsLogged}
 use Rattle.bus_core.proofs.History.{logged_is}
 use Rattle.bus_core.proofs.Marks.{marks_are, live_is, over_is}
+use Rattle.log_order.specs.Order.{broken_by}
 use Rattle.bus_core.proofs.LastMarks.{last_marks_are}
+use Rattle.bus_core.proofs.Order.{order_is}
 use Rattle.bus_core.proofs.bus.Bus.close.Goals as goal
 
 pub returns-clause-ends : goal.returns-clause-ends
@@ -35,7 +39,7 @@ returns-clause-told g c tells =
     let b = c.self.inside in
     let p = parts b.plain in let told = g.B.Book.told b.book in
     let ring = c.into_recorded-recorded.result.ring in
-    subst (λ (s : Seen). IsLogged s ring s.rows) c.self.view_is (logged_is p b.halted b.disordered told told ring c.into_recorded-recorded.ensures.ring (c.self.invariant.told tells))
+    subst (λ (s : Seen). IsLogged s ring s.rows) c.self.view_is (logged_is c.rings_keep_their_rules.ensures p b.halted b.disordered told told ring (subst (λ (t : Start). IsSetting t.settings) c.start.ensures c.raw-settings.ensures.in_range) c.into_recorded-recorded.ensures.size c.into_recorded-recorded.ensures.ring (c.self.invariant.told tells))
 
 pub returns-clause-some : goal.returns-clause-some
 returns-clause-some g c =
@@ -43,7 +47,7 @@ returns-clause-some g c =
     let p = parts b.plain in let told = g.B.Book.told b.book in
     let ring = c.into_recorded-recorded.result.ring in
     let some = c.self.invariant.some in
-    (some.0, subst (λ (s : Seen). IsLogged s ring some.0) c.self.view_is (logged_is p b.halted b.disordered told some.0 ring c.into_recorded-recorded.ensures.ring some.1))
+    (some.0, subst (λ (s : Seen). IsLogged s ring some.0) c.self.view_is (logged_is c.rings_keep_their_rules.ensures p b.halted b.disordered told some.0 ring (subst (λ (t : Start). IsSetting t.settings) c.start.ensures c.raw-settings.ensures.in_range) c.into_recorded-recorded.ensures.size c.into_recorded-recorded.ensures.ring some.1))
 
 pub returns-clause-last_marks : goal.returns-clause-last_marks
 returns-clause-last_marks g c =
@@ -57,3 +61,19 @@ returns-clause-last_marks g c =
     let ends = c.of.ensures ∙ ap (λ (v : Vec Hart Global). map (λ (h : Hart). h.mark) v.items) c.into_recorded-recorded.ensures.harts
     ∙ marks_are p.trace.harts.items run.harts s.settings.harts some.1.run.trace.harts b.plain.fits.harts in
     last_marks_are c.a_suffix_is_kept.ensures c.kept_ends_are_marks.ensures (began_of s) b.halted some.0 ring c.of.result.items log ends
+
+pub returns-clause-order : goal.returns-clause-order
+returns-clause-order g c = λ whole.
+    let b = c.self.inside in
+    let p = parts b.plain in let told = g.B.Book.told b.book in
+    let some = c.self.invariant.some in
+    let ring = c.into_recorded-recorded.result.ring in
+    let setting = subst (λ (t : Start). IsSetting t.settings) c.start.ensures c.raw-settings.ensures.in_range in
+    let size = c.into_recorded-recorded.ensures.size in
+    let run = run_after (began_of p.start) b.halted some.0 in
+    let logged = logged_is c.rings_keep_their_rules.ensures p b.halted b.disordered told some.0 ring setting size c.into_recorded-recorded.ensures.ring some.1 in
+    let live = c.any_live-live.ensures ∙ ap (λ (v : Vec Hart Global). any_live (length v.items) (hart_in v.items)) c.into_recorded-recorded.ensures.harts
+    ∙ live_is p.trace.harts.items run.harts p.start.settings.harts some.1.run.trace.harts b.plain.fits.harts in
+    let ended = sym (c.is_finished.ensures ∙ ap (λ (x : Bool). not b.halted && not b.disordered && not x) live ∙ ap (λ (x : Bool). not b.halted && not b.disordered && x) (over_is (any_live p.start.settings.harts run.harts))) ∙ whole in
+    subst (λ (s : Seen). broken_by s.began.settings ring.dropped ring.records ≡ None) c.self.view_is
+    (order_is c.logs_of_rows_are_contents.ensures (seen p b.halted b.disordered told) some.0 ring setting logged size c.pieces-kept.ensures.fit ended)
