@@ -72,6 +72,10 @@ Allowed r records order w = IsAllowed r.program r.settings.harts records order w
 abbrev pub OfBeginnings : (Recording → List Record → Walk → Type 0) → Type 0
 OfBeginnings Holds = (r : Recording) (records : List Record) (order : List ℕ) (w : Walk) → IsLogOf r records → Begun r records order w → Holds r records w
 
+-- it holds of each whole order that any log of any recording allows
+abbrev pub OfWholeOrders : (Recording → List Record → Walk → Type 0) → Type 0
+OfWholeOrders Holds = (r : Recording) (records : List Record) (order : List ℕ) (w : Walk) → IsLogOf r records → Allowed r records order w → Holds r records w
+
 -- an instruction of a retained interval
 abbrev pub IsRetained : Recording → List Record → Point → Type 0
 IsRetained r records p = IsToDo (begin r records) p.hart p.count

@@ -2,7 +2,7 @@
 //! allows says of the recorded run. These functions do nothing: their contracts are theorems.
 #![tactic(auto)]
 
-ghost use Rattle.joint_laws.specs.Recordings.{OfBeginnings};
+ghost use Rattle.joint_laws.specs.Recordings.{OfBeginnings, OfWholeOrders};
 ghost use Rattle.joint_laws.specs.Laws.{OwnLogsAreLogs, BeginsSound, KeepsOrder, StandsInOrder, GoesOn, IsNotRefused, HasFirstRows, HasRows, HasStates, HasMemory, HasWordsOnce};
 ghost use Rattle.joint_laws.specs.Laws.{RunsToTheEnd, JointReplaysSayTheRun, JointFilesSayTheRun};
 ghost use Rattle.joint_laws.specs.Chains.{ChainsLead};
@@ -64,7 +64,7 @@ pub fn fills_are_filled()
 /// them are done, each once.
 pub fn the_race_order_is_kept()
     ensures begun { OfBeginnings KeepsOrder }
-    ensures whole { StandsInOrder }
+    ensures whole { OfWholeOrders StandsInOrder }
 {
     steps_pass_their_points();
     soundness_stays();
@@ -106,7 +106,7 @@ pub fn recordings_run_to_the_end()
 /// whole allowed order.
 pub fn the_rows_are_recorded()
     ensures first { OfBeginnings HasFirstRows }
-    ensures all { HasRows }
+    ensures all { OfWholeOrders HasRows }
 {
     ends_suffice();
     interval_rows_are_of_turns();
