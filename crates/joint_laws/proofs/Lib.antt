@@ -15,3 +15,4 @@ pub mod States
 pub mod Said
 pub mod Worked
 pub mod Stands
+pub mod Shown

@@ -10,15 +10,16 @@ use Rattle.log_file.specs.Layout.{file_bytes}
 use Rattle.race_log.specs.Netzer.{AtPlaces}
 use Rattle.race_log.specs.Points.{Point, MeetAt, Touches, Writes}
 use Rattle.run_model.specs.Files.{file_of}
-use Rattle.row_laws.specs.States.{IsRowOfTurn}
+use Rattle.row_laws.specs.States.{IsRowOfTurn, state_after}
 use Rattle.joint_replay.specs.declared.kinds.Readiness.TheVariants.{Ready}
 use Rattle.joint_replay.specs.declared.kinds.Next.TheVariants.{NoneReady}
+use Rattle.joint_replay.specs.Calls.{state_at}
 use Rattle.joint_replay.specs.Chains.{Did, IsToDo}
 use Rattle.joint_replay.specs.Joining.{Joining, Taken, Walk, Ran, fresh, readiness, choice, next_step, run_all}
 use Rattle.joint_replay.specs.Lanes.{Item, Doing}
 use Rattle.joint_replay.specs.Memory.{word_in}
 use Rattle.joint_replay.specs.Sound.{IsSound}
-use Rattle.joint_laws.specs.Recordings.{Recording, IsRecorded, IsLogOf, IsRetained, Allowed, begin, kept, points_of, retained_rows, memory_right_after}
+use Rattle.joint_laws.specs.Recordings.{Recording, IsRecorded, IsLogOf, IsRetained, Allowed, begin, kept, points_of, rows_of_hart, first_state, retained_rows, memory_right_after}
 use Rattle.joint_laws.specs.Steps.{DidPoint, DidBefore, IsLastTold, rows_done}
 
 -- The recording's own log is a log of it
@@ -54,6 +55,17 @@ HasFirstRows r records w = (h : ℕ) → h < r.settings.harts → (rest : List R
 abbrev pub HasStates : Recording → List Record → Walk → Type 0
 HasStates r records w = (x : ℕ) (t : Taken) (before : HartState) (row : Row) → slice_get w.taken x ≡ Some t → t.item ≡ Doing before row
     → IsRowOfTurn r.settings r.program r.input r.turns t.hart before row
+
+-- a state that hart h had in the run: that after some of its rows
+pub record IsStateOfRun (r : Recording) (h : ℕ) (s : HartState) : Type 0 where
+  pub front : List Row
+  pub back : List Row
+  pub rows : rows_of_hart r h ≡ front ++ back
+  pub state : s ≡ state_after r.program (first_state r h) front
+
+-- The state that is shown of a hart is one that it had in the run
+abbrev pub HasShownStates : Recording → List Record → Walk → Type 0
+HasShownStates r records w = (h : ℕ) (s : HartState) → state_at w.now h ≡ Some s → IsStateOfRun r h s
 
 -- a word that the joint memory has is the recorded word right after the latest row that stored or loaded it, and no retained
 -- write of it that was done came later in the run than that row
