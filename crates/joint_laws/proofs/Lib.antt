@@ -16,3 +16,4 @@ pub mod Said
 pub mod Worked
 pub mod Stands
 pub mod Shown
+pub mod Reached

@@ -13,7 +13,7 @@ use Rattle.run_model.specs.Files.{file_of}
 use Rattle.row_laws.specs.States.{IsRowOfTurn, state_after}
 use Rattle.joint_replay.specs.declared.kinds.Readiness.TheVariants.{Ready}
 use Rattle.joint_replay.specs.declared.kinds.Next.TheVariants.{NoneReady}
-use Rattle.joint_replay.specs.Calls.{state_at}
+use Rattle.joint_replay.specs.Calls.{state_at, IsReached}
 use Rattle.joint_replay.specs.Chains.{Did, IsToDo}
 use Rattle.joint_replay.specs.Joining.{Joining, Taken, Walk, Ran, fresh, readiness, choice, next_step, run_all}
 use Rattle.joint_replay.specs.Lanes.{Item, Doing}
@@ -146,3 +146,17 @@ pub record IsFileOf (r : Recording) (d : Content) : Type 0 where
 -- So does that of what the recording's file says
 abbrev pub JointFilesSayTheRun : Type 0
 JointFilesSayTheRun = (r : Recording) (d : Content) → IsRecorded r → IsFileOf r d → SaysTheRun r d.records (run_all (fresh r.program d.head.settings.harts d.records))
+
+-- ---- of a joint replay at any time
+
+-- where a joint replay of a log of the recording stands after a walk: this keeps the recorded order, and its rows are the first
+-- recorded ones; the states that the joint replay shows are the run's, and its known words the recorded ones
+pub record SaysSoFar (r : Recording) (j : Joining) (w : Walk) : Type 0 where
+  pub keeps : KeepsOrder r j.records w
+  pub rows : HasFirstRows r j.records w
+  pub states : (h : ℕ) (s : HartState) → state_at j h ≡ Some s → IsStateOfRun r h s
+  pub words : (a word : ℕ) → word_in j.memory a ≡ Some word → IsRecordedWord r w a word
+
+-- So it is with each joint replay that an allowed order led to, also where memory was wanting since
+abbrev pub ReachedSayTheRun : Type 0
+ReachedSayTheRun = (r : Recording) (j : Joining) → IsLogOf r j.records → j.program ≡ r.program → (reached : IsReached r.settings.harts j) → SaysSoFar r j reached.walk

@@ -4,7 +4,7 @@
 
 ghost use Rattle.joint_laws.specs.Recordings.{OfBeginnings, OfWholeOrders};
 ghost use Rattle.joint_laws.specs.Laws.{OwnLogsAreLogs, BeginsSound, KeepsOrder, StandsInOrder, GoesOn, IsNotRefused, HasFirstRows, HasRows, HasStates, HasShownStates, HasMemory, HasWordsOnce};
-ghost use Rattle.joint_laws.specs.Laws.{RunsToTheEnd, JointReplaysSayTheRun, JointFilesSayTheRun};
+ghost use Rattle.joint_laws.specs.Laws.{RunsToTheEnd, JointReplaysSayTheRun, JointFilesSayTheRun, ReachedSayTheRun};
 ghost use Rattle.joint_laws.specs.Chains.{ChainsLead};
 ghost use Rattle.joint_laws.specs.Filled.{FillsAreFilled};
 
@@ -172,4 +172,15 @@ pub fn files_say_the_run_jointly()
     joint_replays_say_the_run();
     own_logs_are_logs();
     files_say_the_run();
+}
+
+/// So it is at any time with each joint replay that an allowed order led to, as its type says of it
+/// (`joint_replay`'s `Joint::reached`): the states and the words that it shows are the run's.
+pub fn reached_joint_replays_say_the_run()
+    ensures { ReachedSayTheRun }
+{
+    the_race_order_is_kept();
+    the_rows_are_recorded();
+    the_states_are_recorded();
+    the_memory_is_recorded();
 }
