@@ -66,4 +66,4 @@ module _ (records : List Record) (points : List Point) (order : IsInOrder points
   along (more {m = m} {k = k} {n = n} before step) p q e f = let r = point_at k n step in lead_more (along before p r.0 e r.1) (step_to k n step r.0 q r.1 f)
 
 pub chains_lead : ChainsLead
-chains_lead records points order m n chain p q e f = along records points order chain p q e f
+chains_lead records points m n p q order chain e f = along records points order chain p q e f

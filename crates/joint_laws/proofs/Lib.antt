@@ -15,3 +15,5 @@ pub mod States
 pub mod Said
 pub mod Worked
 pub mod Stands
+pub mod Shown
+pub mod Reached

@@ -50,8 +50,8 @@ keeps_order starts chains in_order conflicts since leads r records order w log b
     since records (points_of r) p.hart f.0 f.1 f.2 m p c.first_at refl f.3) in
     let chain : Leads records p.hart p.count q.hart q.count = elim (eqb_tells p.hart q.hart) [
       | inl same ↦ lead_one (inl (same.1, pair_at (λ a b. a.hart ≡ b.hart → a.count < b.count) (points_of r) m n p q points_in_order.counts c.earlier c.first_at c.second_at same.1))
-      | inr apart ↦ leads records (points_of r) points_in_order m n
+      | inr apart ↦ leads records (points_of r) m n p q points_in_order
           (conflicts r.settings r.program r.input r.turns setting log.recording.legal records log.end m n is_since (record { earlier = c.earlier; first = p; second = q; first_at = c.first_at; second_at = c.second_at; related = record { apart = apart.1; word = word; meet = c.related } }))
-          p q c.first_at c.second_at
+          c.first_at c.second_at
     ] in
     chains r.program r.settings.harts records order w sound b y q.hart q.count did p.hart p.count chain retained

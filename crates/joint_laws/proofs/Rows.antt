@@ -11,7 +11,7 @@ use Rattle.joint_replay.specs.declared.kinds.Next.TheVariants.{Hart, AllDone, No
 use Rattle.joint_replay.specs.Points.{sources_into}
 use Rattle.joint_replay.specs.Lanes.{Course, Lane, has_row, coming_of, point_of}
 use Rattle.joint_replay.specs.Joining.{readiness_of, waits_for, first_waited, choice_from}
-use Rattle.joint_laws.specs.Recordings.{OfBeginnings}
+use Rattle.joint_laws.specs.Recordings.{OfWholeOrders, OfBeginnings}
 use Rattle.joint_laws.specs.Laws.{HasFirstRows, HasRows}
 use Rattle.joint_laws.specs.Steps.{rows_done}
 use Rattle.joint_laws.proofs.Lists.{some_is}
@@ -69,7 +69,7 @@ module _ (records : List Record) (lanes : List Lane) where
       by is.Done o f rest zero g = subst (λ (x : Lane). coming_of x ≡ None) (some_is l lane (Some l) refl g) (is_done h l (coming_of l) (point_of l) o)
       by is.Done o f rest (suc k) g = rest f k lane g
 
-pub has_rows : OfBeginnings IsFollowed → HasRows
+pub has_rows : OfBeginnings IsFollowed → OfWholeOrders HasRows
 has_rows follow r records order w log a h low =
     let f : IsFollowed r records w = follow r records order w log a.begun in
     let l = f.there h low in

@@ -5,10 +5,10 @@ use Rattle.log_order.specs.Content.{Content}
 use Rattle.run_model.specs.Files.{content_of}
 use Rattle.file_laws.specs.Laws.{FilesSayTheRun}
 use Rattle.joint_replay.specs.Joining.{run_all, fresh}
-use Rattle.joint_laws.specs.Recordings.{OfBeginnings, begin, kept, recorded}
+use Rattle.joint_laws.specs.Recordings.{OfWholeOrders, OfBeginnings, begin, kept, recorded}
 use Rattle.joint_laws.specs.Laws.{OwnLogsAreLogs, StandsInOrder, HasStates, HasMemory, HasWordsOnce, HasRows, RunsToTheEnd, SaysTheRun, JointReplaysSayTheRun, JointFilesSayTheRun}
 
-pub say_the_run : RunsToTheEnd → StandsInOrder → OfBeginnings HasStates → OfBeginnings HasMemory → OfBeginnings HasWordsOnce → HasRows → JointReplaysSayTheRun
+pub say_the_run : RunsToTheEnd → OfWholeOrders StandsInOrder → OfBeginnings HasStates → OfBeginnings HasMemory → OfBeginnings HasWordsOnce → OfWholeOrders HasRows → JointReplaysSayTheRun
 say_the_run runs keeps states memory once rows r records log =
     let x = runs r records log in
     let w = (run_all (begin r records)).walk in
@@ -25,6 +25,6 @@ say_the_run runs keeps states memory once rows r records log =
     }
 
 pub files_say_the_run : JointReplaysSayTheRun → OwnLogsAreLogs → FilesSayTheRun → JointFilesSayTheRun
-files_say_the_run joint own files r is d content same =
-    let it : d ≡ content_of r.settings (sha256 r.elf) (recorded r) = files r.settings r.program r.elf r.input r.turns is d content same in
+files_say_the_run joint own files r d is file =
+    let it : d ≡ content_of r.settings (sha256 r.elf) (recorded r) = files r.settings r.program r.elf r.input r.turns is d file.content file.bytes in
     subst (λ (c : Content). SaysTheRun r c.records (run_all (fresh r.program c.head.settings.harts c.records))) (sym it) (joint r (kept r) (own r is))

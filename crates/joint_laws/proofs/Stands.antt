@@ -7,7 +7,7 @@ use Rattle.joint_replay.specs.Lanes.{Lane}
 use Rattle.joint_replay.specs.Laws.{StepsPass, SoundnessStays}
 use Rattle.joint_replay.specs.Ways.{InCourses}
 use Rattle.joint_laws.specs.Laws.{BeginsSound, KeepsOrder, StandsInOrder}
-use Rattle.joint_laws.specs.Recordings.{Recording, Allowed, OfBeginnings, begin}
+use Rattle.joint_laws.specs.Recordings.{Recording, Allowed, OfWholeOrders, OfBeginnings, begin}
 use Rattle.joint_laws.proofs.Once.{IsDoneOnce, done_once}
 use Rattle.joint_laws.proofs.Rows.{all_done, nothing_comes}
 
@@ -23,7 +23,7 @@ none_left r records order w a h k t = by (slice_get w.now.lanes h) (λ lane at. 
 was_done : (r : Recording) (records : List Record) (order : List ℕ) (w : Walk) → Allowed r records order w → IsDoneOnce (begin r records) w → (h k : ℕ) → IsToDo (begin r records) h k → (x : ℕ) × Did w.taken x h k
 was_done r records order w a once h k t = elim (once.left h k t) [ inl d ↦ d | inr l ↦ absurd (none_left r records order w a h k l) ]
 
-pub stands_in_order : StepsPass → SoundnessStays → BeginsSound → OfBeginnings KeepsOrder → StandsInOrder
+pub stands_in_order : StepsPass → SoundnessStays → BeginsSound → OfBeginnings KeepsOrder → OfWholeOrders StandsInOrder
 stands_in_order pass stay starts keeps r records order w log a = record {
   done = λ h k t. was_done r records order w a once h k t;
   once = once.once;

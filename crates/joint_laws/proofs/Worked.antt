@@ -1,5 +1,5 @@
 -- The examples, by computation.
-use Rattle.std.proofs.Common.{◌≡◌, [], ◌∷◌, Some, replicate, refl}
+use Rattle.std.proofs.Common.{length, ◌≡◌, [], ◌∷◌, Some, replicate, refl}
 use Rattle.le_numbers.specs.Numbers.{number_bytes}
 use Rattle.race_log.specs.Tests.{at_places, leads, any_below, before, edge, greatest_first, edges_into}
 use Rattle.run_model.specs.Examples.{is_whole}
@@ -18,6 +18,13 @@ pub relay_words : words_after late_relay relay_orders ≡ replicate 18 (Some ((0
 unfolding serve at_places leads any_below before edge greatest_first edges_into number_bytes
 relay_words = refl
 
+pub relay_others : allowed_of late_relay (merges 7 (2 ∷ 3 ∷ 2 ∷ [])) ≡ relay_orders
+unfolding serve at_places leads any_below before edge greatest_first edges_into number_bytes
+relay_others = refl
+
+pub relay_merges : length (merges 7 (2 ∷ 3 ∷ 2 ∷ [])) ≡ 210
+relay_merges = refl
+
 pub store_whole : is_whole a_spoiled_store
 unfolding serve at_places leads any_below before edge greatest_first edges_into number_bytes
 store_whole = (refl, refl)
@@ -26,7 +33,7 @@ pub store_is : orders_from 6 late_store ≡ store_orders
 unfolding serve at_places leads any_below before edge greatest_first edges_into number_bytes
 store_is = refl
 
-pub store_others : allowed_of late_store (merges 3 3) ≡ store_orders
+pub store_others : allowed_of late_store (merges 6 (3 ∷ 3 ∷ [])) ≡ store_orders
 unfolding serve at_places leads any_below before edge greatest_first edges_into number_bytes
 store_others = refl
 

@@ -7,6 +7,10 @@ use Rattle.race_log.specs.ByCount.{IsInOrder}
 use Rattle.race_laws.specs.Since.{KeptEdge}
 use Rattle.joint_replay.specs.Chains.{Leads}
 
+-- a chain of program order and kept Edges over places
+abbrev pub KeptChain : List Record → List Point → ℕ → ℕ → Type 0
+KeptChain records points = Chain (Either (ProgramOrder points) (KeptEdge records points))
+
 abbrev pub ChainsLead : Type 0
-ChainsLead = (records : List Record) (points : List Point) → IsInOrder points → (m n : ℕ) → Chain (Either (ProgramOrder points) (KeptEdge records points)) m n
-    → (p q : Point) → slice_get points m ≡ Some p → slice_get points n ≡ Some q → Leads records p.hart p.count q.hart q.count
+ChainsLead = (records : List Record) (points : List Point) (m n : ℕ) (p q : Point) → IsInOrder points → KeptChain records points m n
+    → slice_get points m ≡ Some p → slice_get points n ≡ Some q → Leads records p.hart p.count q.hart q.count

@@ -1,5 +1,5 @@
 -- The orders of small recordings.
-use Rattle.std.specs.Prelude.{ℕ, zero, suc, List, [], ◌∷◌, ◌++◌, drop, filter, is_some, length, map, Option, Some, None}
+use Rattle.std.specs.Prelude.{ℕ, true, false, zero, suc, ◌-◌, ◌==◌, slice_index, slice_set, List, [], ◌∷◌, drop, filter, is_some, length, map, Option, Some, None}
 use Rattle.std.specs.List.{flat_map, range_with_len}
 use Rattle.bn_base.specs.Ranges.{default_settings}
 use Rattle.run_model.specs.Examples.{Recording, a_relay, program_of, recorded}
@@ -12,12 +12,10 @@ abbrev pub orders_from : ℕ → Joining → List (List ℕ)
 orders_from zero j = elim (choice j) [ AllDone ↦ [] ∷ [] | NoneReady ↦ [] | Hart h ↦ [] ]
 orders_from (suc n) j = flat_map (λ h. elim (ready_step j h) [ None ↦ [] | Some x ↦ map (λ order. h ∷ order) (orders_from n x.1) ]) (range_with_len 0 (length j.lanes))
 
--- the orders of so many steps of hart 0 and so many of hart 1, allowed or not
-abbrev pub merges : ℕ → ℕ → List (List ℕ)
-merges zero zero = [] ∷ []
-merges zero (suc n) = map (λ order. 1 ∷ order) (merges zero n)
-merges (suc m) zero = map (λ order. 0 ∷ order) (merges m zero)
-merges (suc m) (suc n) = map (λ order. 0 ∷ order) (merges m (suc n)) ++ map (λ order. 1 ∷ order) (merges (suc m) n)
+-- the orders of n steps in all, of which each hart has so many left, allowed or not
+abbrev pub merges : (n : ℕ) → (left : List ℕ) → List (List ℕ)
+merges zero left = [] ∷ []
+merges (suc n) left = flat_map (λ h. elim (slice_index left h == 0) [ true ↦ [] | false ↦ map (λ order. h ∷ order) (merges n (slice_set left h (slice_index left h - 1))) ]) (range_with_len 0 (length left))
 
 -- those of some orders that are allowed
 abbrev pub allowed_of : Joining → List (List ℕ) → List (List ℕ)

@@ -10,16 +10,17 @@ use Rattle.log_file.specs.Layout.{file_bytes}
 use Rattle.race_log.specs.Netzer.{AtPlaces}
 use Rattle.race_log.specs.Points.{Point, MeetAt, Touches, Writes}
 use Rattle.run_model.specs.Files.{file_of}
-use Rattle.row_laws.specs.States.{IsRowOfTurn}
+use Rattle.row_laws.specs.States.{IsRowOfTurn, state_after}
 use Rattle.joint_replay.specs.declared.kinds.Readiness.TheVariants.{Ready}
 use Rattle.joint_replay.specs.declared.kinds.Next.TheVariants.{NoneReady}
+use Rattle.joint_replay.specs.Calls.{state_at, IsReached}
 use Rattle.joint_replay.specs.Chains.{Did, IsToDo}
 use Rattle.joint_replay.specs.Joining.{Joining, Taken, Walk, Ran, fresh, readiness, choice, next_step, run_all}
 use Rattle.joint_replay.specs.Lanes.{Item, Doing}
 use Rattle.joint_replay.specs.Memory.{word_in}
 use Rattle.joint_replay.specs.Sound.{IsSound}
-use Rattle.joint_laws.specs.Recordings.{Recording, IsRecorded, IsLogOf, IsRetained, Allowed, begin, kept, points_of, retained_rows, memory_right_after}
-use Rattle.joint_laws.specs.Steps.{DidPoint, IsLastTold, rows_done}
+use Rattle.joint_laws.specs.Recordings.{Recording, IsRecorded, IsLogOf, IsRetained, Allowed, begin, kept, points_of, rows_of_hart, first_state, retained_rows, memory_right_after}
+use Rattle.joint_laws.specs.Steps.{DidPoint, DidBefore, IsLastTold, rows_done}
 
 -- The recording's own log is a log of it
 abbrev pub OwnLogsAreLogs : Type 0
@@ -55,6 +56,17 @@ abbrev pub HasStates : Recording → List Record → Walk → Type 0
 HasStates r records w = (x : ℕ) (t : Taken) (before : HartState) (row : Row) → slice_get w.taken x ≡ Some t → t.item ≡ Doing before row
     → IsRowOfTurn r.settings r.program r.input r.turns t.hart before row
 
+-- a state that hart h had in the run: that after some of its rows
+pub record IsStateOfRun (r : Recording) (h : ℕ) (s : HartState) : Type 0 where
+  pub front : List Row
+  pub back : List Row
+  pub rows : rows_of_hart r h ≡ front ++ back
+  pub state : s ≡ state_after r.program (first_state r h) front
+
+-- The state that is shown of a hart is one that it had in the run
+abbrev pub HasShownStates : Recording → List Record → Walk → Type 0
+HasShownStates r records w = (h : ℕ) (s : HartState) → state_at w.now h ≡ Some s → IsStateOfRun r h s
+
 -- a word that the joint memory has is the recorded word right after the latest row that stored or loaded it, and no retained
 -- write of it that was done came later in the run than that row
 pub record IsRecordedWord (r : Recording) (w : Walk) (a word : ℕ) : Type 0 where
@@ -89,17 +101,15 @@ pub record IsInOrder (r : Recording) (records : List Record) (taken : List Taken
   pub done : (h k : ℕ) → IsToDo (begin r records) h k → (x : ℕ) × Did taken x h k
   pub once : (x y h k : ℕ) → Did taken x h k → Did taken y h k → x ≡ y
   pub order : (word m n : ℕ) (both : AtPlaces (MeetAt word) (points_of r) m n) → IsRetained r records both.first → IsRetained r records both.second
-      → (x : ℕ) × (y : ℕ) × DidPoint taken x both.first × DidPoint taken y both.second × (y < x)
+      → DidBefore taken both.first both.second
 
 -- Race order in whole allowed orders
-abbrev pub StandsInOrder : Type 0
-StandsInOrder = (r : Recording) (records : List Record) (order : List ℕ) (w : Walk) → IsLogOf r records → Allowed r records order w
-    → IsInOrder r records w.taken
+abbrev pub StandsInOrder : Recording → List Record → Walk → Type 0
+StandsInOrder r records w = IsInOrder r records w.taken
 
 -- In a whole allowed order each hart's rows are its retained intervals' part of the run's
-abbrev pub HasRows : Type 0
-HasRows = (r : Recording) (records : List Record) (order : List ℕ) (w : Walk) → IsLogOf r records → Allowed r records order w
-    → (h : ℕ) → h < r.settings.harts → rows_done h w.taken ≡ retained_rows r records h
+abbrev pub HasRows : Recording → List Record → Walk → Type 0
+HasRows r records w = (h : ℕ) → h < r.settings.harts → rows_done h w.taken ≡ retained_rows r records h
 
 -- a run with the lowest ready hart first goes through a whole allowed order, and isn't stopped
 pub record RanToTheEnd (r : Recording) (records : List Record) : Type 0 where
@@ -118,8 +128,8 @@ pub record SaysTheRun (r : Recording) (records : List Record) (x : Ran) : Type 0
   pub stopped : x.stopped ≡ None
   pub order : List ℕ
   pub allowed : Allowed r records order x.walk
-  pub keeps : IsInOrder r records x.walk.taken
-  pub rows : (h : ℕ) → h < r.settings.harts → rows_done h x.walk.taken ≡ retained_rows r records h
+  pub keeps : StandsInOrder r records x.walk
+  pub rows : HasRows r records x.walk
   pub states : HasStates r records x.walk
   pub ascend : AscendFrom 0 x.walk.now.memory
   pub words : (m : ℕ × ℕ) → Contains x.walk.now.memory m → IsRecordedWord r x.walk m.0 m.1
@@ -128,7 +138,25 @@ pub record SaysTheRun (r : Recording) (records : List Record) (x : Ran) : Type 0
 abbrev pub JointReplaysSayTheRun : Type 0
 JointReplaysSayTheRun = (r : Recording) (records : List Record) → IsLogOf r records → SaysTheRun r records (run_all (begin r records))
 
--- So does that of what a log says whose bytes are those of the recording's file
+-- a log says so, and its bytes are those of the recording's file
+pub record IsFileOf (r : Recording) (d : Content) : Type 0 where
+  pub content : IsContent d
+  pub bytes : file_bytes d ≡ file_of r.settings r.program (sha256 r.elf) r.input r.turns
+
+-- So does that of what the recording's file says
 abbrev pub JointFilesSayTheRun : Type 0
-JointFilesSayTheRun = (r : Recording) → IsRecorded r → (d : Content) → IsContent d → file_bytes d ≡ file_of r.settings r.program (sha256 r.elf) r.input r.turns
-    → SaysTheRun r d.records (run_all (fresh r.program d.head.settings.harts d.records))
+JointFilesSayTheRun = (r : Recording) (d : Content) → IsRecorded r → IsFileOf r d → SaysTheRun r d.records (run_all (fresh r.program d.head.settings.harts d.records))
+
+-- ---- of a joint replay at any time
+
+-- where a joint replay of a log of the recording stands after a walk: this keeps the recorded order, and its rows are the first
+-- recorded ones; the states that the joint replay shows are the run's, and its known words the recorded ones
+pub record SaysSoFar (r : Recording) (j : Joining) (w : Walk) : Type 0 where
+  pub keeps : KeepsOrder r j.records w
+  pub rows : HasFirstRows r j.records w
+  pub states : (h : ℕ) (s : HartState) → state_at j h ≡ Some s → IsStateOfRun r h s
+  pub words : (a word : ℕ) → word_in j.memory a ≡ Some word → IsRecordedWord r w a word
+
+-- So it is with each joint replay that an allowed order led to, also where memory was wanting since
+abbrev pub ReachedSayTheRun : Type 0
+ReachedSayTheRun = (r : Recording) (j : Joining) → IsLogOf r j.records → j.program ≡ r.program → (reached : IsReached r.settings.harts j) → SaysSoFar r j reached.walk

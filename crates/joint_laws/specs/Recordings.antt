@@ -4,10 +4,11 @@ use Rattle.std.specs.List.{flat_map}
 use Rattle.bn_base.specs.Programs.{Program}
 use Rattle.bn_base.specs.declared.row.Row.{Row}
 use Rattle.bn_base.specs.declared.settings.RawSettings.{RawSettings}
+use Rattle.bn_base.specs.declared.state.HartState.{HartState}
 use Rattle.log_record.specs.declared.record.Record.{Record}
 use Rattle.race_log.specs.Points.{Point}
 use Rattle.run_model.specs.Files.{IsEndOf, kept_of}
-use Rattle.run_model.specs.Rows.{rows_in}
+use Rattle.run_model.specs.Rows.{rows_of, rows_in}
 use Rattle.run_model.specs.Runs.{start, run_of}
 use Rattle.run_model.specs.Turn.{Run}
 use Rattle.file_laws.specs.Given.{IsRecording}
@@ -32,6 +33,13 @@ recorded r = run_of r.settings r.program r.input r.turns
 
 abbrev pub points_of : Recording → List Point
 points_of r = (recorded r).points
+
+-- the rows of hart h, and its state before the first
+abbrev pub rows_of_hart : Recording → (h : ℕ) → List Row
+rows_of_hart r h = rows_of r.settings r.program (start r.settings r.program r.input) r.turns h
+
+abbrev pub first_state : Recording → (h : ℕ) → HartState
+first_state r h = ((start r.settings r.program r.input).harts h).state
 
 -- the rows of hart h in its interval n
 abbrev pub interval_rows : Recording → (h n : ℕ) → List Row
@@ -71,6 +79,10 @@ Allowed r records order w = IsAllowed r.program r.settings.harts records order w
 -- it holds of each beginning of each order that any log of any recording allows
 abbrev pub OfBeginnings : (Recording → List Record → Walk → Type 0) → Type 0
 OfBeginnings Holds = (r : Recording) (records : List Record) (order : List ℕ) (w : Walk) → IsLogOf r records → Begun r records order w → Holds r records w
+
+-- it holds of each whole order that any log of any recording allows
+abbrev pub OfWholeOrders : (Recording → List Record → Walk → Type 0) → Type 0
+OfWholeOrders Holds = (r : Recording) (records : List Record) (order : List ℕ) (w : Walk) → IsLogOf r records → Allowed r records order w → Holds r records w
 
 -- an instruction of a retained interval
 abbrev pub IsRetained : Recording → List Record → Point → Type 0

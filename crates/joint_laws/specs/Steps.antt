@@ -11,6 +11,10 @@ use Rattle.row_laws.specs.Words.{word_told}
 abbrev pub DidPoint : List Taken → ℕ → Point → Type 0
 DidPoint taken x p = Did taken x p.hart p.count
 
+-- one step did the instruction of p, and a later one that of q
+abbrev pub DidBefore : List Taken → Point → Point → Type 0
+DidBefore taken p q = (x : ℕ) × (y : ℕ) × DidPoint taken x p × DidPoint taken y q × (y < x)
+
 -- the word at the aligned address a that the row of a step stored, else loaded
 abbrev pub told_by : ℕ → Item → Option ℕ
 told_by a (Passing ic) = None

@@ -2,9 +2,9 @@
 //! allows says of the recorded run. These functions do nothing: their contracts are theorems.
 #![tactic(auto)]
 
-ghost use Rattle.joint_laws.specs.Recordings.{OfBeginnings};
-ghost use Rattle.joint_laws.specs.Laws.{OwnLogsAreLogs, BeginsSound, KeepsOrder, StandsInOrder, GoesOn, IsNotRefused, HasFirstRows, HasRows, HasStates, HasMemory, HasWordsOnce};
-ghost use Rattle.joint_laws.specs.Laws.{RunsToTheEnd, JointReplaysSayTheRun, JointFilesSayTheRun};
+ghost use Rattle.joint_laws.specs.Recordings.{OfBeginnings, OfWholeOrders};
+ghost use Rattle.joint_laws.specs.Laws.{OwnLogsAreLogs, BeginsSound, KeepsOrder, StandsInOrder, GoesOn, IsNotRefused, HasFirstRows, HasRows, HasStates, HasShownStates, HasMemory, HasWordsOnce};
+ghost use Rattle.joint_laws.specs.Laws.{RunsToTheEnd, JointReplaysSayTheRun, JointFilesSayTheRun, ReachedSayTheRun};
 ghost use Rattle.joint_laws.specs.Chains.{ChainsLead};
 ghost use Rattle.joint_laws.specs.Filled.{FillsAreFilled};
 
@@ -22,10 +22,10 @@ use race_laws::{
     kept_edges_are_edges, kept_edges_order_conflicts, points_are_in_order,
     replayed_points_are_since_headers,
 };
-use replay_laws::{ends_suffice, the_rows_of_a_hart_are_counted};
+use replay_laws::{ends_suffice, intervals_begin_in_the_run, the_rows_of_a_hart_are_counted};
 use row_laws::{
-    interval_rows_are_of_turns, parts_have_code_words, rows_that_tell_have_no_fault,
-    run_rows_tell_words, run_writers_have_rows, turn_rows_are_rows,
+    interval_rows_are_of_turns, parts_have_code_words, rows_tell_runs,
+    rows_that_tell_have_no_fault, run_rows_tell_words, run_writers_have_rows, turn_rows_are_rows,
 };
 use run_laws::kept_records_are_an_end;
 
@@ -64,7 +64,7 @@ pub fn fills_are_filled()
 /// them are done, each once.
 pub fn the_race_order_is_kept()
     ensures begun { OfBeginnings KeepsOrder }
-    ensures whole { StandsInOrder }
+    ensures whole { OfWholeOrders StandsInOrder }
 {
     steps_pass_their_points();
     soundness_stays();
@@ -106,18 +106,22 @@ pub fn recordings_run_to_the_end()
 /// whole allowed order.
 pub fn the_rows_are_recorded()
     ensures first { OfBeginnings HasFirstRows }
-    ensures all { HasRows }
+    ensures all { OfWholeOrders HasRows }
 {
     ends_suffice();
     interval_rows_are_of_turns();
 }
 
-/// Each row is done from the state that the run had before it.
+/// Each row is done from the state that the run had before it, and the state that is shown of a hart is
+/// one that it had in the run.
 pub fn the_states_are_recorded()
-    ensures { OfBeginnings HasStates }
+    ensures done { OfBeginnings HasStates }
+    ensures shown { OfBeginnings HasShownStates }
 {
     ends_suffice();
     interval_rows_are_of_turns();
+    intervals_begin_in_the_run();
+    rows_tell_runs();
 }
 
 /// The known words stand by ascending address, each once.
@@ -168,4 +172,15 @@ pub fn files_say_the_run_jointly()
     joint_replays_say_the_run();
     own_logs_are_logs();
     files_say_the_run();
+}
+
+/// So it is at any time with each joint replay that an allowed order led to, as its type says of it
+/// (`joint_replay`'s `Joint::reached`): the states and the words that it shows are the run's.
+pub fn reached_joint_replays_say_the_run()
+    ensures { ReachedSayTheRun }
+{
+    the_race_order_is_kept();
+    the_rows_are_recorded();
+    the_states_are_recorded();
+    the_memory_is_recorded();
 }

@@ -1,0 +1,37 @@
+-- Joint replays that an allowed order led to.
+use Rattle.std.proofs.Common.{◌≡◌, ℕ, zero, suc, refl, sym, ap, ◌∙◌, subst, List, [], ◌∷◌, map, slice_get, Option, Some, None}
+use Rattle.bn_base.specs.Programs.{Program}
+use Rattle.bn_base.specs.declared.state.HartState.{HartState}
+use Rattle.joint_replay.specs.Calls.{bare}
+use Rattle.joint_replay.specs.Joining.{Walk}
+use Rattle.joint_replay.specs.Lanes.{Course, Lane, state_of}
+use Rattle.joint_replay.specs.Memory.{word_in}
+use Rattle.joint_replay.specs.Orders.{IsBegun}
+use Rattle.joint_laws.specs.Recordings.{Begun, OfBeginnings}
+use Rattle.joint_laws.specs.Laws.{KeepsOrder, HasFirstRows, HasShownStates, HasMemory, ReachedSayTheRun}
+
+-- the state that is shown doesn't depend on what is left of replays
+state_bare : (points : List ℕ) (courses : List Course) → state_of (bare (record { points = points; courses = courses })) ≡ state_of (record { points = points; courses = courses })
+state_bare (p ∷ ps) courses = refl
+state_bare [] [] = refl
+state_bare [] (c ∷ cs) = refl
+
+abbrev shown : Option Lane → Option HartState
+shown o = elim o [ None ↦ None | Some lane ↦ state_of lane ]
+
+shown_bare : (ls : List Lane) (h : ℕ) → shown (slice_get (map bare ls) h) ≡ shown (slice_get ls h)
+shown_bare [] h = refl
+shown_bare (l ∷ ls) zero = state_bare l.points l.courses
+shown_bare (l ∷ ls) (suc h) = shown_bare ls h
+
+pub reached_say_the_run : OfBeginnings KeepsOrder → OfBeginnings HasFirstRows → OfBeginnings HasShownStates → OfBeginnings HasMemory → ReachedSayTheRun
+reached_say_the_run keeps rows states memory r j log same reached =
+    let w : Walk = reached.walk in
+    let begun : Begun r j.records reached.order w = subst (λ (i : Program). IsBegun i r.settings.harts j.records reached.order w) same reached.begun in
+    record {
+      keeps = keeps r j.records reached.order w log begun;
+      rows = rows r j.records reached.order w log begun;
+      states = λ h s e. states r j.records reached.order w log begun h s
+          (sym (shown_bare w.now.lanes h) ∙ (ap (λ (ls : List Lane). shown (slice_get ls h)) reached.lanes ∙ (shown_bare j.lanes h ∙ e)));
+      words = λ a word e. memory r j.records reached.order w log begun a word (ap (λ ms. word_in ms a) reached.memory ∙ e);
+    }

@@ -1,0 +1,84 @@
+-- The states that are shown of harts.
+use Rattle.std.proofs.Common.{◌≡◌, ℕ, Bool, true, false, ◌==◌, refl, sym, ap, ◌∙◌, subst, arith, List, [], ◌∷◌, ◌++◌, slice_get, Option, Some, None}
+use Rattle.std.proofs.lemmas.Bool.{false≢true}
+use Rattle.std.proofs.lemmas.List.{append_assoc}
+use Rattle.bn_base.specs.Programs.{Program}
+use Rattle.bn_base.specs.declared.row.Row.{Row}
+use Rattle.bn_base.specs.declared.settings.RawSettings.{RawSettings}
+use Rattle.bn_base.specs.declared.state.HartState.{HartState}
+use Rattle.log_record.specs.declared.record.Record.{Record}
+use Rattle.run_model.specs.Rows.{rows_of, turn_rows}
+use Rattle.run_model.specs.Runs.{start, run_of, run_from, legal_from, is_live}
+use Rattle.run_model.specs.Turn.{Run, turn}
+use Rattle.replay_laws.specs.Law.{BeginsIn, IntervalsBegin}
+use Rattle.row_laws.specs.Laws.{RowsTellRuns}
+use Rattle.row_laws.specs.States.{state_after}
+use Rattle.joint_replay.specs.Lanes.{Course, Lane, state_of}
+use Rattle.joint_laws.specs.Recordings.{Recording, IsLogOf, OfBeginnings, first_state}
+use Rattle.joint_laws.specs.Laws.{IsStateOfRun, HasShownStates}
+use Rattle.joint_laws.proofs.Lists.{some_is, not_some, after_append}
+use Rattle.joint_laws.proofs.Follows.{IsOf, AreOf, IsFollowed}
+
+-- ---- the first turns of a list
+
+at_true : (x b : Bool) → elim x as (λ y. Bool) [ true ↦ b | false ↦ false ] ≡ true → (x ≡ true) × (b ≡ true)
+at_true true b e = (refl, e)
+at_true false b e = absurd (false≢true e)
+
+legal_front : (c : RawSettings) (i : Program) (run : Run) (a b : List ℕ) → legal_from c i run (a ++ b) ≡ true → legal_from c i run a ≡ true
+legal_front c i run [] b e = refl
+legal_front c i run (k ∷ ks) b e =
+    let p = at_true (is_live c run k) (legal_from c i (turn c i run k) (ks ++ b)) e in
+    ap (λ x. elim x as (λ y. Bool) [ true ↦ legal_from c i (turn c i run k) ks | false ↦ false ]) p.0 ∙ legal_front c i (turn c i run k) ks b p.1
+
+abbrev rows_by : Bool → List Row → List Row → List Row
+rows_by x now more = elim x [ true ↦ now ++ more | false ↦ more ]
+
+rows_append : (c : RawSettings) (i : Program) (h : ℕ) (a b : List ℕ) (run : Run) → rows_of c i run (a ++ b) h ≡ rows_of c i run a h ++ rows_of c i (run_from c i run a) b h
+rows_append c i h [] b run = refl
+rows_append c i h (k ∷ ks) b run = by (k == h) (rows_append c i h ks b (turn c i run k))
+  where
+    by : (x : Bool) → rows_of c i (turn c i run k) (ks ++ b) h ≡ rows_of c i (turn c i run k) ks h ++ rows_of c i (run_from c i (turn c i run k) ks) b h
+        → rows_by x (turn_rows c i run h) (rows_of c i (turn c i run k) (ks ++ b) h) ≡ rows_by x (turn_rows c i run h) (rows_of c i (turn c i run k) ks h) ++ rows_of c i (run_from c i (turn c i run k) ks) b h
+    by true e = ap (λ x. turn_rows c i run h ++ x) e ∙ sym (append_assoc (turn_rows c i run h) (rows_of c i (turn c i run k) ks h) (rows_of c i (run_from c i (turn c i run k) ks) b h))
+    by false e = e
+
+-- ---- an interval under way
+
+module _ (begins : IntervalsBegin) (tell : RowsTellRuns) (r : Recording) (records : List Record) (log : IsLogOf r records) (h : ℕ) where
+  of_course : (c : Course) → IsOf r records h c → IsStateOfRun r h c.state
+  of_course c o =
+      let setting = log.recording.setting in
+      let low = setting.format_low in
+      let high = setting.format_high in
+      let limit = setting.limit_high in
+      let x : BeginsIn r.settings r.program r.input r.turns h c.number o.interval =
+      begins r.settings r.program r.input r.turns h c.number (omega (arith, low, high)) (omega (arith, limit)) (record { legal = log.recording.legal; over = log.recording.over }) records log.end o.interval o.found in
+      let first : Run = start r.settings r.program r.input in
+      let before : List Row = rows_of r.settings r.program first x.past h in
+      let legal : legal_from r.settings r.program first x.past ≡ true =
+      legal_front r.settings r.program first x.past x.left (ap (legal_from r.settings r.program first) (sym x.turns) ∙ log.recording.legal) in
+      let to : state_after r.program (first_state r h) before ≡ ((run_of r.settings r.program r.input x.past).harts h).state = (tell r.settings r.program r.input [] x.past h setting legal).1 in
+      record {
+        front = before ++ o.past;
+        back = c.left.rows ++ x.more;
+        rows = ap (λ ks. rows_of r.settings r.program first ks h) x.turns
+            ∙ (rows_append r.settings r.program h x.past x.left first
+            ∙ (ap (λ rows. before ++ rows) (x.rows ∙ (ap (λ rows. rows ++ x.more) o.rows ∙ append_assoc o.past c.left.rows x.more))
+            ∙ sym (append_assoc before o.past (c.left.rows ++ x.more))));
+        state = o.state ∙ (ap (λ (s : HartState). state_after r.program s o.past) (x.state ∙ sym to) ∙ sym (after_append r.program (first_state r h) before o.past));
+      }
+
+  of_lane : (s : HartState) (points : List ℕ) (courses : List Course) → AreOf r records h courses → state_of (record { points = points; courses = courses }) ≡ Some s → IsStateOfRun r h s
+  of_lane s (p ∷ ps) courses all e = absurd (not_some s e)
+  of_lane s [] [] all e = absurd (not_some s e)
+  of_lane s [] (c ∷ cs) all e = subst (IsStateOfRun r h) (some_is c.state s (Some c.state) refl e) (of_course c all.0)
+
+  of_hart : (s : HartState) (o : Option Lane) → ((lane : Lane) → o ≡ Some lane → AreOf r records h lane.courses) → elim o as (λ x. Option HartState) [ None ↦ None | Some lane ↦ state_of lane ] ≡ Some s → IsStateOfRun r h s
+  of_hart s None all e = absurd (not_some s e)
+  of_hart s (Some lane) all e = of_lane s lane.points lane.courses (all lane refl) e
+
+pub has_shown_states : IntervalsBegin → RowsTellRuns → OfBeginnings IsFollowed → OfBeginnings HasShownStates
+has_shown_states begins tell follow r records order w log b h s e =
+    let f : IsFollowed r records w = follow r records order w log b in
+    of_hart begins tell r records log h s (slice_get w.now.lanes h) (λ lane at. f.courses h lane at) e
