@@ -50,7 +50,19 @@ pub record Seen : Type 0 where
   pub turns : ℕ
 
 abbrev pub seen : PlainParts → (halted disordered : Bool) → List TurnRow → Seen
-seen p halted disordered rows = record { began = began_of p.start; rows = rows; halted = halted; disordered = disordered; machine = p.machine; harts = p.trace.harts.items; caches = p.trace.caches; notes = noted p.trace.shadow; ring = p.trace.log.ring; bytes = p.trace.log.bytes; turns = p.turns }
+seen p halted disordered rows = record {
+  began = began_of p.start;
+  rows = rows;
+  halted = halted;
+  disordered = disordered;
+  machine = p.machine;
+  harts = p.trace.harts.items;
+  caches = p.trace.caches;
+  notes = noted p.trace.shadow;
+  ring = p.trace.log.ring;
+  bytes = p.trace.log.bytes;
+  turns = p.turns;
+}
 
 -- a shadow that notes these stands for the points
 pub record AreNotes (notes : Noted) (points : List Point) : Type 0 where
