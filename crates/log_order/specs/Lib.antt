@@ -4,3 +4,4 @@ pub mod First
 pub mod Weak
 pub mod Suffix
 pub mod Content
+pub mod Laws

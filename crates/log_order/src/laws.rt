@@ -1,18 +1,16 @@
 // Laws of the order of records.
-ghost use Rattle.std.specs.Prelude.{◌≡◌, ◌≢◌, ◌<◌, ◌≤◌, ◌+◌, ◌^◌, ◌++◌, ◌∷◌, [], ◌==◌, ℕ, Bool, true, false, max, List, length, replicate, slice_get, slice_set, Option, Some, None, Ok, Err};
-ghost use Rattle.std.specs.List.{list_any, AllByRecursion};
-ghost use Rattle.bn_base.specs.declared.end_mark.EndMark.{EndMark};
+ghost use Rattle.std.specs.Prelude.{◌≡◌, ◌+◌, ◌++◌, ◌∷◌, [], ℕ, true, List, length, replicate, Some, None, Ok, Err};
+ghost use Rattle.std.specs.List.{AllByRecursion};
 ghost use Rattle.bn_base.specs.declared.settings.RawSettings.{RawSettings};
 ghost use Rattle.log_record.specs.declared.record.Record.{Record};
 ghost use Rattle.log_record.specs.declared.record.Record.TheVariants.{Header, FirstLoad, ScOk, ScFailed, Edge, End};
 ghost use Rattle.log_order.specs.declared.view.Terms.{Terms};
 ghost use Rattle.log_order.specs.declared.view.HartView.{HartView};
-ghost use Rattle.log_order.specs.declared.view.Phase.TheVariants.{Awaiting, Open};
-ghost use Rattle.log_order.specs.Rules.{fresh, is_over, is_unfinished, phase_after};
-ghost use Rattle.log_order.specs.Order.{order_break, step, after_all, late_edge, broken, broken_by};
+ghost use Rattle.log_order.specs.Rules.{fresh};
+ghost use Rattle.log_order.specs.Order.{order_break, step, after_all, late_edge, broken_by};
 ghost use Rattle.log_order.specs.First.{BreaksFirst, IsLateFirst};
-ghost use Rattle.log_order.specs.Weak.{AreWeak};
 ghost use Rattle.log_order.specs.Suffix.{Keeps, IsEarly, EndsLast};
+ghost use Rattle.log_order.specs.Laws.{SuffixesKeepTheRules, SuffixesAreInOrder, AnAwaitedHeaderFollows, LoadsAndConditionalsFollow, AnEdgeFollows, AnEndFollows};
 
 /// A break of a rule of single records is that of the first record that breaks one.
 pub fn breaks_are_first()
@@ -47,12 +45,12 @@ pub fn the_first_are_given_up()
 /// At all times the kept records keep the rules of single records, where each hart begins as it
 /// does in a log with so many dropped, and say no more of a hart than is known.
 pub fn kept_records_keep_the_rules()
-    ensures { (t : Terms) (count dropped : ℕ) (kept : List Record) (harts : List HartView) → Keeps t count dropped kept harts → (weaker : List HartView) × (after_all t 0 (replicate count (fresh (dropped == 0))) kept ≡ Ok weaker) × AreWeak weaker harts }
+    ensures { SuffixesKeepTheRules }
 {}
 
 /// In the end, where each hart is done and no Edge is late, they are in order.
 pub fn kept_records_are_in_order()
-    ensures { (t : Terms) (count dropped : ℕ) (kept : List Record) (harts : List HartView) → Keeps t count dropped kept harts → AllByRecursion (λ v. is_over v.phase ≡ true) harts → late_edge harts 0 kept ≡ None → broken t count (dropped == 0) kept ≡ None }
+    ensures { SuffixesAreInOrder }
 {}
 
 /// No Edge is late whose source has done its instruction by the last End.
@@ -62,28 +60,20 @@ pub fn early_edges_are_not_late()
 
 /// The Header that its hart awaits may follow.
 pub fn an_awaited_header_follows()
-    ensures { (t : Terms) (harts : List HartView) (h n ic pc : ℕ) (x : List ℕ) (seen : ℕ) (met : Bool) (last : Option ℕ) → slice_get harts h ≡ Some (record { phase = Awaiting (Some n) ic; seen = seen; met = met; last = last })
-        → n ≤ 2 ^ 41 → seen ≤ ic → ic ≤ t.limit
-        → step t harts (Header h n ic pc x) ≡ Ok (slice_set harts h (record { phase = Open (n + 1) ic; seen = seen; met = true; last = last })) }
+    ensures { AnAwaitedHeaderFollows }
 {}
 
 /// A FirstLoad, a ScOk and a ScFailed may follow in an interval.
 pub fn loads_and_conditionals_follow()
-    ensures { (t : Terms) (harts : List HartView) (h skip value next since seen : ℕ) (met : Bool) (last : Option ℕ) → slice_get harts h ≡ Some (record { phase = Open next since; seen = seen; met = met; last = last })
-        → let after = Ok (slice_set harts h (record { phase = Open next since; seen = seen; met = true; last = last })) in
-        (step t harts (FirstLoad h skip value) ≡ after) × (step t harts (ScOk h) ≡ after) × (step t harts (ScFailed h) ≡ after) }
+    ensures { LoadsAndConditionalsFollow }
 {}
 
 /// An Edge into an instruction of the interval, not before those of earlier Edges, may follow.
 pub fn an_edge_follows()
-    ensures { (t : Terms) (harts : List HartView) (h ic s j next since seen : ℕ) (met : Bool) (last : Option ℕ) → slice_get harts h ≡ Some (record { phase = Open next since; seen = seen; met = met; last = last })
-        → s < length harts → s ≢ h → ic < t.limit → j < t.limit → seen ≤ ic + 1 → since ≤ ic → ic < since + t.interval
-        → step t harts (Edge h ic s j) ≡ Ok (slice_set harts h (record { phase = Open next since; seen = max seen (ic + 1); met = true; last = last })) }
+    ensures { AnEdgeFollows }
 {}
 
 /// An End of the interval may follow.
 pub fn an_end_follows()
-    ensures { (t : Terms) (harts : List HartView) (h : ℕ) (mark : EndMark) (next since seen : ℕ) (met : Bool) (last : Option ℕ) → slice_get harts h ≡ Some (record { phase = Open next since; seen = seen; met = met; last = last })
-        → seen ≤ mark.ic → mark.ic ≤ t.limit → (mark.reason ≡ 7 → mark.ic ≡ t.limit) → since ≤ mark.ic → mark.ic ≤ since + t.interval → (mark.reason ≡ 1 → mark.ic ≡ since + t.interval)
-        → step t harts (End h mark) ≡ Ok (slice_set harts h (record { phase = phase_after (Open next since) mark; seen = seen; met = true; last = Some mark.ic })) }
+    ensures { AnEndFollows }
 {}

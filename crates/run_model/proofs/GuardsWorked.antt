@@ -6,7 +6,7 @@ use Rattle.log_record.specs.declared.record.Record.TheVariants.{FirstLoad}
 use Rattle.log_ring.specs.Kept.{kept}
 use Rattle.race_log.specs.Tests.{at_places, leads, any_below, before, edge, greatest_first, edges_into}
 use Rattle.run_model.specs.Turn.{serve}
-use Rattle.run_model.specs.Examples.{recorded, is_whole, first_header, end, Begins, Ends, marked, a_guarded_load, an_unguarded_load, a_late_fault, two_ends_a_turn, a_guarded_first_fault, kept_records, counts_in, bytes_after_the_load, a_write_by_hart_1}
+use Rattle.run_model.specs.Examples.{recorded, is_whole, first_header, end, Begins, Ends, marked, marks_of_two_ends_a_turn, a_guarded_load, an_unguarded_load, a_late_fault, two_ends_a_turn, a_guarded_first_fault, kept_records, counts_in, bytes_after_the_load, a_write_by_hart_1}
 
 pub a_load_is_guarded_marks : marked (recorded a_guarded_load).stream ≡ Begins 0 0 0 ∷ Ends 0 10 6 0 ∷ Begins 0 1 10 ∷ Ends 0 12 7 0 ∷ []
 unfolding serve at_places leads any_below before edge greatest_first edges_into number_bytes
@@ -44,7 +44,7 @@ pub a_late_fault_is_kept_whole : is_whole a_late_fault
 unfolding serve kept at_places leads any_below before edge greatest_first edges_into number_bytes
 a_late_fault_is_kept_whole = (refl, refl)
 
-pub a_turn_ends_two_intervals_marks : marked (recorded two_ends_a_turn).stream ≡ Begins 0 0 0 ∷ Ends 0 1 1 0 ∷ Begins 0 1 1 ∷ Ends 0 1 6 0 ∷ Begins 0 2 1 ∷ Ends 0 2 1 0 ∷ Begins 0 3 2 ∷ Ends 0 3 1 0 ∷ Begins 0 4 3 ∷ Ends 0 3 6 0 ∷ Begins 0 5 3 ∷ Ends 0 4 3 0 ∷ []
+pub a_turn_ends_two_intervals_marks : marked (recorded two_ends_a_turn).stream ≡ marks_of_two_ends_a_turn
 unfolding serve kept at_places leads any_below before edge greatest_first edges_into number_bytes
 a_turn_ends_two_intervals_marks = refl
 

@@ -3,7 +3,7 @@ use Rattle.std.proofs.Common.{◌≡◌, ◌∷◌, [], refl}
 use Rattle.log_record.specs.declared.record.Record.TheVariants.{FirstLoad, ScOk, ScFailed, Edge}
 use Rattle.race_log.specs.Tests.{at_places, leads, any_below, before, edge, greatest_first, edges_into}
 use Rattle.run_model.specs.Turn.{serve}
-use Rattle.run_model.specs.Examples.{recorded, first_header, end, two_loads_of_a_word, a_skipped_load, a_byte_store, a_line_put_out, a_conditional_store, a_line_lost, a_reservation_lost, a_filled_word, header_after_the_call, a_relay}
+use Rattle.run_model.specs.Examples.{records_of_a_filled_word, records_of_a_relay, recorded, first_header, end, two_loads_of_a_word, a_skipped_load, a_byte_store, a_line_put_out, a_conditional_store, a_line_lost, a_reservation_lost, a_filled_word, header_after_the_call, a_relay}
 
 pub the_first_load_is_logged : (recorded two_loads_of_a_word).stream ≡ first_header two_loads_of_a_word 0 ∷ FirstLoad 0 0 0 ∷ end 0 5 3 0 ∷ []
 unfolding serve at_places leads any_below before edge greatest_first edges_into
@@ -33,10 +33,10 @@ pub a_store_ends_the_reservation : (recorded a_reservation_lost).stream ≡ firs
 unfolding serve at_places leads any_below before edge greatest_first edges_into
 a_store_ends_the_reservation = refl
 
-pub a_filled_word_is_logged_again : (recorded a_filled_word).stream ≡ first_header a_filled_word 0 ∷ first_header a_filled_word 1 ∷ FirstLoad 0 0 0 ∷ Edge 1 6 0 2 ∷ end 1 7 2 4 ∷ header_after_the_call ∷ Edge 0 3 1 6 ∷ FirstLoad 0 0 2054781047 ∷ end 0 6 3 0 ∷ end 1 9 3 4 ∷ []
+pub a_filled_word_is_logged_again : (recorded a_filled_word).stream ≡ records_of_a_filled_word
 unfolding serve at_places leads any_below before edge greatest_first edges_into
 a_filled_word_is_logged_again = refl
 
-pub a_relay_needs_no_third_edge : (recorded a_relay).stream ≡ first_header a_relay 0 ∷ first_header a_relay 1 ∷ first_header a_relay 2 ∷ Edge 1 3 0 4 ∷ FirstLoad 1 0 3 ∷ Edge 2 4 1 4 ∷ FirstLoad 2 0 3 ∷ FirstLoad 2 0 3 ∷ end 0 8 3 0 ∷ end 1 8 3 1 ∷ end 2 8 3 2 ∷ []
+pub a_relay_needs_no_third_edge : (recorded a_relay).stream ≡ records_of_a_relay
 unfolding serve at_places leads any_below before edge greatest_first edges_into
 a_relay_needs_no_third_edge = refl

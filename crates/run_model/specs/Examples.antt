@@ -6,7 +6,7 @@ use Rattle.bn_base.specs.declared.settings.RawSettings.{RawSettings}
 use Rattle.bn_base.specs.declared.row.Row.{Row}
 use Rattle.bn_base.specs.declared.fault.Fault.TheVariants.{LoadOutside}
 use Rattle.log_record.specs.declared.record.Record.{Record}
-use Rattle.log_record.specs.declared.record.Record.TheVariants.{Header, End}
+use Rattle.log_record.specs.declared.record.Record.TheVariants.{Header, FirstLoad, Edge, End}
 use Rattle.run_model.specs.Turn.{Run, turn, header, mark}
 use Rattle.run_model.specs.Runs.{start, start_state, run_of, legal_from, is_over}
 use Rattle.run_model.specs.Rows.{rows_of, rows_in}
@@ -68,7 +68,12 @@ a_byte_store = record { words = 0x00020437 ∷ 0x00b40023 ∷ 0x00042283 ∷ 0x0
 
 -- lui s0,0x20; lw t0,0(s0); lw t0,4(s0); lw t0,0(s0); then an exit, with a cache of one line of one word
 abbrev pub a_line_put_out : Recording
-a_line_put_out = record { words = 0x00020437 ∷ 0x00042283 ∷ 0x00442283 ∷ 0x00042283 ∷ 0x05d00893 ∷ 0x00000073 ∷ []; settings = record default_settings { sets = 1; ways = 1; line = 1 }; input = []; turns = 0 ∷ 0 ∷ 0 ∷ 0 ∷ [] }
+a_line_put_out = record {
+  words = 0x00020437 ∷ 0x00042283 ∷ 0x00442283 ∷ 0x00042283 ∷ 0x05d00893 ∷ 0x00000073 ∷ [];
+  settings = record default_settings { sets = 1; ways = 1; line = 1 };
+  input = [];
+  turns = 0 ∷ 0 ∷ 0 ∷ 0 ∷ [];
+}
 
 -- lui s0,0x20; lr.w t0,(s0); sc.w t1,a1,(s0); then an exit
 abbrev pub a_conditional_store : Recording
@@ -151,7 +156,20 @@ rows_of_an_exit =
     ∷ record { hart = 0; ic = 1; pc = 0x10058; word = Some 0x05d00893; reg = Some (17, 93); load = None; store = None; fault = None }
     ∷ record { hart = 0; ic = 2; pc = 0x1005c; word = Some 0x00000073; reg = None; load = None; store = None; fault = None } ∷ []
 
--- and that of the load which faults
+-- the records of the word that a call fills
+abbrev pub records_of_a_filled_word : List Record
+records_of_a_filled_word =
+    first_header a_filled_word 0 ∷ first_header a_filled_word 1 ∷ FirstLoad 0 0 0 ∷ Edge 1 6 0 2 ∷ end 1 7 2 4 ∷ header_after_the_call
+    ∷ Edge 0 3 1 6 ∷ FirstLoad 0 0 2054781047 ∷ end 0 6 3 0 ∷ end 1 9 3 4 ∷ []
+
+-- and those of the relay
+abbrev pub records_of_a_relay : List Record
+records_of_a_relay =
+    first_header a_relay 0 ∷ first_header a_relay 1 ∷ first_header a_relay 2 ∷ Edge 1 3 0 4 ∷ FirstLoad 1 0 3
+    ∷ Edge 2 4 1 4 ∷ FirstLoad 2 0 3 ∷ FirstLoad 2 0 3 ∷ end 0 8 3 0 ∷ end 1 8 3 1
+    ∷ end 2 8 3 2 ∷ []
+
+-- the row of the load which faults
 abbrev pub row_of_a_fault : Row
 row_of_a_fault = record { hart = 0; ic = 0; pc = 0x10054; word = Some 0x00002283; reg = None; load = None; store = None; fault = Some (LoadOutside, 0) }
 
@@ -194,6 +212,13 @@ a_late_fault_unguarded = record a_late_fault { settings = record a_late_fault.se
 -- of the bytes: each ask ends two intervals
 abbrev pub two_ends_a_turn : Recording
 two_ends_a_turn = record { words = 0x00020437 ∷ 0x00042283 ∷ 0x05d00893 ∷ 0x00000073 ∷ []; settings = record default_settings { format = 2; interval = 1; log_size = 200 }; input = []; turns = 0 ∷ 0 ∷ 0 ∷ 0 ∷ [] }
+
+-- its marks: each turn ends the interval before its ask, by the guard, and the ask's own
+abbrev pub marks_of_two_ends_a_turn : List Mark
+marks_of_two_ends_a_turn =
+    Begins 0 0 0 ∷ Ends 0 1 1 0 ∷ Begins 0 1 1 ∷ Ends 0 1 6 0 ∷ Begins 0 2 1 ∷ Ends 0 2 1 0
+    ∷ Begins 0 3 2 ∷ Ends 0 3 1 0 ∷ Begins 0 4 3 ∷ Ends 0 3 6 0 ∷ Begins 0 5 3 ∷ Ends 0 4 3 0
+    ∷ []
 
 -- each ask is guarded: hart 0's first instruction, before which hart 1 did one, faults; sp isn't mapped there
 abbrev pub a_guarded_first_fault : Recording

@@ -3,7 +3,7 @@ ghost use Rattle.std.specs.Prelude.{◌≡◌, ◌∷◌, [], map};
 ghost use Rattle.log_record.specs.Spelling.{tag_of};
 ghost use Rattle.log_record.specs.declared.record.Record.TheVariants.{FirstLoad, ScOk, ScFailed, Edge};
 ghost use Rattle.run_model.specs.Examples.{recorded, is_whole, marks, first_header, end, an_exit, two_loads_of_a_word, a_skipped_load, a_byte_store, a_line_put_out, a_conditional_store, one_a_time, a_call_at_full_length, a_fault, a_limit, a_line_lost, a_reservation_lost, a_filled_word, header_after_the_call, a_relay};
-ghost use Rattle.run_model.specs.Examples.{rows_of_an_exit, rows, row_of_a_fault};
+ghost use Rattle.run_model.specs.Examples.{rows_of_an_exit, rows, row_of_a_fault, records_of_a_filled_word, records_of_a_relay};
 
 /// A hart's exit: its interval, without a first load.
 #[tactic(auto, unfolding(crate::specs::Turn::serve))]
@@ -71,14 +71,14 @@ pub fn a_store_ends_the_reservation()
 /// A read call writes its words: they lose their lines, have edges, and are logged again.
 #[tactic(auto, unfolding(crate::specs::Turn::serve), using(crate::proofs::Worked::a_filled_word_is_logged_again))]
 pub fn a_filled_word_is_logged_again()
-    ensures stream { (recorded a_filled_word).stream ≡ first_header a_filled_word 0 ∷ first_header a_filled_word 1 ∷ FirstLoad 0 0 0 ∷ Edge 1 6 0 2 ∷ end 1 7 2 4 ∷ header_after_the_call ∷ Edge 0 3 1 6 ∷ FirstLoad 0 0 2054781047 ∷ end 0 6 3 0 ∷ end 1 9 3 4 ∷ [] }
+    ensures stream { (recorded a_filled_word).stream ≡ records_of_a_filled_word }
     ensures whole { is_whole a_filled_word }
 {}
 
 /// A conflict that two edges order already has none of its own.
 #[tactic(auto, unfolding(crate::specs::Turn::serve), using(crate::proofs::Worked::a_relay_needs_no_third_edge))]
 pub fn a_relay_needs_no_third_edge()
-    ensures stream { (recorded a_relay).stream ≡ first_header a_relay 0 ∷ first_header a_relay 1 ∷ first_header a_relay 2 ∷ Edge 1 3 0 4 ∷ FirstLoad 1 0 3 ∷ Edge 2 4 1 4 ∷ FirstLoad 2 0 3 ∷ FirstLoad 2 0 3 ∷ end 0 8 3 0 ∷ end 1 8 3 1 ∷ end 2 8 3 2 ∷ [] }
+    ensures stream { (recorded a_relay).stream ≡ records_of_a_relay }
     ensures whole { is_whole a_relay }
 {}
 

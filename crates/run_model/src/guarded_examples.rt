@@ -3,7 +3,7 @@
 ghost use Rattle.std.specs.Prelude.{◌≡◌, ◌∷◌, [], map};
 ghost use Rattle.log_record.specs.Spelling.{total, tag_of};
 ghost use Rattle.log_record.specs.declared.record.Record.TheVariants.{FirstLoad};
-ghost use Rattle.run_model.specs.Examples.{recorded, is_whole, first_header, end, Begins, Ends, marked, a_guarded_load, an_unguarded_load, a_late_fault, two_ends_a_turn, a_guarded_first_fault, kept_records, counts_in, bytes_after_the_load, a_write_by_hart_1};
+ghost use Rattle.run_model.specs.Examples.{recorded, is_whole, first_header, end, Begins, Ends, marked, marks_of_two_ends_a_turn, a_guarded_load, an_unguarded_load, a_late_fault, two_ends_a_turn, a_guarded_first_fault, kept_records, counts_in, bytes_after_the_load, a_write_by_hart_1};
 
 /// Once more than half of the log's bytes stand from the Header on, the next load is guarded: its interval
 /// ends ahead of it, and its own record stands in the next one.
@@ -40,7 +40,7 @@ pub fn a_late_fault_is_kept()
 /// its exit.
 #[tactic(auto, unfolding(crate::specs::Turn::serve), using(crate::proofs::GuardsWorked::a_turn_ends_two_intervals_marks, crate::proofs::GuardsWorked::a_turn_ends_two_intervals_tags, crate::proofs::GuardsWorked::a_turn_ends_two_intervals_empty, crate::proofs::GuardsWorked::a_turn_ends_two_intervals_own, crate::proofs::GuardsWorked::a_turn_ends_two_intervals_whole))]
 pub fn a_turn_ends_two_intervals()
-    ensures marks { marked (recorded two_ends_a_turn).stream ≡ Begins 0 0 0 ∷ Ends 0 1 1 0 ∷ Begins 0 1 1 ∷ Ends 0 1 6 0 ∷ Begins 0 2 1 ∷ Ends 0 2 1 0 ∷ Begins 0 3 2 ∷ Ends 0 3 1 0 ∷ Begins 0 4 3 ∷ Ends 0 3 6 0 ∷ Begins 0 5 3 ∷ Ends 0 4 3 0 ∷ [] }
+    ensures marks { marked (recorded two_ends_a_turn).stream ≡ marks_of_two_ends_a_turn }
     ensures tags { map tag_of (recorded two_ends_a_turn).stream ≡ 1 ∷ 6 ∷ 1 ∷ 6 ∷ 1 ∷ 2 ∷ 6 ∷ 1 ∷ 6 ∷ 1 ∷ 6 ∷ 1 ∷ 6 ∷ [] }
     ensures empty { counts_in two_ends_a_turn 0 1 ≡ [] }
     ensures own { counts_in two_ends_a_turn 0 2 ≡ 1 ∷ [] }
