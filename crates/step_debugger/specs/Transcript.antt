@@ -1,6 +1,6 @@
 -- The transcript of a session.
 use Rattle.std.specs.Prelude.{◌≡◌, ◌⊎◌, ℕ, List, [], ◌∷◌, ◌++◌, Option, Some, None, Result, Ok, Err}
-use Rattle.std.specs.Io.KnownBytes.{Appends}
+use Rattle.std.specs.Io.KnownBytes.{Appends, Consumes}
 use Rattle.bn_outside.specs.Counts.{Rose}
 use Rattle.bn_outside.specs.Streams.{AppendsPart, ConsumesAll}
 use Rattle.joint_replay.specs.Joining.{Joining}
@@ -28,13 +28,9 @@ abbrev pub answers : List (List ℕ) → Session → Answer
 answers [] s = says s []
 answers (line ∷ lines) s = let a : Answer = answer s (command_of line) in goes_on_by a.ends a (λ t. answers lines t)
 
--- the lines of all commands: a last one without LF counts, unless it is empty or too long
-abbrev pub last_line : List ℕ → List (List ℕ)
-last_line [] = []
-last_line (b ∷ bs) = (b ∷ bs) ∷ []
-
+-- the lines of all commands: what stands behind the last LF counts, unless no more is read; an empty line prints nothing
 abbrev pub lines_in : Input → List (List ℕ)
-lines_in input = elim input.refused [ None ↦ input.lines ++ last_line input.last | Some e ↦ input.lines ]
+lines_in input = elim input.refused [ None ↦ input.lines ++ input.last ∷ [] | Some e ↦ input.lines ]
 
 -- the text that a session prints, and how it ends
 pub record Told : Type 0 where
@@ -71,3 +67,9 @@ Debugs j gone left now_left read_before read_now written now_written before now 
 Debugs j gone left now_left read_before read_now written now_written before now (Err e) =
     let t : Told = transcript j (input_of gone) in
     (t.result ≡ Err e) × Appends written now_written t.text
+
+-- bytes of the source are gone, and they are the commands
+pub record Debugged (j : Joining) (left now_left : Option (List ℕ)) (read_before read_now : ℕ) (written now_written : Option (List ℕ)) (before now : ℕ) (result : Result (Unit {0}) DebugError) : Type 0 where
+  pub gone : List ℕ
+  pub taken : Consumes left now_left gone
+  pub done : Debugs j gone left now_left read_before read_now written now_written before now result
