@@ -14,7 +14,7 @@ use Rattle.step_debugger.specs.declared.session.Ending.TheVariants.{GoesOn, Quit
 use Rattle.step_debugger.specs.Commands.{command_of}
 use Rattle.step_debugger.specs.Lines.{Reading, Input, input_from, input_of, with_line, ends_in, NextLine}
 use Rattle.step_debugger.specs.Answers.{Session, Answer, says, answer, begin}
-use Rattle.step_debugger.specs.Transcript.{behind, goes_on_by, answers, lines_in, Told, result_by, transcript, Debugs, Debugged}
+use Rattle.step_debugger.specs.Transcript.{behind, goes_on_by, answers, lines_in, Told, result_by, transcript, EndsThere, Debugs, Debugged}
 use Rattle.step_debugger.specs.Goings.{Stops}
 use Rattle.step_debugger.proofs.Sent.{part_longer, part_behind, part_whole, rose_later}
 
@@ -176,22 +176,31 @@ module _ (j : Joining) (s : Session) (old new : Reading) (left now_left next_lef
       let is : transcript j (input_of all) ≡ told_of (behind t.text answered) None = x.1 ∙ ap (λ (a : Answer). told_of (behind t.text a) None) (ap (λ (y : Ending). goes_on_by y answered (λ u. answers x.0 u)) on ∙ last) in
       (is, subst (λ (x : List ℕ). Appends written next_written x) (sym (ap (λ (u : Told). u.text) is)) (Appends-trans written now_written next_written t.text answered.text t.sent h))
 
+  -- it is the last line that is gone
+  there : (e : Ending) → answered.ends ≡ e → goes_on_by e answered (λ u. answers [] u) ≡ answered → (w : Bool) (n : NextLine old now_left next_left before after (Ok w) new)
+      → EndsThere j (t.gone ++ n.gone) e ⊎ ConsumesAll left next_left (t.gone ++ n.gone)
+  there e on last true n =
+      let is : input_of (t.gone ++ n.gone) ≡ with_lines t.lines (with_line new.line (ends_in [] None)) =
+      joined j s old.count left now_left written now_written t n.gone (with_line new.line (ends_in [] None)) (ap (input_from old.count []) (sym (append-nil n.gone)) ∙ n.read.2 []) in
+      inl (record {
+        front = t.lines;
+        line = new.line;
+        lines = ap (λ (i : Input). i.lines) is;
+        last = ap (λ (i : Input). i.last) is;
+        before = ap (λ (ls : List (List ℕ)). (answers ls (begin j)).ends) (sym (append-nil t.lines)) ∙ ap (λ (a : Answer). a.ends) (t.said []);
+        there = ap (λ (a : Answer). a.ends) (t.said (new.line ∷ [])) ∙ ap (λ (y : Ending). (goes_on_by y answered (λ u. answers [] u)).ends) on ∙ ap (λ (a : Answer). a.ends) last ∙ on;
+      })
+  there e on last false n = inr (all_gone left now_left next_left t.gone n.gone t.taken n.read.1)
+
   pub quits : answered.ends ≡ Quits → Appends now_written next_written answered.text → Debugged j left next_left start after written next_written write_start write_after (Ok (tt {0}))
   quits on h =
       let x = sent_to_end Quits on h refl in
-      record { gone = all; taken = taken_all; done = (ap (λ (u : Told). u.result) x.0 ∙ ap (λ (e : Ending). result_by e None) on, x.1, why whole n) }
-    where
-      why : (w : Bool) (n : NextLine old now_left next_left before after (Ok w) new) → ((answers (input_of (t.gone ++ n.gone)).lines (begin j)).ends ≡ Quits) ⊎ ConsumesAll left next_left (t.gone ++ n.gone)
-      why true n =
-          let is : input_of (t.gone ++ n.gone) ≡ with_lines t.lines (with_line new.line (ends_in [] None)) =
-          joined j s old.count left now_left written now_written t n.gone (with_line new.line (ends_in [] None)) (ap (input_from old.count []) (sym (append-nil n.gone)) ∙ n.read.2 []) in
-          inl (ap (λ (i : Input). (answers i.lines (begin j)).ends) is ∙ ap (λ (a : Answer). a.ends) (t.said (new.line ∷ [])) ∙ ap (λ (y : Ending). (goes_on_by y answered (λ u. answers [] u)).ends) on ∙ on)
-      why false n = inr (all_gone left now_left next_left t.gone n.gone t.taken n.read.1)
+      record { gone = all; taken = taken_all; done = (ap (λ (u : Told). u.result) x.0 ∙ ap (λ (e : Ending). result_by e None) on, x.1, there Quits on refl whole n) }
 
   pub refused : (e : JointError) → answered.ends ≡ Refused e → Appends now_written next_written answered.text → Debugged j left next_left start after written next_written write_start write_after (Err (Joint e))
   refused e on h =
       let x = sent_to_end (Refused e) on h refl in
-      record { gone = all; taken = taken_all; done = (ap (λ (u : Told). u.result) x.0 ∙ ap (λ (e : Ending). result_by e None) on, x.1) }
+      record { gone = all; taken = taken_all; done = (ap (λ (u : Told). u.result) x.0 ∙ ap (λ (e : Ending). result_by e None) on, x.1, there (Refused e) on refl whole n) }
 
 -- the last line, behind which there is none
 pub ends : (j : Joining) (s : Session) (old new : Reading) (left now_left next_left written now_written next_written : Option (List ℕ)) (start before after write_start write_after : ℕ)

@@ -11,14 +11,11 @@ use Rattle.joint_replay.specs.declared.kinds.Readiness.{Readiness}
 use Rattle.joint_replay.specs.declared.kinds.Readiness.TheVariants as is
 use Rattle.joint_replay.specs.declared.kinds.Next.{Next}
 use Rattle.joint_replay.specs.declared.kinds.Next.TheVariants as next
-use Rattle.joint_replay.specs.declared.kinds.Stepped.{Stepped}
-use Rattle.joint_replay.specs.declared.kinds.Stepped.TheVariants as did
 use Rattle.joint_replay.specs.Lanes.{Item, count_of}
 use Rattle.joint_replay.specs.Joining.{Joining, readiness, coming, choice, next_step, error_of, positions_from, steps_left}
 use Rattle.joint_replay.specs.Memory.{word_in}
 use Rattle.joint_replay.specs.Calls.{state_at}
-use Rattle.joint_replay.specs.Texts.{item_text, pass_text, end_text}
-use Rattle.rv_text.specs.Rows.{row_text}
+use Rattle.joint_replay.specs.Texts.{item_text}
 use Rattle.step_debugger.specs.declared.command.Command.{Command}
 use Rattle.step_debugger.specs.declared.command.Command.TheVariants as to
 use Rattle.step_debugger.specs.declared.session.Ending.{Ending}
@@ -96,12 +93,6 @@ places_from j h zero = []
 places_from j h (suc n) = hart_place j h ++ places_from j (h + 1) n
 
 -- ---- steps
-
--- the line of a step
-abbrev pub stepped_text : Stepped → List ℕ
-stepped_text (did.Passed h ic) = pass_text h ic
-stepped_text (did.Did row) = row_text row
-stepped_text (did.Ended h n m) = end_text h n m
 
 -- steps of a joint replay: what they print, where it stands then, and how they end
 pub record Moves : Type 0 where

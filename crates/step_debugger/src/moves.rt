@@ -9,9 +9,9 @@ ghost use Rattle.step_debugger.specs.Goings.{refused_by, StepsOnce, GoesOnce};
 
 use crate::error::DebugError;
 use crate::session::Ending;
-use crate::texts::{push_step, push_stop, push_waits};
+use crate::texts::{push_stop, push_waits};
 use bn_base::{Addr, HartId, HartState, Ic, List};
-use joint_replay::{Coming, Joint, JointError, Next, Readiness};
+use joint_replay::{Coming, Joint, JointError, Next, Readiness, write_step};
 use rv_text::Text;
 use std::alloc::{AllocError, Global};
 
@@ -64,7 +64,7 @@ fn step_told(joint: &mut Joint, hart: HartId, text: &mut Text) -> Result<Option<
     ensures { StepsOnce joint.old hart result joint.new text.old text.new }
 {
     match joint.step(hart) {
-        Ok(stepped) => match push_step(text, &stepped) {
+        Ok(stepped) => match write_step(&stepped, text) {
             Ok(()) => Ok(None),
             Err(_) => Err(DebugError::OutOfMemory),
         },

@@ -1,11 +1,10 @@
 //! The lines that the debugger prints.
-ghost use Rattle.std.specs.Prelude.{◌≡◌, ◌+◌, ◌<◌, ◌++◌, OnOk, codes, decimal};
-ghost use Rattle.joint_replay.specs.Texts.{pass_text, mark_text, end_text};
-ghost use Rattle.step_debugger.specs.Answers.{point_text, hart_text, waits_text, stop_text, address_text, word_text, register_text, two_text, four_text, half_text, pc_text, readiness_text, place_text, hart_done_text, stepped_text};
+ghost use Rattle.std.specs.Prelude.{◌≡◌, ◌+◌, ◌<◌, ◌++◌, OnOk};
+ghost use Rattle.step_debugger.specs.Answers.{point_text, hart_text, waits_text, stop_text, address_text, word_text, register_text, two_text, four_text, half_text, pc_text, readiness_text, place_text, hart_done_text};
 
-use bn_base::{Addr, EndMark, HartId, Ic, Register, Registers};
-use joint_replay::{Readiness, Stepped};
-use rv_text::{Text, register_name, write_row};
+use bn_base::{Addr, HartId, Ic, Register, Registers};
+use joint_replay::Readiness;
+use rv_text::{Text, register_name};
 use std::alloc::AllocError;
 
 #[tactic(auto, unfolding(crate::specs::Answers::point_text))]
@@ -163,66 +162,4 @@ pub(crate) fn push_hart_done(text: &mut Text, hart: HartId) -> Result<(), AllocE
 {
     text.push_decimal(u64::from(hart))?;
     text.push_str(" done\n")
-}
-
-#[tactic(auto, unfolding(joint_replay::specs::Texts::pass_text))]
-fn push_pass(text: &mut Text, hart: HartId, ic: Ic) -> Result<(), AllocError>
-    ensures { OnOk result (text.new ≡ text.old ++ pass_text hart ic) }
-{
-    text.push_str("pass ")?;
-    text.push_decimal(u64::from(hart))?;
-    text.push_str(" ")?;
-    text.push_decimal(ic)?;
-    text.push_str("\n")
-}
-
-#[tactic(auto, unfolding(joint_replay::specs::Texts::mark_text))]
-fn push_mark(text: &mut Text, mark: &EndMark) -> Result<(), AllocError>
-    ensures { OnOk result (text.new ≡ text.old ++ mark_text mark.now) }
-{
-    text.push_decimal(mark.ic)?;
-    text.push_str(" ")?;
-    text.push_str(mark.word())?;
-    text.push_str(" ")?;
-    text.push_hex8(mark.value)
-}
-
-fn push_interval(text: &mut Text, hart: HartId, interval: u64) -> Result<(), AllocError>
-    ensures { OnOk result (text.new ≡ text.old ++ (codes "end " ++ decimal hart ++ codes " " ++ decimal interval)) }
-{
-    text.push_str("end ")?;
-    text.push_decimal(u64::from(hart))?;
-    text.push_str(" ")?;
-    text.push_decimal(interval)
-}
-
-fn push_rest(text: &mut Text, mark: &EndMark) -> Result<(), AllocError>
-    ensures { OnOk result (text.new ≡ text.old ++ (codes " " ++ mark_text mark.now ++ codes "\n")) }
-{
-    text.push_str(" ")?;
-    push_mark(text, mark)?;
-    text.push_str("\n")
-}
-
-#[tactic(auto, unfolding(joint_replay::specs::Texts::end_text))]
-fn push_end(text: &mut Text, hart: HartId, interval: u64, mark: &EndMark) -> Result<(), AllocError>
-    ensures { OnOk result (text.new ≡ text.old ++ end_text hart interval mark.now) }
-{
-    push_interval(text, hart, interval)?;
-    push_rest(text, mark)
-}
-
-/// The line of a step.
-pub(crate) fn push_step(text: &mut Text, stepped: &Stepped) -> Result<(), AllocError>
-    ensures { OnOk result (text.new ≡ text.old ++ stepped_text stepped.now) }
-{
-    match stepped {
-        Stepped::Passed { hart, ic } => push_pass(text, *hart, *ic),
-        Stepped::Did(row) => write_row(row, text),
-        Stepped::Ended {
-            hart,
-            interval,
-            mark,
-        } => push_end(text, *hart, *interval, mark),
-    }
 }

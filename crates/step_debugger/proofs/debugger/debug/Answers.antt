@@ -5,7 +5,7 @@ use Rattle.step_debugger.specs.Commands.{command_of}
 use Rattle.step_debugger.specs.Lines.{Reading, NextLine}
 use Rattle.step_debugger.specs.Answers.{Session, answer}
 use Rattle.step_debugger.specs.Goings.{session_of, Stops}
-use Rattle.step_debugger.proofs.Lasting.{Stands, at_begin, one_more, not_read, not_sent, quits, refused}
+use Rattle.step_debugger.proofs.Lasting.{Stands, at_begin, one_more, not_read, not_sent, quits, refused, ends}
 use Rattle.step_debugger.proofs.debugger.debug.Goals as goal
 
 pub lines-init : goal.lines-init
@@ -61,3 +61,13 @@ returns-in-Refused-clause-told g c =
     refused c.args.joint.now (session_of c.lines.joint c.lines.desk) c.lines.reader c.next.new.self (g.I.Source.left c.args.input.now) (g.I.Source.left c.lines.input) (g.I.Source.left c.next.new.source)
     (g.O.Sink.written c.args.out.now) (g.O.Sink.written c.lines.out) (g.O.Sink.written c.answer.new.out) (g.I.Source.faults c.args.input.now) (g.I.Source.faults c.lines.input) (g.I.Source.faults c.next.new.source)
     (g.O.Sink.faults c.args.out.now) (g.O.Sink.faults c.lines.out) (g.O.Sink.faults c.answer.new.out) c.in-Ok.whole c.lines.invariant.stands c.in-Ok.ensures.read c.in-Refused.error (sym h.1.1 ∙ c.in-Refused.is) h.0
+
+pub returns-then-not-whole-clause-told : goal.returns-then-not-whole-clause-told
+returns-then-not-whole-clause-told g c =
+    let h = subst (λ (x : List ℕ). Appends (g.O.Sink.written c.lines.out) (g.O.Sink.written c.answer.new.out) (answer (session_of c.lines.joint c.lines.desk) (command_of x)).text
+    × ((session_of c.answer.new.joint c.answer.new.desk ≡ (answer (session_of c.lines.joint c.lines.desk) (command_of x)).session) × (c.in-Ok-answer.ending ≡ (answer (session_of c.lines.joint c.lines.desk) (command_of x)).ends)))
+    c.line.ensures c.in-Ok-answer.ensures.sent in
+    let n = subst (λ (b : Bool). NextLine c.lines.reader (g.I.Source.left c.lines.input) (g.I.Source.left c.next.new.source) (g.I.Source.faults c.lines.input) (g.I.Source.faults c.next.new.source) (Ok b) c.next.new.self) c.if-not-whole.true c.in-Ok.ensures.read in
+    ends c.args.joint.now (session_of c.lines.joint c.lines.desk) c.lines.reader c.next.new.self (g.I.Source.left c.args.input.now) (g.I.Source.left c.lines.input) (g.I.Source.left c.next.new.source)
+    (g.O.Sink.written c.args.out.now) (g.O.Sink.written c.lines.out) (g.O.Sink.written c.answer.new.out) (g.I.Source.faults c.args.input.now) (g.I.Source.faults c.lines.input) (g.I.Source.faults c.next.new.source)
+    (g.O.Sink.faults c.args.out.now) (g.O.Sink.faults c.answer.new.out) c.lines.invariant.stands n (sym h.1.1 ∙ c.in-GoesOn.is) h.0
