@@ -31,9 +31,10 @@ pub record SoFar (start count : ℕ) (line : List ℕ) (old now : Option (List �
   pub gone : Consumes old now line
   pub as_far : (more : List ℕ) → input_from start [] (line ++ more) ≡ input_from count line more
   pub later : before ≤ after
+  pub grown : start ≤ count
 
 pub none_yet : (count : ℕ) (line : List ℕ) (old : Option (List ℕ)) (before : ℕ) → line ≡ [] → SoFar count count line old old before before
-none_yet count line old before e = subst (λ (l : List ℕ). SoFar count count l old old before before) (sym e) (record { room = omega arith; gone = Consumes-nil old; as_far = λ more. refl; later = omega arith })
+none_yet count line old before e = subst (λ (l : List ℕ). SoFar count count l old old before before) (sym e) (record { room = omega arith; gone = Consumes-nil old; as_far = λ more. refl; later = omega arith; grown = omega arith })
 
 -- one byte more
 behind_byte : (start count : ℕ) (line : List ℕ) (byte : ℕ) (more : List ℕ) (x : Input) → input_from start [] (line ++ byte ∷ more) ≡ input_from count line (byte ∷ more)
@@ -44,10 +45,11 @@ pub one_more : (start count : ℕ) (line : List ℕ) (byte : ℕ) (new : Reading
     → SoFar start count line old now before after → Consumes now next (byte ∷ []) → TakesByte (record { count = count; line = line }) byte (Ok false) new → after ≤ last
     → SoFar start new.count new.line old next before last
 one_more start count line byte new old now next before after last s p t fell = record {
-  room = t.1;
-  gone = subst (Consumes old next) (sym t.0) (Consumes-trans old now next line (byte ∷ []) s.gone p);
-  as_far = λ more. ap (λ (l : List ℕ). input_from start [] (l ++ more)) t.0 ∙ behind_byte start count line byte more _ (s.as_far (byte ∷ more)) (t.2 more);
+  room = t.2;
+  gone = subst (Consumes old next) (sym t.1) (Consumes-trans old now next line (byte ∷ []) s.gone p);
+  as_far = λ more. ap (λ (l : List ℕ). input_from start [] (l ++ more)) t.1 ∙ behind_byte start count line byte more _ (s.as_far (byte ∷ more)) (t.3 more);
   later = omega (arith, s.later, fell);
+  grown = omega (arith, s.grown, t.0);
 }
 
 -- the line ends
@@ -57,7 +59,7 @@ pub line_read : (start : Reading) (count : ℕ) (line : List ℕ) (byte : ℕ) (
 line_read start count line byte new old now next before after last s p t = record {
   gone = line ++ byte ∷ [];
   taken = Consumes-trans old now next line (byte ∷ []) s.gone p;
-  read = λ more. behind_byte start.count count line byte more _ (s.as_far (byte ∷ more)) (t more);
+  read = (omega (arith, s.grown, t.0), t.1, λ more. behind_byte start.count count line byte more _ (s.as_far (byte ∷ more)) (t.2 more));
 }
 
 -- the source ends

@@ -6,7 +6,8 @@ use Rattle.bn_base.specs.EndMarks.{reason_word}
 use Rattle.rv_text.specs.Names.{register_name, mnemonic, ordering}
 use Rattle.rv_text.specs.Instructions.{hex8, first_operand, register_operand, number_operand, offset_operand, memory_operand, target_operand, upper_operand, instruction_text}
 use Rattle.rv_text.specs.Rows as rows
-use Rattle.joint_replay.specs.Texts.{mark_text, end_text, pass_text}
+use Rattle.rv_text.specs.Marks.{mark_text, end_text}
+use Rattle.joint_replay.specs.Texts.{pass_text}
 use Rattle.step_debugger.specs.declared.command.Command.TheVariants.{Other}
 use Rattle.step_debugger.specs.declared.error.DebugError.TheVariants.{LineTooLong, TooMuch}
 use Rattle.step_debugger.specs.Lines.{ends_in, with_line}

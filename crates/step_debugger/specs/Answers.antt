@@ -11,14 +11,11 @@ use Rattle.joint_replay.specs.declared.kinds.Readiness.{Readiness}
 use Rattle.joint_replay.specs.declared.kinds.Readiness.TheVariants as is
 use Rattle.joint_replay.specs.declared.kinds.Next.{Next}
 use Rattle.joint_replay.specs.declared.kinds.Next.TheVariants as next
-use Rattle.joint_replay.specs.declared.kinds.Stepped.{Stepped}
-use Rattle.joint_replay.specs.declared.kinds.Stepped.TheVariants as did
 use Rattle.joint_replay.specs.Lanes.{Item, count_of}
 use Rattle.joint_replay.specs.Joining.{Joining, readiness, coming, choice, next_step, error_of, positions_from, steps_left}
 use Rattle.joint_replay.specs.Memory.{word_in}
 use Rattle.joint_replay.specs.Calls.{state_at}
-use Rattle.joint_replay.specs.Texts.{item_text, pass_text, end_text}
-use Rattle.rv_text.specs.Rows.{row_text}
+use Rattle.joint_replay.specs.Texts.{item_text}
 use Rattle.step_debugger.specs.declared.command.Command.{Command}
 use Rattle.step_debugger.specs.declared.command.Command.TheVariants as to
 use Rattle.step_debugger.specs.declared.session.Ending.{Ending}
@@ -68,9 +65,12 @@ registers_text None = codes "no state\n"
 registers_text (Some s) = half_text s.x 0 ++ half_text s.x 16
 
 -- the pc of a hart that isn't at an ordering point
-abbrev pub pc_text : Option HartState → List ℕ
+abbrev pub pc_at : Joining → ℕ → Option ℕ
+pc_at j h = elim (state_at j h) [ None ↦ None | Some s ↦ Some s.pc ]
+
+abbrev pub pc_text : Option ℕ → List ℕ
 pc_text None = codes "--------"
-pc_text (Some s) = hex8 s.pc
+pc_text (Some pc) = hex8 pc
 
 abbrev pub readiness_text : Readiness → List ℕ
 readiness_text is.Ready = codes "ready\n"
@@ -78,14 +78,14 @@ readiness_text (is.Waits s ic) = waits_text s ic
 readiness_text is.Done = codes "done\n"
 
 -- the count and the pc of what comes next of a hart, and whether it waits
-unfoldable pub place_text : ℕ → ℕ → Option HartState → Readiness → List ℕ
-place_text h ic state ready = point_text h ic ++ codes " " ++ pc_text state ++ codes " " ++ readiness_text ready
+unfoldable pub place_text : ℕ → ℕ → Option ℕ → Readiness → List ℕ
+place_text h ic pc ready = point_text h ic ++ codes " " ++ pc_text pc ++ codes " " ++ readiness_text ready
 
 unfoldable pub hart_done_text : ℕ → List ℕ
 hart_done_text h = decimal h ++ codes " done\n"
 
 abbrev pub hart_place : Joining → ℕ → List ℕ
-hart_place j h = elim (coming j h) [ None ↦ hart_done_text h | Some c ↦ place_text h (count_of c) (state_at j h) (readiness j h) ]
+hart_place j h = elim (coming j h) [ None ↦ hart_done_text h | Some c ↦ place_text h (count_of c) (pc_at j h) (readiness j h) ]
 
 -- so many harts from one on
 abbrev pub places_from : Joining → ℕ → ℕ → List ℕ
@@ -93,12 +93,6 @@ places_from j h zero = []
 places_from j h (suc n) = hart_place j h ++ places_from j (h + 1) n
 
 -- ---- steps
-
--- the line of a step
-abbrev pub stepped_text : Stepped → List ℕ
-stepped_text (did.Passed h ic) = pass_text h ic
-stepped_text (did.Did row) = row_text row
-stepped_text (did.Ended h n m) = end_text h n m
 
 -- steps of a joint replay: what they print, where it stands then, and how they end
 pub record Moves : Type 0 where

@@ -3,4 +3,5 @@ pub mod Commands
 pub mod Lines
 pub mod Answers
 pub mod Transcript
+pub mod Goings
 pub mod Examples

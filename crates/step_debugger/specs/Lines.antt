@@ -1,5 +1,5 @@
 -- The lines of the commands.
-use Rattle.std.specs.Prelude.{◌≡◌, ℕ, ◌+◌, ◌^◌, ◌≤◌, ◌==◌, nat_lt, Bool, true, false, not, ◌&&◌, List, [], ◌∷◌, ◌++◌, length, Option, Some, None, Result, Ok, Err}
+use Rattle.std.specs.Prelude.{◌≡◌, ℕ, ◌+◌, ◌^◌, ◌<◌, ◌≤◌, ◌==◌, nat_lt, Bool, true, false, not, ◌&&◌, List, [], ◌∷◌, ◌++◌, length, Option, Some, None, Result, Ok, Err}
 use Rattle.std.specs.Io.KnownBytes.{Consumes}
 use Rattle.bn_outside.specs.Counts.{Rose}
 use Rattle.bn_outside.specs.Streams.{ConsumesAll}
@@ -57,8 +57,8 @@ pub record Reading : Type 0 where
 
 -- one byte more: the line ends with it (`true`), or it belongs to the line, or it is one too many
 abbrev pub TakesByte : Reading → ℕ → Result Bool DebugError → Reading → Type 0
-TakesByte old byte (Ok true) new = (more : List ℕ) → input_from old.count old.line (byte ∷ more) ≡ with_line new.line (input_from new.count [] more)
-TakesByte old byte (Ok false) new = (new.line ≡ old.line ++ byte ∷ []) × (length new.line ≤ line_limit) × ((more : List ℕ) → input_from old.count old.line (byte ∷ more) ≡ input_from new.count new.line more)
+TakesByte old byte (Ok true) new = (new.count ≡ old.count + 1) × (new.count ≤ input_limit) × ((more : List ℕ) → input_from old.count old.line (byte ∷ more) ≡ with_line new.line (input_from new.count [] more))
+TakesByte old byte (Ok false) new = (new.count ≡ old.count + 1) × (new.line ≡ old.line ++ byte ∷ []) × (length new.line ≤ line_limit) × ((more : List ℕ) → input_from old.count old.line (byte ∷ more) ≡ input_from new.count new.line more)
 TakesByte old byte (Err (LineTooLong n)) new = (more : List ℕ) → input_from old.count old.line (byte ∷ more) ≡ ends_in new.line (Some (LineTooLong n))
 TakesByte old byte (Err (TooMuch n)) new = (more : List ℕ) → input_from old.count old.line (byte ∷ more) ≡ ends_in new.line (Some (TooMuch n))
 TakesByte old byte (Err OutOfMemory) new = Unit {0}
@@ -73,7 +73,7 @@ GivesByte old new before now (Err e) = Consumes old new [] × Rose before now
 -- what is read next, of a source of which these bytes are gone then: a line that ends with LF (`true`); the end of the source,
 -- and the bytes before it; or why there is none
 abbrev pub ReadsLine : Reading → (gone : List ℕ) → (left now_left : Option (List ℕ)) → (before now : ℕ) → Result Bool DebugError → Reading → Type 0
-ReadsLine old gone left now_left before now (Ok true) new = (more : List ℕ) → input_from old.count [] (gone ++ more) ≡ with_line new.line (input_from new.count [] more)
+ReadsLine old gone left now_left before now (Ok true) new = (old.count < new.count) × (new.count ≤ input_limit) × ((more : List ℕ) → input_from old.count [] (gone ++ more) ≡ with_line new.line (input_from new.count [] more))
 ReadsLine old gone left now_left before now (Ok false) new = (input_from old.count [] gone ≡ ends_in new.line None) × ConsumesAll left now_left gone
 ReadsLine old gone left now_left before now (Err ReadFault) new = (input_from old.count [] gone ≡ ends_in new.line None) × Rose before now
 ReadsLine old gone left now_left before now (Err (LineTooLong n)) new = (more : List ℕ) → input_from old.count [] (gone ++ more) ≡ ends_in new.line (Some (LineTooLong n))

@@ -1,6 +1,6 @@
 -- The transcript of a session.
 use Rattle.std.specs.Prelude.{◌≡◌, ◌⊎◌, ℕ, List, [], ◌∷◌, ◌++◌, Option, Some, None, Result, Ok, Err}
-use Rattle.std.specs.Io.KnownBytes.{Appends}
+use Rattle.std.specs.Io.KnownBytes.{Appends, Consumes}
 use Rattle.bn_outside.specs.Counts.{Rose}
 use Rattle.bn_outside.specs.Streams.{AppendsPart, ConsumesAll}
 use Rattle.joint_replay.specs.Joining.{Joining}
@@ -28,13 +28,9 @@ abbrev pub answers : List (List ℕ) → Session → Answer
 answers [] s = says s []
 answers (line ∷ lines) s = let a : Answer = answer s (command_of line) in goes_on_by a.ends a (λ t. answers lines t)
 
--- the lines of all commands: a last one without LF counts, unless it is empty or too long
-abbrev pub last_line : List ℕ → List (List ℕ)
-last_line [] = []
-last_line (b ∷ bs) = (b ∷ bs) ∷ []
-
+-- the lines of all commands: what stands behind the last LF counts, unless no more is read; an empty line prints nothing
 abbrev pub lines_in : Input → List (List ℕ)
-lines_in input = elim input.refused [ None ↦ input.lines ++ last_line input.last | Some e ↦ input.lines ]
+lines_in input = elim input.refused [ None ↦ input.lines ++ input.last ∷ [] | Some e ↦ input.lines ]
 
 -- the text that a session prints, and how it ends
 pub record Told : Type 0 where
@@ -54,13 +50,25 @@ transcript j input = let a : Answer = answers (lines_in input) (begin j) in reco
 
 -- ---- what a session does
 
--- a session ends as its transcript does: its text is written, and where no command ended it all commands were read. Or a read
--- failed before a command ended it, and the whole lines before that are answered; or a write failed, or memory was wanting,
--- and a front of the text is written
+-- the bytes end with the line that ended the session: none of those behind it is gone
+pub record EndsThere (j : Joining) (gone : List ℕ) (e : Ending) : Type 0 where
+  pub front : List (List ℕ)
+  pub line : List ℕ
+  pub lines : (input_of gone).lines ≡ front ++ line ∷ []
+  pub last : (input_of gone).last ≡ []
+  pub before : (answers front (begin j)).ends ≡ GoesOn
+  pub there : (answers (front ++ line ∷ []) (begin j)).ends ≡ e
+
+-- a session ends as its transcript does, and its text is written: at the line that ended it, or at the end of its source, or
+-- since no more lines are read. Or a read failed before, and the whole lines before that are answered; or a write failed, or
+-- memory was wanting, and a front of the text is written
 abbrev pub Debugs : Joining → (gone : List ℕ) → (left now_left : Option (List ℕ)) → (read_before read_now : ℕ) → (written now_written : Option (List ℕ)) → (before now : ℕ) → Result (Unit {0}) DebugError → Type 0
 Debugs j gone left now_left read_before read_now written now_written before now (Ok u) =
     let t : Told = transcript j (input_of gone) in
-    (t.result ≡ Ok (tt {0})) × Appends written now_written t.text × (((answers (input_of gone).lines (begin j)).ends ≡ Quits) ⊎ ConsumesAll left now_left gone)
+    (t.result ≡ Ok (tt {0})) × Appends written now_written t.text × (EndsThere j gone Quits ⊎ ConsumesAll left now_left gone)
+Debugs j gone left now_left read_before read_now written now_written before now (Err (why.Joint e)) =
+    let t : Told = transcript j (input_of gone) in
+    (t.result ≡ Err (why.Joint e)) × Appends written now_written t.text × (EndsThere j gone (Refused e) ⊎ ConsumesAll left now_left gone)
 Debugs j gone left now_left read_before read_now written now_written before now (Err ReadFault) =
     let a : Answer = answers (input_of gone).lines (begin j) in
     (a.ends ≡ GoesOn) × ((input_of gone).refused ≡ None) × Appends written now_written a.text × Rose read_before read_now
@@ -71,3 +79,9 @@ Debugs j gone left now_left read_before read_now written now_written before now 
 Debugs j gone left now_left read_before read_now written now_written before now (Err e) =
     let t : Told = transcript j (input_of gone) in
     (t.result ≡ Err e) × Appends written now_written t.text
+
+-- bytes of the source are gone, and they are the commands
+pub record Debugged (j : Joining) (left now_left : Option (List ℕ)) (read_before read_now : ℕ) (written now_written : Option (List ℕ)) (before now : ℕ) (result : Result (Unit {0}) DebugError) : Type 0 where
+  pub gone : List ℕ
+  pub taken : Consumes left now_left gone
+  pub done : Debugs j gone left now_left read_before read_now written now_written before now result

@@ -2,12 +2,17 @@
 #![tactic(auto)]
 
 mod command;
+mod debugger;
+mod desk;
 mod error;
 mod examples;
 mod lines;
+mod moves;
 mod numbers;
 mod parse;
+mod sending;
 mod session;
 mod texts;
 
+pub use debugger::debug;
 pub use error::DebugError;

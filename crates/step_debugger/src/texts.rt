@@ -1,12 +1,10 @@
 //! The lines that the debugger prints.
-ghost use Rattle.std.specs.Prelude.{◌≡◌, ◌+◌, ◌<◌, ◌++◌, OnOk, codes, MatchOption, Some, None};
-ghost use Rattle.bn_base.specs.declared.state.HartState.{HartState};
-ghost use Rattle.joint_replay.specs.Texts.{pass_text, mark_text, end_text};
-ghost use Rattle.step_debugger.specs.Answers.{point_text, hart_text, waits_text, stop_text, address_text, word_text, register_text, two_text, four_text, half_text, hart_done_text, stepped_text};
+ghost use Rattle.std.specs.Prelude.{◌≡◌, ◌+◌, ◌<◌, ◌++◌, OnOk};
+ghost use Rattle.step_debugger.specs.Answers.{point_text, hart_text, waits_text, stop_text, address_text, word_text, register_text, two_text, four_text, half_text, pc_text, readiness_text, place_text, hart_done_text};
 
-use bn_base::{Addr, EndMark, HartId, Ic, Register, Registers};
-use joint_replay::Stepped;
-use rv_text::{Text, register_name, write_row};
+use bn_base::{Addr, HartId, Ic, Register, Registers};
+use joint_replay::Readiness;
+use rv_text::{Text, register_name};
 use std::alloc::AllocError;
 
 #[tactic(auto, unfolding(crate::specs::Answers::point_text))]
@@ -119,6 +117,44 @@ pub(crate) fn push_half(text: &mut Text, x: &Registers, first: u8) -> Result<(),
     push_four(text, x, first + 12)
 }
 
+// The pc of a hart that isn't at an ordering point.
+fn push_pc(text: &mut Text, pc: Option<Addr>) -> Result<(), AllocError>
+    ensures { OnOk result (text.new ≡ text.old ++ pc_text pc) }
+{
+    match pc {
+        None => text.push_str("--------"),
+        Some(pc) => text.push_hex8(pc),
+    }
+}
+
+fn push_readiness(text: &mut Text, ready: Readiness) -> Result<(), AllocError>
+    ensures { OnOk result (text.new ≡ text.old ++ readiness_text ready) }
+{
+    match ready {
+        Readiness::Ready => text.push_str("ready\n"),
+        Readiness::Waits { hart, ic } => push_waits(text, hart, ic),
+        Readiness::Done => text.push_str("done\n"),
+    }
+}
+
+/// The line of a hart: the count and the pc of what comes next, and whether it waits.
+#[tactic(auto, unfolding(crate::specs::Answers::place_text))]
+pub(crate) fn push_place(
+    text: &mut Text,
+    hart: HartId,
+    ic: Ic,
+    pc: Option<Addr>,
+    ready: Readiness,
+) -> Result<(), AllocError>
+    ensures { OnOk result (text.new ≡ text.old ++ place_text hart ic pc ready) }
+{
+    push_point(text, hart, ic)?;
+    text.push_str(" ")?;
+    push_pc(text, pc)?;
+    text.push_str(" ")?;
+    push_readiness(text, ready)
+}
+
 /// The line of a hart that is done.
 #[tactic(auto, unfolding(crate::specs::Answers::hart_done_text))]
 pub(crate) fn push_hart_done(text: &mut Text, hart: HartId) -> Result<(), AllocError>
@@ -126,15 +162,4 @@ pub(crate) fn push_hart_done(text: &mut Text, hart: HartId) -> Result<(), AllocE
 {
     text.push_decimal(u64::from(hart))?;
     text.push_str(" done\n")
-}
-
-#[tactic(auto, unfolding(joint_replay::specs::Texts::pass_text))]
-fn push_pass(text: &mut Text, hart: HartId, ic: Ic) -> Result<(), AllocError>
-    ensures { OnOk result (text.new ≡ text.old ++ pass_text hart ic) }
-{
-    text.push_str("pass ")?;
-    text.push_decimal(u64::from(hart))?;
-    text.push_str(" ")?;
-    text.push_decimal(ic)?;
-    text.push_str("\n")
 }

@@ -1,0 +1,218 @@
+-- A session, line after line.
+use Rattle.std.proofs.Common.{◌≡◌, ℕ, ◌≤◌, Bool, true, false, List, [], ◌∷◌, ◌++◌, Option, Some, None, ◌∙◌, ap, subst, sym, refl, inl, inr, ◌⊎◌, append_assoc}
+use Rattle.std.specs.Prelude.{Ok, Err}
+use Rattle.std.specs.Io.KnownBytes.{Appends, Consumes}
+use Rattle.std.proofs.KnownBytes.{Appends-nil, Appends-trans, Consumes-nil, Consumes-trans}
+use Rattle.std.proofs.lemmas.List.{append-nil}
+use Rattle.bn_outside.specs.Streams.{AppendsPart, ConsumesAll}
+use Rattle.joint_replay.specs.Joining.{Joining}
+use Rattle.joint_replay.specs.declared.error.JointError.{JointError}
+use Rattle.step_debugger.specs.declared.error.DebugError.{DebugError}
+use Rattle.step_debugger.specs.declared.error.DebugError.TheVariants.{ReadFault, WriteFault, LineTooLong, TooMuch, Joint, OutOfMemory}
+use Rattle.step_debugger.specs.declared.session.Ending.{Ending}
+use Rattle.step_debugger.specs.declared.session.Ending.TheVariants.{GoesOn, Quits, Refused}
+use Rattle.step_debugger.specs.Commands.{command_of}
+use Rattle.step_debugger.specs.Lines.{Reading, Input, input_from, input_of, with_line, ends_in, NextLine}
+use Rattle.step_debugger.specs.Answers.{Session, Answer, says, answer, begin}
+use Rattle.step_debugger.specs.Transcript.{behind, goes_on_by, answers, lines_in, Told, result_by, transcript, EndsThere, Debugs, Debugged}
+use Rattle.step_debugger.specs.Goings.{Stops}
+use Rattle.step_debugger.proofs.Sent.{part_longer, part_behind, part_whole, rose_later}
+
+-- ---- what is read
+
+-- lines before others
+abbrev pub with_lines : List (List ℕ) → Input → Input
+with_lines lines input = record input { lines = lines ++ input.lines }
+
+one_line_more : (lines : List (List ℕ)) (line : List ℕ) (input : Input) → with_lines lines (with_line line input) ≡ with_lines (lines ++ line ∷ []) input
+one_line_more lines line input = ap (λ (ls : List (List ℕ)). record { lines = ls; last = input.last; refused = input.refused }) (sym (append_assoc lines (line ∷ []) input.lines))
+
+lines_before : (lines : List (List ℕ)) (input : Input) → lines_in (with_lines lines input) ≡ lines ++ lines_in input
+lines_before lines input = by input.refused
+  where
+    by : (r : Option DebugError) → elim r as (λ y. List (List ℕ)) [ None ↦ (lines ++ input.lines) ++ input.last ∷ [] | Some e ↦ lines ++ input.lines ] ≡ lines ++ elim r as (λ y. List (List ℕ)) [ None ↦ input.lines ++ input.last ∷ [] | Some e ↦ input.lines ]
+    by None = append_assoc lines input.lines (input.last ∷ [])
+    by (Some e) = refl
+
+-- ---- where a session stands
+
+-- so many bytes are gone, these lines of them are answered, and this text is sent
+pub record Stands (j : Joining) (s : Session) (count : ℕ) (left now_left written now_written : Option (List ℕ)) : Type 0 where
+  pub gone : List ℕ
+  pub lines : List (List ℕ)
+  pub text : List ℕ
+  pub taken : Consumes left now_left gone
+  pub read : (more : List ℕ) → input_of (gone ++ more) ≡ with_lines lines (input_from count [] more)
+  pub said : (rest : List (List ℕ)) → answers (lines ++ rest) (begin j) ≡ behind text (answers rest s)
+  pub sent : Appends written now_written text
+
+pub at_begin : (j : Joining) (s : Session) (count : ℕ) (left written : Option (List ℕ)) → s ≡ begin j → count ≡ 0 → Stands j s count left left written written
+at_begin j s count left written e z = record {
+  gone = [];
+  lines = [];
+  text = [];
+  taken = Consumes-nil left;
+  read = λ more. ap (λ n. input_from n [] more) (sym z);
+  said = λ rest. ap (answers rest) (sym e);
+  sent = Appends-nil written;
+}
+
+module _ (j : Joining) (s : Session) (old new : Reading) (left now_left next_left written now_written : Option (List ℕ)) (before after : ℕ) where
+  -- one line is answered, and the session goes on
+  pub one_more : (next_written : Option (List ℕ)) → Stands j s old.count left now_left written now_written → NextLine old now_left next_left before after (Ok true) new → (answer s (command_of new.line)).ends ≡ GoesOn
+      → Appends now_written next_written (answer s (command_of new.line)).text → Stands j (answer s (command_of new.line)).session new.count left next_left written next_written
+  one_more next_written t n on h =
+      let a : Answer = answer s (command_of new.line) in
+      record {
+        gone = t.gone ++ n.gone;
+        lines = t.lines ++ new.line ∷ [];
+        text = t.text ++ a.text;
+        taken = Consumes-trans left now_left next_left t.gone n.gone t.taken n.taken;
+        read = λ more. ap input_of (append_assoc t.gone n.gone more) ∙ t.read (n.gone ++ more) ∙ ap (with_lines t.lines) (n.read.2 more) ∙ one_line_more t.lines new.line (input_from new.count [] more);
+        said = λ rest. ap (λ (ls : List (List ℕ)). answers ls (begin j)) (append_assoc t.lines (new.line ∷ []) rest) ∙ t.said (new.line ∷ rest)
+            ∙ ap (λ (e : Ending). behind t.text (goes_on_by e a (λ u. answers rest u))) on
+            ∙ ap (λ (x : List ℕ). record { text = x; session = (answers rest a.session).session; ends = (answers rest a.session).ends }) (sym (append_assoc t.text a.text (answers rest a.session).text));
+        sent = Appends-trans written now_written next_written t.text a.text t.sent h;
+      }
+
+-- ---- how it ends
+
+abbrev told_of : Answer → Option DebugError → Told
+told_of a refused = record { text = a.text; result = result_by a.ends refused }
+
+-- what further bytes hold, which are gone too
+joined : (j : Joining) (s : Session) (count : ℕ) (left now_left written now_written : Option (List ℕ)) (t : Stands j s count left now_left written now_written) (more : List ℕ) (input : Input) → input_from count [] more ≡ input
+    → input_of (t.gone ++ more) ≡ with_lines t.lines input
+joined j s count left now_left written now_written t more input e = t.read more ∙ ap (with_lines t.lines) e
+
+-- the transcript begins with what is sent
+told_first : (j : Joining) (s : Session) (count : ℕ) (left now_left written now_written : Option (List ℕ)) (t : Stands j s count left now_left written now_written) (more : List ℕ)
+    → transcript j (input_of (t.gone ++ more)) ≡ told_of (behind t.text (answers (lines_in (input_from count [] more)) s)) (input_from count [] more).refused
+told_first j s count left now_left written now_written t more =
+    let i = input_from count [] more in
+    ap (transcript j) (t.read more) ∙ ap (λ (ls : List (List ℕ)). told_of (answers ls (begin j)) i.refused) (lines_before t.lines i) ∙ ap (λ (a : Answer). told_of a i.refused) (t.said (lines_in i))
+
+-- the answer of a line stands first in those of more
+first_text : (e : Ending) (a : Answer) (go : Session → Answer) → (rest : List ℕ) × ((goes_on_by e a go).text ≡ a.text ++ rest)
+first_text GoesOn a go = ((go a.session).text, refl)
+first_text Quits a go = ([], sym (append-nil a.text))
+first_text (Refused e) a go = ([], sym (append-nil a.text))
+
+-- the end of a source, after some bytes
+all_gone : (a b c : Option (List ℕ)) (x y : List ℕ) → Consumes a b x → ConsumesAll b c y → ConsumesAll a c (x ++ y)
+all_gone None b c x y p q = tt
+all_gone (Some z) None c x y p q = absurd p
+all_gone (Some z) (Some w) c x y p q = (ap (λ u. x ++ u) q.0 ∙ sym p, q.1)
+
+-- no line is left to read
+module _ (j : Joining) (s : Session) (old new : Reading) (left now_left next_left written now_written : Option (List ℕ)) (start before after write_before write_after : ℕ) (t : Stands j s old.count left now_left written now_written) (fell : start ≤ before) where
+  stopped : (e : DebugError) (n : NextLine old now_left next_left before after (Err e) new) → input_from old.count [] n.gone ≡ ends_in new.line (Some e)
+      → ((transcript j (input_of (t.gone ++ n.gone))).result ≡ Err e) × Appends written now_written (transcript j (input_of (t.gone ++ n.gone))).text
+  stopped e n f =
+      let is = told_first j s old.count left now_left written now_written t n.gone ∙ ap (λ (i : Input). told_of (behind t.text (answers (lines_in i) s)) i.refused) f in
+      (ap (λ (u : Told). u.result) is, subst (λ (x : List ℕ). Appends written now_written x) (sym (ap (λ (u : Told). u.text) is ∙ append-nil t.text)) t.sent)
+
+  pub not_read : (e : DebugError) → NextLine old now_left next_left before after (Err e) new → Debugged j left next_left start after written now_written write_before write_after (Err e)
+  not_read e n = record { gone = t.gone ++ n.gone; taken = Consumes-trans left now_left next_left t.gone n.gone t.taken n.taken; done = by e n }
+    where
+      by : (e : DebugError) (n : NextLine old now_left next_left before after (Err e) new) → Debugs j (t.gone ++ n.gone) left next_left start after written now_written write_before write_after (Err e)
+      by ReadFault n =
+          let is : input_of (t.gone ++ n.gone) ≡ with_lines t.lines (ends_in new.line None) = joined j s old.count left now_left written now_written t n.gone (ends_in new.line None) n.read.0 in
+          let said : answers (input_of (t.gone ++ n.gone)).lines (begin j) ≡ behind t.text (says s []) = ap (λ (i : Input). answers i.lines (begin j)) is ∙ t.said [] in
+          (ap (λ (a : Answer). a.ends) said, ap (λ (i : Input). i.refused) is, subst (λ (x : List ℕ). Appends written now_written x) (sym (ap (λ (a : Answer). a.text) said ∙ append-nil t.text)) t.sent, rose_later start before after fell n.read.1)
+      by WriteFault n = absurd n.read
+      by (LineTooLong k) n = stopped (LineTooLong k) n (ap (input_from old.count []) (sym (append-nil n.gone)) ∙ n.read [])
+      by (TooMuch k) n = stopped (TooMuch k) n (ap (input_from old.count []) (sym (append-nil n.gone)) ∙ n.read [])
+      by (Joint f) n = absurd n.read
+      by OutOfMemory n =
+          let is = told_first j s old.count left now_left written now_written t n.gone in
+          subst (λ (x : List ℕ). AppendsPart written now_written x) (sym (ap (λ (u : Told). u.text) is)) (part_longer written now_written t.text _ (part_whole written now_written t.text t.sent))
+
+-- a line is read
+module _ (j : Joining) (s : Session) (old new : Reading) (left now_left next_left written now_written next_written : Option (List ℕ)) (start before after write_start write_before write_after : ℕ) (whole : Bool)
+    (t : Stands j s old.count left now_left written now_written) (n : NextLine old now_left next_left before after (Ok whole) new) where
+  abbrev answered : Answer
+  answered = answer s (command_of new.line)
+
+  abbrev all : List ℕ
+  all = t.gone ++ n.gone
+
+  taken_all : Consumes left next_left all
+  taken_all = Consumes-trans left now_left next_left t.gone n.gone t.taken n.taken
+
+  -- what the bytes hold: this line, perhaps an empty one behind it, and no refusal
+  heard : (w : Bool) (n : NextLine old now_left next_left before after (Ok w) new) → (lines : List (List ℕ)) × (transcript j (input_of (t.gone ++ n.gone)) ≡ told_of (behind t.text (goes_on_by answered.ends answered (λ u. answers lines u))) None)
+  heard true n =
+      let is : input_from old.count [] n.gone ≡ with_line new.line (ends_in [] None) = ap (input_from old.count []) (sym (append-nil n.gone)) ∙ n.read.2 [] in
+      ([] ∷ [], told_first j s old.count left now_left written now_written t n.gone ∙ ap (λ (i : Input). told_of (behind t.text (answers (lines_in i) s)) i.refused) is)
+  heard false n =
+      ([], told_first j s old.count left now_left written now_written t n.gone ∙ ap (λ (i : Input). told_of (behind t.text (answers (lines_in i) s)) i.refused) n.read.0)
+
+  -- its answer isn't sent
+  pub not_sent : (e : DebugError) → write_start ≤ write_before → AppendsPart now_written next_written answered.text × Stops write_before write_after e
+      → Debugged j left next_left start after written next_written write_start write_after (Err e)
+  not_sent e fell h = record { gone = all; taken = taken_all; done = by e h }
+    where
+      part : AppendsPart now_written next_written answered.text → AppendsPart written next_written (transcript j (input_of all)).text
+      part p =
+          let x = heard whole n in
+          let f = first_text answered.ends answered (λ u. answers x.0 u) in
+          subst (λ (x : List ℕ). AppendsPart written next_written x) (sym (ap (λ (u : Told). u.text) x.1 ∙ ap (λ y. t.text ++ y) f.1))
+          (part_behind written now_written next_written t.text (answered.text ++ f.0) t.sent (part_longer now_written next_written answered.text f.0 p))
+
+      by : (e : DebugError) → AppendsPart now_written next_written answered.text × Stops write_before write_after e → Debugs j all left next_left start after written next_written write_start write_after (Err e)
+      by ReadFault h = absurd h.1
+      by WriteFault h = (part h.0, rose_later write_start write_before write_after fell h.1)
+      by (LineTooLong k) h = absurd h.1
+      by (TooMuch k) h = absurd h.1
+      by (Joint f) h = absurd h.1
+      by OutOfMemory h = part h.0
+
+  -- the command ends the session
+  sent_to_end : (e : Ending) → answered.ends ≡ e → Appends now_written next_written answered.text → goes_on_by e answered (λ u. answers (heard whole n).0 u) ≡ answered
+      → (transcript j (input_of all) ≡ told_of (behind t.text answered) None) × Appends written next_written (transcript j (input_of all)).text
+  sent_to_end e on h last =
+      let x = heard whole n in
+      let is : transcript j (input_of all) ≡ told_of (behind t.text answered) None = x.1 ∙ ap (λ (a : Answer). told_of (behind t.text a) None) (ap (λ (y : Ending). goes_on_by y answered (λ u. answers x.0 u)) on ∙ last) in
+      (is, subst (λ (x : List ℕ). Appends written next_written x) (sym (ap (λ (u : Told). u.text) is)) (Appends-trans written now_written next_written t.text answered.text t.sent h))
+
+  -- it is the last line that is gone
+  there : (e : Ending) → answered.ends ≡ e → goes_on_by e answered (λ u. answers [] u) ≡ answered → (w : Bool) (n : NextLine old now_left next_left before after (Ok w) new)
+      → EndsThere j (t.gone ++ n.gone) e ⊎ ConsumesAll left next_left (t.gone ++ n.gone)
+  there e on last true n =
+      let is : input_of (t.gone ++ n.gone) ≡ with_lines t.lines (with_line new.line (ends_in [] None)) =
+      joined j s old.count left now_left written now_written t n.gone (with_line new.line (ends_in [] None)) (ap (input_from old.count []) (sym (append-nil n.gone)) ∙ n.read.2 []) in
+      inl (record {
+        front = t.lines;
+        line = new.line;
+        lines = ap (λ (i : Input). i.lines) is;
+        last = ap (λ (i : Input). i.last) is;
+        before = ap (λ (ls : List (List ℕ)). (answers ls (begin j)).ends) (sym (append-nil t.lines)) ∙ ap (λ (a : Answer). a.ends) (t.said []);
+        there = ap (λ (a : Answer). a.ends) (t.said (new.line ∷ [])) ∙ ap (λ (y : Ending). (goes_on_by y answered (λ u. answers [] u)).ends) on ∙ ap (λ (a : Answer). a.ends) last ∙ on;
+      })
+  there e on last false n = inr (all_gone left now_left next_left t.gone n.gone t.taken n.read.1)
+
+  pub quits : answered.ends ≡ Quits → Appends now_written next_written answered.text → Debugged j left next_left start after written next_written write_start write_after (Ok (tt {0}))
+  quits on h =
+      let x = sent_to_end Quits on h refl in
+      record { gone = all; taken = taken_all; done = (ap (λ (u : Told). u.result) x.0 ∙ ap (λ (e : Ending). result_by e None) on, x.1, there Quits on refl whole n) }
+
+  pub refused : (e : JointError) → answered.ends ≡ Refused e → Appends now_written next_written answered.text → Debugged j left next_left start after written next_written write_start write_after (Err (Joint e))
+  refused e on h =
+      let x = sent_to_end (Refused e) on h refl in
+      record { gone = all; taken = taken_all; done = (ap (λ (u : Told). u.result) x.0 ∙ ap (λ (e : Ending). result_by e None) on, x.1, there (Refused e) on refl whole n) }
+
+-- the last line, behind which there is none
+pub ends : (j : Joining) (s : Session) (old new : Reading) (left now_left next_left written now_written next_written : Option (List ℕ)) (start before after write_start write_after : ℕ)
+    → Stands j s old.count left now_left written now_written → NextLine old now_left next_left before after (Ok false) new → (answer s (command_of new.line)).ends ≡ GoesOn → Appends now_written next_written (answer s (command_of new.line)).text
+    → Debugged j left next_left start after written next_written write_start write_after (Ok (tt {0}))
+ends j s old new left now_left next_left written now_written next_written start before after write_start write_after t n on h =
+    let a : Answer = answer s (command_of new.line) in
+    let is : transcript j (input_of (t.gone ++ n.gone)) ≡ told_of (behind t.text (behind a.text (says a.session []))) None =
+    told_first j s old.count left now_left written now_written t n.gone ∙ ap (λ (i : Input). told_of (behind t.text (answers (lines_in i) s)) i.refused) n.read.0
+    ∙ ap (λ (y : Ending). told_of (behind t.text (goes_on_by y a (λ u. answers [] u))) None) on in
+    record {
+      gone = t.gone ++ n.gone;
+      taken = Consumes-trans left now_left next_left t.gone n.gone t.taken n.taken;
+      done = (ap (λ (u : Told). u.result) is, subst (λ (x : List ℕ). Appends written next_written x) (sym (ap (λ (u : Told). u.text) is ∙ ap (λ x. t.text ++ x) (append-nil a.text))) (Appends-trans written now_written next_written t.text a.text t.sent h), inr (all_gone left now_left next_left t.gone n.gone t.taken n.read.1));
+    }

@@ -1,0 +1,124 @@
+-- The lowest ready hart, and what its step leaves to do.
+use Rattle.std.proofs.Common.{◌≡◌, ℕ, zero, suc, ◌+◌, ◌<◌, Bool, true, false, refl, sym, ap, ap₂, ◌∙◌, subst, arith, List, [], ◌∷◌, length, slice_get, slice_set, Option, Some, None}
+use Rattle.std.specs.Prelude.{Result, Ok, Err}
+use Rattle.bn_base.specs.Programs.{Program}
+use Rattle.bn_base.specs.declared.row.Row.{Row}
+use Rattle.log_record.specs.declared.record.Record.{Record}
+use Rattle.hart_replay.specs.declared.error.ReplayError.{ReplayError}
+use Rattle.hart_replay.specs.Replay.{Outcome, Done, Refused}
+use Rattle.joint_replay.specs.declared.kinds.Readiness.{Readiness}
+use Rattle.joint_replay.specs.declared.kinds.Readiness.TheVariants as is
+use Rattle.joint_replay.specs.declared.kinds.Next.{Next}
+use Rattle.joint_replay.specs.declared.kinds.Next.TheVariants as next
+use Rattle.joint_replay.specs.declared.kinds.Stepped.{Stepped}
+use Rattle.joint_replay.specs.Lanes.{Course, Lane, Item, Doing, Ending, row_given, courses_steps, lane_step, lane_steps}
+use Rattle.joint_replay.specs.Memory.{memory_after}
+use Rattle.joint_replay.specs.Joining.{Joining, choice, choice_from, readiness, readiness_of, next_step, move, steps_left}
+use Rattle.joint_replay.specs.Calls.{Steps}
+use Rattle.step_debugger.specs.Answers.{go_by, go_past, stop_unless}
+use Rattle.step_debugger.specs.Goings.{GoesOnce}
+
+-- ---- the lowest ready hart is ready
+
+-- a hart of those from k on that is ready
+pub record Found (records : List Record) (lanes : List Lane) (k : ℕ) (ls : List Lane) (h : ℕ) : Type 0 where
+  pub place : ℕ
+  pub lane : Lane
+  pub at : slice_get ls place ≡ Some lane
+  pub number : k + place ≡ h
+  pub ready : readiness_of records lanes h lane ≡ is.Ready
+
+found : (records : List Record) (lanes : List Lane) (k : ℕ) (ls : List Lane) (w : Bool) (h : ℕ) → choice_from records lanes k ls w ≡ next.Hart h → Found records lanes k ls h
+found records lanes k [] true h e = absurd cc
+found records lanes k [] false h e = absurd cc
+found records lanes k (l ∷ ls) w h e = by (readiness_of records lanes k l) refl (λ v f. found records lanes (k + 1) ls v h f) e
+  where
+    further : Found records lanes (k + 1) ls h → Found records lanes k (l ∷ ls) h
+    further f = record { place = suc f.place; lane = f.lane; at = f.at; number = omega (arith, f.number); ready = f.ready }
+
+    by : (r : Readiness) → readiness_of records lanes k l ≡ r → ((v : Bool) → choice_from records lanes (k + 1) ls v ≡ next.Hart h → Found records lanes (k + 1) ls h)
+        → elim r as (λ y. Next) [ is.Ready ↦ next.Hart k | is.Waits s ic ↦ choice_from records lanes (k + 1) ls true | is.Done ↦ choice_from records lanes (k + 1) ls w ] ≡ next.Hart h → Found records lanes k (l ∷ ls) h
+    by is.Ready f rest e = let same : k ≡ h = cc in record { place = 0; lane = l; at = refl; number = omega (arith, same); ready = subst (λ n. readiness_of records lanes n l ≡ is.Ready) same f }
+    by (is.Waits s ic) f rest e = further (rest true e)
+    by is.Done f rest e = further (rest w e)
+
+below : (ls : List Lane) (k : ℕ) (lane : Lane) → slice_get ls k ≡ Some lane → k < length ls
+below [] k lane e = absurd cc
+below (l ∷ ls) zero lane e = omega arith
+below (l ∷ ls) (suc k) lane e = omega (arith, below ls k lane e)
+
+pub lowest_is_ready : (j : Joining) (h : ℕ) → choice j ≡ next.Hart h → readiness j h ≡ is.Ready
+lowest_is_ready j h e =
+    let f = found j.records j.lanes 0 j.lanes false h e in
+    let same : f.place ≡ h = omega (arith, f.number) in
+    ap (λ (o : Option Lane). elim o as (λ y. Readiness) [ None ↦ is.Done | Some lane ↦ readiness_of j.records j.lanes h lane ]) (ap (slice_get j.lanes) (sym same) ∙ f.at) ∙ f.ready
+
+pub lowest_is_there : (j : Joining) (h : ℕ) → choice j ≡ next.Hart h → h < length j.lanes
+lowest_is_there j h e =
+    let f = found j.records j.lanes 0 j.lanes false h e in
+    omega (arith, below j.lanes f.place f.lane f.at, f.number)
+
+-- ---- a step lowers what is left by one
+
+same_pair : (x y : Item × Lane) → ◌≡◌ {A = Result (Item × Lane) ReplayError} (Ok x) (Ok y) → x ≡ y
+same_pair x y e = cc
+
+some_pair : (x y : Result (Item × Lane) ReplayError) → ◌≡◌ {A = Option (Result (Item × Lane) ReplayError)} (Some x) (Some y) → x ≡ y
+some_pair x y e = cc
+
+-- an interval's step, by what is left of it
+abbrev step_by : Program → Course → List Course → List Row → Outcome → Result (Item × Lane) ReplayError
+step_by i c cs rows o = elim rows [
+  | r ∷ rs ↦ Ok (Doing c.state r, record { points = []; courses = row_given i c r rs ∷ cs })
+  | [] ↦ elim o [ Done ↦ Ok (Ending c.number c.mark, record { points = []; courses = cs }) | Refused e ↦ Err e ]
+]
+
+course_fewer : (i : Program) (c : Course) (cs : List Course) (rows : List Row) (o : Outcome) (x : Item × Lane) → step_by i c cs rows o ≡ Ok x → lane_steps x.1 + 1 ≡ length rows + 1 + courses_steps cs
+course_fewer i c cs [] Done x e = subst (λ (y : Item × Lane). lane_steps y.1 + 1 ≡ 0 + 1 + courses_steps cs) (same_pair (Ending c.number c.mark, record { points = []; courses = cs }) x e) (omega arith)
+course_fewer i c cs [] (Refused g) x e = absurd cc
+course_fewer i c cs (r ∷ rs) o x e = subst (λ (y : Item × Lane). lane_steps y.1 + 1 ≡ length (r ∷ rs) + 1 + courses_steps cs) (same_pair (Doing c.state r, record { points = []; courses = row_given i c r rs ∷ cs }) x e) (omega arith)
+
+lane_fewer : (i : Program) (points : List ℕ) (courses : List Course) (x : Item × Lane) → lane_step i (record { points = points; courses = courses }) ≡ Some (Ok x) → lane_steps x.1 + 1 ≡ length points + courses_steps courses
+lane_fewer i [] [] x e = absurd cc
+lane_fewer i [] (c ∷ cs) x e =
+    let low = course_fewer i c cs c.left.rows c.left.outcome x (some_pair (step_by i c cs c.left.rows c.left.outcome) (Ok x) e) in
+    omega (arith, low)
+lane_fewer i (p ∷ ps) courses x e =
+    subst (λ (y : Item × Lane). lane_steps y.1 + 1 ≡ length (p ∷ ps) + courses_steps courses) (same_pair _ x (some_pair _ (Ok x) e)) (omega arith)
+
+set_fewer : (ls : List Lane) (h : ℕ) (lane new : Lane) → slice_get ls h ≡ Some lane → lane_steps new + 1 ≡ lane_steps lane → steps_left (slice_set ls h new) + 1 ≡ steps_left ls
+set_fewer [] h lane new e low = absurd cc
+set_fewer (l ∷ ls) zero lane new e low = let same : l ≡ lane = cc in let less : lane_steps new + 1 ≡ lane_steps l = subst (λ (y : Lane). lane_steps new + 1 ≡ lane_steps y) (sym same) low in omega (arith, less)
+set_fewer (l ∷ ls) (suc h) lane new e low = let rest = set_fewer ls h lane new e low in omega (arith, rest)
+
+same_set : (x y : Item × Joining) → ◌≡◌ {A = Option (Result (Item × Joining) ReplayError)} (Some (Ok x)) (Some (Ok y)) → x ≡ y
+same_set x y e = cc
+
+by_lane : (j : Joining) (h : ℕ) (lane : Lane) (o : Option (Result (Item × Lane) ReplayError)) (x : Item × Joining) → slice_get j.lanes h ≡ Some lane → lane_step j.program lane ≡ o → move j h o ≡ Some (Ok x)
+    → steps_left x.1.lanes + 1 ≡ steps_left j.lanes
+by_lane j h lane None x at e f = absurd cc
+by_lane j h lane (Some (Err g)) x at e f = absurd cc
+by_lane j h lane (Some (Ok y)) x at e f =
+    subst (λ (z : Item × Joining). steps_left z.1.lanes + 1 ≡ steps_left j.lanes) (same_set (y.0, record j { lanes = slice_set j.lanes h y.1; memory = memory_after y.0 j.memory }) x f)
+    (set_fewer j.lanes h lane y.1 at (lane_fewer j.program lane.points lane.courses y e))
+
+pub step_fewer : (j : Joining) (h : ℕ) (x : Item × Joining) → next_step j h ≡ Some (Ok x) → steps_left x.1.lanes + 1 ≡ steps_left j.lanes
+step_fewer j h x e = by j.refused (slice_get j.lanes h) refl e
+  where
+    by : (r : Option ReplayError) (o : Option Lane) → slice_get j.lanes h ≡ o
+        → elim r as (λ y. Option (Result (Item × Joining) ReplayError)) [ Some g ↦ Some (Err g) | None ↦ elim o as (λ y. Option (Result (Item × Joining) ReplayError)) [ None ↦ None | Some lane ↦ move j h (lane_step j.program lane) ] ] ≡ Some (Ok x)
+        → steps_left x.1.lanes + 1 ≡ steps_left j.lanes
+    by (Some g) o at f = absurd cc
+    by None None at f = absurd cc
+    by None (Some lane) at f = by_lane j h lane (lane_step j.program lane) x at refl f
+
+-- ---- a step of a go
+
+pub went : (first : Bool) (breaks : List ℕ) (old new : Joining) (h : ℕ) (stepped : Stepped) (text : List ℕ) → choice old ≡ next.Hart h → None ≡ stop_unless first breaks old h → Steps old h (Ok stepped) new
+    → GoesOnce first breaks old (Ok None) new text text
+went first breaks old new h stepped text c s t = (
+  refl,
+  step_fewer old h (t.0, new) t.1,
+  λ go.
+      ap (λ (n : Next). go_by first breaks old n go) c ∙ ap₂ (λ (at : Option (ℕ × ℕ)) (step : Option (Result (Item × Joining) ReplayError)). go_past old h at step go) (sym s) t.1,
+)

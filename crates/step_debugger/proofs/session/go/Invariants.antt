@@ -1,0 +1,14 @@
+use Rattle.std.proofs.Common.{◌≡◌, true}
+use Rattle.joint_replay.specs.Joining.{steps_left}
+use Rattle.step_debugger.specs.Answers.{go_on}
+use Rattle.step_debugger.proofs.session.go.Given as goal
+
+abbrev pub invariant-steps : goal.invariant-steps
+invariant-steps l = record {
+  same : l.text ≡ l.fn.text;
+  rest : go_on l.first l.breaks l.joint ≡ go_on true l.breaks l.fn.joint;
+}
+
+-- the steps that are left
+abbrev pub decreases-steps : goal.decreases-steps
+decreases-steps l = steps_left l.joint.lanes

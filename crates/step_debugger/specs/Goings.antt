@@ -1,0 +1,74 @@
+-- What single steps of a command do, and what is sent of a text.
+use Rattle.std.specs.Prelude.{◌≡◌, ℕ, ◌+◌, Bool, true, List, ◌++◌, Option, Some, None, Result, Ok, Err}
+use Rattle.std.specs.Io.KnownBytes.{Appends}
+use Rattle.bn_outside.specs.Counts.{Rose}
+use Rattle.bn_outside.specs.Streams.{AppendsPart}
+use Rattle.joint_replay.specs.declared.error.JointError.{JointError}
+use Rattle.joint_replay.specs.declared.error.JointError.TheVariants as joint
+use Rattle.joint_replay.specs.Joining.{Joining, readiness, choice, next_step, steps_left}
+use Rattle.step_debugger.specs.declared.error.DebugError.{DebugError}
+use Rattle.step_debugger.specs.declared.error.DebugError.TheVariants.{WriteFault, OutOfMemory}
+use Rattle.step_debugger.specs.declared.session.Ending.{Ending}
+use Rattle.step_debugger.specs.declared.session.Ending.TheVariants.{GoesOn, Refused}
+use Rattle.step_debugger.specs.declared.desk.Desk.{Desk}
+use Rattle.step_debugger.specs.Answers.{Session, Answer, Moves, after, step_by, go_by, go_on}
+
+-- how the refusal of a step is told; want of memory is none
+abbrev pub refused_by : JointError → Result Ending DebugError
+refused_by (joint.Replay e) = Ok (Refused (joint.Replay e))
+refused_by (joint.Stuck positions) = Ok (Refused (joint.Stuck positions))
+refused_by joint.OutOfMemory = Err OutOfMemory
+
+-- how a command ends whose answer is told
+abbrev pub done_by : {E : Type 0} → Result (Unit {0}) E → Result Ending DebugError
+done_by (Ok u) = Ok GoesOn
+done_by (Err e) = Err OutOfMemory
+
+-- moves that end there
+abbrev pub ended : List ℕ → Joining → Ending → Moves
+ended text now ending = record { text = text; now = now; ends = ending }
+
+-- one step of a hart is done and told, whatever follows; or the steps end there; or memory is wanting
+abbrev pub StepsOnce : Joining → ℕ → Result (Option Ending) DebugError → Joining → (text now_text : List ℕ) → Type 0
+StepsOnce old h (Ok None) new text now_text = (piece : List ℕ) × (now_text ≡ text ++ piece) × ((go : Joining → Moves) → step_by old h (readiness old h) (next_step old h) go ≡ after piece (go new))
+StepsOnce old h (Ok (Some ending)) new text now_text = (piece : List ℕ) × (now_text ≡ text ++ piece) × ((go : Joining → Moves) → step_by old h (readiness old h) (next_step old h) go ≡ ended piece new ending)
+StepsOnce old h (Err e) new text now_text = e ≡ OutOfMemory
+
+-- one step of the lowest ready hart is done, whatever follows; or the steps end there; or memory is wanting
+abbrev pub GoesOnce : Bool → List ℕ → Joining → Result (Option Ending) DebugError → Joining → (text now_text : List ℕ) → Type 0
+GoesOnce first breaks old (Ok None) new text now_text = (now_text ≡ text) × (steps_left new.lanes + 1 ≡ steps_left old.lanes) × ((go : Joining → Moves) → go_by first breaks old (choice old) go ≡ go new)
+GoesOnce first breaks old (Ok (Some ending)) new text now_text = (piece : List ℕ) × (now_text ≡ text ++ piece) × ((go : Joining → Moves) → go_by first breaks old (choice old) go ≡ ended piece new ending)
+GoesOnce first breaks old (Err e) new text now_text = e ≡ OutOfMemory
+
+-- ---- what is sent
+
+-- why sending stopped: memory was wanting, or a write failed
+abbrev pub Stops : ℕ → ℕ → DebugError → Type 0
+Stops before now OutOfMemory = Unit {0}
+Stops before now WriteFault = Rose before now
+Stops before now e = ⊥
+
+-- a text was sent, or a front of it
+abbrev pub Sends : {A : Type 0} → List ℕ → (A → Type 0) → (written now_written : Option (List ℕ)) → (before now : ℕ) → Result A DebugError → Type 0
+Sends text P written now_written before now (Ok value) = Appends written now_written text × P value
+Sends text P written now_written before now (Err e) = AppendsPart written now_written text × Stops before now e
+
+-- of a text some was sent and the rest waits, or a front of it was sent
+abbrev pub Gathers : {A : Type 0} → List ℕ → (A → Type 0) → (written now_written : Option (List ℕ)) → (before now : ℕ) → (waiting : List ℕ) → Result A DebugError → Type 0
+Gathers text P written now_written before now waiting (Ok value) = (sent : List ℕ) × Appends written now_written sent × (text ≡ sent ++ waiting) × P value
+Gathers text P written now_written before now waiting (Err e) = AppendsPart written now_written text × Stops before now e
+
+-- ---- a session, by its parts
+
+abbrev pub session_of : Joining → Desk → Session
+session_of j d = record { now = j; hart = d.hart; breaks = d.breaks.items }
+
+-- a command that isn't a step is told
+pub record Says (a : Answer) (j : Joining) (d : Desk) (text now_text : List ℕ) : Type 0 where
+  pub told : now_text ≡ text ++ a.text
+  pub session : session_of j d ≡ a.session
+
+-- all harts stepped up to a breakpoint, or memory was wanting
+abbrev pub Goes : List ℕ → Joining → Result Ending DebugError → Joining → (text now_text : List ℕ) → Type 0
+Goes breaks old (Ok ending) new text now_text = let m : Moves = go_on true breaks old in (now_text ≡ text ++ m.text) × (new ≡ m.now) × (ending ≡ m.ends)
+Goes breaks old (Err e) new text now_text = e ≡ OutOfMemory

@@ -1,0 +1,57 @@
+//! The debugger.
+ghost use Rattle.std.specs.Prelude.{◌≤◌};
+ghost use Rattle.step_debugger.specs.Transcript.{Debugged};
+
+use crate::desk::Desk;
+use crate::error::DebugError;
+use crate::lines::LineReader;
+use crate::session::{Ending, answer};
+use bn_outside::{Sink, Source};
+use joint_replay::Joint;
+use rv_text::Text;
+use std::alloc::Global;
+
+/// Reads commands from `input`, a line each, does them on the joint replay, and writes their answers
+/// to `out`, each as soon as its command is done.
+///
+/// It is `Ok` after the command `quit`, of which nothing behind is read, and at the end of the input.
+/// It fails where a read or a write does, where a line has more than 256 bytes or all commands have
+/// more than 2^24, where the joint replay is refused, and where memory is wanting. The answers before
+/// that stand.
+pub fn debug<I: Source, O: Sink>(
+    alloc: Global,
+    joint: &mut Joint,
+    input: &mut I,
+    out: &mut O,
+) -> Result<(), DebugError>
+    ensures told { Debugged joint.old (I.left input.old) (I.left input.new) (I.faults input.old) (I.faults input.new)
+        (O.written out.old) (O.written out.new) (O.faults out.old) (O.faults out.new) result }
+    ensures read { I.faults input.old ≤ I.faults input.new }
+    ensures later { O.faults out.old ≤ O.faults out.new }
+{
+    let mut reader = LineReader::new(alloc);
+    let mut desk = Desk {
+        hart: 0,
+        breaks: Vec::new(alloc),
+    };
+    let mut text = Text::new(alloc);
+    'lines: loop {
+        match reader.next(input) {
+            Err(error) => return Err(error),
+            Ok(whole) => {
+                match answer(alloc, joint, &mut desk, reader.line(), &mut text, out) {
+                    Err(error) => return Err(error),
+                    Ok(ending) => match ending {
+                        Ending::GoesOn => {
+                            if !whole {
+                                return Ok(());
+                            }
+                        }
+                        Ending::Quits => return Ok(()),
+                        Ending::Refused(error) => return Err(DebugError::Joint(error)),
+                    },
+                }
+            }
+        }
+    }
+}

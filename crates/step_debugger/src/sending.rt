@@ -1,0 +1,38 @@
+//! How answers are sent.
+ghost use Rattle.std.specs.Prelude.{◌≡◌, ◌≤◌, OnOk};
+ghost use Rattle.step_debugger.specs.Goings.{Sends, Gathers};
+
+use crate::error::DebugError;
+use bn_outside::{Sink, send_all};
+use rv_text::Text;
+
+// How many bytes of a text wait at least before they are sent.
+const BLOCK: usize = 65_536;
+
+/// Sends what waits of a text.
+pub(crate) fn send<O: Sink>(text: &Text, out: &mut O) -> Result<(), DebugError>
+    ensures sent { Sends text.now (λ _. Unit {0}) (O.written out.old) (O.written out.new) (O.faults out.old) (O.faults out.new) result }
+    ensures later { O.faults out.old ≤ O.faults out.new }
+{
+    match send_all(out, text.as_bytes()) {
+        Ok(()) => Ok(()),
+        Err(_) => Err(DebugError::WriteFault),
+    }
+}
+
+/// Sends what waits of a text, where it is a block or more.
+pub(crate) fn send_block<O: Sink>(text: &mut Text, out: &mut O) -> Result<(), DebugError>
+    ensures sent { Gathers text.old (λ _. Unit {0}) (O.written out.old) (O.written out.new) (O.faults out.old) (O.faults out.new) text.new result }
+    ensures later { O.faults out.old ≤ O.faults out.new }
+{
+    if text.len() < BLOCK {
+        return Ok(());
+    }
+    match send(text, out) {
+        Ok(()) => {
+            text.clear();
+            Ok(())
+        }
+        Err(error) => Err(error),
+    }
+}
