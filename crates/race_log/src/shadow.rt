@@ -23,6 +23,8 @@ pub struct Shadow {
     words: KeptWords,
     // One bit for each hart, set where it was at each sweep so far.
     lasting: u16,
+    // How many accesses were taken in since the last sweep.
+    since: u64,
     ghost same_harts: { words.harts ≡ harts },
     ghost some_hart: { 0 < harts },
     ghost few_harts: { harts ≤ HARTS },
@@ -61,6 +63,7 @@ impl Shadow {
             times,
             words: KeptWords::new(alloc, harts)?,
             lasting: u16::MAX,
+            since: 0,
         })
     }
 
@@ -137,6 +140,7 @@ impl Shadow {
         times.set(hart, ic + 1);
         self.last_turn = Some(turn);
         self.reserved = None;
+        self.since = self.since.saturating_add(1);
         self.words.go_on(hart, edges.count() > 0, &times);
         self.times[hart as usize] = times;
         self.words.keep(first, count, hart, mode, turn, ic + 1);
@@ -176,7 +180,14 @@ impl Shadow {
     {
         let known = self.known_to_all(live);
         self.lasting &= live;
+        self.since = 0;
         self.words.sweep(&known)
+    }
+
+    /// Whether a sweep is worth its walk: it goes over all words that have room, and by this comes no sooner than after as
+    /// many accesses. So it costs each access a constant, whatever a guest does.
+    pub fn is_sweep_due(&self) -> bool {
+        self.since as usize / 64 >= self.words.pages.len()
     }
 
     /// How many accesses are kept: at most one more than there are harts for each word that was accessed so far.

@@ -1,4 +1,5 @@
-use Rattle.std.proofs.Common.{◌≡◌, ◌+◌, ◌-◌, ◌*◌, ◌/◌, ◌==◌, ℕ, length, IsTrue, ltb-true, ◌∙◌, arith, refl, sym, ap, slice_get, slice_set, Contains, ◌↔◌, subst}
+use Rattle.std.proofs.Common.{◌≡◌, ◌+◌, ◌-◌, ◌*◌, ◌/◌, ◌==◌, ℕ, length, IsTrue, ltb-true, ◌∙◌, arith, refl, sym, ap, inl, inr, Option, Some, None, slice_get, slice_set, Contains, ◌↔◌, subst}
+use Rattle.std.proofs.lemmas.Bool.{cases_eq}
 use Rattle.vector_time.specs.Times.{count_of}
 use Rattle.race_log.specs.Kept.{is_write, access_point, after}
 use Rattle.race_log.specs.Points.{Point}
@@ -63,6 +64,29 @@ returns-clause-others c = λ other apart h.
 pub returns-clause-counts : goal.returns-clause-counts
 returns-clause-counts c = λ h.
     counts_set c.args.self.now c.args.hart c.args.ic c.set.new.self c.requires.hart _ (c.set.ensures c.args.hart) h
+
+pub invariant_of-self : goal.invariant_of-self
+invariant_of-self c =
+    let old = c.args.self.now in
+    record {
+      same_harts = c.keep.ensures.harts ∙ (c.go_on.ensures.harts ∙ old.same_harts);
+      some_hart = old.some_hart;
+      few_harts = old.few_harts;
+      each_hart = old.each_hart;
+      present = λ g h low apart. subst (λ s. present_counts s g h ≡ counts_at (slice_get (slice_set old.times.items c.args.hart c.set.new.self) g) h) (sym c.keep.ensures.stretches)
+          (elim (cases_eq g c.args.hart) [
+            | inl same ↦
+                subst (λ k. present_counts c.go_on.new.self.stretches k h ≡ counts_at (slice_get (slice_set old.times.items c.args.hart c.set.new.self) k) h) (sym same)
+                (c.go_on.ensures.own h (λ e. apart (e ∙ sym same))
+                ∙ sym (counts_here old.times.items c.args.hart c.set.new.self (omega (arith, c.requires.hart, old.each_hart, old.times.ok)) h))
+            | inr other ↦
+                c.go_on.ensures.others g other h ∙ (old.present g h low apart ∙ sym (counts_there old.times.items c.args.hart g c.set.new.self other h))
+          ]);
+      room = λ r is. absurd (none is);
+    }
+  where
+    none : {r : ℕ × ℕ} → ◌≡◌ {A = Option (ℕ × ℕ)} None (Some r) → ⊥
+    none e = cc
 
 pub go_on-requires-clause-room : goal.go_on-requires-clause-room
 go_on-requires-clause-room c = λ learns.
