@@ -10,7 +10,7 @@ use Rattle.joint_replay.specs.Memory.{Bytes, filled, has_byte, known_after, word
 use Rattle.joint_replay.specs.Joining.{Joining, Taken, Walk, begun}
 use Rattle.joint_replay.specs.Orders.{IsBegun}
 use Rattle.joint_laws.specs.Recordings.{Recording, OfBeginnings, begin}
-use Rattle.joint_laws.specs.Laws.{AscendFrom, HasWordsOnce}
+use Rattle.joint_laws.specs.Laws.{WordsAscend, HasWordsOnce}
 use Rattle.joint_laws.specs.Steps.{told_by}
 use Rattle.joint_laws.proofs.Lists.{some_is}
 use Rattle.joint_laws.proofs.Moves.{along}
@@ -173,11 +173,11 @@ latest (t ∷ ts) a word e = by (told_by a t.item) refl (forgets a t.item) refl 
 
 -- ---- the list ascends
 
-weaker : (low high : ℕ) (ms : List (ℕ × ℕ)) → low ≤ high → AscendFrom high ms → AscendFrom low ms
+weaker : (low high : ℕ) (ms : List (ℕ × ℕ)) → low ≤ high → WordsAscend high ms → WordsAscend low ms
 weaker low high [] le a = tt
 weaker low high (m ∷ ms) le a = (omega (arith, le, a.0), a.1)
 
-put_ascends : (low b v : ℕ) (ms : List (ℕ × ℕ)) → low ≤ b → AscendFrom low ms → AscendFrom low (put_word b v ms)
+put_ascends : (low b v : ℕ) (ms : List (ℕ × ℕ)) → low ≤ b → WordsAscend low ms → WordsAscend low (put_word b v ms)
 put_ascends low b v [] le a = (le, tt)
 put_ascends low b v (m ∷ ms) le a = by (b == m.0) refl (nat_lt b m.0) refl (λ up. put_ascends (m.0 + 1) b v ms up a.1)
   where
@@ -190,40 +190,40 @@ put_ascends low b v (m ∷ ms) le a = by (b == m.0) refl (nat_lt b m.0) refl (λ
     higher : (m n : ℕ) → (m == n) ≡ false → nat_lt m n ≡ false → n + 1 ≤ m
     higher m n e f = grind arith
 
-    by : (x : Bool) → (b == m.0) ≡ x → (y : Bool) → nat_lt b m.0 ≡ y → (m.0 + 1 ≤ b → AscendFrom (m.0 + 1) (put_word b v ms))
-        → AscendFrom low (elim x as (λ z. List (ℕ × ℕ)) [ true ↦ (b, v) ∷ ms | false ↦ elim y as (λ z. List (ℕ × ℕ)) [ true ↦ (b, v) ∷ m ∷ ms | false ↦ m ∷ put_word b v ms ] ])
+    by : (x : Bool) → (b == m.0) ≡ x → (y : Bool) → nat_lt b m.0 ≡ y → (m.0 + 1 ≤ b → WordsAscend (m.0 + 1) (put_word b v ms))
+        → WordsAscend low (elim x as (λ z. List (ℕ × ℕ)) [ true ↦ (b, v) ∷ ms | false ↦ elim y as (λ z. List (ℕ × ℕ)) [ true ↦ (b, v) ∷ m ∷ ms | false ↦ m ∷ put_word b v ms ] ])
     by true e y f rest = (le, weaker (b + 1) (m.0 + 1) ms (let same = number b m.0 e in omega (arith, same)) a.1)
     by false e true f rest = (le, ((let up = lower b m.0 f in omega (arith, up)), a.1))
     by false e false f rest = (a.0, rest (higher b m.0 e f))
 
-access_ascends : (o : Option (ℕ × ℕ)) (ms : List (ℕ × ℕ)) → AscendFrom 0 ms → AscendFrom 0 (put_access o ms)
+access_ascends : (o : Option (ℕ × ℕ)) (ms : List (ℕ × ℕ)) → WordsAscend 0 ms → WordsAscend 0 (put_access o ms)
 access_ascends None ms a = a
 access_ascends (Some x) ms a = put_ascends 0 (aligned x.0) x.1 ms (omega arith) a
 
-without_ascends : (low : ℕ) (b : Bytes) (ms : List (ℕ × ℕ)) → AscendFrom low ms → AscendFrom low (without b ms)
+without_ascends : (low : ℕ) (b : Bytes) (ms : List (ℕ × ℕ)) → WordsAscend low ms → WordsAscend low (without b ms)
 without_ascends low b [] a = tt
 without_ascends low b (m ∷ ms) a = by (has_byte (Some b) m.0) (without_ascends (m.0 + 1) b ms a.1)
   where
-    by : (x : Bool) → AscendFrom (m.0 + 1) (without b ms) → AscendFrom low (cond (not x) (m ∷ without b ms) (without b ms))
+    by : (x : Bool) → WordsAscend (m.0 + 1) (without b ms) → WordsAscend low (cond (not x) (m ∷ without b ms) (without b ms))
     by true rest = weaker low (m.0 + 1) (without b ms) (let le = a.0 in omega (arith, le)) rest
     by false rest = (a.0, rest)
 
-forget_ascends : (o : Option Bytes) (ms : List (ℕ × ℕ)) → AscendFrom 0 ms → AscendFrom 0 (forget o ms)
+forget_ascends : (o : Option Bytes) (ms : List (ℕ × ℕ)) → WordsAscend 0 ms → WordsAscend 0 (forget o ms)
 forget_ascends None ms a = a
 forget_ascends (Some b) ms a = without_ascends 0 b ms a
 
-step_ascends : (item : Item) (ms : List (ℕ × ℕ)) → AscendFrom 0 ms → AscendFrom 0 (memory_after item ms)
+step_ascends : (item : Item) (ms : List (ℕ × ℕ)) → WordsAscend 0 ms → WordsAscend 0 (memory_after item ms)
 step_ascends (Passing ic) ms a = a
 step_ascends (Ending n m) ms a = a
 step_ascends (Doing s row) ms a = access_ascends row.store (put_access row.load (forget (filled s row) ms)) (access_ascends row.load (forget (filled s row) ms) (forget_ascends (filled s row) ms a))
 
 -- a word of the list is above the ones before it, and so it is the one that is found
-above : (low k : ℕ) (ms : List (ℕ × ℕ)) (m : ℕ × ℕ) → AscendFrom low ms → k < length ms → slice_index_or ms k m ≡ m → low ≤ m.0
+above : (low k : ℕ) (ms : List (ℕ × ℕ)) (m : ℕ × ℕ) → WordsAscend low ms → k < length ms → slice_index_or ms k m ≡ m → low ≤ m.0
 above low k [] m a less e = absurd (omega (arith, less))
 above low zero (n ∷ ns) m a less e = subst (λ (x : ℕ × ℕ). low ≤ x.0) e a.0
 above low (suc k) (n ∷ ns) m a less e = let up = above (n.0 + 1) k ns m a.1 (omega (arith, less)) e in let le = a.0 in omega (arith, up, le)
 
-found_once : (low k : ℕ) (ms : List (ℕ × ℕ)) (m : ℕ × ℕ) → AscendFrom low ms → k < length ms → slice_index_or ms k m ≡ m → word_in ms m.0 ≡ Some m.1
+found_once : (low k : ℕ) (ms : List (ℕ × ℕ)) (m : ℕ × ℕ) → WordsAscend low ms → k < length ms → slice_index_or ms k m ≡ m → word_in ms m.0 ≡ Some m.1
 found_once low k [] m a less e = absurd (omega (arith, less))
 found_once low zero (n ∷ ns) m a less e =
     ap (λ b. elim b as (λ y. Option ℕ) [ true ↦ Some n.1 | false ↦ word_in ns m.0 ]) (eq-eqb m.0 n.0 (ap (λ (x : ℕ × ℕ). x.0) (sym e))) ∙ ap (λ (x : ℕ × ℕ). Some x.1) e
@@ -233,6 +233,6 @@ found_once low (suc k) (n ∷ ns) m a less e =
 
 pub words_once : OfBeginnings HasWordsOnce
 words_once r records order w log b =
-    let ascends : AscendFrom 0 w.now.memory = along (λ v. AscendFrom 0 v.now.memory)
-    (λ v h x a m. subst (λ (j : Joining). AscendFrom 0 j.memory) (sym m.is) (step_ascends x.0 v.now.memory a)) (begun (begin r records)) order tt w b.allowed in
+    let ascends : WordsAscend 0 w.now.memory = along (λ v. WordsAscend 0 v.now.memory)
+    (λ v h x a m. subst (λ (j : Joining). WordsAscend 0 j.memory) (sym m.is) (step_ascends x.0 v.now.memory a)) (begun (begin r records)) order tt w b.allowed in
     (ascends, λ m c. found_once 0 c.0 w.now.memory m ascends c.1 c.2)

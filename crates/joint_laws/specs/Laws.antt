@@ -85,27 +85,23 @@ abbrev pub HasMemory : Recording → List Record → Walk → Type 0
 HasMemory r records w = (a word : ℕ) → word_in w.now.memory a ≡ Some word → IsRecordedWord r w a word
 
 -- words stand by ascending address, from an address on; so each has one value
-abbrev pub AscendFrom : ℕ → List (ℕ × ℕ) → Type 0
-AscendFrom low [] = Unit {0}
-AscendFrom low (m ∷ ms) = (low ≤ m.0) × AscendFrom (m.0 + 1) ms
+abbrev pub WordsAscend : ℕ → List (ℕ × ℕ) → Type 0
+WordsAscend low [] = Unit {0}
+WordsAscend low (m ∷ ms) = (low ≤ m.0) × WordsAscend (m.0 + 1) ms
 
 -- The list of the known words is by ascending address, and each of its words is the known one at its address
 abbrev pub HasWordsOnce : Recording → List Record → Walk → Type 0
-HasWordsOnce r records w = AscendFrom 0 w.now.memory × ((m : ℕ × ℕ) → Contains w.now.memory m → word_in w.now.memory m.0 ≡ Some m.1)
+HasWordsOnce r records w = WordsAscend 0 w.now.memory × ((m : ℕ × ℕ) → Contains w.now.memory m → word_in w.now.memory m.0 ≡ Some m.1)
 
 -- ---- whole orders
 
--- in a whole order each instruction of a retained interval was done, once; and two such points that access a common word, one of
--- them writing it, stand in it as they were recorded
-pub record IsInOrder (r : Recording) (records : List Record) (taken : List Taken) : Type 0 where
-  pub done : (h k : ℕ) → IsToDo (begin r records) h k → (x : ℕ) × Did taken x h k
-  pub once : (x y h k : ℕ) → Did taken x h k → Did taken y h k → x ≡ y
+-- Race order: in a whole allowed order each instruction of a retained interval was done, once; and two such points that access
+-- a common word, one of them writing it, stand in it as they were recorded
+pub record StandsInOrder (r : Recording) (records : List Record) (w : Walk) : Type 0 where
+  pub done : (h k : ℕ) → IsToDo (begin r records) h k → (x : ℕ) × Did w.taken x h k
+  pub once : (x y h k : ℕ) → Did w.taken x h k → Did w.taken y h k → x ≡ y
   pub order : (word m n : ℕ) (both : AtPlaces (MeetAt word) (points_of r) m n) → IsRetained r records both.first → IsRetained r records both.second
-      → DidBefore taken both.first both.second
-
--- Race order in whole allowed orders
-abbrev pub StandsInOrder : Recording → List Record → Walk → Type 0
-StandsInOrder r records w = IsInOrder r records w.taken
+      → DidBefore w.taken both.first both.second
 
 -- In a whole allowed order each hart's rows are its retained intervals' part of the run's
 abbrev pub HasRows : Recording → List Record → Walk → Type 0
@@ -131,7 +127,7 @@ pub record SaysTheRun (r : Recording) (records : List Record) (x : Ran) : Type 0
   pub keeps : StandsInOrder r records x.walk
   pub rows : HasRows r records x.walk
   pub states : HasStates r records x.walk
-  pub ascend : AscendFrom 0 x.walk.now.memory
+  pub ascend : WordsAscend 0 x.walk.now.memory
   pub words : (m : ℕ × ℕ) → Contains x.walk.now.memory m → IsRecordedWord r x.walk m.0 m.1
 
 -- The joint replay of each log of a recording says the run
