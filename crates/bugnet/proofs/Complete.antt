@@ -8,7 +8,7 @@ use Rattle.bn_base.specs.Ranges.{first_bad}
 use Rattle.bn_base.specs.declared.settings.BadSetting.{BadSetting}
 use Rattle.bn_base.specs.declared.settings.RawSettings.{RawSettings}
 use Rattle.bn_outside.specs.Files.{Files}
-use Rattle.command_words.specs.Words.{Line, RecordingLine, RecordLine, ReplayLine, ListLine, CheckLine}
+use Rattle.command_words.specs.Words.{Line, RecordingLine, RecordLine, ReplayLine, JointLine, ListLine, CheckLine}
 use Rattle.elf_loader.specs.Loaded.{image_of}
 use Rattle.elf_loader.specs.declared.error.ElfError.{ElfError}
 use Rattle.log_order.specs.Content.{Content, IsContent}
@@ -31,6 +31,7 @@ use Rattle.bugnet.specs.Headline.{Part, ReplaysRun}
 use Rattle.bugnet.specs.Outside.{WithFiles}
 use Rattle.bugnet.specs.Run.{Call, IsFree, Tells, StoppedEarly, SomeTold, TellsAnswer}
 use Rattle.bugnet.specs.Saves.{IsRecorded, input_by, HoldsBytes}
+use Rattle.bugnet.specs.Joined.{joint_status, ran_told, joint_loaded, joint_same, joint_of, IsJointOf, IsJoint, CanJoin}
 use Rattle.bugnet.specs.Complete.{EachHasAnAnswer, CanRecord, HasLog, EachCanBeDone, IsDone}
 use Rattle.bugnet.specs.Laws.{OneAnswer}
 use Rattle.bugnet.specs.declared.answer.RunEnd.{RunEnd}
@@ -106,6 +107,11 @@ some-answer law (Some (ReplayLine log elf hart interval)) files read =
     some-file files names role.Log 268500992 (λ log what. IsReplayOf files names hart interval log what)
     (read-there law (files log) _ (λ bytes says reads. some-file files names role.Elf 67108864 (λ elf what. IsByLog names bytes (replay_of names hart interval elf) what)
     (any-there (files elf) _ (λ program. some-log names bytes (replay_of names hart interval program) says reads))) read)
+some-answer law (Some (JointLine log elf)) files read =
+    let names = names_in (JointLine log elf) in
+    some-file files names role.Log 268500992 (λ log what. IsJointOf files names log what)
+    (read-there law (files log) _ (λ bytes says reads. some-file files names role.Elf 67108864 (λ elf what. IsByLog names bytes (joint_of names elf) what)
+    (any-there (files elf) _ (λ program. some-log names bytes (joint_of names program) says reads))) read)
 some-answer law (Some (ListLine log)) files read =
     let names = names_in (ListLine log) in
     some-file files names role.Log 268500992 (λ log what. IsByLog names log list_of what) (read-there law (files log) _ (λ bytes says reads. some-log names bytes list_of says reads) read)
@@ -175,10 +181,27 @@ can-replay law stand laws line files p v r small =
     let done : IsRecorded what.status = inl (ap (λ (t : Told). t.status) (answer law stand names p v line files r)) in
     subst (λ (l : Option Line). (what : Told) × IsAnswer l files what × IsRecorded what.status) (sym r.command) (what, log, done)
 
+-- the joint replay of a log that isn't stopped is done
+join-status : (names : FileNames) (log elf : List ℕ) (files : Files) (h : CanJoin log elf files) → (joint_of names h.bytes h.content).status ≡ 0
+unfolding ran_told
+join-status names log elf files h =
+    ap (λ (b : Bool). (joint_same b names h.bytes h.content).status) h.same ∙ ap (λ (i : Result Program ElfError). (joint_loaded names h.content i).status) h.loaded ∙ ap joint_status h.goes_on
+
+can-join : FileLaws → (log elf : List ℕ) (files : Files) → CanJoin log elf files → (what : Told) × IsAnswer (Some (JointLine log elf)) files what × IsRecorded what.status
+can-join laws log elf files h =
+    let names = names_in (JointLine log elf) in
+    let d = h.content in
+    let what = joint_of names h.bytes d in
+    let program : IsJointOf files names (file_bytes d) what =
+    there-file files names role.Elf 67108864 h.bytes (λ elf what. IsByLog names (file_bytes d) (joint_of names elf) what) what h.elf_there h.elf_small (record { says = Ok d; reads = (h.is, refl); is = refl }) in
+    let whole : IsJoint files names what = there-file files names role.Log 268500992 (file_bytes d) (λ log what. IsJointOf files names log what) what h.log_there (file-size laws d h.is) program in
+    (what, whole, inl (join-status names log elf files h))
+
 pub can-be-done : LogSuffices → Together → FileLaws → EachCanBeDone
 can-be-done law stand laws (RecordLine r) files h =
     (seeded_told r.settings h.program (sha256 h.elf) r.seed h.input, can-record r files h, told-recorded r.settings h.program (sha256 h.elf) r.seed h.input)
 can-be-done law stand laws (ReplayLine log elf hart interval) files h = can-replay law stand laws (Some (ReplayLine log elf hart interval)) files h.0 h.1 h.2 h.3
+can-be-done law stand laws (JointLine log elf) files h = can-join laws log elf files h
 can-be-done law stand laws (ListLine log) files h =
     let l = can-log laws files (names_in (ListLine log)) list_of h in
     (l.0, l.1, inl (ap (λ (t : Told). t.status) l.2))

@@ -8,7 +8,7 @@ use Rattle.bn_base.specs.Ranges.{first_bad}
 use Rattle.bn_base.specs.declared.settings.BadSetting.{BadSetting}
 use Rattle.bn_base.specs.declared.settings.RawSettings.{RawSettings}
 use Rattle.bn_outside.specs.Files.{Files}
-use Rattle.command_words.specs.Words.{Line, RecordLine, ReplayLine, ListLine, CheckLine}
+use Rattle.command_words.specs.Words.{Line, RecordLine, ReplayLine, JointLine, ListLine, CheckLine}
 use Rattle.elf_loader.specs.Loaded.{image_of}
 use Rattle.elf_loader.specs.declared.error.ElfError.{ElfError}
 use Rattle.log_order.specs.Content.{Content}
@@ -19,6 +19,7 @@ use Rattle.log_file.specs.declared.error.FileError.TheVariants as file
 use Rattle.bugnet.specs.Names.{FileNames, name_of}
 use Rattle.bugnet.specs.Told.{Told}
 use Rattle.bugnet.specs.Commands.{Either, IsByFile, WithFile, Reads, by_log, IsByLog, list_of, check_of, replay_of, IsReplayOf, IsReplay, IsByInput, seeded_told, IsByProgram, IsByNames, IsBySettings}
+use Rattle.bugnet.specs.Joined.{joint_of, IsJointOf}
 use Rattle.bugnet.specs.Answers.{names_in, IsAnswer}
 use Rattle.bugnet.specs.Laws.{OneAnswer}
 use Rattle.bugnet.specs.declared.names.Role.{Role}
@@ -90,6 +91,10 @@ one-settings None files names c seed has_input a b p q = one-names (bytes_eq nam
 one-line : Grammar → (line : Line) (files : Files) → One (IsAnswer (Some line) files)
 one-line g (RecordLine r) files a b p q = one-settings (first_bad r.settings) files (names_in (RecordLine r)) r.settings r.seed _ a b p q
 one-line g (ReplayLine log elf hart interval) files a b p q = one-replay g files (names_in (ReplayLine log elf hart interval)) hart interval a b p q
+one-line g (JointLine log elf) files a b p q =
+    let names = names_in (JointLine log elf) in
+    one-file files names role.Log 268500992 (λ log what. IsJointOf files names log what)
+    (λ log. one-file files names role.Elf 67108864 (λ elf what. IsByLog names log (joint_of names elf) what) (λ elf. one-log g names log (joint_of names elf))) a b p q
 one-line g (ListLine log) files a b p q =
     let names = names_in (ListLine log) in
     one-file files names role.Log 268500992 (λ log what. IsByLog names log list_of what) (λ log. one-log g names log list_of) a b p q

@@ -5,7 +5,7 @@ use Rattle.bn_base.specs.Programs.{Program}
 use Rattle.bn_base.specs.Ranges.{first_bad}
 use Rattle.bn_base.specs.declared.settings.RawSettings.{RawSettings}
 use Rattle.bn_outside.specs.Files.{Files}
-use Rattle.command_words.specs.Words.{Line, RecordLine, ReplayLine, ListLine, CheckLine}
+use Rattle.command_words.specs.Words.{Line, RecordLine, ReplayLine, JointLine, ListLine, CheckLine}
 use Rattle.log_record.specs.Spelling.{total}
 use Rattle.run_model.specs.Files.{kept_of, file_of}
 use Rattle.run_model.specs.Runs.{run_of, seeded}
@@ -24,6 +24,7 @@ abbrev pub IsNoRecording : Option Line → Type 0
 IsNoRecording None = Unit {0}
 IsNoRecording (Some (RecordLine r)) = ⊥
 IsNoRecording (Some (ReplayLine log elf hart interval)) = Unit {0}
+IsNoRecording (Some (JointLine log elf)) = Unit {0}
 IsNoRecording (Some (ListLine log)) = Unit {0}
 IsNoRecording (Some (CheckLine log)) = Unit {0}
 
