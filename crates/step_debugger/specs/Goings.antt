@@ -11,7 +11,9 @@ use Rattle.step_debugger.specs.declared.error.DebugError.TheVariants.{WriteFault
 use Rattle.step_debugger.specs.declared.session.Ending.{Ending}
 use Rattle.step_debugger.specs.declared.session.Ending.TheVariants.{GoesOn, Refused}
 use Rattle.step_debugger.specs.declared.desk.Desk.{Desk}
-use Rattle.step_debugger.specs.Answers.{Session, Answer, Moves, after, step_by, go_by, go_on}
+use Rattle.step_debugger.specs.declared.command.Command.{Command}
+use Rattle.step_debugger.specs.Commands.{command_of}
+use Rattle.step_debugger.specs.Answers.{Session, Answer, Moves, after, step_by, step_up_to, go_by, go_on, answer}
 
 -- how the refusal of a step is told; want of memory is none
 abbrev pub refused_by : JointError → Result Ending DebugError
@@ -72,3 +74,20 @@ pub record Says (a : Answer) (j : Joining) (d : Desk) (text now_text : List ℕ)
 abbrev pub Goes : List ℕ → Joining → Result Ending DebugError → Joining → (text now_text : List ℕ) → Type 0
 Goes breaks old (Ok ending) new text now_text = let m : Moves = go_on true breaks old in (now_text ≡ text ++ m.text) × (new ≡ m.now) × (ending ≡ m.ends)
 Goes breaks old (Err e) new text now_text = e ≡ OutOfMemory
+
+-- ---- commands
+
+-- what a hart's steps print is put behind a text
+abbrev pub TellsSteps : ℕ → ℕ → (old new : Joining) → (text now_text : List ℕ) → (written now_written : Option (List ℕ)) → (before now : ℕ) → Result Ending DebugError → Type 0
+TellsSteps h count old new text now_text written now_written before now result =
+    let m : Moves = step_up_to h count old in Gathers (text ++ m.text) (λ ending. (new ≡ m.now) × (ending ≡ m.ends)) written now_written before now now_text result
+
+-- the answer of a command is put behind a text
+abbrev pub Performs : Command → (old new : Session) → (text now_text : List ℕ) → (written now_written : Option (List ℕ)) → (before now : ℕ) → Result Ending DebugError → Type 0
+Performs command old new text now_text written now_written before now result =
+    let a : Answer = answer old command in Gathers (text ++ a.text) (λ ending. (new ≡ a.session) × (ending ≡ a.ends)) written now_written before now now_text result
+
+-- the answer of a line is sent
+abbrev pub IsAnswered : List ℕ → (old new : Session) → (written now_written : Option (List ℕ)) → (before now : ℕ) → Result Ending DebugError → Type 0
+IsAnswered line old new written now_written before now result =
+    let a : Answer = answer old (command_of line) in Sends a.text (λ ending. (new ≡ a.session) × (ending ≡ a.ends)) written now_written before now result

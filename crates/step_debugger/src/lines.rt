@@ -1,7 +1,5 @@
 //! The lines of the commands, read from a source.
 ghost use Rattle.std.specs.Prelude.{◌≡◌, ◌≤◌, []};
-ghost use Rattle.std.specs.Io.KnownBytes.{Consumes, Keeps, IsAtEnd};
-ghost use Rattle.bn_outside.specs.Counts.{Rose};
 ghost use Rattle.step_debugger.specs.Lines.{is_over, TakesByte, GivesByte, NextLine};
 
 use crate::error::DebugError;

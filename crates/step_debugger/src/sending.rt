@@ -1,5 +1,5 @@
 //! How answers are sent.
-ghost use Rattle.std.specs.Prelude.{◌≡◌, ◌≤◌, OnOk};
+ghost use Rattle.std.specs.Prelude.{◌≤◌};
 ghost use Rattle.step_debugger.specs.Goings.{Sends, Gathers};
 
 use crate::error::DebugError;

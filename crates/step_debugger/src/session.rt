@@ -2,10 +2,8 @@
 ghost use Rattle.std.specs.Prelude.{◌≡◌, ◌≤◌, ◌<◌, ◌++◌, ◌==◌, not, length, OnOk};
 ghost use Rattle.std.specs.List.{filter};
 ghost use Rattle.joint_replay.specs.Calls.{state_at};
-ghost use Rattle.joint_replay.specs.Memory.{word_in};
-ghost use Rattle.step_debugger.specs.Commands.{command_of};
-ghost use Rattle.step_debugger.specs.Answers.{is_set, registers_text, hart_place, places_from, word_text, step_up_to, go_on, choose, add_break, take_break, answer};
-ghost use Rattle.step_debugger.specs.Goings.{session_of, Sends, Gathers, Says, Goes, done_by};
+ghost use Rattle.step_debugger.specs.Answers.{is_set, registers_text, hart_place, places_from, choose, add_break, take_break};
+ghost use Rattle.step_debugger.specs.Goings.{session_of, Says, Goes, TellsSteps, Performs, IsAnswered, done_by};
 
 use crate::command::Command;
 use crate::desk::Desk;
@@ -136,8 +134,7 @@ fn step_up_to<O: Sink>(
     text: &mut Text,
     out: &mut O,
 ) -> Result<Ending, DebugError>
-    ensures sent { let m = step_up_to hart count joint.old in
-        Gathers (text.old ++ m.text) (λ ending. (joint.new ≡ m.now) × (ending ≡ m.ends)) (O.written out.old) (O.written out.new) (O.faults out.old) (O.faults out.new) text.new result }
+    ensures sent { TellsSteps hart count joint.old joint.new text.old text.new (O.written out.old) (O.written out.new) (O.faults out.old) (O.faults out.new) result }
     ensures later { O.faults out.old ≤ O.faults out.new }
 {
     for done in 0..count {
@@ -193,8 +190,8 @@ fn perform<O: Sink>(
     text: &mut Text,
     out: &mut O,
 ) -> Result<Ending, DebugError>
-    ensures sent { let a = answer (session_of joint.old desk.old) command in
-        Gathers (text.old ++ a.text) (λ ending. (session_of joint.new desk.new ≡ a.session) × (ending ≡ a.ends)) (O.written out.old) (O.written out.new) (O.faults out.old) (O.faults out.new) text.new result }
+    ensures sent { Performs command (session_of joint.old desk.old) (session_of joint.new desk.new) text.old text.new
+        (O.written out.old) (O.written out.new) (O.faults out.old) (O.faults out.new) result }
     ensures later { O.faults out.old ≤ O.faults out.new }
 {
     match command {
@@ -221,8 +218,8 @@ pub(crate) fn answer<O: Sink>(
     text: &mut Text,
     out: &mut O,
 ) -> Result<Ending, DebugError>
-    ensures sent { let a = answer (session_of joint.old desk.old) (command_of line.now) in
-        Sends a.text (λ ending. (session_of joint.new desk.new ≡ a.session) × (ending ≡ a.ends)) (O.written out.old) (O.written out.new) (O.faults out.old) (O.faults out.new) result }
+    ensures sent { IsAnswered line.now (session_of joint.old desk.old) (session_of joint.new desk.new)
+        (O.written out.old) (O.written out.new) (O.faults out.old) (O.faults out.new) result }
     ensures later { O.faults out.old ≤ O.faults out.new }
 {
     text.clear();

@@ -1,5 +1,5 @@
 //! The lines that the debugger prints.
-ghost use Rattle.std.specs.Prelude.{◌≡◌, ◌+◌, ◌<◌, ◌++◌, OnOk};
+ghost use Rattle.std.specs.Prelude.{◌≡◌, ◌<◌, ◌++◌, OnOk};
 ghost use Rattle.step_debugger.specs.Answers.{point_text, hart_text, waits_text, stop_text, address_text, word_text, register_text, two_text, four_text, half_text, pc_text, readiness_text, place_text, hart_done_text};
 
 use bn_base::{Addr, HartId, Ic, Register, Registers};
