@@ -1,5 +1,5 @@
-ghost use Rattle.std.specs.Prelude.{◌≡◌, ◌+◌, ◌*◌, ◌<◌, ◌≤◌, ◌^◌, ◌%◌, ℕ, IfOk, OnOk};
-ghost use Rattle.race_log.specs.Stands.{harts_of, next_turn, next_count};
+ghost use Rattle.std.specs.Prelude.{◌≡◌, ◌+◌, ◌*◌, ◌<◌, ◌≤◌, ◌^◌, ◌%◌, ℕ, ◌==◌, if◌then◌else◌, IfOk, OnOk, IsTrue};
+ghost use Rattle.race_log.specs.Stands.{harts_of, lasting_of, lasts, next_turn, next_count};
 
 use bn_base::{HartId, Ic, RawSettings, Settings};
 use race_log::Mode::{self, Read, Write};
@@ -11,17 +11,18 @@ use std::test::Fail;
 // A word's address; the other words follow it.
 const A: u32 = 0x20000;
 
-fn three_harts(rt: &impl Abort, alloc: Global) -> Result<Shadow, Fail>
-    ensures harts { IfOk result (λ s. harts_of s ≡ 3) }
+fn some_harts(rt: &impl Abort, alloc: Global, harts: u8) -> Result<Shadow, Fail>
+    ensures harts { IfOk result (λ s. harts_of s ≡ harts) }
     ensures turn { IfOk result (λ s. next_turn s ≡ 0) }
     ensures counts { IfOk result (λ s. (h : ℕ) → next_count s h ≡ 0) }
+    ensures lasting { IfOk result (λ s. (h : ℕ) → h < harts_of s → IsTrue (lasts s h)) }
 {
     let raw = RawSettings {
-        harts: 3,
+        harts: u64::from(harts),
         ..RawSettings::default()
     };
     let settings = Settings::checked(&raw).expect(rt, "settings in range");
-    assert_eq!(rt; settings.harts(), 3);
+    assert_eq!(rt; settings.harts(), harts);
     Ok(Shadow::new(alloc, &settings)?)
 }
 
@@ -43,9 +44,11 @@ fn step(
     requires range { first + 4 * count ≤ 2 ^ 32 }
     requires turns { next_turn shadow.old ≤ turn }
     requires counts { (h : ℕ) → next_count shadow.old h ≤ ic }
+    requires lasting { (h : ℕ) → h < harts_of shadow.old → IsTrue (lasts shadow.old h) }
     ensures harts { harts_of shadow.new ≡ harts_of shadow.old }
     ensures turn { OnOk result (next_turn shadow.new ≡ turn + 1) }
     ensures counts { (h : ℕ) → next_count shadow.new h ≤ ic + 1 }
+    ensures lasting { lasting_of shadow.new ≡ lasting_of shadow.old }
 {
     shadow.reserve(first, count)?;
     let edges = shadow.access(hart, ic, turn, first, count, mode);
@@ -59,7 +62,7 @@ fn step(
 
 #[test]
 fn a_hart_with_a_lower_count_follows(rt: HostRuntime) -> Result<(), Fail> {
-    let mut shadow = three_harts(&rt, rt.alloc())?;
+    let mut shadow = some_harts(&rt, rt.alloc(), 3)?;
     shadow.reserve(A, 2)?;
     let none = shadow.access(0, 4, 0, A, 2, Write);
     assert_eq!(rt; none.count(), 0);
@@ -73,7 +76,7 @@ fn a_hart_with_a_lower_count_follows(rt: HostRuntime) -> Result<(), Fail> {
 
 #[test]
 fn three_harts_share_four_words(rt: HostRuntime) -> Result<(), Fail> {
-    let mut shadow = three_harts(&rt, rt.alloc())?;
+    let mut shadow = some_harts(&rt, rt.alloc(), 3)?;
     let s = &mut shadow;
     step(&rt, s, 0, 4, 0, A, 2, Write, &[])?;
     step(&rt, s, 1, 5, 1, A + 4, 2, Read, &[(0, 4)])?;
@@ -88,4 +91,49 @@ fn three_harts_share_four_words(rt: HostRuntime) -> Result<(), Fail> {
     step(&rt, s, 2, 12, 8, A + 8, 1, Read, &[(0, 8)])?;
     step(&rt, s, 0, 13, 9, A + 8, 1, Write, &[(2, 12), (1, 11)])?;
     step(&rt, s, 2, 14, 10, A, 4, Write, &[(0, 13)])
+}
+
+// One access of one word, and the one source of the edges into it, if there is one.
+fn one_step(
+    rt: &impl Abort,
+    shadow: &mut Shadow,
+    hart: HartId,
+    ic: Ic,
+    turn: u64,
+    mode: Mode,
+    source: Option<(HartId, Ic)>,
+) -> Result<(), Fail>
+    requires hart { hart < harts_of shadow.old }
+    requires ic { ic < 2 ^ 41 }
+    requires turns { next_turn shadow.old ≤ turn }
+    requires counts { next_count shadow.old hart ≤ ic }
+    requires lasting { IsTrue (lasts shadow.old hart) }
+    ensures harts { harts_of shadow.new ≡ harts_of shadow.old }
+    ensures turn { OnOk result (next_turn shadow.new ≡ turn + 1) }
+    ensures counts { OnOk result ((h : ℕ) → next_count shadow.new h ≡ (if h == hart then ic + 1 else next_count shadow.old h)) }
+    ensures lasting { lasting_of shadow.new ≡ lasting_of shadow.old }
+{
+    shadow.reserve(A, 1)?;
+    let edges = shadow.access(hart, ic, turn, A, 1, mode);
+    assert!(rt; edges.get(0) == source);
+    assert!(rt; edges.get(1).is_none());
+    Ok(())
+}
+
+#[test]
+fn accesses_that_all_know_go(rt: HostRuntime) -> Result<(), Fail> {
+    let mut shadow = some_harts(&rt, rt.alloc(), 2)?;
+    let s = &mut shadow;
+    one_step(&rt, s, 0, 0, 0, Write, None)?;
+    one_step(&rt, s, 1, 0, 1, Read, Some((0, 0)))?;
+    assert_eq!(rt; s.held(), 2);
+    // Hart 1 knows of hart 0's store, and hart 0 doesn't know of hart 1's load.
+    assert_eq!(rt; s.sweep(3), 1);
+    assert_eq!(rt; s.held(), 1);
+    one_step(&rt, s, 0, 1, 2, Write, Some((1, 0)))?;
+    assert_eq!(rt; s.held(), 1);
+    assert_eq!(rt; s.sweep(3), 0);
+    assert_eq!(rt; s.sweep(1), 1);
+    assert_eq!(rt; s.held(), 0);
+    Ok(())
 }

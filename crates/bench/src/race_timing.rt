@@ -1,6 +1,6 @@
 // The race log: accesses per second for one hart and for eight harts, and bytes per word.
-ghost use Rattle.std.specs.Prelude.{◌≡◌, ◌≤◌, ◌<◌, ◌+◌, ◌^◌, ℕ};
-ghost use Rattle.race_log.specs.Stands.{harts_of, next_turn, next_count};
+ghost use Rattle.std.specs.Prelude.{◌≡◌, ◌≤◌, ◌<◌, ◌+◌, ◌^◌, ℕ, IsTrue};
+ghost use Rattle.race_log.specs.Stands.{harts_of, lasting_of, lasts, next_turn, next_count};
 
 use crate::rate::rate_since;
 use bn_base::{RawSettings, Settings};
@@ -22,6 +22,8 @@ fn access_word(
     requires turn { next_turn shadow.old ≤ turn }
     requires counts { (h : ℕ) → next_count shadow.old h ≤ turn }
     requires word { word < 2 ^ 28 }
+    requires lasting { IsTrue (lasts shadow.old hart) }
+    ensures lasting { lasting_of shadow.new ≡ lasting_of shadow.old }
     ensures harts { harts_of shadow.new ≡ harts_of shadow.old }
     ensures turn { next_turn shadow.new ≤ turn + 1 }
     ensures counts { (h : ℕ) → next_count shadow.new h ≤ turn + 1 }
@@ -43,6 +45,7 @@ fn many(
     requires some { 0 < harts }
     requires turn { next_turn shadow.old ≡ 0 }
     requires counts { (h : ℕ) → next_count shadow.old h ≡ 0 }
+    requires lasting { (h : ℕ) → h < harts → IsTrue (lasts shadow.old h) }
     requires small { accesses < 2 ^ 40 }
     requires words { words < 2 ^ 28 }
     requires any { 0 < words }

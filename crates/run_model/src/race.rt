@@ -50,11 +50,13 @@ pub fn record_access(
     }
 }
 
-/// The race log gives up the accesses that all live harts know of.
+/// The race log gives up the accesses that all live harts know of, if the walk is due.
 pub fn sweep_known(shadow: &mut Shadow, harts: &[Hart])
     requires few { length harts.now ≤ HARTS }
     requires harts { harts_of shadow.old ≡ length harts.now }
     ensures { IsSwept shadow.old shadow.new harts.now }
 {
-    shadow.sweep(live_set(harts));
+    if shadow.is_sweep_due() {
+        shadow.sweep(live_set(harts));
+    }
 }

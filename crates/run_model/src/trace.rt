@@ -211,7 +211,7 @@ impl Trace {
         next
     }
 
-    /// Where an interval ended, the race log gives up the accesses that all live harts know of.
+    /// Where an interval ended, the race log gives up the accesses that all live harts know of, if the walk is due.
     pub fn forget(&mut self, next: Next)
         requires few { length self.old.harts.items ≤ HARTS }
         requires shadow { harts_of self.old.shadow ≡ length self.old.harts.items }

@@ -3,8 +3,8 @@ use Rattle.run_model.specs.Stands.Plain.{everyone}
 use Rattle.run_model.proofs.LiveSets.{and_true}
 use Rattle.run_model.proofs.race.sweep_known.Goals as goal
 
-pub returns : goal.returns
-returns c =
+pub returns-then-is_sweep_due : goal.returns-then-is_sweep_due
+returns-then-is_sweep_due c =
     let e = c.sweep.ensures in
     record {
       stands = λ points. e.stands points everyone;
