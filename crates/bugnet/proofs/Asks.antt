@@ -2,7 +2,7 @@
 use Rattle.std.proofs.Common.{◌≡◌, ◌≢◌, ℕ, List, Option, Some, None, ◌∙◌, subst, arith, inl, inr}
 use Rattle.bn_outside.specs.Counts.{Counts}
 use Rattle.bn_outside.specs.Files.{Files}
-use Rattle.command_words.specs.Words.{Line, RecordLine, ReplayLine, ListLine, CheckLine}
+use Rattle.command_words.specs.Words.{Line, RecordLine, ReplayLine, JointLine, ListLine, CheckLine}
 use Rattle.bugnet.specs.Asks.{SavedBoth, SavesTwo, AtMostTwo, AnswerSaves, LineSaves, RecordsRun}
 use Rattle.bugnet.specs.Laws.{IsNoRecording}
 use Rattle.bugnet.specs.Names.{FileNames}
@@ -10,7 +10,7 @@ use Rattle.bugnet.specs.Outside.{ToldRefusal, Unsaved, IsPrinted}
 use Rattle.bugnet.specs.Saves.{IsRecorded}
 use Rattle.bugnet.specs.Told.{Saved}
 use Rattle.bugnet.specs.declared.answer.Answer.{Answer}
-use Rattle.bugnet.specs.declared.answer.Answer.TheVariants.{Recorded, Interval, Listed, Checked}
+use Rattle.bugnet.specs.declared.answer.Answer.TheVariants.{Recorded, Interval, Joined, Listed, Checked}
 use Rattle.bugnet.specs.declared.refusal.Refusal.{Refusal}
 use Rattle.bugnet.specs.declared.refusal.Refusal.TheVariants.{WordsRefused, OutOfRange, SameName, StoreFailed, Missing, TooLong, ElfRefused, LogRefused, ProgramDiffers, OutOfMemory, WriteFailed, ReplayStopped}
 use Rattle.bugnet.proofs.Leaves.{told-apart}
@@ -62,12 +62,14 @@ pub line-none : (line : Option Line) (status before after : ℕ) → (SavedBoth 
 line-none None status before after never same = same
 line-none (Some (RecordLine r)) status before after never same = record { few = inl same; both = λ is. absurd (never is) }
 line-none (Some (ReplayLine log elf hart interval)) status before after never same = same
+line-none (Some (JointLine log elf)) status before after never same = same
 line-none (Some (ListLine log)) status before after never same = same
 line-none (Some (CheckLine log)) status before after never same = same
 
 printed : (answer : Answer) (status before mid after : ℕ) → IsPrinted answer → mid ≡ before → AnswerSaves answer status mid after → after ≡ before
 printed (Recorded r) status before mid after p same saves = absurd p
 printed (Interval r) status before mid after p same saves = saves ∙ same
+printed (Joined r) status before mid after p same saves = saves ∙ same
 printed (Listed d) status before mid after p same saves = saves ∙ same
 printed (Checked d) status before mid after p same saves = saves ∙ same
 
@@ -76,8 +78,10 @@ pub line-acts : (line : Line) (answer : Answer) (status before mid after : ℕ) 
     → AnswerSaves answer status mid after → LineSaves (Some line) status before after
 line-acts (RecordLine r) (Recorded x) status before mid after records prints same saves = subst (λ (n : ℕ). SavesTwo status n after) same saves
 line-acts (RecordLine r) (Interval x) status before mid after records prints same saves = absurd records
+line-acts (RecordLine r) (Joined x) status before mid after records prints same saves = absurd records
 line-acts (RecordLine r) (Listed d) status before mid after records prints same saves = absurd records
 line-acts (RecordLine r) (Checked d) status before mid after records prints same saves = absurd records
 line-acts (ReplayLine log elf hart interval) answer status before mid after records prints same saves = printed answer status before mid after (prints tt) same saves
+line-acts (JointLine log elf) answer status before mid after records prints same saves = printed answer status before mid after (prints tt) same saves
 line-acts (ListLine log) answer status before mid after records prints same saves = printed answer status before mid after (prints tt) same saves
 line-acts (CheckLine log) answer status before mid after records prints same saves = printed answer status before mid after (prints tt) same saves

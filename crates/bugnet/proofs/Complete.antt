@@ -8,7 +8,7 @@ use Rattle.bn_base.specs.Ranges.{first_bad}
 use Rattle.bn_base.specs.declared.settings.BadSetting.{BadSetting}
 use Rattle.bn_base.specs.declared.settings.RawSettings.{RawSettings}
 use Rattle.bn_outside.specs.Files.{Files}
-use Rattle.command_words.specs.Words.{Line, RecordingLine, RecordLine, ReplayLine, ListLine, CheckLine}
+use Rattle.command_words.specs.Words.{Line, RecordingLine, RecordLine, ReplayLine, JointLine, ListLine, CheckLine}
 use Rattle.elf_loader.specs.Loaded.{image_of}
 use Rattle.elf_loader.specs.declared.error.ElfError.{ElfError}
 use Rattle.log_order.specs.Content.{Content, IsContent}
@@ -31,6 +31,7 @@ use Rattle.bugnet.specs.Headline.{Part, ReplaysRun}
 use Rattle.bugnet.specs.Outside.{WithFiles}
 use Rattle.bugnet.specs.Run.{Call, IsFree, Tells, StoppedEarly, SomeTold, TellsAnswer}
 use Rattle.bugnet.specs.Saves.{IsRecorded, input_by, HoldsBytes}
+use Rattle.bugnet.specs.Joined.{joint_status, ran_told, joint_loaded, joint_same, joint_of, IsJointOf, IsJoint, CanJoin}
 use Rattle.bugnet.specs.Complete.{EachHasAnAnswer, CanRecord, HasLog, CanBeDone, EachCanBeDone, IsDone}
 use Rattle.bugnet.specs.Laws.{OneAnswer, AreAlike, SeedsAreWhole}
 use Rattle.bugnet.specs.declared.answer.RunEnd.{RunEnd}
@@ -112,6 +113,11 @@ some-answer whole law (Some (ReplayLine log elf hart interval)) files read =
     some-file files names role.Log 268500992 (λ log what. IsReplayOf files names hart interval log what)
     (read-there law (files log) _ (λ bytes says reads. some-file files names role.Elf 67108864 (λ elf what. IsByLog names bytes (replay_of names hart interval elf) what)
     (any-there (files elf) _ (λ program. some-log names bytes (replay_of names hart interval program) says reads))) read)
+some-answer whole law (Some (JointLine log elf)) files read =
+    let names = names_in (JointLine log elf) in
+    some-file files names role.Log 268500992 (λ log what. IsJointOf files names log what)
+    (read-there law (files log) _ (λ bytes says reads. some-file files names role.Elf 67108864 (λ elf what. IsByLog names bytes (joint_of names elf) what)
+    (any-there (files elf) _ (λ program. some-log names bytes (joint_of names program) says reads))) read)
 some-answer whole law (Some (ListLine log)) files read =
     let names = names_in (ListLine log) in
     some-file files names role.Log 268500992 (λ log what. IsByLog names log list_of what) (read-there law (files log) _ (λ bytes says reads. some-log names bytes list_of says reads) read)
@@ -209,6 +215,22 @@ can-replay law stand laws line files p v r small =
     let done : IsRecorded what.status = inl (ap (λ (t : Told). t.status) (answer law stand names p v line files r)) in
     subst (λ (l : Option Line). (what : Told) × IsAnswer l files what × IsRecorded what.status) (sym r.command) (what, log, done)
 
+-- the joint replay of a log that isn't stopped is done
+join-status : (names : FileNames) (log elf : List ℕ) (files : Files) (h : CanJoin log elf files) → (joint_of names h.bytes h.content).status ≡ 0
+unfolding ran_told
+join-status names log elf files h =
+    ap (λ (b : Bool). (joint_same b names h.bytes h.content).status) h.same ∙ ap (λ (i : Result Program ElfError). (joint_loaded names h.content i).status) h.loaded ∙ ap joint_status h.goes_on
+
+can-join : FileLaws → (log elf : List ℕ) (files : Files) → CanJoin log elf files → (what : Told) × IsAnswer (Some (JointLine log elf)) files what × IsRecorded what.status
+can-join laws log elf files h =
+    let names = names_in (JointLine log elf) in
+    let d = h.content in
+    let what = joint_of names h.bytes d in
+    let program : IsJointOf files names (file_bytes d) what =
+    there-file files names role.Elf 67108864 h.bytes (λ elf what. IsByLog names (file_bytes d) (joint_of names elf) what) what h.elf_there h.elf_small (record { says = Ok d; reads = (h.is, refl); is = refl }) in
+    let whole : IsJoint files names what = there-file files names role.Log 268500992 (file_bytes d) (λ log what. IsJointOf files names log what) what h.log_there (file-size laws d h.is) program in
+    (what, whole, inl (join-status names log elf files h))
+
 -- a line of which one answer is done, and that has no other
 only-done : OneAnswer → (line : Line) (files : Files) (what : Told) → ((a b : Told) → AreAlike (Some line) a b) → IsAnswer (Some line) files what → IsRecorded what.status → CanBeDone line files
 only-done one line files what alike is done = record {
@@ -228,6 +250,9 @@ can-be-done whole one law stand laws (RecordLine r) files h =
 can-be-done whole one law stand laws (ReplayLine log elf hart interval) files h =
     let l = can-replay law stand laws (Some (ReplayLine log elf hart interval)) files h.0 h.1 h.2 h.3 in
     only-done one (ReplayLine log elf hart interval) files l.0 (λ a b. tt) l.1 l.2
+can-be-done whole one law stand laws (JointLine log elf) files h =
+    let l = can-join laws log elf files h in
+    only-done one (JointLine log elf) files l.0 (λ a b. tt) l.1 l.2
 can-be-done whole one law stand laws (ListLine log) files h =
     let l = can-log laws files (names_in (ListLine log)) list_of h in
     only-done one (ListLine log) files l.0 (λ a b. tt) l.1 (inl (ap (λ (t : Told). t.status) l.2))

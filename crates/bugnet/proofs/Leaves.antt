@@ -10,7 +10,7 @@ use Rattle.bn_base.specs.Ranges.{first_bad}
 use Rattle.bn_base.specs.declared.settings.BadSetting.{BadSetting}
 use Rattle.bn_base.specs.declared.settings.RawSettings.{RawSettings}
 use Rattle.bn_outside.specs.Files.{Files, WhereTold}
-use Rattle.command_words.specs.Words.{Line, RecordingLine, RecordLine, ReplayLine, ListLine, CheckLine}
+use Rattle.command_words.specs.Words.{Line, RecordingLine, RecordLine, ReplayLine, JointLine, ListLine, CheckLine}
 use Rattle.elf_loader.specs.Loaded.{image_of}
 use Rattle.elf_loader.specs.declared.error.ElfError.{ElfError}
 use Rattle.le_numbers.specs.Numbers.{AreBytes}
@@ -81,6 +81,7 @@ pub leaves-none : (line : Option Line) (status : ℕ) (old new : Option Files) �
 leaves-none None status old new never = tt
 leaves-none (Some (RecordLine r)) status old new never = λ is. absurd (never is)
 leaves-none (Some (ReplayLine log elf hart interval)) status old new never = tt
+leaves-none (Some (JointLine log elf)) status old new never = tt
 leaves-none (Some (ListLine log)) status old new never = tt
 leaves-none (Some (CheckLine log)) status old new never = tt
 
@@ -229,5 +230,6 @@ call-leaves whole sizes (RecordLine r) status k bytes h = λ is.
         (a.0, a.1, done.0, done.1)
     found files is (inr early) = absurd (free-apart status (early-free (Some (RecordLine r)) files status k early) is)
 call-leaves whole sizes (ReplayLine log elf hart interval) status k bytes h = tt
+call-leaves whole sizes (JointLine log elf) status k bytes h = tt
 call-leaves whole sizes (ListLine log) status k bytes h = tt
 call-leaves whole sizes (CheckLine log) status k bytes h = tt

@@ -14,3 +14,4 @@ mod Recorded
 mod Tested
 mod Leaves
 mod Complete
+mod Joins

@@ -11,7 +11,8 @@ use Rattle.hart_replay.specs.Replay.{Outcome, Done, Refused, Replayed, Interval,
 use Rattle.hart_replay.specs.declared.error.ReplayError.{ReplayError}
 use Rattle.hart_replay.specs.declared.error.ReplayError.TheVariants.{NoInterval}
 use Rattle.bugnet.specs.Names.{FileNames}
-use Rattle.bugnet.specs.Texts.{begin_text, end_text, rows_text}
+use Rattle.rv_text.specs.Marks.{end_text}
+use Rattle.bugnet.specs.Texts.{begin_text, rows_text}
 use Rattle.bugnet.specs.Told.{Told, Saved, refused}
 use Rattle.bugnet.specs.Printed.{outcome_of, end_of_interval, rest_text}
 use Rattle.bugnet.specs.Commands.{ended, replay_found}

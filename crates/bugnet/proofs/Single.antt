@@ -8,7 +8,7 @@ use Rattle.bn_base.specs.Ranges.{first_bad}
 use Rattle.bn_base.specs.declared.settings.BadSetting.{BadSetting}
 use Rattle.bn_base.specs.declared.settings.RawSettings.{RawSettings}
 use Rattle.bn_outside.specs.Files.{Files}
-use Rattle.command_words.specs.Words.{Line, RecordLine, ReplayLine, ListLine, CheckLine}
+use Rattle.command_words.specs.Words.{Line, RecordLine, ReplayLine, JointLine, ListLine, CheckLine}
 use Rattle.elf_loader.specs.Loaded.{image_of}
 use Rattle.elf_loader.specs.declared.error.ElfError.{ElfError}
 use Rattle.log_order.specs.Content.{Content}
@@ -19,6 +19,7 @@ use Rattle.log_file.specs.declared.error.FileError.TheVariants as file
 use Rattle.bugnet.specs.Names.{FileNames, name_of}
 use Rattle.bugnet.specs.Told.{Told}
 use Rattle.bugnet.specs.Commands.{Either, IsByFile, WithFile, Reads, by_log, IsByLog, list_of, check_of, replay_of, IsReplayOf, IsReplay, IsByInput, IsByProgram, IsByNames, IsBySettings}
+use Rattle.bugnet.specs.Joined.{joint_of, IsJointOf}
 use Rattle.bugnet.specs.Answers.{names_in, IsAnswer}
 use Rattle.bugnet.specs.Laws.{OneAnswer, AreAlike, AreOfOneList, book_of}
 use Rattle.bugnet.specs.Recordings.{IsRunOf, recorded}
@@ -131,6 +132,10 @@ one-settings None files names c seed has_input a b alike p q = one-names (bytes_
 one-line : Grammar → (line : Line) (files : Files) (a b : Told) → IsAnswer (Some line) files a → IsAnswer (Some line) files b → AreAlike (Some line) a b → a ≡ b
 one-line g (RecordLine r) files a b p q alike = one-settings (first_bad r.settings) files (names_in (RecordLine r)) r.settings r.seed _ a b alike p q
 one-line g (ReplayLine log elf hart interval) files a b p q alike = one-replay g files (names_in (ReplayLine log elf hart interval)) hart interval a b p q
+one-line g (JointLine log elf) files a b p q alike =
+    let names = names_in (JointLine log elf) in
+    one-file files names role.Log 268500992 (λ log what. IsJointOf files names log what)
+    (λ log. one-file files names role.Elf 67108864 (λ elf what. IsByLog names log (joint_of names elf) what) (λ elf. one-log g names log (joint_of names elf))) a b p q
 one-line g (ListLine log) files a b p q alike =
     let names = names_in (ListLine log) in
     one-file files names role.Log 268500992 (λ log what. IsByLog names log list_of what) (λ log. one-log g names log list_of) a b p q

@@ -4,10 +4,11 @@ use Rattle.std.specs.Str.{bytes_eq}
 use Rattle.bn_base.specs.Ranges.{first_bad}
 use Rattle.bn_base.specs.declared.settings.BadSetting.{BadSetting}
 use Rattle.bn_outside.specs.Files.{Files}
-use Rattle.command_words.specs.Words.{Line, RecordLine, ReplayLine, ListLine, CheckLine}
+use Rattle.command_words.specs.Words.{Line, RecordLine, ReplayLine, JointLine, ListLine, CheckLine}
 use Rattle.bugnet.specs.Names.{FileNames, no_names}
 use Rattle.bugnet.specs.Told.{Told, refused}
 use Rattle.bugnet.specs.Commands.{IsRecord, IsReplay, IsList, IsCheck}
+use Rattle.bugnet.specs.Joined.{IsJoint}
 use Rattle.bugnet.specs.declared.refusal.Refusal.{Refusal}
 use Rattle.bugnet.specs.declared.refusal.Refusal.TheVariants.{WordsRefused, OutOfRange, SameName}
 
@@ -15,6 +16,7 @@ use Rattle.bugnet.specs.declared.refusal.Refusal.TheVariants.{WordsRefused, OutO
 abbrev pub names_in : Line → FileNames
 names_in (RecordLine r) = record { elf = r.elf; log = r.log; book = r.book; input = unwrap_or r.input [] }
 names_in (ReplayLine log elf hart interval) = record { elf = elf; log = log; book = []; input = [] }
+names_in (JointLine log elf) = record { elf = elf; log = log; book = []; input = [] }
 names_in (ListLine log) = record { elf = []; log = log; book = []; input = [] }
 names_in (CheckLine log) = record { elf = []; log = log; book = []; input = [] }
 
@@ -34,6 +36,7 @@ setting_refusal None same = name_refusal same
 abbrev pub refusal_in : Line → Option Refusal
 refusal_in (RecordLine r) = setting_refusal (first_bad r.settings) (bytes_eq r.log r.book)
 refusal_in (ReplayLine log elf hart interval) = None
+refusal_in (JointLine log elf) = None
 refusal_in (ListLine log) = None
 refusal_in (CheckLine log) = None
 
@@ -46,5 +49,6 @@ abbrev pub IsAnswer : Option Line → Files → Told → Type 0
 IsAnswer None files what = what ≡ refused no_names WordsRefused
 IsAnswer (Some (RecordLine r)) files what = IsRecord files (names_in (RecordLine r)) r.settings r.seed (is_some r.input) what
 IsAnswer (Some (ReplayLine log elf hart interval)) files what = IsReplay files (names_in (ReplayLine log elf hart interval)) hart interval what
+IsAnswer (Some (JointLine log elf)) files what = IsJoint files (names_in (JointLine log elf)) what
 IsAnswer (Some (ListLine log)) files what = IsList files (names_in (ListLine log)) what
 IsAnswer (Some (CheckLine log)) files what = IsCheck files (names_in (CheckLine log)) what

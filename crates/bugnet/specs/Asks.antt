@@ -1,10 +1,10 @@
 -- How often a command asks its store to save.
 use Rattle.std.specs.Prelude.{◌≡◌, ◌⊎◌, ℕ, Option, Some, None}
 use Rattle.bn_outside.specs.Counts.{counted}
-use Rattle.command_words.specs.Words.{Line, RecordLine, ReplayLine, ListLine, CheckLine}
+use Rattle.command_words.specs.Words.{Line, RecordLine, ReplayLine, JointLine, ListLine, CheckLine}
 use Rattle.bugnet.specs.Saves.{IsRecorded}
 use Rattle.bugnet.specs.declared.answer.Answer.{Answer}
-use Rattle.bugnet.specs.declared.answer.Answer.TheVariants.{Recorded, Interval, Listed, Checked}
+use Rattle.bugnet.specs.declared.answer.Answer.TheVariants.{Recorded, Interval, Joined, Listed, Checked}
 
 -- two saves, one of them, or none
 abbrev pub AtMostTwo : ℕ → ℕ → Type 0
@@ -23,6 +23,7 @@ pub record SavesTwo (status before after : ℕ) : Type 0 where
 abbrev pub AnswerSaves : Answer → (status before after : ℕ) → Type 0
 AnswerSaves (Recorded r) status before after = SavesTwo status before after
 AnswerSaves (Interval r) status before after = after ≡ before
+AnswerSaves (Joined r) status before after = after ≡ before
 AnswerSaves (Listed d) status before after = after ≡ before
 AnswerSaves (Checked d) status before after = after ≡ before
 
@@ -31,6 +32,7 @@ abbrev pub LineSaves : Option Line → (status before after : ℕ) → Type 0
 LineSaves None status before after = after ≡ before
 LineSaves (Some (RecordLine r)) status before after = SavesTwo status before after
 LineSaves (Some (ReplayLine log elf hart interval)) status before after = after ≡ before
+LineSaves (Some (JointLine log elf)) status before after = after ≡ before
 LineSaves (Some (ListLine log)) status before after = after ≡ before
 LineSaves (Some (CheckLine log)) status before after = after ≡ before
 
@@ -38,6 +40,7 @@ LineSaves (Some (CheckLine log)) status before after = after ≡ before
 abbrev pub IsRecordedRun : Answer → Type 0
 IsRecordedRun (Recorded r) = Unit {0}
 IsRecordedRun (Interval r) = ⊥
+IsRecordedRun (Joined r) = ⊥
 IsRecordedRun (Listed d) = ⊥
 IsRecordedRun (Checked d) = ⊥
 
@@ -45,5 +48,6 @@ IsRecordedRun (Checked d) = ⊥
 abbrev pub RecordsRun : Line → Answer → Type 0
 RecordsRun (RecordLine r) answer = IsRecordedRun answer
 RecordsRun (ReplayLine log elf hart interval) answer = Unit {0}
+RecordsRun (JointLine log elf) answer = Unit {0}
 RecordsRun (ListLine log) answer = Unit {0}
 RecordsRun (CheckLine log) answer = Unit {0}

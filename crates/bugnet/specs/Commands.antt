@@ -19,9 +19,10 @@ use Rattle.log_file.specs.declared.error.FileError.{FileError}
 use Rattle.log_file.specs.declared.error.FileError.TheVariants as file
 use Rattle.hart_replay.specs.Replay.{Outcome, Done, Refused, Replayed, Interval, interval_of, replayed}
 use Rattle.hart_replay.specs.declared.error.ReplayError.TheVariants.{NoInterval}
+use Rattle.rv_text.specs.Marks.{end_text}
 use Rattle.bugnet.specs.Names.{FileNames, name_of}
 use Rattle.bugnet.specs.Refusals.{status_of, line_of}
-use Rattle.bugnet.specs.Texts.{begin_text, rows_text, end_text, list_text, check_text}
+use Rattle.bugnet.specs.Texts.{begin_text, rows_text, list_text, check_text}
 use Rattle.bugnet.specs.Told.{Told, refused, printed}
 use Rattle.bugnet.specs.Recordings.{IsRunOf}
 use Rattle.bugnet.specs.declared.names.Role.{Role}

@@ -6,12 +6,13 @@ use Rattle.bn_base.specs.Programs.{Program}
 use Rattle.bn_base.specs.Ranges.{first_bad}
 use Rattle.bn_base.specs.declared.settings.RawSettings.{RawSettings}
 use Rattle.bn_outside.specs.Files.{Files}
-use Rattle.command_words.specs.Words.{Line, RecordingLine, RecordLine, ReplayLine, ListLine, CheckLine}
+use Rattle.command_words.specs.Words.{Line, RecordingLine, RecordLine, ReplayLine, JointLine, ListLine, CheckLine}
 use Rattle.elf_loader.specs.Loaded.{image_of}
 use Rattle.hart_replay.specs.Replay.{Interval}
 use Rattle.run_model.specs.Files.{file_of}
 use Rattle.file_laws.specs.Given.{IsRecording}
 use Rattle.bugnet.specs.Told.{Told}
+use Rattle.bugnet.specs.Joined.{CanJoin}
 use Rattle.bugnet.specs.Answers.{IsAnswer}
 use Rattle.bugnet.specs.Headline.{Part, ReplaysRun}
 use Rattle.bugnet.specs.Run.{IsFree}
@@ -24,6 +25,7 @@ abbrev pub HasBytes : Option Line → Files → Type 0
 HasBytes None files = Unit {0}
 HasBytes (Some (RecordLine r)) files = Unit {0}
 HasBytes (Some (ReplayLine log elf hart interval)) files = HoldsBytes (files log)
+HasBytes (Some (JointLine log elf)) files = HoldsBytes (files log)
 HasBytes (Some (ListLine log)) files = HoldsBytes (files log)
 HasBytes (Some (CheckLine log)) files = HoldsBytes (files log)
 
@@ -61,6 +63,7 @@ pub record HasLog (there : Option (List ℕ)) : Type 0 where
 abbrev pub CanDo : Line → Files → Type 0
 CanDo (RecordLine r) files = CanRecord r files
 CanDo (ReplayLine log elf hart interval) files = (p : Part) × (v : Interval) × ReplaysRun (Some (ReplayLine log elf hart interval)) files p v × (length p.elf ≤ 67108864)
+CanDo (JointLine log elf) files = CanJoin log elf files
 CanDo (ListLine log) files = HasLog (files log)
 CanDo (CheckLine log) files = HasLog (files log)
 

@@ -13,7 +13,8 @@ use Rattle.run_model.specs.Rows.{rows_of}
 use Rattle.replay_laws.specs.Law.{end_of}
 use Rattle.run_model.specs.Runs.{start, run_of}
 use Rattle.file_laws.specs.Given.{IsRecording}
-use Rattle.bugnet.specs.Texts.{begin_text, rows_text, end_text}
+use Rattle.rv_text.specs.Marks.{end_text}
+use Rattle.bugnet.specs.Texts.{begin_text, rows_text}
 use Rattle.bugnet.specs.Told.{Told, refused, printed}
 use Rattle.bugnet.specs.Commands.{Either}
 use Rattle.bugnet.specs.Answers.{names_by, IsAnswer}

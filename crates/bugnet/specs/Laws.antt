@@ -5,7 +5,7 @@ use Rattle.bn_base.specs.Programs.{Program}
 use Rattle.bn_base.specs.Ranges.{first_bad}
 use Rattle.bn_base.specs.declared.settings.RawSettings.{RawSettings}
 use Rattle.bn_outside.specs.Files.{Files}
-use Rattle.command_words.specs.Words.{Line, RecordLine, ReplayLine, ListLine, CheckLine}
+use Rattle.command_words.specs.Words.{Line, RecordLine, ReplayLine, JointLine, ListLine, CheckLine}
 use Rattle.log_record.specs.Spelling.{total}
 use Rattle.run_model.specs.Files.{kept_of, file_of}
 use Rattle.run_model.specs.Runs.{run_of, seeded}
@@ -28,6 +28,7 @@ abbrev pub AreAlike : Option Line → (a b : Told) → Type 0
 AreAlike None a b = Unit {0}
 AreAlike (Some (RecordLine r)) a b = AreOfOneList r.seed a b
 AreAlike (Some (ReplayLine log elf hart interval)) a b = Unit {0}
+AreAlike (Some (JointLine log elf)) a b = Unit {0}
 AreAlike (Some (ListLine log)) a b = Unit {0}
 AreAlike (Some (CheckLine log)) a b = Unit {0}
 
@@ -41,6 +42,7 @@ abbrev pub IsNoRecording : Option Line → Type 0
 IsNoRecording None = Unit {0}
 IsNoRecording (Some (RecordLine r)) = ⊥
 IsNoRecording (Some (ReplayLine log elf hart interval)) = Unit {0}
+IsNoRecording (Some (JointLine log elf)) = Unit {0}
 IsNoRecording (Some (ListLine log)) = Unit {0}
 IsNoRecording (Some (CheckLine log)) = Unit {0}
 

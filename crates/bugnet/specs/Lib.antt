@@ -5,7 +5,9 @@ pub mod Texts
 pub mod Told
 pub mod Recordings
 pub mod Commands
+pub mod Joined
 pub mod Outside
+pub mod Joinings
 pub mod Printed
 pub mod Keeping
 pub mod Logs

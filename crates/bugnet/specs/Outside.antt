@@ -22,6 +22,7 @@ use Rattle.bugnet.specs.Told.{Told, Saved, refused, printed}
 use Rattle.bugnet.specs.Texts.{check_line}
 use Rattle.bugnet.specs.Recordings.{end_status}
 use Rattle.bugnet.specs.Commands.{list_of, replay_with}
+use Rattle.bugnet.specs.Joined.{joint_with}
 use Rattle.bugnet.specs.declared.names.Role.{Role}
 use Rattle.bugnet.specs.declared.names.Role.TheVariants as role
 use Rattle.bugnet.specs.declared.refusal.Refusal.{Refusal}
@@ -29,7 +30,7 @@ use Rattle.bugnet.specs.declared.refusal.Refusal.TheVariants as why
 use Rattle.bugnet.specs.declared.answer.Answer.{Answer}
 use Rattle.bugnet.specs.declared.answer.Reading.{Reading}
 use Rattle.bugnet.specs.declared.answer.Recording.{Recording}
-use Rattle.bugnet.specs.declared.answer.Answer.TheVariants.{Recorded, Interval, Listed, Checked}
+use Rattle.bugnet.specs.declared.answer.Answer.TheVariants.{Recorded, Interval, Joined, Listed, Checked}
 
 -- ---- what is loaded
 
@@ -70,6 +71,7 @@ told_of_reading names r = replay_with names r.hart r.interval r.log r.image
 abbrev pub told_of : FileNames → Answer → Told
 told_of names (Recorded r) = told_of_recording r
 told_of names (Interval r) = told_of_reading names r
+told_of names (Joined r) = joint_with names r.log r.image
 told_of names (Listed d) = list_of d
 told_of names (Checked n) = printed (check_line n)
 
@@ -77,6 +79,7 @@ told_of names (Checked n) = printed (check_line n)
 abbrev pub IsPrinted : Answer → Type 0
 IsPrinted (Recorded r) = ⊥
 IsPrinted (Interval r) = Unit {0}
+IsPrinted (Joined r) = Unit {0}
 IsPrinted (Listed d) = Unit {0}
 IsPrinted (Checked n) = Unit {0}
 

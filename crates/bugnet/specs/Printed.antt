@@ -4,7 +4,8 @@ use Rattle.bn_base.specs.declared.end_mark.EndMark.{EndMark}
 use Rattle.hart_replay.specs.Replay.{Outcome, Done, Refused, Replayed, Interval}
 use Rattle.hart_replay.specs.declared.error.ReplayError.{ReplayError}
 use Rattle.hart_replay.specs.declared.error.ReplayError.TheVariants as replay
-use Rattle.bugnet.specs.Texts.{begin_text, rows_text, end_text}
+use Rattle.rv_text.specs.Marks.{end_text}
+use Rattle.bugnet.specs.Texts.{begin_text, rows_text}
 use Rattle.bugnet.specs.declared.printing.Ending.{Ending}
 use Rattle.bugnet.specs.declared.printing.Ending.TheVariants as ending
 use Rattle.bugnet.specs.declared.refusal.Refusal.{Refusal}

@@ -4,6 +4,7 @@ use Rattle.std.specs.List.{flat_map}
 use Rattle.std.specs.Fmt.{digits, padded_integral, format_spec}
 use Rattle.bn_base.specs.Ranges.{setting_name}
 use Rattle.rv_text.specs.Instructions.{hex8}
+use Rattle.rv_text.specs.Marks.{mark_text}
 use Rattle.elf_loader.specs.declared.error.ElfError.{ElfError}
 use Rattle.elf_loader.specs.declared.error.ElfError.TheVariants as elf
 use Rattle.log_file.specs.declared.error.FileError.{FileError}
@@ -11,7 +12,7 @@ use Rattle.log_file.specs.declared.error.FileError.TheVariants as file
 use Rattle.hart_replay.specs.declared.error.ReplayError.{ReplayError}
 use Rattle.hart_replay.specs.declared.error.ReplayError.TheVariants as replay
 use Rattle.bugnet.specs.Names.{FileNames, name_of}
-use Rattle.bugnet.specs.Marks.{mark_text, counted}
+use Rattle.bugnet.specs.Marks.{counted}
 use Rattle.bugnet.specs.declared.refusal.Refusal.{Refusal}
 use Rattle.bugnet.specs.declared.refusal.Refusal.TheVariants.{WordsRefused, OutOfRange, SameName, StoreFailed, Missing, TooLong, ElfRefused, LogRefused, ProgramDiffers, OutOfMemory, WriteFailed, ReplayStopped}
 

@@ -4,7 +4,7 @@ use Rattle.sha2.specs.Sha256.{sha256}
 use Rattle.bn_base.specs.Programs.{Program}
 use Rattle.bn_base.specs.declared.settings.RawSettings.{RawSettings}
 use Rattle.bn_outside.specs.Files.{Files, WhereTold}
-use Rattle.command_words.specs.Words.{Line, RecordingLine, RecordLine, ReplayLine, ListLine, CheckLine}
+use Rattle.command_words.specs.Words.{Line, RecordingLine, RecordLine, ReplayLine, JointLine, ListLine, CheckLine}
 use Rattle.le_numbers.specs.Numbers.{AreBytes}
 use Rattle.log_record.specs.Spelling.{total}
 use Rattle.run_model.specs.Files.{kept_of, file_of}
@@ -51,6 +51,7 @@ abbrev pub LeavesRun : Option Line → ℕ → (old new : Option Files) → Type
 LeavesRun None status old new = Unit {0}
 LeavesRun (Some (RecordLine r)) status old new = IsRecorded status → WhereTold old new (Leaves r)
 LeavesRun (Some (ReplayLine log elf hart interval)) status old new = Unit {0}
+LeavesRun (Some (JointLine log elf)) status old new = Unit {0}
 LeavesRun (Some (ListLine log)) status old new = Unit {0}
 LeavesRun (Some (CheckLine log)) status old new = Unit {0}
 
@@ -62,5 +63,6 @@ HoldsBytes there = IfSome there AreBytes
 abbrev pub HasElf : Line → Option Files → Type 0
 HasElf (RecordLine r) known = WithFiles known (λ files. HoldsBytes (files r.elf))
 HasElf (ReplayLine log elf hart interval) known = Unit {0}
+HasElf (JointLine log elf) known = Unit {0}
 HasElf (ListLine log) known = Unit {0}
 HasElf (CheckLine log) known = Unit {0}

@@ -8,7 +8,8 @@ use Rattle.log_record.specs.declared.record.Record.{Record}
 use Rattle.log_record.specs.declared.record.Record.TheVariants.{Header, FirstLoad, ScOk, ScFailed, Edge, End}
 use Rattle.log_order.specs.Content.{Content}
 use Rattle.hart_replay.specs.Replay.{puts, nothing}
-use Rattle.bugnet.specs.Marks.{mark_text, counted}
+use Rattle.rv_text.specs.Marks.{mark_text}
+use Rattle.bugnet.specs.Marks.{counted}
 use Rattle.log_file.specs.declared.counting.LogCounts.{LogCounts}
 use Rattle.log_file.specs.Counts.{counts_of}
 
@@ -21,10 +22,6 @@ begin_text hart interval ic = codes "interval " ++ decimal hart ++ codes " " ++ 
 -- the lines of rows
 unfoldable pub rows_text : List Row → List ℕ
 rows_text rows = flat_map row_text rows
-
--- the line after its rows
-unfoldable pub end_text : ℕ → ℕ → EndMark → List ℕ
-end_text hart interval mark = codes "end " ++ decimal hart ++ codes " " ++ decimal interval ++ (codes " " ++ mark_text mark ++ codes "\n")
 
 -- ---- a log
 

@@ -12,6 +12,7 @@ ghost use Rattle.bugnet.specs.Run.{call, printing, Tells};
 ghost use Rattle.bugnet.specs.declared.refusal.Refusal.TheVariants.{OutOfMemory};
 
 use crate::answer::{Answer, Reading, Recording};
+use crate::joining::print_joint;
 use crate::logs::interval_mark;
 use crate::names::{Names, Role};
 use crate::printing::{Ending, refuse, send_bytes, send_check, send_interval, send_list};
@@ -209,6 +210,7 @@ pub fn act<S: Store, O: Sink, X: Sink>(
 {
     match answer {
         Answer::Interval(reading) => print_interval(alloc, names, reading, out, err),
+        Answer::Joined(reading) => print_joint(alloc, names, reading, out, err),
         Answer::Listed(log) => print_list(alloc, names, log, out, err),
         Answer::Checked(log) => print_check(alloc, names, log, out, err),
         Answer::Recorded(recording) => keep(alloc, names, recording, store, out, err),

@@ -5,6 +5,7 @@ ghost use Rattle.bugnet.specs.Commands.{IsByLog, list_of, check_of, replay_loade
 ghost use Rattle.bugnet.specs.Recordings.{end_status, end_word};
 ghost use Rattle.bugnet.specs.Outside.{Gives, IsOwn, LogTells, ProgramTells, IsPrinted};
 
+use crate::joining::JointReading;
 use crate::names::Names;
 use crate::refusal::Refusal;
 use bn_base::{Image, Settings};
@@ -76,6 +77,8 @@ pub enum Answer {
     Recorded(Recording),
     /// An interval is replayed and printed.
     Interval(Reading),
+    /// All intervals of a log are replayed together and printed.
+    Joined(JointReading),
     /// The intervals of a log are listed.
     Listed(KeptLog),
     /// What a log has is counted.
@@ -89,8 +92,8 @@ pub fn digest_of(bytes: &[u8]) -> [u8; 32]
     Sha256::digest(bytes)
 }
 
-// What a log file says.
-fn read_log(alloc: Global, bytes: &[u8]) -> Result<KeptLog, Refusal>
+/// What a log file says.
+pub fn read_log(alloc: Global, bytes: &[u8]) -> Result<KeptLog, Refusal>
     ensures says { LogTells bytes.now result }
     ensures own { IsOwn result }
 {

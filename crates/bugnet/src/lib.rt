@@ -6,6 +6,7 @@
 
 mod acting;
 mod answer;
+mod joining;
 mod laws;
 mod lines;
 mod loading;
@@ -19,6 +20,7 @@ mod refusal;
 mod texts;
 
 pub use answer::{Answer, Reading, Recording, RunEnd};
+pub use joining::JointReading;
 pub use laws::{
     each_can_be_done, each_has_an_answer, files_keep_to_their_size, headline, one_answer,
     recordings_are_replayed, seeds_are_whole,

@@ -2,17 +2,17 @@
 ghost use Rattle.std.specs.Prelude.{◌≡◌, ◌++◌, OnOk, codes, decimal};
 ghost use Rattle.rv_text.specs.Instructions.{hex8};
 ghost use Rattle.bn_base.specs.Ranges.{setting_name};
-ghost use Rattle.bugnet.specs.Marks.{mark_text};
+ghost use Rattle.rv_text.specs.Marks.{mark_text};
 ghost use Rattle.bugnet.specs.Refusals.{digest_text, pair_text, digests_text, elf_said, log_said, replay_said, said_of, line_of};
 
 use crate::names::Names;
 use crate::refusal::Refusal;
-use crate::texts::{push_counted, push_mark};
+use crate::texts::push_counted;
 use bn_base::{BadSetting, EndMark};
 use elf_loader::ElfError;
 use hart_replay::ReplayError;
 use log_file::FileError;
-use rv_text::Text;
+use rv_text::{Text, write_mark};
 use std::alloc::{AllocError, Global};
 
 #[tactic(auto, unfolding(crate::specs::Refusals::digest_text))]
@@ -119,9 +119,9 @@ fn push_marks(text: &mut Text, hart: u8, said: &EndMark, found: &EndMark) -> Res
 {
     text.push_decimal(u64::from(hart))?;
     text.push_str(" ")?;
-    push_mark(text, said)?;
+    write_mark(said, text)?;
     text.push_str(" ")?;
-    push_mark(text, found)
+    write_mark(found, text)
 }
 
 // Appends how an end differs.

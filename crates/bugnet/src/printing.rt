@@ -12,14 +12,14 @@ ghost use Rattle.bugnet.specs.declared.refusal.Refusal.TheVariants.{WriteFailed}
 use crate::logs::next_mark;
 use crate::names::Names;
 use crate::refusal::Refusal;
-use crate::texts::{push_begin, push_check, push_end, push_interval};
+use crate::texts::{push_begin, push_check, push_interval};
 use bn_base::{EndMark, Row};
 use bn_outside::{Sink, send_all};
 use hart_replay::{ReplayError, Replayer};
 use log_file::LogCounts;
 use log_order::KeptLog;
 use log_record::Record;
-use rv_text::{Text, write_row};
+use rv_text::{Text, write_end, write_row};
 use std::alloc::Global;
 
 // How many bytes of a text wait at least before they are sent.
@@ -75,8 +75,8 @@ pub fn refuse<X: Sink>(alloc: Global, names: &Names, refusal: &Refusal, err: &mu
 
 // ---- the replay of an interval
 
-// Sends what waits, where it is a block or more.
-fn send_block<O: Sink>(text: &mut Text, out: &mut O) -> Result<(), Refusal>
+/// Sends what waits, where it is a block or more.
+pub fn send_block<O: Sink>(text: &mut Text, out: &mut O) -> Result<(), Refusal>
     ensures sent { Gathered (O.written out.old) (O.written out.new) (O.faults out.old) (O.faults out.new) text.old text.new result }
     ensures later { O.faults out.old ≤ O.faults out.new }
 {
@@ -92,8 +92,8 @@ fn send_block<O: Sink>(text: &mut Text, out: &mut O) -> Result<(), Refusal>
     }
 }
 
-// Sends what waits, since memory is wanting for more of it.
-fn send_short<O: Sink>(text: &Text, out: &mut O) -> Result<(), Refusal>
+/// Sends what waits, since memory is wanting for more of it.
+pub fn send_short<O: Sink>(text: &Text, out: &mut O) -> Result<(), Refusal>
     ensures sent { Sent (O.written out.old) (O.written out.new) (O.faults out.old) (O.faults out.new) text.now (λ _. ⊥) result }
     ensures later { O.faults out.old ≤ O.faults out.new }
 {
@@ -188,7 +188,7 @@ fn send_end<O: Sink>(
     match ending {
         Ending::Done => {
             let mut text = Text::new(alloc);
-            push_end(&mut text, hart, interval, mark)?;
+            write_end(hart, interval, mark, &mut text)?;
             send(out, &text)
         }
         Ending::Stopped(_) => Ok(()),

@@ -13,6 +13,7 @@ ghost use Rattle.bugnet.specs.Run.{call, TellsAnswer, ByWords, Keeps, ChangesFew
 
 use crate::acting::act;
 use crate::answer::Answer;
+use crate::joining::join_files;
 use crate::laws::{
     each_can_be_done, files_keep_to_their_size, headline, one_answer, seeds_are_whole,
 };
@@ -39,6 +40,12 @@ fn names_of<'a>(command: &Command<'a>) -> Names<'a>
             input: recording.input.unwrap_or(""),
         },
         Command::Replay { log, elf, .. } => Names {
+            elf,
+            log,
+            book: "",
+            input: "",
+        },
+        Command::Joint { log, elf } => Names {
             elf,
             log,
             book: "",
@@ -82,6 +89,7 @@ fn answer_to<S: Store, G: Gate, R: Threads + Wait + Sync>(
         Command::Replay { hart, interval, .. } => replay_files(
             alloc, names, store, *hart, *interval,
         ),
+        Command::Joint { .. } => join_files(alloc, names, store),
         Command::List { .. } => list_files(alloc, names, store),
         Command::Check { .. } => check_files(alloc, names, store),
     }
@@ -126,6 +134,7 @@ fn obey<S: Store, O: Sink, X: Sink, G: Gate, R: Threads + Wait + Sync>(
 /// |---|---|
 /// | `record [SETTINGS] [--seed N] [--input FILE] ELF LOG BOOK` | runs the program, and saves its log and the list of its turns |
 /// | `replay LOG ELF HART INTERVAL` | prints what the recorded run did in one interval, instruction by instruction |
+/// | `joint LOG ELF` | prints what all harts did in the intervals that the log keeps, in an order that its Edges allow, and the words of memory that are known then |
 /// | `list LOG` | prints a line for each interval that the log keeps, in the order of their Headers |
 /// | `check LOG` | prints what the log has |
 ///
@@ -149,7 +158,7 @@ fn obey<S: Store, O: Sink, X: Sink, G: Gate, R: Threads + Wait + Sync>(
 /// | 9 | memory was wanting |
 /// | 13 | writing to out or err failed |
 /// | 14 | the log keeps no such interval |
-/// | 15 | the program doesn't do what the log says |
+/// | 15 | the program doesn't do what the log says, or its Edges wait for each other |
 ///
 /// For each status but 0, 10 and 11 a line on err says more.
 pub fn run<S: Store, I: Source, O: Sink, X: Sink, G: Gate, R: Threads + Wait + Sync>(

@@ -1,25 +1,13 @@
 // The lines of intervals, logs and recordings.
 ghost use Rattle.std.specs.Prelude.{◌≡◌, ◌++◌, OnOk, codes, decimal};
-ghost use Rattle.bugnet.specs.Marks.{mark_text, counted};
-ghost use Rattle.bugnet.specs.Texts.{begin_text, end_text, interval_text, check_line, summary_text};
+ghost use Rattle.rv_text.specs.Marks.{mark_text};
+ghost use Rattle.bugnet.specs.Marks.{counted};
+ghost use Rattle.bugnet.specs.Texts.{begin_text, interval_text, check_line, summary_text};
 
 use bn_base::EndMark;
 use log_file::LogCounts;
-use rv_text::Text;
+use rv_text::{Text, write_mark};
 use std::alloc::AllocError;
-
-/// Appends a mark: its count in decimal, the word for its reason, and its value as eight
-/// hexadecimal digits.
-#[tactic(auto, unfolding(crate::specs::Marks::mark_text))]
-pub fn push_mark(text: &mut Text, mark: &EndMark) -> Result<(), AllocError>
-    ensures { OnOk result (text.new ≡ text.old ++ mark_text mark.now) }
-{
-    text.push_decimal(mark.ic)?;
-    text.push_str(" ")?;
-    text.push_str(mark.word())?;
-    text.push_str(" ")?;
-    text.push_hex8(mark.value)
-}
 
 /// Appends a number behind a word.
 #[tactic(auto, unfolding(crate::specs::Marks::counted))]
@@ -54,7 +42,7 @@ fn push_marked(text: &mut Text, before: &str, mark: &EndMark, after: &str) -> Re
     ensures { OnOk result (text.new ≡ text.old ++ (before.now ++ mark_text mark.now ++ after.now)) }
 {
     text.push_str(before)?;
-    push_mark(text, mark)?;
+    write_mark(mark, text)?;
     text.push_str(after)
 }
 
@@ -65,15 +53,6 @@ pub fn push_begin(text: &mut Text, hart: u64, interval: u64, ic: u64) -> Result<
 {
     push_two(text, "interval ", hart, interval)?;
     push_between(text, " from ", ic, "\n")
-}
-
-/// Appends the line after the rows of an interval.
-#[tactic(auto, unfolding(crate::specs::Texts::end_text))]
-pub fn push_end(text: &mut Text, hart: u64, interval: u64, mark: &EndMark) -> Result<(), AllocError>
-    ensures { OnOk result (text.new ≡ text.old ++ end_text hart interval mark.now) }
-{
-    push_two(text, "end ", hart, interval)?;
-    push_marked(text, " ", mark, "\n")
 }
 
 /// Appends the line of an interval of a log.

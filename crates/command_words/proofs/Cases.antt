@@ -2,7 +2,7 @@
 use Rattle.std.proofs.Common.{◌≡◌, [], ◌∷◌, codes, Some, None, refl}
 use Rattle.clap.proofs.OnLiterals.{clap_on_literals}
 use Rattle.bn_base.specs.Ranges.{default_settings}
-use Rattle.command_words.specs.Words.{RecordLine, ReplayLine, ListLine, CheckLine, line_of}
+use Rattle.command_words.specs.Words.{RecordLine, ReplayLine, JointLine, ListLine, CheckLine, line_of}
 use Rattle.command_words.specs.Examples.{said, plain}
 
 pub before : said (codes "record" ∷ codes "--seed" ∷ codes "5" ∷ codes "E" ∷ codes "L" ∷ codes "B" ∷ []) ≡ Some (RecordLine plain)
@@ -24,6 +24,10 @@ setting = refl
 pub replay : said (codes "replay" ∷ codes "L" ∷ codes "E" ∷ codes "3" ∷ codes "70" ∷ []) ≡ Some (ReplayLine (codes "L") (codes "E") 3 70)
 unfolding line_of clap_on_literals
 replay = refl
+
+pub joint : said (codes "joint" ∷ codes "L" ∷ codes "E" ∷ []) ≡ Some (JointLine (codes "L") (codes "E"))
+unfolding line_of clap_on_literals
+joint = refl
 
 pub list : said (codes "list" ∷ codes "L" ∷ []) ≡ Some (ListLine (codes "L"))
 unfolding line_of clap_on_literals

@@ -49,6 +49,10 @@ abbrev pub replay_app : App
 replay_app = with_rules (new_app (codes "replay"))
     (word (codes "log") ∷ word (codes "elf") ∷ number_word (codes "hart") ∷ number_word (codes "interval") ∷ [])
 
+-- `joint LOG ELF`
+abbrev pub joint_app : App
+joint_app = with_rules (new_app (codes "joint")) (word (codes "log") ∷ word (codes "elf") ∷ [])
+
 -- `NAME LOG`
 abbrev pub log_app : Text → App
 log_app name = with_rules (new_app name) (word (codes "log") ∷ [])
@@ -66,7 +70,7 @@ with_subcommands a (s ∷ ss) = with_subcommands (with_subcommand a s) ss
 -- the whole command
 abbrev pub bugnet_app : App
 bugnet_app = with_subcommands top_app
-    (record_app.top ∷ replay_app.top ∷ (log_app (codes "list")).top ∷ (log_app (codes "check")).top ∷ [])
+    (record_app.top ∷ replay_app.top ∷ joint_app.top ∷ (log_app (codes "list")).top ∷ (log_app (codes "check")).top ∷ [])
 
 -- the command is seen as this, and has nothing global
 abbrev pub IsSeenAs : App → Command → Type 0

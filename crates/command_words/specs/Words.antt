@@ -30,6 +30,8 @@ pub data Line : Type 0 where
   RecordLine : RecordingLine → Line
   -- log, elf, hart, interval
   ReplayLine : List ℕ → List ℕ → ℕ → ℕ → Line
+  -- log, elf
+  JointLine : List ℕ → List ℕ → Line
   ListLine : List ℕ → Line
   CheckLine : List ℕ → Line
 
@@ -48,6 +50,7 @@ seen_recording r = record {
 abbrev pub seen : Command → Line
 seen (command.Record recording) = RecordLine (seen_recording recording)
 seen (command.Replay log elf hart interval) = ReplayLine log.now elf.now hart interval
+seen (command.Joint log elf) = JointLine log.now elf.now
 seen (command.List log) = ListLine log.now
 seen (command.Check log) = CheckLine log.now
 
@@ -115,6 +118,12 @@ replay_in rows =
     and_then (number_at (codes "interval") rows) (λ interval.
     Some (ReplayLine log elf hart interval)))))
 
+abbrev pub joint_in : List Row → Option Line
+joint_in rows =
+    and_then (first_of (codes "log") rows) (λ log.
+    and_then (first_of (codes "elf") rows) (λ elf.
+    Some (JointLine log elf)))
+
 abbrev pub list_in : List Row → Option Line
 list_in rows = option_map ListLine (first_of (codes "log") rows)
 
@@ -125,9 +134,10 @@ check_in rows = option_map CheckLine (first_of (codes "log") rows)
 abbrev pub named : Text → List Row → Option Line
 named name rows = if bytes_eq name (codes "record") then record_in rows
     else (if bytes_eq name (codes "replay") then replay_in rows
+    else (if bytes_eq name (codes "joint") then joint_in rows
     else (if bytes_eq name (codes "list") then list_in rows
     else (if bytes_eq name (codes "check") then check_in rows
-    else None)))
+    else None))))
 
 abbrev pub line_in : Option (Text × List Row) → Option Line
 line_in None = None

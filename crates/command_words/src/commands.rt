@@ -32,6 +32,11 @@ pub enum Command<'a> {
         hart: u64,
         interval: u64,
     },
+    /// Replay all intervals that a log keeps together, with the program's file.
+    Joint {
+        log: &'a str,
+        elf: &'a str,
+    },
     /// List the intervals that a log keeps.
     List {
         log: &'a str,

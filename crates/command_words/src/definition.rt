@@ -3,7 +3,7 @@ ghost use Rattle.std.specs.Prelude.{◌≡◌, IfOk, codes};
 ghost use Rattle.clap.specs.Words.{app_of, rule_of};
 ghost use Rattle.clap.specs.declared.builder.command.Command.TheViews.{out-Command};
 ghost use Rattle.command_words.specs.App.{IsRule, IsSeenAs, number_option, text_option, word, number_word};
-ghost use Rattle.command_words.specs.App.{settings_app, record_app, replay_app, log_app, bugnet_app};
+ghost use Rattle.command_words.specs.App.{settings_app, record_app, replay_app, joint_app, log_app, bugnet_app};
 
 use clap::builder::ValueParser;
 use clap::{Arg, ArgAction, Command};
@@ -78,6 +78,15 @@ fn replay_command<'a>(alloc: Global) -> Result<Command<'a>, AllocError>
     command.arg(number_word(alloc, "interval"))
 }
 
+// `joint LOG ELF`
+fn joint_command<'a>(alloc: Global) -> Result<Command<'a>, AllocError>
+    ensures { IfOk result (IsSeenAs joint_app) }
+{
+    let command = Command::new(alloc, "joint");
+    let command = command.arg(word(alloc, "log"))?;
+    command.arg(word(alloc, "elf"))
+}
+
 // `NAME LOG`
 fn log_command<'a>(alloc: Global, name: &'a str) -> Result<Command<'a>, AllocError>
     ensures { IfOk result (IsSeenAs (log_app name.entry.now)) }
@@ -92,6 +101,7 @@ pub fn bugnet_command<'a>(alloc: Global) -> Result<Command<'a>, AllocError>
     let command = Command::new(alloc, "bugnet").subcommand_required(true);
     let command = command.subcommand(record_command(alloc)?)?;
     let command = command.subcommand(replay_command(alloc)?)?;
+    let command = command.subcommand(joint_command(alloc)?)?;
     let command = command.subcommand(log_command(alloc, "list")?)?;
     command.subcommand(log_command(alloc, "check")?)
 }

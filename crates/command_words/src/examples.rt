@@ -1,7 +1,7 @@
 // Lines whose meaning is worked out, so that the definition is seen at work.
 ghost use Rattle.std.specs.Prelude.{◌≡◌, ◌∷◌, [], Some, None, codes};
 ghost use Rattle.bn_base.specs.Ranges.{default_settings};
-ghost use Rattle.command_words.specs.Words.{RecordLine, ReplayLine, ListLine, CheckLine, line_of};
+ghost use Rattle.command_words.specs.Words.{RecordLine, ReplayLine, JointLine, ListLine, CheckLine, line_of};
 ghost use Rattle.command_words.specs.Examples.{said, plain};
 
 /// Options stand before, between and after names, with `=` or in two words. Settings that aren't
@@ -16,9 +16,10 @@ pub fn options_stand_anywhere()
 {}
 
 /// The other commands, each with its names and numbers in order.
-#[tactic(auto, using(crate::proofs::Cases::replay, crate::proofs::Cases::list, crate::proofs::Cases::check))]
+#[tactic(auto, using(crate::proofs::Cases::replay, crate::proofs::Cases::joint, crate::proofs::Cases::list, crate::proofs::Cases::check))]
 pub fn each_command_is_taken()
     ensures replay { said (codes "replay" ∷ codes "L" ∷ codes "E" ∷ codes "3" ∷ codes "70" ∷ []) ≡ Some (ReplayLine (codes "L") (codes "E") 3 70) }
+    ensures joint { said (codes "joint" ∷ codes "L" ∷ codes "E" ∷ []) ≡ Some (JointLine (codes "L") (codes "E")) }
     ensures list { said (codes "list" ∷ codes "L" ∷ []) ≡ Some (ListLine (codes "L")) }
     ensures check { said (codes "check" ∷ codes "L" ∷ []) ≡ Some (CheckLine (codes "L")) }
 {}

@@ -2,7 +2,7 @@
 ghost use Rattle.std.specs.Prelude.{◌≡◌, option_map, codes};
 ghost use Rattle.clap.specs.Words.{first_of, found_of, rows_of};
 ghost use Rattle.bn_base.specs.Ranges.{default_settings};
-ghost use Rattle.command_words.specs.Words.{seen, seen_recording, number_of, number_or, number_if, number_at, settings_in, recording_in, record_in, replay_in, list_in, check_in, named};
+ghost use Rattle.command_words.specs.Words.{seen, seen_recording, number_of, number_or, number_if, number_at, settings_in, recording_in, record_in, replay_in, joint_in, list_in, check_in, named};
 
 use crate::commands::{Command, Recording};
 use bn_base::RawSettings;
@@ -118,6 +118,14 @@ fn replay_in<'a>(matches: &ArgMatches<'a>) -> Option<Command<'a>>
     })
 }
 
+fn joint_in<'a>(matches: &ArgMatches<'a>) -> Option<Command<'a>>
+    ensures { option_map seen result ≡ joint_in (rows_of (found_of matches.now)) }
+{
+    let log = text_at(matches, "log")?;
+    let elf = text_at(matches, "elf")?;
+    Some(Command::Joint { log, elf })
+}
+
 fn list_in<'a>(matches: &ArgMatches<'a>) -> Option<Command<'a>>
     ensures { option_map seen result ≡ list_in (rows_of (found_of matches.now)) }
 {
@@ -140,6 +148,8 @@ pub fn named<'a>(name: &str, matches: &ArgMatches<'a>) -> Option<Command<'a>>
         record_in(matches)
     } else if name == "replay" {
         replay_in(matches)
+    } else if name == "joint" {
+        joint_in(matches)
     } else if name == "list" {
         list_in(matches)
     } else if name == "check" {

@@ -22,3 +22,6 @@ pub mod PointLists
 pub mod Insides
 pub mod Begins
 pub mod Onto
+pub mod Onward
+pub mod Positions
+pub mod Telling

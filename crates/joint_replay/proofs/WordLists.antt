@@ -1,12 +1,12 @@
 -- Lists of known words.
-use Rattle.std.proofs.Common.{◌≡◌, ℕ, zero, suc, ◌+◌, ◌*◌, ◌/◌, ◌%◌, ◌^◌, ◌<◌, ◌≤◌, Bool, true, false, cond, not, ◌&&◌, ◌||◌, nat_le, ◌==◌, nat_lt, ◌⊎◌, inl, inr, if◌then◌else◌, refl, sym, ap, ◌∙◌, arith, List, [], ◌∷◌, filter, Option, Some, None}
+use Rattle.std.proofs.Common.{◌≡◌, ℕ, zero, suc, ◌+◌, ◌-◌, ◌*◌, ◌/◌, ◌%◌, ◌^◌, ◌<◌, ◌≤◌, Bool, true, false, cond, not, ◌&&◌, ◌||◌, nat_le, ◌==◌, nat_lt, ◌⊎◌, inl, inr, if◌then◌else◌, refl, sym, ap, ◌∙◌, arith, List, [], ◌∷◌, filter, Option, Some, None}
 use Rattle.std.proofs.lemmas.Bool.{eq-eqb, ne_eqb}
 use Rattle.std.proofs.lemmas.Bool.Decides.{eqb_tells}
 use Rattle.rv_meaning.specs.Words.{aligned}
 use Rattle.hart_replay.specs.Pages.{Frame, Known, word_at}
 use Rattle.hart_replay.specs.Sides.{word_count}
-use Rattle.joint_replay.specs.Memory.{Bytes, has_byte, forget, put_word, word_in}
-use Rattle.joint_replay.specs.Words.{in_front, words_from, words_of}
+use Rattle.joint_replay.specs.Memory.{Bytes, has_byte, forget, put_word, word_in, known_from}
+use Rattle.joint_replay.specs.Words.{in_front, words_from, words_of, AreBelow}
 
 pub count_is : word_count ≡ 2 ^ 30
 unfolding word_count
@@ -207,3 +207,71 @@ all_gone old new first count last number low end after before w = bytes_gone old
     by : (last ≡ (first + count + 3) / 4) ⊎ ((last ≡ 2 ^ 30) × (2 ^ 30 ≤ (first + count + 3) / 4)) → (number ≡ (first + count + 3) / 4) ⊎ ((word_count ≤ number) × (number ≤ (first + count + 3) / 4))
     by (inl e) = inl (omega (arith, e, after, before (omega (arith, e))))
     by (inr e) = inr (omega (arith, e.0, after, count_is), omega (arith, e.0, e.1, before (omega (arith, e.0, low))))
+
+-- the words that were below a number still are
+pub still_below : (first number old_end new_end : ℕ) (old new : Known) → new_end ≡ old_end → Without first number old new → AreBelow old_end old.pages × (old_end ≤ 2 ^ 30) → AreBelow new_end new.pages × (new_end ≤ 2 ^ 30)
+still_below first number old_end new_end old new e w b = (
+  λ k up. w.words k ∙ by (nat_le (first / 4) k && nat_lt k number) (word_at old.pages k) (b.0 k (omega (arith, up, e))),
+  (let low = b.1 in omega (arith, low, e)),
+)
+  where
+    by : (c : Bool) (o : Option ℕ) → o ≡ None → (if c then None else o) ≡ None
+    by true o f = refl
+    by false o f = f
+
+-- ---- the known words from an address on
+
+-- words below the address are passed
+passed_by : (a k : ℕ) (o : Option ℕ) (ms : List (ℕ × ℕ)) → 4 * k < a → known_from a (in_front k o ms) ≡ known_from a ms
+passed_by a k None ms low = refl
+passed_by a k (Some w) ms low = ap (λ (b : Bool). elim b as (λ y. List (ℕ × ℕ)) [ true ↦ known_from a ms | false ↦ (4 * k, w) ∷ ms ]) (lt_true (4 * k) a low)
+
+-- those from it on stay
+all_above : (f : ℕ → Option ℕ) (a k n : ℕ) → a ≤ 4 * k → known_from a (words_from f k n) ≡ words_from f k n
+all_above f a k zero low = refl
+all_above f a k (suc n) low = by (f k) (all_above f a (suc k) n (omega (arith, low)))
+  where
+    not_lt : (m n : ℕ) → n ≤ m → nat_lt m n ≡ false
+    not_lt m n h = grind arith
+
+    by : (o : Option ℕ) → known_from a (words_from f (suc k) n) ≡ words_from f (suc k) n → known_from a (in_front k o (words_from f (suc k) n)) ≡ in_front k o (words_from f (suc k) n)
+    by None rest = rest
+    by (Some w) rest = ap (λ (b : Bool). elim b as (λ y. List (ℕ × ℕ)) [ true ↦ known_from a (words_from f (suc k) n) | false ↦ (4 * k, w) ∷ words_from f (suc k) n ]) (not_lt (4 * k) a low)
+
+from_number : (f : ℕ → Option ℕ) (a k d n j : ℕ) → j ≡ k + d → a ≤ 4 * j → 4 * j < a + 4 → known_from a (words_from f k (d + n)) ≡ words_from f j n
+from_number f a k zero n j e low high =
+    let same : k ≡ j = omega (arith, e) in let none : zero + n ≡ n = omega arith in
+    ap (λ x. known_from a (words_from f k x)) none ∙ all_above f a k n (omega (arith, low, e)) ∙ ap (λ x. words_from f x n) same
+from_number f a k (suc d) n j e low high =
+    let more : suc d + n ≡ suc (d + n) = omega arith in
+    ap (λ x. known_from a (words_from f k x)) more ∙ passed_by a k (f k) (words_from f (suc k) (d + n)) (omega (arith, e, high)) ∙ from_number f a (suc k) d n j (omega (arith, e)) low high
+
+none_above : (f : ℕ → Option ℕ) (a k n : ℕ) → 4 * (k + n) ≤ a + 3 → known_from a (words_from f k n) ≡ []
+none_above f a k zero low = refl
+none_above f a k (suc n) low = passed_by a k (f k) (words_from f (suc k) n) (omega (arith, low)) ∙ none_above f a (suc k) n (omega (arith, low))
+
+-- the words from an address on are those from a number on
+pub from_address : (pages : List (ℕ × Frame)) (a first : ℕ) → ((a ≤ 4 * first) × (4 * first < a + 4)) ⊎ ((first ≡ 2 ^ 30) × (2 ^ 32 ≤ a)) → first ≤ 2 ^ 30
+    → known_from a (words_of pages) ≡ words_from (word_at pages) first (2 ^ 30 - first)
+from_address pages a first (inl b) high =
+    let all : word_count ≡ first + (2 ^ 30 - first) = omega (arith, count_is, high) in
+    ap (λ n. known_from a (words_from (word_at pages) 0 n)) all ∙ from_number (word_at pages) a 0 first (2 ^ 30 - first) first (omega arith) b.0 b.1
+from_address pages a first (inr b) high =
+    let none : 0 ≡ 2 ^ 30 - first = omega (arith, b.0) in
+    none_above (word_at pages) a 0 word_count (omega (arith, count_is, b.1)) ∙ ap (λ n. words_from (word_at pages) first n) none
+
+-- one word after another
+pub one_unknown : (f : ℕ → Option ℕ) (words : List (ℕ × ℕ)) (k : ℕ) → k < 2 ^ 30 → f k ≡ None → words ≡ words_from f k (2 ^ 30 - k) → words ≡ words_from f (k + 1) (2 ^ 30 - (k + 1))
+one_unknown f words k low e so =
+    let more : 2 ^ 30 - k ≡ suc (2 ^ 30 - (k + 1)) = omega (arith, low) in let up : suc k ≡ k + 1 = omega arith in
+    so ∙ ap (λ n. words_from f k n) more ∙ ap (λ (o : Option ℕ). in_front k o (words_from f (suc k) (2 ^ 30 - (k + 1)))) e ∙ ap (λ x. words_from f x (2 ^ 30 - (k + 1))) up
+
+pub one_known : (pages : List (ℕ × Frame)) (words : List (ℕ × ℕ)) (k w : ℕ) → k < 2 ^ 30 → word_at pages k ≡ Some w → words ≡ words_from (word_at pages) k (2 ^ 30 - k) → words ≡ (4 * k, w) ∷ known_from (4 * k + 4) (words_of pages)
+one_known pages words k w low e so =
+    let more : 2 ^ 30 - k ≡ suc (2 ^ 30 - (k + 1)) = omega (arith, low) in let up : suc k ≡ k + 1 = omega arith in
+    so ∙ ap (λ n. words_from (word_at pages) k n) more ∙ ap (λ (o : Option ℕ). in_front k o (words_from (word_at pages) (suc k) (2 ^ 30 - (k + 1)))) e
+    ∙ ap (λ (ms : List (ℕ × ℕ)). (4 * k, w) ∷ ms) (ap (λ x. words_from (word_at pages) x (2 ^ 30 - (k + 1))) up ∙ sym (from_address pages (4 * k + 4) (k + 1) (inl (omega arith, omega arith)) (omega (arith, low))))
+
+pub none_after : (pages : List (ℕ × Frame)) (end k n : ℕ) → AreBelow end pages → end ≤ k → words_from (word_at pages) k n ≡ []
+none_after pages end k zero b low = refl
+none_after pages end k (suc n) b low = ap (λ (o : Option ℕ). in_front k o (words_from (word_at pages) (suc k) n)) (b k low) ∙ none_after pages end (suc k) n b (omega (arith, low))

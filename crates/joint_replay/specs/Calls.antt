@@ -1,5 +1,5 @@
 -- What the calls of a joint replay do.
-use Rattle.std.specs.Prelude.{◌≡◌, ◌⊎◌, ℕ, ◌++◌, List, map, slice_get, Option, Some, None, Result, Ok, Err}
+use Rattle.std.specs.Prelude.{◌≡◌, ◌⊎◌, ℕ, List, map, slice_get, Option, Some, None, Result, Ok, Err}
 use Rattle.bn_base.specs.declared.state.HartState.{HartState}
 use Rattle.hart_replay.specs.declared.error.ReplayError.{ReplayError}
 use Rattle.hart_replay.specs.declared.error.ReplayError.TheVariants as replay
@@ -10,9 +10,8 @@ use Rattle.joint_replay.specs.declared.error.JointError.TheVariants as why
 use Rattle.joint_replay.specs.declared.kinds.Stepped.{Stepped}
 use Rattle.joint_replay.specs.declared.kinds.Stepped.TheVariants.{Passed, Did, Ended}
 use Rattle.joint_replay.specs.Lanes.{Course, Lane, Item, Passing, Doing, Ending, state_of}
-use Rattle.joint_replay.specs.Joining.{Joining, Walk, begun, error_of, next_step, run_for, run_all}
+use Rattle.joint_replay.specs.Joining.{Joining, Walk, error_of, next_step}
 use Rattle.joint_replay.specs.Orders.{IsBegun}
-use Rattle.joint_replay.specs.Texts.{steps_text}
 
 -- what a caller is told of a step
 abbrev pub told : ℕ → Item → Stepped
@@ -50,7 +49,7 @@ pub record IsReached (harts : ℕ) (j : Joining) : Type 0 where
   pub memory : walk.now.memory ≡ j.memory
   pub whole : j.refused ≡ None → walk.now ≡ j
 
--- ---- steps and runs
+-- ---- steps
 
 -- the replay of the hart's interval is refused there
 pub record IsRefused (old : Joining) (h : ℕ) (e : JointError) (new : Joining) : Type 0 where
@@ -63,21 +62,3 @@ pub record IsRefused (old : Joining) (h : ℕ) (e : JointError) (new : Joining) 
 abbrev pub Steps : Joining → ℕ → Result Stepped JointError → Joining → Type 0
 Steps old h (Ok stepped) new = (item : Item) × (next_step old h ≡ Some (Ok (item, new))) × (stepped ≡ told h item)
 Steps old h (Err e) new = IsRefused old h e new ⊎ ((e ≡ why.OutOfMemory) × (old.refused ≡ None) × IsHalted old new)
-
-abbrev pub stopped_by : Result (Unit {0}) JointError → Option JointError
-stopped_by (Ok u) = None
-stopped_by (Err e) = Some e
-
--- a run adds the text of all its steps, and ends as they do; or it finds no memory after some of them
-pub record RanToEnd (old : Joining) (result : Result (Unit {0}) JointError) (new : Joining) (out_old out_new : List ℕ) : Type 0 where
-  pub ends : (run_all old).stopped ≡ stopped_by result
-  pub now : (run_all old).walk.now ≡ new
-  pub text : out_new ≡ out_old ++ steps_text (run_all old).walk.taken
-
-pub record FoundNoMemory (old new : Joining) (out_old out_new : List ℕ) : Type 0 where
-  pub steps : ℕ
-  pub halted : IsHalted (run_for steps (begun old)).walk.now new
-  pub text : out_new ≡ out_old ++ steps_text (run_for steps (begun old)).walk.taken
-
-abbrev pub Runs : Joining → Result (Unit {0}) JointError → Joining → List ℕ → List ℕ → Type 0
-Runs old result new out_old out_new = RanToEnd old result new out_old out_new ⊎ ((result ≡ Err why.OutOfMemory) × FoundNoMemory old new out_old out_new)

@@ -138,18 +138,26 @@ pub record Ran : Type 0 where
 abbrev pub ran : Walk → Option JointError → Ran
 ran w stopped = record { walk = w; stopped = stopped }
 
--- at most n steps
-abbrev pub run_for : ℕ → Walk → Ran
-run_for zero w = ran w None
-run_for (suc n) w = elim (choice w.now) [
-  | AllDone ↦ ran w None
-  | NoneReady ↦ ran w (Some (Stuck (positions_from 0 w.now.lanes)))
-  | Hart h ↦ elim (next_step w.now h) [
-    | None ↦ ran w None
-    | Some r ↦ elim r [ Err e ↦ ran (record w { now = record w.now { refused = Some e } }) (Some (error_of e)) | Ok x ↦ run_for n (longer w h x) ]
+-- the lowest ready hart takes a step, and the run goes on from there; it stops where all are done, none is ready, or a
+-- replay is or was refused
+abbrev pub run_on : Walk → (Walk → Ran) → Ran
+run_on w go = elim w.now.refused [
+  | Some e ↦ ran w (Some (error_of e))
+  | None ↦ elim (choice w.now) [
+    | AllDone ↦ ran w None
+    | NoneReady ↦ ran w (Some (Stuck (positions_from 0 w.now.lanes)))
+    | Hart h ↦ elim (next_step w.now h) [
+      | None ↦ ran w None
+      | Some r ↦ elim r [ Err e ↦ ran (record w { now = record w.now { refused = Some e } }) (Some (error_of e)) | Ok x ↦ go (longer w h x) ]
+    ]
   ]
 ]
 
--- the lowest ready hart steps, until all are done, none is ready, or a step is refused
+-- at most n steps
+abbrev pub run_for : ℕ → Walk → Ran
+run_for zero w = ran w None
+run_for (suc n) w = run_on w (λ v. run_for n v)
+
+-- steps, until all harts are done, none is ready, or one is refused
 abbrev pub run_all : Joining → Ran
 run_all j = run_for (steps_left j.lanes + 1) (begun j)

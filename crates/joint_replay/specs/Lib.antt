@@ -8,6 +8,7 @@ pub mod Joining
 pub mod Orders
 pub mod Texts
 pub mod Calls
+pub mod Runs
 pub mod Moves
 pub mod Together
 pub mod Counts

@@ -1,20 +1,13 @@
 -- The text of a joint replay.
 use Rattle.std.specs.Prelude.{ℕ, List, [], ◌∷◌, ◌++◌, codes, decimal, Some, None}
 use Rattle.std.specs.List.{flat_map}
-use Rattle.bn_base.specs.EndMarks.{reason_word}
-use Rattle.bn_base.specs.declared.end_mark.EndMark.{EndMark}
 use Rattle.rv_text.specs.Instructions.{hex8}
 use Rattle.rv_text.specs.Rows.{row_text}
+use Rattle.rv_text.specs.Marks.{end_text}
+use Rattle.joint_replay.specs.declared.kinds.Stepped.{Stepped}
+use Rattle.joint_replay.specs.declared.kinds.Stepped.TheVariants.{Passed, Did, Ended}
 use Rattle.joint_replay.specs.Lanes.{Item, Passing, Doing, Ending}
 use Rattle.joint_replay.specs.Joining.{Taken, Ran}
-
--- how an interval ended
-unfoldable pub mark_text : EndMark → List ℕ
-mark_text mark = decimal mark.ic ++ codes " " ++ reason_word mark.reason ++ codes " " ++ hex8 mark.value
-
--- the line of an interval's end
-unfoldable pub end_text : ℕ → ℕ → EndMark → List ℕ
-end_text hart interval mark = codes "end " ++ decimal hart ++ codes " " ++ decimal interval ++ (codes " " ++ mark_text mark ++ codes "\n")
 
 -- the line of an ordering point
 unfoldable pub pass_text : ℕ → ℕ → List ℕ
@@ -23,6 +16,12 @@ pass_text hart ic = codes "pass " ++ decimal hart ++ codes " " ++ decimal ic ++ 
 -- the line of a known word
 unfoldable pub known_text : ℕ × ℕ → List ℕ
 known_text m = codes "word " ++ hex8 m.0 ++ codes "=" ++ hex8 m.1 ++ codes "\n"
+
+-- the line of a step, as a caller is told of it
+abbrev pub stepped_text : Stepped → List ℕ
+stepped_text (Passed h ic) = pass_text h ic
+stepped_text (Did row) = row_text row
+stepped_text (Ended h n m) = end_text h n m
 
 -- the line of a step
 abbrev pub item_text : ℕ → Item → List ℕ

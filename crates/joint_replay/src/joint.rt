@@ -1,11 +1,11 @@
 //! The joint replay of all retained intervals.
-ghost use Rattle.std.specs.Prelude.{◌≡◌, ◌<◌, ◌==◌, ◌&&◌, not, length, slice_get, Some, None, IfOk, IfErr, MatchOption};
+ghost use Rattle.std.specs.Prelude.{◌≡◌, ◌<◌, ◌+◌, ◌==◌, ◌&&◌, not, [], ◌∷◌, length, slice_get, Some, None, IfOk, IfErr, MatchOption};
 ghost use Rattle.joint_replay.specs.declared.kinds.Readiness.TheVariants.{Ready};
 ghost use Rattle.joint_replay.specs.declared.error.JointError.TheVariants.{OutOfMemory};
 ghost use Rattle.joint_replay.specs.Points.{sources_into};
-ghost use Rattle.joint_replay.specs.Joining.{fresh, is_passed, first_waited, waits_for, readiness, coming, choice, error_of};
-ghost use Rattle.joint_replay.specs.Memory.{word_in};
-ghost use Rattle.joint_replay.specs.Calls.{Steps, state_at, IsReached};
+ghost use Rattle.joint_replay.specs.Joining.{fresh, is_passed, first_waited, waits_for, readiness, coming, choice, positions_from, error_of};
+ghost use Rattle.joint_replay.specs.Memory.{word_in, known_from};
+ghost use Rattle.joint_replay.specs.Calls.{Steps, state_at, IsHalted, IsReached};
 ghost use Rattle.joint_replay.specs.Together.{AreBegun};
 
 use crate::error::JointError;
@@ -13,7 +13,7 @@ use crate::kinds::{Coming, Next, Readiness, Stepped};
 use crate::lane::{Lane, Moved};
 use crate::memory::Memory;
 use crate::sources::Source;
-use bn_base::{Addr, HartId, HartState, Ic, Image};
+use bn_base::{Addr, HartId, HartState, Ic, Image, List};
 use hart_replay::ReplayError;
 use log_order::KeptLog;
 use std::alloc::{AllocError, Global};
@@ -147,6 +147,43 @@ impl<'a> Joint<'a> {
         self.memory.word(addr)
     }
 
+    /// The first known word of the joint memory at this address or above it; `None` where there is none.
+    ///
+    /// All calls that go on from one to the next take as long as there are words up to the highest one
+    /// that was ever known.
+    pub fn known_from(&self, from: u64) -> Option<(Addr, u32)>
+        ensures { MatchOption result (known_from from self.now.memory ≡ []) (λ m. known_from from self.now.memory ≡ m ∷ known_from (m.0 + 4) self.now.memory) }
+    {
+        self.memory.known_from(from)
+    }
+
+    /// The refusal that each step repeats, if there was one.
+    pub(crate) fn refusal(&self) -> Option<ReplayError>
+        ensures { result ≡ self.now.refused }
+    {
+        self.refused
+    }
+
+    /// Stops it for want of memory.
+    pub(crate) fn halt(&mut self)
+        ensures { IsHalted self.old self.new }
+    {
+        self.refused = Some(ReplayError::OutOfMemory);
+    }
+
+    /// The harts that aren't done, each with its next count.
+    pub(crate) fn positions(&self) -> Result<List<(HartId, Ic)>, AllocError>
+        ensures { IfOk result (λ found. found ≡ positions_from 0 self.now.lanes) }
+    {
+        let mut found = Vec::new(*self.lanes.allocator());
+        for hart in 0..self.harts {
+            if let Some(coming) = self.coming(hart) {
+                found.push((hart, coming.ic()))?;
+            }
+        }
+        Ok(List::from_vec(found))
+    }
+
     // Whether an instruction of a hart is passed.
     fn is_passed(&self, hart: HartId, ic: Ic) -> bool
         ensures { result ≡ is_passed (slice_get self.now.lanes hart) ic }
@@ -241,8 +278,8 @@ fn all_lanes<'a>(
     Ok(lanes)
 }
 
-// How the refusal of a replay is told.
-fn error_of(refusal: ReplayError) -> JointError
+/// How the refusal of a replay is told.
+pub(crate) fn error_of(refusal: ReplayError) -> JointError
     ensures { result ≡ error_of refusal }
 {
     match refusal {

@@ -1,6 +1,7 @@
 //! Laws of joint replays. These functions do nothing: their contracts are theorems.
 ghost use Rattle.joint_replay.specs.Laws.{RowsGoOn, StepsPass, OrderedLogsHaveShape, EdgesAreInside, EdgesAscend, PointsAscend};
 ghost use Rattle.joint_replay.specs.Laws.{StartsAreSound, SoundnessStays, ChainsAreKept, NeverStuck};
+ghost use Rattle.joint_replay.specs.Runs.{RunsGoOn, RunsEnd};
 
 use rv_meaning::each_instruction_is_counted_or_asks;
 
@@ -35,6 +36,16 @@ pub fn chains_are_kept()
 #[tactic(auto, using(crate::proofs::Descent::never_stuck))]
 pub fn no_order_gets_stuck()
     ensures { NeverStuck }
+{}
+
+/// A run is its first step, and the run after it.
+pub fn runs_go_on()
+    ensures { RunsGoOn }
+{}
+
+/// Where no step is taken the run ends.
+pub fn runs_end()
+    ensures { RunsEnd }
 {}
 
 /// The intervals of a hart in a log in order stand one after another.

@@ -11,8 +11,11 @@ mod lane;
 pub mod laws;
 mod memory;
 mod points;
+mod running;
 mod sources;
+mod texts;
 
 pub use error::JointError;
 pub use joint::Joint;
 pub use kinds::{Coming, Next, Readiness, Stepped};
+pub use texts::{write_known, write_step};

@@ -1,8 +1,8 @@
 //! The memory of a joint replay.
-ghost use Rattle.std.specs.Prelude.{◌≡◌, ◌≤◌, ◌<◌, ◌+◌, ◌/◌, ◌^◌, ◌⊎◌, [], Some, OnOk};
+ghost use Rattle.std.specs.Prelude.{◌≡◌, ◌≤◌, ◌<◌, ◌+◌, ◌*◌, ◌/◌, ◌^◌, ◌⊎◌, [], ◌∷◌, Some, OnOk, MatchOption};
 ghost use Rattle.std.specs.Option.{option_map};
 ghost use Rattle.rv_meaning.specs.Words.{aligned};
-ghost use Rattle.joint_replay.specs.Memory.{forget, put_word, word_in, put_access};
+ghost use Rattle.joint_replay.specs.Memory.{forget, put_word, word_in, known_from, put_access};
 ghost use Rattle.joint_replay.specs.Words.{bytes_at};
 
 use bn_base::{Addr, Row};
@@ -15,14 +15,19 @@ use std::marker::Model;
 #[derive(Drop)]
 pub(crate) struct Memory {
     words: Words,
+    /// No word of this number or above it is known.
+    end: u32,
 }
 
 impl Model for Memory {
-    ghost use Rattle.joint_replay.specs.Words.{Remembered, words_of};
+    ghost use Rattle.std.specs.Prelude.{◌≤◌, ◌^◌};
+    ghost use Rattle.joint_replay.specs.Words.{Remembered, words_of, AreBelow};
 
     ghost Value = { Remembered };
 
     ghost view = { λ m. record { words = words_of m.words.pages; room = m.words.room } };
+
+    ghost invariant = { λ m. AreBelow m.end m.words.pages × (m.end ≤ 2 ^ 30) };
 }
 
 impl Memory {
@@ -32,6 +37,7 @@ impl Memory {
     {
         Memory {
             words: Words::new(alloc),
+            end: 0,
         }
     }
 
@@ -44,6 +50,18 @@ impl Memory {
         } else {
             None
         }
+    }
+
+    /// The first known word at an address or above it.
+    pub(crate) fn known_from(&self, from: u64) -> Option<(Addr, u32)>
+        ensures { MatchOption result (known_from from self.now.words ≡ []) (λ m. known_from from self.now.words ≡ m ∷ known_from (m.0 + 4) self.now.words) }
+    {
+        for number in first_word(from)..self.end {
+            if let Some(word) = self.words.get(4 * number) {
+                return Some((4 * number, word));
+            }
+        }
+        None
     }
 
     /// Makes room for the words of one row. The words stay.
@@ -60,6 +78,7 @@ impl Memory {
         ensures word { self.new.words ≡ put_word (aligned addr) word self.old.words }
         ensures room { self.old.room ≤ self.new.room + 1 }
     {
+        self.end = self.end.max(addr / 4 + 1);
         match self.words.put(addr, word) {
             Ok(()) => (),
             Err(_) => unreachable!(),
@@ -99,6 +118,18 @@ impl Memory {
         }
         self.keep(row.load);
         self.keep(row.store);
+    }
+}
+
+// The number of the first word at an address or above it.
+fn first_word(from: u64) -> u32
+    ensures first { ((from ≤ 4 * result) × (4 * result < from + 4)) ⊎ ((result ≡ 2 ^ 30) × (2 ^ 32 ≤ from)) }
+    ensures bound { result ≤ 2 ^ 30 }
+{
+    if from < 1 << 32 {
+        ((from + 3) / 4) as u32
+    } else {
+        1 << 30
     }
 }
 

@@ -1,4 +1,5 @@
 pub mod Names
 pub mod Instructions
 pub mod Rows
+pub mod Marks
 pub mod Texts

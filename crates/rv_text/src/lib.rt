@@ -1,17 +1,20 @@
-//! The texts of instructions and rows.
+//! The texts of instructions, rows and ends of intervals.
 //!
 //! [`write_instr`] appends an instruction as an assembler would take it, with the registers by
 //! their names in the calling convention and no pseudo-instruction; [`write_row`] appends one line
-//! for what an instruction did. Both append to a [`Text`].
+//! for what an instruction did. [`write_mark`] and [`write_end`] tell how an interval ended. All
+//! append to a [`Text`].
 #![tactic(auto)]
 
 mod instructions;
+mod marks;
 mod names;
 mod operands;
 mod rows;
 mod text;
 
 pub use instructions::write_instr;
+pub use marks::{write_end, write_mark};
 pub use names::register_name;
 pub use rows::write_row;
 pub use text::Text;

@@ -1,0 +1,93 @@
+-- What the command `joint` answers: the joint replay of all intervals that a log keeps.
+use Rattle.std.specs.Prelude.{◌≡◌, ℕ, ◌≤◌, Bool, true, false, List, ◌++◌, [], length, Option, Some, None, Result, Ok, Err, codes, decimal}
+use Rattle.std.specs.List.{flat_map}
+use Rattle.std.specs.Str.{bytes_eq}
+use Rattle.sha2.specs.Sha256.{sha256}
+use Rattle.bn_base.specs.Programs.{Program}
+use Rattle.bn_outside.specs.Files.{Files}
+use Rattle.elf_loader.specs.Loaded.{image_of}
+use Rattle.elf_loader.specs.declared.error.ElfError.{ElfError}
+use Rattle.log_order.specs.Content.{Content, IsContent}
+use Rattle.log_file.specs.Layout.{file_bytes}
+use Rattle.joint_replay.specs.declared.error.JointError.{JointError}
+use Rattle.joint_replay.specs.declared.error.JointError.TheVariants.{Replay, Stuck}
+use Rattle.joint_replay.specs.declared.error.JointError.TheVariants as joint
+use Rattle.joint_replay.specs.Joining.{Joining, Ran, fresh, run_all}
+use Rattle.joint_replay.specs.Texts.{joint_text}
+use Rattle.bugnet.specs.Names.{FileNames}
+use Rattle.bugnet.specs.Refusals.{status_of, line_of}
+use Rattle.bugnet.specs.Told.{Told, refused}
+use Rattle.bugnet.specs.Commands.{WithFile, IsByLog}
+use Rattle.bugnet.specs.declared.names.Role.TheVariants as role
+use Rattle.bugnet.specs.declared.refusal.Refusal.TheVariants.{ElfRefused, ProgramDiffers, OutOfMemory, ReplayStopped}
+
+-- ---- why a joint replay stopped
+
+-- a hart that isn't done, with its next count
+unfoldable pub position_text : ℕ × ℕ → List ℕ
+position_text p = codes " " ++ decimal p.0 ++ codes ":" ++ decimal p.1
+
+unfoldable pub positions_text : List (ℕ × ℕ) → List ℕ
+positions_text ps = flat_map position_text ps
+
+-- the line where no hart is ready
+unfoldable pub stuck_line : List (ℕ × ℕ) → List ℕ
+stuck_line ps = codes "bugnet: replay: Stuck" ++ positions_text ps ++ codes "\n"
+
+abbrev pub joint_status : Option JointError → ℕ
+joint_status None = 0
+joint_status (Some (Replay e)) = status_of (ReplayStopped e)
+joint_status (Some (Stuck positions)) = 15
+joint_status (Some joint.OutOfMemory) = 9
+
+abbrev pub joint_line : FileNames → Option JointError → List ℕ
+joint_line names None = []
+joint_line names (Some (Replay e)) = line_of names (ReplayStopped e)
+joint_line names (Some (Stuck positions)) = stuck_line positions
+joint_line names (Some joint.OutOfMemory) = line_of names OutOfMemory
+
+-- ---- what is told
+
+-- the steps, and then the known words, unless it stopped
+unfoldable pub ran_told : FileNames → Ran → Told
+ran_told names r = record { status = joint_status r.stopped; out = joint_text r; err = joint_line names r.stopped; saved = None }
+
+-- the joint replay of a log with a program, before its first step
+abbrev pub joined : Content → Program → Joining
+joined d i = fresh i d.head.settings.harts d.records
+
+abbrev pub joint_with : FileNames → Content → Program → Told
+joint_with names d i = ran_told names (run_all (joined d i))
+
+abbrev pub joint_loaded : FileNames → Content → Result Program ElfError → Told
+joint_loaded names d (Err e) = refused names (ElfRefused e)
+joint_loaded names d (Ok i) = joint_with names d i
+
+abbrev pub joint_same : Bool → FileNames → List ℕ → Content → Told
+joint_same true names elf d = joint_loaded names d (image_of elf d.head.settings)
+joint_same false names elf d = refused names (ProgramDiffers d.head.digest (sha256 elf))
+
+-- the same with a program file: its digest is compared with the log's, and it is loaded with the log's settings
+abbrev pub joint_of : FileNames → List ℕ → Content → Told
+joint_of names elf d = joint_same (bytes_eq (sha256 elf) d.head.digest) names elf d
+
+-- ---- the command
+
+abbrev pub IsJointOf : Files → FileNames → List ℕ → Told → Type 0
+IsJointOf files names log what = WithFile files names role.Elf 67108864 (λ elf what. IsByLog names log (joint_of names elf) what) what
+
+abbrev pub IsJoint : Files → FileNames → Told → Type 0
+IsJoint files names what = WithFile files names role.Log 268500992 (λ log what. IsJointOf files names log what) what
+
+-- what it needs: a log and its program are there, and their joint replay isn't stopped
+pub record CanJoin (log elf : List ℕ) (files : Files) : Type 0 where
+  pub content : Content
+  pub bytes : List ℕ
+  pub program : Program
+  pub is : IsContent content
+  pub log_there : files log ≡ Some (file_bytes content)
+  pub elf_there : files elf ≡ Some bytes
+  pub elf_small : length bytes ≤ 67108864
+  pub same : bytes_eq (sha256 bytes) content.head.digest ≡ true
+  pub loaded : image_of bytes content.head.settings ≡ Ok program
+  pub goes_on : (run_all (joined content program)).stopped ≡ None

@@ -1,0 +1,7 @@
+use Rattle.std.proofs.Common.{◌≡◌, ◌++◌, drop}
+use Rattle.joint_replay.specs.Joining.{positions_from}
+use Rattle.joint_replay.proofs.joint.Joint.positions.Given as goal
+
+-- those of the harts before are found
+abbrev pub invariant-loop-hart : goal.invariant-loop-hart
+invariant-loop-hart l = l.found.items ++ positions_from l.hart (drop l.hart l.self.lanes) ≡ positions_from 0 l.self.lanes

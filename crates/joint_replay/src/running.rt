@@ -1,0 +1,94 @@
+//! Runs of a joint replay: all its steps, with their text.
+ghost use Rattle.std.specs.Prelude.{◌≡◌, None};
+ghost use Rattle.joint_replay.specs.declared.kinds.Next.TheVariants.{Hart, NoneReady};
+ghost use Rattle.joint_replay.specs.Joining.{choice};
+ghost use Rattle.joint_replay.specs.Runs.{Advances, IsStuck, Runs};
+
+use crate::error::JointError;
+use crate::joint::{Joint, error_of};
+use crate::kinds::Next;
+use crate::laws::{runs_end, runs_go_on};
+use crate::texts::write_step;
+use bn_base::HartId;
+use rv_text::Text;
+
+impl<'a> Joint<'a> {
+    // Why no hart is ready.
+    fn stuck(&mut self) -> JointError
+        ensures { IsStuck self.old result self.new }
+    {
+        match self.positions() {
+            Ok(positions) => JointError::Stuck { positions },
+            Err(_) => {
+                self.halt();
+                JointError::OutOfMemory
+            }
+        }
+    }
+
+    // Takes the next step of the lowest ready hart, and appends its line.
+    fn tell(&mut self, hart: HartId, out: &mut Text) -> Result<bool, JointError>
+        requires none { self.old.refused ≡ None }
+        requires lowest { choice self.old ≡ Hart hart }
+        ensures { Advances self.old result self.new out.old out.new }
+    {
+        match self.step(hart) {
+            Err(error) => Err(error),
+            Ok(stepped) => match write_step(&stepped, out) {
+                Ok(()) => Ok(true),
+                Err(_) => {
+                    self.halt();
+                    Err(JointError::OutOfMemory)
+                }
+            },
+        }
+    }
+
+    // Goes on by one step, where none was refused yet.
+    fn go_on(&mut self, out: &mut Text) -> Result<bool, JointError>
+        requires none { self.old.refused ≡ None }
+        ensures { Advances self.old result self.new out.old out.new }
+    {
+        match self.next() {
+            Next::AllDone => Ok(false),
+            Next::NoneReady => Err(self.stuck()),
+            Next::Hart(hart) => self.tell(hart, out),
+        }
+    }
+
+    /// Takes the next step of the lowest ready hart, and appends its line; `false` where all harts are
+    /// done.
+    ///
+    /// Stuck comes where no hart is ready and not all are done, and a refusal of the step where it is
+    /// refused; then there is no line. Where memory is wanting there is no line either, but the step may
+    /// be done. After that, as after any refusal, each step answers the same.
+    pub fn advance(&mut self, out: &mut Text) -> Result<bool, JointError>
+        ensures { Advances self.old result self.new out.old out.new }
+    {
+        match self.refusal() {
+            Some(refusal) => Err(error_of(refusal)),
+            None => self.go_on(out),
+        }
+    }
+
+    /// Takes all steps, the lowest ready hart's first, and appends their lines.
+    ///
+    /// It ends where all harts are done. The errors are those of `advance`: the lines before them stand,
+    /// and a further call appends nothing and answers the same.
+    pub fn run_all(&mut self, out: &mut Text) -> Result<(), JointError>
+        ensures { Runs self.old result self.new out.old out.new }
+    {
+        runs_go_on();
+        runs_end();
+        'steps: loop {
+            match self.advance(out) {
+                Err(error) => return Err(error),
+                Ok(more) => {
+                    if !more {
+                        return Ok(());
+                    }
+                }
+            }
+        }
+    }
+}

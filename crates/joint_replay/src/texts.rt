@@ -1,0 +1,79 @@
+//! The lines of a joint replay.
+ghost use Rattle.std.specs.Prelude.{◌≡◌, ◌++◌, OnOk, OnErr};
+ghost use Rattle.rv_text.specs.Texts.{BeginsWith};
+ghost use Rattle.joint_replay.specs.Texts.{pass_text, known_text, stepped_text};
+
+use crate::kinds::Stepped;
+use bn_base::{Addr, HartId, Ic};
+use rv_text::{Text, write_end, write_row};
+use std::alloc::AllocError;
+
+// The line of an ordering point, which may stop in the middle.
+#[tactic(auto, unfolding(crate::specs::Texts::pass_text))]
+fn write_pass_parts(hart: HartId, ic: Ic, text: &mut Text) -> Result<(), AllocError>
+    ensures ok { OnOk result (text.new ≡ text.old ++ pass_text hart ic) }
+    ensures begins { BeginsWith text.old text.new }
+{
+    text.push_str("pass ")?;
+    text.push_decimal(u64::from(hart))?;
+    text.push_str(" ")?;
+    text.push_decimal(ic)?;
+    text.push_str("\n")
+}
+
+// The line of an ordering point.
+fn write_pass(hart: HartId, ic: Ic, text: &mut Text) -> Result<(), AllocError>
+    ensures ok { OnOk result (text.new ≡ text.old ++ pass_text hart ic) }
+    ensures err { OnErr result (text.new ≡ text.old) }
+{
+    let length = text.len();
+    let written = write_pass_parts(hart, ic, text);
+    if written.is_err() {
+        text.truncate(length);
+    }
+    written
+}
+
+// The line of a known word, which may stop in the middle.
+#[tactic(auto, unfolding(crate::specs::Texts::known_text))]
+fn write_known_parts(addr: Addr, word: u32, text: &mut Text) -> Result<(), AllocError>
+    ensures ok { OnOk result (text.new ≡ text.old ++ known_text (addr, word)) }
+    ensures begins { BeginsWith text.old text.new }
+{
+    text.push_str("word ")?;
+    text.push_hex8(addr)?;
+    text.push_str("=")?;
+    text.push_hex8(word)?;
+    text.push_str("\n")
+}
+
+/// Appends the line of a known word: the word `word`, and its address and contents as eight
+/// hexadecimal digits. Where memory is wanting the text is as before.
+pub fn write_known(addr: Addr, word: u32, text: &mut Text) -> Result<(), AllocError>
+    ensures ok { OnOk result (text.new ≡ text.old ++ known_text (addr, word)) }
+    ensures err { OnErr result (text.new ≡ text.old) }
+{
+    let length = text.len();
+    let written = write_known_parts(addr, word, text);
+    if written.is_err() {
+        text.truncate(length);
+    }
+    written
+}
+
+/// Appends the line of a step: `pass`, the hart and the count of an ordering point; the line of a row;
+/// or that of an interval's end. Where memory is wanting the text is as before.
+pub fn write_step(stepped: &Stepped, text: &mut Text) -> Result<(), AllocError>
+    ensures ok { OnOk result (text.new ≡ text.old ++ stepped_text stepped.now) }
+    ensures err { OnErr result (text.new ≡ text.old) }
+{
+    match stepped {
+        Stepped::Passed { hart, ic } => write_pass(*hart, *ic, text),
+        Stepped::Did(row) => write_row(row, text),
+        Stepped::Ended {
+            hart,
+            interval,
+            mark,
+        } => write_end(u64::from(*hart), *interval, mark, text),
+    }
+}
