@@ -114,10 +114,10 @@ source=$tree/crates/mid/src/lib.rt
 
 what="words of the script"
 runs 2 "$zelkuma"
-has err "zelkuma record --seed N"
+has err "zelkuma record .OPTION"
 for word in help --help -h; do
     runs 0 "$zelkuma" "$word"
-    has out "zelkuma record --seed N"
+    has out "zelkuma record .OPTION"
 done
 runs 2 "$zelkuma" install
 runs 2 "$zelkuma" install a b

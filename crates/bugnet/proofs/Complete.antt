@@ -20,20 +20,20 @@ use Rattle.log_file.specs.declared.error.FileError.TheVariants as file
 use Rattle.log_file.specs.declared.error.FileError.{FileError}
 use Rattle.hart_replay.specs.Replay.{Interval}
 use Rattle.run_model.specs.Files.{content_of}
-use Rattle.run_model.specs.Runs.{run_of}
 use Rattle.replay_laws.specs.Law.{LogSuffices}
 use Rattle.bugnet.specs.Names.{FileNames, no_names, name_of}
 use Rattle.bugnet.specs.Told.{Told, refused}
-use Rattle.bugnet.specs.Commands.{Either, IsByFile, WithFile, Reads, by_log, IsByLog, list_of, check_of, replay_of, IsReplayOf, IsReplay, IsByInput, IsByProgram, IsByNames, IsBySettings, IsRecord, seeded_told}
-use Rattle.bugnet.specs.Recordings.{end_status, recorded}
+use Rattle.bugnet.specs.Commands.{Either, IsByFile, WithFile, Reads, by_log, IsByLog, list_of, check_of, replay_of, IsReplayOf, IsReplay, IsByInput, IsByProgram, IsByNames, IsBySettings, IsRecord}
+use Rattle.bugnet.specs.Recordings.{end_status, recorded, IsRunOf}
+use Rattle.run_model.specs.Runs.{run_of, seeded}
 use Rattle.bugnet.specs.Answers.{names_in, names_by, IsAnswer}
 use Rattle.bugnet.specs.Headline.{Part, ReplaysRun}
 use Rattle.bugnet.specs.Outside.{WithFiles}
 use Rattle.bugnet.specs.Run.{Call, IsFree, Tells, StoppedEarly, SomeTold, TellsAnswer}
 use Rattle.bugnet.specs.Saves.{IsRecorded, input_by, HoldsBytes}
 use Rattle.bugnet.specs.Joined.{joint_status, ran_told, joint_loaded, joint_same, joint_of, IsJointOf, IsJoint, CanJoin}
-use Rattle.bugnet.specs.Complete.{EachHasAnAnswer, CanRecord, HasLog, EachCanBeDone, IsDone}
-use Rattle.bugnet.specs.Laws.{OneAnswer}
+use Rattle.bugnet.specs.Complete.{EachHasAnAnswer, CanRecord, HasLog, CanBeDone, EachCanBeDone, IsDone}
+use Rattle.bugnet.specs.Laws.{OneAnswer, AreAlike, SeedsAreWhole}
 use Rattle.bugnet.specs.declared.answer.RunEnd.{RunEnd}
 use Rattle.bugnet.specs.declared.answer.RunEnd.TheVariants as ends
 use Rattle.bugnet.specs.declared.names.Role.{Role}
@@ -41,7 +41,7 @@ use Rattle.bugnet.specs.declared.names.Role.TheVariants as role
 use Rattle.bugnet.specs.declared.refusal.Refusal.TheVariants.{WordsRefused, OutOfRange, SameName, Missing, TooLong, ElfRefused}
 use Rattle.bugnet.proofs.Tested.{in-range}
 use Rattle.bugnet.proofs.Loads.{by-bytes}
-use Rattle.bugnet.proofs.Suffices.{FileLaws, file-size, answer, Together}
+use Rattle.bugnet.proofs.Suffices.{FileLaws, file-size, by-file, answer, Together}
 use Rattle.bugnet.proofs.Tells.{with-files, stopped-free, early-free}
 
 -- ---- some answer
@@ -81,41 +81,47 @@ read-there law (Some bytes) P h are = let r = reading law bytes are in h bytes r
 some-log : (names : FileNames) (bytes : List ℕ) (go : Content → Told) (says : Result Content FileError) → Reads bytes says → Some-told (IsByLog names bytes go)
 some-log names bytes go says reads = (by_log names go says, record { says = says; reads = reads; is = refl })
 
-some-input : (has : Bool) (files : Files) (names : FileNames) (go : List ℕ → Told) → Some-told (IsByInput has files names go)
-some-input true files names go = some-file files names role.Input 16777216 (λ input what. what ≡ go input) (any-there (files (name_of names role.Input)) _ (λ input. (go input, refl)))
-some-input false files names go = (go [], refl)
+-- the list of a seed, where none was given that of seed 0
+some-run : SeedsAreWhole → (seed : Option ℕ) (c : RawSettings) (i : Program) (digest input : List ℕ) → first_bad c ≡ None → Some-told (IsRunOf c i digest seed input)
+some-run whole (Some seed) c i digest input e = (recorded c i digest input (seeded c i input seed), record { turns = seeded c i input seed; taken = refl; is = refl })
+some-run whole None c i digest input e = (recorded c i digest input (seeded c i input 0), record { turns = seeded c i input 0; taken = whole c i input 0 e; is = refl })
 
-some-program : (i : Result Program ElfError) (files : Files) (names : FileNames) (c : RawSettings) (seed : ℕ) (has : Bool) (digest : List ℕ) → Some-told (IsByProgram i files names c seed has digest)
-some-program (Err e) files names c seed has digest = (refused names (ElfRefused e), refl)
-some-program (Ok i) files names c seed has digest = some-input has files names (seeded_told c i digest seed)
+some-input : (has : Bool) (files : Files) (names : FileNames) (Go : List ℕ → Told → Type 0) → ((input : List ℕ) → Some-told (Go input)) → Some-told (IsByInput has files names Go)
+some-input true files names Go go = some-file files names role.Input 16777216 Go (any-there (files (name_of names role.Input)) _ go)
+some-input false files names Go go = go []
 
-some-names : (same : Bool) (files : Files) (names : FileNames) (c : RawSettings) (seed : ℕ) (has : Bool) → Some-told (IsByNames same files names c seed has)
-some-names true files names c seed has = (refused names SameName, refl)
-some-names false files names c seed has =
+some-program : SeedsAreWhole → (i : Result Program ElfError) (files : Files) (names : FileNames) (c : RawSettings) (seed : Option ℕ) (has : Bool) (digest : List ℕ) → first_bad c ≡ None
+    → Some-told (IsByProgram i files names c seed has digest)
+some-program whole (Err e) files names c seed has digest ok = (refused names (ElfRefused e), refl)
+some-program whole (Ok i) files names c seed has digest ok = some-input has files names (IsRunOf c i digest seed) (λ input. some-run whole seed c i digest input ok)
+
+some-names : SeedsAreWhole → (same : Bool) (files : Files) (names : FileNames) (c : RawSettings) (seed : Option ℕ) (has : Bool) → first_bad c ≡ None → Some-told (IsByNames same files names c seed has)
+some-names whole true files names c seed has ok = (refused names SameName, refl)
+some-names whole false files names c seed has ok =
     some-file files names role.Elf 67108864 (λ elf what. IsByProgram (image_of elf c) files names c seed has (sha256 elf) what)
-    (any-there (files (name_of names role.Elf)) _ (λ elf. some-program (image_of elf c) files names c seed has (sha256 elf)))
+    (any-there (files (name_of names role.Elf)) _ (λ elf. some-program whole (image_of elf c) files names c seed has (sha256 elf) ok))
 
-some-settings : (bad : Option BadSetting) (files : Files) (names : FileNames) (c : RawSettings) (seed : ℕ) (has : Bool) → Some-told (IsBySettings bad files names c seed has)
-some-settings (Some bad) files names c seed has = (refused names (OutOfRange bad), refl)
-some-settings None files names c seed has = some-names (bytes_eq names.log names.book) files names c seed has
+some-settings : SeedsAreWhole → (bad : Option BadSetting) (files : Files) (names : FileNames) (c : RawSettings) (seed : Option ℕ) (has : Bool) → first_bad c ≡ bad → Some-told (IsBySettings bad files names c seed has)
+some-settings whole (Some bad) files names c seed has ok = (refused names (OutOfRange bad), refl)
+some-settings whole None files names c seed has ok = some-names whole (bytes_eq names.log names.book) files names c seed has ok
 
-pub some-answer : AreReadOrRefused → EachHasAnAnswer
-some-answer law None files read = (refused no_names WordsRefused, refl)
-some-answer law (Some (RecordLine r)) files read = some-settings (first_bad r.settings) files (names_in (RecordLine r)) r.settings r.seed (is_some r.input)
-some-answer law (Some (ReplayLine log elf hart interval)) files read =
+pub some-answer : SeedsAreWhole → AreReadOrRefused → EachHasAnAnswer
+some-answer whole law None files read = (refused no_names WordsRefused, refl)
+some-answer whole law (Some (RecordLine r)) files read = some-settings whole (first_bad r.settings) files (names_in (RecordLine r)) r.settings r.seed (is_some r.input) refl
+some-answer whole law (Some (ReplayLine log elf hart interval)) files read =
     let names = names_in (ReplayLine log elf hart interval) in
     some-file files names role.Log 268500992 (λ log what. IsReplayOf files names hart interval log what)
     (read-there law (files log) _ (λ bytes says reads. some-file files names role.Elf 67108864 (λ elf what. IsByLog names bytes (replay_of names hart interval elf) what)
     (any-there (files elf) _ (λ program. some-log names bytes (replay_of names hart interval program) says reads))) read)
-some-answer law (Some (JointLine log elf)) files read =
+some-answer whole law (Some (JointLine log elf)) files read =
     let names = names_in (JointLine log elf) in
     some-file files names role.Log 268500992 (λ log what. IsJointOf files names log what)
     (read-there law (files log) _ (λ bytes says reads. some-file files names role.Elf 67108864 (λ elf what. IsByLog names bytes (joint_of names elf) what)
     (any-there (files elf) _ (λ program. some-log names bytes (joint_of names program) says reads))) read)
-some-answer law (Some (ListLine log)) files read =
+some-answer whole law (Some (ListLine log)) files read =
     let names = names_in (ListLine log) in
     some-file files names role.Log 268500992 (λ log what. IsByLog names log list_of what) (read-there law (files log) _ (λ bytes says reads. some-log names bytes list_of says reads) read)
-some-answer law (Some (CheckLine log)) files read =
+some-answer whole law (Some (CheckLine log)) files read =
     let names = names_in (CheckLine log) in
     some-file files names role.Log 268500992 (λ log what. IsByLog names log check_of what) (read-there law (files log) _ (λ bytes says reads. some-log names bytes check_of says reads) read)
 
@@ -126,9 +132,12 @@ ends-recorded ends.Done = inl refl
 ends-recorded ends.Fault = inr (inl refl)
 ends-recorded ends.Limit = inr (inr refl)
 
-told-recorded : (c : RawSettings) (i : Program) (digest : List ℕ) (seed : ℕ) (input : List ℕ) → IsRecorded (seeded_told c i digest seed input).status
+told-recorded : (c : RawSettings) (i : Program) (digest input b : List ℕ) → IsRecorded (recorded c i digest input b).status
 unfolding recorded
-told-recorded c i digest seed input = ends-recorded _
+told-recorded c i digest input b = ends-recorded _
+
+run-recorded : (c : RawSettings) (i : Program) (digest : List ℕ) (seed : Option ℕ) (input : List ℕ) (what : Told) → IsRunOf c i digest seed input what → IsRecorded what.status
+run-recorded c i digest seed input what run = subst (λ (t : Told). IsRecorded t.status) (sym run.is) (told-recorded c i digest input run.turns)
 
 there-file : (files : Files) (names : FileNames) (r : Role) (limit : ℕ) (bytes : List ℕ) (Go : List ℕ → Told → Type 0) (what : Told) → files (name_of names r) ≡ Some bytes → length bytes ≤ limit → Go bytes what → WithFile files names r limit Go what
 unfolding WithFile
@@ -137,25 +146,50 @@ there-file files names r limit bytes Go what e h go = by-bytes (files (name_of n
 same_bytes : (a b : List ℕ) → Some a ≡ Some b → a ≡ b
 same_bytes a b e = grind arith
 
-with-input : (there : Option (List ℕ)) (elf log book : List ℕ) (files : Files) (go : List ℕ → Told) (input : List ℕ) → input_by there files ≡ Some input → length input ≤ 16777216
-    → IsByInput (is_some there) files (record { elf = elf; log = log; book = book; input = unwrap_or there [] }) go (go input)
-with-input None elf log book files go input e h = ap go (sym (same_bytes [] input e))
-with-input (Some name) elf log book files go input e h =
-    there-file files (record { elf = elf; log = log; book = book; input = name }) role.Input 16777216 input (λ input what. what ≡ go input) (go input) e h refl
+-- the answer by the files that are there is the answer by their bytes, and the other way round
+of-file : (files : Files) (names : FileNames) (r : Role) (limit : ℕ) (bytes : List ℕ) (Go : List ℕ → Told → Type 0) (what : Told) → files (name_of names r) ≡ Some bytes → length bytes ≤ limit → WithFile files names r limit Go what → Go bytes what
+unfolding WithFile
+of-file files names r limit bytes Go what e h is = by-file (files (name_of names r)) names r limit bytes Go what e h is
 
-can-record : (r : RecordingLine) (files : Files) (h : CanRecord r files) → IsRecord files (names_in (RecordLine r)) r.settings r.seed (is_some r.input) (seeded_told r.settings h.program (sha256 h.elf) r.seed h.input)
-can-record r files h =
+abbrev names_with : Option (List ℕ) → (elf log book : List ℕ) → FileNames
+names_with there elf log book = record { elf = elf; log = log; book = book; input = unwrap_or there [] }
+
+with-input : (there : Option (List ℕ)) (elf log book : List ℕ) (files : Files) (Go : List ℕ → Told → Type 0) (input : List ℕ) (what : Told) → input_by there files ≡ Some input → length input ≤ 16777216
+    → Go input what → IsByInput (is_some there) files (names_with there elf log book) Go what
+with-input None elf log book files Go input what e h go = subst (λ (bytes : List ℕ). Go bytes what) (sym (same_bytes [] input e)) go
+with-input (Some name) elf log book files Go input what e h go = there-file files (names_with (Some name) elf log book) role.Input 16777216 input Go what e h go
+
+of-input : (there : Option (List ℕ)) (elf log book : List ℕ) (files : Files) (Go : List ℕ → Told → Type 0) (input : List ℕ) (what : Told) → input_by there files ≡ Some input → length input ≤ 16777216
+    → IsByInput (is_some there) files (names_with there elf log book) Go what → Go input what
+of-input None elf log book files Go input what e h is = subst (λ (bytes : List ℕ). Go bytes what) (same_bytes [] input e) is
+of-input (Some name) elf log book files Go input what e h is = of-file files (names_with (Some name) elf log book) role.Input 16777216 input Go what e h is
+
+can-record : (r : RecordingLine) (files : Files) (h : CanRecord r files) (what : Told) → IsRunOf r.settings h.program (sha256 h.elf) r.seed h.input what
+    → IsRecord files (names_in (RecordLine r)) r.settings r.seed (is_some r.input) what
+can-record r files h what run =
     let names = names_in (RecordLine r) in
     let c = r.settings in
     let has = is_some r.input in
-    let what = seeded_told c h.program (sha256 h.elf) r.seed h.input in
     let program : IsByProgram (image_of h.elf c) files names c r.seed has (sha256 h.elf) what =
     subst (λ (i : Result Program ElfError). IsByProgram i files names c r.seed has (sha256 h.elf) what) (sym h.loaded)
-    (with-input r.input r.elf r.log r.book files (seeded_told c h.program (sha256 h.elf) r.seed) h.input h.input_there h.input_small) in
+    (with-input r.input r.elf r.log r.book files (IsRunOf c h.program (sha256 h.elf) r.seed) h.input what h.input_there h.input_small run) in
     let elf : IsByNames false files names c r.seed has what =
     there-file files names role.Elf 67108864 h.elf (λ elf what. IsByProgram (image_of elf c) files names c r.seed has (sha256 elf) what) what h.elf_there h.elf_small program in
     subst (λ (b : Option BadSetting). IsBySettings b files names c r.seed has what) (sym h.settings)
     (subst (λ (b : Bool). IsByNames b files names c r.seed has what) (sym h.names) elf)
+
+is-record : (r : RecordingLine) (files : Files) (h : CanRecord r files) (what : Told) → IsRecord files (names_in (RecordLine r)) r.settings r.seed (is_some r.input) what
+    → IsRunOf r.settings h.program (sha256 h.elf) r.seed h.input what
+is-record r files h what is =
+    let names = names_in (RecordLine r) in
+    let c = r.settings in
+    let has = is_some r.input in
+    let named : IsByNames (bytes_eq r.log r.book) files names c r.seed has what = subst (λ (b : Option BadSetting). IsBySettings b files names c r.seed has what) h.settings is in
+    let elf : IsByNames false files names c r.seed has what = subst (λ (b : Bool). IsByNames b files names c r.seed has what) h.names named in
+    let program : IsByProgram (image_of h.elf c) files names c r.seed has (sha256 h.elf) what =
+    of-file files names role.Elf 67108864 h.elf (λ elf what. IsByProgram (image_of elf c) files names c r.seed has (sha256 elf) what) what h.elf_there h.elf_small elf in
+    of-input r.input r.elf r.log r.book files (IsRunOf c h.program (sha256 h.elf) r.seed) h.input what h.input_there h.input_small
+    (subst (λ (i : Result Program ElfError). IsByProgram i files names c r.seed has (sha256 h.elf) what) h.loaded program)
 
 can-log : FileLaws → (files : Files) (names : FileNames) (go : Content → Told) (h : HasLog (files names.log)) → (what : Told) × WithFile files names role.Log 268500992 (λ log what. IsByLog names log go what) what
     × (what ≡ go (content_of h.settings (sha256 h.elf) (run_of h.settings h.program h.input h.turns)))
@@ -197,17 +231,34 @@ can-join laws log elf files h =
     let whole : IsJoint files names what = there-file files names role.Log 268500992 (file_bytes d) (λ log what. IsJointOf files names log what) what h.log_there (file-size laws d h.is) program in
     (what, whole, inl (join-status names log elf files h))
 
-pub can-be-done : LogSuffices → Together → FileLaws → EachCanBeDone
-can-be-done law stand laws (RecordLine r) files h =
-    (seeded_told r.settings h.program (sha256 h.elf) r.seed h.input, can-record r files h, told-recorded r.settings h.program (sha256 h.elf) r.seed h.input)
-can-be-done law stand laws (ReplayLine log elf hart interval) files h = can-replay law stand laws (Some (ReplayLine log elf hart interval)) files h.0 h.1 h.2 h.3
-can-be-done law stand laws (JointLine log elf) files h = can-join laws log elf files h
-can-be-done law stand laws (ListLine log) files h =
+-- a line of which one answer is done, and that has no other
+only-done : OneAnswer → (line : Line) (files : Files) (what : Told) → ((a b : Told) → AreAlike (Some line) a b) → IsAnswer (Some line) files what → IsRecorded what.status → CanBeDone line files
+only-done one line files what alike is done = record {
+  what = what;
+  answer = is;
+  done = λ told other. subst (λ (t : Told). IsRecorded t.status) (one (Some line) files what told is other (alike what told)) done;
+}
+
+pub can-be-done : SeedsAreWhole → OneAnswer → LogSuffices → Together → FileLaws → EachCanBeDone
+can-be-done whole one law stand laws (RecordLine r) files h =
+    let run = some-run whole r.seed r.settings h.program (sha256 h.elf) h.input h.settings in
+    record {
+      what = run.0;
+      answer = can-record r files h run.0 run.1;
+      done = λ told is. run-recorded r.settings h.program (sha256 h.elf) r.seed h.input told (is-record r files h told is);
+    }
+can-be-done whole one law stand laws (ReplayLine log elf hart interval) files h =
+    let l = can-replay law stand laws (Some (ReplayLine log elf hart interval)) files h.0 h.1 h.2 h.3 in
+    only-done one (ReplayLine log elf hart interval) files l.0 (λ a b. tt) l.1 l.2
+can-be-done whole one law stand laws (JointLine log elf) files h =
+    let l = can-join laws log elf files h in
+    only-done one (JointLine log elf) files l.0 (λ a b. tt) l.1 l.2
+can-be-done whole one law stand laws (ListLine log) files h =
     let l = can-log laws files (names_in (ListLine log)) list_of h in
-    (l.0, l.1, inl (ap (λ (t : Told). t.status) l.2))
-can-be-done law stand laws (CheckLine log) files h =
+    only-done one (ListLine log) files l.0 (λ a b. tt) l.1 (inl (ap (λ (t : Told). t.status) l.2))
+can-be-done whole one law stand laws (CheckLine log) files h =
     let l = can-log laws files (names_in (CheckLine log)) check_of h in
-    (l.0, l.1, inl (ap (λ (t : Told). t.status) l.2))
+    only-done one (CheckLine log) files l.0 (λ a b. tt) l.1 (inl (ap (λ (t : Told). t.status) l.2))
 
 -- ---- a call
 
@@ -215,15 +266,13 @@ tells-done : (names : FileNames) (what : Told) (status : ℕ) (k : Call) → IsR
 tells-done names what status k is (inl done) = inr (subst (λ (n : ℕ). IsRecorded n) (sym done.status_is) is)
 tells-done names what status k is (inr s) = inl (stopped-free names what status k s)
 
-is-done : EachCanBeDone → OneAnswer → (line : Option Line) (files : Files) (status : ℕ) (k : Call)
+is-done : EachCanBeDone → (line : Option Line) (files : Files) (status : ℕ) (k : Call)
     → SomeTold (IsAnswer line files) (λ what. Tells (names_by line) what status k) ⊎ StoppedEarly line files status k → IsDone line files status
-is-done can one None files status k a = tt
-is-done can one (Some line) files status k (inr early) = λ h. inl (early-free (Some line) files status k early)
-is-done can one (Some line) files status k (inl a) = λ h.
-    let c = can line files h in
-    tells-done (names_in line) a.0 status k (subst (λ (t : Told). IsRecorded t.status) (one (Some line) files c.0 a.0 c.1 a.1) c.2) a.2
+is-done can None files status k a = tt
+is-done can (Some line) files status k (inr early) = λ h. inl (early-free (Some line) files status k early)
+is-done can (Some line) files status k (inl a) = λ h. tells-done (names_in line) a.0 status k ((can line files h).done a.0 a.1) a.2
 
-pub call-done : EachCanBeDone → OneAnswer → (line : Option Line) (status : ℕ) (k : Call) → TellsAnswer line status k → WithFiles k.old.files (λ files. IsDone line files status)
-call-done can one line status k h =
+pub call-done : EachCanBeDone → (line : Option Line) (status : ℕ) (k : Call) → TellsAnswer line status k → WithFiles k.old.files (λ files. IsDone line files status)
+call-done can line status k h =
     with-files k.old.files (λ files. SomeTold (IsAnswer line files) (λ what. Tells (names_by line) what status k) ⊎ StoppedEarly line files status k) (λ files. IsDone line files status)
-    (λ files a. is-done can one line files status k a) h
+    (λ files a. is-done can line files status k a) h

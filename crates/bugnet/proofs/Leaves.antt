@@ -8,20 +8,21 @@ use Rattle.sha2.specs.Sha256.{sha256}
 use Rattle.bn_base.specs.Programs.{Program}
 use Rattle.bn_base.specs.Ranges.{first_bad}
 use Rattle.bn_base.specs.declared.settings.BadSetting.{BadSetting}
+use Rattle.bn_base.specs.declared.settings.RawSettings.{RawSettings}
 use Rattle.bn_outside.specs.Files.{Files, WhereTold}
 use Rattle.command_words.specs.Words.{Line, RecordingLine, RecordLine, ReplayLine, JointLine, ListLine, CheckLine}
 use Rattle.elf_loader.specs.Loaded.{image_of}
 use Rattle.elf_loader.specs.declared.error.ElfError.{ElfError}
 use Rattle.le_numbers.specs.Numbers.{AreBytes}
 use Rattle.file_laws.specs.Given.{IsRecording}
+use Rattle.replay_laws.specs.Law.{IsWhole}
 use Rattle.hart_replay.specs.declared.error.ReplayError.{ReplayError}
 use Rattle.hart_replay.specs.declared.error.ReplayError.TheVariants as replay
-use Rattle.run_model.specs.Runs.{seeded}
 use Rattle.bugnet.specs.Names.{FileNames}
 use Rattle.bugnet.specs.Refusals.{status_of, replay_status}
 use Rattle.bugnet.specs.Told.{Told, refused}
-use Rattle.bugnet.specs.Commands.{Either, IsByFile, WithFile, IsByInput, IsByProgram, IsByNames, IsBySettings, IsRecord, seeded_told}
-use Rattle.bugnet.specs.Recordings.{recorded}
+use Rattle.bugnet.specs.Commands.{Either, IsByFile, WithFile, IsByInput, IsByProgram, IsByNames, IsBySettings, IsRecord}
+use Rattle.bugnet.specs.Recordings.{recorded, AreTaken, IsRunOf}
 use Rattle.bugnet.specs.Answers.{names_in, IsAnswer}
 use Rattle.bugnet.specs.Outside.{WithFiles, ToldRefusal, KeptFiles}
 use Rattle.bugnet.specs.Run.{Call, IsFree, AreKept, Tells, StoppedEarly, SomeTold, TellsAnswer}
@@ -97,7 +98,7 @@ record Found (r : RecordingLine) (files : Files) (what : Told) : Type 0 where
   pub input_there : input_by r.input files ≡ Some input
   pub settings : first_bad r.settings ≡ None
   pub names : bytes_eq r.log r.book ≡ false
-  pub what_is : what ≡ seeded_told r.settings program (sha256 elf) r.seed input
+  pub run : IsRunOf r.settings program (sha256 elf) r.seed input what
 
 within : (limit n : ℕ) → nat_lt limit n ≡ false → n ≤ limit
 within limit n e = grind (arith, nat_tests)
@@ -114,18 +115,18 @@ by-file (Some bytes) names role limit Go what h is =
     go true e x = absurd (refused-apart names (TooLong role) what x is)
     go false e x = (x, within limit (length bytes) e)
 
-by-input : (there : Option (List ℕ)) (elf log book : List ℕ) (files : Files) (go : List ℕ → Told) (what : Told)
-    → IsByInput (is_some there) files (record { elf = elf; log = log; book = book; input = unwrap_or there [] }) go what → IsRecorded what.status
-    → (input : List ℕ) × (input_by there files ≡ Some input) × (what ≡ go input)
+by-input : (there : Option (List ℕ)) (elf log book : List ℕ) (files : Files) (Go : List ℕ → Told → Type 0) (what : Told)
+    → IsByInput (is_some there) files (record { elf = elf; log = log; book = book; input = unwrap_or there [] }) Go what → IsRecorded what.status
+    → (input : List ℕ) × (input_by there files ≡ Some input) × Go input what
 unfolding WithFile
-by-input None elf log book files go what h is = ([], refl, h)
-by-input (Some name) elf log book files go what h is =
-    let f = by-file (files name) (record { elf = elf; log = log; book = book; input = name }) role.Input 16777216 (λ input what. what ≡ go input) what h is in
+by-input None elf log book files Go what h is = ([], refl, h)
+by-input (Some name) elf log book files Go what h is =
+    let f = by-file (files name) (record { elf = elf; log = log; book = book; input = name }) role.Input 16777216 Go what h is in
     (f.0, f.1, f.2)
 
 by-program : (i : Result Program ElfError) (files : Files) (r : RecordingLine) (digest : List ℕ) (what : Told)
     → IsByProgram i files (names_in (RecordLine r)) r.settings r.seed (is_some r.input) digest what → IsRecorded what.status
-    → (p : Program) × (i ≡ Ok p) × IsByInput (is_some r.input) files (names_in (RecordLine r)) (seeded_told r.settings p digest r.seed) what
+    → (p : Program) × (i ≡ Ok p) × IsByInput (is_some r.input) files (names_in (RecordLine r)) (IsRunOf r.settings p digest r.seed) what
 by-program (Err e) files r digest what h is = absurd (refused-apart (names_in (RecordLine r)) (ElfRefused e) what h is)
 by-program (Ok p) files r digest what h is = (p, refl, h)
 
@@ -137,8 +138,8 @@ by-names false files r what e s h is =
     let names = names_in (RecordLine r) in
     let f = by-file (files r.elf) names role.Elf 67108864 (λ elf what. IsByProgram (image_of elf r.settings) files names r.settings r.seed (is_some r.input) (sha256 elf) what) what h is in
     let p = by-program (image_of f.0 r.settings) files r (sha256 f.0) what f.2 is in
-    let i = by-input r.input r.elf r.log r.book files (seeded_told r.settings p.0 (sha256 f.0) r.seed) what p.2 is in
-    record { elf = f.0; program = p.0; input = i.0; elf_there = f.1; small = f.3; loaded = p.1; input_there = i.1; settings = s; names = e; what_is = i.2 }
+    let i = by-input r.input r.elf r.log r.book files (IsRunOf r.settings p.0 (sha256 f.0) r.seed) what p.2 is in
+    record { elf = f.0; program = p.0; input = i.0; elf_there = f.1; small = f.3; loaded = p.1; input_there = i.1; settings = s; names = e; run = i.2 }
 
 by-settings : (bad : Option BadSetting) (files : Files) (r : RecordingLine) (what : Told) → first_bad r.settings ≡ bad
     → IsBySettings bad files (names_in (RecordLine r)) r.settings r.seed (is_some r.input) what → IsRecorded what.status → Found r files what
@@ -156,14 +157,19 @@ apart-names log book e same = true-or (bytes_eq log book) ((bytes_eq-Decides log
     true-or : (b : Bool) → b ≡ true → b ≡ false → ⊥
     true-or b x y = grind arith
 
+-- turns that a recording may take are legal and finished
+pub taken-whole : SeedsAreWhole → (seed : Option ℕ) (c : RawSettings) (i : Program) (input b : List ℕ) → first_bad c ≡ None → AreTaken seed c i input b → IsWhole c i input b
+taken-whole whole (Some seed) c i input b e taken = subst (λ (list : List ℕ). IsWhole c i input list) (sym taken) (whole c i input seed e)
+taken-whole whole None c i input b e taken = taken
+
 left : SeedsAreWhole → FilesKeepToTheirSize → (r : RecordingLine) (old new : Files) (what : Told) → Found r old what → HoldsBytes (old r.elf)
     → KeptFiles what.saved r.log r.book old new → Leaves r old new
 unfolding recorded
 left whole sizes r old new what f bytes kept =
     let c = r.settings in
     let i = f.program in
-    let turns = seeded c i f.input r.seed in
-    let ends = whole c i f.input r.seed f.settings in
+    let turns = f.run.turns in
+    let ends = taken-whole whole r.seed c i f.input turns f.settings f.run.taken in
     let recording : IsRecording c i f.elf f.input turns = record {
       setting = in-range c f.settings;
       bytes = bytes-there (old r.elf) f.elf f.elf_there bytes;
@@ -171,7 +177,7 @@ left whole sizes r old new what f bytes kept =
       legal = ends.legal;
       over = ends.over;
     } in
-    let both = subst (λ (t : Told). KeptFiles t.saved r.log r.book old new) f.what_is kept in
+    let both = subst (λ (t : Told). KeptFiles t.saved r.log r.book old new) f.run.is kept in
     record {
       elf = f.elf;
       program = i;
@@ -180,7 +186,7 @@ left whole sizes r old new what f bytes kept =
       elf_there = f.elf_there;
       small = f.small;
       input_there = f.input_there;
-      chosen = refl;
+      chosen = f.run.taken;
       recording = recording;
       book = both.book_there;
       log = both.log_there (apart-names r.log r.book f.names);

@@ -17,7 +17,8 @@ use Rattle.command_words.specs.declared.commands.Recording.{Recording}
 use Rattle.bugnet.specs.Names.{FileNames, name_of}
 use Rattle.bugnet.specs.Refusals.{line_of, said_of}
 use Rattle.bugnet.specs.Told.{Told, refused}
-use Rattle.bugnet.specs.Commands.{Either, IsByFile, WithFile, IsByLog, IsByInput, IsByProgram, IsBySettings, IsRecord, seeded_told}
+use Rattle.bugnet.specs.Commands.{Either, IsByFile, WithFile, IsByLog, IsByInput, IsByProgram, IsBySettings, IsRecord}
+use Rattle.bugnet.specs.Recordings.{IsRunOf}
 use Rattle.bugnet.specs.Answers.{names_in, IsAnswer}
 use Rattle.bugnet.specs.Outside.{WithFiles, FetchTells, LogTells, ProgramTells, Gives, unless, without, GivesBy}
 use Rattle.bugnet.specs.declared.names.Role.{Role}
@@ -149,23 +150,23 @@ log-read names bytes d go (Err r) h (inr e) = inr (record { says = Ok d; reads =
 -- ---- what a recording loads
 
 -- an input that isn't loaded ends the command
-pub input-stopped : (has : Bool) (known : Option Files) (names : FileNames) (r : Refusal) (go : List ℕ → Told) → has ≡ true
+pub input-stopped : (has : Bool) (known : Option Files) (names : FileNames) (r : Refusal) (Go : List ℕ → Told → Type 0) → has ≡ true
     → WithFiles known (λ files. FetchTells Input 16777216 (files (name_of names Input)) (Err r))
-    → WithFiles known (λ files. GivesBy names (λ f. IsByInput has f names go) files (Err r))
-input-stopped true known names r go e h = gives-stopped known names Input 16777216 r (λ f input what. what ≡ go input) h
-input-stopped false known names r go e h = grind arith
+    → WithFiles known (λ files. GivesBy names (λ f. IsByInput has f names Go) files (Err r))
+input-stopped true known names r Go e h = gives-stopped known names Input 16777216 r (λ f. Go) h
+input-stopped false known names r Go e h = grind arith
 
 -- one that is goes on
-pub input-loaded : (has : Bool) (known : Option Files) (names : FileNames) (input : Vec ℕ Global) (result : Result Answer Refusal) (go : List ℕ → Told) → has ≡ true
+pub input-loaded : (has : Bool) (known : Option Files) (names : FileNames) (input : Vec ℕ Global) (result : Result Answer Refusal) (Go : List ℕ → Told → Type 0) → has ≡ true
     → WithFiles known (λ files. FetchTells Input 16777216 (files (name_of names Input)) (Ok input))
-    → Gives names (λ what. what ≡ go input.items) result
-    → WithFiles known (λ files. GivesBy names (λ f. IsByInput has f names go) files result)
-input-loaded true known names input result go e h gives =
-    gives-loaded known names Input 16777216 input result (λ f input what. what ≡ go input) h (gives-any known names (λ what. what ≡ go input.items) result gives)
-input-loaded false known names input result go e h gives = grind arith
+    → Gives names (Go input.items) result
+    → WithFiles known (λ files. GivesBy names (λ f. IsByInput has f names Go) files result)
+input-loaded true known names input result Go e h gives =
+    gives-loaded known names Input 16777216 input result (λ f. Go) h (gives-any known names (Go input.items) result gives)
+input-loaded false known names input result Go e h gives = grind arith
 
 -- a program that is refused ends the command
-pub program-refused : (known : Option Files) (names : FileNames) (bytes : List ℕ) (c : RawSettings) (seed : ℕ) (has : Bool) (digest : List ℕ) (r : Refusal) → ProgramTells bytes c (Err r)
+pub program-refused : (known : Option Files) (names : FileNames) (bytes : List ℕ) (c : RawSettings) (seed : Option ℕ) (has : Bool) (digest : List ℕ) (r : Refusal) → ProgramTells bytes c (Err r)
     → WithFiles known (λ files. GivesBy names (λ f. IsByProgram (image_of bytes c) f names c seed has digest) files (Err r))
 program-refused None names bytes c seed has digest r h = tt
 program-refused (Some files) names bytes c seed has digest r (inl e) = inl (inl e)
@@ -173,8 +174,8 @@ program-refused (Some files) names bytes c seed has digest r (inr h) =
     inr (subst (λ (i : Result Program ElfError). IsByProgram i files names c seed has digest (refused names r)) (sym h.2) (ap (λ (x : Refusal). refused names x) h.1))
 
 -- one that is loaded goes on
-pub program-loaded : (known : Option Files) (names : FileNames) (bytes : List ℕ) (c : RawSettings) (seed : ℕ) (has : Bool) (digest : List ℕ) (i : Program) (result : Result Answer Refusal) → image_of bytes c ≡ Ok i
-    → WithFiles known (λ files. GivesBy names (λ f. IsByInput has f names (seeded_told c i digest seed)) files result)
+pub program-loaded : (known : Option Files) (names : FileNames) (bytes : List ℕ) (c : RawSettings) (seed : Option ℕ) (has : Bool) (digest : List ℕ) (i : Program) (result : Result Answer Refusal) → image_of bytes c ≡ Ok i
+    → WithFiles known (λ files. GivesBy names (λ f. IsByInput has f names (IsRunOf c i digest seed)) files result)
     → WithFiles known (λ files. GivesBy names (λ f. IsByProgram (image_of bytes c) f names c seed has digest) files result)
 program-loaded known names bytes c seed has digest i result e h =
     subst (λ (p : Result Program ElfError). WithFiles known (λ files. GivesBy names (λ f. IsByProgram p f names c seed has digest) files result)) (sym e) h
@@ -191,7 +192,7 @@ none-bad None s x e = (refl, grind arith)
 none-bad (Some other) s x e = grind arith
 
 -- settings that are out of range are refused
-pub settings-refused : (known : Option Files) (names : FileNames) (c : RawSettings) (seed : ℕ) (has : Bool) (bad : BadSetting) → checked_by (first_bad c) c ≡ Err bad
+pub settings-refused : (known : Option Files) (names : FileNames) (c : RawSettings) (seed : Option ℕ) (has : Bool) (bad : BadSetting) → checked_by (first_bad c) c ≡ Err bad
     → WithFiles known (λ files. GivesBy names (λ files. IsRecord files names c seed has) files (Err (OutOfRange bad)))
 settings-refused None names c seed has bad e = tt
 settings-refused (Some files) names c seed has bad e =

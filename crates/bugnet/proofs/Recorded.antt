@@ -1,5 +1,5 @@
 -- What is recorded of a closed run is what is told of its list of turns.
-use Rattle.std.proofs.Common.{◌≡◌, ℕ, Bool, List, ◌++◌, length, Option, Some, sym, ◌∙◌, ap, arith}
+use Rattle.std.proofs.Common.{◌≡◌, ℕ, Bool, List, ◌++◌, length, Option, Some, None, sym, ◌∙◌, ap, arith}
 use Rattle.std.specs.Prelude.{Result, Ok, Err, IfOk}
 use Rattle.std.specs.List.{flat_map}
 use Rattle.bn_base.specs.declared.end_mark.EndMark.{EndMark}
@@ -13,10 +13,12 @@ use Rattle.run_model.specs.Runs.{run_of}
 use Rattle.run_model.specs.declared.start.Start.{Start}
 use Rattle.bus_core.specs.Bus.{began_of}
 use Rattle.hart_worker.specs.Closed.{IsClosed}
+use Rattle.hart_worker.specs.Threads.{IsThreaded}
+use Rattle.run_laws.specs.Laws.{harts_of}
 use Rattle.bus_core.specs.declared.closed.Closed.{Closed}
 use Rattle.bugnet.specs.Texts.{summary_text}
 use Rattle.bugnet.specs.Told.{Told}
-use Rattle.bugnet.specs.Recordings.{marks_of, instructions_of, end_by, end_status, end_word, recorded}
+use Rattle.bugnet.specs.Recordings.{marks_of, instructions_of, end_by, end_status, end_word, recorded, AreTaken, IsRunOf}
 use Rattle.bugnet.specs.Outside.{told_of_recording}
 use Rattle.bugnet.specs.Keeping.{IsRecordingOf}
 use Rattle.bugnet.specs.declared.answer.Recording.{Recording}
@@ -66,9 +68,14 @@ recorded-so tells s closed rows r b version is k =
     ∙ ap (λ (x : List ℕ). told (end_by (marks_of c run)) run.machine.out all x r.book.items) log
     ∙ ap (λ (x : List ℕ). told (end_by (marks_of c run)) run.machine.out all whole x) k.book
 
-pub recording-so : {B : _} {E : Type 0} (tells : Bool) (s : Start) (closed : Closed B) (rows : List TurnRow) (list b : List ℕ) (result : Result Recording E)
+-- so is what is recorded of turns that it may take
+pub recording-run : {B : _} {E : Type 0} (tells : Bool) (s : Start) (closed : Closed B) (rows : List TurnRow) (list : List ℕ) (seed : Option ℕ) (result : Result Recording E)
     → file_of s.settings s.image s.digest s.input.items list ≡ file_bytes (content_of s.settings s.digest (run_of s.settings s.image s.input.items list))
-    → list ≡ b → IsClosed tells (began_of s) list closed rows → IfOk result (λ r. IsRecordingOf s closed list r)
-    → IfOk result (λ r. told_of_recording r ≡ recorded s.settings s.image s.digest s.input.items b)
-recording-so tells s closed rows list b (Ok r) version e is k = recorded-so tells s closed rows r list version is k ∙ ap (λ (x : List ℕ). recorded s.settings s.image s.digest s.input.items x) e
-recording-so tells s closed rows list b (Err x) version e is k = tt
+    → AreTaken seed s.settings s.image s.input.items list → IsClosed tells (began_of s) list closed rows → IfOk result (λ r. IsRecordingOf s closed list r)
+    → IfOk result (λ r. IsRunOf s.settings s.image s.digest seed s.input.items (told_of_recording r))
+recording-run tells s closed rows list seed (Ok r) version taken is k = record { turns = list; taken = taken; is = recorded-so tells s closed rows r list version is k }
+recording-run tells s closed rows list seed (Err x) version taken is k = tt
+
+-- the list of a run in threads is legal and finished
+pub threads-taken : {B : _} (s : Start) (closed : Closed B) (rows : List TurnRow) → IsThreaded (began_of s) closed rows → AreTaken None s.settings s.image s.input.items (harts_of rows)
+threads-taken s closed rows is = record { legal = is.ended.legal; over = is.ended.over }

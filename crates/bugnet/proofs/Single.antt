@@ -1,5 +1,5 @@
 -- No command has two answers.
-use Rattle.std.proofs.Common.{◌≡◌, ◌≢◌, ℕ, Bool, true, false, List, [], length, nat_lt, Option, Some, None, ◌∙◌, ap, subst, sym}
+use Rattle.std.proofs.Common.{◌≡◌, ◌≢◌, ℕ, Bool, true, false, List, [], length, nat_lt, Option, Some, None, ◌∙◌, ap, subst, sym, refl, arith}
 use Rattle.std.specs.Prelude.{Result, Ok, Err}
 use Rattle.std.specs.Str.{bytes_eq}
 use Rattle.sha2.specs.Sha256.{sha256}
@@ -18,10 +18,11 @@ use Rattle.log_file.specs.declared.error.FileError.{FileError}
 use Rattle.log_file.specs.declared.error.FileError.TheVariants as file
 use Rattle.bugnet.specs.Names.{FileNames, name_of}
 use Rattle.bugnet.specs.Told.{Told}
-use Rattle.bugnet.specs.Commands.{Either, IsByFile, WithFile, Reads, by_log, IsByLog, list_of, check_of, replay_of, IsReplayOf, IsReplay, IsByInput, seeded_told, IsByProgram, IsByNames, IsBySettings}
+use Rattle.bugnet.specs.Commands.{Either, IsByFile, WithFile, Reads, by_log, IsByLog, list_of, check_of, replay_of, IsReplayOf, IsReplay, IsByInput, IsByProgram, IsByNames, IsBySettings}
 use Rattle.bugnet.specs.Joined.{joint_of, IsJointOf}
 use Rattle.bugnet.specs.Answers.{names_in, IsAnswer}
-use Rattle.bugnet.specs.Laws.{OneAnswer}
+use Rattle.bugnet.specs.Laws.{OneAnswer, AreAlike, AreOfOneList, book_of}
+use Rattle.bugnet.specs.Recordings.{IsRunOf, recorded}
 use Rattle.bugnet.specs.declared.names.Role.{Role}
 use Rattle.bugnet.specs.declared.names.Role.TheVariants as role
 
@@ -71,37 +72,77 @@ one-replay g files names hart interval =
     one-file files names role.Log 268500992 (λ log what. IsReplayOf files names hart interval log what)
     (λ log. one-file files names role.Elf 67108864 (λ elf what. IsByLog names log (replay_of names hart interval elf) what) (λ elf. one-log g names log (replay_of names hart interval elf)))
 
-one-input : (has_input : Bool) (files : Files) (names : FileNames) (go : List ℕ → Told) → One (IsByInput has_input files names go)
-one-input true files names go = one-file files names role.Input 16777216 (λ input what. what ≡ go input) (λ input. one-told (go input))
-one-input false files names go = one-told (go [])
+-- ---- recordings: one answer for each list of turns
 
-one-program : (i : Result Program ElfError) (files : Files) (names : FileNames) (c : RawSettings) (seed : ℕ) (has_input : Bool) (digest : List ℕ) → One (IsByProgram i files names c seed has_input digest)
-one-program (Err e) files names c seed has_input digest a b p q = p ∙ sym q
-one-program (Ok i) files names c seed has_input digest a b p q = one-input has_input files names (seeded_told c i digest seed) a b p q
+-- an answer by a file is one, where those by its bytes are
+same-either : (t : Bool) (x : Told) (Go : Told → Type 0) (a b : Told) → (Go a → Go b → a ≡ b) → Either t (a ≡ x) (Go a) → Either t (b ≡ x) (Go b) → a ≡ b
+same-either true x Go a b one p q = p ∙ sym q
+same-either false x Go a b one p q = one p q
 
-one-names : (same : Bool) (files : Files) (names : FileNames) (c : RawSettings) (seed : ℕ) (has_input : Bool) → One (IsByNames same files names c seed has_input)
-one-names true files names c seed has_input a b p q = p ∙ sym q
-one-names false files names c seed has_input a b p q =
-    one-file files names role.Elf 67108864 (λ elf what. IsByProgram (image_of elf c) files names c seed has_input (sha256 elf) what) (λ elf. one-program (image_of elf c) files names c seed has_input (sha256 elf)) a b p q
+same-by : (there : Option (List ℕ)) (names : FileNames) (r : Role) (limit : ℕ) (Go : List ℕ → Told → Type 0) (a b : Told)
+    → ((bytes : List ℕ) → Go bytes a → Go bytes b → a ≡ b) → IsByFile there names r limit Go a → IsByFile there names r limit Go b → a ≡ b
+same-by None names r limit Go a b one p q = p ∙ sym q
+same-by (Some bytes) names r limit Go a b one p q = same-either (nat_lt limit (length bytes)) _ (Go bytes) a b (one bytes) p q
 
-one-settings : (bad : Option BadSetting) (files : Files) (names : FileNames) (c : RawSettings) (seed : ℕ) (has_input : Bool) → One (IsBySettings bad files names c seed has_input)
-one-settings (Some bad) files names c seed has_input a b p q = p ∙ sym q
-one-settings None files names c seed has_input a b p q = one-names (bytes_eq names.log names.book) files names c seed has_input a b p q
+same-file : (files : Files) (names : FileNames) (r : Role) (limit : ℕ) (Go : List ℕ → Told → Type 0) (a b : Told)
+    → ((bytes : List ℕ) → Go bytes a → Go bytes b → a ≡ b) → WithFile files names r limit Go a → WithFile files names r limit Go b → a ≡ b
+unfolding WithFile
+same-file files names r limit Go a b one p q = same-by (files (name_of names r)) names r limit Go a b one p q
 
-one-line : Grammar → (line : Line) (files : Files) → One (IsAnswer (Some line) files)
-one-line g (RecordLine r) files a b p q = one-settings (first_bad r.settings) files (names_in (RecordLine r)) r.settings r.seed _ a b p q
-one-line g (ReplayLine log elf hart interval) files a b p q = one-replay g files (names_in (ReplayLine log elf hart interval)) hart interval a b p q
-one-line g (JointLine log elf) files a b p q =
+-- the list that a recording saves is its list of turns
+own-book : (c : RawSettings) (i : Program) (digest input b : List ℕ) → book_of (recorded c i digest input b) ≡ Some b
+unfolding recorded
+own-book c i digest input b = refl
+
+same_list : (a b : List ℕ) → Some a ≡ Some b → a ≡ b
+same_list a b e = grind arith
+
+one-list : (seed : Option ℕ) (c : RawSettings) (i : Program) (digest input : List ℕ) (a b : Told) (p : IsRunOf c i digest seed input a) (q : IsRunOf c i digest seed input b)
+    → AreOfOneList seed a b → p.turns ≡ q.turns
+one-list (Some seed) c i digest input a b p q alike = p.taken ∙ sym q.taken
+one-list None c i digest input a b p q alike =
+    same_list p.turns q.turns (sym (own-book c i digest input p.turns) ∙ ap book_of (sym p.is) ∙ alike ∙ ap book_of q.is ∙ own-book c i digest input q.turns)
+
+one-run : (seed : Option ℕ) (c : RawSettings) (i : Program) (digest input : List ℕ) (a b : Told) → AreOfOneList seed a b → IsRunOf c i digest seed input a → IsRunOf c i digest seed input b → a ≡ b
+one-run seed c i digest input a b alike p q = p.is ∙ ap (λ (list : List ℕ). recorded c i digest input list) (one-list seed c i digest input a b p q alike) ∙ sym q.is
+
+one-input : (has_input : Bool) (files : Files) (names : FileNames) (Go : List ℕ → Told → Type 0) (a b : Told) → ((input : List ℕ) → Go input a → Go input b → a ≡ b)
+    → IsByInput has_input files names Go a → IsByInput has_input files names Go b → a ≡ b
+one-input true files names Go a b one p q = same-file files names role.Input 16777216 Go a b one p q
+one-input false files names Go a b one p q = one [] p q
+
+one-program : (i : Result Program ElfError) (files : Files) (names : FileNames) (c : RawSettings) (seed : Option ℕ) (has_input : Bool) (digest : List ℕ) (a b : Told) → AreOfOneList seed a b
+    → IsByProgram i files names c seed has_input digest a → IsByProgram i files names c seed has_input digest b → a ≡ b
+one-program (Err e) files names c seed has_input digest a b alike p q = p ∙ sym q
+one-program (Ok i) files names c seed has_input digest a b alike p q =
+    one-input has_input files names (IsRunOf c i digest seed) a b (λ input x y. one-run seed c i digest input a b alike x y) p q
+
+one-names : (same : Bool) (files : Files) (names : FileNames) (c : RawSettings) (seed : Option ℕ) (has_input : Bool) (a b : Told) → AreOfOneList seed a b
+    → IsByNames same files names c seed has_input a → IsByNames same files names c seed has_input b → a ≡ b
+one-names true files names c seed has_input a b alike p q = p ∙ sym q
+one-names false files names c seed has_input a b alike p q =
+    same-file files names role.Elf 67108864 (λ elf what. IsByProgram (image_of elf c) files names c seed has_input (sha256 elf) what) a b
+    (λ elf x y. one-program (image_of elf c) files names c seed has_input (sha256 elf) a b alike x y) p q
+
+one-settings : (bad : Option BadSetting) (files : Files) (names : FileNames) (c : RawSettings) (seed : Option ℕ) (has_input : Bool) (a b : Told) → AreOfOneList seed a b
+    → IsBySettings bad files names c seed has_input a → IsBySettings bad files names c seed has_input b → a ≡ b
+one-settings (Some bad) files names c seed has_input a b alike p q = p ∙ sym q
+one-settings None files names c seed has_input a b alike p q = one-names (bytes_eq names.log names.book) files names c seed has_input a b alike p q
+
+one-line : Grammar → (line : Line) (files : Files) (a b : Told) → IsAnswer (Some line) files a → IsAnswer (Some line) files b → AreAlike (Some line) a b → a ≡ b
+one-line g (RecordLine r) files a b p q alike = one-settings (first_bad r.settings) files (names_in (RecordLine r)) r.settings r.seed _ a b alike p q
+one-line g (ReplayLine log elf hart interval) files a b p q alike = one-replay g files (names_in (ReplayLine log elf hart interval)) hart interval a b p q
+one-line g (JointLine log elf) files a b p q alike =
     let names = names_in (JointLine log elf) in
     one-file files names role.Log 268500992 (λ log what. IsJointOf files names log what)
     (λ log. one-file files names role.Elf 67108864 (λ elf what. IsByLog names log (joint_of names elf) what) (λ elf. one-log g names log (joint_of names elf))) a b p q
-one-line g (ListLine log) files a b p q =
+one-line g (ListLine log) files a b p q alike =
     let names = names_in (ListLine log) in
     one-file files names role.Log 268500992 (λ log what. IsByLog names log list_of what) (λ log. one-log g names log list_of) a b p q
-one-line g (CheckLine log) files a b p q =
+one-line g (CheckLine log) files a b p q alike =
     let names = names_in (CheckLine log) in
     one-file files names role.Log 268500992 (λ log what. IsByLog names log check_of what) (λ log. one-log g names log check_of) a b p q
 
 pub one-answer : Grammar → OneAnswer
-one-answer g None files a b p q = p ∙ sym q
-one-answer g (Some line) files a b p q = one-line g line files a b p q
+one-answer g None files a b p q alike = p ∙ sym q
+one-answer g (Some line) files a b p q alike = one-line g line files a b p q alike

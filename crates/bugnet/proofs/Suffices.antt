@@ -54,7 +54,7 @@ by-size : (there : Option (List ℕ)) (names : FileNames) (r : Role) (limit : �
     → there ≡ Some bytes → IsByFile there names r limit Go what → Either (nat_lt limit (length bytes)) (what ≡ refused names (TooLong r)) (Go bytes what)
 by-size there names r limit bytes Go what e is = subst (λ (t : Option (List ℕ)). IsByFile t names r limit Go what) e is
 
-by-file : (there : Option (List ℕ)) (names : FileNames) (r : Role) (limit : ℕ) (bytes : List ℕ) (Go : List ℕ → Told → Type 0) (what : Told)
+pub by-file : (there : Option (List ℕ)) (names : FileNames) (r : Role) (limit : ℕ) (bytes : List ℕ) (Go : List ℕ → Told → Type 0) (what : Told)
     → there ≡ Some bytes → length bytes ≤ limit → IsByFile there names r limit Go what → Go bytes what
 by-file there names r limit bytes Go what e h is =
     of_false (nat_lt limit (length bytes)) _ (Go bytes what) (fits limit (length bytes) h) (by-size there names r limit bytes Go what e is)

@@ -122,10 +122,6 @@ pub same-files : (known after : Option Files) → after ≡ known → WhereTold 
 same-files None after e = tt
 same-files (Some files) after e = subst (λ (k : Option Files). WhereTold (Some files) k SameFiles) (sym e) (λ name. refl)
 
-same-few : (saved : Option Saved) (log book : List ℕ) (x y : Files) → SameFiles x y → MayChange saved log book x y
-same-few None log book x y s = s
-same-few (Some bytes) log book x y s = inl (λ name apart. s name)
-
 kept-few : (saved : Option Saved) (log book : List ℕ) (x y : Files) → KeptFiles saved log book x y → MayChange saved log book x y
 kept-few None log book x y s = s
 kept-few (Some bytes) log book x y s = inr (record { log_there = s.log_there; others = s.others })
@@ -213,22 +209,15 @@ answers-keep line status k h =
     so files (inl a) = found files a.0 a.1 (tells-keeps (names_by line) a.0 status k a.2)
     so files (inr s) = inl (early-status line files status k s)
 
-pub answers-few : ((l : Option Line) (files : Files) (x y : Told) → IsAnswer l files x → IsAnswer l files y → x ≡ y) → (line : Option Line) (status : ℕ) (k : Call) → TellsAnswer line status k
-    → ChangesFew line k.old.files k.new.files
-answers-few one line status k h =
+pub answers-few : (line : Option Line) (status : ℕ) (k : Call) → TellsAnswer line status k → ChangesFew line k.old.files k.new.files
+answers-few line status k h =
     with-files k.old.files (λ files. SomeTold (IsAnswer line files) (λ what. Tells (names_by line) what status k) ⊎ StoppedEarly line files status k)
-    (λ files. (what : Told) → IsAnswer line files what → WhereTold k.old.files k.new.files (MayChange what.saved (names_by line).log (names_by line).book)) so h
+    (λ files. SomeTold (IsAnswer line files) (λ what. WhereTold k.old.files k.new.files (MayChange what.saved (names_by line).log (names_by line).book)) ⊎ WhereTold k.old.files k.new.files SameFiles) so h
   where
-    names : FileNames
-    names = names_by line
-
     so : (files : Files) → SomeTold (IsAnswer line files) (λ what. Tells (names_by line) what status k) ⊎ StoppedEarly line files status k
-        → (what : Told) → IsAnswer line files what → WhereTold k.old.files k.new.files (MayChange what.saved (names_by line).log (names_by line).book)
-    so files (inl a) what is =
-        subst (λ (t : Told). WhereTold k.old.files k.new.files (MayChange t.saved (names_by line).log (names_by line).book)) (one line files a.0 what a.1 is) (tells-few (names_by line) a.0 status k a.2)
-    so files (inr s) what is =
-        where-told k.old.files k.new.files SameFiles (MayChange what.saved (names_by line).log (names_by line).book) (same-few what.saved (names_by line).log (names_by line).book)
-        (same-files k.old.files k.new.files s.same)
+        → SomeTold (IsAnswer line files) (λ what. WhereTold k.old.files k.new.files (MayChange what.saved (names_by line).log (names_by line).book)) ⊎ WhereTold k.old.files k.new.files SameFiles
+    so files (inl a) = inl (a.0, a.1, tells-few (names_by line) a.0 status k a.2)
+    so files (inr s) = inr (same-files k.old.files k.new.files s.same)
 
 -- ---- a command
 

@@ -1,5 +1,6 @@
 -- What a command answers, by its line and the files that are there. An answer is given by what it has to be: a log file is
--- read by the grammar of its bytes, which is a relation. No command has two answers (`one_answer`).
+-- read by the grammar of its bytes, which is a relation. But for a recording without a seed no command has two answers
+-- (`one_answer`).
 use Rattle.std.specs.Prelude.{◌≡◌, ◌≢◌, ℕ, nat_lt, Bool, true, false, List, [], ◌++◌, length, Option, Some, None, Result, Ok, Err}
 use Rattle.std.specs.Str.{bytes_eq}
 use Rattle.sha2.specs.Sha256.{sha256}
@@ -18,13 +19,12 @@ use Rattle.log_file.specs.declared.error.FileError.{FileError}
 use Rattle.log_file.specs.declared.error.FileError.TheVariants as file
 use Rattle.hart_replay.specs.Replay.{Outcome, Done, Refused, Replayed, Interval, interval_of, replayed}
 use Rattle.hart_replay.specs.declared.error.ReplayError.TheVariants.{NoInterval}
-use Rattle.run_model.specs.Runs.{seeded}
 use Rattle.rv_text.specs.Marks.{end_text}
 use Rattle.bugnet.specs.Names.{FileNames, name_of}
 use Rattle.bugnet.specs.Refusals.{status_of, line_of}
 use Rattle.bugnet.specs.Texts.{begin_text, rows_text, list_text, check_text}
 use Rattle.bugnet.specs.Told.{Told, refused, printed}
-use Rattle.bugnet.specs.Recordings.{recorded}
+use Rattle.bugnet.specs.Recordings.{IsRunOf}
 use Rattle.bugnet.specs.declared.names.Role.{Role}
 use Rattle.bugnet.specs.declared.names.Role.TheVariants as role
 use Rattle.bugnet.specs.declared.refusal.Refusal.TheVariants.{OutOfRange, SameName, Missing, TooLong, ElfRefused, LogRefused, ProgramDiffers, ReplayStopped}
@@ -113,26 +113,22 @@ abbrev pub IsReplay : Files → FileNames → (hart interval : ℕ) → Told →
 IsReplay files names hart interval what = WithFile files names role.Log 268500992 (λ log what. IsReplayOf files names hart interval log what) what
 
 -- a recording's input is that of a file, or empty
-abbrev pub IsByInput : Bool → Files → FileNames → (List ℕ → Told) → Told → Type 0
-IsByInput true files names go what = WithFile files names role.Input 16777216 (λ input what. what ≡ go input) what
-IsByInput false files names go what = what ≡ go []
+abbrev pub IsByInput : Bool → Files → FileNames → (List ℕ → Told → Type 0) → Told → Type 0
+IsByInput true files names Go what = WithFile files names role.Input 16777216 Go what
+IsByInput false files names Go what = Go [] what
 
--- the recording of the seed's list of turns
-abbrev pub seeded_told : RawSettings → Program → (digest : List ℕ) → (seed : ℕ) → (input : List ℕ) → Told
-seeded_told c i digest seed input = recorded c i digest input (seeded c i input seed)
-
-abbrev pub IsByProgram : Result Program ElfError → Files → FileNames → RawSettings → (seed : ℕ) → Bool → List ℕ → Told → Type 0
+abbrev pub IsByProgram : Result Program ElfError → Files → FileNames → RawSettings → (seed : Option ℕ) → Bool → List ℕ → Told → Type 0
 IsByProgram (Err e) files names c seed has_input digest what = what ≡ refused names (ElfRefused e)
-IsByProgram (Ok i) files names c seed has_input digest what = IsByInput has_input files names (seeded_told c i digest seed) what
+IsByProgram (Ok i) files names c seed has_input digest what = IsByInput has_input files names (IsRunOf c i digest seed) what
 
 -- LOG and BOOK have to be two names
-abbrev pub IsByNames : Bool → Files → FileNames → RawSettings → (seed : ℕ) → Bool → Told → Type 0
+abbrev pub IsByNames : Bool → Files → FileNames → RawSettings → (seed : Option ℕ) → Bool → Told → Type 0
 IsByNames true files names c seed has_input what = what ≡ refused names SameName
 IsByNames false files names c seed has_input what = WithFile files names role.Elf 67108864 (λ elf what. IsByProgram (image_of elf c) files names c seed has_input (sha256 elf) what) what
 
-abbrev pub IsBySettings : Option BadSetting → Files → FileNames → RawSettings → (seed : ℕ) → Bool → Told → Type 0
+abbrev pub IsBySettings : Option BadSetting → Files → FileNames → RawSettings → (seed : Option ℕ) → Bool → Told → Type 0
 IsBySettings (Some bad) files names c seed has_input what = what ≡ refused names (OutOfRange bad)
 IsBySettings None files names c seed has_input what = IsByNames (bytes_eq names.log names.book) files names c seed has_input what
 
-abbrev pub IsRecord : Files → FileNames → RawSettings → (seed : ℕ) → Bool → Told → Type 0
+abbrev pub IsRecord : Files → FileNames → RawSettings → (seed : Option ℕ) → Bool → Told → Type 0
 IsRecord files names c seed has_input what = IsBySettings (first_bad c) files names c seed has_input what

@@ -67,9 +67,14 @@ CanDo (JointLine log elf) files = CanJoin log elf files
 CanDo (ListLine log) files = HasLog (files log)
 CanDo (CheckLine log) files = HasLog (files log)
 
--- then there is an answer, and it is that of a command that is done
+-- there is an answer, and each answer is that of a command that is done
+pub record CanBeDone (line : Line) (files : Files) : Type 0 where
+  pub what : Told
+  pub answer : IsAnswer (Some line) files what
+  pub done : (told : Told) → IsAnswer (Some line) files told → IsRecorded told.status
+
 abbrev pub EachCanBeDone : Type 0
-EachCanBeDone = (line : Line) (files : Files) → CanDo line files → (what : Told) × IsAnswer (Some line) files what × IsRecorded what.status
+EachCanBeDone = (line : Line) (files : Files) → CanDo line files → CanBeDone line files
 
 -- and the command is done, unless memory was wanting or the outside failed
 abbrev pub IsDone : Option Line → Files → ℕ → Type 0

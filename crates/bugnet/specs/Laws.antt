@@ -1,5 +1,5 @@
 -- Laws of answers, by their names.
-use Rattle.std.specs.Prelude.{◌≡◌, ℕ, List, length, Option, Some, None}
+use Rattle.std.specs.Prelude.{◌≡◌, ℕ, List, length, Option, Some, None, option_map}
 use Rattle.sha2.specs.Sha256.{sha256}
 use Rattle.bn_base.specs.Programs.{Program}
 use Rattle.bn_base.specs.Ranges.{first_bad}
@@ -11,13 +11,31 @@ use Rattle.run_model.specs.Files.{kept_of, file_of}
 use Rattle.run_model.specs.Runs.{run_of, seeded}
 use Rattle.replay_laws.specs.Law.{IsWhole}
 use Rattle.file_laws.specs.Given.{IsRecording}
-use Rattle.bugnet.specs.Told.{Told}
+use Rattle.bugnet.specs.Told.{Told, Saved}
 use Rattle.bugnet.specs.Answers.{IsAnswer}
 use Rattle.bugnet.specs.Saves.{IsWithin}
 
--- no words have two answers
+-- the list of turns that an answer saves
+abbrev pub book_of : Told → Option (List ℕ)
+book_of what = option_map (λ (s : Saved). s.book) what.saved
+
+-- of recordings without a seed, two that save one list of turns
+abbrev pub AreOfOneList : Option ℕ → (a b : Told) → Type 0
+AreOfOneList (Some seed) a b = Unit {0}
+AreOfOneList None a b = book_of a ≡ book_of b
+
+abbrev pub AreAlike : Option Line → (a b : Told) → Type 0
+AreAlike None a b = Unit {0}
+AreAlike (Some (RecordLine r)) a b = AreOfOneList r.seed a b
+AreAlike (Some (ReplayLine log elf hart interval)) a b = Unit {0}
+AreAlike (Some (JointLine log elf)) a b = Unit {0}
+AreAlike (Some (ListLine log)) a b = Unit {0}
+AreAlike (Some (CheckLine log)) a b = Unit {0}
+
+-- No words have two answers. A recording without a seed may take any turns that are legal and finished; it has one answer
+-- for each such list
 abbrev pub OneAnswer : Type 0
-OneAnswer = (line : Option Line) (files : Files) (a b : Told) → IsAnswer line files a → IsAnswer line files b → a ≡ b
+OneAnswer = (line : Option Line) (files : Files) (a b : Told) → IsAnswer line files a → IsAnswer line files b → AreAlike line a b → a ≡ b
 
 -- words that are no recording
 abbrev pub IsNoRecording : Option Line → Type 0
@@ -28,7 +46,7 @@ IsNoRecording (Some (JointLine log elf)) = Unit {0}
 IsNoRecording (Some (ListLine log)) = Unit {0}
 IsNoRecording (Some (CheckLine log)) = Unit {0}
 
--- the list of turns that a recording saves is legal and finished: it is a seed's, and its settings were tested
+-- the list of turns that a seed chooses is legal and finished, where the settings were tested
 abbrev pub SeedsAreWhole : Type 0
 SeedsAreWhole = (c : RawSettings) (i : Program) (input : List ℕ) (seed : ℕ) → first_bad c ≡ None → IsWhole c i input (seeded c i input seed)
 

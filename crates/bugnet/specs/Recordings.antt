@@ -1,14 +1,15 @@
 -- What a recording tells: the run of a list of turns.
-use Rattle.std.specs.Prelude.{ℕ, ◌+◌, nat_lt, ◌==◌, Bool, false, List, [], ◌∷◌, ◌++◌, length, Option, Some, None, codes, if◌then◌else◌}
+use Rattle.std.specs.Prelude.{◌≡◌, ℕ, ◌+◌, nat_lt, ◌==◌, Bool, false, List, [], ◌∷◌, ◌++◌, length, Option, Some, None, codes, if◌then◌else◌}
 use Rattle.std.specs.List.{list_any}
 use Rattle.bn_base.specs.Programs.{Program}
 use Rattle.bn_base.specs.declared.end_mark.EndMark.{EndMark}
 use Rattle.bn_base.specs.declared.settings.RawSettings.{RawSettings}
 use Rattle.log_record.specs.Spelling.{total}
 use Rattle.run_model.specs.Turn.{Run}
-use Rattle.run_model.specs.Runs.{run_of}
+use Rattle.run_model.specs.Runs.{run_of, seeded}
 use Rattle.run_model.specs.Files.{kept_of, dropped_of, file_of}
 use Rattle.bus_core.specs.Bus.{marks}
+use Rattle.replay_laws.specs.Law.{IsWhole}
 use Rattle.bugnet.specs.Texts.{summary_text}
 use Rattle.bugnet.specs.Told.{Told}
 use Rattle.bugnet.specs.declared.answer.RunEnd.{RunEnd}
@@ -62,3 +63,16 @@ recorded c i digest input b =
       err = run.machine.err ++ summary_text (length b) (instructions_of marks) (dropped_of c run) (total (kept_of c run)) (end_word (end_by marks));
       saved = Some (record { log = file_of c i digest input b; book = b });
     }
+
+-- ---- which list of turns it is
+
+-- the turns that a recording may take: those that its seed chooses, and where it has no seed any that are legal and finished
+abbrev pub AreTaken : Option ℕ → RawSettings → Program → (input : List ℕ) → List ℕ → Type 0
+AreTaken (Some seed) c i input b = b ≡ seeded c i input seed
+AreTaken None c i input b = IsWhole c i input b
+
+-- the recording of such turns
+pub record IsRunOf (c : RawSettings) (i : Program) (digest : List ℕ) (seed : Option ℕ) (input : List ℕ) (what : Told) : Type 0 where
+  pub turns : List ℕ
+  pub taken : AreTaken seed c i input turns
+  pub is : what ≡ recorded c i digest input turns

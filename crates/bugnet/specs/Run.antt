@@ -8,7 +8,7 @@ use Rattle.command_words.specs.Words.{Line}
 use Rattle.bugnet.specs.Names.{FileNames}
 use Rattle.bugnet.specs.Told.{Told, Saved}
 use Rattle.bugnet.specs.Answers.{names_by, refusal_by, IsAnswer}
-use Rattle.bugnet.specs.Outside.{WithFiles, Wrote, SendStops, ToldRefusal, IsEarly, KeptFiles, MayChange, Unsaved}
+use Rattle.bugnet.specs.Outside.{WithFiles, Wrote, SendStops, ToldRefusal, IsEarly, SameFiles, KeptFiles, MayChange, Unsaved}
 use Rattle.bugnet.specs.declared.refusal.Refusal.{Refusal}
 use Rattle.bugnet.specs.declared.refusal.Refusal.TheVariants as why
 
@@ -144,7 +144,7 @@ abbrev pub Keeps : Option Line → ℕ → (old new : Option Files) → Type 0
 Keeps line status old new =
     WithFiles old (λ files. IsUnsaved status ⊎ SomeTold (IsAnswer line files) (λ what. WhereTold old new (KeptFiles what.saved (names_by line).log (names_by line).book)))
 
--- no more changes than what may
+-- no more changes than what an answer may change, or nothing does
 abbrev pub ChangesFew : Option Line → (old new : Option Files) → Type 0
 ChangesFew line old new =
-    WithFiles old (λ files. (what : Told) → IsAnswer line files what → WhereTold old new (MayChange what.saved (names_by line).log (names_by line).book))
+    WithFiles old (λ files. SomeTold (IsAnswer line files) (λ what. WhereTold old new (MayChange what.saved (names_by line).log (names_by line).book)) ⊎ WhereTold old new SameFiles)

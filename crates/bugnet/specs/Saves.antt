@@ -8,9 +8,10 @@ use Rattle.command_words.specs.Words.{Line, RecordingLine, RecordLine, ReplayLin
 use Rattle.le_numbers.specs.Numbers.{AreBytes}
 use Rattle.log_record.specs.Spelling.{total}
 use Rattle.run_model.specs.Files.{kept_of, file_of}
-use Rattle.run_model.specs.Runs.{run_of, seeded}
+use Rattle.run_model.specs.Runs.{run_of}
 use Rattle.file_laws.specs.Given.{IsRecording}
 use Rattle.bugnet.specs.Outside.{WithFiles, SameBut}
+use Rattle.bugnet.specs.Recordings.{AreTaken}
 
 -- a recording is done: the run ended in no fault and no limit, in a fault, or by the limit
 abbrev pub IsRecorded : ℕ → Type 0
@@ -36,8 +37,8 @@ pub record Leaves (r : RecordingLine) (old new : Files) : Type 0 where
   pub elf_there : old r.elf ≡ Some elf
   pub small : length elf ≤ 67108864
   pub input_there : input_by r.input old ≡ Some input
-  -- the turns are those that the seed chooses, legal and finished for the program of ELF
-  pub chosen : turns ≡ seeded r.settings program input r.seed
+  -- the turns are legal and finished for the program of ELF, and where there is a seed those that it chooses
+  pub chosen : AreTaken r.seed r.settings program input turns
   pub recording : IsRecording r.settings program elf input turns
   -- BOOK has them, and LOG is the file of their run
   pub book : new r.book ≡ Some turns

@@ -13,7 +13,8 @@ use replay_laws::{the_log_suffices, the_rows_of_an_interval_stand_together};
 use run_laws::kept_records_are_an_end;
 use run_model::format_1_is_version_1;
 
-/// No words have two answers, whatever the files are.
+/// No words have two answers, whatever the files are; but a recording without a seed has one for each
+/// list of turns.
 pub fn one_answer()
     ensures { OneAnswer }
 {
@@ -44,15 +45,18 @@ pub fn headline()
 pub fn each_has_an_answer()
     ensures { EachHasAnAnswer }
 {
+    seeds_are_whole();
     files_are_read_or_refused();
 }
 
 /// Where the settings are in range, LOG and BOOK are two names, the files are there, within their
-/// limits, and are what the command needs, there is an answer, and it is that of a command that is
-/// done.
+/// limits, and are what the command needs, there is an answer, and each answer is that of a command that
+/// is done.
 pub fn each_can_be_done()
     ensures { EachCanBeDone }
 {
+    one_answer();
+    seeds_are_whole();
     the_log_suffices();
     the_rows_of_an_interval_stand_together();
     kept_records_are_an_end();
@@ -69,8 +73,7 @@ pub fn recordings_are_replayed()
     headline();
 }
 
-/// The list of turns that a recording saves is legal and finished: it is a seed's, and the settings
-/// were tested.
+/// The list of turns that a seed chooses is legal and finished, where the settings were tested.
 pub fn seeds_are_whole()
     ensures { SeedsAreWhole }
 {

@@ -8,7 +8,8 @@ ghost use Rattle.le_numbers.specs.Numbers.{AreBytes};
 ghost use Rattle.bn_base.specs.Ranges.{first_bad};
 ghost use Rattle.bugnet.specs.Answers.{name_refusal, setting_refusal};
 ghost use Rattle.bugnet.specs.Asks.{IsRecordedRun};
-ghost use Rattle.bugnet.specs.Commands.{seeded_told, IsByInput, IsByProgram, IsByNames, IsRecord};
+ghost use Rattle.bugnet.specs.Commands.{IsByInput, IsByProgram, IsByNames, IsRecord};
+ghost use Rattle.bugnet.specs.Recordings.{IsRunOf};
 ghost use Rattle.bugnet.specs.Saves.{HoldsBytes};
 ghost use Rattle.bugnet.specs.Outside.{Gives, GivesBy, IsOwn, CauseBy, ResultCause, WithFiles};
 
@@ -18,31 +19,42 @@ use crate::names::{Names, Role};
 use crate::recording::record_run;
 use crate::refusal::Refusal;
 use bn_base::{RawSettings, Settings};
-use bn_outside::Store;
+use bn_outside::{Gate, Store};
 use run_model::Start;
 use std::alloc::Global;
+use std::sync::Wait;
+use std::thread::Threads;
 
 // The recording from a start.
-fn record_start(alloc: Global, names: &Names, start: &Start, seed: u64) -> Result<Answer, Refusal>
-    ensures gives { Gives names.now (λ what. what ≡ seeded_told start.now.settings start.now.image start.now.digest seed start.now.input.items) result }
+fn record_start<G: Gate, R: Threads + Wait + Sync>(
+    rt: &R,
+    alloc: Global,
+    names: &Names,
+    start: &Start,
+    seed: Option<u64>,
+    gate: &G,
+) -> Result<Answer, Refusal>
+    ensures gives { Gives names.now (IsRunOf start.now.settings start.now.image start.now.digest seed start.now.input.items) result }
     ensures own { IsOwn result }
     ensures recorded { IfOk result IsRecordedRun }
 {
-    let recording = record_run(alloc, start, seed)?;
+    let recording = record_run(rt, alloc, start, seed, gate)?;
     Ok(Answer::Recorded(recording))
 }
 
 // Loads the input, where there is one, and records from a start whose own input is empty.
-fn record_input<S: Store>(
+fn record_input<S: Store, G: Gate, R: Threads + Wait + Sync>(
+    rt: &R,
     alloc: Global,
     names: &Names,
     mut start: Start,
-    seed: u64,
+    seed: Option<u64>,
     has_input: bool,
     store: &mut S,
+    gate: &G,
 ) -> Result<Answer, Refusal>
     requires { start.input.items ≡ [] }
-    ensures told { WithFiles (S.files store.old) (λ files. GivesBy names.now (λ files. IsByInput has_input files names.now (seeded_told start.settings start.image start.digest seed)) files result) }
+    ensures told { WithFiles (S.files store.old) (λ files. GivesBy names.now (λ files. IsByInput has_input files names.now (IsRunOf start.settings start.image start.digest seed)) files result) }
     ensures same { S.files store.new ≡ S.files store.old }
     ensures asks { S.saves store.new ≡ S.saves store.old }
     ensures recorded { IfOk result IsRecordedRun }
@@ -50,26 +62,28 @@ fn record_input<S: Store>(
     ensures cause { ResultCause (S.counts store.old) (S.counts store.new) result }
 {
     if !has_input {
-        return record_start(alloc, names, &start, seed);
+        return record_start(rt, alloc, names, &start, seed, gate);
     }
     match fetch(alloc, names, store, Role::Input, INPUT_LIMIT) {
         Err(refusal) => Err(refusal),
         Ok(input) => {
             start.input = input;
-            record_start(alloc, names, &start, seed)
+            record_start(rt, alloc, names, &start, seed, gate)
         }
     }
 }
 
 // Loads a program from its bytes, and records it.
-fn record_program<S: Store>(
+fn record_program<S: Store, G: Gate, R: Threads + Wait + Sync>(
+    rt: &R,
     alloc: Global,
     names: &Names,
     elf: &[u8],
     settings: &Settings,
-    seed: u64,
+    seed: Option<u64>,
     has_input: bool,
     store: &mut S,
+    gate: &G,
 ) -> Result<Answer, Refusal>
     ensures bytes { AreBytes elf.now }
     ensures told { WithFiles (S.files store.old) (λ files. GivesBy names.now (λ files. IsByProgram (image_of elf.now settings.now) files names.now settings.now seed has_input (sha256 elf.now)) files result) }
@@ -88,19 +102,21 @@ fn record_program<S: Store>(
                 input: Vec::new(alloc),
                 digest: digest_of(elf),
             };
-            record_input(alloc, names, start, seed, has_input, store)
+            record_input(rt, alloc, names, start, seed, has_input, store, gate)
         }
     }
 }
 
 // Loads a program file, and records it.
-fn record_elf<S: Store>(
+fn record_elf<S: Store, G: Gate, R: Threads + Wait + Sync>(
+    rt: &R,
     alloc: Global,
     names: &Names,
     settings: &Settings,
-    seed: u64,
+    seed: Option<u64>,
     has_input: bool,
     store: &mut S,
+    gate: &G,
 ) -> Result<Answer, Refusal>
     ensures bytes { IfOk result (λ _. WithFiles (S.files store.old) (λ files. HoldsBytes (files names.now.elf))) }
     ensures told { WithFiles (S.files store.old) (λ files. GivesBy names.now (λ files. IsByNames false files names.now settings.now seed has_input) files result) }
@@ -112,18 +128,22 @@ fn record_elf<S: Store>(
 {
     match fetch(alloc, names, store, Role::Elf, ELF_LIMIT) {
         Err(refusal) => Err(refusal),
-        Ok(elf) => record_program(alloc, names, &elf, settings, seed, has_input, store),
+        Ok(elf) => record_program(
+            rt, alloc, names, &elf, settings, seed, has_input, store, gate,
+        ),
     }
 }
 
 // Records, where LOG and BOOK are two names.
-fn record_named<S: Store>(
+fn record_named<S: Store, G: Gate, R: Threads + Wait + Sync>(
+    rt: &R,
     alloc: Global,
     names: &Names,
     settings: &Settings,
-    seed: u64,
+    seed: Option<u64>,
     has_input: bool,
     store: &mut S,
+    gate: &G,
 ) -> Result<Answer, Refusal>
     ensures bytes { IfOk result (λ _. WithFiles (S.files store.old) (λ files. HoldsBytes (files names.now.elf))) }
     ensures told { WithFiles (S.files store.old) (λ files. GivesBy names.now (λ files. IsByNames (bytes_eq names.now.log names.now.book) files names.now settings.now seed has_input) files result) }
@@ -136,19 +156,21 @@ fn record_named<S: Store>(
     if names.log == names.book {
         Err(Refusal::SameName)
     } else {
-        record_elf(alloc, names, settings, seed, has_input, store)
+        record_elf(rt, alloc, names, settings, seed, has_input, store, gate)
     }
 }
 
 /// Tests the settings and the names, loads the program and its input, and records the run by the
-/// turns that the seed chooses.
-pub fn record_files<S: Store>(
+/// turns that the seed chooses, or of harts in threads.
+pub fn record_files<S: Store, G: Gate, R: Threads + Wait + Sync>(
+    rt: &R,
     alloc: Global,
     names: &Names,
     settings: &RawSettings,
-    seed: u64,
+    seed: Option<u64>,
     has_input: bool,
     store: &mut S,
+    gate: &G,
 ) -> Result<Answer, Refusal>
     ensures bytes { IfOk result (λ _. WithFiles (S.files store.old) (λ files. HoldsBytes (files names.now.elf))) }
     ensures told { WithFiles (S.files store.old) (λ files. GivesBy names.now (λ files. IsRecord files names.now settings.now seed has_input) files result) }
@@ -160,6 +182,6 @@ pub fn record_files<S: Store>(
 {
     match Settings::checked(settings) {
         Err(bad) => Err(Refusal::OutOfRange(bad)),
-        Ok(settings) => record_named(alloc, names, &settings, seed, has_input, store),
+        Ok(settings) => record_named(rt, alloc, names, &settings, seed, has_input, store, gate),
     }
 }

@@ -22,9 +22,11 @@ use crate::names::Names;
 use crate::preparing::record_files;
 use crate::printing::refuse;
 use crate::refusal::Refusal;
-use bn_outside::{Sink, Source, Store};
+use bn_outside::{Gate, Sink, Source, Store};
 use command_words::{Command, WordsError, read_words};
 use std::alloc::Global;
+use std::sync::Wait;
+use std::thread::Threads;
 
 // The names of the files of a command.
 fn names_of<'a>(command: &Command<'a>) -> Names<'a>
@@ -55,11 +57,13 @@ fn names_of<'a>(command: &Command<'a>) -> Names<'a>
 }
 
 // What a command answers. Nothing is saved or printed yet.
-fn answer_to<S: Store>(
+fn answer_to<S: Store, G: Gate, R: Threads + Wait + Sync>(
+    rt: &R,
     alloc: Global,
     command: &Command,
     names: &Names,
     store: &mut S,
+    gate: &G,
 ) -> Result<Answer, Refusal>
     requires { names.now ≡ names_in (seen command.now) }
     ensures told { WithFiles (S.files store.old) (λ files. GivesBy names.now (IsAnswer (Some (seen command.now))) files result) }
@@ -73,12 +77,14 @@ fn answer_to<S: Store>(
 {
     match command {
         Command::Record(recording) => record_files(
+            rt,
             alloc,
             names,
             &recording.settings,
             recording.seed,
             recording.input.is_some(),
             store,
+            gate,
         ),
         Command::Replay { hart, interval, .. } => replay_files(
             alloc, names, store, *hart, *interval,
@@ -90,12 +96,14 @@ fn answer_to<S: Store>(
 }
 
 // Does what a command asks for.
-fn obey<S: Store, O: Sink, X: Sink>(
+fn obey<S: Store, O: Sink, X: Sink, G: Gate, R: Threads + Wait + Sync>(
+    rt: &R,
     alloc: Global,
     command: &Command,
     store: &mut S,
     out: &mut O,
     err: &mut X,
+    gate: &G,
 ) -> u8
     ensures told { TellsAnswer (Some (seen command.now)) result (call S.files S.counts O.written O.faults X.written X.faults store.old out.old err.old store.new out.new err.new) }
     ensures words { ByWords (Some (seen command.now)) result (call S.files S.counts O.written O.faults X.written X.faults store.old out.old err.old store.new out.new err.new) }
@@ -113,7 +121,7 @@ fn obey<S: Store, O: Sink, X: Sink>(
     seeds_are_whole();
     files_keep_to_their_size();
     let names = names_of(command);
-    match answer_to(alloc, command, &names, store) {
+    match answer_to(rt, alloc, command, &names, store, gate) {
         Err(refusal) => refuse(alloc, &names, &refusal, err),
         Ok(answer) => act(alloc, &names, &answer, store, out, err),
     }
@@ -124,7 +132,7 @@ fn obey<S: Store, O: Sink, X: Sink>(
 ///
 /// | words | what it does |
 /// |---|---|
-/// | `record [SETTINGS] --seed N [--input FILE] ELF LOG BOOK` | runs the program by the turns that N chooses, and saves its log and these turns |
+/// | `record [SETTINGS] [--seed N] [--input FILE] ELF LOG BOOK` | runs the program, and saves its log and the list of its turns |
 /// | `replay LOG ELF HART INTERVAL` | prints what the recorded run did in one interval, instruction by instruction |
 /// | `joint LOG ELF` | prints what all harts did in the intervals that the log keeps, in an order that its Edges allow, and the words of memory that are known then |
 /// | `list LOG` | prints a line for each interval that the log keeps, in the order of their Headers |
@@ -133,6 +141,10 @@ fn obey<S: Store, O: Sink, X: Sink>(
 /// A recording does this, in order: it tests the settings, and that LOG and BOOK are two names, loads
 /// ELF, loads FILE, which else is empty, runs the program, saves the log under LOG and the list of turns
 /// under BOOK, writes the program's stream 1 to out, and its stream 2 and one line to err.
+///
+/// With a seed its number chooses the turns, on the caller's thread. Without one each hart runs in a
+/// thread of its own, and the gate is called around its turns. Which turns come then isn't told; they
+/// are legal and finished, and the list under BOOK is theirs.
 ///
 /// | status | comes |
 /// |---|---|
@@ -149,16 +161,19 @@ fn obey<S: Store, O: Sink, X: Sink>(
 /// | 15 | the program doesn't do what the log says, or its Edges wait for each other |
 ///
 /// For each status but 0, 10 and 11 a line on err says more.
-pub fn run<S: Store, I: Source, O: Sink, X: Sink>(
+pub fn run<S: Store, I: Source, O: Sink, X: Sink, G: Gate, R: Threads + Wait + Sync>(
+    rt: &R,
     alloc: Global,
     words: &[String],
     store: &mut S,
     input: &mut I,
     out: &mut O,
     err: &mut X,
+    gate: &G,
 ) -> u8
     // Where the store tells its files, they and the words say the status, the texts and what the files
-    // are after it. Whatever the store tells, the words alone say where the status is 2.
+    // are after it; of a recording without a seed they and its list of turns do. Whatever the store
+    // tells, the words alone say where the status is 2.
     ensures told { TellsAnswer (command_in words.now) result (call S.files S.counts O.written O.faults X.written X.faults store.old out.old err.old store.new out.new err.new) }
     ensures words { ByWords (command_in words.now) result (call S.files S.counts O.written O.faults X.written X.faults store.old out.old err.old store.new out.new err.new) }
 
@@ -181,8 +196,9 @@ pub fn run<S: Store, I: Source, O: Sink, X: Sink>(
     // so often, and no other command saves.
     ensures saves { LineSaves (command_in words.now) result (S.saves store.old) (S.saves store.new) }
 
-    // A recording leaves under BOOK the turns that the seed chooses, legal and finished, and under LOG
-    // the file of their run: its records have at most log-size bytes, and it has 124 more.
+    // A recording leaves under BOOK its turns, legal and finished, where there is a seed those that it
+    // chooses, and under LOG the file of their run: its records have at most log-size bytes, and it has
+    // 124 more.
     ensures recorded { LeavesRun (command_in words.now) result (S.files store.old) (S.files store.new) }
 
     // A refusal by the outside comes only where its count rose, and no count falls.
@@ -201,6 +217,6 @@ pub fn run<S: Store, I: Source, O: Sink, X: Sink>(
     match read_words(alloc, words) {
         Err(WordsError::Refused) => refuse(alloc, &Names::none(), &Refusal::WordsRefused, err),
         Err(WordsError::OutOfMemory) => refuse(alloc, &Names::none(), &Refusal::OutOfMemory, err),
-        Ok(command) => obey(alloc, &command, store, out, err),
+        Ok(command) => obey(rt, alloc, &command, store, out, err, gate),
     }
 }

@@ -1,10 +1,10 @@
 // The recording of a run.
-ghost use Rattle.std.specs.Prelude.{◌≡◌, ◌++◌, IfOk};
+ghost use Rattle.std.specs.Prelude.{◌≡◌, ◌++◌, IfOk, Some, None};
 ghost use Rattle.std.specs.List.{flat_map, list_any};
 ghost use Rattle.log_record.specs.Spelling.{bytes_of};
 ghost use Rattle.log_file.specs.Layout.{spelling};
-ghost use Rattle.bugnet.specs.Commands.{seeded_told};
-ghost use Rattle.bugnet.specs.Recordings.{count_of, instructions_of, is_fault, is_limit, end_by, end_word};
+ghost use Rattle.run_laws.specs.Laws.{harts_of};
+ghost use Rattle.bugnet.specs.Recordings.{count_of, instructions_of, is_fault, is_limit, end_by, end_word, IsRunOf};
 ghost use Rattle.bugnet.specs.Texts.{summary_text};
 ghost use Rattle.bugnet.specs.Outside.{told_of_recording};
 ghost use Rattle.bugnet.specs.Keeping.{IsRecordingOf};
@@ -13,14 +13,17 @@ use crate::answer::{Recording, RunEnd};
 use crate::texts::{RunCounts, push_summary};
 use bn_base::EndMark;
 use bn_base::end_mark::{FAULT, LIMIT};
-use bn_outside::LeanBook;
-use hart_worker::{Listed, run_listed};
+use bn_outside::{Book, FullBook, Gate, LeanBook, TurnRow};
+use bus_core::Closed;
+use hart_worker::{run_listed, run_threads};
 use log_file::write_file;
 use log_record::Head;
 use log_ring::Ring;
 use run_model::{Start, format_1_is_version_1};
 use rv_text::Text;
 use std::alloc::{AllocError, Global};
+use std::sync::Wait;
+use std::thread::Threads;
 
 // The count of a mark.
 fn count_of(mark: &Option<EndMark>) -> u64
@@ -116,15 +119,15 @@ fn err_of(
 }
 
 // The recording of a closed run and the list of its turns.
-fn recording_of(
+fn recording_of<B: Book>(
     alloc: Global,
     start: &Start,
-    run: Listed<LeanBook>,
+    closed: Closed<B>,
+    list: Vec<u8>,
 ) -> Result<Recording, AllocError>
-    requires { run.closed.ring.size ≡ start.now.settings.log_size }
-    ensures { IfOk result (λ r. IsRecordingOf start.now run.closed run.list.items r) }
+    requires { closed.ring.size ≡ start.now.settings.log_size }
+    ensures { IfOk result (λ r. IsRecordingOf start.now closed list.items r) }
 {
-    let Listed { closed, list } = run;
     let end = end_by(&closed.ends);
     let counts = RunCounts {
         turns: closed.turns,
@@ -143,13 +146,64 @@ fn recording_of(
     })
 }
 
-/// The recording of the run by the turns that a number chooses. Of a turn one byte is kept, the number
-/// of its hart, and no row. The only error is want of memory.
-pub fn record_run(alloc: Global, start: &Start, seed: u64) -> Result<Recording, AllocError>
-    ensures { IfOk result (λ r. told_of_recording r ≡ seeded_told start.now.settings start.now.image start.now.digest seed start.now.input.items) }
+// The recording of the run by the turns that a number chooses. Of a turn one byte is kept, the number
+// of its hart, and no row.
+fn record_seeded(alloc: Global, start: &Start, seed: u64) -> Result<Recording, AllocError>
+    ensures { IfOk result (λ r. IsRunOf start.now.settings start.now.image start.now.digest (Some seed) start.now.input.items (told_of_recording r)) }
 {
     format_1_is_version_1();
     let _format = start.settings.format();
     let listed = run_listed(alloc, start, LeanBook, seed)?;
-    recording_of(alloc, start, listed)
+    recording_of(alloc, start, listed.closed, listed.list)
+}
+
+// The harts of rows: a byte for each, its number.
+fn harts_of(alloc: Global, rows: &[TurnRow]) -> Result<Vec<u8>, AllocError>
+    ensures { IfOk result (λ list. list.items ≡ harts_of rows.now) }
+{
+    rows.iter().map(|row| row.hart).collect(alloc)
+}
+
+// The harts of the rows that a book tells.
+fn list_of(alloc: Global, book: &FullBook) -> Result<Vec<u8>, AllocError>
+    ensures { IfOk result (λ list. list.items ≡ harts_of book.now.rows) }
+{
+    match book.rows() {
+        Some(rows) => harts_of(alloc, rows),
+        None => unreachable!(),
+    }
+}
+
+// The recording of a run whose harts are in threads of their own. Its list of turns is the harts of the
+// rows that its book tells.
+fn record_threads<G: Gate, R: Threads + Wait + Sync>(
+    rt: &R,
+    alloc: Global,
+    start: &Start,
+    gate: &G,
+) -> Result<Recording, AllocError>
+    ensures { IfOk result (λ r. IsRunOf start.now.settings start.now.image start.now.digest None start.now.input.items (told_of_recording r)) }
+{
+    format_1_is_version_1();
+    let _format = start.settings.format();
+    let closed = run_threads(rt, alloc, start, FullBook::new(alloc), gate)?;
+    let list = list_of(alloc, &closed.book)?;
+    recording_of(alloc, start, closed, list)
+}
+
+/// The recording of the run by the turns that a number chooses, or, where there is none, of a run whose
+/// harts are in threads of their own. The only error is want of memory.
+pub fn record_run<G: Gate, R: Threads + Wait + Sync>(
+    rt: &R,
+    alloc: Global,
+    start: &Start,
+    seed: Option<u64>,
+    gate: &G,
+) -> Result<Recording, AllocError>
+    ensures { IfOk result (λ r. IsRunOf start.now.settings start.now.image start.now.digest seed start.now.input.items (told_of_recording r)) }
+{
+    match seed {
+        Some(seed) => record_seeded(alloc, start, seed),
+        None => record_threads(rt, alloc, start, gate),
+    }
 }

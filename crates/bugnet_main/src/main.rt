@@ -1,7 +1,7 @@
 //! Records runs and replays their logs, over the files of the system and the standard streams.
 //!
-//! All that the program does is `bugnet::run`. Here it gets its words, and the real store, source
-//! and sinks. No text waits in a buffer: a write that fails does so in the command that made it, the
+//! All that the program does is `bugnet::run`. Here it gets its words, the real store, source and
+//! sinks, and a gate that never holds a hart. No text waits in a buffer: a write that fails does so in the command that made it, the
 //! two outputs keep their order, and what a command prints is seen before the next one is read.
 #![tactic(auto)]
 
@@ -11,7 +11,7 @@ mod streams;
 mod tests;
 mod words;
 
-use bn_outside::send_all;
+use bn_outside::{OpenGate, send_all};
 use file_store::FileStore;
 use std::process::ExitCode;
 use streams::{Reading, Writing};
@@ -30,12 +30,14 @@ fn main(rt: HostRuntime) -> ExitCode {
     let mut input = Reading::new(rt.stdin());
     let mut out = Writing::new(rt.stdout());
     let status = bugnet::run(
+        &rt,
         rt.alloc(),
         &words,
         &mut store,
         &mut input,
         &mut out,
         &mut err,
+        &OpenGate,
     );
     ExitCode::from(status)
 }

@@ -77,9 +77,13 @@ pub no_command : said [] ≡ None
 unfolding line_of clap_on_literals
 no_command = refl
 
-pub no_seed : said (codes "record" ∷ codes "E" ∷ codes "L" ∷ codes "B" ∷ []) ≡ None
+pub no_seed : said (codes "record" ∷ codes "E" ∷ codes "L" ∷ codes "B" ∷ []) ≡ Some (RecordLine (record plain { seed = None }))
 unfolding line_of clap_on_literals
 no_seed = refl
+
+pub no_seed_number : said (codes "record" ∷ codes "--seed" ∷ codes "E" ∷ codes "L" ∷ codes "B" ∷ []) ≡ None
+unfolding line_of clap_on_literals
+no_seed_number = refl
 
 pub no_name : said (codes "record" ∷ codes "--seed=5" ∷ codes "E" ∷ codes "L" ∷ []) ≡ None
 unfolding line_of clap_on_literals

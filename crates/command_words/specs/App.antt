@@ -15,10 +15,6 @@ number_option id = record (new_rule id) {
   parser = Some (value_parser.Unsigned 0 18446744073709551615);
 }
 
--- `--ID N`, which has to be there
-abbrev pub needed_option : Text → Rule
-needed_option id = record (number_option id) { required = true }
-
 -- `--ID TEXT`
 abbrev pub text_option : Text → Rule
 text_option id = record (new_rule id) { long = Some id; action = Some Set }
@@ -42,10 +38,10 @@ settings_app = with_rules (new_app (codes "record"))
     ∷ number_option (codes "log-size") ∷ number_option (codes "memory") ∷ number_option (codes "sets")
     ∷ number_option (codes "ways") ∷ number_option (codes "line") ∷ [])
 
--- `record [SETTINGS] --seed N [--input FILE] ELF LOG BOOK`
+-- `record [SETTINGS] [--seed N] [--input FILE] ELF LOG BOOK`
 abbrev pub record_app : App
 record_app = with_rules settings_app
-    (needed_option (codes "seed") ∷ text_option (codes "input")
+    (number_option (codes "seed") ∷ text_option (codes "input")
     ∷ word (codes "elf") ∷ word (codes "log") ∷ word (codes "book") ∷ [])
 
 -- `replay LOG ELF HART INTERVAL`

@@ -20,7 +20,7 @@ use Rattle.command_words.specs.declared.commands.Command.TheVariants as command
 -- a recording
 pub record RecordingLine : Type 0 where
   pub settings : RawSettings
-  pub seed : ℕ
+  pub seed : Option ℕ
   pub input : Option (List ℕ)
   pub elf : List ℕ
   pub log : List ℕ
@@ -73,6 +73,14 @@ number_or_default default (Some t) = number_of t
 abbrev pub number_or : ℕ → Text → List Row → Option ℕ
 number_or default id rows = number_or_default default (first_of id rows)
 
+abbrev pub number_if_given : Option Text → Option (Option ℕ)
+number_if_given None = Some None
+number_if_given (Some t) = option_map Some (number_of t)
+
+-- the number of an option that has no default, where it is given
+abbrev pub number_if : Text → List Row → Option (Option ℕ)
+number_if id rows = number_if_given (first_of id rows)
+
 abbrev pub and_then : {X Y : Type 0} → Option X → (X → Option Y) → Option Y
 and_then None f = None
 and_then (Some x) f = f x
@@ -93,7 +101,7 @@ settings_in rows =
 abbrev pub recording_in : List Row → Option RecordingLine
 recording_in rows =
     and_then (settings_in rows) (λ settings.
-    and_then (number_at (codes "seed") rows) (λ seed.
+    and_then (number_if (codes "seed") rows) (λ seed.
     and_then (first_of (codes "elf") rows) (λ elf.
     and_then (first_of (codes "log") rows) (λ log.
     and_then (first_of (codes "book") rows) (λ book.

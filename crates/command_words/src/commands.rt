@@ -7,8 +7,8 @@ pub struct Recording<'a> {
     /// The settings as they were given, in range or not. Those that weren't given have their
     /// defaults.
     pub settings: RawSettings,
-    /// The seed of the turns.
-    pub seed: u64,
+    /// The seed of the turns, if there is one.
+    pub seed: Option<u64>,
     /// The name of the file that the program reads as its input, if there is one.
     pub input: Option<&'a str>,
     /// The name of the program's file.

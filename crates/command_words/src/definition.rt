@@ -2,7 +2,7 @@
 ghost use Rattle.std.specs.Prelude.{◌≡◌, IfOk, codes};
 ghost use Rattle.clap.specs.Words.{app_of, rule_of};
 ghost use Rattle.clap.specs.declared.builder.command.Command.TheViews.{out-Command};
-ghost use Rattle.command_words.specs.App.{IsRule, IsSeenAs, number_option, needed_option, text_option, word, number_word};
+ghost use Rattle.command_words.specs.App.{IsRule, IsSeenAs, number_option, text_option, word, number_word};
 ghost use Rattle.command_words.specs.App.{settings_app, record_app, replay_app, joint_app, log_app, bugnet_app};
 
 use clap::builder::ValueParser;
@@ -17,13 +17,6 @@ fn number_option<'a>(alloc: Global, id: &'a str) -> Arg<'a>
         .long(id)
         .action(ArgAction::Set)
         .value_parser(ValueParser::Unsigned(0, u64::MAX))
-}
-
-// `--ID N`, which has to be there
-fn needed_option<'a>(alloc: Global, id: &'a str) -> Arg<'a>
-    ensures { IsRule (needed_option id.entry.now) result }
-{
-    number_option(alloc, id).required(true)
 }
 
 // `--ID TEXT`
@@ -62,12 +55,12 @@ fn settings_command<'a>(alloc: Global) -> Result<Command<'a>, AllocError>
     command.arg(number_option(alloc, "line"))
 }
 
-// `record [OPTIONS] --seed N [--input FILE] ELF LOG BOOK`
+// `record [OPTIONS] [--seed N] [--input FILE] ELF LOG BOOK`
 fn record_command<'a>(alloc: Global) -> Result<Command<'a>, AllocError>
     ensures { IfOk result (IsSeenAs record_app) }
 {
     let command = settings_command(alloc)?;
-    let command = command.arg(needed_option(alloc, "seed"))?;
+    let command = command.arg(number_option(alloc, "seed"))?;
     let command = command.arg(text_option(alloc, "input"))?;
     let command = command.arg(word(alloc, "elf"))?;
     let command = command.arg(word(alloc, "log"))?;

@@ -6,11 +6,12 @@ ghost use Rattle.command_words.specs.Examples.{said, plain};
 
 /// Options stand before, between and after names, with `=` or in two words. Settings that aren't
 /// given have their defaults.
-#[tactic(auto, using(crate::proofs::Cases::before, crate::proofs::Cases::between, crate::proofs::Cases::after, crate::proofs::Cases::setting))]
+#[tactic(auto, using(crate::proofs::Cases::before, crate::proofs::Cases::between, crate::proofs::Cases::after, crate::proofs::Cases::no_seed, crate::proofs::Cases::setting))]
 pub fn options_stand_anywhere()
     ensures before { said (codes "record" ∷ codes "--seed" ∷ codes "5" ∷ codes "E" ∷ codes "L" ∷ codes "B" ∷ []) ≡ Some (RecordLine plain) }
     ensures between { said (codes "record" ∷ codes "E" ∷ codes "--seed=5" ∷ codes "L" ∷ codes "B" ∷ []) ≡ Some (RecordLine plain) }
     ensures after { said (codes "record" ∷ codes "E" ∷ codes "L" ∷ codes "B" ∷ codes "--input" ∷ codes "F" ∷ codes "--seed" ∷ codes "5" ∷ []) ≡ Some (RecordLine (record plain { input = Some (codes "F") })) }
+    ensures no_seed { said (codes "record" ∷ codes "E" ∷ codes "L" ∷ codes "B" ∷ []) ≡ Some (RecordLine (record plain { seed = None })) }
     ensures setting { said (codes "record" ∷ codes "--ways" ∷ codes "2" ∷ codes "E" ∷ codes "L" ∷ codes "B" ∷ codes "--seed=5" ∷ []) ≡ Some (RecordLine (record plain { settings = record default_settings { ways = 2 } })) }
 {}
 
@@ -43,11 +44,11 @@ pub fn names_may_look_like_other_words()
 
 /// A word too few or too many, an option that is repeated, shortened or unknown, and what asks for
 /// help or the version are refused.
-#[tactic(auto, using(crate::proofs::Cases::no_words, crate::proofs::Cases::no_command, crate::proofs::Cases::no_seed, crate::proofs::Cases::no_name, crate::proofs::Cases::one_more, crate::proofs::Cases::repeated, crate::proofs::Cases::shortened, crate::proofs::Cases::unknown, crate::proofs::Cases::help, crate::proofs::Cases::help_of_a_command, crate::proofs::Cases::version))]
+#[tactic(auto, using(crate::proofs::Cases::no_words, crate::proofs::Cases::no_command, crate::proofs::Cases::no_seed_number, crate::proofs::Cases::no_name, crate::proofs::Cases::one_more, crate::proofs::Cases::repeated, crate::proofs::Cases::shortened, crate::proofs::Cases::unknown, crate::proofs::Cases::help, crate::proofs::Cases::help_of_a_command, crate::proofs::Cases::version))]
 pub fn other_lines_are_refused()
     ensures no_words { line_of [] ≡ None }
     ensures no_command { said [] ≡ None }
-    ensures no_seed { said (codes "record" ∷ codes "E" ∷ codes "L" ∷ codes "B" ∷ []) ≡ None }
+    ensures no_number { said (codes "record" ∷ codes "--seed" ∷ codes "E" ∷ codes "L" ∷ codes "B" ∷ []) ≡ None }
     ensures no_name { said (codes "record" ∷ codes "--seed=5" ∷ codes "E" ∷ codes "L" ∷ []) ≡ None }
     ensures one_more { said (codes "check" ∷ codes "L" ∷ codes "L" ∷ []) ≡ None }
     ensures repeated { said (codes "record" ∷ codes "--seed=5" ∷ codes "--seed=5" ∷ codes "E" ∷ codes "L" ∷ codes "B" ∷ []) ≡ None }

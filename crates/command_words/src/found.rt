@@ -2,7 +2,7 @@
 ghost use Rattle.std.specs.Prelude.{◌≡◌, option_map, codes};
 ghost use Rattle.clap.specs.Words.{first_of, found_of, rows_of};
 ghost use Rattle.bn_base.specs.Ranges.{default_settings};
-ghost use Rattle.command_words.specs.Words.{seen, seen_recording, number_of, number_or, number_at, settings_in, recording_in, record_in, replay_in, joint_in, list_in, check_in, named};
+ghost use Rattle.command_words.specs.Words.{seen, seen_recording, number_of, number_or, number_if, number_at, settings_in, recording_in, record_in, replay_in, joint_in, list_in, check_in, named};
 
 use crate::commands::{Command, Recording};
 use bn_base::RawSettings;
@@ -38,6 +38,18 @@ fn number_or(matches: &ArgMatches<'_>, id: &str, default: u64) -> Option<u64>
     }
 }
 
+fn number_if(matches: &ArgMatches<'_>, id: &str) -> Option<Option<u64>>
+    ensures { result ≡ number_if id.now (rows_of (found_of matches.now)) }
+{
+    match text_at(matches, id) {
+        None => Some(None),
+        Some(text) => match number_of(text) {
+            None => None,
+            Some(number) => Some(Some(number)),
+        },
+    }
+}
+
 fn settings_in(matches: &ArgMatches<'_>) -> Option<RawSettings>
     ensures { result ≡ settings_in (rows_of (found_of matches.now)) }
 {
@@ -67,7 +79,7 @@ fn recording_in<'a>(matches: &ArgMatches<'a>) -> Option<Recording<'a>>
     ensures { option_map seen_recording result ≡ recording_in (rows_of (found_of matches.now)) }
 {
     let settings = settings_in(matches)?;
-    let seed = number_at(matches, "seed")?;
+    let seed = number_if(matches, "seed")?;
     let elf = text_at(matches, "elf")?;
     let log = text_at(matches, "log")?;
     let book = text_at(matches, "book")?;

@@ -1,7 +1,9 @@
 // The program on a store whose files stay.
-use bn_outside::{MemorySink, MemorySource, MemoryStore};
+use bn_outside::{Gate, MemorySink, MemorySource, MemoryStore};
 use bugnet::run;
 use std::alloc::{AllocError, Global};
+use std::sync::Wait;
+use std::thread::Threads;
 
 /// What calls of the program meet and leave.
 #[derive(Drop)]
@@ -35,7 +37,12 @@ impl Machine {
     }
 
     /// Runs the program, with empty outputs and no input.
-    pub fn run(&mut self, words: &[&str]) -> Result<u8, AllocError> {
+    pub fn run<G: Gate, R: Threads + Wait + Sync>(
+        &mut self,
+        rt: &R,
+        words: &[&str],
+        gate: &G,
+    ) -> Result<u8, AllocError> {
         let mut owned = Vec::new(self.alloc);
         owned.push(String::from_str(self.alloc, "bugnet")?)?;
         for word in words {
@@ -47,12 +54,14 @@ impl Machine {
         self.out = MemorySink::new(self.alloc, failing);
         self.err = MemorySink::new(self.alloc, Vec::new(self.alloc));
         Ok(run(
+            rt,
             self.alloc,
             &owned,
             &mut self.store,
             &mut input,
             &mut self.out,
             &mut self.err,
+            gate,
         ))
     }
 }

@@ -14,6 +14,8 @@
 //! | `failing-store CALL ..` | a store of no file, whose calls of these numbers fail |
 //! | `failing-out CALL ..` | the next call's out fails at its writes of these numbers |
 //! | `run WORD ..` | the program with these words |
+//! | `run-meet HARTS WORD ..` | the same, where the harts meet before their first turns |
+//! | `run-listed HEX WORD ..` | the same, where the harts take their turns in this order, a byte for each |
 //! | `size NAME`, `show NAME` | how long a file is, and its bytes |
 //! | `code WORD ..` | at most 64 code words at 0x10054, in hexadecimal, which runs have in place of a file |
 //! | `input HEX` | the bytes that their calls read |

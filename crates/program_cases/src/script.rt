@@ -3,7 +3,10 @@ use crate::machine::Machine;
 use crate::runs::Runs;
 use crate::words::{code, number, numbers, words_of};
 use crate::{files, hex};
+use bn_outside::{Gate, ListGate, MeetGate, OpenGate};
 use std::alloc::Global;
+use std::sync::Wait;
+use std::thread::Threads;
 
 // A file with these bytes in place of its own from a place on.
 fn patched(mut file: Vec<u8>, place: usize, bytes: &[u8]) -> Vec<u8> {
@@ -53,12 +56,44 @@ fn print_text<R: Print>(rt: &R, what: &str, text: &[u8]) -> anyhow::Result<()> {
 }
 
 // Runs the program, and prints what came of it.
-fn run<R: Print>(rt: &R, machine: &mut Machine, line: &str, words: &[&str]) -> anyhow::Result<()> {
-    let status = machine.run(words)?;
+fn run<G: Gate, R: Print + Threads + Wait + Sync>(
+    rt: &R,
+    machine: &mut Machine,
+    line: &str,
+    words: &[&str],
+    gate: &G,
+) -> anyhow::Result<()> {
+    let status = machine.run(rt, words, gate)?;
     println!(rt; "{line}")?;
     println!(rt; "status {status}")?;
     print_text(rt, "out", machine.out.written())?;
     print_text(rt, "err", machine.err.written())
+}
+
+// Runs the program as a line says: with a gate at which harts meet, or one that gives the order of their
+// turns, or with an open one.
+fn run_gated<R: Print + Threads + Wait + Sync>(
+    rt: &R,
+    alloc: Global,
+    machine: &mut Machine,
+    line: &str,
+    words: &[&str],
+) -> anyhow::Result<()> {
+    let verb = words.first().copied().unwrap_or("");
+    let word = words.get(1).copied().unwrap_or("");
+    let rest = words.get(2..).unwrap_or(&[]);
+    if verb == "run-meet" {
+        let gate = MeetGate::new(word.parse::<u8>()?);
+        run(rt, machine, line, rest, &gate)?;
+        println!(rt; "met {}", gate.met())?;
+    } else if verb == "run-listed" {
+        let gate = ListGate::new(alloc, &hex::bytes(alloc, word)?)?;
+        run(rt, machine, line, rest, &gate)?;
+        println!(rt; "kept {}", gate.kept())?;
+    } else {
+        run(rt, machine, line, words.get(1..).unwrap_or(&[]), &OpenGate)?;
+    }
+    Ok(())
 }
 
 // Prints how long a file is, and its bytes where they are to be seen.
@@ -94,7 +129,12 @@ impl Case {
     }
 
     // Does what a line about files and calls of the program says.
-    fn call_step<R: Print>(&mut self, rt: &R, line: &str, words: &[&str]) -> anyhow::Result<()> {
+    fn call_step<R: Print + Threads + Wait + Sync>(
+        &mut self,
+        rt: &R,
+        line: &str,
+        words: &[&str],
+    ) -> anyhow::Result<()> {
         let verb = words.first().copied().unwrap_or("");
         let name = words.get(1).copied().unwrap_or("");
         if verb == "failing-store" {
@@ -102,8 +142,8 @@ impl Case {
             self.machine = Machine::new(self.alloc, calls);
         } else if verb == "failing-out" {
             self.machine.failing = numbers(self.alloc, words.get(1..).unwrap_or(&[]))?;
-        } else if verb == "run" {
-            run(rt, &mut self.machine, line, words.get(1..).unwrap_or(&[]))?;
+        } else if verb == "run" || verb == "run-meet" || verb == "run-listed" {
+            run_gated(rt, self.alloc, &mut self.machine, line, words)?;
         } else if verb == "size" || verb == "show" {
             show(rt, &self.machine, name, verb == "show")?;
         } else {
@@ -115,7 +155,11 @@ impl Case {
     }
 
     /// Does what a line of the script says.
-    pub fn step<R: Print>(&mut self, rt: &R, line: &str) -> anyhow::Result<()> {
+    pub fn step<R: Print + Threads + Wait + Sync>(
+        &mut self,
+        rt: &R,
+        line: &str,
+    ) -> anyhow::Result<()> {
         let words = words_of(self.alloc, line)?;
         let verb = words.first().copied().unwrap_or("");
         if verb == "#" {

@@ -47,7 +47,7 @@ returns-in-Err-Refused-clause-kept g c =
 pub returns-in-Err-Refused-clause-others : goal.returns-in-Err-Refused-clause-others
 returns-in-Err-Refused-clause-others g c =
     let k = call (g.S.Store.files) (g.S.Store.counts) (g.O.Sink.written) (g.O.Sink.faults) (g.X.Sink.written) (g.X.Sink.faults) c.args.store.now c.args.out.now c.args.err.now c.args.store.now c.args.out.now c.refuse.new.err in
-    answers-few c.one_answer.ensures (command_in c.args.words.now) c.refuse.result k (returns-in-Err-Refused-clause-told g c)
+    answers-few (command_in c.args.words.now) c.refuse.result k (returns-in-Err-Refused-clause-told g c)
 
 pub returns-in-Err-OutOfMemory-clause-told : goal.returns-in-Err-OutOfMemory-clause-told
 returns-in-Err-OutOfMemory-clause-told g c =
@@ -76,7 +76,7 @@ returns-in-Err-OutOfMemory-clause-kept g c =
 pub returns-in-Err-OutOfMemory-clause-others : goal.returns-in-Err-OutOfMemory-clause-others
 returns-in-Err-OutOfMemory-clause-others g c =
     let k = call (g.S.Store.files) (g.S.Store.counts) (g.O.Sink.written) (g.O.Sink.faults) (g.X.Sink.written) (g.X.Sink.faults) c.args.store.now c.args.out.now c.args.err.now c.args.store.now c.args.out.now c.refuse-in-Err-OutOfMemory.new.err in
-    answers-few c.one_answer.ensures (command_in c.args.words.now) c.refuse-in-Err-OutOfMemory.result k (returns-in-Err-OutOfMemory-clause-told g c)
+    answers-few (command_in c.args.words.now) c.refuse-in-Err-OutOfMemory.result k (returns-in-Err-OutOfMemory-clause-told g c)
 
 pub returns-in-Ok-clause-told : goal.returns-in-Ok-clause-told
 returns-in-Ok-clause-told g c =
@@ -101,7 +101,7 @@ returns-in-Ok-clause-kept g c =
 pub returns-in-Ok-clause-others : goal.returns-in-Ok-clause-others
 returns-in-Ok-clause-others g c =
     let k = call (g.S.Store.files) (g.S.Store.counts) (g.O.Sink.written) (g.O.Sink.faults) (g.X.Sink.written) (g.X.Sink.faults) c.args.store.now c.args.out.now c.args.err.now c.obey.new.store c.obey.new.out c.obey.new.err in
-    answers-few c.one_answer.ensures (command_in c.args.words.now) c.obey.result k (returns-in-Ok-clause-told g c)
+    answers-few (command_in c.args.words.now) c.obey.result k (returns-in-Ok-clause-told g c)
 
 pub returns-in-Err-Refused-clause-recorded : goal.returns-in-Err-Refused-clause-recorded
 returns-in-Err-Refused-clause-recorded g c =
@@ -121,17 +121,17 @@ returns-in-Ok-clause-recorded g c =
 pub returns-in-Err-Refused-clause-done : goal.returns-in-Err-Refused-clause-done
 returns-in-Err-Refused-clause-done g c =
     let k = call (g.S.Store.files) (g.S.Store.counts) (g.O.Sink.written) (g.O.Sink.faults) (g.X.Sink.written) (g.X.Sink.faults) c.args.store.now c.args.out.now c.args.err.now c.args.store.now c.args.out.now c.refuse.new.err in
-    call-done c.each_can_be_done.ensures c.one_answer.ensures (command_in c.args.words.now) c.refuse.result k (returns-in-Err-Refused-clause-told g c)
+    call-done c.each_can_be_done.ensures (command_in c.args.words.now) c.refuse.result k (returns-in-Err-Refused-clause-told g c)
 
 pub returns-in-Err-OutOfMemory-clause-done : goal.returns-in-Err-OutOfMemory-clause-done
 returns-in-Err-OutOfMemory-clause-done g c =
     let k = call (g.S.Store.files) (g.S.Store.counts) (g.O.Sink.written) (g.O.Sink.faults) (g.X.Sink.written) (g.X.Sink.faults) c.args.store.now c.args.out.now c.args.err.now c.args.store.now c.args.out.now c.refuse-in-Err-OutOfMemory.new.err in
-    call-done c.each_can_be_done.ensures c.one_answer.ensures (command_in c.args.words.now) c.refuse-in-Err-OutOfMemory.result k (returns-in-Err-OutOfMemory-clause-told g c)
+    call-done c.each_can_be_done.ensures (command_in c.args.words.now) c.refuse-in-Err-OutOfMemory.result k (returns-in-Err-OutOfMemory-clause-told g c)
 
 pub returns-in-Ok-clause-done : goal.returns-in-Ok-clause-done
 returns-in-Ok-clause-done g c =
     let k = call (g.S.Store.files) (g.S.Store.counts) (g.O.Sink.written) (g.O.Sink.faults) (g.X.Sink.written) (g.X.Sink.faults) c.args.store.now c.args.out.now c.args.err.now c.obey.new.store c.obey.new.out c.obey.new.err in
-    call-done c.each_can_be_done.ensures c.one_answer.ensures (command_in c.args.words.now) c.obey.result k (returns-in-Ok-clause-told g c)
+    call-done c.each_can_be_done.ensures (command_in c.args.words.now) c.obey.result k (returns-in-Ok-clause-told g c)
 
 pub returns-in-Err-Refused-clause-saves : goal.returns-in-Err-Refused-clause-saves
 returns-in-Err-Refused-clause-saves g c =
