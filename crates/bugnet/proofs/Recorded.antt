@@ -7,7 +7,7 @@ use Rattle.bn_outside.specs.declared.turn_row.TurnRow.{TurnRow}
 use Rattle.log_file.specs.Layout.{spelling, file_bytes}
 use Rattle.log_record.specs.Spelling.{bytes_of, total}
 use Rattle.log_record.specs.declared.record.Record.{Record}
-use Rattle.log_ring.specs.Kept.{kept, Holds}
+use Rattle.log_ring.specs.Kept.{kept, HoldsLog}
 use Rattle.run_model.specs.Files.{kept_of, dropped_of, content_of, file_of}
 use Rattle.run_model.specs.Runs.{run_of}
 use Rattle.run_model.specs.declared.start.Start.{Start}
@@ -25,8 +25,8 @@ use Rattle.bugnet.specs.declared.answer.Recording.{Recording}
 use Rattle.bugnet.specs.declared.answer.RunEnd.{RunEnd}
 
 -- what is told, by its parts
-abbrev told : RunEnd → (out err log book : List ℕ) → Told
-told end out err log book = record { status = end_status end; out = out; err = err; saved = Some (record { log = log; book = book }) }
+abbrev told_of_parts : RunEnd → (out err log book : List ℕ) → Told
+told_of_parts end out err log book = record { status = end_status end; out = out; err = err; saved = Some (record { log = log; book = book }) }
 
 -- what err gains, by its parts
 abbrev on_err : List ℕ → ℕ → List (Option EndMark) → ℕ → List Record → List ℕ
@@ -45,7 +45,7 @@ recorded-so tells s closed rows r b version is k =
     let c = s.settings in
     let i = s.image in
     let run = run_of c i s.input.items b in
-    let holds : Holds closed.ring run.stream = is.log in
+    let holds : HoldsLog closed.ring run.stream = is.log in
     let records : closed.ring.records ≡ kept_of c run = holds.latest ∙ ap (λ (n : ℕ). kept n run.stream) is.size in
     let count : length closed.ring.records ≡ length (kept_of c run) = ap (λ (rs : List Record). length rs) records in
     let dropped : closed.ring.dropped ≡ dropped_of c run = omega (arith, holds.counted, count) in
@@ -62,11 +62,11 @@ recorded-so tells s closed rows r b version is k =
     k.log ∙ ap (λ (x : ℕ). log_with s x closed.ring.records) dropped ∙ ap (λ (x : List Record). log_with s (dropped_of c run) x) records ∙ sym version in
     let all = on_err run.machine.err (length b) (marks_of c run) (dropped_of c run) (kept_of c run) in
     let whole = file_of c i s.digest s.input.items b in
-    ap (λ (x : RunEnd). told x r.out.items r.err.items r.log.items r.book.items) end
-    ∙ ap (λ (x : List ℕ). told (end_by (marks_of c run)) x r.err.items r.log.items r.book.items) out
-    ∙ ap (λ (x : List ℕ). told (end_by (marks_of c run)) run.machine.out x r.log.items r.book.items) err
-    ∙ ap (λ (x : List ℕ). told (end_by (marks_of c run)) run.machine.out all x r.book.items) log
-    ∙ ap (λ (x : List ℕ). told (end_by (marks_of c run)) run.machine.out all whole x) k.book
+    ap (λ (x : RunEnd). told_of_parts x r.out.items r.err.items r.log.items r.book.items) end
+    ∙ ap (λ (x : List ℕ). told_of_parts (end_by (marks_of c run)) x r.err.items r.log.items r.book.items) out
+    ∙ ap (λ (x : List ℕ). told_of_parts (end_by (marks_of c run)) run.machine.out x r.log.items r.book.items) err
+    ∙ ap (λ (x : List ℕ). told_of_parts (end_by (marks_of c run)) run.machine.out all x r.book.items) log
+    ∙ ap (λ (x : List ℕ). told_of_parts (end_by (marks_of c run)) run.machine.out all whole x) k.book
 
 -- so is what is recorded of turns that it may take
 pub recording-run : {B : _} {E : Type 0} (tells : Bool) (s : Start) (closed : Closed B) (rows : List TurnRow) (list : List ℕ) (seed : Option ℕ) (result : Result Recording E)

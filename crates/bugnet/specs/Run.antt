@@ -125,7 +125,7 @@ pub record StoppedEarly (line : Option Line) (files : Files) (status : ℕ) (k :
 
 -- there is such an answer, of which this holds
 abbrev pub SomeTold : (Told → Type 0) → (Told → Type 0) → Type 0
-SomeTold Is Holds = (what : Told) × Is what × Holds what
+SomeTold Is Also = (what : Told) × Is what × Also what
 
 -- by the files that are there it tells what it has to answer, or was stopped before there was an answer
 abbrev pub TellsAnswer : Option Line → ℕ → Call → Type 0

@@ -6,15 +6,15 @@ use Rattle.bn_outside.specs.declared.turn_row.TurnRow.{TurnRow}
 use Rattle.run_model.specs.declared.start.Start.{Start}
 use Rattle.run_model.specs.Stands.Plain.{PlainParts, IsRun, everyone}
 use Rattle.run_model.specs.Turn.{Run, serve, is_orderly, halted}
-use Rattle.run_model.specs.Stands.Turning.{is_alive}
-use Rattle.log_ring.specs.Kept.{Held, Holds}
+use Rattle.run_model.specs.Stands.Turning.{is_live}
+use Rattle.log_ring.specs.Kept.{Held, HoldsLog}
 use Rattle.race_log.specs.Noted.{NotesDecide}
 use Rattle.run_laws.specs.History.{after_rows, are_orderly}
 use Rattle.bus_core.specs.Bus.{seen, IsState, IsHistory, IsLogged, AreTold, began_of, first_run, run_after, halted_if, row}
 use Rattle.bn_base.specs.Ranges.{IsSetting}
 use Rattle.file_laws.specs.Laws.{RingsKeepTheRules}
 use Rattle.bus_core.proofs.Order.{rules_are}
-use Rattle.bus_core.proofs.Rows.{after_snoc, lawful_snoc, orderly_snoc, not_both, live_as, none_alive}
+use Rattle.bus_core.proofs.Rows.{after_snoc, lawful_snoc, orderly_snoc, not_both, live_as, none_is_live}
 
 -- what one ask that was served says of the machine before and after it
 pub record Serves (p q : PlainParts) (k : ℕ) (ask : Ask) (o : Bool) (reply : Reply) (guarded : Bool) : Type 0 where
@@ -28,7 +28,7 @@ false_true : true ≡ false → ⊥
 false_true e = cc
 
 -- a row more, of a bus that wasn't halted
-row_more : (p q : PlainParts) (d d' o : Bool) (rows : List TurnRow) (k : ℕ) (ask : Ask) (reply : Reply) (guarded : Bool) → length p.trace.harts.items ≡ p.start.settings.harts → is_alive p k ≡ true → Serves p q k ask o reply guarded → d' ≡ (d || not o)
+row_more : (p q : PlainParts) (d d' o : Bool) (rows : List TurnRow) (k : ℕ) (ask : Ask) (reply : Reply) (guarded : Bool) → length p.trace.harts.items ≡ p.start.settings.harts → is_live p k ≡ true → Serves p q k ask o reply guarded → d' ≡ (d || not o)
     → IsHistory p false d rows → IsHistory q false d' (rows ++ row k ask reply guarded ∷ [])
 row_more p q d d' o rows k ask reply guarded len live s ed h =
     let c = p.start.settings in let i = p.start.image in
@@ -44,9 +44,9 @@ row_more p q d d' o rows k ask reply guarded len live s ed h =
           (subst (λ (x : Run). IsRun q x) (sym (after_snoc c i first rows r)) (s.runs run h.run));
     }
 
-pub history_more : (p q : PlainParts) (h d d' o : Bool) (rows : List TurnRow) (k : ℕ) (ask : Ask) (reply : Reply) (guarded : Bool) → length p.trace.harts.items ≡ p.start.settings.harts → is_alive p k ≡ true → Serves p q k ask o reply guarded → d' ≡ (d || not o)
+pub history_more : (p q : PlainParts) (h d d' o : Bool) (rows : List TurnRow) (k : ℕ) (ask : Ask) (reply : Reply) (guarded : Bool) → length p.trace.harts.items ≡ p.start.settings.harts → is_live p k ≡ true → Serves p q k ask o reply guarded → d' ≡ (d || not o)
     → IsHistory p h d rows → IsHistory q h d' (rows ++ row k ask reply guarded ∷ [])
-history_more p q true d d' o rows k ask reply guarded len live s ed is = absurd (false_true (none_alive p.trace.harts.items (after_rows p.start.settings p.start.image (first_run (began_of p.start)) rows).harts k is.run.trace.harts live))
+history_more p q true d d' o rows k ask reply guarded len live s ed is = absurd (false_true (none_is_live p.trace.harts.items (after_rows p.start.settings p.start.image (first_run (began_of p.start)) rows).harts k is.run.trace.harts live))
 history_more p q false d d' o rows k ask reply guarded len live s ed is = row_more p q d d' o rows k ask reply guarded len live s ed is
 
 -- ---- other changes
@@ -102,7 +102,7 @@ run_is decide p h d told run is = record {
 -- rows that led to what is kept, and its ring
 pub logged_is : RingsKeepTheRules → (p : PlainParts) (h d : Bool) (told rows : List TurnRow) (ring : Held) → IsSetting p.start.settings → ring.size ≡ p.start.settings.log_size → ring ≡ p.trace.log.ring → IsHistory p h d rows → IsLogged (seen p h d told) ring rows
 logged_is law p h d told rows ring setting size e is =
-    let log : Holds ring (run_after (began_of p.start) h rows).stream = subst (λ (r : Held). Holds r (run_after (began_of p.start) h rows).stream) (sym e) is.run.trace.log.holds in record {
+    let log : HoldsLog ring (run_after (began_of p.start) h rows).stream = subst (λ (r : Held). HoldsLog r (run_after (began_of p.start) h rows).stream) (sym e) is.run.trace.log.holds in record {
       told = is.told;
       state = state_is p h d told (run_after (began_of p.start) h rows) is.run;
       log = log;

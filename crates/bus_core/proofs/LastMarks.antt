@@ -3,7 +3,7 @@ use Rattle.std.proofs.Common.{◌≡◌, ℕ, zero, suc, ◌+◌, ◌<◌, Bool,
 use Rattle.std.specs.Prelude.{Option, Some, slice_get}
 use Rattle.bn_base.specs.declared.end_mark.EndMark.{EndMark}
 use Rattle.log_record.specs.declared.record.Record.{Record}
-use Rattle.log_ring.specs.Kept.{Held, Holds, kept}
+use Rattle.log_ring.specs.Kept.{Held, HoldsLog, kept}
 use Rattle.bn_outside.specs.declared.turn_row.TurnRow.{TurnRow}
 use Rattle.run_model.specs.declared.hart.Hart.{Hart}
 use Rattle.run_model.specs.Turn.{Run}
@@ -46,7 +46,7 @@ halted_mark : (b : Bool) (run : Run) (h : ℕ) → ((halted_if b run).harts h).m
 halted_mark true run h = refl
 halted_mark false run h = refl
 
-pub last_marks_are : SuffixIsKept → KeptEndsAreMarks → (b : Began) (halted : Bool) (rows : List TurnRow) (ring : Held) (ends : List (Option EndMark)) → Holds ring (run_after b halted rows).stream
+pub last_marks_are : SuffixIsKept → KeptEndsAreMarks → (b : Began) (halted : Bool) (rows : List TurnRow) (ring : Held) (ends : List (Option EndMark)) → HoldsLog ring (run_after b halted rows).stream
     → ends ≡ marks 0 b.settings.harts (run_after b halted rows).harts → AreLastMarks ring.records ends
 last_marks_are suffix law b halted rows ring ends log is h m within e =
     let run = after_rows b.settings b.image (first_run b) rows in

@@ -6,7 +6,7 @@ use Rattle.bn_base.specs.declared.settings.RawSettings.{RawSettings}
 use Rattle.log_record.specs.declared.record.Record.{Record}
 use Rattle.log_record.specs.Spelling.{Fits}
 use Rattle.log_order.specs.Order.{broken_by}
-use Rattle.log_ring.specs.Kept.{Held, Holds}
+use Rattle.log_ring.specs.Kept.{Held, HoldsLog}
 use Rattle.bn_outside.specs.declared.turn_row.TurnRow.{TurnRow}
 use Rattle.run_model.specs.Turn.{Run}
 use Rattle.run_model.specs.Runs.{is_over}
@@ -21,12 +21,12 @@ halted_counts true c run dropped rs k = record { views = k.views; ran = k.ran; e
 halted_counts false c run dropped rs k = k
 
 -- the records of a ring after rows, and after a halt
-pub rules_are : RingsKeepTheRules → (b : Began) (halted disordered : Bool) (rows : List TurnRow) (ring : Held) → IsSetting b.settings → AreTold b disordered rows → Holds ring (run_after b halted rows).stream → ring.size ≡ b.settings.log_size
+pub rules_are : RingsKeepTheRules → (b : Began) (halted disordered : Bool) (rows : List TurnRow) (ring : Held) → IsSetting b.settings → AreTold b disordered rows → HoldsLog ring (run_after b halted rows).stream → ring.size ≡ b.settings.log_size
     → KeepsRules b.settings (counts_of (run_after b halted rows)) ring.dropped ring.records
 rules_are law b halted disordered rows ring setting told log size =
     let run = after_rows b.settings b.image (first_run b) rows in
     halted_counts halted b.settings run ring.dropped ring.records
-    (law b.settings b.image b.input rows ring setting told.lawful (subst (λ (rs : List Record). Holds ring rs) (halted_stream halted run) log) size)
+    (law b.settings b.image b.input rows ring setting told.lawful (subst (λ (rs : List Record). HoldsLog ring rs) (halted_stream halted run) log) size)
 
 -- ---- once the run is finished
 
@@ -56,7 +56,7 @@ order_is law s rows ring setting l size fit whole =
       lawful = l.told.lawful;
       orderly = orderly_if s.disordered (are_orderly b.settings b.image (first_run b) rows) l.told.orderly end.1;
       over = subst (λ (r : Run). is_over b.settings r ≡ true) same end.2;
-      log = subst (λ (r : Run). Holds ring r.stream) same l.log;
+      log = subst (λ (r : Run). HoldsLog ring r.stream) same l.log;
       size = size;
       fit = fit;
     } in

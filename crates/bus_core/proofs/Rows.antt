@@ -5,7 +5,7 @@ use Rattle.bn_base.specs.Programs.{Program}
 use Rattle.bn_base.specs.declared.settings.RawSettings.{RawSettings}
 use Rattle.bn_outside.specs.declared.turn_row.TurnRow.{TurnRow}
 use Rattle.run_model.specs.declared.hart.Hart.{Hart}
-use Rattle.run_model.specs.Stands.Harts.{AreHarts, alive}
+use Rattle.run_model.specs.Stands.Harts.{AreHarts, is_live_hart}
 use Rattle.run_model.specs.Runs.{is_live}
 use Rattle.run_model.specs.Turn.{Run, serve, is_orderly, dead}
 use Rattle.run_laws.specs.History.{after_rows, are_orderly, IsLawful}
@@ -43,11 +43,11 @@ not_both a b d o e ed eo ee = ee ∙ ap (λ (x : Bool). x || not o) ed ∙ ap (�
 -- ---- live harts
 
 -- what is live stands in the list
-pub alive_in : (hs : List Hart) (k : ℕ) → alive (slice_get hs k) ≡ true → k < length hs
-alive_in [] zero e = cc
-alive_in [] (suc k) e = cc
-alive_in (h ∷ hs) zero e = omega arith
-alive_in (h ∷ hs) (suc k) e = omega (arith, alive_in hs k e)
+pub live_within : (hs : List Hart) (k : ℕ) → is_live_hart (slice_get hs k) ≡ true → k < length hs
+live_within [] zero e = cc
+live_within [] (suc k) e = cc
+live_within (h ∷ hs) zero e = omega arith
+live_within (h ∷ hs) (suc k) e = omega (arith, live_within hs k e)
 
 below : (k n : ℕ) → k < n → nat_lt k n ≡ true
 below k n h = grind (arith, h)
@@ -55,11 +55,11 @@ below k n h = grind (arith, h)
 and_both : (a b : Bool) → a ≡ true → b ≡ true → (a && b) ≡ true
 and_both a b ea eb = ap (λ (x : Bool). x && b) ea ∙ eb
 
-pub live_as : (c : RawSettings) (run : Run) (hs : List Hart) (k : ℕ) → AreHarts hs run.harts → length hs ≡ c.harts → alive (slice_get hs k) ≡ true → is_live c run k ≡ true
+pub live_as : (c : RawSettings) (run : Run) (hs : List Hart) (k : ℕ) → AreHarts hs run.harts → length hs ≡ c.harts → is_live_hart (slice_get hs k) ≡ true → is_live c run k ≡ true
 live_as c run hs k are len live =
-    let within = alive_in hs k live in
-    and_both (nat_lt k c.harts) (run.harts k).live (below k c.harts (omega (arith, within, len))) (sym (ap alive (are k within)) ∙ live)
+    let within = live_within hs k live in
+    and_both (nat_lt k c.harts) (run.harts k).live (below k c.harts (omega (arith, within, len))) (sym (ap is_live_hart (are k within)) ∙ live)
 
 -- where all harts were ended, none is live
-pub none_alive : (hs : List Hart) (f : ℕ → Hart) (k : ℕ) → AreHarts hs (λ j. dead (f j)) → alive (slice_get hs k) ≡ true → true ≡ false
-none_alive hs f k are live = sym live ∙ ap alive (are k (alive_in hs k live))
+pub none_is_live : (hs : List Hart) (f : ℕ → Hart) (k : ℕ) → AreHarts hs (λ j. dead (f j)) → is_live_hart (slice_get hs k) ≡ true → true ≡ false
+none_is_live hs f k are live = sym live ∙ ap is_live_hart (are k (live_within hs k live))

@@ -6,7 +6,7 @@ use Rattle.bn_base.specs.declared.settings.RawSettings.{RawSettings}
 use Rattle.rv_meaning.specs.declared.asks.Ask.{Ask}
 use Rattle.rv_meaning.specs.declared.asks.Reply.{Reply}
 use Rattle.log_record.specs.Spelling.{total}
-use Rattle.log_ring.specs.Kept.{Held, Holds}
+use Rattle.log_ring.specs.Kept.{Held, HoldsLog}
 use Rattle.race_log.specs.Points.{Point}
 use Rattle.race_log.specs.declared.shadow.Shadow.{Shadow}
 use Rattle.race_log.specs.Stands.{Stands}
@@ -18,7 +18,7 @@ use Rattle.run_model.specs.Stands.Plain.{PlainParts, IsRun, everyone}
 use Rattle.run_model.specs.Stands.Parts.{MachineParts, IsMachine}
 use Rattle.first_load_bits.specs.Stands.{Contents}
 use Rattle.run_model.specs.Stands.EachCache.{AreCaches}
-use Rattle.run_model.specs.Stands.Harts.{AreHarts, alive}
+use Rattle.run_model.specs.Stands.Harts.{AreHarts, is_live_hart}
 use Rattle.run_model.specs.Turn.{Run, halted, serve}
 use Rattle.run_model.specs.Runs.{start}
 use Rattle.run_laws.specs.History.{after_rows, are_orderly, IsLawful}
@@ -77,7 +77,7 @@ pub record IsState (s : Seen) (run : Run) : Type 0 where
   pub harts : AreHarts s.harts run.harts
   pub caches : AreCaches s.began.settings s.caches run.events
   pub points : AreNotes s.notes run.points
-  pub log : Holds s.ring run.stream
+  pub log : HoldsLog s.ring run.stream
   pub counted : s.bytes ≡ total run.stream
   pub bytes : s.bytes ≡ run.bytes
   pub turns : s.turns ≡ run.turns
@@ -134,11 +134,11 @@ pub record IsTold (s : Seen) : Type 0 where
 pub record IsLogged (s : Seen) (ring : Held) (rows : List TurnRow) : Type 0 where
   pub told : AreTold s.began s.disordered rows
   pub state : IsState s (run_after s.began s.halted rows)
-  pub log : Holds ring (run_after s.began s.halted rows).stream
+  pub log : HoldsLog ring (run_after s.began s.halted rows).stream
   pub rules : KeepsRules s.began.settings (counts_of (run_after s.began s.halted rows)) ring.dropped ring.records
 
-abbrev pub live_in : Seen → ℕ → Bool
-live_in s k = alive (slice_get s.harts k)
+abbrev pub is_live : Seen → ℕ → Bool
+is_live s k = is_live_hart (slice_get s.harts k)
 
 -- the last marks of n harts from k on
 abbrev pub marks : ℕ → ℕ → (ℕ → Hart) → List (Option EndMark)

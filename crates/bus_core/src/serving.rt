@@ -4,13 +4,14 @@ ghost use Rattle.std.specs.List.{AllByRecursion};
 ghost use Rattle.rv_meaning.specs.Orderly.{is_reply_to};
 ghost use Rattle.log_record.specs.Spelling.{Fits};
 ghost use Rattle.log_order.specs.Order.{broken_by};
-ghost use Rattle.log_ring.specs.Kept.{Holds};
+ghost use Rattle.log_ring.specs.Kept.{HoldsLog};
 ghost use Rattle.run_model.specs.Stands.Harts.{hart_in};
-ghost use Rattle.run_model.specs.Runs.{is_live, is_over, most_turns};
+ghost use Rattle.run_model.specs.Runs.{is_over, most_turns};
+ghost use Rattle.run_model.specs.Runs as runs;
 ghost use Rattle.run_model.specs.Turn.{Run, budget, halted, is_orderly};
 ghost use Rattle.bn_outside.specs.declared.turn_row.TurnRow.{TurnRow};
 ghost use Rattle.run_laws.specs.Ends.{AreLastMarks};
-ghost use Rattle.bus_core.specs.Bus.{began_of, first_run, run_after, served_run, served_reply, served_guarded, row, live_in, marks, IsState, IsTold, IsLogged};
+ghost use Rattle.bus_core.specs.Bus.{began_of, first_run, run_after, served_run, served_reply, served_guarded, row, is_live, marks, IsState, IsTold, IsLogged};
 
 use crate::bus::Bus;
 use crate::closed::Closed;
@@ -65,10 +66,10 @@ impl<B: Book> Bus<B> {
 
     /// Whether a hart is there and live.
     pub fn live(&self, hart: HartId) -> bool
-        ensures value { result ≡ live_in self.now hart }
-        ensures run { (run : Run) → IsState self.now run → result ≡ is_live self.now.began.settings run hart }
-        ensures within { live_in self.now hart ≡ true → hart < self.now.began.settings.harts }
-        ensures left { live_in self.now hart ≡ true → self.now.turns < most_turns self.now.began.settings }
+        ensures value { result ≡ is_live self.now hart }
+        ensures run { (run : Run) → IsState self.now run → result ≡ runs.is_live self.now.began.settings run hart }
+        ensures within { is_live self.now hart ≡ true → hart < self.now.began.settings.harts }
+        ensures left { is_live self.now hart ≡ true → self.now.turns < most_turns self.now.began.settings }
     {
         self.plain.live(hart)
     }
@@ -97,7 +98,7 @@ impl<B: Book> Bus<B> {
     /// All memory is found first. On `Err`, for want of it, nothing has changed: served again, the ask has
     /// the same reply and leaves the same.
     pub fn serve(&mut self, hart: HartId, ask: &Ask) -> Result<(Reply, bool), AllocError>
-        requires { live_in self.old hart ≡ true }
+        requires { is_live self.old hart ≡ true }
         ensures reply { IfOk result (λ r. (run : Run) → IsState self.old run → r.0 ≡ served_reply self.old.began run hart ask.now) }
         ensures fits { IfOk result (λ r. IsTrue (is_reply_to ask.now.want r.0)) }
         ensures guarded { IfOk result (λ r. (run : Run) → IsState self.old run → r.1 ≡ served_guarded self.old.began run hart ask.now) }
@@ -139,7 +140,7 @@ impl<B: Book> Bus<B> {
         ensures told { B.tells ≡ true → IsLogged self result.ring self.rows }
         ensures some { (rows : List TurnRow) × IsLogged self result.ring rows }
         ensures size { result.ring.size ≡ self.began.settings.log_size }
-        ensures log { (run : Run) → IsState self run → Holds result.ring run.stream }
+        ensures log { (run : Run) → IsState self run → HoldsLog result.ring run.stream }
         ensures out { (run : Run) → IsState self run → result.out.items ≡ run.machine.out }
         ensures err { (run : Run) → IsState self run → result.err.items ≡ run.machine.err }
         ensures ends { (run : Run) → IsState self run → result.ends.items ≡ marks 0 self.began.settings.harts run.harts }

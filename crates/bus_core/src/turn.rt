@@ -3,7 +3,7 @@ ghost use Rattle.std.specs.Prelude.{◌≡◌, ◌∷◌, ◌++◌, [], Bool, tr
 ghost use Rattle.run_model.specs.Turn.{Run, serve, is_orderly};
 ghost use Rattle.run_model.specs.Stands.Harts.{hart_in};
 ghost use Rattle.run_model.specs.Stands.Plain.{IsRun};
-ghost use Rattle.run_model.specs.Stands.Turning.{parts, is_alive};
+ghost use Rattle.run_model.specs.Stands.Turning.{parts, is_live};
 ghost use Rattle.bus_core.specs.Bus.{row};
 
 use bn_base::HartId;
@@ -19,7 +19,7 @@ fn take_orderly<B: Book>(
     hart: HartId,
     ask: &Ask,
 ) -> Result<(Reply, bool), AllocError>
-    requires alive { is_alive (parts plain.old) hart ≡ true }
+    requires live { is_live (parts plain.old) hart ≡ true }
     requires orderly { IsTrue (is_orderly (parts plain.old).start.settings (parts plain.old).start.image (hart_in (parts plain.old).trace.harts.items hart) ask.now) }
     requires meant { (run : Run) → IsRun (parts plain.old) run → is_orderly (parts plain.old).start.settings (parts plain.old).start.image (run.harts hart) ask.now ≡ true }
     ensures reply { IfOk result (λ r. (run : Run) → IsRun (parts plain.old) run → r.0 ≡ (serve (parts plain.old).start.settings (parts plain.old).start.image run hart ask.now).reply) }
@@ -50,7 +50,7 @@ fn take_disorderly<B: Book>(
     hart: HartId,
     ask: &Ask,
 ) -> Result<(Reply, bool), AllocError>
-    requires alive { is_alive (parts plain.old) hart ≡ true }
+    requires live { is_live (parts plain.old) hart ≡ true }
     requires meant { (run : Run) → IsRun (parts plain.old) run → is_orderly (parts plain.old).start.settings (parts plain.old).start.image (run.harts hart) ask.now ≡ false }
     ensures reply { IfOk result (λ r. (run : Run) → IsRun (parts plain.old) run → r.0 ≡ (serve (parts plain.old).start.settings (parts plain.old).start.image run hart ask.now).reply) }
     ensures guarded { IfOk result (λ r. (run : Run) → IsRun (parts plain.old) run → r.1 ≡ (serve (parts plain.old).start.settings (parts plain.old).start.image run hart ask.now).guarded) }
@@ -81,7 +81,7 @@ pub fn take<B: Book>(
     ask: &Ask,
     orderly: bool,
 ) -> Result<(Reply, bool), AllocError>
-    requires alive { is_alive (parts plain.old) hart ≡ true }
+    requires live { is_live (parts plain.old) hart ≡ true }
     requires orderly { orderly ≡ is_orderly (parts plain.old).start.settings (parts plain.old).start.image (hart_in (parts plain.old).trace.harts.items hart) ask.now }
     requires meant { (run : Run) → IsRun (parts plain.old) run → orderly ≡ is_orderly (parts plain.old).start.settings (parts plain.old).start.image (run.harts hart) ask.now }
     ensures reply { IfOk result (λ r. (run : Run) → IsRun (parts plain.old) run → r.0 ≡ (serve (parts plain.old).start.settings (parts plain.old).start.image run hart ask.now).reply) }

@@ -4,7 +4,7 @@ use Rattle.std.proofs.Math.ListN.{get_or-map}
 use Rattle.std.proofs.lemmas.List.{ext_get_or, get_or_default, get_or_past, get_or-set_same, get_or-set_other, length-set, length-map}
 use Rattle.std.proofs.lemmas.List.FromFn.{length-map-range_with_len, get_or-map-range_with_len}
 use Rattle.std.proofs.lemmas.Bool.{cases_eq, cases_lt, false≢true, eq-eqb, ne_eqb}
-use Rattle.bus_memory.specs.Contents.{Contents, Holds, updated, has_page}
+use Rattle.bus_memory.specs.Contents.{Contents, HoldsMap, updated, has_page}
 use Rattle.bus_memory.specs.Frames.{Frame, no_frame, word_of, contents_of}
 
 pub length_words : (fs : List Frame) → length (contents_of fs).words ≡ 1024 * length fs
@@ -119,7 +119,7 @@ put_in fs n j a v f g page place below at len is =
     by_page m here (inr e) = ap (λ (h : Frame). h.made) (get_or-set_other fs n m g no_frame e)
 
 -- a list in which an address's word is written stands for the map that is updated there
-pub holds_put : (ws : List ℕ) (a v : ℕ) (m : ℕ → ℕ) → a % 4 ≡ 0 → a < 4 * length ws → Holds ws m → Holds (set ws (a / 4) v) (updated a v m)
+pub holds_put : (ws : List ℕ) (a v : ℕ) (m : ℕ → ℕ) → a % 4 ≡ 0 → a < 4 * length ws → HoldsMap ws m → HoldsMap (set ws (a / 4) v) (updated a v m)
 holds_put ws a v m aligned mapped h = record { at = at }
   where
     by_place : (b : ℕ) → b % 4 ≡ 0 → b < 4 * length ws → (b ≡ a) ⊎ (b ≡ a → ⊥) → get_or (set ws (a / 4) v) (b / 4) 0 ≡ updated a v m b

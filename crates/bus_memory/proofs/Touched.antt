@@ -4,7 +4,7 @@ use Rattle.std.specs.List.{list_any}
 use Rattle.std.specs.Prelude.{Option, None}
 use Rattle.std.proofs.lemmas.Bool.{cases_lt}
 use Rattle.bn_base.specs.Programs.{Program, Part, AreApart, end_of, is_in, part_or, part_at, first_in, first_at}
-use Rattle.bus_memory.specs.Contents.{Holds, has_page, shares_page, is_touched}
+use Rattle.bus_memory.specs.Contents.{HoldsMap, has_page, shares_page, is_touched}
 use Rattle.bus_memory.specs.Frames.{Frame, no_frame, contents_of, IsFirst}
 use Rattle.bus_memory.proofs.Laws.{length_words, word_at, made_at, no_page_at}
 
@@ -49,7 +49,7 @@ abbrev pub FirstPages : Program → List Frame → ℕ → Type 0
 FirstPages i fs n = (j : ℕ) → j < n → IsFirst i j (get_or fs j no_frame)
 
 -- they hold the program's first words
-pub first_words_held : (i : Program) (fs : List Frame) (n : ℕ) → n ≡ length fs → FirstPages i fs n → Holds (contents_of fs).words (first_at i)
+pub first_words_held : (i : Program) (fs : List Frame) (n : ℕ) → n ≡ length fs → FirstPages i fs n → HoldsMap (contents_of fs).words (first_at i)
 first_words_held i fs n len first = record { at = at }
   where
     at : (a : ℕ) → a % 4 ≡ 0 → a < 4 * length (contents_of fs).words → get_or (contents_of fs).words (a / 4) 0 ≡ first_at i a

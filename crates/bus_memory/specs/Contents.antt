@@ -9,7 +9,7 @@ pub record Contents : Type 0 where
   pub made : List Bool
 
 -- the words stand for a map from addresses: each aligned address has the map's word
-pub record Holds (words : List ℕ) (m : ℕ → ℕ) : Type 0 where
+pub record HoldsMap (words : List ℕ) (m : ℕ → ℕ) : Type 0 where
   pub at : (a : ℕ) → a % 4 ≡ 0 → a < 4 * length words → get_or words (a / 4) 0 ≡ m a
 
 -- a map, but v at a

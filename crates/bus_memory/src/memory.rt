@@ -1,7 +1,7 @@
 // Memory in pages.
 ghost use Rattle.std.specs.Prelude.{◌≡◌, ◌≤◌, ◌<◌, ◌+◌, ◌*◌, ◌/◌, ◌%◌, ◌||◌, ◌^◌, ℕ, true, length, slice_index, slice_set, vec_len, IfOk, IsOk, OnOk, OnErr};
 ghost use Rattle.bn_base.specs.Programs.{first_at};
-ghost use Rattle.bus_memory.specs.Contents.{Holds, updated, has_page, HasPages, shares_page, is_touched};
+ghost use Rattle.bus_memory.specs.Contents.{HoldsMap, updated, has_page, HasPages, shares_page, is_touched};
 
 use crate::first::first_page;
 use crate::page::{PAGE_BYTES, PAGE_WORDS, Page};
@@ -46,7 +46,7 @@ fn place_of(addr: Addr) -> usize
 impl Memory {
     /// The memory of a program before it runs. The pages that a segment touches are made.
     pub fn new(alloc: Global, image: &Image) -> Result<Memory, AllocError>
-        ensures map { IfOk result (λ m. Holds m.words (first_at image.now)) }
+        ensures map { IfOk result (λ m. HoldsMap m.words (first_at image.now)) }
         ensures size { IfOk result (λ m. 4 * length m.words ≡ image.now.memory) }
         ensures pages { IfOk result (λ m. (a : ℕ) → has_page m a ≡ is_touched image.now (a / 4096)) }
     {
@@ -75,7 +75,7 @@ impl Memory {
         requires aligned { addr % 4 ≡ 0 }
         requires mapped { addr < 4 * length self.now.words }
         ensures value { result ≡ slice_index self.now.words (addr / 4) }
-        ensures map { (m : ℕ → ℕ) → Holds self.now.words m → result ≡ m addr }
+        ensures map { (m : ℕ → ℕ) → HoldsMap self.now.words m → result ≡ m addr }
     {
         self.pages[page_of(addr)].word(place_of(addr))
     }
@@ -86,7 +86,7 @@ impl Memory {
         requires made { has_page self.old addr ≡ true }
         ensures value { self.new ≡ record self.old { words = slice_set self.old.words (addr / 4) value } }
         ensures size { length self.new.words ≡ length self.old.words }
-        ensures map { (m : ℕ → ℕ) → Holds self.old.words m → Holds self.new.words (updated addr value m) }
+        ensures map { (m : ℕ → ℕ) → HoldsMap self.old.words m → HoldsMap self.new.words (updated addr value m) }
     {
         self.pages[page_of(addr)].put(place_of(addr), value);
     }

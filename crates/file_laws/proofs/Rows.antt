@@ -17,7 +17,7 @@ use Rattle.log_order.specs.Rules.{fresh, is_over}
 use Rattle.log_order.specs.Order.{after_all, terms_of, late_edge, broken, broken_by}
 use Rattle.log_order.specs.Suffix.{Keeps, IsEarly, EndsLast}
 use Rattle.log_order.specs.Weak.{AreWeak}
-use Rattle.log_ring.specs.Kept.{Held, Holds, kept}
+use Rattle.log_ring.specs.Kept.{Held, HoldsLog, kept}
 use Rattle.run_model.specs.declared.hart.Hart.{Hart}
 use Rattle.run_model.specs.Turn.{Run, Served, serve, serve_disorderly, served_if, is_orderly}
 use Rattle.run_model.specs.Runs.{is_live, any_live}
@@ -130,13 +130,13 @@ kept_rules suffix given rules c run w =
 counted_is : (d l s : ℕ) → d + l ≡ s → d ≡ s - l
 counted_is d l s e = omega (arith, e)
 
-pub held_records : (c : RawSettings) (run : Run) (ring : Held) → Holds ring run.stream → ring.size ≡ c.log_size → ring.records ≡ kept_of c run
+pub held_records : (c : RawSettings) (run : Run) (ring : Held) → HoldsLog ring run.stream → ring.size ≡ c.log_size → ring.records ≡ kept_of c run
 held_records c run ring log size = log.latest ∙ ap (λ (n : ℕ). kept n run.stream) size
 
-pub held_dropped : (c : RawSettings) (run : Run) (ring : Held) → Holds ring run.stream → ring.size ≡ c.log_size → ring.dropped ≡ dropped_of c run
+pub held_dropped : (c : RawSettings) (run : Run) (ring : Held) → HoldsLog ring run.stream → ring.size ≡ c.log_size → ring.dropped ≡ dropped_of c run
 held_dropped c run ring log size = counted_is ring.dropped (length ring.records) (length run.stream) log.counted ∙ ap (λ (rs : List Record). length run.stream - length rs) (held_records c run ring log size)
 
-pub held_rules : (c : RawSettings) (run : Run) (ring : Held) → Holds ring run.stream → ring.size ≡ c.log_size → KeepsRules c (counts_of run) (dropped_of c run) (kept_of c run) → KeepsRules c (counts_of run) ring.dropped ring.records
+pub held_rules : (c : RawSettings) (run : Run) (ring : Held) → HoldsLog ring run.stream → ring.size ≡ c.log_size → KeepsRules c (counts_of run) (dropped_of c run) (kept_of c run) → KeepsRules c (counts_of run) ring.dropped ring.records
 held_rules c run ring log size rules =
     subst (λ (n : ℕ). KeepsRules c (counts_of run) n ring.records) (sym (held_dropped c run ring log size))
     (subst (λ (rs : List Record). KeepsRules c (counts_of run) (dropped_of c run) rs) (sym (held_records c run ring log size)) rules)

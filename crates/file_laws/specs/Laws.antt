@@ -5,7 +5,7 @@ use Rattle.bn_base.specs.Programs.{Program}
 use Rattle.bn_base.specs.Ranges.{IsSetting}
 use Rattle.bn_base.specs.declared.settings.RawSettings.{RawSettings}
 use Rattle.bn_outside.specs.declared.turn_row.TurnRow.{TurnRow}
-use Rattle.log_ring.specs.Kept.{Held, Holds}
+use Rattle.log_ring.specs.Kept.{Held, HoldsLog}
 use Rattle.log_order.specs.Order.{broken_by}
 use Rattle.log_order.specs.Content.{Content, IsContent}
 use Rattle.log_file.specs.declared.error.FileError.{FileError}
@@ -29,7 +29,7 @@ KeptRecordsKeepTheRules = (c : RawSettings) (i : Program) (input : List ℕ) (ro
 -- So do the records of a ring of the log's size that holds the log
 abbrev pub RingsKeepTheRules : Type 0
 RingsKeepTheRules = (c : RawSettings) (i : Program) (input : List ℕ) (rows : List TurnRow) (ring : Held) → IsSetting c → IsLawful c i (start c i input) rows
-    → let run = after_rows c i (start c i input) rows in Holds ring run.stream → ring.size ≡ c.log_size → KeepsRules c (counts_of run) ring.dropped ring.records
+    → let run = after_rows c i (start c i input) rows in HoldsLog ring run.stream → ring.size ≡ c.log_size → KeepsRules c (counts_of run) ring.dropped ring.records
 
 -- After lawful rows of orderly asks that leave no hart live, they keep all rules
 abbrev pub FinishedLogsAreInOrder : Type 0

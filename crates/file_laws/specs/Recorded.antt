@@ -7,7 +7,7 @@ use Rattle.bn_base.specs.declared.settings.RawSettings.{RawSettings}
 use Rattle.bn_outside.specs.declared.turn_row.TurnRow.{TurnRow}
 use Rattle.log_record.specs.declared.record.Record.{Record}
 use Rattle.log_record.specs.Spelling.{Fits}
-use Rattle.log_ring.specs.Kept.{Held, Holds}
+use Rattle.log_ring.specs.Kept.{Held, HoldsLog}
 use Rattle.log_order.specs.declared.view.HartView.{HartView}
 use Rattle.log_order.specs.Order.{after_all, terms_of}
 use Rattle.log_order.specs.Rules.{fresh}
@@ -35,7 +35,7 @@ pub record HoldsLogOfRows (c : RawSettings) (i : Program) (input : List ℕ) (ro
   pub lawful : IsLawful c i (start c i input) rows
   pub orderly : are_orderly c i (start c i input) rows ≡ true
   pub over : is_over c (after_rows c i (start c i input) rows) ≡ true
-  pub log : Holds ring (after_rows c i (start c i input) rows).stream
+  pub log : HoldsLog ring (after_rows c i (start c i input) rows).stream
   pub size : ring.size ≡ c.log_size
   pub fit : AllByRecursion (Fits 2) ring.records
 

@@ -93,9 +93,9 @@ only r row e = cc
 
 module _ (i : Program) (h : ℕ) (s t : HartState) (called : Bool) (a b : Side) (row : Row) where
   -- the reply that the row tells is the one that the state after it has
-  told : (k : Want) (reply : Reply) (load store : Option (ℕ × ℕ)) (u : HartState) → u ≡ t → u ≡ absorbed (record { state = s; want = k }) reply → row_of h i s u load store ≡ row
+  reply_told : (k : Want) (reply : Reply) (load store : Option (ℕ × ℕ)) (u : HartState) → u ≡ t → u ≡ absorbed (record { state = s; want = k }) reply → row_of h i s u load store ≡ row
       → reply_in (row_of h i s u load store) k ≡ reply → step i s ≡ Asks k → t ≡ after_row i s row
-  told k reply load store u now is r same e =
+  reply_told k reply load store u now is r same e =
       sym now ∙ is ∙ ap (λ (y : Reply). absorbed (record { state = s; want = k }) y) (sym same)
       ∙ sym (ap (λ (x : Step). elim x as (λ y. HartState) [ Quiet v ↦ v | Asks j ↦ absorbed (record { state = s; want = j }) (reply_in (row_of h i s u load store) j) ]) e)
       ∙ ap (after_row i s) r
@@ -114,7 +114,7 @@ module _ (i : Program) (h : ℕ) (m : EndMark) (s : HartState) (c : Bool) (a : S
   loaded w k reply load store e same None g = absurd g
   loaded w k reply load store e same (Some x) g =
       let u = absorbed (record { state = s; want = k }) (reply x) in
-      told i h s t called a b row k (reply x) (load x) (store x) u g.0 refl (only _ row g.2) (same x u) e
+      reply_told i h s t called a b row k (reply x) (load x) (store x) u g.0 refl (only _ row g.2) (same x u) e
 
   tried : (w y : ℕ) (k : Want) → step i s ≡ Asks k
       → ((u : HartState) (good : Bool) → reply_in (row_of h i s u None (cond good (Some (w, y)) None)) k ≡ cond good replies.ScOk replies.ScFailed) → (o : Option Bool)
@@ -122,13 +122,13 @@ module _ (i : Program) (h : ℕ) (m : EndMark) (s : HartState) (c : Bool) (a : S
   tried w y k e same None g = absurd g
   tried w y k e same (Some good) g =
       let u = absorbed (record { state = s; want = k }) (cond good replies.ScOk replies.ScFailed) in
-      told i h s t called a b row k (cond good replies.ScOk replies.ScFailed) None (cond good (Some (w, y)) None) u g.0 refl (only _ row g.2) (same u good) e
+      reply_told i h s t called a b row k (cond good replies.ScOk replies.ScFailed) None (cond good (Some (w, y)) None) u g.0 refl (only _ row g.2) (same u good) e
 
   stored : (w width y : ℕ) → step i s ≡ Asks (Store w width y) → (x : Bool) (o : Option ℕ)
       → Goes a (elim x as (λ z. Next) [ true ↦ after_ask i h (position_at s c a) (record { state = s; want = Store w width y }) Stored 0 None (Some (w, y)) | false ↦ elim o as (λ z. Next) [ None ↦ missing h (position_at s c a) w | Some v ↦ after_ask i h (position_at s c a) (record { state = s; want = Store w width y }) Stored 1 None (Some (w, stored_word w width y v)) ] ]) row t called b → t ≡ after_row i s row
   stored w width y e true o g =
       let u = absorbed (record { state = s; want = Store w width y }) Stored in
-      told i h s t called a b row (Store w width y) Stored None (Some (w, y)) u g.0 refl (only _ row g.2) refl e
+      reply_told i h s t called a b row (Store w width y) Stored None (Some (w, y)) u g.0 refl (only _ row g.2) refl e
   stored w width y e false o g = loaded w (Store w width y) (λ x. Stored) (λ x. None) (λ x. Some (w, stored_word w width y x)) e (λ x u. refl) o g
 
   rung : (n : ℕ) (args : List ℕ) → step i s ≡ Asks (System n args) → (x y : Bool) (r a0 : ℕ)

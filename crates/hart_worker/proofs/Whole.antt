@@ -6,7 +6,7 @@ use Rattle.std.proofs.Math.Seq.{take-suc}
 use Rattle.std.proofs.lemmas.List.{take-append-drop}
 use Rattle.run_model.specs.Runs.{is_live, is_over, seeded, seeded_from, most_turns}
 use Rattle.log_record.specs.Spelling.{Fits}
-use Rattle.log_ring.specs.Kept.{Holds}
+use Rattle.log_ring.specs.Kept.{HoldsLog}
 use Rattle.bn_outside.specs.declared.turn_row.TurnRow.{TurnRow}
 use Rattle.run_model.specs.Turn.{Run}
 use Rattle.run_laws.specs.History.{are_orderly}
@@ -14,7 +14,7 @@ use Rattle.run_laws.specs.Ends.{AreLastMarks}
 use Rattle.bus_core.specs.Bus.{Began, Seen, IsState, IsLogged, first_run, run_after, marks}
 use Rattle.bus_core.specs.declared.closed.Closed.{Closed}
 use Rattle.hart_worker.specs.Closed.{IsOfRows}
-use Rattle.hart_worker.specs.Lists.{HasTaken, list_run, is_legal, live_in_run, seeded_after, error_of}
+use Rattle.hart_worker.specs.Lists.{HasTaken, list_run, is_legal, live_harts_of, seeded_after, error_of}
 use Rattle.hart_worker.specs.declared.error.TurnError.TheVariants.{IllegalTurn, NotFinished}
 use Rattle.hart_worker.proofs.Errors.{error_at, error_first}
 
@@ -52,10 +52,10 @@ illegal_is tells b s list at e h within over =
     let dead = subst (λ (x : Began). is_live x.settings (list_run x (take at list)) k ≡ false) e over in
     ap (λ (xs : List ℕ). error_of b xs) (split_at list at within) ∙ error_at b.settings b.image (first_run b) 0 (take at list) k (drop (suc at) list) legal dead ∙ ap (λ (n : ℕ). Some (IllegalTurn n k)) long
 
-pub unfinished_is : (tells : Bool) (b : Began) (s : Seen) (list : List ℕ) (k : ℕ) → s.began ≡ b → HasTaken tells s list → Some k ≡ slice_get (live_in_run s.began (list_run s.began list)) 0 → error_of b list ≡ Some (NotFinished k)
+pub unfinished_is : (tells : Bool) (b : Began) (s : Seen) (list : List ℕ) (k : ℕ) → s.began ≡ b → HasTaken tells s list → Some k ≡ slice_get (live_harts_of s.began (list_run s.began list)) 0 → error_of b list ≡ Some (NotFinished k)
 unfinished_is tells b s list k e h is =
     let legal = subst (λ (x : Began). is_legal x list ≡ true) e h.legal in
-    error_first b.settings b.image (first_run b) 0 list k legal (subst (λ (x : Began). Some k ≡ slice_get (live_in_run x (list_run x list)) 0) e is)
+    error_first b.settings b.image (first_run b) 0 list k legal (subst (λ (x : Began). Some k ≡ slice_get (live_harts_of x (list_run x list)) 0) e is)
 
 -- ---- what is handed over
 
@@ -99,7 +99,7 @@ of_rows {B} s closed rows l finished whole out err ends turns fit last =
       err = err ∙ ap (λ (r : Run). r.machine.err) same;
       ends = ends ∙ ap (λ (r : Run). marks 0 b.settings.harts r.harts) same;
       turns = turns ∙ l.state.turns ∙ ap (λ (r : Run). r.turns) same;
-      log = subst (λ (r : Run). Holds closed.ring r.stream) same l.log;
+      log = subst (λ (r : Run). HoldsLog closed.ring r.stream) same l.log;
       fit = fit;
       last_marks = last;
     }

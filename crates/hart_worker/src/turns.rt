@@ -1,6 +1,6 @@
 // The turns of harts on the caller's thread.
 ghost use Rattle.std.specs.Prelude.{◌≡◌, ◌+◌, ◌<◌, ◌∷◌, ◌++◌, [], ℕ, true, false, List, Some, OnOk, IfOk, IfErr, ◌⊎◌};
-ghost use Rattle.bus_core.specs.Bus.{live_in};
+ghost use Rattle.bus_core.specs.Bus.{is_live};
 ghost use Rattle.hart_worker.specs.Lists.{HasTaken, is_finished, seeded_after, list_run, error_of};
 ghost use Rattle.bn_outside.specs.declared.turn_row.TurnRow.{TurnRow};
 ghost use Rattle.hart_worker.specs.Closed.{IsClosed, IsOfRows};
@@ -17,7 +17,7 @@ use std::alloc::{AllocError, Global};
 
 // The turn of a live hart: its quiet instructions, and its first ask, served.
 fn take_turn<B: Book>(code: &DecodedImage, bus: &mut Bus<B>, hart: HartId) -> Result<(), AllocError>
-    requires live { live_in bus.old hart ≡ true }
+    requires live { is_live bus.old hart ≡ true }
     requires within { hart < bus.old.began.settings.harts }
     requires code { code.now ≡ bus.old.began.image }
     ensures taken { OnOk result ((list : List ℕ) → HasTaken B.tells bus.old list → HasTaken B.tells bus.new (list ++ hart ∷ [])) }

@@ -3,7 +3,7 @@ ghost use Rattle.std.specs.Prelude.{◌≡◌, ◌+◌, true, false, [], is_some
 ghost use Rattle.rv_meaning.specs.Orderly.{is_reply_to};
 ghost use Rattle.run_laws.specs.History.{IsOwn};
 ghost use Rattle.run_laws.specs.Laws.{place_over};
-ghost use Rattle.bus_core.specs.Bus.{live_in};
+ghost use Rattle.bus_core.specs.Bus.{is_live};
 ghost use Rattle.hart_worker.specs.Threads.{place_at, first_place, taken_after, IsDriven};
 
 use crate::desk::{Desk, drive};
@@ -31,7 +31,7 @@ fn take_locked<B: Book>(
     hart: HartId,
     ask: &Ask,
 ) -> Result<Option<(Reply, bool)>, AllocError>
-    ensures live { IfOk result (λ o. is_some o ≡ live_in bus.old hart) }
+    ensures live { IfOk result (λ o. is_some o ≡ is_live bus.old hart) }
     ensures fits { IfOk result (λ o. IfSome o (λ r. IsTrue (is_reply_to ask.now.want r.0))) }
     ensures rows { IfOk result (λ o. B.tells ≡ true → bus.new.rows ≡ taken_after true bus.old.rows hart ask.now o) }
     ensures turns { IfOk result (λ o. IfSome o (λ r. bus.new.turns ≡ bus.old.turns + 1)) }

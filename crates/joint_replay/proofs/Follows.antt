@@ -37,8 +37,8 @@ exits_count false false k over = let f : true ≡ false = over in absurd cc
 
 module _ (i : Program) (h : ℕ) (v : Interval) (p : Position) where
   -- the state after a row without a fault, where this is asked
-  told : (k : Want) (row : Row) → row.fault ≡ None → step i p.state ≡ Asks k → after_row i p.state row ≡ absorbed (record { state = p.state; want = k }) (reply_in row k)
-  told k row none e =
+  reply_told : (k : Want) (row : Row) → row.fault ≡ None → step i p.state ≡ Asks k → after_row i p.state row ≡ absorbed (record { state = p.state; want = k }) (reply_in row k)
+  reply_told k row none e =
       ap (λ f. elim f as (λ x. HartState) [ None ↦ elim (step i p.state) as (λ x. HartState) [ Quiet t ↦ t | Asks j ↦ absorbed (record { state = p.state; want = j }) (reply_in row j) ] | Some f ↦ p.state ]) none
       ∙ ap (λ (x : Step). elim x as (λ y. HartState) [ Quiet t ↦ t | Asks j ↦ absorbed (record { state = p.state; want = j }) (reply_in row j) ]) e
 
@@ -48,7 +48,7 @@ module _ (i : Program) (h : ℕ) (v : Interval) (p : Position) where
   asked k reply more load store e same up =
       let t = absorbed (record { state = p.state; want = k }) reply in
       let row = row_of h i p.state t load store in
-      (row, refl, refl, refl, ap (λ (y : Reply). absorbed (record { state = p.state; want = k }) y) (sym (same t)) ∙ sym (told k row refl e), up)
+      (row, refl, refl, refl, ap (λ (y : Reply). absorbed (record { state = p.state; want = k }) y) (sym (same t)) ∙ sym (reply_told k row refl e), up)
 
   loaded : (k : Want) (w : ℕ) (reply : ℕ → Reply) (load store : ℕ → Option (ℕ × ℕ)) → step i p.state ≡ Asks k
       → ((x : ℕ) (t : HartState) → reply_in (row_of h i p.state t (load x) (store x)) k ≡ reply x) → ((x : ℕ) → (absorbed (record { state = p.state; want = k }) (reply x)).ic ≡ count_up p.state.ic)
@@ -61,10 +61,10 @@ module _ (i : Program) (h : ℕ) (v : Interval) (p : Position) where
   tried w rd y e None = refusal (ScMissing h p.state.ic)
   tried w rd y e (Some true) =
       let t = absorbed (record { state = p.state; want = StoreConditional w rd y }) replies.ScOk in
-      (row_of h i p.state t None (Some (w, y)), refl, refl, refl, sym (told (StoreConditional w rd y) (row_of h i p.state t None (Some (w, y))) refl e), refl)
+      (row_of h i p.state t None (Some (w, y)), refl, refl, refl, sym (reply_told (StoreConditional w rd y) (row_of h i p.state t None (Some (w, y))) refl e), refl)
   tried w rd y e (Some false) =
       let t = absorbed (record { state = p.state; want = StoreConditional w rd y }) replies.ScFailed in
-      (row_of h i p.state t None None, refl, refl, refl, sym (told (StoreConditional w rd y) (row_of h i p.state t None None) refl e), refl)
+      (row_of h i p.state t None None, refl, refl, refl, sym (reply_told (StoreConditional w rd y) (row_of h i p.state t None None) refl e), refl)
 
   stored : (w width y : ℕ) → step i p.state ≡ Asks (Store w width y) → (full : Bool) (o : Option ℕ)
       → Follows i p (elim full as (λ x. Next) [ true ↦ after_ask i h p (record { state = p.state; want = Store w width y }) Stored 0 None (Some (w, y)) | false ↦ elim o as (λ x. Next) [ None ↦ missing h p w | Some x ↦ after_ask i h p (record { state = p.state; want = Store w width y }) Stored 1 None (Some (w, stored_word w width y x)) ] ])
@@ -80,8 +80,8 @@ module _ (i : Program) (h : ℕ) (v : Interval) (p : Position) where
         ]
         | false ↦ Stop (Refused (EndDiffers h v.mark (found (p.state.ic + 1) reason value)))
       ])
-  rung n args e true true reason value over = (call_row h i p.state (Some (10, v.mark.value)), refl, refl, refl, sym (told (System n args) (call_row h i p.state (Some (10, v.mark.value))) refl e), refl)
-  rung n args e true false reason value over = (call_row h i p.state None, refl, refl, refl, sym (told (System n args) (call_row h i p.state None) refl e), over refl)
+  rung n args e true true reason value over = (call_row h i p.state (Some (10, v.mark.value)), refl, refl, refl, sym (reply_told (System n args) (call_row h i p.state (Some (10, v.mark.value))) refl e), refl)
+  rung n args e true false reason value over = (call_row h i p.state None, refl, refl, refl, sym (reply_told (System n args) (call_row h i p.state None) refl e), over refl)
   rung n args e false goes reason value over = refusal (EndDiffers h v.mark (found (p.state.ic + 1) reason value))
 
   by_want : ((s : HartState) → step i s ≡ Asks Cut → ⊥) → (k : Want) → step i p.state ≡ Asks k → Follows i p (ask_step i h v p k)

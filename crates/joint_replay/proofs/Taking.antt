@@ -18,7 +18,7 @@ use Rattle.joint_replay.specs.Memory.{Bytes, filled, forget, put_access, memory_
 use Rattle.joint_replay.specs.Words.{bytes_at}
 use Rattle.joint_replay.specs.Joining.{Joining, readiness, error_of}
 use Rattle.joint_replay.specs.Harts.{HartLane}
-use Rattle.joint_replay.specs.Calls.{told, bare, Steps}
+use Rattle.joint_replay.specs.Calls.{stepped_of, bare, Steps}
 use Rattle.joint_replay.specs.Moves.{LaneSteps, did, moved}
 use Rattle.joint_replay.specs.Together.{lanes_of, joining, IsTogether}
 use Rattle.joint_replay.proofs.Choosing.{lanes_length}
@@ -31,7 +31,7 @@ passed_words ic words memory same (Passing k) e = same
 passed_words ic words memory same (Doing before row) e = absurd cc
 passed_words ic words memory same (Ending n m) e = absurd cc
 
-pub passed_told : (h ic : ℕ) (item : Item) → ◌≡◌ {A = Moved} (to.Passed ic) (moved item) → has.Passed h ic ≡ told h item
+pub passed_told : (h ic : ℕ) (item : Item) → ◌≡◌ {A = Moved} (to.Passed ic) (moved item) → has.Passed h ic ≡ stepped_of h item
 passed_told h ic (Passing k) e = let same : ic ≡ k = cc in ap (has.Passed h) same
 passed_told h ic (Doing before row) e = absurd cc
 passed_told h ic (Ending n m) e = absurd cc
@@ -41,7 +41,7 @@ ended_words n m words memory same (Passing k) e = absurd cc
 ended_words n m words memory same (Doing before row) e = absurd cc
 ended_words n m words memory same (Ending k mark) e = same
 
-pub ended_told : (h n : ℕ) (m : EndMark) (item : Item) → ◌≡◌ {A = Moved} (to.Ended n m) (moved item) → has.Ended h n m ≡ told h item
+pub ended_told : (h n : ℕ) (m : EndMark) (item : Item) → ◌≡◌ {A = Moved} (to.Ended n m) (moved item) → has.Ended h n m ≡ stepped_of h item
 ended_told h n m (Passing k) e = absurd cc
 ended_told h n m (Doing before row) e = absurd cc
 ended_told h n m (Ending k mark) e = let same : n ≡ k = cc in let mark_same : m ≡ mark = cc in ap (λ x. has.Ended h x m) same ∙ ap (has.Ended h k) mark_same
@@ -58,7 +58,7 @@ row_words x words now memory e same (Doing before row) f =
     ∙ ap (λ (o : Option Bytes). put_access row.store (put_access row.load (forget o memory))) (same_range (filled before row))
 row_words x words now memory e same (Ending n m) f = absurd cc
 
-pub row_told : (h : ℕ) (x : Did) (item : Item) → ◌≡◌ {A = Moved} (to.Row x) (moved item) → has.Did x.row ≡ told h item
+pub row_told : (h : ℕ) (x : Did) (item : Item) → ◌≡◌ {A = Moved} (to.Row x) (moved item) → has.Did x.row ≡ stepped_of h item
 row_told h x (Passing k) f = absurd cc
 row_told h x (Doing before row) f = ap (λ (y : Did). has.Did y.row) (same_did x (did before row) f)
 row_told h x (Ending n m) f = absurd cc
@@ -93,7 +93,7 @@ module _ (i : Program) (log : Content) (count : ℕ) (hs : List HartLane) (memor
   moves_on new m words s w = subst (IsTogether i log count (slice_set hs h new) words) (sym none_yet) (together_after i log count hs memory h l at together ready_then new s.0 words s.1 (w s.0 s.2) s.3)
 
   pub steps_on : (new : HartLane) (m : Moved) (words : List (ℕ × ℕ)) (stepped : Stepped) → LaneSteps l (Ok m) new → ((item : Item) → m ≡ moved item → words ≡ memory_after item memory)
-      → ((item : Item) → m ≡ moved item → stepped ≡ told h item) → Steps now h (Ok stepped) (joining i log.records (slice_set hs h new) words refused)
+      → ((item : Item) → m ≡ moved item → stepped ≡ stepped_of h item) → Steps now h (Ok stepped) (joining i log.records (slice_set hs h new) words refused)
   steps_on new m words stepped s w told_is =
       subst (λ (o : Option ReplayError). Steps now h (Ok stepped) (joining i log.records (slice_set hs h new) words o)) (sym none_yet)
       (subst (λ (j : Joining). Steps j h (Ok stepped) (joining i log.records (slice_set hs h new) words None)) old_is
@@ -120,7 +120,7 @@ module _ (i : Program) (log : Content) (count : ℕ) (hs : List HartLane) (memor
       by (inl a) = inl (record {
         refusal = e;
         there = step_is i log count hs memory h l at together ready_then (Err e) a.0;
-        told = is;
+        error_is = is;
         repeated = ap (λ (ls : List Lane). with_lanes ls) (lane_kept hs h l new at a.1);
       })
         where

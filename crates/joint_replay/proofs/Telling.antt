@@ -12,7 +12,7 @@ use Rattle.joint_replay.specs.declared.kinds.Next.TheVariants.{Hart, AllDone, No
 use Rattle.joint_replay.specs.declared.kinds.Stepped.{Stepped}
 use Rattle.joint_replay.specs.Lanes.{Lane, Item, Passing, Doing, Ending}
 use Rattle.joint_replay.specs.Joining.{Joining, Taken, Walk, Ran, begun, ran, choice, choice_from, readiness, readiness_of, next_step, error_of, positions_from, steps_left, run_for, run_all}
-use Rattle.joint_replay.specs.Calls.{told, IsHalted, IsRefused, Steps}
+use Rattle.joint_replay.specs.Calls.{stepped_of, IsHalted, IsRefused, Steps}
 use Rattle.joint_replay.specs.Texts.{item_text, stepped_text, steps_text}
 use Rattle.joint_replay.specs.Runs.{one_step, IsStep, Advanced, IsStarved, Advances, IsStuck, RanToEnd, FoundNoMemory, Runs, IsFirst, RunsGoOn, RunsEnd}
 use Rattle.joint_replay.proofs.Onward.{walk_of, taken_by, step_fewer, step_taken, step_refused, refusal_stays, all_done, none_ready, longer_run}
@@ -60,7 +60,7 @@ chosen_ready j h e =
 
 -- ---- a step that is told
 
-line_is : (h : ℕ) (item : Item) → stepped_text (told h item) ≡ item_text h item
+line_is : (h : ℕ) (item : Item) → stepped_text (stepped_of h item) ≡ item_text h item
 line_is h (Passing ic) = refl
 line_is h (Doing before row) = refl
 line_is h (Ending n m) = refl
@@ -91,13 +91,13 @@ pub record Stands (old now : Joining) (out_old out_now : List ℕ) : Type 0 wher
   pub walk : Walk
   pub so_far : run_for steps (begun old) ≡ ran walk None
   pub here : walk.now ≡ now
-  pub told : out_now ≡ out_old ++ steps_text walk.taken
+  pub stepped_of : out_now ≡ out_old ++ steps_text walk.taken
   pub text : out_old ++ steps_text (run_all old).walk.taken ≡ out_now ++ steps_text (run_all now).walk.taken
   pub last : (run_all old).walk.now ≡ (run_all now).walk.now
   pub stopped : (run_all old).stopped ≡ (run_all now).stopped
 
 pub stands_first : (old : Joining) (out : List ℕ) → Stands old old out out
-stands_first old out = record { steps = 0; walk = begun old; so_far = refl; here = refl; told = sym (append-nil out); text = refl; last = refl; stopped = refl }
+stands_first old out = record { steps = 0; walk = begun old; so_far = refl; here = refl; stepped_of = sym (append-nil out); text = refl; last = refl; stopped = refl }
 
 step_here : (w : Walk) (now : Joining) (t : Taken) (next : Joining) → w.now ≡ now → IsStep now t next → IsStep w.now t next
 step_here w now t next here s = ap one_step here ∙ s
@@ -111,7 +111,7 @@ stands_more go old now next out_old out_now out_next s a =
       walk = walk_of (a.taken ∷ s.walk.taken) next;
       so_far = longer_run s.steps [] old s.walk a.taken next s.so_far (step_here s.walk now a.taken next s.here a.step);
       here = refl;
-      told = a.text ∙ ap (λ (t : List ℕ). t ++ line) s.told ∙ append_assoc out_old (steps_text s.walk.taken) line;
+      stepped_of = a.text ∙ ap (λ (t : List ℕ). t ++ line) s.told ∙ append_assoc out_old (steps_text s.walk.taken) line;
       text = s.text ∙ ap (λ (t : List ℕ). out_now ++ t) first.text ∙ sym (append_assoc out_now line (steps_text (run_all next).walk.taken)) ∙ ap (λ (t : List ℕ). t ++ steps_text (run_all next).walk.taken) (sym a.text);
       last = s.last ∙ first.now;
       stopped = s.stopped ∙ first.stopped;
@@ -141,7 +141,7 @@ stands_stopped end old now new out_old out_now out_new e s a = by a.1
     text_is = a.0 ∙ s.told ∙ ap (λ (r : Ran). out_old ++ steps_text r.walk.taken) (sym s.so_far)
 
     starved : e ≡ why.OutOfMemory → IsStarved now new → Runs old (Err e) new out_old out_new
-    starved is (inl h) = inr (ap (λ (x : JointError). failed x) is, record { steps = s.steps; told = s.steps; last = (omega arith, omega arith); halted = halted_here old now new s.walk s.steps s.so_far s.here h; text = text_is })
+    starved is (inl h) = inr (ap (λ (x : JointError). failed x) is, record { steps = s.steps; stepped_of = s.steps; last = (omega arith, omega arith); halted = halted_here old now new s.walk s.steps s.so_far s.here h; text = text_is })
       where
         failed : JointError → Result (Unit {0}) JointError
         failed x = Err x
@@ -149,7 +149,7 @@ stands_stopped end old now new out_old out_now out_new e s a = by a.1
       ap (λ (x : JointError). failed x) is,
       record {
         steps = suc s.steps;
-        told = s.steps;
+        stepped_of = s.steps;
         last = (omega arith, omega arith);
         halted = halted_here old m.1 new (walk_of (m.0 ∷ s.walk.taken) m.1) (suc s.steps) (longer_run s.steps [] old s.walk m.0 m.1 s.so_far (step_here s.walk now m.0 m.1 s.here m.2)) refl m.3;
         text = text_is;

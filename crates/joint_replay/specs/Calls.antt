@@ -14,10 +14,10 @@ use Rattle.joint_replay.specs.Joining.{Joining, Walk, error_of, next_step}
 use Rattle.joint_replay.specs.Orders.{IsBegun}
 
 -- what a caller is told of a step
-abbrev pub told : ℕ → Item → Stepped
-told h (Passing ic) = Passed h ic
-told h (Doing before row) = Did row
-told h (Ending n m) = Ended h n m
+abbrev pub stepped_of : ℕ → Item → Stepped
+stepped_of h (Passing ic) = Passed h ic
+stepped_of h (Doing before row) = Did row
+stepped_of h (Ending n m) = Ended h n m
 
 -- the state of a hart, where an interval of it is under way
 abbrev pub state_at : Joining → ℕ → Option HartState
@@ -55,10 +55,10 @@ pub record IsReached (harts : ℕ) (j : Joining) : Type 0 where
 pub record IsRefused (old : Joining) (h : ℕ) (e : JointError) (new : Joining) : Type 0 where
   pub refusal : ReplayError
   pub there : next_step old h ≡ Some (Err refusal)
-  pub told : e ≡ error_of refusal
+  pub error_is : e ≡ error_of refusal
   pub repeated : new ≡ record old { refused = Some refusal }
 
 -- a step does the hart's next item, or is refused as that is; or it finds no memory, but not after a refusal
 abbrev pub Steps : Joining → ℕ → Result Stepped JointError → Joining → Type 0
-Steps old h (Ok stepped) new = (item : Item) × (next_step old h ≡ Some (Ok (item, new))) × (stepped ≡ told h item)
+Steps old h (Ok stepped) new = (item : Item) × (next_step old h ≡ Some (Ok (item, new))) × (stepped ≡ stepped_of h item)
 Steps old h (Err e) new = IsRefused old h e new ⊎ ((e ≡ why.OutOfMemory) × (old.refused ≡ None) × IsHalted old new)

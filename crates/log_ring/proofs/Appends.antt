@@ -7,7 +7,7 @@ use Rattle.log_record.specs.declared.record.Record.{Record}
 use Rattle.log_record.specs.Spelling.{bytes_of, Fits}
 use Rattle.log_record.specs.Laws.{TellTheirSize, AreRead}
 use Rattle.log_ring.specs.Whole.{records_in, IsWhole}
-use Rattle.log_ring.specs.Kept.{kept, Held, held, Holds, GivesUp}
+use Rattle.log_ring.specs.Kept.{kept, Held, held, HoldsLog, GivesUp}
 use Rattle.log_ring.proofs.Cuts.{records_in-bytes, whole_of}
 use Rattle.log_ring.proofs.Fitting.{kept-suffix, kept-kept, kept-append}
 
@@ -40,7 +40,7 @@ gives_up old new r gone latest dropped count few =
 
 -- a ring that holds what is kept goes on doing so
 pub still_holds : (old new : Held) (r : Record) (gone : ℕ) → new.records ≡ kept old.size (old.records ++ r ∷ []) → new.dropped ≡ old.dropped + gone
-    → gone + length new.records ≡ length old.records + 1 → new.size ≡ old.size → (appended : List Record) → Holds old appended → Holds new (appended ++ r ∷ [])
+    → gone + length new.records ≡ length old.records + 1 → new.size ≡ old.size → (appended : List Record) → HoldsLog old appended → HoldsLog new (appended ++ r ∷ [])
 still_holds old new r gone latest dropped count size appended holds = record {
   latest = latest ∙ ap (λ (xs : List Record). kept old.size (xs ++ r ∷ [])) holds.latest ∙ kept-kept old.size appended r ∙ ap (λ (n : ℕ). kept n (appended ++ r ∷ [])) (sym size);
   counted = omega (arith, holds.counted, length-append appended (r ∷ []));

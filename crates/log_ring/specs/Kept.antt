@@ -18,7 +18,7 @@ abbrev pub held : List Record → ℕ → ℕ → Held
 held records dropped size = record { records = records; dropped = dropped; size = size }
 
 -- a ring after these records were appended to it
-pub record Holds (ring : Held) (appended : List Record) : Type 0 where
+pub record HoldsLog (ring : Held) (appended : List Record) : Type 0 where
   pub latest : ring.records ≡ kept ring.size appended
   pub counted : ring.dropped + length ring.records ≡ length appended
 

@@ -4,7 +4,7 @@ ghost use Rattle.std.specs.List.{flat_map, AllByRecursion};
 ghost use Rattle.log_record.specs.declared.record.Record.{Record};
 ghost use Rattle.log_record.specs.Spelling.{bytes_of, total, is_marked, Fits};
 ghost use Rattle.log_ring.specs.Whole.{records_in, IsWhole, Oldest};
-ghost use Rattle.log_ring.specs.Kept.{kept, held, Holds, GivesUp};
+ghost use Rattle.log_ring.specs.Kept.{kept, held, HoldsLog, GivesUp};
 
 use circular_buffer::HeapCircularBuffer;
 use log_record::laws::{tags_tell_sizes, written_records_are_read};
@@ -151,7 +151,7 @@ impl Ring {
         ensures latest { self.new.records ≡ kept self.old.size (self.old.records ++ entry.now ∷ []) }
         ensures given_up { GivesUp self.old entry.now self.new }
         ensures size { self.new.size ≡ self.old.size }
-        ensures holds { (appended : List Record) → Holds self.old appended → Holds self.new (appended ++ entry.now ∷ []) }
+        ensures holds { (appended : List Record) → HoldsLog self.old appended → HoldsLog self.new (appended ++ entry.now ∷ []) }
     {
         tags_tell_sizes();
         written_records_are_read();

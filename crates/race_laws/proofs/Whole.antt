@@ -23,10 +23,10 @@ use Rattle.race_laws.proofs.Heads.{Heads, drop_heads, find_head}
 use Rattle.race_laws.proofs.Turns.{Laws, Stands, rows_stand, start_stands}
 
 -- what holds after lawful rows holds of the runs of lists
-pub of_lists : (Holds : RawSettings → Run → Type 0) → TurnsAreLawful → OfRows Holds → OfLists Holds
-of_lists Holds lawful rows c i input b setting legal =
+pub of_lists : (Law : RawSettings → Run → Type 0) → TurnsAreLawful → OfRows Law → OfLists Law
+of_lists Law lawful rows c i input b setting legal =
     let l = lawful c i input b legal in
-    subst (Holds c) l.1 (rows c i input (rows_from c i (start c i input) b) setting l.0)
+    subst (Law c) l.1 (rows c i input (rows_from c i (start c i input) b) setting l.0)
 
 stands : Laws → (c : RawSettings) (i : Program) (input : List ℕ) (rows : List TurnRow) → IsSetting c → IsLawful c i (start c i input) rows → Stands c (after_rows c i (start c i input) rows)
 stands laws c i input rows setting lawful = rows_stand laws c i (start c i input) rows setting lawful (start_stands c i input setting)

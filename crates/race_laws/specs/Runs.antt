@@ -10,10 +10,10 @@ use Rattle.run_laws.specs.History.{after_rows, IsLawful}
 
 -- it holds of the run of each legal list of turns
 abbrev pub OfLists : (RawSettings → Run → Type 0) → Type 0
-OfLists Holds = (c : RawSettings) (i : Program) (input b : List ℕ) → IsSetting c → legal_from c i (start c i input) b ≡ true
-    → Holds c (run_of c i input b)
+OfLists Law = (c : RawSettings) (i : Program) (input b : List ℕ) → IsSetting c → legal_from c i (start c i input) b ≡ true
+    → Law c (run_of c i input b)
 
 -- it holds of the run after any lawful rows, whatever their harts asked
 abbrev pub OfRows : (RawSettings → Run → Type 0) → Type 0
-OfRows Holds = (c : RawSettings) (i : Program) (input : List ℕ) (rows : List TurnRow) → IsSetting c → IsLawful c i (start c i input) rows
-    → Holds c (after_rows c i (start c i input) rows)
+OfRows Law = (c : RawSettings) (i : Program) (input : List ℕ) (rows : List TurnRow) → IsSetting c → IsLawful c i (start c i input) rows
+    → Law c (after_rows c i (start c i input) rows)

@@ -5,7 +5,7 @@ use Rattle.race_log.specs.Netzer.{Before}
 use Rattle.race_log.specs.Netzer.Chain.{one}
 use Rattle.race_log.specs.Merges.{is_of_hart}
 use Rattle.race_log.specs.ByCount.{IsInOrder}
-use Rattle.race_log.specs.Holds.{UpTo, OwnUpTo, Holds, TimesOf}
+use Rattle.race_log.specs.Holds.{UpTo, OwnUpTo, CountsOf, TimesOf}
 use Rattle.race_log.specs.Kept.{after}
 use Rattle.race_log.proofs.BoolFacts.{known, same_number}
 use Rattle.race_log.proofs.Chains.{chain_rises}
@@ -28,7 +28,7 @@ counts_up run up m n p q low e f same = pair_at (λ p q. p.hart ≡ q.hart → p
 
 -- the same counts stand for a set that keeps its old points and lacks the new one
 pub holds_old : (run : List Point) (b : Point) (S R : ℕ → Type 0) (counts : ℕ → ℕ) → IsInOrder (after run b)
-    → ((m : ℕ) → S m → R m) → ((m : ℕ) → m < length run → R m → S m) → (R (length run) → ⊥) → Holds run S counts → Holds (after run b) R counts
+    → ((m : ℕ) → S m → R m) → ((m : ℕ) → m < length run → R m → S m) → (R (length run) → ⊥) → CountsOf run S counts → CountsOf (after run b) R counts
 holds_old run b S R counts up f g none h = record {
   covers = λ m p e low. elim (in_after run b m p e) [
     | inl old ↦ f m (h.covers m p old.1 low)
@@ -59,7 +59,7 @@ times_old run b j counts up low h =
 
 -- what another hart knows
 pub own_old : (run : List Point) (b : Point) (hart : ℕ) (counts : ℕ → ℕ) → IsInOrder (after run b) → b.hart ≢ hart
-    → Holds run (OwnUpTo run hart) counts → Holds (after run b) (OwnUpTo (after run b) hart) counts
+    → CountsOf run (OwnUpTo run hart) counts → CountsOf (after run b) (OwnUpTo (after run b) hart) counts
 own_old run b hart counts up other h =
     holds_old run b (OwnUpTo run hart) (OwnUpTo (after run b) hart) counts up
     (λ m o. (o.0, rw (get_old run b o.0 (own_in run hart o.0 o.1)) o.1, up_new run b o.2))
@@ -89,7 +89,7 @@ set_other counts h c g e = rw e
 module _ (run : List Point) (b : Point) (up : IsInOrder (after run b)) where
   -- the new point's times
   pub times_new : (counts next : ℕ → ℕ) → ((h : ℕ) → next h ≡ (if h == b.hart then b.count + 1 else counts h))
-      → Holds run (λ m. Before (after run b) m (length run)) counts → TimesOf (after run b) (length run) next
+      → CountsOf run (λ m. Before (after run b) m (length run)) counts → TimesOf (after run b) (length run) next
   times_new counts next set h = record {
     covers = λ m p e low. elim (in_after run b m p e) [
       | inl old ↦ elim (known (p.hart == b.hart)) [
@@ -132,7 +132,7 @@ module _ (run : List Point) (b : Point) (up : IsInOrder (after run b)) where
       own_before m p e same = one (inl (order_own run b m (of_hart_at run b.hart m p e same)))
 
   -- what the point's hart knows from then on
-  pub own_new : (counts : ℕ → ℕ) → TimesOf (after run b) (length run) counts → Holds (after run b) (OwnUpTo (after run b) b.hart) counts
+  pub own_new : (counts : ℕ → ℕ) → TimesOf (after run b) (length run) counts → CountsOf (after run b) (OwnUpTo (after run b) b.hart) counts
   own_new counts h = holds_map (after run b) (λ m. UpTo (after run b) m (length run)) (OwnUpTo (after run b) b.hart) counts
       (λ m u. (length run, of_hart_at (after run b) b.hart (length run) b (get_new run b) refl, u))
       (λ m o. to_new m o.0 o.1 o.2) h

@@ -2,9 +2,9 @@
 use Rattle.std.proofs.Common.{◌≡◌, ℕ, ◌<◌, ◌⊎◌, inl, inr, arith, ◌∙◌, List, max}
 use Rattle.race_log.specs.Points.{Point}
 use Rattle.race_log.specs.Search.{merged}
-use Rattle.race_log.specs.Holds.{Holds}
+use Rattle.race_log.specs.Holds.{CountsOf}
 
-pub holds_map : (run : List Point) (S R : ℕ → Type 0) (counts : ℕ → ℕ) → ((m : ℕ) → S m → R m) → ((m : ℕ) → R m → S m) → Holds run S counts → Holds run R counts
+pub holds_map : (run : List Point) (S R : ℕ → Type 0) (counts : ℕ → ℕ) → ((m : ℕ) → S m → R m) → ((m : ℕ) → R m → S m) → CountsOf run S counts → CountsOf run R counts
 holds_map run S R counts f g h = record {
   covers = λ m p e low. f m (h.covers m p e low);
   covered = λ m p e r. h.covered m p e (g m r);
@@ -22,7 +22,7 @@ one_of_max a b = grind arith
 
 -- the greater counts stand for the union
 pub holds_merge : (run : List Point) (S R : ℕ → Type 0) (f g : ℕ → ℕ)
-    → Holds run S f → Holds run R g → Holds run (λ m. S m ⊎ R m) (merged f g)
+    → CountsOf run S f → CountsOf run R g → CountsOf run (λ m. S m ⊎ R m) (merged f g)
 holds_merge run S R f g h k = record {
   covers = λ m p e low. elim (below_max p.count (f p.hart) (g p.hart) low) [
     | inl a ↦ inl (h.covers m p e a)

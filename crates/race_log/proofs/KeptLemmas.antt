@@ -167,7 +167,7 @@ alone_suffices run live b up own lives w ks h = record {
 }
   where
     all : (m : ℕ) (p : Point) → slice_get (after run b) m ≡ Some p → AllKnow (after run b) live m
-    all m p e hart alive = (m, of_hart_at (after run b) hart m p e (own m p e ∙ sym (lives hart alive)), inl refl)
+    all m p e hart live_one = (m, of_hart_at (after run b) hart m p e (own m p e ∙ sym (lives hart live_one)), inl refl)
 
 -- kept accesses that each live hart knows of may go, and harts may end
 pub fewer_suffice : (run : List Point) (live still : ℕ → Bool) (w : ℕ) (ks : List Kept) (goes : Kept → Bool)

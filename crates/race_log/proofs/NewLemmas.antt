@@ -5,7 +5,7 @@ use Rattle.vector_time.specs.Times.{count_of}
 use Rattle.race_log.specs.declared.shadow.Shadow.{Shadow}
 use Rattle.race_log.specs.Points.{Point}
 use Rattle.race_log.specs.Kept.{Suffices}
-use Rattle.race_log.specs.Stands.{Stands, lives_in, times_of, kept_of}
+use Rattle.race_log.specs.Stands.{Stands, is_live, times_of, kept_of}
 use Rattle.race_log.specs.Words.{counts_at}
 
 no_point : (m : ℕ) (p : Point) → slice_get [] m ≡ Some p → ⊥
@@ -28,7 +28,7 @@ stands_none s zeros none live = record {
     covered = λ m p e s. absurd (no_point m p e);
     exact = λ g. inl (zeros hart g);
   };
-  kept = λ w. subst (Suffices [] (lives_in s live) w) (sym (none w)) (none_suffices (lives_in s live) w);
+  kept = λ w. subst (Suffices [] (is_live s live) w) (sym (none w)) (none_suffices (is_live s live) w);
 }
   where
     sym : {X : Type 0} {a c : X} → a ≡ c → c ≡ a

@@ -4,12 +4,12 @@ use Rattle.std.specs.Prelude.{Option, Some, None, nat_lt, ◌&&◌, All, Vec}
 use Rattle.std.specs.Global.{Global}
 use Rattle.race_log.specs.declared.shadow.Shadow.{Shadow}
 use Rattle.race_log.specs.declared.slot.Slot.{Slot}
-use Rattle.race_log.specs.Holds.{Holds, OwnUpTo}
+use Rattle.race_log.specs.Holds.{CountsOf, OwnUpTo}
 use Rattle.race_log.specs.Kept.{Kept, Suffices}
 use Rattle.race_log.specs.Sweep.{has_bit}
 use Rattle.race_log.specs.Slots.{counts_in, word_in, slots_of}
 use Rattle.race_log.specs.Words.{counts_at, place_of}
-use Rattle.race_log.specs.Stands.{lives_in, kept_of}
+use Rattle.race_log.specs.Stands.{is_live, kept_of}
 use Rattle.race_log.specs.Noted.{Noted, noted, NotesDecide}
 
 slots_or : Option (List Slot) → List Slot
@@ -38,8 +38,8 @@ notes one other e run live st = record {
   in_order = st.in_order;
   harts = subst (λ (n : ℕ). All (λ p. p.hart < n) run) (ap (λ (n : Noted). n.harts) e) st.harts;
   past = subst (λ (n : ℕ). All (λ p. p.turn < n) run) (ap (λ (n : Noted). n.turn) e) st.past;
-  own = λ hart below. subst (λ (counts : ℕ → ℕ). Holds run (OwnUpTo run hart) counts) (ap (λ (n : Noted). counts_at (slice_get n.times hart)) e)
+  own = λ hart below. subst (λ (counts : ℕ → ℕ). CountsOf run (OwnUpTo run hart) counts) (ap (λ (n : Noted). counts_at (slice_get n.times hart)) e)
       (st.own hart (subst (λ (n : ℕ). hart < n) (ap (λ (n : Noted). n.harts) (sym e)) below));
   kept = λ word. subst (λ (n : Noted). Suffices run (λ hart. nat_lt hart n.harts && has_bit n.lasting hart && live hart) word (kept_of other word)) e
-      (subst (Suffices run (lives_in one live) word) (kept_noted one word ∙ (ap (λ n. kept_by_notes n word) e ∙ sym (kept_noted other word))) (st.kept word));
+      (subst (Suffices run (is_live one live) word) (kept_noted one word ∙ (ap (λ n. kept_by_notes n word) e ∙ sym (kept_noted other word))) (st.kept word));
 }

@@ -2,7 +2,7 @@
 use Rattle.std.proofs.Common.{◌≡◌, ℕ, zero, suc, ◌-◌, ◌<◌, ◌≤◌, Bool, true, not, ◌&&◌, ◌||◌, ◌⊎◌, ◌==◌, refl, inl, inr, arith, sym, ap, ap₂, ◌∙◌, List, [], ◌∷◌, slice_get, Option, Some, None, nat_lt, lt-ltb, map}
 use Rattle.race_log.specs.Points.{Point}
 use Rattle.race_log.specs.Tests.{touches, name_of}
-use Rattle.race_log.specs.Holds.{UpTo, Holds}
+use Rattle.race_log.specs.Holds.{UpTo, CountsOf}
 use Rattle.race_log.specs.Kept.{Kept, is_write, In, KeptAt}
 use Rattle.race_log.specs.Search.{is_source, latest, merged, sources, counts_after}
 use Rattle.race_log.proofs.BoolFacts.{and_left, and_right, both, known, not_true, same_number}
@@ -28,10 +28,10 @@ module _ (run : List Point) (b : Point) (writes : Bool) (kind : IsOfOneKind b wr
     pub edges : (e : ℕ) → In places e → NewEdge run b writes kind ks live harts ready e
     pub whole : (e : ℕ) → e < bound → NewEdge run b writes kind ks live harts ready e → In places e
     pub found : sources b.hart writes rounds counts ks ≡ map (λ e. name_of (slice_get run e)) places
-    pub known_after : Holds run (NewBefore run b writes kind ks live harts ready) (counts_after b.hart writes rounds counts ks)
+    pub known_after : CountsOf run (NewBefore run b writes kind ks live harts ready) (counts_after b.hart writes rounds counts ks)
 
   -- with no source left
-  finished : (S : ℕ → Type 0) (bound rounds : ℕ) (counts : ℕ → ℕ) → Holds run S counts → Told run b writes kind ks live harts ready S bound
+  finished : (S : ℕ → Type 0) (bound rounds : ℕ) (counts : ℕ → ℕ) → CountsOf run S counts → Told run b writes kind ks live harts ready S bound
       → latest b.hart writes counts None ks ≡ None → Picked bound rounds counts
   finished S bound rounds counts holds told none =
       let all_in : (k : ℕ) → Candidate run b writes ks k → Clashes run b writes kind ks live harts ready k → S k =
@@ -107,7 +107,7 @@ module _ (run : List Point) (b : Point) (writes : Bool) (kind : IsOfOneKind b wr
 
   -- as many rounds as harts have a source find all
   pub picks : (rounds : ℕ) (S : ℕ → Type 0) (bound : ℕ) (counts : ℕ → ℕ)
-      → passing (has_source b.hart writes counts ks) harts ≤ rounds → Holds run S counts → Told run b writes kind ks live harts ready S bound
+      → passing (has_source b.hart writes counts ks) harts ≤ rounds → CountsOf run S counts → Told run b writes kind ks live harts ready S bound
       → Picked bound rounds counts
   picks zero S bound counts few holds told = go (latest b.hart writes counts None ks) refl
     where
@@ -126,7 +126,7 @@ module _ (run : List Point) (b : Point) (writes : Bool) (kind : IsOfOneKind b wr
       go : (o : Option Kept) → latest b.hart writes counts None ks ≡ o
           → ((k : Kept) (f : In ks k)
           → passing (has_source b.hart writes (merged counts k.times) ks) harts ≤ rounds
-          → Holds run (λ m. S m ⊎ UpTo run m (ready.each k f).0) (merged counts k.times)
+          → CountsOf run (λ m. S m ⊎ UpTo run m (ready.each k f).0) (merged counts k.times)
           → Told run b writes kind ks live harts ready (λ m. S m ⊎ UpTo run m (ready.each k f).0) (ready.each k f).0
           → Picked (ready.each k f).0 rounds (merged counts k.times))
           → Picked bound (suc rounds) counts
@@ -142,7 +142,7 @@ module _ (run : List Point) (b : Point) (writes : Bool) (kind : IsOfOneKind b wr
               → IsLatest b.hart writes counts None ks k
               → (at : (j : ℕ) × (w : ℕ) × KeptAt run w j k × (touches w b ≡ true))
               → (passing (has_source b.hart writes (merged counts k.times) ks) harts ≤ rounds
-              → Holds run (λ m. S m ⊎ UpTo run m at.0) (merged counts k.times)
+              → CountsOf run (λ m. S m ⊎ UpTo run m at.0) (merged counts k.times)
               → Told run b writes kind ks live harts ready (λ m. S m ⊎ UpTo run m at.0) at.0
               → Picked at.0 rounds (merged counts k.times))
               → Picked bound (suc rounds) counts

@@ -6,7 +6,7 @@ use Rattle.race_log.specs.Netzer.Chain.{one}
 use Rattle.race_log.specs.Tests.{touches, writes_word, name_of}
 use Rattle.race_log.specs.Merges.{is_of_hart}
 use Rattle.race_log.specs.ByCount.{IsInOrder}
-use Rattle.race_log.specs.Holds.{UpTo, OwnUpTo, Holds}
+use Rattle.race_log.specs.Holds.{UpTo, OwnUpTo, CountsOf}
 use Rattle.race_log.specs.Kept.{Kept, is_write, after, In, KeptAt, Suffices}
 use Rattle.race_log.specs.Search.{is_source}
 use Rattle.race_log.proofs.BoolFacts.{and_left, and_right, both, or_split, or_first, or_second, known, not_true, true_not, same_number, other_number}
@@ -164,7 +164,7 @@ module _ (run : List Point) (b : Point) (writes : Bool) (kind : IsOfOneKind b wr
       to m k s (inr u) = told.down m k s u
 
   -- a kept access that is a source conflicts, and isn't in the set that the counts stand for
-  pub taken : (S : ℕ → Type 0) (counts : ℕ → ℕ) (w j : ℕ) (k : Kept) → Holds run S counts → KeptAt run w j k → touches w b ≡ true
+  pub taken : (S : ℕ → Type 0) (counts : ℕ → ℕ) (w j : ℕ) (k : Kept) → CountsOf run S counts → KeptAt run w j k → touches w b ≡ true
       → is_source b.hart writes counts k ≡ true → Clashes j × (S j → ⊥)
   taken S counts w j k holds at in_b h =
       let first = and_left (not (k.hart == b.hart) && (is_write k.mode || writes)) (not (nat_lt k.ic (counts k.hart))) h in
@@ -178,7 +178,7 @@ module _ (run : List Point) (b : Point) (writes : Bool) (kind : IsOfOneKind b wr
       )
 
   -- a candidate that conflicts is a source, or in the set
-  pub source_or : (S : ℕ → Type 0) (counts : ℕ → ℕ) (j : ℕ) (c : Candidate run b writes ks j) → Holds run S counts → Clashes j
+  pub source_or : (S : ℕ → Type 0) (counts : ℕ → ℕ) (j : ℕ) (c : Candidate run b writes ks j) → CountsOf run S counts → Clashes j
       → (is_source b.hart writes counts c.access ≡ true) ⊎ S j
   source_or S counts j c holds clash =
       let k = c.access in let at = c.kept in

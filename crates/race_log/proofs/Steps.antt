@@ -11,12 +11,12 @@ use Rattle.race_log.specs.declared.shadow.Shadow.{Shadow}
 use Rattle.race_log.specs.Points.{Point}
 use Rattle.race_log.specs.Tests.{touches, edge, edges_into, sources_into, name_of}
 use Rattle.race_log.specs.ByCount.{IsInOrder, IsTimesOf}
-use Rattle.race_log.specs.Holds.{OwnUpTo, Holds, TimesOf}
+use Rattle.race_log.specs.Holds.{OwnUpTo, CountsOf, TimesOf}
 use Rattle.race_log.specs.Kept.{Kept, is_write, access_point, after, In, Suffices, Replaces}
 use Rattle.race_log.specs.Search.{gathered, sources, counts_after}
 use Rattle.race_log.specs.Sweep.{has_bit}
 use Rattle.race_log.specs.Words.{KeepsAccess, counts_at}
-use Rattle.race_log.specs.Stands.{Stands, KnowsSame, harts_of, lasting_of, lasts, lives_in, next_turn, next_count, times_of, kept_of}
+use Rattle.race_log.specs.Stands.{Stands, KnowsSame, harts_of, lasting_of, lasts, is_live, next_turn, next_count, times_of, kept_of}
 use Rattle.race_log.proofs.BoolFacts.{and_left, both, known}
 use Rattle.race_log.proofs.EdgeLaws.{edge_is, is_edge}
 use Rattle.race_log.proofs.MergeLaws.{is_in, of_hart_at}
@@ -93,10 +93,10 @@ stands_same old new same run live s = record {
   in_order = s.in_order;
   harts = subst (λ n. All (λ p. p.hart < n) run) (sym same.harts) s.harts;
   past = subst (λ n. All (λ p. p.turn < n) run) (sym same.turn) s.past;
-  own = λ hart low. subst (Holds run (OwnUpTo run hart)) (sym (same_counts (same.times hart))) (s.own hart (omega (arith, low, same.harts)));
+  own = λ hart low. subst (CountsOf run (OwnUpTo run hart)) (sym (same_counts (same.times hart))) (s.own hart (omega (arith, low, same.harts)));
   kept = λ w. subst (λ n. Suffices run (λ g. nat_lt g n && has_bit (lasting_of new) g && live g) w (kept_of new w)) (sym same.harts)
       (subst (λ set. Suffices run (λ g. nat_lt g (harts_of old) && has_bit set g && live g) w (kept_of new w)) (sym same.lasting)
-      (subst (Suffices run (lives_in old live) w) (sym (same.kept w)) (s.kept w)));
+      (subst (Suffices run (is_live old live) w) (sym (same.kept w)) (s.kept w)));
 }
 
 module _ (run : List Point) (hart count turn first n : ℕ) (mode : Mode) (live : ℕ → Bool) (old : Shadow) (stands : Stands run live old)
@@ -108,11 +108,11 @@ module _ (run : List Point) (hart count turn first n : ℕ) (mode : Mode) (live 
   ks = gathered (kept_of old) first n
 
   -- the shadow's live harts
-  abbrev lively : ℕ → Bool
-  lively = lives_in old live
+  abbrev live_before : ℕ → Bool
+  live_before = is_live old live
 
-  lively_hart : lively hart ≡ true
-  lively_hart = both (nat_lt hart (harts_of old) && lasts old hart) (live hart)
+  hart_is_live : live_before hart ≡ true
+  hart_is_live = both (nat_lt hart (harts_of old) && lasts old hart) (live hart)
       (both (nat_lt hart (harts_of old)) (lasts old hart) (lt-ltb hart (harts_of old) in_harts) lasting) lives
 
   kind : IsOfOneKind b (is_write mode)
@@ -138,7 +138,7 @@ module _ (run : List Point) (hart count turn first n : ℕ) (mode : Mode) (live 
   few : (m : ℕ) (p : Point) → slice_get run m ≡ Some p → p.hart < harts_of old
   few m p e = all_at (λ p. p.hart < harts_of old) run m p stands.harts e (is_in run m p e)
 
-  ready : Ready run lively (harts_of old) b ks
+  ready : Ready run live_before (harts_of old) b ks
   ready = record {
     each = λ k i.
         let a = gathered_in (kept_of old) first n k i in
@@ -149,13 +149,13 @@ module _ (run : List Point) (hart count turn first n : ℕ) (mode : Mode) (live 
         (kept_of old w, stands.kept w, λ k i. in_gathered (kept_of old) first n r.0 k r.1 (subst (λ v. In (kept_of old v) k) r.2 i));
     in_order = stands.in_order;
     few = few;
-    lives = lively_hart;
+    lives = hart_is_live;
   }
 
-  picked : Picked run b (is_write mode) kind ks lively (harts_of old) ready (length run) (harts_of old - 1) (times_of old hart)
-  picked = picks run b (is_write mode) kind ks lively (harts_of old) ready (harts_of old - 1) (OwnUpTo run hart) (length run) (times_of old hart)
-      (first_few run b (is_write mode) kind ks lively (harts_of old) ready (times_of old hart) in_harts) (stands.own hart in_harts)
-      (start_told run b (is_write mode) kind ks lively (harts_of old) ready)
+  picked : Picked run b (is_write mode) kind ks live_before (harts_of old) ready (length run) (harts_of old - 1) (times_of old hart)
+  picked = picks run b (is_write mode) kind ks live_before (harts_of old) ready (harts_of old - 1) (OwnUpTo run hart) (length run) (times_of old hart)
+      (first_few run b (is_write mode) kind ks live_before (harts_of old) ready (times_of old hart) in_harts) (stands.own hart in_harts)
+      (start_told run b (is_write mode) kind ks live_before (harts_of old) ready)
 
   -- the sources found are those of the edges
   pub found_edges : sources hart (is_write mode) (harts_of old - 1) (times_of old hart) (gathered (kept_of old) first n)
@@ -194,35 +194,35 @@ module _ (run : List Point) (hart count turn first n : ℕ) (mode : Mode) (live 
         | inl same ↦
             let is : hart ≡ g = grind arith in
             let own = own_new run b now_in_order next next_times in
-            let here = subst (Holds (after run b) (OwnUpTo (after run b) hart)) (sym (same_counts new_own)) own in
-            subst (λ h. Holds (after run b) (OwnUpTo (after run b) h) (times_of new h)) is here
+            let here = subst (CountsOf (after run b) (OwnUpTo (after run b) hart)) (sym (same_counts new_own)) own in
+            subst (λ h. CountsOf (after run b) (OwnUpTo (after run b) h) (times_of new h)) is here
         | inr apart ↦
             let other : hart ≢ g = not_same hart g apart in
             let own = own_old run b g (times_of old g) now_in_order other (stands.own g (omega (arith, low, same_harts))) in
-            subst (Holds (after run b) (OwnUpTo (after run b) g)) (sym (same_counts (new_others g (λ e. other (sym e))))) own
+            subst (CountsOf (after run b) (OwnUpTo (after run b) g)) (sym (same_counts (new_others g (λ e. other (sym e))))) own
       ];
       kept = λ w. subst (λ n. Suffices (after run b) (λ g. nat_lt g n && has_bit (lasting_of new) g && live g) w (kept_of new w)) (sym same_harts)
           (subst (λ set. Suffices (after run b) (λ g. nat_lt g (harts_of old) && has_bit set g && live g) w (kept_of new w)) (sym same_lasting) (elim (cases_lt 1 (harts_of old)) [
             | inl more ↦ among w (many more)
             | inr one ↦
-                subst (Suffices (after run b) lively w) (sym (alone one w))
-                (alone_suffices run lively b now_in_order (λ m p e. single one m p e) (λ g up. single_live one g up) w (kept_of old w) (stands.kept w))
+                subst (Suffices (after run b) live_before w) (sym (alone one w))
+                (alone_suffices run live_before b now_in_order (λ m p e. single one m p e) (λ g up. single_live one g up) w (kept_of old w) (stands.kept w))
           ]));
     }
       where
         clear : (x : Bool) → x ≡ true → x ≡ false → ⊥
         clear x h k = cc
 
-        among : (w : ℕ) → KeepsAccess k first n (kept_of old) (kept_of new) → Suffices (after run b) lively w (kept_of new w)
+        among : (w : ℕ) → KeepsAccess k first n (kept_of old) (kept_of new) → Suffices (after run b) live_before w (kept_of new w)
         among w keeps = elim (known (touches w b)) [
           | inl in_b ↦
               let r = range_words first n w (is_write mode) in_b in
               let times_k = subst (TimesOf (after run b) (length run)) (sym (same_counts is_times)) next_times in
               let kept = subst (λ v. Replaces k (kept_of old v) (kept_of new v)) (sym r.2) (keeps.inside r.0 r.1) in
-              same_word run lively b (is_write mode) kind now_in_order w k (kept_of old w) (kept_of new w) in_b is_turn is_hart is_count (ap is_write is_mode) times_k kept (stands.kept w)
+              same_word run live_before b (is_write mode) kind now_in_order w k (kept_of old w) (kept_of new w) in_b is_turn is_hart is_count (ap is_write is_mode) times_k kept (stands.kept w)
           | inr out ↦
               let same = keeps.outside w (λ i low e. clear (touches w b) (subst (λ v. touches v b ≡ true) (sym e) (in_range first n i (is_write mode) low)) out) in
-              subst (Suffices (after run b) lively w) (sym same) (other_word run lively b (is_write mode) kind now_in_order w (kept_of old w) out (stands.kept w))
+              subst (Suffices (after run b) live_before w) (sym same) (other_word run live_before b (is_write mode) kind now_in_order w (kept_of old w) out (stands.kept w))
         ]
 
         -- with one hart all points are its own, and it alone is live
@@ -232,7 +232,7 @@ module _ (run : List Point) (hart count turn first n : ℕ) (mode : Mode) (live 
           | inr new_p ↦ sym (ap (λ (x : Point). x.hart) new_p.1) ∙ omega (arith, in_harts, one)
         ]
 
-        single_live : harts_of old ≤ 1 → (g : ℕ) → lively g ≡ true → g ≡ 0
+        single_live : harts_of old ≤ 1 → (g : ℕ) → live_before g ≡ true → g ≡ 0
         single_live one g up =
             let low = ltb-true g (harts_of old) (and_left (nat_lt g (harts_of old)) (lasts old g) (and_left (nat_lt g (harts_of old) && lasts old g) (live g) up)) in omega (arith, low, one)
 

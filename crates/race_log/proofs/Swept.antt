@@ -7,11 +7,11 @@ use Rattle.std.proofs.lemmas.Nat.Bits.{bit_at_and, bit_at-lt, bit_at_ones}
 use Rattle.race_log.specs.declared.shadow.Shadow.{Shadow}
 use Rattle.race_log.specs.declared.words.KeptWords.{KeptWords}
 use Rattle.race_log.specs.Points.{Point}
-use Rattle.race_log.specs.Holds.{OwnUpTo, Holds}
+use Rattle.race_log.specs.Holds.{OwnUpTo, CountsOf}
 use Rattle.race_log.specs.Kept.{Kept, In, KeptAt, AllKnow, Suffices}
 use Rattle.race_log.specs.Sweep.{has_bit, all_below}
 use Rattle.race_log.specs.Words.{has_room, has_stretch, HasRoom}
-use Rattle.race_log.specs.Stands.{Stands, harts_of, lasts, lives_in, next_turn, times_of, kept_of, is_known}
+use Rattle.race_log.specs.Stands.{Stands, harts_of, lasts, is_live, next_turn, times_of, kept_of, is_known}
 use Rattle.race_log.proofs.BoolFacts.{known, and_left, and_right, both, same_number}
 use Rattle.race_log.proofs.Rounds.{same_counts}
 use Rattle.race_log.proofs.KeptLemmas.{fewer_suffice}
@@ -45,34 +45,34 @@ pub stands_swept : (old new : Shadow) (set : ℕ) → harts_of new ≡ harts_of 
     → ((hart other : ℕ) → times_of new hart other ≡ times_of old hart other)
     → ((hart : ℕ) → lasts new hart ≡ (lasts old hart && has_bit set hart))
     → ((w : ℕ) → kept_of new w ≡ filter (λ k. not (is_known old set k.hart k.ic)) (kept_of old w))
-    → (run : List Point) (alive : ℕ → Bool) → Stands run alive old → Stands run alive new
-stands_swept old new set harts turn times lasting kept run alive s = record {
+    → (run : List Point) (live_one : ℕ → Bool) → Stands run live_one old → Stands run live_one new
+stands_swept old new set harts turn times lasting kept run live_one s = record {
   in_order = s.in_order;
   harts = subst (λ n. All (λ p. p.hart < n) run) (sym harts) s.harts;
   past = subst (λ n. All (λ p. p.turn < n) run) (sym turn) s.past;
-  own = λ hart low. subst (Holds run (OwnUpTo run hart)) (sym (same_counts (times hart))) (s.own hart (omega (arith, low, harts)));
-  kept = λ w. subst (Suffices run (lives_in new alive) w) (sym (kept w))
-      (fewer_suffice run (lives_in old alive) (lives_in new alive) w (kept_of old w) (λ k. is_known old set k.hart k.ic) fewer (all w) (s.kept w));
+  own = λ hart low. subst (CountsOf run (OwnUpTo run hart)) (sym (same_counts (times hart))) (s.own hart (omega (arith, low, harts)));
+  kept = λ w. subst (Suffices run (is_live new live_one) w) (sym (kept w))
+      (fewer_suffice run (is_live old live_one) (is_live new live_one) w (kept_of old w) (λ k. is_known old set k.hart k.ic) fewer (all w) (s.kept w));
 }
   where
-    lasts_on : (g : ℕ) → lives_in new alive g ≡ true → (lasts old g && has_bit set g) ≡ true
-    lasts_on g h = sym (lasting g) ∙ and_right (nat_lt g (harts_of new)) (lasts new g) (and_left (nat_lt g (harts_of new) && lasts new g) (alive g) h)
+    lasts_on : (g : ℕ) → is_live new live_one g ≡ true → (lasts old g && has_bit set g) ≡ true
+    lasts_on g h = sym (lasting g) ∙ and_right (nat_lt g (harts_of new)) (lasts new g) (and_left (nat_lt g (harts_of new) && lasts new g) (live_one g) h)
 
-    within : (g : ℕ) → lives_in new alive g ≡ true → nat_lt g (harts_of old) ≡ true
+    within : (g : ℕ) → is_live new live_one g ≡ true → nat_lt g (harts_of old) ≡ true
     within g h =
-        ap (nat_lt g) (sym harts) ∙ and_left (nat_lt g (harts_of new)) (lasts new g) (and_left (nat_lt g (harts_of new) && lasts new g) (alive g) h)
+        ap (nat_lt g) (sym harts) ∙ and_left (nat_lt g (harts_of new)) (lasts new g) (and_left (nat_lt g (harts_of new) && lasts new g) (live_one g) h)
 
-    fewer : (g : ℕ) → lives_in new alive g ≡ true → lives_in old alive g ≡ true
+    fewer : (g : ℕ) → is_live new live_one g ≡ true → is_live old live_one g ≡ true
     fewer g h =
-        both (nat_lt g (harts_of old) && lasts old g) (alive g)
+        both (nat_lt g (harts_of old) && lasts old g) (live_one g)
         (both (nat_lt g (harts_of old)) (lasts old g) (within g h) (and_left (lasts old g) (has_bit set g) (lasts_on g h)))
-        (and_right (nat_lt g (harts_of new) && lasts new g) (alive g) h)
+        (and_right (nat_lt g (harts_of new) && lasts new g) (live_one g) h)
 
     second : (a b : Bool) → (not a || b) ≡ true → a ≡ true → b ≡ true
     second true b h e = h
     second false b h e = cc
 
-    all : (w : ℕ) (k : Kept) (j : ℕ) → In (kept_of old w) k → KeptAt run w j k → is_known old set k.hart k.ic ≡ true → AllKnow run (lives_in new alive) j
+    all : (w : ℕ) (k : Kept) (j : ℕ) → In (kept_of old w) k → KeptAt run w j k → is_known old set k.hart k.ic ≡ true → AllKnow run (is_live new live_one) j
     all w k j i at goes g lives =
         let low = ltb-true g (harts_of old) (within g lives) in
         let bit = and_right (lasts old g) (has_bit set g) (lasts_on g lives) in

@@ -13,7 +13,7 @@ abbrev pub OwnUpTo : List Point → ℕ → ℕ → Type 0
 OwnUpTo run hart m = (q : ℕ) × (is_of_hart hart (slice_get run q) ≡ true) × UpTo run m q
 
 -- of each hart the points in the set are those below its count, which is no higher than it has to be
-pub record Holds (run : List Point) (S : ℕ → Type 0) (counts : ℕ → ℕ) : Type 0 where
+pub record CountsOf (run : List Point) (S : ℕ → Type 0) (counts : ℕ → ℕ) : Type 0 where
   pub covers : (m : ℕ) (p : Point) → slice_get run m ≡ Some p → p.count < counts p.hart → S m
   pub covered : (m : ℕ) (p : Point) → slice_get run m ≡ Some p → S m → p.count < counts p.hart
   pub exact : (hart : ℕ) → (counts hart ≡ 0)
@@ -21,4 +21,4 @@ pub record Holds (run : List Point) (S : ℕ → Type 0) (counts : ℕ → ℕ) 
 
 -- for each hart the number of its points that are place n's or before it
 abbrev pub TimesOf : List Point → ℕ → (ℕ → ℕ) → Type 0
-TimesOf run n counts = Holds run (λ m. UpTo run m n) counts
+TimesOf run n counts = CountsOf run (λ m. UpTo run m n) counts

@@ -3,7 +3,7 @@ use Rattle.std.specs.Prelude.{◌≡◌, ℕ, ◌+◌, ◌*◌, ◌<◌, Bool, n
 use Rattle.race_log.specs.declared.shadow.Shadow.{Shadow}
 use Rattle.race_log.specs.Points.{Point}
 use Rattle.race_log.specs.ByCount.{IsInOrder}
-use Rattle.race_log.specs.Holds.{OwnUpTo, Holds}
+use Rattle.race_log.specs.Holds.{OwnUpTo, CountsOf}
 use Rattle.race_log.specs.Kept.{Kept, Suffices}
 use Rattle.race_log.specs.Sweep.{has_bit, all_below, held_below}
 use Rattle.race_log.specs.Words.{kept_in, counts_at}
@@ -26,8 +26,8 @@ abbrev pub lasts : Shadow → ℕ → Bool
 lasts s hart = has_bit (lasting_of s) hart
 
 -- whether the hart is one of the shadow's, lasts, and is live
-abbrev pub lives_in : Shadow → (ℕ → Bool) → ℕ → Bool
-lives_in s live hart = nat_lt hart (harts_of s) && lasts s hart && live hart
+abbrev pub is_live : Shadow → (ℕ → Bool) → ℕ → Bool
+is_live s live hart = nat_lt hart (harts_of s) && lasts s hart && live hart
 
 -- the lowest turn that the next access may have
 abbrev pub next_turn : Shadow → ℕ
@@ -73,5 +73,5 @@ pub record Stands (run : List Point) (live : ℕ → Bool) (s : Shadow) : Type 0
   pub in_order : IsInOrder run
   pub harts : All (λ p. p.hart < harts_of s) run
   pub past : All (λ p. p.turn < next_turn s) run
-  pub own : (hart : ℕ) → hart < harts_of s → Holds run (OwnUpTo run hart) (times_of s hart)
-  pub kept : (word : ℕ) → Suffices run (lives_in s live) word (kept_of s word)
+  pub own : (hart : ℕ) → hart < harts_of s → CountsOf run (OwnUpTo run hart) (times_of s hart)
+  pub kept : (word : ℕ) → Suffices run (is_live s live) word (kept_of s word)

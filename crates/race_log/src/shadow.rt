@@ -169,7 +169,7 @@ impl Shadow {
         requires { live < 2 ^ harts_of self.old }
         ensures kept { (word : ℕ) → kept_of self.new word ≡ filter (λ k. not (is_known self.old live k.hart k.ic)) (kept_of self.old word) }
         ensures gone { result + held_of self.new ≡ held_of self.old }
-        ensures stands { (run : List Point) (alive : ℕ → Bool) → Stands run alive self.old → Stands run alive self.new }
+        ensures stands { (run : List Point) (live_one : ℕ → Bool) → Stands run live_one self.old → Stands run live_one self.new }
 
         // How the conditions of the next access change.
         ensures lasting { (h : ℕ) → lasts self.new h ≡ (lasts self.old h && has_bit live h) }

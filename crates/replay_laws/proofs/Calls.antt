@@ -26,7 +26,7 @@ use Rattle.run_model.specs.Machine.{Machine, answer_call, planned, kernel_of}
 use Rattle.run_model.specs.Turn.{after_call, sc_record, mark}
 use Rattle.replay_laws.proofs.Asked.{asking}
 use Rattle.replay_laws.proofs.Ends.{is_call}
-use Rattle.replay_laws.proofs.Step.{Holds, Stepped, ask_goes}
+use Rattle.replay_laws.proofs.Step.{StillHolds, Stepped, ask_goes}
 use Rattle.replay_laws.proofs.Turns.{end_log, ended_at}
 
 -- ---- what a call is, by its number
@@ -139,7 +139,7 @@ Fine (HartOver r x) called = Plain r called
 Fine (RunOver r x) called = Plain r called
 
 answered : (x : ℕ) (i : Program) (h : ℕ) (v : Interval) (q : Position) (n : ℕ) (args : List ℕ) (m m2 : ℕ → ℕ) (sk : ℕ) → call_reason n ≡ 2
-    → step i q.state ≡ Asks (System n args) → q.state.ic + 1 < 2 ^ 64 → Holds v sk (ended_at (count_up q.state.ic) 2 x) q.loads q.conditionals
+    → step i q.state ≡ Asks (System n args) → q.state.ic + 1 < 2 ^ 64 → StillHolds v sk (ended_at (count_up q.state.ic) 2 x) q.loads q.conditionals
     → Stepped i h v q (System n args) m m2 (Answer x) None sk (ended_at (count_up q.state.ic) 2 x)
 answered x i h v q n args m m2 sk k e b o =
     let ask : Ask = asking (System n args) q.state in
@@ -164,7 +164,7 @@ pub exit_counts : (n k : ℕ) → (call_reason n == 2) ≡ false → count_up_if
 exit_counts n k e = ap (λ (b : Bool). count_up_if b k) (exit_by (n == 93) (n == 94) e)
 
 finished : (r x : ℕ) (i : Program) (h : ℕ) (v : Interval) (q : Position) (n : ℕ) (args : List ℕ) (m m2 : ℕ → ℕ) (sk : ℕ) → call_reason n ≡ r → (r == 2) ≡ false
-    → x ≡ slice_index args 0 → step i q.state ≡ Asks (System n args) → q.state.ic + 1 < 2 ^ 64 → Holds v sk (ended_at (count_up_if (is_exit n) q.state.ic) r x) q.loads q.conditionals
+    → x ≡ slice_index args 0 → step i q.state ≡ Asks (System n args) → q.state.ic + 1 < 2 ^ 64 → StillHolds v sk (ended_at (count_up_if (is_exit n) q.state.ic) r x) q.loads q.conditionals
     → Stepped i h v q (System n args) m m2 Over None sk (ended_at (count_up_if (is_exit n) q.state.ic) r x)
 finished r x i h v q n args m m2 sk k f a e b o =
     let ask : Ask = asking (System n args) q.state in
@@ -224,7 +224,7 @@ call_log pl h s n args m l = end_log (after_call pl (answer_call pl h m).reply) 
 
 pub call_step : (pl : Plan) (i : Program) (h : ℕ) (v : Interval) (q : Position) (n : ℕ) (args : List ℕ) (m : Machine) (sk : ℕ) (l : Logged)
     → Kind n (slice_index args 0) pl → step i q.state ≡ Asks (System n args) → q.state.ic + 1 < 2 ^ 64
-    → Holds v sk (puts h (sc_record (answer_call pl h m).reply h) (call_log pl h q.state n args m l)) q.loads q.conditionals
+    → StillHolds v sk (puts h (sc_record (answer_call pl h m).reply h) (call_log pl h q.state n args m l)) q.loads q.conditionals
     → (s : Stepped i h v q (System n args) m.memory (answer_call pl h m).machine.memory (answer_call pl h m).reply None sk (call_log pl h q.state n args m l)) × Fine
     (after_call pl (answer_call pl h m).reply) s.next.called
 unfolding answered finished

@@ -17,10 +17,10 @@ use Rattle.hart_replay.specs.Replay.{Done, Refused}
 use Rattle.hart_replay.specs.declared.error.ReplayError.TheVariants.{RecordsLeft, EndDiffers}
 use Rattle.run_model.specs.Turn.{mark}
 use Rattle.replay_laws.proofs.Places.{taken_all}
-use Rattle.replay_laws.proofs.Step.{Holds}
+use Rattle.replay_laws.proofs.Step.{StillHolds}
 
 -- nothing is left
-pub none_left : (h : ℕ) (v : Interval) (s : ℕ) (l : Logged) (p : Position) → Holds v s l p.loads p.conditionals → l.loads ≡ [] → l.conditionals ≡ []
+pub none_left : (h : ℕ) (v : Interval) (s : ℕ) (l : Logged) (p : Position) → StillHolds v s l p.loads p.conditionals → l.loads ≡ [] → l.conditionals ≡ []
     → left_over h v p ≡ Done
 none_left h v s l p g e f =
     let a : v.loads ≡ g.taken ++ [] = g.loads_are ∙ ap (λ x. g.taken ++ x) e in

@@ -32,7 +32,7 @@ use Rattle.replay_laws.proofs.Ends.{none_left, plain_marked}
 use Rattle.replay_laws.proofs.Own.{agrees_own}
 use Rattle.replay_laws.proofs.Places.{Ahead}
 use Rattle.replay_laws.proofs.ServedRows.{served_rows, rows_skip, rows_own, gone_rows, dead_rows, over_live, false_and}
-use Rattle.replay_laws.proofs.Step.{Holds}
+use Rattle.replay_laws.proofs.Step.{StillHolds}
 use Rattle.replay_laws.proofs.Turned.{Turned, Starts, turned, is_fault, fault_turn, end_turn, not_cut, left_log}
 use Rattle.replay_laws.proofs.Turns.{ended_at, end_log}
 use Rattle.replay_laws.proofs.Way.{Sound, Way, Came, way}
@@ -42,7 +42,7 @@ use Rattle.replay_laws.proofs.Way.{Sound, Way, Came, way}
 -- Interval v of hart h is open in run, ks are the turns that are left, and the replay stands where h's last served ask left it.
 pub record Inv (c : RawSettings) (i : Program) (run : Run) (ks : List ℕ) (h : ℕ) (v : Interval) (lo co : ℕ) (rows : List Row) : Type 0 where
   pub fit : Fit c (run.harts h)
-  pub holds : Holds v (run.harts h).skipped (log_from c i run ks h) lo co
+  pub holds : StillHolds v (run.harts h).skipped (log_from c i run ks h) lo co
   pub agrees : Agrees c run h (λ a. known a rows)
 
 abbrev place : Hart → ℕ → ℕ → List Row → Bool → Position
@@ -67,10 +67,10 @@ other_goes : (c : RawSettings) (i : Program) (h k : ℕ) (ks : List ℕ) (run : 
     → AllSuffice c i (served_turn c i run k) ks h v → Suffices c i run (k ∷ ks) h v lo co rows called
 other_goes c i h k ks run v lo co rows called p q e g o rest =
     let r : Run = served_turn c i run k in
-    let held : Holds v (run.harts h).skipped (log_from c i r ks h) lo co = subst (λ (l : Logged). Holds v (run.harts h).skipped l lo co) g o.holds in
+    let held : StillHolds v (run.harts h).skipped (log_from c i r ks h) lo co = subst (λ (l : Logged). StillHolds v (run.harts h).skipped l lo co) g o.holds in
     let inv : Inv c i r ks h v lo co rows = record {
       fit = subst (λ (x : Hart). Fit c x) (sym e) o.fit;
-      holds = subst (λ (x : Hart). Holds v x.skipped (log_from c i r ks h) lo co) (sym e) held;
+      holds = subst (λ (x : Hart). StillHolds v x.skipped (log_from c i r ks h) lo co) (sym e) held;
       agrees = agrees_other c i run k h (λ a. known a rows) q o.agrees;
     } in
     let done : steps i h v (v.mark.ic - (run.harts h).state.ic) (place (run.harts h) lo co rows called) ≡ done_with (onto rows (served_rows c i r ks h (run.harts h).number)) =
@@ -82,7 +82,7 @@ other_ends : (c : RawSettings) (i : Program) (h k : ℕ) (ks : List ℕ) (run : 
     → Inv c i run (k ∷ ks) h v lo co rows → Suffices c i run (k ∷ ks) h v lo co rows called
 other_ends c i h k ks run v lo co rows called p e g l o =
     let now : ℕ = (run.harts h).state.ic in
-    let held : Holds v (run.harts h).skipped (ended_at now 5 0) lo co = subst (λ (l : Logged). Holds v (run.harts h).skipped l lo co) g o.holds in
+    let held : StillHolds v (run.harts h).skipped (ended_at now 5 0) lo co = subst (λ (l : Logged). StillHolds v (run.harts h).skipped l lo co) g o.holds in
     let pos : Position = place (run.harts h) lo co rows called in
     let z : v.mark.ic - now ≡ 0 = ap (λ (x : EndMark). x.ic - now) held.mark_is ∙ omega arith in
     ap (λ x. steps i h v x pos) z
@@ -133,7 +133,7 @@ own_starts c i h ks run v lo co rows called z o a =
     record {
       came = came_of i (run.harts h).state.ic (budget c (run.harts h)) (ask_at c i (run.harts h)) k.0;
       bound = came_bound c i (run.harts h) (ask_at c i (run.harts h)) z o.fit k.0;
-      holds = subst (λ (l : Logged). Holds v (run.harts h).skipped l lo co) (own_turn_log c i run ks h) o.holds;
+      holds = subst (λ (l : Logged). StillHolds v (run.harts h).skipped l lo co) (own_turn_log c i run ks h) o.holds;
       ahead = a;
       agrees = o.agrees;
     }
@@ -162,7 +162,7 @@ own_goes c i h ks run v lo co rows called z e w o d rest =
     let l : Logged = log_from c i r ks h in
     let inv : Inv c i r ks h v x.loads x.conditionals x.rows = record {
       fit = own_fit c i run h z e o.fit;
-      holds = subst (λ (y : Hart). Holds v y.skipped l x.loads x.conditionals) (sym is) d.held;
+      holds = subst (λ (y : Hart). StillHolds v y.skipped l x.loads x.conditionals) (sym is) d.held;
       agrees = λ a own g. d.words a ∙ agrees_own c i run h (λ y. known y rows) (own_passes c i t h z o.fit) e o.agrees a own g;
     } in
     let later : steps i h v (v.mark.ic - s.ic) (place after x.loads x.conditionals x.rows x.called) ≡ done_with (onto x.rows (served_rows c i r ks h t.number)) =
@@ -239,8 +239,8 @@ own_fault f y c i h ks run v lo co rows called z e l o st =
     let t : Hart = run.harts h in
     let s : HartState = asked_at c i run h in
     let after : Logged = log_from c i (served_turn c i run h) ks h in
-    let held : Holds v t.skipped (ended_at s.ic (16 + fault_number f) y) lo co =
-    subst (λ (w : Want). Holds v t.skipped
+    let held : StillHolds v t.skipped (ended_at s.ic (16 + fault_number f) y) lo co =
+    subst (λ (w : Want). StillHolds v t.skipped
     (puts h (load_record (warmth c (loading w) (run.events h)) h t.skipped (word_before run.machine.memory (loading w)))
     (puts h (sc_record (reply_to c i run.machine h w s) h) (left_log c i run.machine h t w s after))) lo co) e st.holds in
     let asks : step i s ≡ Asks (Faulted f y) = not_cut (Faulted f y) i s refl (subst (λ (w : Want). (w ≡ Cut) ⊎ (step i s ≡ Asks w)) e st.came) in

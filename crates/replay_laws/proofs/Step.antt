@@ -40,7 +40,7 @@ use Rattle.replay_laws.proofs.Places.{span, Ahead, span_push, logged_zero, logge
 -- ---- what the records hold
 
 -- what the interval's records still hold for a position: those before it, and l for those to come
-pub record Holds (v : Interval) (skipped : ℕ) (l : Logged) (loads conditionals : ℕ) : Type 0 where
+pub record StillHolds (v : Interval) (skipped : ℕ) (l : Logged) (loads conditionals : ℕ) : Type 0 where
   pub taken : List (ℕ × ℕ)
   pub loads_are : v.loads ≡ taken ++ l.loads
   pub place : loads ≡ span taken + skipped
@@ -59,12 +59,12 @@ put_load h skip x l = ap (λ b. elim b as (λ y. Logged) [ true ↦ with_load sk
 -- the word that a loading access takes, and what is held after it
 record Takes (v : Interval) (skipped : ℕ) (l : Logged) (loads conditionals : ℕ) (kn : Option ℕ) (x : ℕ) : Type 0 where
   word : or_else (logged v.loads loads) kn ≡ Some x
-  held : Holds v skipped l (loads + 1) conditionals
+  held : StillHolds v skipped l (loads + 1) conditionals
 
-cold : (v : Interval) (h s x : ℕ) (l : Logged) (loads conditionals : ℕ) (kn : Option ℕ) → Holds v s (put h (FirstLoad h s x) l) loads conditionals
+cold : (v : Interval) (h s x : ℕ) (l : Logged) (loads conditionals : ℕ) (kn : Option ℕ) → StillHolds v s (put h (FirstLoad h s x) l) loads conditionals
     → Takes v 0 l loads conditionals kn x
 cold v h s x l loads conditionals kn o =
-    let g : Holds v s (with_load s x l) loads conditionals = subst (λ (y : Logged). Holds v s y loads conditionals) (put_load h s x l) o in
+    let g : StillHolds v s (with_load s x l) loads conditionals = subst (λ (y : Logged). StillHolds v s y loads conditionals) (put_load h s x l) o in
     let here : logged v.loads loads ≡ Some x =
     ap (λ y. logged_from 0 y loads) g.loads_are
     ∙ (logged_zero g.taken ((s, x) ∷ l.loads) loads (omega (arith, g.place))
@@ -83,7 +83,7 @@ cold v h s x l loads conditionals kn o =
       };
     }
 
-warmed : (v : Interval) (s x : ℕ) (l : Logged) (loads conditionals : ℕ) (kn : Option ℕ) → Holds v s l loads conditionals → Ahead (s + 1) l.loads → kn ≡ Some x
+warmed : (v : Interval) (s x : ℕ) (l : Logged) (loads conditionals : ℕ) (kn : Option ℕ) → StillHolds v s l loads conditionals → Ahead (s + 1) l.loads → kn ≡ Some x
     → Takes v (s + 1) l loads conditionals kn x
 warmed v s x l loads conditionals kn g a e =
     let none : logged v.loads loads ≡ None =
@@ -109,14 +109,14 @@ abbrev warmth_if : Bool → Option Warm
 warmth_if b = Some (if b then answers.Warm else answers.Cold)
 
 takes_if : (b : Bool) (v : Interval) (h s x : ℕ) (l : Logged) (loads conditionals : ℕ) (kn : Option ℕ)
-    → Holds v s (puts h (load_record (warmth_if b) h s x) l) loads conditionals → Ahead (skipped_after (warmth_if b) s) l.loads → (b ≡ true → kn ≡ Some x)
+    → StillHolds v s (puts h (load_record (warmth_if b) h s x) l) loads conditionals → Ahead (skipped_after (warmth_if b) s) l.loads → (b ≡ true → kn ≡ Some x)
     → Takes v (skipped_after (warmth_if b) s) l loads conditionals kn x
 takes_if true v h s x l loads conditionals kn g a e = warmed v s x l loads conditionals kn g a (e refl)
 takes_if false v h s x l loads conditionals kn g a e = cold v h s x l loads conditionals kn g
 
 -- a loading access at word b
 takes : (v : Interval) (h b s : ℕ) (es : List Event) (c : RawSettings) (m : ℕ → ℕ) (l : Logged) (loads conditionals : ℕ) (kn : Option ℕ)
-    → Holds v s (puts h (load_record (warmth c (Some b) es) h s (m b)) l) loads conditionals → Ahead (skipped_after (warmth c (Some b) es) s) l.loads
+    → StillHolds v s (puts h (load_record (warmth c (Some b) es) h s (m b)) l) loads conditionals → Ahead (skipped_after (warmth c (Some b) es) s) l.loads
     → (warm (geometry_of c) b es ≡ true → kn ≡ Some (m b)) → Takes v (skipped_after (warmth c (Some b) es) s) l loads conditionals kn (m b)
 takes v h b s es c m l loads conditionals kn g a e = takes_if (warm (geometry_of c) b es) v h s (m b) l loads conditionals kn g a e
 
@@ -175,12 +175,12 @@ pub record Stepped (i : Program) (h : ℕ) (v : Interval) (q : Position) (w : Wa
   pub state : next.state ≡ absorbed (asking w q.state) r
   pub rows : (more : List Row) → onto next.rows more ≡ onto q.rows (want_rows h i m w q.state (absorbed (asking w q.state) r) r ++ more)
   pub words : (b : ℕ) → known b next.rows ≡ learned t m2 (λ a. known a q.rows) b
-  pub held : Holds v skipped l next.loads next.conditionals
+  pub held : StillHolds v skipped l next.loads next.conditionals
 
 -- the premises of a step: s accesses were skipped, es is the cache's history
 pub record Before (i : Program) (h : ℕ) (v : Interval) (q : Position) (w : Want) (m : ℕ → ℕ) (r : Reply) (s : ℕ) (es : List Event) (c : RawSettings) (l : Logged) : Type 0 where
   pub asks : step i q.state ≡ Asks w
-  pub holds : Holds v s (puts h (load_record (warmth c (loading w) es) h s (word_before m (loading w))) (puts h (sc_record r h) l)) q.loads q.conditionals
+  pub holds : StillHolds v s (puts h (load_record (warmth c (loading w) es) h s (word_before m (loading w))) (puts h (sc_record r h) l)) q.loads q.conditionals
   pub ahead : Ahead (skipped_after (warmth c (loading w) es) s) l.loads
   pub agrees : (b : ℕ) → aligned b ≡ b → warm (geometry_of c) b es ≡ true → known b q.rows ≡ Some (m b)
   pub passing : passes i w ≡ true
@@ -285,7 +285,7 @@ record StoreDone (i : Program) (h : ℕ) (v : Interval) (q : Position) (a wd w :
   on : ask_step i h v q (Store a wd w) ≡ On next
   state : next.state ≡ absorbed (asking (Store a wd w) q.state) replies.Stored
   rows : next.rows ≡ (row_of h i q.state (absorbed (asking (Store a wd w) q.state) replies.Stored) None (Some (a, stored_word a wd w (m (aligned a)))) ∷ q.rows)
-  held : Holds v (skipped_after (warmth c (narrow x a) es) s) l next.loads next.conditionals
+  held : StillHolds v (skipped_after (warmth c (narrow x a) es) s) l next.loads next.conditionals
 
 -- the step of a store by whether it is of a whole word
 abbrev store_by : Program → ℕ → Interval → Position → ℕ → ℕ → ℕ → Bool → Next
@@ -298,7 +298,7 @@ whole_word : (a wd w old : ℕ) → (wd == 4) ≡ true → stored_word a wd w ol
 whole_word a wd w old e = ap (λ (k : ℕ). stored_word a k w old) (eqb-true wd 4 e)
 
 store_if : (x : Bool) (i : Program) (h : ℕ) (v : Interval) (q : Position) (a wd w : ℕ) (m : ℕ → ℕ) (s : ℕ) (es : List Event) (c : RawSettings) (l : Logged)
-    → (wd == 4) ≡ x → Holds v s (puts h (load_record (warmth c (narrow x a) es) h s (word_before m (narrow x a))) l) q.loads q.conditionals
+    → (wd == 4) ≡ x → StillHolds v s (puts h (load_record (warmth c (narrow x a) es) h s (word_before m (narrow x a))) l) q.loads q.conditionals
     → Ahead (skipped_after (warmth c (narrow x a) es) s) l.loads → (warm (geometry_of c) (aligned a) es ≡ true → known (aligned a) q.rows ≡ Some (m (aligned a)))
     → StoreDone i h v q a wd w m s es c l x
 store_if true i h v q a wd w m s es c l e o f g =
@@ -309,7 +309,7 @@ store_if true i h v q a wd w m s es c l e o f g =
       on = ap (store_by i h v q a wd w) e;
       state = refl;
       rows = ap (λ u. row_of h i q.state t None (Some (a, u)) ∷ q.rows) (sym (whole_word a wd w (m (aligned a)) e));
-      held = subst (λ y. Holds v s l y q.conditionals) (sym z) o;
+      held = subst (λ y. StillHolds v s l y q.conditionals) (sym z) o;
     }
 store_if false i h v q a wd w m s es c l e o f g =
     let t : HartState = absorbed (asking (Store a wd w) q.state) replies.Stored in
@@ -351,8 +351,8 @@ put_sc : (x : Bool) (h : ℕ) (l : Logged) → puts h (sc_record (cond x replies
 put_sc true h l = ap (λ b. elim b as (λ y. Logged) [ true ↦ with_sc true l | false ↦ l ]) (eq-eqb h h refl)
 put_sc false h l = ap (λ b. elim b as (λ y. Logged) [ true ↦ with_sc false l | false ↦ l ]) (eq-eqb h h refl)
 
-slot_taken : (v : Interval) (s : ℕ) (x : Bool) (l : Logged) (loads conditionals : ℕ) → Holds v s (with_sc x l) loads conditionals
-    → (slot v.conditionals conditionals ≡ Some x) × Holds v s l loads (conditionals + 1)
+slot_taken : (v : Interval) (s : ℕ) (x : Bool) (l : Logged) (loads conditionals : ℕ) → StillHolds v s (with_sc x l) loads conditionals
+    → (slot v.conditionals conditionals ≡ Some x) × StillHolds v s l loads (conditionals + 1)
 slot_taken v s x l loads conditionals g = (
   ap (λ z. slot z conditionals) g.conditionals_are ∙ (ap (λ z. slot (g.passed ++ x ∷ l.conditionals) z) g.slot_at ∙ slot_here g.passed x l.conditionals),
   record {
@@ -371,7 +371,7 @@ sc_step : (x : Bool) (i : Program) (h : ℕ) (v : Interval) (q : Position) (a rd
     → Stepped i h v q (StoreConditional a rd w) m.memory (answer_sc x a w h m).machine.memory (answer_sc x a w h m).reply (touched None (sc_span (answer_sc x a w h m).reply a)) s l
 sc_step true i h v q a rd w m s es c l b =
     let own : aligned a ≡ a = aligned_own a (may_load i a && may_store i a) b.passing in
-    let k = slot_taken v s true l q.loads q.conditionals (subst (λ (y : Logged). Holds v s y q.loads q.conditionals) (put_sc true h l) b.holds) in
+    let k = slot_taken v s true l q.loads q.conditionals (subst (λ (y : Logged). StillHolds v s y q.loads q.conditionals) (put_sc true h l) b.holds) in
     let ask : Ask = asking (StoreConditional a rd w) q.state in
     let nx : Position =
     record {
@@ -393,7 +393,7 @@ sc_step true i h v q a rd w m s es c l b =
       held = k.1;
     }
 sc_step false i h v q a rd w m s es c l b =
-    let k = slot_taken v s false l q.loads q.conditionals (subst (λ (y : Logged). Holds v s y q.loads q.conditionals) (put_sc false h l) b.holds) in
+    let k = slot_taken v s false l q.loads q.conditionals (subst (λ (y : Logged). StillHolds v s y q.loads q.conditionals) (put_sc false h l) b.holds) in
     let ask : Ask = asking (StoreConditional a rd w) q.state in
     let nx : Position =
     record {

@@ -36,7 +36,7 @@ use Rattle.replay_laws.proofs.Counts.{memory_counts}
 use Rattle.replay_laws.proofs.Ends.{none_left, plain_marked, fault_marked}
 use Rattle.replay_laws.specs.Known.{learned}
 use Rattle.replay_laws.proofs.Places.{Ahead}
-use Rattle.replay_laws.proofs.Step.{Holds, Stepped, Before, memory_step, of_memory}
+use Rattle.replay_laws.proofs.Step.{StillHolds, Stepped, Before, memory_step, of_memory}
 use Rattle.replay_laws.proofs.Turns.{ended_at, end_log}
 use Rattle.replay_laws.proofs.Way.{Sound, Way, moved}
 
@@ -48,7 +48,7 @@ pub record Turned (i : Program) (h : ℕ) (v : Interval) (p : Position) (t : Har
   pub state : next.state ≡ t
   pub rows : (more : List Row) → onto next.rows more ≡ onto p.rows (rs ++ more)
   pub words : (b : ℕ) → known b next.rows ≡ learned tc m2 (λ a. known a p.rows) b
-  pub held : Holds v sk (end_log n t l) next.loads next.conditionals
+  pub held : StillHolds v sk (end_log n t l) next.loads next.conditionals
   pub fine : Fine n next.called
 
 learned_same : (tc : Option ℕ) (m2 : ℕ → ℕ) (f g : ℕ → Option ℕ) (b : ℕ) → f b ≡ g b → learned tc m2 f b ≡ learned tc m2 g b
@@ -118,7 +118,7 @@ memory_turn w c i m h t s es v p qs l wy e b o =
 -- a cut has no row
 cut_turn : (b : Bool) (c : RawSettings) (i : Program) (m : Machine) (h : ℕ) (t : Hart) (s : HartState) (v : Interval) (p : Position) (qs : List Row) (l : Logged)
     → Way i h v p s qs
-    → Holds v t.skipped (puts h (sc_record (if b then Over else Went) h)
+    → StillHolds v t.skipped (puts h (sc_record (if b then Over else Went) h)
     (end_log (counted c t (absorbed (asking Cut s) (if b then Over else Went)).ic) (absorbed (asking Cut s) (if b then Over else Went)) l)) p.loads p.conditionals
     → Turned i h v p (absorbed (asking Cut s) (if b then Over else Went)) (qs ++ []) None m.memory t.skipped (counted c t (absorbed (asking Cut s) (if b then Over else Went)).ic) l
 cut_turn true c i m h t s v p qs l wy o = record {
@@ -144,7 +144,7 @@ cut_turn false c i m h t s v p qs l wy o = record {
 pub record Starts (c : RawSettings) (i : Program) (m : Machine) (h : ℕ) (t : Hart) (w : Want) (s : HartState) (es : List Event) (v : Interval) (p : Position) (l : Logged) : Type 0 where
   pub came : (w ≡ Cut) ⊎ (step i s ≡ Asks w)
   pub bound : s.ic + 1 < 2 ^ 64
-  pub holds : Holds v t.skipped
+  pub holds : StillHolds v t.skipped
       (puts h (load_record (warmth c (loading w) es) h t.skipped (word_before m.memory (loading w)))
       (puts h (sc_record (reply_to c i m h w s) h) (left_log c i m h t w s l))) p.loads p.conditionals
   pub ahead : Ahead (skipped_after (warmth c (loading w) es) t.skipped) (left_log c i m h t w s l).loads
@@ -190,7 +190,7 @@ turned (Faulted f y) c i m h t s es v p qs l z wy e o = absurd (false≢true (sy
 
 -- a fault ends the interval with its row
 pub fault_turn : (f : Fault) (y : ℕ) (i : Program) (h : ℕ) (t : Hart) (s : HartState) (v : Interval) (p : Position) (qs : List Row) → Way i h v p s qs
-    → step i s ≡ Asks (Faulted f y) → Holds v t.skipped (ended_at s.ic (16 + fault_number f) y) p.loads p.conditionals
+    → step i s ≡ Asks (Faulted f y) → StillHolds v t.skipped (ended_at s.ic (16 + fault_number f) y) p.loads p.conditionals
     → steps i h v (v.mark.ic - p.state.ic) p ≡ record { rows = onto p.rows (qs ++ (fault_row h i s f y ∷ [])); outcome = Done }
 fault_turn f y i h t s v p qs wy e o =
     let q : Position = moved p s wy.rows_now wy.called_now in
@@ -203,7 +203,7 @@ pub end_turn : (i : Program) (h : ℕ) (v : Interval) (p : Position) (t : HartSt
     → Turned i h v p t rs tc m2 sk n l → end_log n t l ≡ ended_at t.ic r x → ((b : Bool) → Fine n b → Plain r b)
     → steps i h v (v.mark.ic - p.state.ic) p ≡ record { rows = onto p.rows (rs ++ []); outcome = Done }
 end_turn i h v p t rs tc m2 sk n r x l d e g =
-    let o : Holds v sk (ended_at t.ic r x) d.next.loads d.next.conditionals = subst (λ (y : Logged). Holds v sk y d.next.loads d.next.conditionals) e d.held in
+    let o : StillHolds v sk (ended_at t.ic r x) d.next.loads d.next.conditionals = subst (λ (y : Logged). StillHolds v sk y d.next.loads d.next.conditionals) e d.held in
     let z : v.mark.ic - p.state.ic ≡ t.ic - p.state.ic + 0 = ap (λ (y : EndMark). y.ic - p.state.ic) o.mark_is ∙ omega arith in
     let k = g d.next.called d.fine in
     ap (λ y. steps i h v y p) z ∙ (d.on 0 ∙ (plain_marked i h v d.next t.ic r x o.mark_is k.0 k.1 (none_left h v sk (ended_at t.ic r x) d.next o refl refl) ∙ ap

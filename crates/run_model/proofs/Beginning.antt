@@ -5,7 +5,7 @@ use Rattle.bn_base.specs.Programs.{Program}
 use Rattle.bn_base.specs.Ranges.{IsSetting}
 use Rattle.bn_base.specs.declared.settings.RawSettings.{RawSettings}
 use Rattle.bn_base.specs.declared.settings.TheConstants.{HARTS}
-use Rattle.log_ring.specs.Kept.{Held, Holds, held, kept}
+use Rattle.log_ring.specs.Kept.{Held, HoldsLog, held, kept}
 use Rattle.run_model.specs.declared.log.Log.{Log}
 use Rattle.race_log.specs.Stands.{Stands, harts_of, lasts, next_turn, next_count}
 use Rattle.run_model.specs.declared.hart.Hart.{Hart}
@@ -26,12 +26,12 @@ most_few true = omega arith
 most_few false = omega arith
 
 -- an empty ring holds no records
-pub empty_holds : (size : ℕ) → Holds (held [] 0 size) []
+pub empty_holds : (size : ℕ) → HoldsLog (held [] 0 size) []
 unfolding kept
 empty_holds size = record { latest = refl; counted = refl }
 
 pub empty_is : (log : Log) (size : ℕ) → log.ring ≡ held [] 0 size → log.bytes ≡ 0 → IsLog log []
-empty_is log size e none = record { holds = subst (λ (r : Held). Holds r []) (sym e) (empty_holds size); bytes = none }
+empty_is log size e none = record { holds = subst (λ (r : Held). HoldsLog r []) (sym e) (empty_holds size); bytes = none }
 
 pub trace_begins : (c : RawSettings) (i : Program) (n : ℕ) (old : Log) (t : Trace) (input : List ℕ) → n ≡ c.harts → AreFirst c i n old t.harts.items t.log → IsLog old [] → AreCaches c t.caches (λ k. []) → Stands [] everyone t.shadow
     → IsTrace c t (start c i input)

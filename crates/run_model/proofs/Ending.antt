@@ -12,9 +12,9 @@ use Rattle.run_model.specs.declared.trace.Trace.{Trace}
 use Rattle.run_model.specs.Turn.{dead}
 use Rattle.run_model.specs.Runs.{most_turns}
 use Rattle.run_model.specs.Counts.{IsRested, turns_left}
-use Rattle.run_model.specs.Stands.Harts.{AreHarts, alive, hart_in, all_left, no_hart}
+use Rattle.run_model.specs.Stands.Harts.{AreHarts, is_live_hart, hart_in, all_left, no_hart}
 use Rattle.run_model.specs.Stands.Plain.{IsTraceFit, IsHartFit}
-use Rattle.run_model.proofs.OneTurn.{alive_in}
+use Rattle.run_model.proofs.OneTurn.{live_within}
 
 -- the harts below a number were ended
 pub record Ending (number : ℕ) (before after : List Hart) : Type 0 where
@@ -102,8 +102,8 @@ ended_fits c t v turns later e fit up most =
     }
 
 -- while a hart is live, not all turns were taken
-pub turn_left : (c : RawSettings) (t : Trace) (turns k : ℕ) → IsTraceFit c t turns → alive (slice_get t.harts.items k) ≡ true → turns < most_turns c
+pub turn_left : (c : RawSettings) (t : Trace) (turns k : ℕ) → IsTraceFit c t turns → is_live_hart (slice_get t.harts.items k) ≡ true → turns < most_turns c
 turn_left c t turns k fit live =
-    let there = alive_in t.harts.items k live in
+    let there = live_within t.harts.items k live in
     let some = some_left c c.harts k (hart_in t.harts.items) (omega (arith, there.0, fit.harts)) there.1 in
     omega (arith, fit.left, some)

@@ -1,7 +1,7 @@
 -- Parts stand for a machine.
 use Rattle.std.proofs.Common.{◌≡◌, ℕ, List, refl, sym, ◌∙◌, subst}
 use Rattle.std.specs.Prelude.{Option, drop}
-use Rattle.bus_memory.specs.Contents.{Holds}
+use Rattle.bus_memory.specs.Contents.{HoldsMap}
 use Rattle.run_model.specs.Machine.{Machine}
 use Rattle.run_model.specs.Stands.Parts.{MachineParts, IsMachine, IsSameMachine, AreReserved}
 use Rattle.run_model.specs.Stands.Plain.{meant}
@@ -19,7 +19,7 @@ is_meant input p = record {
 -- what stands for a machine once more memory was found stood for it before
 pub is_before : (input : List ℕ) (old new : MachineParts) (m : Machine) → IsSameMachine old new → IsMachine input new m → IsMachine input old m
 is_before input old new m same is = record {
-  memory = subst (λ (ws : List ℕ). Holds ws m.memory) same.words is.memory;
+  memory = subst (λ (ws : List ℕ). HoldsMap ws m.memory) same.words is.memory;
   reserved = subst (λ (rs : List (Option ℕ)). AreReserved rs m.reserved) same.reserved is.reserved;
   brk = sym same.brk ∙ is.brk;
   left = subst (λ (n : ℕ). drop n input ≡ m.input) same.taken is.left;

@@ -2,7 +2,7 @@
 use Rattle.std.proofs.Common.{arith, append_assoc, add-one, ◌≡◌, ◌∙◌, sym, ap, subst, ℕ, zero, suc, ◌+◌, ◌-◌, ◌*◌, ◌/◌, ◌%◌, ◌<◌, true, List, [], ◌∷◌, ◌++◌, length, get_or, take, drop}
 use Rattle.std.proofs.lemmas.List.{take_more, get_or-drop, length-drop, length-take-le}
 use Rattle.rv_meaning.specs.Words.{aligned, bytes_at}
-use Rattle.bus_memory.specs.Contents.{Contents, Holds, has_page, HasPages}
+use Rattle.bus_memory.specs.Contents.{Contents, HoldsMap, has_page, HasPages}
 use Rattle.run_model.specs.Machine.{put_byte, filled, bytes_in, word_count}
 
 -- one byte more is filled
@@ -19,14 +19,14 @@ next_taken i start bytes below =
     take_more (drop start bytes) i 0 within ∙ ap (λ (w : ℕ). take i (drop start bytes) ++ w ∷ []) (get_or-drop start bytes i 0)
 
 pub filled_step : (a i start : ℕ) (bytes : List ℕ) (m : ℕ → ℕ) (words : List ℕ) → start + i < length bytes
-    → Holds words (put_byte (a + i) (get_or bytes (start + i) 0) (filled a (take i (drop start bytes)) m)) → Holds words (filled a (take (i + 1) (drop start bytes)) m)
+    → HoldsMap words (put_byte (a + i) (get_or bytes (start + i) 0) (filled a (take i (drop start bytes)) m)) → HoldsMap words (filled a (take (i + 1) (drop start bytes)) m)
 filled_step a i start bytes m words below held =
     let v = get_or bytes (start + i) 0 in
     let taken : length (take i (drop start bytes)) ≡ i = length-take-le i (drop start bytes) (omega (arith, length-drop start bytes)) in
     let same : filled a (take (i + 1) (drop start bytes)) m ≡ put_byte (a + i) v (filled a (take i (drop start bytes)) m) =
     ap (λ (xs : List ℕ). filled a xs m) (next_taken i start bytes below) ∙ filled_more a (take i (drop start bytes)) v m
     ∙ ap (λ (n : ℕ). put_byte (a + n) v (filled a (take i (drop start bytes)) m)) taken in
-    subst (λ (f : ℕ → ℕ). Holds words f) (sym same) held
+    subst (λ (f : ℕ → ℕ). HoldsMap words f) (sym same) held
 
 -- one byte more is read
 bytes_more : (m : ℕ → ℕ) (a n : ℕ) → bytes_in m a (suc n) ≡ bytes_in m a n ++ bytes_at ((a + n) % 4) 1 (m (aligned (a + n))) ∷ []

@@ -11,14 +11,14 @@ use Rattle.run_model.specs.declared.hart.Hart.{Hart}
 use Rattle.run_model.specs.Machine.{call_of}
 use Rattle.run_model.specs.Turn.{Run, serve, serve_call, serve_orderly, served_if, turn, ask_at, is_orderly, is_guarded, budget}
 use Rattle.run_model.specs.Counts.{IsFit}
-use Rattle.run_model.specs.Stands.Harts.{alive, hart_in}
+use Rattle.run_model.specs.Stands.Harts.{is_live_hart, hart_in}
 use Rattle.run_model.proofs.MoveOn.{budget_limit, both}
 
-pub alive_in : (hs : List Hart) (k : ℕ) → alive (slice_get hs k) ≡ true → (k < length hs) × ((hart_in hs k).live ≡ true)
-alive_in [] zero e = cc
-alive_in [] (suc k) e = cc
-alive_in (h ∷ hs) zero e = (omega arith, e)
-alive_in (h ∷ hs) (suc k) e = let rest = alive_in hs k e in (omega (arith, rest.0), rest.1)
+pub live_within : (hs : List Hart) (k : ℕ) → is_live_hart (slice_get hs k) ≡ true → (k < length hs) × ((hart_in hs k).live ≡ true)
+live_within [] zero e = cc
+live_within [] (suc k) e = cc
+live_within (h ∷ hs) zero e = (omega arith, e)
+live_within (h ∷ hs) (suc k) e = let rest = live_within hs k e in (omega (arith, rest.0), rest.1)
 
 -- an orderly ask of the hart
 pub ordered_at : (c : RawSettings) (i : Program) (x h : Hart) (ask : Ask) (b : ℕ) → x ≡ h → b ≡ budget c x → IsTrue (orderly i x.state.ic b ask) → IsTrue (is_orderly c i h ask)

@@ -8,9 +8,10 @@ ghost use Rattle.run_model.specs.Turn.{Run, span_of, is_orderly, is_guarded, byt
 ghost use Rattle.run_model.specs.Stands.Parts.{HasRoom, IsMachine, AreAddresses};
 ghost use Rattle.run_model.specs.Stands.Harts.{hart_in};
 ghost use Rattle.run_model.specs.Stands.Plain.{IsRun, IsRaceReady};
-ghost use Rattle.log_ring.specs.Kept.{Holds};
-ghost use Rattle.run_model.specs.Runs.{start, is_live, most_turns};
-ghost use Rattle.run_model.specs.Stands.Turning.{parts, is_alive};
+ghost use Rattle.log_ring.specs.Kept.{HoldsLog};
+ghost use Rattle.run_model.specs.Runs.{start, most_turns};
+ghost use Rattle.run_model.specs.Runs as runs;
+ghost use Rattle.run_model.specs.Stands.Turning.{parts, is_live};
 
 use crate::hart::{HEADER_SIZE, Hart};
 use crate::harts::end_each;
@@ -50,7 +51,7 @@ fn is_cut(want: &Want) -> bool
 impl Plain {
     /// Whether a hart could ask this now: the count fits its budget, and the access passes the tests.
     pub fn is_orderly(&self, hart: HartId, ask: &Ask) -> bool
-        requires { is_alive (parts self.now) hart ≡ true }
+        requires { is_live (parts self.now) hart ≡ true }
         ensures value { result ≡ is_orderly self.now.start.settings self.now.start.image (hart_in self.now.trace.harts.items hart) ask.now }
         ensures run { (run : Run) → IsRun (parts self.now) run → result ≡ is_orderly self.now.start.settings self.now.start.image (run.harts hart) ask.now }
     {
@@ -134,7 +135,7 @@ impl Plain {
 
     /// The turn of a live hart whose ask isn't orderly: it ends all and adds no record.
     pub fn end_all(&mut self, hart: HartId)
-        requires { is_alive (parts self.old) hart ≡ true }
+        requires { is_live (parts self.old) hart ≡ true }
         ensures run { (run : Run) → IsRun (parts self.old) run → IsRun (parts self.new) (serve_disorderly run).run }
         ensures start { self.new.start ≡ self.old.start }
     {
@@ -171,9 +172,9 @@ impl Plain {
 
     /// Whether a hart is there and can take a turn.
     pub fn live(&self, hart: HartId) -> bool
-        ensures value { result ≡ is_alive (parts self.now) hart }
-        ensures run { (run : Run) → IsRun (parts self.now) run → result ≡ is_live self.now.start.settings run hart }
-        ensures left { is_alive (parts self.now) hart ≡ true → self.now.turns < most_turns self.now.start.settings }
+        ensures value { result ≡ is_live (parts self.now) hart }
+        ensures run { (run : Run) → IsRun (parts self.now) run → result ≡ runs.is_live self.now.start.settings run hart }
+        ensures left { is_live (parts self.now) hart ≡ true → self.now.turns < most_turns self.now.start.settings }
     {
         match self.trace.harts.get(usize::from(hart)) {
             Some(hart) => hart.live,
@@ -184,7 +185,7 @@ impl Plain {
     /// A turn of a live hart: its quiet instructions up to its first ask, and the answer to that. The
     /// only error is want of memory; then no turn was taken.
     pub fn turn(&mut self, hart: HartId) -> Result<(), AllocError>
-        requires { is_alive (parts self.old) hart ≡ true }
+        requires { is_live (parts self.old) hart ≡ true }
         ensures run { OnOk result ((run : Run) → IsRun (parts self.old) run → IsRun (parts self.new) (turn self.old.start.settings self.old.start.image run hart)) }
         ensures refused { OnErr result ((run : Run) → IsRun (parts self.old) run → IsRun (parts self.new) run) }
         ensures start { self.new.start ≡ self.old.start }
@@ -206,7 +207,7 @@ impl Plain {
 
     /// The log: the kept records of the run.
     pub fn ring(&self) -> &Ring
-        ensures holds { (run : Run) → IsRun (parts self.now) run → Holds result.now run.stream }
+        ensures holds { (run : Run) → IsRun (parts self.now) run → HoldsLog result.now run.stream }
         ensures size { result.now.size ≡ self.now.start.settings.log_size }
     {
         &self.trace.log.ring

@@ -2,7 +2,7 @@
 use Rattle.std.specs.Prelude.{◌≡◌, ℕ, ◌+◌, List, Bool, true}
 use Rattle.log_record.specs.declared.record.Record.{Record}
 use Rattle.log_record.specs.Spelling.{is_mark, total}
-use Rattle.log_ring.specs.Kept.{Holds}
+use Rattle.log_ring.specs.Kept.{HoldsLog}
 pub use Rattle.run_model.specs.Stands.Taken.{taken}
 use Rattle.run_model.specs.declared.log.Log.{Log}
 use Rattle.run_model.specs.declared.next.Next.{Next}
@@ -11,7 +11,7 @@ use Rattle.run_model.specs.Turn.{mark}
 
 -- a log that took these records: its ring keeps what has room of them, and it counts the bytes of all
 pub record IsLog (log : Log) (rs : List Record) : Type 0 where
-  pub holds : Holds log.ring rs
+  pub holds : HoldsLog log.ring rs
   pub bytes : log.bytes ≡ total rs
 
 -- from one to the other a log took so many records

@@ -12,7 +12,7 @@ use Rattle.system_calls.specs.declared.kernel.Kernel.{Kernel}
 use Rattle.system_calls.specs.declared.effect.Plan.{Plan}
 use Rattle.system_calls.specs.declared.effect.Plan.TheVariants as plans
 use Rattle.system_calls.specs.Calls.{IsWithin, stream_size}
-use Rattle.bus_memory.specs.Contents.{Contents, Holds, HasPages}
+use Rattle.bus_memory.specs.Contents.{Contents, HoldsMap, HasPages}
 use Rattle.run_model.specs.declared.span.Span.{Span}
 use Rattle.run_model.specs.Machine.{Machine, Answered}
 use Rattle.run_model.specs.Turn.{span_of}
@@ -39,7 +39,7 @@ pub record AreReserved (rs : List (Option ℕ)) (f : ℕ → Option ℕ) : Type 
 
 -- the parts stand for a machine that has this whole input
 pub record IsMachine (input : List ℕ) (p : MachineParts) (m : Machine) : Type 0 where
-  pub memory : Holds p.memory.words m.memory
+  pub memory : HoldsMap p.memory.words m.memory
   pub reserved : AreReserved p.reserved m.reserved
   pub brk : p.brk ≡ m.brk
   pub left : drop p.taken input ≡ m.input

@@ -1,7 +1,7 @@
 //! The bytes of memory that system calls move.
 ghost use Rattle.std.specs.Prelude.{◌≡◌, ◌<◌, ◌≤◌, ◌+◌, ◌*◌, ◌/◌, ◌%◌, ◌^◌, ◌++◌, ℕ, true, List, take, drop, length, vec_len, vec_capacity};
 ghost use Rattle.rv_meaning.specs.Words.{aligned, bytes_at};
-ghost use Rattle.bus_memory.specs.Contents.{Holds, has_page, HasPages};
+ghost use Rattle.bus_memory.specs.Contents.{HoldsMap, has_page, HasPages};
 ghost use Rattle.run_model.specs.Machine.{put_byte, filled, bytes_in, word_count};
 
 use bn_base::Addr;
@@ -11,7 +11,7 @@ use rv_meaning::stored_word;
 // The byte at an address.
 fn byte(memory: &Memory, addr: Addr) -> u8
     requires { addr < 4 * length memory.now.words }
-    ensures { (m : ℕ → ℕ) → Holds memory.now.words m → result ≡ bytes_at (addr % 4) 1 (m (aligned addr)) }
+    ensures { (m : ℕ → ℕ) → HoldsMap memory.now.words m → result ≡ bytes_at (addr % 4) 1 (m (aligned addr)) }
 {
     let word = memory.word(addr / 4 * 4);
     ((word >> (addr % 4 * 8)) % 256) as u8
@@ -21,7 +21,7 @@ fn byte(memory: &Memory, addr: Addr) -> u8
 fn put_byte(memory: &mut Memory, addr: Addr, value: u8)
     requires within { addr < 4 * length memory.old.words }
     requires made { has_page memory.old (aligned addr) ≡ true }
-    ensures map { (m : ℕ → ℕ) → Holds memory.old.words m → Holds memory.new.words (put_byte addr value m) }
+    ensures map { (m : ℕ → ℕ) → HoldsMap memory.old.words m → HoldsMap memory.new.words (put_byte addr value m) }
     ensures size { length memory.new.words ≡ length memory.old.words }
     ensures made { memory.new.made ≡ memory.old.made }
 {
@@ -36,7 +36,7 @@ pub(crate) fn fill(memory: &mut Memory, addr: Addr, bytes: &[u8], start: usize, 
     requires range { addr + len ≤ 2 ^ 32 }
     requires pages { HasPages memory.old (aligned addr) (word_count addr len) }
     requires given { start + len ≤ length bytes.now }
-    ensures map { (m : ℕ → ℕ) → Holds memory.old.words m → Holds memory.new.words (filled addr (take len (drop start bytes.now)) m) }
+    ensures map { (m : ℕ → ℕ) → HoldsMap memory.old.words m → HoldsMap memory.new.words (filled addr (take len (drop start bytes.now)) m) }
     ensures size { length memory.new.words ≡ length memory.old.words }
     ensures made { memory.new.made ≡ memory.old.made }
 {
@@ -50,7 +50,7 @@ pub(crate) fn send(stream: &mut Vec<u8>, memory: &Memory, addr: Addr, len: u32)
     requires within { addr + len ≤ 4 * length memory.now.words }
     requires range { addr + len ≤ 2 ^ 32 }
     requires room { vec_len stream.old + len ≤ vec_capacity stream.old }
-    ensures items { (m : ℕ → ℕ) → Holds memory.now.words m → stream.new.items ≡ stream.old.items ++ bytes_in m addr len }
+    ensures items { (m : ℕ → ℕ) → HoldsMap memory.now.words m → stream.new.items ≡ stream.old.items ++ bytes_in m addr len }
     ensures len { vec_len stream.new ≡ vec_len stream.old + len }
     ensures capacity { vec_capacity stream.new ≡ vec_capacity stream.old }
 {

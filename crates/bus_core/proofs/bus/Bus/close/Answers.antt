@@ -7,7 +7,7 @@ use Rattle.run_model.specs.declared.start.Start.{Start}
 use Rattle.run_model.specs.Runs.{any_live, is_over}
 use Rattle.run_model.specs.Stands.Harts.{hart_in}
 use Rattle.run_model.specs.Stands.Turning.{parts}
-use Rattle.log_ring.specs.Kept.{Held, Holds}
+use Rattle.log_ring.specs.Kept.{Held, HoldsLog}
 use Rattle.bus_core.specs.Bus.{Seen, seen, marks, began_of, run_after, IsState, IsLogged}
 use Rattle.bus_core.proofs.History.{logged_is}
 use Rattle.bus_core.proofs.Marks.{marks_are, live_is, over_is}
@@ -57,7 +57,7 @@ returns-clause-last_marks g c =
     let s = p.start in
     let ring = c.into_recorded-recorded.result.ring in
     let run = run_after (began_of s) b.halted some.0 in
-    let log : Holds ring run.stream = subst (λ (r : Held). Holds r run.stream) (sym c.into_recorded-recorded.ensures.ring) some.1.run.trace.log.holds in
+    let log : HoldsLog ring run.stream = subst (λ (r : Held). HoldsLog r run.stream) (sym c.into_recorded-recorded.ensures.ring) some.1.run.trace.log.holds in
     let ends = c.of.ensures ∙ ap (λ (v : Vec Hart Global). map (λ (h : Hart). h.mark) v.items) c.into_recorded-recorded.ensures.harts
     ∙ marks_are p.trace.harts.items run.harts s.settings.harts some.1.run.trace.harts b.plain.fits.harts in
     last_marks_are c.a_suffix_is_kept.ensures c.kept_ends_are_marks.ensures (began_of s) b.halted some.0 ring c.of.result.items log ends

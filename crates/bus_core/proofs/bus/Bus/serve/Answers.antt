@@ -5,7 +5,7 @@ use Rattle.rv_meaning.specs.declared.asks.Reply.{Reply}
 use Rattle.bn_outside.specs.declared.turn_row.TurnRow.{TurnRow}
 use Rattle.run_model.specs.Turn.{is_orderly, serve}
 use Rattle.run_model.specs.Stands.Turning.{parts}
-use Rattle.bus_core.specs.Bus.{Seen, seen, IsState, IsHistory, began_of, run_after, row, live_in}
+use Rattle.bus_core.specs.Bus.{Seen, seen, IsState, IsHistory, began_of, run_after, row, is_live}
 use Rattle.bus_core.proofs.History.{Serves, history_more, history_same, run_is, state_is}
 use Rattle.bus_core.proofs.Serves.{served_turns, on_err, or_first, or_second}
 use Rattle.bus_core.proofs.bus.Bus.serve.Goals as goal
@@ -40,7 +40,7 @@ invariant_of-self-2 g c =
     let o = c.is_orderly-orderly.result in let k = c.args.hart in let ask = c.args.ask.now in
     let e = c.in_ok-served.ensures in
     let s = c.self.invariant.some in
-    let live = subst (λ (x : Seen). live_in x k ≡ true) (sym c.self.view_is) c.requires in
+    let live = subst (λ (x : Seen). is_live x k ≡ true) (sym c.self.view_is) c.requires in
     let d : c.if-self.self ≡ (b.disordered || not o) = elim c.if-self.branch [ then-self w ↦ or_first b.disordered c.if-self.self (not o) w.self-is w.if-self.true | else-self w ↦ or_second b.disordered c.if-self.self (not o) w.self-is w.if-self.false ] in
     let serves : Serves p q k ask o c.in_ok-served.served.0 c.in_ok-served.served.1 = record { same = c.take.ensures.start; replies = e.reply; flags = e.guarded; runs = e.run; asks = c.is_orderly-orderly.ensures.run } in
     record {

@@ -1,6 +1,6 @@
 use Rattle.std.proofs.Common.{arith, ◌≡◌, ◌<◌, ◌*◌, ◌/◌, ◌∙◌, sym, ap, subst, true, length}
 use Rattle.std.proofs.lemmas.List.{length-set}
-use Rattle.bus_memory.specs.Contents.{Contents, has_page, Holds, updated}
+use Rattle.bus_memory.specs.Contents.{Contents, has_page, HoldsMap, updated}
 use Rattle.bus_memory.specs.Frames.{contents_of}
 use Rattle.bus_memory.proofs.Laws.{has_page_at, made_below, mapped_at, put_in, holds_put}
 use Rattle.bus_memory.proofs.memory.Memory.put.Goals as goal
@@ -29,4 +29,4 @@ pub returns-clause-map : goal.returns-clause-map
 returns-clause-map c m holds =
     let made : has_page (contents_of c.self.inside.pages.items) c.args.addr ≡ true = rw c.self.view_is c.requires.made in
     let mapped : c.args.addr < 4 * length c.args.self.now.words = rw (← c.self.view_is) (mapped_at c.self.inside.pages.items c.args.addr (made_below c.self.inside.pages.items c.args.addr made)) in
-    subst (λ (d : Contents). Holds d.words (updated c.args.addr c.args.value m)) (sym (returns-clause-value c)) (holds_put c.args.self.now.words c.args.addr c.args.value m c.requires.aligned mapped holds)
+    subst (λ (d : Contents). HoldsMap d.words (updated c.args.addr c.args.value m)) (sym (returns-clause-value c)) (holds_put c.args.self.now.words c.args.addr c.args.value m c.requires.aligned mapped holds)

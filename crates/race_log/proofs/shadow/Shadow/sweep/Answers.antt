@@ -17,10 +17,10 @@ invariant_of-self c =
     }
 
 pub returns-clause-stands : goal.returns-clause-stands
-returns-clause-stands c = λ run alive.
+returns-clause-stands c = λ run live_one.
     let old = c.args.self.now in
     stands_swept old _ c.args.live refl refl (λ hart other. refl) (both_have old.lasting c.args.live)
-    (λ w. c.sweep.ensures.kept w ∙ ap (λ (f : ℕ → ℕ → Bool). filter (λ k. not (f k.hart k.ic)) (kept_of old w)) (λ i hart count. c.known_to_all-known.ensures hart count i)) run alive
+    (λ w. c.sweep.ensures.kept w ∙ ap (λ (f : ℕ → ℕ → Bool). filter (λ k. not (f k.hart k.ic)) (kept_of old w)) (λ i hart count. c.known_to_all-known.ensures hart count i)) run live_one
 
 pub returns-clause-lasting : goal.returns-clause-lasting
 returns-clause-lasting c = both_have c.args.self.now.lasting c.args.live

@@ -1,7 +1,7 @@
 use Rattle.std.proofs.Common.{sym, subst, ap, ◌≡◌, ◌∙◌, ℕ}
 use Rattle.rv_meaning.specs.Access.{amo_result}
 use Rattle.rv_meaning.specs.declared.asks.Reply.TheVariants.{Word}
-use Rattle.bus_memory.specs.Contents.{Contents, Holds, updated}
+use Rattle.bus_memory.specs.Contents.{Contents, HoldsMap, updated}
 use Rattle.run_model.specs.Machine.{Machine, with_memory, others_lose}
 use Rattle.run_model.specs.Stands.Parts.{IsMachine}
 use Rattle.run_model.proofs.machine.Machine.amo.Goals as goal
@@ -9,7 +9,7 @@ use Rattle.run_model.proofs.machine.Machine.amo.Goals as goal
 pub returns-clause-answer : goal.returns-clause-answer
 returns-clause-answer c = λ input.
     let same : c.self.inside.memory ≡ c.args.self.now.memory = cc in
-    let word = λ (m : Machine) (h : IsMachine input c.args.self.now m). c.word-word.ensures.map m.memory (subst (λ (k : Contents). Holds k.words m.memory) (sym same) h.memory) in
+    let word = λ (m : Machine) (h : IsMachine input c.args.self.now m). c.word-word.ensures.map m.memory (subst (λ (k : Contents). HoldsMap k.words m.memory) (sym same) h.memory) in
     record {
       reply = λ m h. ap Word (word m h);
       stands = λ m h. subst (λ (v : ℕ). IsMachine input c.write.new.self (with_memory (updated c.args.addr v m.memory) (others_lose c.args.hart c.args.addr m.reserved) m))

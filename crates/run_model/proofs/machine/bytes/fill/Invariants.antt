@@ -1,5 +1,5 @@
 use Rattle.std.proofs.Common.{◌≡◌, ℕ, length, take, drop}
-use Rattle.bus_memory.specs.Contents.{Holds}
+use Rattle.bus_memory.specs.Contents.{HoldsMap}
 use Rattle.run_model.specs.Machine.{filled}
 use Rattle.run_model.proofs.machine.bytes.fill.Given as goal
 
@@ -7,5 +7,5 @@ abbrev pub invariant-loop-place : goal.invariant-loop-place
 invariant-loop-place l = record {
   size : length l.memory.words ≡ length l.fn.memory.words;
   made : l.memory.made ≡ l.fn.memory.made;
-  holds : (m : ℕ → ℕ) → Holds l.fn.memory.words m → Holds l.memory.words (filled l.addr (take l.place (drop l.start l.bytes)) m);
+  holds : (m : ℕ → ℕ) → HoldsMap l.fn.memory.words m → HoldsMap l.memory.words (filled l.addr (take l.place (drop l.start l.bytes)) m);
 }

@@ -1,5 +1,5 @@
 use Rattle.std.proofs.Common.{◌≡◌, ◌+◌, ◌++◌, ℕ, vec_len, vec_capacity}
-use Rattle.bus_memory.specs.Contents.{Holds}
+use Rattle.bus_memory.specs.Contents.{HoldsMap}
 use Rattle.run_model.specs.Machine.{bytes_in}
 use Rattle.run_model.proofs.machine.bytes.send.Given as goal
 
@@ -7,5 +7,5 @@ abbrev pub invariant-loop-place : goal.invariant-loop-place
 invariant-loop-place l = record {
   len : vec_len l.stream ≡ vec_len l.fn.stream + l.place;
   capacity : vec_capacity l.stream ≡ vec_capacity l.fn.stream;
-  items : (m : ℕ → ℕ) → Holds l.memory.words m → l.stream.items ≡ l.fn.stream.items ++ bytes_in m l.addr l.place;
+  items : (m : ℕ → ℕ) → HoldsMap l.memory.words m → l.stream.items ≡ l.fn.stream.items ++ bytes_in m l.addr l.place;
 }

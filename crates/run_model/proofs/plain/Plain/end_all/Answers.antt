@@ -1,7 +1,7 @@
 use Rattle.std.proofs.Common.{◌+◌, ℕ, ap, arith}
 use Rattle.run_model.specs.Stands.Harts.{hart_in}
 use Rattle.run_model.proofs.Ending.{ended_are, ended_fits, some_left}
-use Rattle.run_model.proofs.OneTurn.{alive_in}
+use Rattle.run_model.proofs.OneTurn.{live_within}
 use Rattle.run_model.proofs.plain.Plain.end_all.Goals as goal
 
 pub returns-clause-run : goal.returns-clause-run
@@ -22,7 +22,7 @@ returns-clause-run c run is =
 pub invariant_of-self : goal.invariant_of-self
 invariant_of-self c =
     let p = c.args.self.now in
-    let live = alive_in p.trace.harts.items c.args.hart c.requires in
+    let live = live_within p.trace.harts.items c.args.hart c.requires in
     let some = some_left p.start.settings p.start.settings.harts c.args.hart (hart_in p.trace.harts.items) (omega (arith, live.0, p.fits.harts)) live.1 in
     record {
       memory = p.memory;

@@ -10,14 +10,14 @@ use Rattle.run_model.specs.Stands.Plain.{IsRun}
 use Rattle.run_model.specs.Turn.{Run, is_orderly, is_guarded, serve_call}
 use Rattle.run_model.specs.Stands.Turning.{parts}
 use Rattle.run_model.proofs.Owns.{hart_at, hart_of_run}
-use Rattle.run_model.proofs.OneTurn.{alive_in, ordered_at, small_count, passes_of, turn_is, ask_is}
+use Rattle.run_model.proofs.OneTurn.{live_within, ordered_at, small_count, passes_of, turn_is, ask_is}
 use Rattle.run_model.proofs.plain.Plain.turn.Goals as goal
 
 pub prepare-requires : goal.prepare-requires
 prepare-requires c =
     let p = c.args.self.now in let k = c.args.hart in let hs = p.trace.harts.items in
     let x = c.index-before.result.now in let h = hart_in hs k in
-    let live = alive_in hs k c.requires in
+    let live = live_within hs k c.requires in
     let there : x ≡ h = hart_at hs k x live.0 c.index-before.ensures in
     let fit : IsFit p.start.settings x = subst (λ (y : Hart). IsFit p.start.settings y) (sym there) (p.fits.each k (omega (arith, live.0, p.fits.harts))).fit.fit in
     let b = c.budget-budget in
@@ -27,19 +27,19 @@ prepare-requires c =
 pub apply-requires-clause-hart : goal.apply-requires-clause-hart
 apply-requires-clause-hart c =
     let p = c.args.self.now in
-    let live = alive_in p.trace.harts.items c.args.hart c.requires in
+    let live = live_within p.trace.harts.items c.args.hart c.requires in
     omega (arith, live.0, p.fits.harts, ap (λ (s : Start). s.settings.harts) c.prepare.ensures.start)
 
 pub apply-requires-clause-live : goal.apply-requires-clause-live
 apply-requires-clause-live c =
-    let live = alive_in c.args.self.now.trace.harts.items c.args.hart c.requires in
+    let live = live_within c.args.self.now.trace.harts.items c.args.hart c.requires in
     subst (λ (v : Vec Hart Global). (hart_in v.items c.args.hart).live ≡ true) (sym c.prepare.ensures.harts) live.1
 
 pub apply-requires-clause-orderly : goal.apply-requires-clause-orderly
 apply-requires-clause-orderly c =
     let p = c.args.self.now in let k = c.args.hart in let hs = p.trace.harts.items in
     let x = c.index-before.result.now in let h = hart_in hs k in
-    let live = alive_in hs k c.requires in
+    let live = live_within hs k c.requires in
     let there : x ≡ h = hart_at hs k x live.0 c.index-before.ensures in
     let fit : IsFit p.start.settings x = subst (λ (y : Hart). IsFit p.start.settings y) (sym there) (p.fits.each k (omega (arith, live.0, p.fits.harts))).fit.fit in
     let b = c.budget-budget in
@@ -51,7 +51,7 @@ pub returns-clause-run : goal.returns-clause-run
 returns-clause-run c run is =
     let p = c.args.self.now in let k = c.args.hart in let hs = p.trace.harts.items in
     let x = c.index-before.result.now in let h = run.harts k in
-    let live = alive_in hs k c.requires in
+    let live = live_within hs k c.requires in
     let there : x ≡ h = hart_at hs k x live.0 c.index-before.ensures ∙ hart_of_run hs k run.harts is.trace.harts live.0 in
     let fit : IsFit p.start.settings x = subst (λ (y : Hart). IsFit p.start.settings y) (sym (hart_at hs k x live.0 c.index-before.ensures)) (p.fits.each k (omega (arith, live.0, p.fits.harts))).fit.fit in
     let b = c.budget-budget in
