@@ -9,6 +9,7 @@ mod Causes
 mod Shows
 mod Single
 mod Suffices
+mod Jointly
 mod Sums
 mod Recorded
 mod Tested

@@ -50,7 +50,7 @@ file-size laws d is = omega (arith, laws.sizes d is, is.bound, is.settings.log_s
 -- ---- the answer
 
 -- the answer by a file that is there
-by-size : (there : Option (List ℕ)) (names : FileNames) (r : Role) (limit : ℕ) (bytes : List ℕ) (Go : List ℕ → Told → Type 0) (what : Told)
+pub by-size : (there : Option (List ℕ)) (names : FileNames) (r : Role) (limit : ℕ) (bytes : List ℕ) (Go : List ℕ → Told → Type 0) (what : Told)
     → there ≡ Some bytes → IsByFile there names r limit Go what → Either (nat_lt limit (length bytes)) (what ≡ refused names (TooLong r)) (Go bytes what)
 by-size there names r limit bytes Go what e is = subst (λ (t : Option (List ℕ)). IsByFile t names r limit Go what) e is
 
@@ -59,11 +59,11 @@ pub by-file : (there : Option (List ℕ)) (names : FileNames) (r : Role) (limit 
 by-file there names r limit bytes Go what e h is =
     of_false (nat_lt limit (length bytes)) _ (Go bytes what) (fits limit (length bytes) h) (by-size there names r limit bytes Go what e is)
 
-then-so : (b : Bool) (A B C : Type 0) → (B → C) → Either b A B → Either b A C
+pub then-so : (b : Bool) (A B C : Type 0) → (B → C) → Either b A B → Either b A C
 then-so true A B C f x = x
 then-so false A B C f x = f x
 
-same : (bs : List ℕ) → bytes_eq bs bs ≡ true
+pub same : (bs : List ℕ) → bytes_eq bs bs ≡ true
 same bs = (bytes_eq-Decides bs bs).1 refl
 
 -- the rows of an interval stand together, and what a log keeps is an end of its run's records
@@ -90,7 +90,7 @@ answer law stand names p v line files r =
     ∙ ap (λ (rs : List Row). interval_told names p.hart p.number v (record { rows = rs; outcome = Done })) together
 
 -- an answer by a log that says this
-by-content : Grammar → (names : FileNames) (bytes : List ℕ) (d : Content) (go : Content → Told) (what : Told) → IsContent d → bytes ≡ file_bytes d → IsByLog names bytes go what → what ≡ go d
+pub by-content : Grammar → (names : FileNames) (bytes : List ℕ) (d : Content) (go : Content → Told) (what : Told) → IsContent d → bytes ≡ file_bytes d → IsByLog names bytes go what → what ≡ go d
 by-content g names bytes d go what is e by = by.is ∙ ap (λ (r : Result Content FileError). by_log names go r) (one-reading g bytes by.says (Ok d) by.reads (is, e))
 
 replays : Grammar → LogSuffices → Together → FileLaws → (files : Files) (p : Part) (v : Interval) (line : Option Line) (r : ReplaysRun line files p v) (what : Told)

@@ -16,5 +16,6 @@ pub mod Run
 pub mod Saves
 pub mod Laws
 pub mod Headline
+pub mod Jointly
 pub mod Complete
 pub mod Asks

@@ -2,9 +2,11 @@
 ghost use Rattle.bugnet.specs.Laws.{OneAnswer, SeedsAreWhole, FilesKeepToTheirSize};
 ghost use Rattle.bugnet.specs.Complete.{EachHasAnAnswer, EachCanBeDone};
 ghost use Rattle.bugnet.specs.Headline.{Headline, RecordingsAreReplayed};
+ghost use Rattle.bugnet.specs.Jointly.{JointHeadline, RecordingsCanBeJoined, RecordingsAreJoined};
 
 use file_laws::logs_are_contents;
 use hart_worker::seeded_lists_end;
+use joint_laws::files_say_the_run_jointly;
 use log_file::laws::{
     files_have_their_size, files_say_one_thing, logs_are_not_refused, refusals_are_unique,
 };
@@ -41,6 +43,23 @@ pub fn headline()
     files_have_their_size();
 }
 
+/// The answer to the joint replay of the log file of a run is the text of one that says the run: it
+/// isn't stopped, keeps the recorded order of conflicting accesses, gives the run's own rows of each
+/// hart's retained intervals from the run's own states, and ends with recorded words. It is so whatever
+/// the program, its input, the list of turns and the settings. A program file that is longer than a
+/// command may load is refused, when it is recorded too.
+pub fn joint_headline()
+    ensures { JointHeadline }
+{
+    files_say_one_thing();
+    logs_are_not_refused();
+    refusals_are_unique();
+    files_say_the_run_jointly();
+    logs_are_contents();
+    format_1_is_version_1();
+    files_have_their_size();
+}
+
 /// Words and files have an answer, where what the files hold is bytes.
 pub fn each_has_an_answer()
     ensures { EachHasAnAnswer }
@@ -71,6 +90,25 @@ pub fn recordings_are_replayed()
     ensures { RecordingsAreReplayed }
 {
     headline();
+}
+
+/// Where the log file of a recording and its program file are there, the program file within its limit,
+/// there is all that their joint replay needs: it isn't stopped.
+pub fn recordings_can_be_joined()
+    ensures { RecordingsCanBeJoined }
+{
+    files_say_the_run_jointly();
+    logs_are_contents();
+    format_1_is_version_1();
+    files_have_their_size();
+}
+
+/// Of the files that a recording leaves, the joint replay of the log is printed, and says the recorded
+/// run.
+pub fn recordings_are_joined()
+    ensures { RecordingsAreJoined }
+{
+    joint_headline();
 }
 
 /// The list of turns that a seed chooses is legal and finished, where the settings were tested.

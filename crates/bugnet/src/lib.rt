@@ -22,8 +22,9 @@ mod texts;
 pub use answer::{Answer, Reading, Recording, RunEnd};
 pub use joining::JointReading;
 pub use laws::{
-    each_can_be_done, each_has_an_answer, files_keep_to_their_size, headline, one_answer,
-    recordings_are_replayed, seeds_are_whole,
+    each_can_be_done, each_has_an_answer, files_keep_to_their_size, headline, joint_headline,
+    one_answer, recordings_are_joined, recordings_are_replayed, recordings_can_be_joined,
+    seeds_are_whole,
 };
 pub use names::{Names, Role};
 pub use printing::Ending;

@@ -7,6 +7,7 @@ ghost use Rattle.bugnet.specs.Asks.{LineSaves, RecordsRun};
 ghost use Rattle.bugnet.specs.Laws.{IsNoRecording};
 ghost use Rattle.bugnet.specs.Complete.{IsDone};
 ghost use Rattle.bugnet.specs.Headline.{PrintsRun};
+ghost use Rattle.bugnet.specs.Jointly.{PrintsJointly};
 ghost use Rattle.bugnet.specs.Outside.{GivesBy, CauseBy, WithFiles, IsPrinted};
 ghost use Rattle.bugnet.specs.Saves.{LeavesRun, HasElf};
 ghost use Rattle.bugnet.specs.Run.{call, TellsAnswer, ByWords, Keeps, ChangesFew};
@@ -15,7 +16,8 @@ use crate::acting::act;
 use crate::answer::Answer;
 use crate::joining::join_files;
 use crate::laws::{
-    each_can_be_done, files_keep_to_their_size, headline, one_answer, seeds_are_whole,
+    each_can_be_done, files_keep_to_their_size, headline, joint_headline, one_answer,
+    seeds_are_whole,
 };
 use crate::loading::{check_files, list_files, replay_files};
 use crate::names::Names;
@@ -181,6 +183,10 @@ pub fn run<S: Store, I: Source, O: Sink, X: Sink, G: Gate, R: Threads + Wait + S
     // run's own rows. A program file of more than 2 ^ 26 bytes is too long, also for a recording.
     ensures headline { WithFiles (S.files store.old) (λ files. PrintsRun (command_in words.now) files result (O.written out.old) (O.written out.new)) }
 
+    // Its joint replay says the run: it keeps the recorded order of conflicting accesses, and prints each
+    // hart's own rows, and words that the run had in memory.
+    ensures jointly { WithFiles (S.files store.old) (λ files. PrintsJointly (command_in words.now) files result (O.written out.old) (O.written out.new)) }
+
     // Where the words and the files are as the command needs them, it is done, unless memory was
     // wanting, or the store or a write failed.
     ensures done { WithFiles (S.files store.old) (λ files. IsDone (command_in words.now) files result) }
@@ -212,6 +218,7 @@ pub fn run<S: Store, I: Source, O: Sink, X: Sink, G: Gate, R: Threads + Wait + S
     ensures input { input.new ≡ input.old }
 {
     headline();
+    joint_headline();
     one_answer();
     each_can_be_done();
     match read_words(alloc, words) {

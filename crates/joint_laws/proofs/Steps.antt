@@ -170,9 +170,15 @@ module _ (r : Recording) (records : List Record) (log : IsLogOf r records) (go :
     ]
   ]
 
+  -- a joint replay that was refused repeats that
+  abbrev after_refusal : ℕ → Walk → Option ReplayError → Ran
+  after_refusal n w o = elim o [ Some e ↦ ran w (Some (error_of e)) | None ↦ after_choice n w (choice w.now) ]
+
   runs : (n : ℕ) (w : Walk) (order : List ℕ) → IsBegun r.program r.settings.harts records order w → steps_left w.now.lanes < n → Ends (run_for n w)
   runs zero w order b low = absurd (omega (arith, low))
-  runs (suc n) w order b low = by (choice w.now) refl (λ v os c up. runs n v os c up)
+  runs (suc n) w order b low =
+      let none : w.now.refused ≡ None = (follow r records order w log b).refused in
+      subst (λ (o : Option ReplayError). Ends (after_refusal n w o)) (sym none) (by (choice w.now) refl (λ v os c up. runs n v os c up))
     where
       hart : (h : ℕ) → choice w.now ≡ Hart h → ((v : Walk) (os : List ℕ) → IsBegun r.program r.settings.harts records os v → steps_left v.now.lanes < n → Ends (run_for n v)) → Ends (after_choice n w (Hart h))
       hart h e rest =

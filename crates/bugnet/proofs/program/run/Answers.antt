@@ -14,6 +14,7 @@ use Rattle.bugnet.proofs.Prints.{appends-nothing}
 use Rattle.bugnet.proofs.Tells.{refusal-answers, memory-names, with-any, answers-keep, answers-few}
 use Rattle.bugnet.proofs.Causes.{memory-words}
 use Rattle.bugnet.proofs.Suffices.{prints-run}
+use Rattle.bugnet.proofs.Jointly.{prints-jointly}
 use Rattle.bugnet.proofs.Complete.{call-done}
 use Rattle.bugnet.specs.Saves.{LeavesRun}
 use Rattle.bugnet.proofs.Leaves.{leaves-none, told-apart}
@@ -38,6 +39,11 @@ pub returns-in-Err-Refused-clause-headline : goal.returns-in-Err-Refused-clause-
 returns-in-Err-Refused-clause-headline g c =
     let k = call (g.S.Store.files) (g.S.Store.counts) (g.O.Sink.written) (g.O.Sink.faults) (g.X.Sink.written) (g.X.Sink.faults) c.args.store.now c.args.out.now c.args.err.now c.args.store.now c.args.out.now c.refuse.new.err in
     prints-run c.headline.ensures (command_in c.args.words.now) c.refuse.result k (returns-in-Err-Refused-clause-told g c)
+
+pub returns-in-Err-Refused-clause-jointly : goal.returns-in-Err-Refused-clause-jointly
+returns-in-Err-Refused-clause-jointly g c =
+    let k = call (g.S.Store.files) (g.S.Store.counts) (g.O.Sink.written) (g.O.Sink.faults) (g.X.Sink.written) (g.X.Sink.faults) c.args.store.now c.args.out.now c.args.err.now c.args.store.now c.args.out.now c.refuse.new.err in
+    prints-jointly c.joint_headline.ensures (command_in c.args.words.now) c.refuse.result k (returns-in-Err-Refused-clause-told g c)
 
 pub returns-in-Err-Refused-clause-kept : goal.returns-in-Err-Refused-clause-kept
 returns-in-Err-Refused-clause-kept g c =
@@ -68,6 +74,11 @@ returns-in-Err-OutOfMemory-clause-headline g c =
     let k = call (g.S.Store.files) (g.S.Store.counts) (g.O.Sink.written) (g.O.Sink.faults) (g.X.Sink.written) (g.X.Sink.faults) c.args.store.now c.args.out.now c.args.err.now c.args.store.now c.args.out.now c.refuse-in-Err-OutOfMemory.new.err in
     prints-run c.headline.ensures (command_in c.args.words.now) c.refuse-in-Err-OutOfMemory.result k (returns-in-Err-OutOfMemory-clause-told g c)
 
+pub returns-in-Err-OutOfMemory-clause-jointly : goal.returns-in-Err-OutOfMemory-clause-jointly
+returns-in-Err-OutOfMemory-clause-jointly g c =
+    let k = call (g.S.Store.files) (g.S.Store.counts) (g.O.Sink.written) (g.O.Sink.faults) (g.X.Sink.written) (g.X.Sink.faults) c.args.store.now c.args.out.now c.args.err.now c.args.store.now c.args.out.now c.refuse-in-Err-OutOfMemory.new.err in
+    prints-jointly c.joint_headline.ensures (command_in c.args.words.now) c.refuse-in-Err-OutOfMemory.result k (returns-in-Err-OutOfMemory-clause-told g c)
+
 pub returns-in-Err-OutOfMemory-clause-kept : goal.returns-in-Err-OutOfMemory-clause-kept
 returns-in-Err-OutOfMemory-clause-kept g c =
     let k = call (g.S.Store.files) (g.S.Store.counts) (g.O.Sink.written) (g.O.Sink.faults) (g.X.Sink.written) (g.X.Sink.faults) c.args.store.now c.args.out.now c.args.err.now c.args.store.now c.args.out.now c.refuse-in-Err-OutOfMemory.new.err in
@@ -92,6 +103,11 @@ pub returns-in-Ok-clause-headline : goal.returns-in-Ok-clause-headline
 returns-in-Ok-clause-headline g c =
     let k = call (g.S.Store.files) (g.S.Store.counts) (g.O.Sink.written) (g.O.Sink.faults) (g.X.Sink.written) (g.X.Sink.faults) c.args.store.now c.args.out.now c.args.err.now c.obey.new.store c.obey.new.out c.obey.new.err in
     prints-run c.headline.ensures (command_in c.args.words.now) c.obey.result k (returns-in-Ok-clause-told g c)
+
+pub returns-in-Ok-clause-jointly : goal.returns-in-Ok-clause-jointly
+returns-in-Ok-clause-jointly g c =
+    let k = call (g.S.Store.files) (g.S.Store.counts) (g.O.Sink.written) (g.O.Sink.faults) (g.X.Sink.written) (g.X.Sink.faults) c.args.store.now c.args.out.now c.args.err.now c.obey.new.store c.obey.new.out c.obey.new.err in
+    prints-jointly c.joint_headline.ensures (command_in c.args.words.now) c.obey.result k (returns-in-Ok-clause-told g c)
 
 pub returns-in-Ok-clause-kept : goal.returns-in-Ok-clause-kept
 returns-in-Ok-clause-kept g c =

@@ -1,0 +1,144 @@
+-- The answer to the joint replay of a recording's log is the text of one that says the run.
+use Rattle.std.proofs.Common.{◌≡◌, ℕ, Bool, true, false, List, length, nat_lt, Option, Some, None, ◌∙◌, ap, subst, sym, refl, arith, inl, inr, ◌⊎◌}
+use Rattle.std.specs.Prelude.{Result}
+use Rattle.std.specs.Io.KnownBytes.{Appends}
+use Rattle.sha2.specs.Sha256.{sha256}
+use Rattle.bn_base.specs.Programs.{Program}
+use Rattle.bn_outside.specs.Files.{Files}
+use Rattle.command_words.specs.Words.{Line, JointLine}
+use Rattle.elf_loader.specs.declared.error.ElfError.{ElfError}
+use Rattle.log_order.specs.Content.{Content, IsContent}
+use Rattle.log_file.specs.Layout.{file_bytes}
+use Rattle.joint_replay.specs.declared.error.JointError.{JointError}
+use Rattle.joint_replay.specs.Joining.{Ran}
+use Rattle.joint_replay.specs.Texts.{joint_text}
+use Rattle.run_model.specs.Files.{content_of, file_of}
+use Rattle.joint_laws.specs.Recordings.{Recording, IsRecorded, recorded}
+use Rattle.joint_laws.specs.Laws.{JointFilesSayTheRun}
+use Rattle.bugnet.specs.Names.{FileNames}
+use Rattle.bugnet.specs.Told.{Told, refused, printed}
+use Rattle.bugnet.specs.Commands.{Either, WithFile, IsByLog}
+use Rattle.bugnet.specs.Joined.{joint_status, joint_line, ran_told, joint_loaded, joint_same, joint_of, IsJointOf, IsJoint}
+use Rattle.bugnet.specs.Answers.{names_in, names_by, IsAnswer}
+use Rattle.bugnet.specs.Jointly.{joint_run, SaysRun, JoinsRun, TellsRun, IsJoined, JointHeadline, RecordingsCanBeJoined, recording_of, RecordingsAreJoined, DoneJointly, PrintsJointly}
+use Rattle.bugnet.specs.Outside.{WithFiles}
+use Rattle.bugnet.specs.Run.{Call, IsFree, SomeTold, Tells, StoppedEarly, TellsAnswer}
+use Rattle.bugnet.specs.declared.names.Role.TheVariants as role
+use Rattle.bugnet.specs.declared.refusal.Refusal.TheVariants.{TooLong}
+use Rattle.bugnet.proofs.Loads.{fits, of_false}
+use Rattle.bugnet.proofs.Single.{Grammar}
+use Rattle.bugnet.proofs.Suffices.{FileLaws, file-size, by-file, by-size, then-so, same, by-content}
+use Rattle.bugnet.proofs.Tells.{with-files, stopped-free, early-free}
+
+-- ---- the log
+
+-- what the log of a recording says
+abbrev log_of : Recording → Content
+log_of r = content_of r.settings (sha256 r.elf) (recorded r)
+
+is-content : FileLaws → (r : Recording) → IsRecorded r → IsContent (log_of r)
+is-content laws r is = laws.contents r.settings r.program r.elf r.input r.turns is
+
+file-bytes : FileLaws → (r : Recording) → IsRecorded r → file_of r.settings r.program (sha256 r.elf) r.input r.turns ≡ file_bytes (log_of r)
+file-bytes laws r is =
+    let one : r.settings.format ≡ 1 = omega (arith, is.setting.format_low, is.setting.format_high) in
+    laws.version r.settings r.program (sha256 r.elf) r.input r.turns one
+
+-- its joint replay says the run
+says-run : JointFilesSayTheRun → FileLaws → (r : Recording) → IsRecorded r → SaysRun r
+says-run law laws r is = law r (log_of r) is (record { content = is-content laws r is; bytes = sym (file-bytes laws r is) })
+
+-- ---- the answer
+
+abbrev told_at : FileNames → List ℕ → Option JointError → Told
+told_at names text stopped = record { status = joint_status stopped; out = text; err = joint_line names stopped; saved = None }
+
+-- a joint replay that isn't stopped is printed
+told-joint : (names : FileNames) (x : Ran) → x.stopped ≡ None → ran_told names x ≡ printed (joint_text x)
+unfolding ran_told
+told-joint names x e = ap (λ (o : Option JointError). told_at names (joint_text x) o) e
+
+answer : (names : FileNames) (r : Recording) → IsRecorded r → SaysRun r → joint_of names r.elf (log_of r) ≡ printed (joint_text (joint_run r))
+answer names r is says =
+    let d = log_of r in
+    ap (λ (b : Bool). joint_same b names r.elf d) (same (sha256 r.elf)) ∙ ap (λ (i : Result Program ElfError). joint_loaded names d i) is.loaded ∙ told-joint names (joint_run r) says.stopped
+
+joins : Grammar → JointFilesSayTheRun → FileLaws → (files : Files) (r : Recording) (line : Option Line) (j : JoinsRun line files r) (what : Told)
+    → IsJoint files (names_in (JointLine j.log_name j.elf_name)) what → IsJoined (Some (JointLine j.log_name j.elf_name)) r what
+unfolding WithFile
+joins g law laws files r line j what is =
+    let names = names_in (JointLine j.log_name j.elf_name) in
+    let d = log_of r in
+    let log = file_bytes d in
+    let there : files j.log_name ≡ Some log = j.log ∙ ap (λ (bytes : List ℕ). Some bytes) (file-bytes laws r j.recording) in
+    let content : IsContent d = is-content laws r j.recording in
+    let first : IsJointOf files names log what =
+    by-file (files j.log_name) names role.Log 268500992 log (λ log what. IsJointOf files names log what) what there (file-size laws d content) is in
+    let second = by-size (files j.elf_name) names role.Elf 67108864 r.elf (λ elf what. IsByLog names log (joint_of names elf) what) what j.program first in
+    let says : SaysRun r = says-run law laws r j.recording in
+    then-so (nat_lt 67108864 (length r.elf)) _ _ _ (λ (by : IsByLog names log (joint_of names r.elf) what).
+    record { text = by-content g names log d (joint_of names r.elf) what content refl by ∙ answer names r j.recording says; says = says }) second
+
+pub joint-headline : Grammar → JointFilesSayTheRun → FileLaws → JointHeadline
+joint-headline g law laws line files r j what is =
+    subst (λ (l : Option Line). IsJoined l r what) (sym j.command) (joins g law laws files r line j what (subst (λ (l : Option Line). IsAnswer l files what) j.command is))
+
+-- what a recording left
+pub joined-so : JointHeadline → RecordingsAreJoined
+joined-so law r old new l files log elf log_is elf_is what is =
+    of_false (nat_lt 67108864 (length l.elf)) _ _ (fits 67108864 (length l.elf) l.small)
+    (law (Some (JointLine log elf)) files (recording_of l) (record {
+      log_name = log;
+      elf_name = elf;
+      command = refl;
+      program = elf_is ∙ l.elf_there;
+      recording = l.recording;
+      log = log_is ∙ l.log;
+    }) what is)
+
+-- the file of a recording has all that the command needs
+pub can-be-joined : JointFilesSayTheRun → FileLaws → RecordingsCanBeJoined
+can-be-joined law laws log elf files r is log_is elf_is small =
+    let says : SaysRun r = says-run law laws r is in
+    record {
+      content = log_of r;
+      bytes = r.elf;
+      program = r.program;
+      is = is-content laws r is;
+      log_there = log_is ∙ ap (λ (bytes : List ℕ). Some bytes) (file-bytes laws r is);
+      elf_there = elf_is;
+      elf_small = small;
+      same = same (sha256 r.elf);
+      loaded = is.loaded;
+      goes_on = says.stopped;
+    }
+
+-- ---- what is printed
+
+told-so : (long : Bool) (names : FileNames) (r : Recording) (what : Told) (status : ℕ) (k : Call) → Either long (what ≡ refused names (TooLong role.Elf)) (TellsRun r what) → Tells names what status k
+    → IsFree status ⊎ Either long (status ≡ 5) (DoneJointly r status k.old.out k.new.out)
+unfolding refused
+told-so true names r what status k e (inl done) = inr (done.status_is ∙ ap (λ (t : Told). t.status) e)
+told-so true names r what status k e (inr stopped) = inl (stopped-free names what status k stopped)
+told-so false names r what status k e (inl done) =
+    inr (record {
+      done = done.status_is ∙ ap (λ (t : Told). t.status) e.text;
+      text = subst (λ (t : List ℕ). Appends k.old.out k.new.out t) (ap (λ (t : Told). t.out) e.text) done.out;
+      says = e.says;
+    })
+told-so false names r what status k e (inr stopped) = inl (stopped-free names what status k stopped)
+
+-- by its status, and what out gains
+abbrev Prints : ℕ → Call → Recording → Type 0
+Prints status k r = IsFree status ⊎ Either (nat_lt 67108864 (length r.elf)) (status ≡ 5) (DoneJointly r status k.old.out k.new.out)
+
+printed-so : JointHeadline → (line : Option Line) (files : Files) (r : Recording) (j : JoinsRun line files r) (status : ℕ) (k : Call)
+    → SomeTold (IsAnswer line files) (λ what. Tells (names_by line) what status k) ⊎ StoppedEarly line files status k → Prints status k r
+printed-so law line files r j status k (inr early) = inl (early-free line files status k early)
+printed-so law line files r j status k (inl found) =
+    told-so (nat_lt 67108864 (length r.elf)) (names_by line) r found.0 status k (law line files r j found.0 found.1) found.2
+
+pub prints-jointly : JointHeadline → (line : Option Line) (status : ℕ) (k : Call) → TellsAnswer line status k → WithFiles k.old.files (λ files. PrintsJointly line files status k.old.out k.new.out)
+prints-jointly law line status k h =
+    with-files k.old.files (λ files. SomeTold (IsAnswer line files) (λ what. Tells (names_by line) what status k) ⊎ StoppedEarly line files status k)
+    (λ files. PrintsJointly line files status k.old.out k.new.out) (λ files found r j. printed-so law line files r j status k found) h
