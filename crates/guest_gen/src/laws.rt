@@ -1,0 +1,24 @@
+// Small generated programs, worked out by hand, and how long each file is.
+ghost use Rattle.std.specs.Prelude.{◌≡◌, ℕ, List, [], ◌∷◌, length, map};
+ghost use Rattle.rv_decode.specs.Encode.{encoded};
+ghost use Rattle.guest_gen.specs.declared.kind.Kind.{Kind};
+ghost use Rattle.guest_gen.specs.declared.kind.Kind.TheVariants.{Loop, Crash};
+ghost use Rattle.guest_gen.specs.Code.{next, draws, slot, opening, closing, chosen};
+
+/// The draws of seed 0: the first state is the number that is added, of which the highest 31 bits are
+/// drawn.
+#[tactic(auto, unfolding(crate::specs::Code::draws))]
+pub fn first_draws()
+    ensures state { next 0 ≡ 1442695040888963407 }
+    ensures drawn { draws 1 0 ≡ 167951807 ∷ [] }
+{}
+
+/// The words before and behind the slots, and one of each choice with its number 5.
+#[tactic(auto, unfolding(crate::specs::Code::opening))]
+pub fn words_worked_out()
+    ensures opening { map encoded opening ≡ 0x00020437 ∷ 0x00851493 ∷ 0x008484b3 ∷ [] }
+    ensures loops { encoded (closing Loop) ≡ 0xc01ff06f }
+    ensures crash { encoded (closing Crash) ≡ 0x00002303 }
+    ensures slots { map (λ r. encoded (slot r)) (40 ∷ 41 ∷ 42 ∷ 43 ∷ 44 ∷ 45 ∷ 46 ∷ 47 ∷ []) ≡
+        0x00530313 ∷ 0x0063c3b3 ∷ 0x01442303 ∷ 0x00642a23 ∷ 0x00740a23 ∷ 0x0074232f ∷ 0x027303b3 ∷ 0x1144a383 ∷ [] }
+{}
