@@ -1,6 +1,6 @@
 -- The bytes of a generated program, piece by piece.
-use Rattle.std.proofs.Common.{◌≡◌, ℕ, suc, ◌+◌, ◌-◌, ◌/◌, ◌<◌, ◌≤◌, ◌^◌, List, [], ◌∷◌, ◌++◌, map, refl, ap, sym, ◌∙◌, append_assoc, arith}
-use Rattle.std.proofs.lemmas.List.{append-nil}
+use Rattle.std.proofs.Common.{◌≡◌, ℕ, zero, suc, length, length-append, ◌*◌, ◌+◌, ◌-◌, ◌/◌, ◌<◌, ◌≤◌, ◌^◌, List, [], ◌∷◌, ◌++◌, map, refl, ap, sym, ◌∙◌, append_assoc, arith}
+use Rattle.std.proofs.lemmas.List.{append-nil, length-map}
 use Rattle.std.proofs.lemmas.List.Concat.{flat_map-cons}
 use Rattle.std.proofs.lemmas.Grind.{flat_map-append}
 use Rattle.le_numbers.specs.Numbers.{number_bytes}
@@ -8,7 +8,7 @@ use Rattle.rv_decode.specs.Table.{Instruction}
 use Rattle.rv_decode.specs.Encode.{encoded}
 use Rattle.guest_gen.specs.declared.kind.Kind.{Kind}
 use Rattle.guest_gen.specs.Code.{next, draws, slot, code, opening, closing}
-use Rattle.guest_gen.specs.File.{headers, code_bytes, guest_bytes}
+use Rattle.guest_gen.specs.File.{headers, file_header, identification, code_bytes, guest_bytes}
 
 abbrev pub word_of : Instruction → List ℕ
 word_of i = number_bytes 4 (encoded i)
@@ -77,3 +77,34 @@ whole_file seed kind a b c d i p q r e w =
 -- nothing is left to draw, so what is written is the whole
 pub all_drawn : (n s : ℕ) (out whole : List ℕ) → 256 ≤ n → out ++ code_bytes (map slot (draws (256 - n) s)) ≡ whole → out ≡ whole
 all_drawn n s out whole h e = sym (append-nil out) ∙ ap (λ t. out ++ t) (sym (none_left n s (omega (arith, h)))) ∙ e
+
+four : (i : Instruction) → length (word_of i) ≡ 4
+unfolding number_bytes
+four i = refl
+
+count_bytes : (is : List Instruction) → length (code_bytes is) ≡ 4 * length is
+count_bytes [] = ap length none
+count_bytes (i ∷ is) = ap length (one_more i is) ∙ omega (arith, length-append (word_of i) (code_bytes is), four i, count_bytes is)
+
+count_draws : (n s : ℕ) → length (draws n s) ≡ n
+unfolding draws
+count_draws zero s = refl
+count_draws (suc n) s = ap suc (count_draws n (next s))
+
+count_opening : length opening ≡ 3
+unfolding opening
+count_opening = refl
+
+count_headers : length headers ≡ 116
+unfolding headers file_header identification number_bytes
+count_headers = refl
+
+count_code : (seed : ℕ) (kind : Kind) → length (code seed kind) ≡ 260
+unfolding code
+count_code seed kind =
+    let slots = map slot (draws 256 seed) in
+    omega (arith, length-append opening (slots ++ (closing kind ∷ [])), length-append slots (closing kind ∷ []), length-map (draws 256 seed) slot, count_draws 256 seed, count_opening)
+
+pub count_file : (seed : ℕ) (kind : Kind) → length (guest_bytes seed kind) ≡ 1156
+unfolding guest_bytes
+count_file seed kind = omega (arith, length-append headers (code_bytes (code seed kind)), count_bytes (code seed kind), count_code seed kind, count_headers)

@@ -1,11 +1,12 @@
 -- Each instruction of a generated program is what its word decodes to.
-use Rattle.std.proofs.Common.{◌≡◌, ℕ, zero, suc, ◌+◌, ◌*◌, ◌<◌, ◌^◌, ◌==◌, Bool, true, false, List, [], ◌∷◌, Some, refl, ap, arith, lit<, ◌/◌, ◌%◌}
+use Rattle.std.proofs.Common.{◌≡◌, ℕ, zero, suc, ◌+◌, ◌*◌, ◌<◌, ◌^◌, ◌==◌, Bool, true, false, List, [], ◌∷◌, Some, refl, ap, arith, lit<, ◌/◌, ◌%◌, ◌++◌, map}
 use Rattle.std.specs.Prelude.{◌≢◌, nat_lt}
+use Rattle.std.specs.List.{AllByRecursion}
 use Rattle.std.proofs.lemmas.Bool.{ltb-true}
-use Rattle.rv_decode.specs.declared.name.Name.TheVariants.{Lw, Sb, Sw, Addi, Slli, Add, Fence}
+use Rattle.rv_decode.specs.declared.name.Name.TheVariants.{Lw, Sb, Sw, Lui, Addi, Slli, Add, Fence}
 use Rattle.rv_decode.specs.Table.{Instruction, decoded}
 use Rattle.rv_decode.specs.Encode.{encoded, fixed_of}
-use Rattle.guest_gen.specs.Code.{t1, t2, s0, s1, a0, with_immediate, storing, of_registers, chosen, slot, closing, IsCode}
+use Rattle.guest_gen.specs.Code.{t1, t2, s0, s1, a0, with_immediate, storing, of_registers, chosen, slot, draws, code, opening, closing, IsCode}
 use Rattle.guest_gen.specs.declared.kind.Kind.{Kind}
 use Rattle.guest_gen.specs.declared.kind.Kind.TheVariants.{Loop, Crash}
 use Rattle.std.proofs.lemmas.Nat.{mod_below}
@@ -76,3 +77,14 @@ slli_code = (lit< tt, refl, λ e. absurd (omega (arith, ap fixed_of e)))
 
 pub add_code : IsCode (of_registers Add s1 s1 s0)
 add_code = (lit< tt, refl, λ e. absurd (omega (arith, ap fixed_of e)))
+
+lui_code : IsCode (with_immediate Lui s0 0 131072)
+lui_code = (lit< tt, refl, λ e. absurd (omega (arith, ap fixed_of e)))
+
+all_slots : (rs : List ℕ) (is : List Instruction) → AllByRecursion IsCode is → AllByRecursion IsCode (map slot rs ++ is)
+all_slots [] is all = all
+all_slots (r ∷ rs) is all = (slot_code r, all_slots rs is all)
+
+pub all_code_words : (seed : ℕ) (kind : Kind) → AllByRecursion IsCode (code seed kind)
+unfolding code opening
+all_code_words seed kind = (lui_code, (slli_code, (add_code, all_slots (draws 256 seed) (closing kind ∷ []) (closing_code kind, tt))))

@@ -1,9 +1,21 @@
-// Small generated programs, worked out by hand, and how long each file is.
+// What holds of every generated program, and words that were worked out by hand.
 ghost use Rattle.std.specs.Prelude.{◌≡◌, ℕ, List, [], ◌∷◌, length, map};
+ghost use Rattle.std.specs.List.{AllByRecursion};
 ghost use Rattle.rv_decode.specs.Encode.{encoded};
 ghost use Rattle.guest_gen.specs.declared.kind.Kind.{Kind};
 ghost use Rattle.guest_gen.specs.declared.kind.Kind.TheVariants.{Loop, Crash};
-ghost use Rattle.guest_gen.specs.Code.{next, draws, slot, opening, closing, chosen};
+ghost use Rattle.guest_gen.specs.Code.{next, draws, slot, opening, closing, code, IsCode};
+ghost use Rattle.guest_gen.specs.File.{guest_bytes};
+
+/// Each instruction of a generated program is what its word decodes to, whatever the number.
+pub fn instructions_decode_to_themselves()
+    ensures { (seed : ℕ) (kind : Kind) → AllByRecursion IsCode (code seed kind) }
+{}
+
+/// A generated program's file has 1,156 bytes, whatever the number.
+pub fn files_have_one_size()
+    ensures { (seed : ℕ) (kind : Kind) → length (guest_bytes seed kind) ≡ 1156 }
+{}
 
 /// The draws of seed 0: the first state is the number that is added, of which the highest 31 bits are
 /// drawn.
