@@ -1,6 +1,6 @@
 -- Each instruction of a generated program is what its word decodes to.
 use Rattle.std.proofs.Common.{◌≡◌, ℕ, zero, suc, ◌+◌, ◌*◌, ◌<◌, ◌^◌, ◌==◌, Bool, true, false, List, [], ◌∷◌, Some, refl, ap, arith, lit<, ◌/◌, ◌%◌, ◌++◌, map}
-use Rattle.std.specs.Prelude.{◌≢◌, nat_lt}
+use Rattle.std.specs.Prelude.{if◌then◌else◌, ◌≢◌, nat_lt}
 use Rattle.std.specs.List.{AllByRecursion}
 use Rattle.std.proofs.lemmas.Bool.{ltb-true}
 use Rattle.rv_decode.specs.declared.name.Name.TheVariants.{Lw, Sb, Sw, Lui, Addi, Slli, Add, Fence}
@@ -50,7 +50,7 @@ sb_code k h = all_code (λ k. storing Sb t2 s0 (4 * k)) 64 k h refl refl (λ e. 
 far_code : Codes (λ k. with_immediate Lw t2 s1 (256 + 4 * k))
 far_code k h = all_code (λ k. with_immediate Lw t2 s1 (256 + 4 * k)) 64 k h refl refl (λ e. absurd (omega (arith, ap fixed_of e)))
 
-either : (b : Bool) (i j : Instruction) → IsCode i → IsCode j → IsCode (elim b as (λ c. Instruction) [ true ↦ i | false ↦ j ])
+either : (b : Bool) (i j : Instruction) → IsCode i → IsCode j → IsCode (if b then i else j)
 either true i j p q = p
 either false i j p q = q
 

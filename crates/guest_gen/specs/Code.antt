@@ -1,5 +1,5 @@
 -- The code of a generated program: which instructions a number gives.
-use Rattle.std.specs.Prelude.{ℕ, zero, suc, ◌+◌, ◌-◌, ◌*◌, ◌/◌, ◌%◌, ◌^◌, ◌==◌, true, false, List, [], ◌∷◌, ◌++◌, map, pos, negsuc, Some, ◌≡◌, ◌≢◌, ◌<◌}
+use Rattle.std.specs.Prelude.{if◌then◌else◌, ℕ, zero, suc, ◌+◌, ◌-◌, ◌*◌, ◌/◌, ◌%◌, ◌^◌, ◌==◌, false, List, [], ◌∷◌, ◌++◌, map, pos, negsuc, Some, ◌≡◌, ◌≢◌, ◌<◌}
 use Rattle.rv_decode.specs.declared.name.Name.{Name}
 use Rattle.rv_decode.specs.declared.name.Name.TheVariants.{Lui, Jal, Lw, Sb, Sw, Addi, Slli, Add, Xor, Mul, AmoaddW, Fence}
 use Rattle.rv_decode.specs.Table.{Instruction, decoded}
@@ -51,35 +51,14 @@ draws (suc n) s = next s / 2 ^ 33 ∷ draws n (next s)
 -- the instruction of a choice and a number
 abbrev pub chosen : (choice k : ℕ) → Instruction
 chosen choice k =
-    elim (choice == 0) [
-      | true ↦ with_immediate Addi t1 t1 k
-      | false ↦
-          elim (choice == 1) [
-            | true ↦ of_registers Xor t2 t2 t1
-            | false ↦
-                elim (choice == 2) [
-                  | true ↦ with_immediate Lw t1 s0 (4 * k)
-                  | false ↦
-                      elim (choice == 3) [
-                        | true ↦ storing Sw t1 s0 (4 * k)
-                        | false ↦
-                            elim (choice == 4) [
-                              | true ↦ storing Sb t2 s0 (4 * k)
-                              | false ↦
-                                  elim (choice == 5) [
-                                    | true ↦ of_registers AmoaddW t1 s0 t2
-                                    | false ↦
-                                        elim (choice == 6) [
-                                          | true ↦ of_registers Mul t2 t1 t2
-                                          | false ↦
-                                              with_immediate Lw t2 s1 (256 + 4 * k)
-                                        ]
-                                  ]
-                            ]
-                      ]
-                ]
-          ]
-    ]
+    if choice == 0 then with_immediate Addi t1 t1 k else
+    if choice == 1 then of_registers Xor t2 t2 t1 else
+    if choice == 2 then with_immediate Lw t1 s0 (4 * k) else
+    if choice == 3 then storing Sw t1 s0 (4 * k) else
+    if choice == 4 then storing Sb t2 s0 (4 * k) else
+    if choice == 5 then of_registers AmoaddW t1 s0 t2 else
+    if choice == 6 then of_registers Mul t2 t1 t2 else
+    with_immediate Lw t2 s1 (256 + 4 * k)
 
 -- the instruction of a draw: its lowest three bits are the choice, and the six above them the number
 abbrev pub slot : ℕ → Instruction

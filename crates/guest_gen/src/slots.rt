@@ -1,7 +1,7 @@
 // The instructions of generated programs.
 ghost use Rattle.std.specs.Prelude.{◌≡◌, ◌<◌, ◌^◌};
 ghost use Rattle.rv_decode.specs.Seen.{seen};
-ghost use Rattle.guest_gen.specs.Code.{with_immediate, storing, of_registers, next, chosen, slot, closing};
+ghost use Rattle.guest_gen.specs.Code.{with_immediate, storing, of_registers, next, chosen, slot, closing, IsCode};
 
 use crate::kind::Kind;
 use rv_decode::{Instr, Name};
@@ -97,7 +97,8 @@ fn chosen(choice: u64, k: u32) -> Instr
 
 /// The instruction of a draw: its lowest three bits choose it, and the six above them are its number.
 pub fn slot(drawn: u64) -> Instr
-    ensures { seen result ≡ slot drawn }
+    ensures value { seen result ≡ slot drawn }
+    ensures code { IsCode (seen result) }
 {
     chosen(drawn % 8, (drawn / 8 % 64) as u32)
 }
