@@ -5,6 +5,8 @@
 #[cfg(test)]
 mod decoding;
 #[cfg(test)]
+mod generated;
+#[cfg(test)]
 mod loading;
 #[cfg(test)]
 mod meaning;

@@ -1,0 +1,41 @@
+-- The file of a generated program (ELF, "ELF Header" and "Program Header").
+use Rattle.std.specs.Prelude.{ℕ, List, [], ◌∷◌, ◌++◌}
+use Rattle.std.specs.List.{flat_map}
+use Rattle.le_numbers.specs.Numbers.{number_bytes}
+use Rattle.rv_decode.specs.Table.{Instruction}
+use Rattle.rv_decode.specs.Encode.{encoded}
+use Rattle.guest_gen.specs.declared.kind.Kind.{Kind}
+use Rattle.guest_gen.specs.Code.{code}
+
+-- a number of four bytes, and one of two
+abbrev pub words : List ℕ → List ℕ
+words = flat_map (number_bytes 4)
+
+abbrev pub halves : List ℕ → List ℕ
+halves = flat_map (number_bytes 2)
+
+-- e_ident: the magic number, 32 bits, least significant byte first, version 1
+unfoldable pub identification : List ℕ
+identification = 127 ∷ 69 ∷ 76 ∷ 70 ∷ 1 ∷ 1 ∷ 1 ∷ 0 ∷ 0 ∷ 0 ∷ 0 ∷ 0 ∷ 0 ∷ 0 ∷ 0 ∷ 0 ∷ []
+
+-- the ELF header: an executable (2) for RISC-V (243), version 1, that starts at 00010000; the two program headers stand
+-- behind it, at 52, and there are no section headers
+unfoldable pub file_header : List ℕ
+file_header = identification ++ halves (2 ∷ 243 ∷ []) ++ words (1 ∷ 65536 ∷ 52 ∷ 0 ∷ 0 ∷ []) ++ halves (52 ∷ 32 ∷ 2 ∷ 0 ∷ 0 ∷ 0 ∷ [])
+
+-- a program header: type (1 is a segment that is loaded), offset, the address twice, size in the file, size in memory,
+-- flags and alignment
+abbrev pub program_header : (offset address filesz memsz flags : ℕ) → List ℕ
+program_header offset address filesz memsz flags = words (1 ∷ offset ∷ address ∷ address ∷ filesz ∷ memsz ∷ flags ∷ 4 ∷ [])
+
+-- the headers: 260 words of code that is read and executed (5), and a page of data that is read and written (6)
+unfoldable pub headers : List ℕ
+headers = file_header ++ program_header 116 65536 1040 1040 5 ++ program_header 1156 131072 0 4096 6
+
+-- the bytes of instructions
+unfoldable pub code_bytes : List Instruction → List ℕ
+code_bytes = flat_map (λ i. number_bytes 4 (encoded i))
+
+-- the bytes of the file
+unfoldable pub guest_bytes : ℕ → Kind → List ℕ
+guest_bytes seed kind = headers ++ code_bytes (code seed kind)

@@ -1,0 +1,10 @@
+// How a generated program ends.
+
+/// What stands behind the drawn instructions of a generated program.
+#[derive(Clone, Copy, PartialEq, Eq, Debug, Drop)]
+pub enum Kind {
+    /// A jump back to the first of them: the program never ends by itself.
+    Loop,
+    /// A load from address 0, which isn't mapped: each hart that comes there faults.
+    Crash,
+}

@@ -1,0 +1,11 @@
+// Programs that a number gives: files for tests and demonstrations, each with 256 instructions chosen
+// by the draws of a generator, which the harts run through in a loop or up to a crash.
+#![tactic(auto)]
+
+mod building;
+mod kind;
+pub mod laws;
+mod slots;
+
+pub use building::guest;
+pub use kind::Kind;
