@@ -80,7 +80,7 @@ pub no_step : (old new : Joining) (h : ℕ) (e : JointError) (out : List ℕ) �
 no_step old new h e out none lowest (inl r) = (refl, inl (refused r))
   where
     refused : IsRefused old h e new → one_step old ≡ ran (begun new) (Some e)
-    refused r = step_refused old h r.refusal none lowest r.there ∙ ap (λ (x : JointError). ran (begun (record old { refused = Some r.refusal })) (Some x)) (sym r.told) ∙ ap (λ (k : Joining). ran (begun k) (Some e)) (sym r.repeated)
+    refused r = step_refused old h r.refusal none lowest r.there ∙ ap (λ (x : JointError). ran (begun (record old { refused = Some r.refusal })) (Some x)) (sym r.error_is) ∙ ap (λ (k : Joining). ran (begun k) (Some e)) (sym r.repeated)
 no_step old new h e out none lowest (inr m) = (refl, inr (m.0, none, inl m.2))
 
 -- ---- steps that are told, one after another
@@ -91,13 +91,13 @@ pub record Stands (old now : Joining) (out_old out_now : List ℕ) : Type 0 wher
   pub walk : Walk
   pub so_far : run_for steps (begun old) ≡ ran walk None
   pub here : walk.now ≡ now
-  pub stepped_of : out_now ≡ out_old ++ steps_text walk.taken
+  pub told : out_now ≡ out_old ++ steps_text walk.taken
   pub text : out_old ++ steps_text (run_all old).walk.taken ≡ out_now ++ steps_text (run_all now).walk.taken
   pub last : (run_all old).walk.now ≡ (run_all now).walk.now
   pub stopped : (run_all old).stopped ≡ (run_all now).stopped
 
 pub stands_first : (old : Joining) (out : List ℕ) → Stands old old out out
-stands_first old out = record { steps = 0; walk = begun old; so_far = refl; here = refl; stepped_of = sym (append-nil out); text = refl; last = refl; stopped = refl }
+stands_first old out = record { steps = 0; walk = begun old; so_far = refl; here = refl; told = sym (append-nil out); text = refl; last = refl; stopped = refl }
 
 step_here : (w : Walk) (now : Joining) (t : Taken) (next : Joining) → w.now ≡ now → IsStep now t next → IsStep w.now t next
 step_here w now t next here s = ap one_step here ∙ s
@@ -111,7 +111,7 @@ stands_more go old now next out_old out_now out_next s a =
       walk = walk_of (a.taken ∷ s.walk.taken) next;
       so_far = longer_run s.steps [] old s.walk a.taken next s.so_far (step_here s.walk now a.taken next s.here a.step);
       here = refl;
-      stepped_of = a.text ∙ ap (λ (t : List ℕ). t ++ line) s.told ∙ append_assoc out_old (steps_text s.walk.taken) line;
+      told = a.text ∙ ap (λ (t : List ℕ). t ++ line) s.told ∙ append_assoc out_old (steps_text s.walk.taken) line;
       text = s.text ∙ ap (λ (t : List ℕ). out_now ++ t) first.text ∙ sym (append_assoc out_now line (steps_text (run_all next).walk.taken)) ∙ ap (λ (t : List ℕ). t ++ steps_text (run_all next).walk.taken) (sym a.text);
       last = s.last ∙ first.now;
       stopped = s.stopped ∙ first.stopped;
@@ -141,7 +141,7 @@ stands_stopped end old now new out_old out_now out_new e s a = by a.1
     text_is = a.0 ∙ s.told ∙ ap (λ (r : Ran). out_old ++ steps_text r.walk.taken) (sym s.so_far)
 
     starved : e ≡ why.OutOfMemory → IsStarved now new → Runs old (Err e) new out_old out_new
-    starved is (inl h) = inr (ap (λ (x : JointError). failed x) is, record { steps = s.steps; stepped_of = s.steps; last = (omega arith, omega arith); halted = halted_here old now new s.walk s.steps s.so_far s.here h; text = text_is })
+    starved is (inl h) = inr (ap (λ (x : JointError). failed x) is, record { steps = s.steps; told = s.steps; last = (omega arith, omega arith); halted = halted_here old now new s.walk s.steps s.so_far s.here h; text = text_is })
       where
         failed : JointError → Result (Unit {0}) JointError
         failed x = Err x
@@ -149,7 +149,7 @@ stands_stopped end old now new out_old out_now out_new e s a = by a.1
       ap (λ (x : JointError). failed x) is,
       record {
         steps = suc s.steps;
-        stepped_of = s.steps;
+        told = s.steps;
         last = (omega arith, omega arith);
         halted = halted_here old m.1 new (walk_of (m.0 ∷ s.walk.taken) m.1) (suc s.steps) (longer_run s.steps [] old s.walk m.0 m.1 s.so_far (step_here s.walk now m.0 m.1 s.here m.2)) refl m.3;
         text = text_is;
