@@ -29,7 +29,7 @@ fn is_refused(alloc: Global, line: &str) -> Result<bool, AllocError> {
 fn plain<'a>() -> Recording<'a> {
     Recording {
         settings: RawSettings::default(),
-        seed: 5,
+        seed: Some(5),
         input: None,
         elf: "E",
         log: "L",
@@ -55,7 +55,7 @@ fn a_recording_with_all_options(rt: HostRuntime) -> Result<(), Fail> {
             sets2: 0,
             ways2: 0,
         },
-        seed: 10,
+        seed: Some(10),
         input: Some("in.txt"),
         elf: "p.elf",
         log: "p.log",
@@ -81,13 +81,13 @@ fn a_recording_by_default(rt: HostRuntime) -> Result<(), Fail> {
             sets2: 0,
             ways2: 0,
         },
-        seed: 0,
+        seed: None,
         input: None,
         elf: "p.elf",
         log: "p.log",
         book: "p.book",
     };
-    let line = "bugnet record --seed 0 p.elf p.log p.book";
+    let line = "bugnet record p.elf p.log p.book";
     assert!(rt; asks_for(rt.alloc(), line, Command::Record(wanted))?);
     Ok(())
 }
@@ -102,6 +102,11 @@ fn the_other_commands(rt: HostRuntime) -> Result<(), Fail> {
     };
     let line = "bugnet replay p.log p.elf 3 70";
     assert!(rt; asks_for(rt.alloc(), line, replay)?);
+    let joint = Command::Joint {
+        log: "p.log",
+        elf: "p.elf",
+    };
+    assert!(rt; asks_for(rt.alloc(), "bugnet joint p.log p.elf", joint)?);
     let list = Command::List { log: "p.log" };
     assert!(rt; asks_for(rt.alloc(), "bugnet list p.log", list)?);
     let check = Command::Check { log: "p.log" };
@@ -225,7 +230,6 @@ fn lines_that_lack_or_add_a_word(rt: HostRuntime) -> Result<(), Fail> {
     let lines = [
         "bugnet",
         "bugnet record",
-        "bugnet record E L B",
         "bugnet record --seed 5 E L",
         "bugnet record --seed 5 E L B X",
         "bugnet record E L B --seed",
@@ -303,7 +307,8 @@ fn words_that_are_no_command(rt: HostRuntime) -> Result<(), Fail> {
         "bugnet chec L",
         "bugnet -- check L",
         "check L",
-        "bugnet joint L E",
+        "bugnet joint L",
+        "bugnet joint L E 0",
         "bugnet debug L E",
         "bugnet audit L E B",
         "bugnet audit L E B --input F",
