@@ -1,9 +1,9 @@
 -- How often a command asks its store to save.
-use Rattle.std.proofs.Common.{◌≡◌, ◌≢◌, ℕ, List, Option, Some, None, ◌∙◌, subst, arith, inl, inr}
+use Rattle.std.proofs.Common.{◌≡◌, ◌≢◌, ℕ, Bool, true, false, List, Option, Some, None, ◌∙◌, subst, refl, arith, inl, inr}
 use Rattle.bn_outside.specs.Counts.{Counts}
 use Rattle.bn_outside.specs.Files.{Files}
 use Rattle.command_words.specs.Words.{Line, RecordLine, ReplayLine, JointLine, ListLine, CheckLine}
-use Rattle.bugnet.specs.Asks.{SavedBoth, SavesTwo, AtMostTwo, AnswerSaves, LineSaves, RecordsRun}
+use Rattle.bugnet.specs.Asks.{SavedAll, SavesEach, AtMostSaves, AnswerSaves, LineSaves, RecordsRun, is_lean}
 use Rattle.bugnet.specs.Laws.{IsNoRecording}
 use Rattle.bugnet.specs.Names.{FileNames}
 use Rattle.bugnet.specs.Outside.{ToldRefusal, Unsaved, IsPrinted}
@@ -16,7 +16,7 @@ use Rattle.bugnet.specs.declared.refusal.Refusal.TheVariants.{WordsRefused, OutO
 use Rattle.bugnet.proofs.Leaves.{told-apart}
 
 -- neither a recording that is done, nor one whose texts a write refused
-pub none-saved : (status : ℕ) → (IsRecorded status → ⊥) → status ≢ 13 → SavedBoth status → ⊥
+pub none-saved : (status : ℕ) → (IsRecorded status → ⊥) → status ≢ 13 → SavedAll status → ⊥
 none-saved status done write (inl is) = done is
 none-saved status done write (inr is) = write is
 
@@ -41,7 +41,7 @@ unsaved-write saved names old new before now (ReplayStopped x) status err_old er
 unsaved-write saved names old new before now r status err_old err_new m n u (inr h) = no-write status 9 h.0 (λ e. omega (arith, e))
 
 -- nor is that of want of memory
-pub memory-saves : (names : FileNames) (status : ℕ) (err_old err_new : Option (List ℕ)) (m n : ℕ) → ToldRefusal names OutOfMemory status err_old err_new m n → SavedBoth status → ⊥
+pub memory-saves : (names : FileNames) (status : ℕ) (err_old err_new : Option (List ℕ)) (m n : ℕ) → ToldRefusal names OutOfMemory status err_old err_new m n → SavedAll status → ⊥
 memory-saves names status err_old err_new m n told =
     none-saved status (told-apart names OutOfMemory status err_old err_new m n told) (of-memory told)
   where
@@ -50,17 +50,21 @@ memory-saves names status err_old err_new m n told =
     of-memory (inr h) = no-write status 9 h.0 (λ e. omega (arith, e))
 
 -- a recording, one of whose saves was refused
-pub unsaved-saves : (saved : Saved) (names : FileNames) (old new : Option Files) (before now : Counts) (r : Refusal) (status : ℕ) (err_old err_new : Option (List ℕ)) (m n a b : ℕ)
-    → Unsaved (Some saved) names old new before now r → ToldRefusal names r status err_old err_new m n → AtMostTwo a b → SavesTwo status a b
-unsaved-saves saved names old new before now r status err_old err_new m n a b u told few = record {
+pub unsaved-saves : (saved : Saved) (names : FileNames) (old new : Option Files) (before now : Counts) (r : Refusal) (status : ℕ) (err_old err_new : Option (List ℕ)) (m n a b : ℕ) (lean : Bool)
+    → Unsaved (Some saved) names old new before now r → ToldRefusal names r status err_old err_new m n → AtMostSaves lean a b → SavesEach lean status a b
+unsaved-saves saved names old new before now r status err_old err_new m n a b lean u told few = record {
   few = few;
-  both = λ is. absurd (none-saved status (told-apart names r status err_old err_new m n told) (unsaved-write saved names old new before now r status err_old err_new m n u told) is);
+  all = λ is. absurd (none-saved status (told-apart names r status err_old err_new m n told) (unsaved-write saved names old new before now r status err_old err_new m n u told) is);
 }
 
+no-saves : (lean : Bool) (before after : ℕ) → after ≡ before → AtMostSaves lean before after
+no-saves true before after same = inl same
+no-saves false before after same = inl same
+
 -- a line that is refused before anything is saved
-pub line-none : (line : Option Line) (status before after : ℕ) → (SavedBoth status → ⊥) → after ≡ before → LineSaves line status before after
+pub line-none : (line : Option Line) (status before after : ℕ) → (SavedAll status → ⊥) → after ≡ before → LineSaves line status before after
 line-none None status before after never same = same
-line-none (Some (RecordLine r)) status before after never same = record { few = inl same; both = λ is. absurd (never is) }
+line-none (Some (RecordLine r)) status before after never same = record { few = no-saves r.lean before after same; all = λ is. absurd (never is) }
 line-none (Some (ReplayLine log elf hart interval)) status before after never same = same
 line-none (Some (JointLine log elf)) status before after never same = same
 line-none (Some (ListLine log)) status before after never same = same
@@ -76,7 +80,7 @@ printed (Checked d) status before mid after p same saves = saves ∙ same
 -- a line whose answer was acted on
 pub line-acts : (line : Line) (answer : Answer) (status before mid after : ℕ) → RecordsRun line answer → (IsNoRecording (Some line) → IsPrinted answer) → mid ≡ before
     → AnswerSaves answer status mid after → LineSaves (Some line) status before after
-line-acts (RecordLine r) (Recorded x) status before mid after records prints same saves = subst (λ (n : ℕ). SavesTwo status n after) same saves
+line-acts (RecordLine r) (Recorded x) status before mid after records prints same saves = subst (λ (lean : Bool). SavesEach lean status before after) records (subst (λ (n : ℕ). SavesEach (is_lean x) status n after) same saves)
 line-acts (RecordLine r) (Interval x) status before mid after records prints same saves = absurd records
 line-acts (RecordLine r) (Joined x) status before mid after records prints same saves = absurd records
 line-acts (RecordLine r) (Listed d) status before mid after records prints same saves = absurd records

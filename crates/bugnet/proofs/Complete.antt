@@ -1,7 +1,6 @@
 -- Where a command has an answer, and where it is done.
 use Rattle.std.proofs.Common.{◌≡◌, ◌≤◌, ℕ, Bool, true, false, nat_lt, List, [], length, Option, Some, None, ap, subst, sym, refl, arith, inl, inr, ◌⊎◌, ◌∙◌, ◌≢◌}
 use Rattle.std.specs.Prelude.{Result, Ok, Err, IfSome, is_some, unwrap_or}
-use Rattle.std.specs.Str.{bytes_eq}
 use Rattle.sha2.specs.Sha256.{sha256}
 use Rattle.bn_base.specs.Programs.{Program}
 use Rattle.bn_base.specs.Ranges.{first_bad}
@@ -23,19 +22,25 @@ use Rattle.run_model.specs.Files.{content_of}
 use Rattle.replay_laws.specs.Law.{LogSuffices}
 use Rattle.bugnet.specs.Names.{FileNames, no_names, name_of}
 use Rattle.bugnet.specs.Told.{Told, refused}
-use Rattle.bugnet.specs.Commands.{Either, IsByFile, WithFile, Reads, by_log, IsByLog, list_of, check_of, replay_of, IsReplayOf, IsReplay, IsByInput, IsByProgram, IsByNames, IsBySettings, IsRecord}
-use Rattle.bugnet.specs.Recordings.{end_status, recorded, IsRunOf}
-use Rattle.run_model.specs.Runs.{run_of, seeded}
-use Rattle.bugnet.specs.Answers.{names_in, names_by, IsAnswer}
+use Rattle.bugnet.specs.Commands.{is_clash, Either, IsByFile, WithFile, Reads, by_log, IsByLog, list_of, check_of, replay_of, IsReplayOf, IsReplay, IsByInput, IsByProgram, IsByNames, IsBySettings, IsRecord}
+use Rattle.bugnet.specs.Recordings.{end_status, told_run, recorded, AreTaken, IsRunOf, IsUntold, IsRunBy, IsRun}
+use Rattle.run_model.specs.Turn.{Run}
+use Rattle.run_model.specs.Runs.{start, run_of, is_over, seeded}
+use Rattle.run_laws.specs.History.{after_rows, rows_from}
+use Rattle.run_laws.specs.Laws.{TurnsAreLawful, TurnsAreOwn, OwnRowsAreTurns}
+use Rattle.file_laws.specs.Given.{IsRecording}
+use Rattle.file_laws.specs.Laws.{LogsAreContents}
+use Rattle.bugnet.specs.Answers.{names_in, names_by, manner_of, IsAnswer}
 use Rattle.bugnet.specs.Headline.{Part, ReplaysRun}
 use Rattle.bugnet.specs.Outside.{WithFiles}
 use Rattle.bugnet.specs.Run.{Call, IsFree, Tells, StoppedEarly, SomeTold, TellsAnswer}
 use Rattle.bugnet.specs.Saves.{IsRecorded, input_by, HoldsBytes}
 use Rattle.bugnet.specs.Joined.{joint_status, ran_told, joint_loaded, joint_same, joint_of, IsJointOf, IsJoint, CanJoin}
-use Rattle.bugnet.specs.Complete.{EachHasAnAnswer, CanRecord, HasLog, CanBeDone, EachCanBeDone, IsDone}
+use Rattle.bugnet.specs.Complete.{EachHasAnAnswer, HasProgram, CanRecord, HasLog, CanBeDone, EachCanBeDone, IsDone}
 use Rattle.bugnet.specs.Laws.{OneAnswer, AreAlike, SeedsAreWhole}
 use Rattle.bugnet.specs.declared.answer.RunEnd.{RunEnd}
 use Rattle.bugnet.specs.declared.answer.RunEnd.TheVariants as ends
+use Rattle.bugnet.specs.declared.manner.Manner.{Manner}
 use Rattle.bugnet.specs.declared.names.Role.{Role}
 use Rattle.bugnet.specs.declared.names.Role.TheVariants as role
 use Rattle.bugnet.specs.declared.refusal.Refusal.TheVariants.{WordsRefused, OutOfRange, SameName, Missing, TooLong, ElfRefused}
@@ -81,47 +86,96 @@ read-there law (Some bytes) P h are = let r = reading law bytes are in h bytes r
 some-log : (names : FileNames) (bytes : List ℕ) (go : Content → Told) (says : Result Content FileError) → Reads bytes says → Some-told (IsByLog names bytes go)
 some-log names bytes go says reads = (by_log names go says, record { says = says; reads = reads; is = refl })
 
--- the list of a seed, where none was given that of seed 0
-some-run : SeedsAreWhole → (seed : Option ℕ) (c : RawSettings) (i : Program) (digest input : List ℕ) → first_bad c ≡ None → Some-told (IsRunOf c i digest seed input)
-some-run whole (Some seed) c i digest input e = (recorded c i digest input (seeded c i input seed), record { turns = seeded c i input seed; taken = refl; is = refl })
-some-run whole None c i digest input e = (recorded c i digest input (seeded c i input 0), record { turns = seeded c i input 0; taken = whole c i input 0 e; is = refl })
+-- the laws of rows
+pub record RowLaws : Type 0 where
+  pub whole : SeedsAreWhole
+  pub contents : LogsAreContents
+  pub lawful : TurnsAreLawful
+  pub own : TurnsAreOwn
+  pub turns : OwnRowsAreTurns
+
+-- the rows of a whole list are such as a lean recording may have
+rows-untold : RowLaws → (c : RawSettings) (i : Program) (elf input b : List ℕ) → IsRecording c i elf input b → Some-told (IsUntold c i (sha256 elf) input)
+rows-untold laws c i elf input b is =
+    let first = start c i input in
+    let rows = rows_from c i first b in
+    let lawful = laws.lawful c i input b is.legal in
+    let after : after_rows c i first rows ≡ run_of c i input b = lawful.1 in
+    let turns = laws.turns c i input rows is.setting lawful.0 (λ h below. laws.own c i input b h is.setting is.legal) in
+    let run = after_rows c i first rows in (
+      told_run c (sha256 elf) run run.turns None,
+      record {
+        rows = rows;
+        lawful = lawful.0;
+        orderly = turns.orderly;
+        over = subst (λ (r : Run). is_over c r ≡ true) (sym after) is.over;
+        content = subst (λ (r : Run). IsContent (content_of c (sha256 elf) r)) (sym after) (laws.contents c i elf input b is);
+        is = refl;
+      },
+    )
+
+-- those of a seed, where none was given those of seed 0
+some-list : RowLaws → (seed : ℕ) (c : RawSettings) (i : Program) (elf : List ℕ) (how : Manner) (input : List ℕ) → how.seed ≡ Some seed → Some-told (IsRunOf c i (sha256 elf) how input)
+some-list laws seed c i elf how input s =
+    let turns = seeded c i input seed in
+    (recorded c i (sha256 elf) input how.lean turns, record { turns = turns; taken = subst (λ (o : Option ℕ). AreTaken o c i input turns) (sym s) refl; is = refl })
+
+some-run : RowLaws → (lean : Bool) (seed : Option ℕ) (c : RawSettings) (i : Program) (elf : List ℕ) (how : Manner) (input : List ℕ) → how.lean ≡ lean → how.seed ≡ seed → first_bad c ≡ None → image_of elf c ≡ Ok i
+    → HasProgram lean seed (Some elf) → Some-told (IsRunBy lean seed c i (sha256 elf) how input)
+some-run laws true None c i elf how input l s ok loaded bytes =
+    let setting = in-range c ok in
+    let ends = laws.whole c i input 0 ok in
+    rows-untold laws c i elf input (seeded c i input 0) (record { setting = setting; bytes = bytes; loaded = loaded; legal = ends.legal; over = ends.over })
+some-run laws true (Some seed) c i elf how input l s ok loaded bytes = some-list laws seed c i elf how input s
+some-run laws false (Some seed) c i elf how input l s ok loaded bytes = some-list laws seed c i elf how input s
+some-run laws false None c i elf how input l s ok loaded bytes =
+    let turns = seeded c i input 0 in
+    (recorded c i (sha256 elf) input how.lean turns, record { turns = turns; taken = subst (λ (o : Option ℕ). AreTaken o c i input turns) (sym s) (laws.whole c i input 0 ok); is = refl })
 
 some-input : (has : Bool) (files : Files) (names : FileNames) (Go : List ℕ → Told → Type 0) → ((input : List ℕ) → Some-told (Go input)) → Some-told (IsByInput has files names Go)
 some-input true files names Go go = some-file files names role.Input 16777216 Go (any-there (files (name_of names role.Input)) _ go)
 some-input false files names Go go = go []
 
-some-program : SeedsAreWhole → (i : Result Program ElfError) (files : Files) (names : FileNames) (c : RawSettings) (seed : Option ℕ) (has : Bool) (digest : List ℕ) → first_bad c ≡ None
-    → Some-told (IsByProgram i files names c seed has digest)
-some-program whole (Err e) files names c seed has digest ok = (refused names (ElfRefused e), refl)
-some-program whole (Ok i) files names c seed has digest ok = some-input has files names (IsRunOf c i digest seed) (λ input. some-run whole seed c i digest input ok)
+some-program : RowLaws → (i : Result Program ElfError) (files : Files) (names : FileNames) (c : RawSettings) (how : Manner) (has : Bool) (elf : List ℕ) → first_bad c ≡ None → image_of elf c ≡ i
+    → HasProgram how.lean how.seed (Some elf) → Some-told (IsByProgram i files names c how has (sha256 elf))
+some-program laws (Err e) files names c how has elf ok loaded bytes = (refused names (ElfRefused e), refl)
+some-program laws (Ok i) files names c how has elf ok loaded bytes =
+    some-input has files names (IsRun c i (sha256 elf) how) (λ input. some-run laws how.lean how.seed c i elf how input refl refl ok loaded bytes)
 
-some-names : SeedsAreWhole → (same : Bool) (files : Files) (names : FileNames) (c : RawSettings) (seed : Option ℕ) (has : Bool) → first_bad c ≡ None → Some-told (IsByNames same files names c seed has)
-some-names whole true files names c seed has ok = (refused names SameName, refl)
-some-names whole false files names c seed has ok =
-    some-file files names role.Elf 67108864 (λ elf what. IsByProgram (image_of elf c) files names c seed has (sha256 elf) what)
-    (any-there (files (name_of names role.Elf)) _ (λ elf. some-program whole (image_of elf c) files names c seed has (sha256 elf) ok))
+-- where a program file is there, and bytes if it has to be
+program-there : (lean : Bool) (seed : Option ℕ) (there : Option (List ℕ)) (P : List ℕ → Type 0) → ((bytes : List ℕ) → HasProgram lean seed (Some bytes) → P bytes) → HasProgram lean seed there → IfSome there P
+program-there lean seed None P h is = tt
+program-there lean seed (Some bytes) P h is = h bytes is
 
-some-settings : SeedsAreWhole → (bad : Option BadSetting) (files : Files) (names : FileNames) (c : RawSettings) (seed : Option ℕ) (has : Bool) → first_bad c ≡ bad → Some-told (IsBySettings bad files names c seed has)
-some-settings whole (Some bad) files names c seed has ok = (refused names (OutOfRange bad), refl)
-some-settings whole None files names c seed has ok = some-names whole (bytes_eq names.log names.book) files names c seed has ok
+some-names : RowLaws → (same : Bool) (files : Files) (names : FileNames) (c : RawSettings) (how : Manner) (has : Bool) → first_bad c ≡ None → HasProgram how.lean how.seed (files names.elf)
+    → Some-told (IsByNames same files names c how has)
+some-names laws true files names c how has ok bytes = (refused names SameName, refl)
+some-names laws false files names c how has ok bytes =
+    some-file files names role.Elf 67108864 (λ elf what. IsByProgram (image_of elf c) files names c how has (sha256 elf) what)
+    (program-there how.lean how.seed (files names.elf) _ (λ elf is. some-program laws (image_of elf c) files names c how has elf ok refl is) bytes)
 
-pub some-answer : SeedsAreWhole → AreReadOrRefused → EachHasAnAnswer
-some-answer whole law None files read = (refused no_names WordsRefused, refl)
-some-answer whole law (Some (RecordLine r)) files read = some-settings whole (first_bad r.settings) files (names_in (RecordLine r)) r.settings r.seed (is_some r.input) refl
-some-answer whole law (Some (ReplayLine log elf hart interval)) files read =
+some-settings : RowLaws → (bad : Option BadSetting) (files : Files) (names : FileNames) (c : RawSettings) (how : Manner) (has : Bool) → first_bad c ≡ bad → HasProgram how.lean how.seed (files names.elf)
+    → Some-told (IsBySettings bad files names c how has)
+some-settings laws (Some bad) files names c how has ok bytes = (refused names (OutOfRange bad), refl)
+some-settings laws None files names c how has ok bytes = some-names laws (is_clash how.lean names.log names.book) files names c how has ok bytes
+
+pub some-answer : RowLaws → AreReadOrRefused → EachHasAnAnswer
+some-answer laws law None files read = (refused no_names WordsRefused, refl)
+some-answer laws law (Some (RecordLine r)) files read = some-settings laws (first_bad r.settings) files (names_in (RecordLine r)) r.settings (manner_of r) (is_some r.input) refl read
+some-answer laws law (Some (ReplayLine log elf hart interval)) files read =
     let names = names_in (ReplayLine log elf hart interval) in
     some-file files names role.Log 268500992 (λ log what. IsReplayOf files names hart interval log what)
     (read-there law (files log) _ (λ bytes says reads. some-file files names role.Elf 67108864 (λ elf what. IsByLog names bytes (replay_of names hart interval elf) what)
     (any-there (files elf) _ (λ program. some-log names bytes (replay_of names hart interval program) says reads))) read)
-some-answer whole law (Some (JointLine log elf)) files read =
+some-answer laws law (Some (JointLine log elf)) files read =
     let names = names_in (JointLine log elf) in
     some-file files names role.Log 268500992 (λ log what. IsJointOf files names log what)
     (read-there law (files log) _ (λ bytes says reads. some-file files names role.Elf 67108864 (λ elf what. IsByLog names bytes (joint_of names elf) what)
     (any-there (files elf) _ (λ program. some-log names bytes (joint_of names program) says reads))) read)
-some-answer whole law (Some (ListLine log)) files read =
+some-answer laws law (Some (ListLine log)) files read =
     let names = names_in (ListLine log) in
     some-file files names role.Log 268500992 (λ log what. IsByLog names log list_of what) (read-there law (files log) _ (λ bytes says reads. some-log names bytes list_of says reads) read)
-some-answer whole law (Some (CheckLine log)) files read =
+some-answer laws law (Some (CheckLine log)) files read =
     let names = names_in (CheckLine log) in
     some-file files names role.Log 268500992 (λ log what. IsByLog names log check_of what) (read-there law (files log) _ (λ bytes says reads. some-log names bytes check_of says reads) read)
 
@@ -132,12 +186,17 @@ ends-recorded ends.Done = inl refl
 ends-recorded ends.Fault = inr (inl refl)
 ends-recorded ends.Limit = inr (inr refl)
 
-told-recorded : (c : RawSettings) (i : Program) (digest input b : List ℕ) → IsRecorded (recorded c i digest input b).status
-unfolding recorded
-told-recorded c i digest input b = ends-recorded _
+told-recorded : (c : RawSettings) (digest : List ℕ) (run : Run) (turns : ℕ) (book : Option (List ℕ)) → IsRecorded (told_run c digest run turns book).status
+unfolding told_run
+told-recorded c digest run turns book = ends-recorded _
 
-run-recorded : (c : RawSettings) (i : Program) (digest : List ℕ) (seed : Option ℕ) (input : List ℕ) (what : Told) → IsRunOf c i digest seed input what → IsRecorded what.status
-run-recorded c i digest seed input what run = subst (λ (t : Told). IsRecorded t.status) (sym run.is) (told-recorded c i digest input run.turns)
+is-recorded : (what told : Told) → what ≡ told → IsRecorded told.status → IsRecorded what.status
+is-recorded what told e h = subst (λ (t : Told). IsRecorded t.status) (sym e) h
+
+run-recorded : (lean : Bool) (seed : Option ℕ) (c : RawSettings) (i : Program) (digest : List ℕ) (how : Manner) (input : List ℕ) (what : Told) → IsRunBy lean seed c i digest how input what → IsRecorded what.status
+run-recorded true None c i digest how input what run = is-recorded what _ run.is (told-recorded c digest _ _ None)
+run-recorded true (Some seed) c i digest how input what run = is-recorded what _ run.is (told-recorded c digest _ _ _)
+run-recorded false seed c i digest how input what run = is-recorded what _ run.is (told-recorded c digest _ _ _)
 
 there-file : (files : Files) (names : FileNames) (r : Role) (limit : ℕ) (bytes : List ℕ) (Go : List ℕ → Told → Type 0) (what : Told) → files (name_of names r) ≡ Some bytes → length bytes ≤ limit → Go bytes what → WithFile files names r limit Go what
 unfolding WithFile
@@ -164,32 +223,32 @@ of-input : (there : Option (List ℕ)) (elf log book : List ℕ) (files : Files)
 of-input None elf log book files Go input what e h is = subst (λ (bytes : List ℕ). Go bytes what) (same_bytes [] input e) is
 of-input (Some name) elf log book files Go input what e h is = of-file files (names_with (Some name) elf log book) role.Input 16777216 input Go what e h is
 
-can-record : (r : RecordingLine) (files : Files) (h : CanRecord r files) (what : Told) → IsRunOf r.settings h.program (sha256 h.elf) r.seed h.input what
-    → IsRecord files (names_in (RecordLine r)) r.settings r.seed (is_some r.input) what
+can-record : (r : RecordingLine) (files : Files) (h : CanRecord r files) (what : Told) → IsRun r.settings h.program (sha256 h.elf) (manner_of r) h.input what
+    → IsRecord files (names_in (RecordLine r)) r.settings (manner_of r) (is_some r.input) what
 can-record r files h what run =
     let names = names_in (RecordLine r) in
     let c = r.settings in
     let has = is_some r.input in
-    let program : IsByProgram (image_of h.elf c) files names c r.seed has (sha256 h.elf) what =
-    subst (λ (i : Result Program ElfError). IsByProgram i files names c r.seed has (sha256 h.elf) what) (sym h.loaded)
-    (with-input r.input r.elf r.log r.book files (IsRunOf c h.program (sha256 h.elf) r.seed) h.input what h.input_there h.input_small run) in
-    let elf : IsByNames false files names c r.seed has what =
-    there-file files names role.Elf 67108864 h.elf (λ elf what. IsByProgram (image_of elf c) files names c r.seed has (sha256 elf) what) what h.elf_there h.elf_small program in
-    subst (λ (b : Option BadSetting). IsBySettings b files names c r.seed has what) (sym h.settings)
-    (subst (λ (b : Bool). IsByNames b files names c r.seed has what) (sym h.names) elf)
+    let program : IsByProgram (image_of h.elf c) files names c (manner_of r) has (sha256 h.elf) what =
+    subst (λ (i : Result Program ElfError). IsByProgram i files names c (manner_of r) has (sha256 h.elf) what) (sym h.loaded)
+    (with-input r.input r.elf r.log r.book files (IsRun c h.program (sha256 h.elf) (manner_of r)) h.input what h.input_there h.input_small run) in
+    let elf : IsByNames false files names c (manner_of r) has what =
+    there-file files names role.Elf 67108864 h.elf (λ elf what. IsByProgram (image_of elf c) files names c (manner_of r) has (sha256 elf) what) what h.elf_there h.elf_small program in
+    subst (λ (b : Option BadSetting). IsBySettings b files names c (manner_of r) has what) (sym h.settings)
+    (subst (λ (b : Bool). IsByNames b files names c (manner_of r) has what) (sym h.names) elf)
 
-is-record : (r : RecordingLine) (files : Files) (h : CanRecord r files) (what : Told) → IsRecord files (names_in (RecordLine r)) r.settings r.seed (is_some r.input) what
-    → IsRunOf r.settings h.program (sha256 h.elf) r.seed h.input what
+is-record : (r : RecordingLine) (files : Files) (h : CanRecord r files) (what : Told) → IsRecord files (names_in (RecordLine r)) r.settings (manner_of r) (is_some r.input) what
+    → IsRun r.settings h.program (sha256 h.elf) (manner_of r) h.input what
 is-record r files h what is =
     let names = names_in (RecordLine r) in
     let c = r.settings in
     let has = is_some r.input in
-    let named : IsByNames (bytes_eq r.log r.book) files names c r.seed has what = subst (λ (b : Option BadSetting). IsBySettings b files names c r.seed has what) h.settings is in
-    let elf : IsByNames false files names c r.seed has what = subst (λ (b : Bool). IsByNames b files names c r.seed has what) h.names named in
-    let program : IsByProgram (image_of h.elf c) files names c r.seed has (sha256 h.elf) what =
-    of-file files names role.Elf 67108864 h.elf (λ elf what. IsByProgram (image_of elf c) files names c r.seed has (sha256 elf) what) what h.elf_there h.elf_small elf in
-    of-input r.input r.elf r.log r.book files (IsRunOf c h.program (sha256 h.elf) r.seed) h.input what h.input_there h.input_small
-    (subst (λ (i : Result Program ElfError). IsByProgram i files names c r.seed has (sha256 h.elf) what) h.loaded program)
+    let named : IsByNames (is_clash r.lean r.log r.book) files names c (manner_of r) has what = subst (λ (b : Option BadSetting). IsBySettings b files names c (manner_of r) has what) h.settings is in
+    let elf : IsByNames false files names c (manner_of r) has what = subst (λ (b : Bool). IsByNames b files names c (manner_of r) has what) h.names named in
+    let program : IsByProgram (image_of h.elf c) files names c (manner_of r) has (sha256 h.elf) what =
+    of-file files names role.Elf 67108864 h.elf (λ elf what. IsByProgram (image_of elf c) files names c (manner_of r) has (sha256 elf) what) what h.elf_there h.elf_small elf in
+    of-input r.input r.elf r.log r.book files (IsRun c h.program (sha256 h.elf) (manner_of r)) h.input what h.input_there h.input_small
+    (subst (λ (i : Result Program ElfError). IsByProgram i files names c (manner_of r) has (sha256 h.elf) what) h.loaded program)
 
 can-log : FileLaws → (files : Files) (names : FileNames) (go : Content → Told) (h : HasLog (files names.log)) → (what : Told) × WithFile files names role.Log 268500992 (λ log what. IsByLog names log go what) what
     × (what ≡ go (content_of h.settings (sha256 h.elf) (run_of h.settings h.program h.input h.turns)))
@@ -234,29 +293,29 @@ can-join laws log elf files h =
 -- a line of which one answer is done, and that has no other
 only-done : OneAnswer → (line : Line) (files : Files) (what : Told) → ((a b : Told) → AreAlike (Some line) a b) → IsAnswer (Some line) files what → IsRecorded what.status → CanBeDone line files
 only-done one line files what alike is done = record {
-  what = what;
-  answer = is;
+  answer = λ bytes. (what, is);
   done = λ told other. subst (λ (t : Told). IsRecorded t.status) (one (Some line) files what told is other (alike what told)) done;
 }
 
-pub can-be-done : SeedsAreWhole → OneAnswer → LogSuffices → Together → FileLaws → EachCanBeDone
-can-be-done whole one law stand laws (RecordLine r) files h =
-    let run = some-run whole r.seed r.settings h.program (sha256 h.elf) h.input h.settings in
+pub can-be-done : RowLaws → OneAnswer → LogSuffices → Together → FileLaws → EachCanBeDone
+can-be-done rows one law stand laws (RecordLine r) files h =
+    let how = manner_of r in
     record {
-      what = run.0;
-      answer = can-record r files h run.0 run.1;
-      done = λ told is. run-recorded r.settings h.program (sha256 h.elf) r.seed h.input told (is-record r files h told is);
+      answer = λ bytes.
+          let run = some-run rows how.lean how.seed r.settings h.program h.elf how h.input refl refl h.settings h.loaded (subst (λ (o : Option (List ℕ)). HasProgram r.lean r.seed o) h.elf_there bytes) in
+          (run.0, can-record r files h run.0 run.1);
+      done = λ told is. run-recorded how.lean how.seed r.settings h.program (sha256 h.elf) how h.input told (is-record r files h told is);
     }
-can-be-done whole one law stand laws (ReplayLine log elf hart interval) files h =
+can-be-done rows one law stand laws (ReplayLine log elf hart interval) files h =
     let l = can-replay law stand laws (Some (ReplayLine log elf hart interval)) files h.0 h.1 h.2 h.3 in
     only-done one (ReplayLine log elf hart interval) files l.0 (λ a b. tt) l.1 l.2
-can-be-done whole one law stand laws (JointLine log elf) files h =
+can-be-done rows one law stand laws (JointLine log elf) files h =
     let l = can-join laws log elf files h in
     only-done one (JointLine log elf) files l.0 (λ a b. tt) l.1 l.2
-can-be-done whole one law stand laws (ListLine log) files h =
+can-be-done rows one law stand laws (ListLine log) files h =
     let l = can-log laws files (names_in (ListLine log)) list_of h in
     only-done one (ListLine log) files l.0 (λ a b. tt) l.1 (inl (ap (λ (t : Told). t.status) l.2))
-can-be-done whole one law stand laws (CheckLine log) files h =
+can-be-done rows one law stand laws (CheckLine log) files h =
     let l = can-log laws files (names_in (CheckLine log)) check_of h in
     only-done one (CheckLine log) files l.0 (λ a b. tt) l.1 (inl (ap (λ (t : Told). t.status) l.2))
 

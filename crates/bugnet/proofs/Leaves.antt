@@ -1,5 +1,5 @@
 -- What a recording leaves, from what it has to answer.
-use Rattle.std.proofs.Common.{◌≡◌, ◌≢◌, ◌≤◌, ℕ, Bool, true, false, nat_lt, List, [], length, Option, Some, None, ◌∙◌, subst, sym, refl, arith, inl, inr, ◌⊎◌}
+use Rattle.std.proofs.Common.{◌≡◌, ◌≢◌, ◌≤◌, ℕ, Bool, true, false, nat_lt, List, [], length, Option, Some, None, ◌∙◌, ap, subst, sym, refl, arith, inl, inr, ◌⊎◌}
 use Rattle.std.specs.Prelude.{Result, Ok, Err, is_some, unwrap_or}
 use Rattle.std.specs.Str.{bytes_eq}
 use Rattle.std.proofs.lemmas.Slice.Eq.{bytes_eq-Decides}
@@ -15,18 +15,29 @@ use Rattle.elf_loader.specs.Loaded.{image_of}
 use Rattle.elf_loader.specs.declared.error.ElfError.{ElfError}
 use Rattle.le_numbers.specs.Numbers.{AreBytes}
 use Rattle.file_laws.specs.Given.{IsRecording}
+use Rattle.file_laws.specs.Laws.{LogsAreContents}
+use Rattle.log_record.specs.Spelling.{total}
+use Rattle.log_record.specs.declared.head.Head.{Head}
+use Rattle.log_order.specs.Content.{Content, IsContent}
+use Rattle.log_file.specs.Layout.{file_bytes, saved_bytes}
+use Rattle.log_file.specs.Laws.{HaveTheirSize}
+use Rattle.run_model.specs.Files.{content_of, file_of}
+use Rattle.run_model.specs.Turn.{Run}
+use Rattle.run_model.specs.Runs.{start, run_of, seeded}
+use Rattle.run_laws.specs.History.{after_rows}
 use Rattle.replay_laws.specs.Law.{IsWhole}
 use Rattle.hart_replay.specs.declared.error.ReplayError.{ReplayError}
 use Rattle.hart_replay.specs.declared.error.ReplayError.TheVariants as replay
 use Rattle.bugnet.specs.Names.{FileNames}
 use Rattle.bugnet.specs.Refusals.{status_of, replay_status}
-use Rattle.bugnet.specs.Told.{Told, refused}
-use Rattle.bugnet.specs.Commands.{Either, IsByFile, WithFile, IsByInput, IsByProgram, IsByNames, IsBySettings, IsRecord}
-use Rattle.bugnet.specs.Recordings.{recorded, AreTaken, IsRunOf}
-use Rattle.bugnet.specs.Answers.{names_in, IsAnswer}
-use Rattle.bugnet.specs.Outside.{WithFiles, ToldRefusal, KeptFiles}
+use Rattle.bugnet.specs.Told.{Told, Saved, refused}
+use Rattle.bugnet.specs.Commands.{is_clash, Either, IsByFile, WithFile, IsByInput, IsByProgram, IsByNames, IsBySettings, IsRecord}
+use Rattle.bugnet.specs.Recordings.{told_run, recorded, AreTaken, IsRunOf, IsUntold, IsRunBy, IsRun}
+use Rattle.bugnet.proofs.Recorded.{version-one}
+use Rattle.bugnet.specs.Answers.{names_in, manner_of, IsAnswer}
+use Rattle.bugnet.specs.Outside.{WithFiles, ToldRefusal, KeptLog, KeptFiles}
 use Rattle.bugnet.specs.Run.{Call, IsFree, AreKept, Tells, StoppedEarly, SomeTold, TellsAnswer}
-use Rattle.bugnet.specs.Saves.{IsRecorded, input_by, Leaves, LeavesRun, HoldsBytes, HasElf}
+use Rattle.bugnet.specs.Saves.{IsRecorded, input_by, IsChosenLog, Leaves, LeavesLog, LeavesBy, LeavesRun, HoldsBytes, HasElf}
 use Rattle.bugnet.specs.Laws.{SeedsAreWhole, FilesKeepToTheirSize}
 use Rattle.bugnet.specs.declared.names.Role.{Role}
 use Rattle.bugnet.specs.declared.names.Role.TheVariants as role
@@ -97,8 +108,8 @@ record Found (r : RecordingLine) (files : Files) (what : Told) : Type 0 where
   pub loaded : image_of elf r.settings ≡ Ok program
   pub input_there : input_by r.input files ≡ Some input
   pub settings : first_bad r.settings ≡ None
-  pub names : bytes_eq r.log r.book ≡ false
-  pub run : IsRunOf r.settings program (sha256 elf) r.seed input what
+  pub names : is_clash r.lean r.log r.book ≡ false
+  pub run : IsRun r.settings program (sha256 elf) (manner_of r) input what
 
 within : (limit n : ℕ) → nat_lt limit n ≡ false → n ≤ limit
 within limit n e = grind (arith, nat_tests)
@@ -125,26 +136,26 @@ by-input (Some name) elf log book files Go what h is =
     (f.0, f.1, f.2)
 
 by-program : (i : Result Program ElfError) (files : Files) (r : RecordingLine) (digest : List ℕ) (what : Told)
-    → IsByProgram i files (names_in (RecordLine r)) r.settings r.seed (is_some r.input) digest what → IsRecorded what.status
-    → (p : Program) × (i ≡ Ok p) × IsByInput (is_some r.input) files (names_in (RecordLine r)) (IsRunOf r.settings p digest r.seed) what
+    → IsByProgram i files (names_in (RecordLine r)) r.settings (manner_of r) (is_some r.input) digest what → IsRecorded what.status
+    → (p : Program) × (i ≡ Ok p) × IsByInput (is_some r.input) files (names_in (RecordLine r)) (IsRun r.settings p digest (manner_of r)) what
 by-program (Err e) files r digest what h is = absurd (refused-apart (names_in (RecordLine r)) (ElfRefused e) what h is)
 by-program (Ok p) files r digest what h is = (p, refl, h)
 
-by-names : (same : Bool) (files : Files) (r : RecordingLine) (what : Told) → bytes_eq r.log r.book ≡ same → first_bad r.settings ≡ None
-    → IsByNames same files (names_in (RecordLine r)) r.settings r.seed (is_some r.input) what → IsRecorded what.status → Found r files what
+by-names : (same : Bool) (files : Files) (r : RecordingLine) (what : Told) → is_clash r.lean r.log r.book ≡ same → first_bad r.settings ≡ None
+    → IsByNames same files (names_in (RecordLine r)) r.settings (manner_of r) (is_some r.input) what → IsRecorded what.status → Found r files what
 unfolding WithFile
 by-names true files r what e s h is = absurd (refused-apart (names_in (RecordLine r)) SameName what h is)
 by-names false files r what e s h is =
     let names = names_in (RecordLine r) in
-    let f = by-file (files r.elf) names role.Elf 67108864 (λ elf what. IsByProgram (image_of elf r.settings) files names r.settings r.seed (is_some r.input) (sha256 elf) what) what h is in
+    let f = by-file (files r.elf) names role.Elf 67108864 (λ elf what. IsByProgram (image_of elf r.settings) files names r.settings (manner_of r) (is_some r.input) (sha256 elf) what) what h is in
     let p = by-program (image_of f.0 r.settings) files r (sha256 f.0) what f.2 is in
-    let i = by-input r.input r.elf r.log r.book files (IsRunOf r.settings p.0 (sha256 f.0) r.seed) what p.2 is in
+    let i = by-input r.input r.elf r.log r.book files (IsRun r.settings p.0 (sha256 f.0) (manner_of r)) what p.2 is in
     record { elf = f.0; program = p.0; input = i.0; elf_there = f.1; small = f.3; loaded = p.1; input_there = i.1; settings = s; names = e; run = i.2 }
 
 by-settings : (bad : Option BadSetting) (files : Files) (r : RecordingLine) (what : Told) → first_bad r.settings ≡ bad
-    → IsBySettings bad files (names_in (RecordLine r)) r.settings r.seed (is_some r.input) what → IsRecorded what.status → Found r files what
+    → IsBySettings bad files (names_in (RecordLine r)) r.settings (manner_of r) (is_some r.input) what → IsRecorded what.status → Found r files what
 by-settings (Some bad) files r what e h is = absurd (refused-apart (names_in (RecordLine r)) (OutOfRange bad) what h is)
-by-settings None files r what e h is = by-names (bytes_eq r.log r.book) files r what refl e h is
+by-settings None files r what e h is = by-names (is_clash r.lean r.log r.book) files r what refl e h is
 
 -- ---- what it leaves
 
@@ -162,14 +173,16 @@ pub taken-whole : SeedsAreWhole → (seed : Option ℕ) (c : RawSettings) (i : P
 taken-whole whole (Some seed) c i input b e taken = subst (λ (list : List ℕ). IsWhole c i input list) (sym taken) (whole c i input seed e)
 taken-whole whole None c i input b e taken = taken
 
-left : SeedsAreWhole → FilesKeepToTheirSize → (r : RecordingLine) (old new : Files) (what : Told) → Found r old what → HoldsBytes (old r.elf)
+-- what a list of turns makes, which is kept under the book's name
+left : SeedsAreWhole → FilesKeepToTheirSize → (r : RecordingLine) (old new : Files) (what : Told) → Found r old what → HoldsBytes (old r.elf) → r.lean ≡ false
     → KeptFiles what.saved r.log r.book old new → Leaves r old new
-unfolding recorded
-left whole sizes r old new what f bytes kept =
+unfolding told_run
+left whole sizes r old new what f bytes lean kept =
     let c = r.settings in
     let i = f.program in
-    let turns = f.run.turns in
-    let ends = taken-whole whole r.seed c i f.input turns f.settings f.run.taken in
+    let run : IsRunOf c i (sha256 f.elf) (manner_of r) f.input what = subst (λ (b : Bool). IsRunBy b r.seed c i (sha256 f.elf) (manner_of r) f.input what) lean f.run in
+    let turns = run.turns in
+    let ends = taken-whole whole r.seed c i f.input turns f.settings run.taken in
     let recording : IsRecording c i f.elf f.input turns = record {
       setting = in-range c f.settings;
       bytes = bytes-there (old r.elf) f.elf f.elf_there bytes;
@@ -177,7 +190,9 @@ left whole sizes r old new what f bytes kept =
       legal = ends.legal;
       over = ends.over;
     } in
-    let both = subst (λ (t : Told). KeptFiles t.saved r.log r.book old new) f.run.is kept in
+    let is : what ≡ recorded c i (sha256 f.elf) f.input false turns = run.is ∙ ap (λ (b : Bool). recorded c i (sha256 f.elf) f.input b turns) lean in
+    let both = subst (λ (t : Told). KeptFiles t.saved r.log r.book old new) is kept in
+    let clash : is_clash false r.log r.book ≡ false = subst (λ (b : Bool). is_clash b r.log r.book ≡ false) lean f.names in
     record {
       elf = f.elf;
       program = i;
@@ -186,13 +201,94 @@ left whole sizes r old new what f bytes kept =
       elf_there = f.elf_there;
       small = f.small;
       input_there = f.input_there;
-      chosen = f.run.taken;
+      chosen = run.taken;
       recording = recording;
       book = both.book_there;
-      log = both.log_there (apart-names r.log r.book f.names);
+      log = both.log_there (apart-names r.log r.book clash);
       within = sizes c i f.elf f.input turns recording;
       others = both.others;
     }
+
+-- what is kept of a lean recording: the file of what a log can say
+record SaysLog (r : RecordingLine) (program : Program) (digest input : List ℕ) (what : Told) : Type 0 where
+  pub says : Content
+  pub content : IsContent says
+  pub head : says.head ≡ record { settings = r.settings; digest = digest }
+  pub saved : what.saved ≡ Some (record { log = file_bytes says; book = None })
+  pub chosen : IsChosenLog r.seed r.settings program digest input (file_bytes says)
+
+-- of a run that is told so
+says-run : (r : RecordingLine) (program : Program) (digest input : List ℕ) (run : Run) (turns : ℕ) (what : Told) → first_bad r.settings ≡ None → IsContent (content_of r.settings digest run)
+    → what ≡ told_run r.settings digest run turns None → IsChosenLog r.seed r.settings program digest input (saved_bytes (content_of r.settings digest run)) → SaysLog r program digest input what
+unfolding told_run
+says-run r program digest input run turns what ok content is chosen =
+    let setting = in-range r.settings ok in
+    let one : r.settings.format ≡ 1 = omega (arith, setting.format_low, setting.format_high) in
+    let version = version-one r.settings digest run one in
+    record {
+      says = content_of r.settings digest run;
+      content = content;
+      head = refl;
+      saved = ap (λ (t : Told). t.saved) is ∙ ap (λ (log : List ℕ). Some (record { log = log; book = None })) version;
+      chosen = subst (λ (log : List ℕ). IsChosenLog r.seed r.settings program digest input log) version chosen;
+    }
+
+-- the log of the turns that a seed chooses
+chosen-log : (given : Option ℕ) (seed : ℕ) (c : RawSettings) (i : Program) (digest input turns : List ℕ) → given ≡ Some seed → turns ≡ seeded c i input seed → IsChosenLog given c i digest input (file_of c i digest input turns)
+chosen-log given seed c i digest input turns e taken =
+    subst (λ (o : Option ℕ). IsChosenLog o c i digest input (file_of c i digest input turns)) (sym e) (ap (λ (b : List ℕ). file_of c i digest input b) taken)
+
+no-seed : (given : Option ℕ) (c : RawSettings) (i : Program) (digest input log : List ℕ) → given ≡ None → IsChosenLog given c i digest input log
+no-seed given c i digest input log e = subst (λ (o : Option ℕ). IsChosenLog o c i digest input log) (sym e) tt
+
+says-log : SeedsAreWhole → LogsAreContents → (r : RecordingLine) (old : Files) (what : Told) (f : Found r old what) → AreBytes f.elf → r.lean ≡ true → (seed : Option ℕ) → r.seed ≡ seed
+    → SaysLog r f.program (sha256 f.elf) f.input what
+says-log whole contents r old what f bytes lean None e =
+    let c = r.settings in
+    let i = f.program in
+    let digest = sha256 f.elf in
+    let at : IsRunBy true r.seed c i digest (manner_of r) f.input what = subst (λ (b : Bool). IsRunBy b r.seed c i digest (manner_of r) f.input what) lean f.run in
+    let run : IsUntold c i digest f.input what = subst (λ (o : Option ℕ). IsRunBy true o c i digest (manner_of r) f.input what) e at in
+    let after = after_rows c i (start c i f.input) run.rows in
+    says-run r i digest f.input after after.turns what f.settings run.content run.is (no-seed r.seed c i digest f.input _ e)
+says-log whole contents r old what f bytes lean (Some seed) e =
+    let c = r.settings in
+    let i = f.program in
+    let digest = sha256 f.elf in
+    let at : IsRunBy true r.seed c i digest (manner_of r) f.input what = subst (λ (b : Bool). IsRunBy b r.seed c i digest (manner_of r) f.input what) lean f.run in
+    let run : IsRunOf c i digest (manner_of r) f.input what = subst (λ (o : Option ℕ). IsRunBy true o c i digest (manner_of r) f.input what) e at in
+    let ends = taken-whole whole r.seed c i f.input run.turns f.settings run.taken in
+    let taken : run.turns ≡ seeded c i f.input seed = subst (λ (o : Option ℕ). AreTaken o c i f.input run.turns) e run.taken in
+    let recording : IsRecording c i f.elf f.input run.turns = record { setting = in-range c f.settings; bytes = bytes; loaded = f.loaded; legal = ends.legal; over = ends.over } in
+    let is : what ≡ recorded c i digest f.input true run.turns = run.is ∙ ap (λ (b : Bool). recorded c i digest f.input b run.turns) lean in
+    says-run r i digest f.input (run_of c i f.input run.turns) (length run.turns) what f.settings (contents c i f.elf f.input run.turns recording) is (chosen-log r.seed seed c i digest f.input run.turns e taken)
+
+left-log : SeedsAreWhole → LogsAreContents → HaveTheirSize → (r : RecordingLine) (old new : Files) (what : Told) → Found r old what → HoldsBytes (old r.elf) → r.lean ≡ true
+    → KeptFiles what.saved r.log r.book old new → LeavesLog r old new
+left-log whole contents sizes r old new what f bytes lean kept =
+    let s = says-log whole contents r old what f (bytes-there (old r.elf) f.elf f.elf_there bytes) lean r.seed refl in
+    let alone : KeptLog (file_bytes s.says) r.log old new = subst (λ (o : Option Saved). KeptFiles o r.log r.book old new) s.saved kept in
+    record {
+      elf = f.elf;
+      program = f.program;
+      input = f.input;
+      says = s.says;
+      elf_there = f.elf_there;
+      small = f.small;
+      loaded = f.loaded;
+      input_there = f.input_there;
+      content = s.content;
+      head = s.head;
+      log = alone.there;
+      within = record { kept = subst (λ (h : Head). total s.says.records ≤ h.settings.log_size) s.head s.content.bound; file = sizes s.says s.content };
+      chosen = s.chosen;
+      others = alone.others;
+    }
+
+left-by : SeedsAreWhole → FilesKeepToTheirSize → LogsAreContents → HaveTheirSize → (lean : Bool) (r : RecordingLine) (old new : Files) (what : Told) → r.lean ≡ lean → Found r old what → HoldsBytes (old r.elf)
+    → KeptFiles what.saved r.log r.book old new → LeavesBy lean r old new
+left-by whole sizes contents lengths true r old new what e f bytes kept = left-log whole contents lengths r old new what f bytes e kept
+left-by whole sizes contents lengths false r old new what e f bytes kept = left whole sizes r old new what f bytes e kept
 
 -- ---- a call
 
@@ -207,29 +303,29 @@ done-kept names what status k (inl done) is = (subst (λ (n : ℕ). IsRecorded n
 done-kept names what status k (inr s) is = absurd (free-apart status (stopped-free names what status k s) is)
 
 -- by maps that are told
-so-left : SeedsAreWhole → FilesKeepToTheirSize → (r : RecordingLine) (status : ℕ) (old new : Option Files)
+so-left : SeedsAreWhole → FilesKeepToTheirSize → LogsAreContents → HaveTheirSize → (r : RecordingLine) (status : ℕ) (old new : Option Files)
     → WithFiles old (λ files. HoldsBytes (files r.elf))
-    → WithFiles old (λ files. (what : Told) × IsRecord files (names_in (RecordLine r)) r.settings r.seed (is_some r.input) what × IsRecorded what.status × WhereTold old new (KeptFiles what.saved r.log r.book))
-    → WhereTold old new (Leaves r)
-so-left whole sizes r status None new bytes h = tt
-so-left whole sizes r status (Some x) None bytes h = absurd h.3
-so-left whole sizes r status (Some x) (Some y) bytes h = left whole sizes r x y h.0 (by-settings (first_bad r.settings) x r h.0 refl h.1 h.2) bytes h.3
+    → WithFiles old (λ files. (what : Told) × IsRecord files (names_in (RecordLine r)) r.settings (manner_of r) (is_some r.input) what × IsRecorded what.status × WhereTold old new (KeptFiles what.saved r.log r.book))
+    → WhereTold old new (LeavesBy r.lean r)
+so-left whole sizes contents lengths r status None new bytes h = tt
+so-left whole sizes contents lengths r status (Some x) None bytes h = absurd h.3
+so-left whole sizes contents lengths r status (Some x) (Some y) bytes h = left-by whole sizes contents lengths r.lean r x y h.0 refl (by-settings (first_bad r.settings) x r h.0 refl h.1 h.2) bytes h.3
 
-pub call-leaves : SeedsAreWhole → FilesKeepToTheirSize → (line : Line) (status : ℕ) (k : Call) → HasElf line k.old.files → TellsAnswer (Some line) status k
+pub call-leaves : SeedsAreWhole → FilesKeepToTheirSize → LogsAreContents → HaveTheirSize → (line : Line) (status : ℕ) (k : Call) → HasElf line k.old.files → TellsAnswer (Some line) status k
     → LeavesRun (Some line) status k.old.files k.new.files
-call-leaves whole sizes (RecordLine r) status k bytes h = λ is.
-    so-left whole sizes r status k.old.files k.new.files bytes
+call-leaves whole sizes contents lengths (RecordLine r) status k bytes h = λ is.
+    so-left whole sizes contents lengths r status k.old.files k.new.files bytes
     (with-files k.old.files (λ files. SomeTold (IsAnswer (Some (RecordLine r)) files) (λ what. Tells (names_in (RecordLine r)) what status k) ⊎ StoppedEarly (Some (RecordLine r)) files status k)
-    (λ files. (what : Told) × IsRecord files (names_in (RecordLine r)) r.settings r.seed (is_some r.input) what × IsRecorded what.status × WhereTold k.old.files k.new.files (KeptFiles what.saved r.log r.book))
+    (λ files. (what : Told) × IsRecord files (names_in (RecordLine r)) r.settings (manner_of r) (is_some r.input) what × IsRecorded what.status × WhereTold k.old.files k.new.files (KeptFiles what.saved r.log r.book))
     (λ files x. found files is x) h)
   where
     found : (files : Files) → IsRecorded status → SomeTold (IsAnswer (Some (RecordLine r)) files) (λ what. Tells (names_in (RecordLine r)) what status k) ⊎ StoppedEarly (Some (RecordLine r)) files status k
-        → (what : Told) × IsRecord files (names_in (RecordLine r)) r.settings r.seed (is_some r.input) what × IsRecorded what.status × WhereTold k.old.files k.new.files (KeptFiles what.saved r.log r.book)
+        → (what : Told) × IsRecord files (names_in (RecordLine r)) r.settings (manner_of r) (is_some r.input) what × IsRecorded what.status × WhereTold k.old.files k.new.files (KeptFiles what.saved r.log r.book)
     found files is (inl a) =
         let done = done-kept (names_in (RecordLine r)) a.0 status k a.2 is in
         (a.0, a.1, done.0, done.1)
     found files is (inr early) = absurd (free-apart status (early-free (Some (RecordLine r)) files status k early) is)
-call-leaves whole sizes (ReplayLine log elf hart interval) status k bytes h = tt
-call-leaves whole sizes (JointLine log elf) status k bytes h = tt
-call-leaves whole sizes (ListLine log) status k bytes h = tt
-call-leaves whole sizes (CheckLine log) status k bytes h = tt
+call-leaves whole sizes contents lengths (ReplayLine log elf hart interval) status k bytes h = tt
+call-leaves whole sizes contents lengths (JointLine log elf) status k bytes h = tt
+call-leaves whole sizes contents lengths (ListLine log) status k bytes h = tt
+call-leaves whole sizes contents lengths (CheckLine log) status k bytes h = tt

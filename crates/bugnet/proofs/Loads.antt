@@ -18,8 +18,9 @@ use Rattle.bugnet.specs.Names.{FileNames, name_of}
 use Rattle.bugnet.specs.Refusals.{line_of, said_of}
 use Rattle.bugnet.specs.Told.{Told, refused}
 use Rattle.bugnet.specs.Commands.{Either, IsByFile, WithFile, IsByLog, IsByInput, IsByProgram, IsBySettings, IsRecord}
-use Rattle.bugnet.specs.Recordings.{IsRunOf}
-use Rattle.bugnet.specs.Answers.{names_in, IsAnswer}
+use Rattle.bugnet.specs.Recordings.{IsRun}
+use Rattle.bugnet.specs.declared.manner.Manner.{Manner}
+use Rattle.bugnet.specs.Answers.{names_in, manner_of, IsAnswer}
 use Rattle.bugnet.specs.Outside.{WithFiles, FetchTells, LogTells, ProgramTells, Gives, unless, without, GivesBy}
 use Rattle.bugnet.specs.declared.names.Role.{Role}
 use Rattle.bugnet.specs.declared.names.Role.TheVariants.{Input}
@@ -166,19 +167,19 @@ input-loaded true known names input result Go e h gives =
 input-loaded false known names input result Go e h gives = grind arith
 
 -- a program that is refused ends the command
-pub program-refused : (known : Option Files) (names : FileNames) (bytes : List ℕ) (c : RawSettings) (seed : Option ℕ) (has : Bool) (digest : List ℕ) (r : Refusal) → ProgramTells bytes c (Err r)
-    → WithFiles known (λ files. GivesBy names (λ f. IsByProgram (image_of bytes c) f names c seed has digest) files (Err r))
-program-refused None names bytes c seed has digest r h = tt
-program-refused (Some files) names bytes c seed has digest r (inl e) = inl (inl e)
-program-refused (Some files) names bytes c seed has digest r (inr h) =
-    inr (subst (λ (i : Result Program ElfError). IsByProgram i files names c seed has digest (refused names r)) (sym h.2) (ap (λ (x : Refusal). refused names x) h.1))
+pub program-refused : (known : Option Files) (names : FileNames) (bytes : List ℕ) (c : RawSettings) (how : Manner) (has : Bool) (digest : List ℕ) (r : Refusal) → ProgramTells bytes c (Err r)
+    → WithFiles known (λ files. GivesBy names (λ f. IsByProgram (image_of bytes c) f names c how has digest) files (Err r))
+program-refused None names bytes c how has digest r h = tt
+program-refused (Some files) names bytes c how has digest r (inl e) = inl (inl e)
+program-refused (Some files) names bytes c how has digest r (inr h) =
+    inr (subst (λ (i : Result Program ElfError). IsByProgram i files names c how has digest (refused names r)) (sym h.2) (ap (λ (x : Refusal). refused names x) h.1))
 
 -- one that is loaded goes on
-pub program-loaded : (known : Option Files) (names : FileNames) (bytes : List ℕ) (c : RawSettings) (seed : Option ℕ) (has : Bool) (digest : List ℕ) (i : Program) (result : Result Answer Refusal) → image_of bytes c ≡ Ok i
-    → WithFiles known (λ files. GivesBy names (λ f. IsByInput has f names (IsRunOf c i digest seed)) files result)
-    → WithFiles known (λ files. GivesBy names (λ f. IsByProgram (image_of bytes c) f names c seed has digest) files result)
-program-loaded known names bytes c seed has digest i result e h =
-    subst (λ (p : Result Program ElfError). WithFiles known (λ files. GivesBy names (λ f. IsByProgram p f names c seed has digest) files result)) (sym e) h
+pub program-loaded : (known : Option Files) (names : FileNames) (bytes : List ℕ) (c : RawSettings) (how : Manner) (has : Bool) (digest : List ℕ) (i : Program) (result : Result Answer Refusal) → image_of bytes c ≡ Ok i
+    → WithFiles known (λ files. GivesBy names (λ f. IsByInput has f names (IsRun c i digest how)) files result)
+    → WithFiles known (λ files. GivesBy names (λ f. IsByProgram (image_of bytes c) f names c how has digest) files result)
+program-loaded known names bytes c how has digest i result e h =
+    subst (λ (p : Result Program ElfError). WithFiles known (λ files. GivesBy names (λ f. IsByProgram p f names c how has digest) files result)) (sym e) h
 
 -- ---- settings
 
@@ -192,11 +193,11 @@ none-bad None s x e = (refl, grind arith)
 none-bad (Some other) s x e = grind arith
 
 -- settings that are out of range are refused
-pub settings-refused : (known : Option Files) (names : FileNames) (c : RawSettings) (seed : Option ℕ) (has : Bool) (bad : BadSetting) → checked_by (first_bad c) c ≡ Err bad
-    → WithFiles known (λ files. GivesBy names (λ files. IsRecord files names c seed has) files (Err (OutOfRange bad)))
-settings-refused None names c seed has bad e = tt
-settings-refused (Some files) names c seed has bad e =
-    inr (subst (λ (o : Option BadSetting). IsBySettings o files names c seed has (refused names (OutOfRange bad))) (sym (bad-one (first_bad c) c bad e)) refl)
+pub settings-refused : (known : Option Files) (names : FileNames) (c : RawSettings) (how : Manner) (has : Bool) (bad : BadSetting) → checked_by (first_bad c) c ≡ Err bad
+    → WithFiles known (λ files. GivesBy names (λ files. IsRecord files names c how has) files (Err (OutOfRange bad)))
+settings-refused None names c how has bad e = tt
+settings-refused (Some files) names c how has bad e =
+    inr (subst (λ (o : Option BadSetting). IsBySettings o files names c how has (refused names (OutOfRange bad))) (sym (bad-one (first_bad c) c bad e)) refl)
 
 -- ---- a recording
 
@@ -205,11 +206,13 @@ mapped A B f None = refl
 mapped A B f (Some a) = refl
 
 -- what a recording's line asks for, by the names in it
-pub record-answers : (known : Option Files) (names : FileNames) (r : Recording) (has : Bool) (result : Result Answer Refusal) → names ≡ names_in (RecordLine (seen_recording r)) → has ≡ is_some r.input
-    → WithFiles known (λ files. GivesBy names (λ f. IsRecord f names r.settings r.seed has) files result)
+pub record-answers : (known : Option Files) (names : FileNames) (r : Recording) (how : Manner) (has : Bool) (result : Result Answer Refusal) → names ≡ names_in (RecordLine (seen_recording r))
+    → how ≡ manner_of (seen_recording r) → has ≡ is_some r.input
+    → WithFiles known (λ files. GivesBy names (λ f. IsRecord f names r.settings how has) files result)
     → WithFiles known (λ files. GivesBy names (IsAnswer (Some (RecordLine (seen_recording r)))) files result)
-record-answers known names r has result e input h =
+record-answers known names r how has result e m input h =
     let s = seen_recording r in
     let there : has ≡ is_some s.input = input ∙ sym (mapped _ _ _ r.input) in
-    subst (λ (n : FileNames). WithFiles known (λ files. GivesBy names (λ f. IsRecord f n s.settings s.seed (is_some s.input)) files result)) e
-    (subst (λ (b : Bool). WithFiles known (λ files. GivesBy names (λ f. IsRecord f names s.settings s.seed b) files result)) there h)
+    subst (λ (n : FileNames). WithFiles known (λ files. GivesBy names (λ f. IsRecord f n s.settings (manner_of s) (is_some s.input)) files result)) e
+    (subst (λ (b : Bool). WithFiles known (λ files. GivesBy names (λ f. IsRecord f names s.settings (manner_of s) b) files result)) there
+    (subst (λ (x : Manner). WithFiles known (λ files. GivesBy names (λ f. IsRecord f names s.settings x has) files result)) m h))

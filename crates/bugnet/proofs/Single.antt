@@ -1,7 +1,6 @@
 -- No command has two answers.
 use Rattle.std.proofs.Common.{◌≡◌, ◌≢◌, ℕ, Bool, true, false, List, [], length, nat_lt, Option, Some, None, ◌∙◌, ap, subst, sym, refl, arith}
 use Rattle.std.specs.Prelude.{Result, Ok, Err}
-use Rattle.std.specs.Str.{bytes_eq}
 use Rattle.sha2.specs.Sha256.{sha256}
 use Rattle.bn_base.specs.Programs.{Program}
 use Rattle.bn_base.specs.Ranges.{first_bad}
@@ -18,11 +17,13 @@ use Rattle.log_file.specs.declared.error.FileError.{FileError}
 use Rattle.log_file.specs.declared.error.FileError.TheVariants as file
 use Rattle.bugnet.specs.Names.{FileNames, name_of}
 use Rattle.bugnet.specs.Told.{Told}
-use Rattle.bugnet.specs.Commands.{Either, IsByFile, WithFile, Reads, by_log, IsByLog, list_of, check_of, replay_of, IsReplayOf, IsReplay, IsByInput, IsByProgram, IsByNames, IsBySettings}
+use Rattle.bugnet.specs.Commands.{is_clash, Either, IsByFile, WithFile, Reads, by_log, IsByLog, list_of, check_of, replay_of, IsReplayOf, IsReplay, IsByInput, IsByProgram, IsByNames, IsBySettings}
 use Rattle.bugnet.specs.Joined.{joint_of, IsJointOf}
-use Rattle.bugnet.specs.Answers.{names_in, IsAnswer}
+use Rattle.bugnet.specs.Answers.{names_in, manner_of, IsAnswer}
 use Rattle.bugnet.specs.Laws.{OneAnswer, AreAlike, AreOfOneList, book_of}
-use Rattle.bugnet.specs.Recordings.{IsRunOf, recorded}
+use Rattle.bugnet.specs.Recordings.{AreTaken, IsRunOf, IsRunBy, IsRun, told_run, recorded}
+use Rattle.run_model.specs.Runs.{seeded}
+use Rattle.bugnet.specs.declared.manner.Manner.{Manner}
 use Rattle.bugnet.specs.declared.names.Role.{Role}
 use Rattle.bugnet.specs.declared.names.Role.TheVariants as role
 
@@ -90,47 +91,61 @@ unfolding WithFile
 same-file files names r limit Go a b one p q = same-by (files (name_of names r)) names r limit Go a b one p q
 
 -- the list that a recording saves is its list of turns
-own-book : (c : RawSettings) (i : Program) (digest input b : List ℕ) → book_of (recorded c i digest input b) ≡ Some b
-unfolding recorded
+own-book : (c : RawSettings) (i : Program) (digest input b : List ℕ) → book_of (recorded c i digest input false b) ≡ Some b
+unfolding told_run
 own-book c i digest input b = refl
 
 same_list : (a b : List ℕ) → Some a ≡ Some b → a ≡ b
 same_list a b e = grind arith
 
-one-list : (seed : Option ℕ) (c : RawSettings) (i : Program) (digest input : List ℕ) (a b : Told) (p : IsRunOf c i digest seed input a) (q : IsRunOf c i digest seed input b)
-    → AreOfOneList seed a b → p.turns ≡ q.turns
-one-list (Some seed) c i digest input a b p q alike = p.taken ∙ sym q.taken
-one-list None c i digest input a b p q alike =
-    same_list p.turns q.turns (sym (own-book c i digest input p.turns) ∙ ap book_of (sym p.is) ∙ alike ∙ ap book_of q.is ∙ own-book c i digest input q.turns)
+-- two recordings of a list of turns: the seed's, or one that both save
+seed-list : (seed : ℕ) (c : RawSettings) (i : Program) (digest input : List ℕ) (how : Manner) (a b : Told) → how.seed ≡ Some seed → (p : IsRunOf c i digest how input a) (q : IsRunOf c i digest how input b) → p.turns ≡ q.turns
+seed-list seed c i digest input how a b e p q =
+    let x : p.turns ≡ seeded c i input seed = subst (λ (s : Option ℕ). AreTaken s c i input p.turns) e p.taken in
+    let y : q.turns ≡ seeded c i input seed = subst (λ (s : Option ℕ). AreTaken s c i input q.turns) e q.taken in
+    x ∙ sym y
 
-one-run : (seed : Option ℕ) (c : RawSettings) (i : Program) (digest input : List ℕ) (a b : Told) → AreOfOneList seed a b → IsRunOf c i digest seed input a → IsRunOf c i digest seed input b → a ≡ b
-one-run seed c i digest input a b alike p q = p.is ∙ ap (λ (list : List ℕ). recorded c i digest input list) (one-list seed c i digest input a b p q alike) ∙ sym q.is
+book-list : (c : RawSettings) (i : Program) (digest input : List ℕ) (how : Manner) (a b : Told) → how.lean ≡ false → book_of a ≡ book_of b → (p : IsRunOf c i digest how input a) (q : IsRunOf c i digest how input b) → p.turns ≡ q.turns
+book-list c i digest input how a b e alike p q =
+    let x : a ≡ recorded c i digest input false p.turns = p.is ∙ ap (λ (lean : Bool). recorded c i digest input lean p.turns) e in
+    let y : b ≡ recorded c i digest input false q.turns = q.is ∙ ap (λ (lean : Bool). recorded c i digest input lean q.turns) e in
+    same_list p.turns q.turns (sym (own-book c i digest input p.turns) ∙ ap book_of (sym x) ∙ alike ∙ ap book_of y ∙ own-book c i digest input q.turns)
+
+of-list : (c : RawSettings) (i : Program) (digest input : List ℕ) (how : Manner) (a b : Told) (p : IsRunOf c i digest how input a) (q : IsRunOf c i digest how input b) → p.turns ≡ q.turns → a ≡ b
+of-list c i digest input how a b p q e = p.is ∙ ap (λ (list : List ℕ). recorded c i digest input how.lean list) e ∙ sym q.is
+
+one-run : (lean : Bool) (seed : Option ℕ) (c : RawSettings) (i : Program) (digest input : List ℕ) (how : Manner) (a b : Told) → how.lean ≡ lean → how.seed ≡ seed → AreOfOneList seed lean a b
+    → IsRunBy lean seed c i digest how input a → IsRunBy lean seed c i digest how input b → a ≡ b
+one-run true None c i digest input how a b l s alike p q = absurd alike
+one-run true (Some seed) c i digest input how a b l s alike p q = of-list c i digest input how a b p q (seed-list seed c i digest input how a b s p q)
+one-run false None c i digest input how a b l s alike p q = of-list c i digest input how a b p q (book-list c i digest input how a b l alike p q)
+one-run false (Some seed) c i digest input how a b l s alike p q = of-list c i digest input how a b p q (seed-list seed c i digest input how a b s p q)
 
 one-input : (has_input : Bool) (files : Files) (names : FileNames) (Go : List ℕ → Told → Type 0) (a b : Told) → ((input : List ℕ) → Go input a → Go input b → a ≡ b)
     → IsByInput has_input files names Go a → IsByInput has_input files names Go b → a ≡ b
 one-input true files names Go a b one p q = same-file files names role.Input 16777216 Go a b one p q
 one-input false files names Go a b one p q = one [] p q
 
-one-program : (i : Result Program ElfError) (files : Files) (names : FileNames) (c : RawSettings) (seed : Option ℕ) (has_input : Bool) (digest : List ℕ) (a b : Told) → AreOfOneList seed a b
-    → IsByProgram i files names c seed has_input digest a → IsByProgram i files names c seed has_input digest b → a ≡ b
-one-program (Err e) files names c seed has_input digest a b alike p q = p ∙ sym q
-one-program (Ok i) files names c seed has_input digest a b alike p q =
-    one-input has_input files names (IsRunOf c i digest seed) a b (λ input x y. one-run seed c i digest input a b alike x y) p q
+one-program : (i : Result Program ElfError) (files : Files) (names : FileNames) (c : RawSettings) (how : Manner) (has_input : Bool) (digest : List ℕ) (a b : Told) → AreOfOneList how.seed how.lean a b
+    → IsByProgram i files names c how has_input digest a → IsByProgram i files names c how has_input digest b → a ≡ b
+one-program (Err e) files names c how has_input digest a b alike p q = p ∙ sym q
+one-program (Ok i) files names c how has_input digest a b alike p q =
+    one-input has_input files names (IsRun c i digest how) a b (λ input x y. one-run how.lean how.seed c i digest input how a b refl refl alike x y) p q
 
-one-names : (same : Bool) (files : Files) (names : FileNames) (c : RawSettings) (seed : Option ℕ) (has_input : Bool) (a b : Told) → AreOfOneList seed a b
-    → IsByNames same files names c seed has_input a → IsByNames same files names c seed has_input b → a ≡ b
-one-names true files names c seed has_input a b alike p q = p ∙ sym q
-one-names false files names c seed has_input a b alike p q =
-    same-file files names role.Elf 67108864 (λ elf what. IsByProgram (image_of elf c) files names c seed has_input (sha256 elf) what) a b
-    (λ elf x y. one-program (image_of elf c) files names c seed has_input (sha256 elf) a b alike x y) p q
+one-names : (same : Bool) (files : Files) (names : FileNames) (c : RawSettings) (how : Manner) (has_input : Bool) (a b : Told) → AreOfOneList how.seed how.lean a b
+    → IsByNames same files names c how has_input a → IsByNames same files names c how has_input b → a ≡ b
+one-names true files names c how has_input a b alike p q = p ∙ sym q
+one-names false files names c how has_input a b alike p q =
+    same-file files names role.Elf 67108864 (λ elf what. IsByProgram (image_of elf c) files names c how has_input (sha256 elf) what) a b
+    (λ elf x y. one-program (image_of elf c) files names c how has_input (sha256 elf) a b alike x y) p q
 
-one-settings : (bad : Option BadSetting) (files : Files) (names : FileNames) (c : RawSettings) (seed : Option ℕ) (has_input : Bool) (a b : Told) → AreOfOneList seed a b
-    → IsBySettings bad files names c seed has_input a → IsBySettings bad files names c seed has_input b → a ≡ b
-one-settings (Some bad) files names c seed has_input a b alike p q = p ∙ sym q
-one-settings None files names c seed has_input a b alike p q = one-names (bytes_eq names.log names.book) files names c seed has_input a b alike p q
+one-settings : (bad : Option BadSetting) (files : Files) (names : FileNames) (c : RawSettings) (how : Manner) (has_input : Bool) (a b : Told) → AreOfOneList how.seed how.lean a b
+    → IsBySettings bad files names c how has_input a → IsBySettings bad files names c how has_input b → a ≡ b
+one-settings (Some bad) files names c how has_input a b alike p q = p ∙ sym q
+one-settings None files names c how has_input a b alike p q = one-names (is_clash how.lean names.log names.book) files names c how has_input a b alike p q
 
 one-line : Grammar → (line : Line) (files : Files) (a b : Told) → IsAnswer (Some line) files a → IsAnswer (Some line) files b → AreAlike (Some line) a b → a ≡ b
-one-line g (RecordLine r) files a b p q alike = one-settings (first_bad r.settings) files (names_in (RecordLine r)) r.settings r.seed _ a b alike p q
+one-line g (RecordLine r) files a b p q alike = one-settings (first_bad r.settings) files (names_in (RecordLine r)) r.settings (manner_of r) _ a b alike p q
 one-line g (ReplayLine log elf hart interval) files a b p q alike = one-replay g files (names_in (ReplayLine log elf hart interval)) hart interval a b p q
 one-line g (JointLine log elf) files a b p q alike =
     let names = names_in (JointLine log elf) in

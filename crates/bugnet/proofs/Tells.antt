@@ -1,6 +1,6 @@
 -- What a whole call of the program does, from what its parts do.
 use Rattle.std.proofs.Common.{◌≡◌, ◌≤◌, ℕ, List, [], Option, Some, None, ◌∙◌, ap, subst, sym, refl, arith, inl, inr, ◌⊎◌}
-use Rattle.std.specs.Prelude.{Ok, Err}
+use Rattle.std.specs.Prelude.{Ok, Err, IsSomeAnd}
 use Rattle.std.specs.Io.KnownBytes.{Appends}
 use Rattle.bn_outside.specs.Counts.{Counts, Rose, NoneFell}
 use Rattle.bn_outside.specs.Files.{Files, WhereTold, SameElsewhere}
@@ -11,7 +11,7 @@ use Rattle.bugnet.specs.Recordings.{end_status}
 use Rattle.bugnet.specs.Refusals.{line_of, said_of, status_of}
 use Rattle.bugnet.specs.Told.{Told, Saved, refused, printed}
 use Rattle.bugnet.specs.Answers.{names_by, IsAnswer}
-use Rattle.bugnet.specs.Outside.{SendStops, ToldRefusal, WithFiles, IsEarly, GivesBy, told_of, told_of_recording, SameFiles, LogAlone, SaveBroke, KeptBoth, KeptFiles, MayChange, Unsaved}
+use Rattle.bugnet.specs.Outside.{SendStops, ToldRefusal, WithFiles, IsEarly, GivesBy, told_of, told_of_recording, SameFiles, LogAlone, SaveBroke, KeptBoth, KeptLog, KeptSaved, KeptFiles, MayChange, Unsaved}
 use Rattle.bugnet.specs.Run.{Call, IsFree, IsUnsaved, AreKept, SavingStopped, OutStopped, ErrStopped, ErrWaits, Stopped, Tells, StoppedEarly, SomeTold, TellsAnswer, Keeps, ChangesFew}
 use Rattle.bugnet.specs.declared.names.Role.{Role}
 use Rattle.bugnet.specs.declared.names.Role.TheVariants as role
@@ -122,9 +122,13 @@ pub same-files : (known after : Option Files) → after ≡ known → WhereTold 
 same-files None after e = tt
 same-files (Some files) after e = subst (λ (k : Option Files). WhereTold (Some files) k SameFiles) (sym e) (λ name. refl)
 
+kept-saved-few : (bytes : List ℕ) (list : Option (List ℕ)) (log book : List ℕ) (x y : Files) → KeptSaved bytes list log book x y → SameElsewhere log x y ⊎ IsSomeAnd list (λ l. LogAlone bytes log book x y)
+kept-saved-few bytes None log book x y s = inl s.others
+kept-saved-few bytes (Some list) log book x y s = inr (record { log_there = s.log_there; others = s.others })
+
 kept-few : (saved : Option Saved) (log book : List ℕ) (x y : Files) → KeptFiles saved log book x y → MayChange saved log book x y
 kept-few None log book x y s = s
-kept-few (Some bytes) log book x y s = inr (record { log_there = s.log_there; others = s.others })
+kept-few (Some saved) log book x y s = kept-saved-few saved.log saved.book log book x y s
 
 broke-few : (role : Role) (saved : Saved) (log book : List ℕ) (x y : Files) → SaveBroke role saved log book x y → MayChange (Some saved) log book x y
 broke-few role.Elf saved log book x y b = absurd b
@@ -302,20 +306,31 @@ pub recorded-told : (names : FileNames) (what : Recording) (k : Call) → Append
 recorded-told names what k out err files = inl (record { status_is = refl; out = out; err = err; files = files })
 
 -- two saves one after the other
-pub kept-both : (first middle last : Option Files) (saved : Saved) (log book : List ℕ)
-    → WhereTold first middle (λ old new. new log ≡ Some saved.log) → WhereTold first middle (SameElsewhere log)
-    → WhereTold middle last (λ old new. new book ≡ Some saved.book) → WhereTold middle last (SameElsewhere book)
-    → WhereTold first last (KeptBoth saved log book)
-kept-both None middle last saved log book a b c d = tt
-kept-both (Some first) None last saved log book a b c d = absurd a
-kept-both (Some first) (Some middle) None saved log book a b c d = absurd c
-kept-both (Some first) (Some middle) (Some last) saved log book a b c d = record {
+pub kept-both : (first middle last : Option Files) (bytes list log book : List ℕ)
+    → WhereTold first middle (λ old new. new log ≡ Some bytes) → WhereTold first middle (SameElsewhere log)
+    → WhereTold middle last (λ old new. new book ≡ Some list) → WhereTold middle last (SameElsewhere book)
+    → WhereTold first last (KeptBoth bytes list log book)
+kept-both None middle last bytes list log book a b c d = tt
+kept-both (Some first) None last bytes list log book a b c d = absurd a
+kept-both (Some first) (Some middle) None bytes list log book a b c d = absurd c
+kept-both (Some first) (Some middle) (Some last) bytes list log book a b c d = record {
   log_there = λ apart. d log apart ∙ a;
   book_there = c;
   others = λ name not_log not_book. d name not_book ∙ b name not_log;
 }
 
--- the second of which was refused
+-- one alone
+pub kept-log : (first last : Option Files) (bytes log : List ℕ) → WhereTold first last (λ old new. new log ≡ Some bytes) → WhereTold first last (SameElsewhere log) → WhereTold first last (KeptLog bytes log)
+kept-log None last bytes log a b = tt
+kept-log (Some first) None bytes log a b = absurd a
+kept-log (Some first) (Some last) bytes log a b = record { there = a; others = b }
+
+-- a recording that has a list saves both
+pub both-saved : (first last : Option Files) (saved : Saved) (list log book : List ℕ) → saved.book ≡ Some list → WhereTold first last (KeptBoth saved.log list log book)
+    → WhereTold first last (KeptFiles (Some saved) log book)
+both-saved first last saved list log book e h = subst (λ (o : Option (List ℕ)). WhereTold first last (KeptSaved saved.log o log book)) (sym e) h
+
+-- two, the second of which was refused
 pub log-alone : (first middle last : Option Files) (bytes log book : List ℕ)
     → WhereTold first middle (λ old new. new log ≡ Some bytes) → WhereTold first middle (SameElsewhere log) → WhereTold middle last (SameElsewhere book)
     → WhereTold first last (LogAlone bytes log book)
@@ -326,6 +341,11 @@ log-alone (Some first) (Some middle) (Some last) bytes log book a b d = record {
   log_there = λ apart. d log apart ∙ a;
   others = λ name not_log not_book. d name not_book ∙ b name not_log;
 }
+
+-- the log of a recording that has a list, which was refused
+pub log-saved : (first last : Option Files) (saved : Saved) (list log book : List ℕ) → saved.book ≡ Some list → WhereTold first last (LogAlone saved.log log book)
+    → WhereTold first last (SaveBroke role.Book saved log book)
+log-saved first last saved list log book e h = subst (λ (o : Option (List ℕ)). WhereTold first last (λ old new. IsSomeAnd o (λ list. LogAlone saved.log log book old new))) (sym e) h
 
 -- ---- before there is an answer
 

@@ -1,13 +1,13 @@
 -- What the program answers to its words.
 use Rattle.std.specs.Prelude.{◌≡◌, [], Bool, true, false, Option, Some, None, is_some, unwrap_or}
-use Rattle.std.specs.Str.{bytes_eq}
 use Rattle.bn_base.specs.Ranges.{first_bad}
 use Rattle.bn_base.specs.declared.settings.BadSetting.{BadSetting}
 use Rattle.bn_outside.specs.Files.{Files}
-use Rattle.command_words.specs.Words.{Line, RecordLine, ReplayLine, JointLine, ListLine, CheckLine}
+use Rattle.command_words.specs.Words.{Line, RecordingLine, RecordLine, ReplayLine, JointLine, ListLine, CheckLine}
 use Rattle.bugnet.specs.Names.{FileNames, no_names}
 use Rattle.bugnet.specs.Told.{Told, refused}
-use Rattle.bugnet.specs.Commands.{IsRecord, IsReplay, IsList, IsCheck}
+use Rattle.bugnet.specs.Commands.{is_clash, IsRecord, IsReplay, IsList, IsCheck}
+use Rattle.bugnet.specs.declared.manner.Manner.{Manner}
 use Rattle.bugnet.specs.Joined.{IsJoint}
 use Rattle.bugnet.specs.declared.refusal.Refusal.{Refusal}
 use Rattle.bugnet.specs.declared.refusal.Refusal.TheVariants.{WordsRefused, OutOfRange, SameName}
@@ -24,7 +24,11 @@ abbrev pub names_by : Option Line → FileNames
 names_by None = no_names
 names_by (Some line) = names_in line
 
--- what the words alone refuse, in the order of the tests: a setting, and then LOG and BOOK under one name
+-- how a line records
+abbrev pub manner_of : RecordingLine → Manner
+manner_of r = record { seed = r.seed; lean = r.lean }
+
+-- what the words alone refuse, in the order of the tests: a setting, and then LOG and BOOK under one name, where both are saved
 abbrev pub name_refusal : Bool → Option Refusal
 name_refusal true = Some SameName
 name_refusal false = None
@@ -34,7 +38,7 @@ setting_refusal (Some bad) same = Some (OutOfRange bad)
 setting_refusal None same = name_refusal same
 
 abbrev pub refusal_in : Line → Option Refusal
-refusal_in (RecordLine r) = setting_refusal (first_bad r.settings) (bytes_eq r.log r.book)
+refusal_in (RecordLine r) = setting_refusal (first_bad r.settings) (is_clash r.lean r.log r.book)
 refusal_in (ReplayLine log elf hart interval) = None
 refusal_in (JointLine log elf) = None
 refusal_in (ListLine log) = None
@@ -47,7 +51,7 @@ refusal_by (Some line) = refusal_in line
 -- what words have to answer, by the line that they say; words that say none are refused
 abbrev pub IsAnswer : Option Line → Files → Told → Type 0
 IsAnswer None files what = what ≡ refused no_names WordsRefused
-IsAnswer (Some (RecordLine r)) files what = IsRecord files (names_in (RecordLine r)) r.settings r.seed (is_some r.input) what
+IsAnswer (Some (RecordLine r)) files what = IsRecord files (names_in (RecordLine r)) r.settings (manner_of r) (is_some r.input) what
 IsAnswer (Some (ReplayLine log elf hart interval)) files what = IsReplay files (names_in (ReplayLine log elf hart interval)) hart interval what
 IsAnswer (Some (JointLine log elf)) files what = IsJoint files (names_in (JointLine log elf)) what
 IsAnswer (Some (ListLine log)) files what = IsList files (names_in (ListLine log)) what

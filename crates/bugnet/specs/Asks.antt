@@ -1,27 +1,38 @@
 -- How often a command asks its store to save.
-use Rattle.std.specs.Prelude.{◌≡◌, ◌⊎◌, ℕ, Option, Some, None}
+use Rattle.std.specs.Prelude.{◌≡◌, ◌⊎◌, ℕ, Bool, true, false, not, Option, Some, None, is_some}
 use Rattle.bn_outside.specs.Counts.{counted}
 use Rattle.command_words.specs.Words.{Line, RecordLine, ReplayLine, JointLine, ListLine, CheckLine}
 use Rattle.bugnet.specs.Saves.{IsRecorded}
 use Rattle.bugnet.specs.declared.answer.Answer.{Answer}
+use Rattle.bugnet.specs.declared.answer.Recording.{Recording}
 use Rattle.bugnet.specs.declared.answer.Answer.TheVariants.{Recorded, Interval, Joined, Listed, Checked}
 
--- two saves, one of them, or none
-abbrev pub AtMostTwo : ℕ → ℕ → Type 0
-AtMostTwo before after = (after ≡ before) ⊎ ((after ≡ counted before) ⊎ (after ≡ counted (counted before)))
+-- a recording saves two files; a lean one saves one
+abbrev pub saves_after : (lean : Bool) → ℕ → ℕ
+saves_after true before = counted before
+saves_after false before = counted (counted before)
 
--- both files of a recording are saved: it is done, or a write of its texts failed
-abbrev pub SavedBoth : ℕ → Type 0
-SavedBoth status = IsRecorded status ⊎ (status ≡ 13)
+-- so many saves, or fewer
+abbrev pub AtMostSaves : (lean : Bool) → ℕ → ℕ → Type 0
+AtMostSaves true before after = (after ≡ before) ⊎ (after ≡ counted before)
+AtMostSaves false before after = (after ≡ before) ⊎ ((after ≡ counted before) ⊎ (after ≡ counted (counted before)))
 
--- LOG and BOOK are saved once each: with what is said of the files, two saves are no more than that
-pub record SavesTwo (status before after : ℕ) : Type 0 where
-  pub few : AtMostTwo before after
-  pub both : SavedBoth status → after ≡ counted (counted before)
+-- all files of a recording are saved: it is done, or a write of its texts failed
+abbrev pub SavedAll : ℕ → Type 0
+SavedAll status = IsRecorded status ⊎ (status ≡ 13)
 
--- what an answer saves: a recording its two files, all else none
+-- each file is saved once: with what is said of the files, so many saves are no more than that
+pub record SavesEach (lean : Bool) (status before after : ℕ) : Type 0 where
+  pub few : AtMostSaves lean before after
+  pub all : SavedAll status → after ≡ saves_after lean before
+
+-- a recording with no list of turns
+abbrev pub is_lean : Recording → Bool
+is_lean r = not (is_some r.book)
+
+-- what an answer saves: a recording its files, all else none
 abbrev pub AnswerSaves : Answer → (status before after : ℕ) → Type 0
-AnswerSaves (Recorded r) status before after = SavesTwo status before after
+AnswerSaves (Recorded r) status before after = SavesEach (is_lean r) status before after
 AnswerSaves (Interval r) status before after = after ≡ before
 AnswerSaves (Joined r) status before after = after ≡ before
 AnswerSaves (Listed d) status before after = after ≡ before
@@ -30,23 +41,23 @@ AnswerSaves (Checked d) status before after = after ≡ before
 -- what a command saves
 abbrev pub LineSaves : Option Line → (status before after : ℕ) → Type 0
 LineSaves None status before after = after ≡ before
-LineSaves (Some (RecordLine r)) status before after = SavesTwo status before after
+LineSaves (Some (RecordLine r)) status before after = SavesEach r.lean status before after
 LineSaves (Some (ReplayLine log elf hart interval)) status before after = after ≡ before
 LineSaves (Some (JointLine log elf)) status before after = after ≡ before
 LineSaves (Some (ListLine log)) status before after = after ≡ before
 LineSaves (Some (CheckLine log)) status before after = after ≡ before
 
--- an answer that is a recording
-abbrev pub IsRecordedRun : Answer → Type 0
-IsRecordedRun (Recorded r) = Unit {0}
-IsRecordedRun (Interval r) = ⊥
-IsRecordedRun (Joined r) = ⊥
-IsRecordedRun (Listed d) = ⊥
-IsRecordedRun (Checked d) = ⊥
+-- an answer that is a recording, lean or not
+abbrev pub IsRecordedRun : (lean : Bool) → Answer → Type 0
+IsRecordedRun lean (Recorded r) = is_lean r ≡ lean
+IsRecordedRun lean (Interval r) = ⊥
+IsRecordedRun lean (Joined r) = ⊥
+IsRecordedRun lean (Listed d) = ⊥
+IsRecordedRun lean (Checked d) = ⊥
 
 -- the answer to a line that records is a recording
 abbrev pub RecordsRun : Line → Answer → Type 0
-RecordsRun (RecordLine r) answer = IsRecordedRun answer
+RecordsRun (RecordLine r) answer = IsRecordedRun r.lean answer
 RecordsRun (ReplayLine log elf hart interval) answer = Unit {0}
 RecordsRun (JointLine log elf) answer = Unit {0}
 RecordsRun (ListLine log) answer = Unit {0}

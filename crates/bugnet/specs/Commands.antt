@@ -24,7 +24,8 @@ use Rattle.bugnet.specs.Names.{FileNames, name_of}
 use Rattle.bugnet.specs.Refusals.{status_of, line_of}
 use Rattle.bugnet.specs.Texts.{begin_text, rows_text, list_text, check_text}
 use Rattle.bugnet.specs.Told.{Told, refused, printed}
-use Rattle.bugnet.specs.Recordings.{IsRunOf}
+use Rattle.bugnet.specs.Recordings.{IsRun}
+use Rattle.bugnet.specs.declared.manner.Manner.{Manner}
 use Rattle.bugnet.specs.declared.names.Role.{Role}
 use Rattle.bugnet.specs.declared.names.Role.TheVariants as role
 use Rattle.bugnet.specs.declared.refusal.Refusal.TheVariants.{OutOfRange, SameName, Missing, TooLong, ElfRefused, LogRefused, ProgramDiffers, ReplayStopped}
@@ -117,18 +118,23 @@ abbrev pub IsByInput : Bool → Files → FileNames → (List ℕ → Told → T
 IsByInput true files names Go what = WithFile files names role.Input 16777216 Go what
 IsByInput false files names Go what = Go [] what
 
-abbrev pub IsByProgram : Result Program ElfError → Files → FileNames → RawSettings → (seed : Option ℕ) → Bool → List ℕ → Told → Type 0
-IsByProgram (Err e) files names c seed has_input digest what = what ≡ refused names (ElfRefused e)
-IsByProgram (Ok i) files names c seed has_input digest what = IsByInput has_input files names (IsRunOf c i digest seed) what
+abbrev pub IsByProgram : Result Program ElfError → Files → FileNames → RawSettings → Manner → Bool → List ℕ → Told → Type 0
+IsByProgram (Err e) files names c how has_input digest what = what ≡ refused names (ElfRefused e)
+IsByProgram (Ok i) files names c how has_input digest what = IsByInput has_input files names (IsRun c i digest how) what
 
--- LOG and BOOK have to be two names
-abbrev pub IsByNames : Bool → Files → FileNames → RawSettings → (seed : Option ℕ) → Bool → Told → Type 0
-IsByNames true files names c seed has_input what = what ≡ refused names SameName
-IsByNames false files names c seed has_input what = WithFile files names role.Elf 67108864 (λ elf what. IsByProgram (image_of elf c) files names c seed has_input (sha256 elf) what) what
+-- LOG and BOOK under one name, where both are saved
+abbrev pub is_clash : (lean : Bool) → (log book : List ℕ) → Bool
+is_clash true log book = false
+is_clash false log book = bytes_eq log book
 
-abbrev pub IsBySettings : Option BadSetting → Files → FileNames → RawSettings → (seed : Option ℕ) → Bool → Told → Type 0
-IsBySettings (Some bad) files names c seed has_input what = what ≡ refused names (OutOfRange bad)
-IsBySettings None files names c seed has_input what = IsByNames (bytes_eq names.log names.book) files names c seed has_input what
+-- LOG and BOOK have to be two names, where both are saved
+abbrev pub IsByNames : Bool → Files → FileNames → RawSettings → Manner → Bool → Told → Type 0
+IsByNames true files names c how has_input what = what ≡ refused names SameName
+IsByNames false files names c how has_input what = WithFile files names role.Elf 67108864 (λ elf what. IsByProgram (image_of elf c) files names c how has_input (sha256 elf) what) what
 
-abbrev pub IsRecord : Files → FileNames → RawSettings → (seed : Option ℕ) → Bool → Told → Type 0
-IsRecord files names c seed has_input what = IsBySettings (first_bad c) files names c seed has_input what
+abbrev pub IsBySettings : Option BadSetting → Files → FileNames → RawSettings → Manner → Bool → Told → Type 0
+IsBySettings (Some bad) files names c how has_input what = what ≡ refused names (OutOfRange bad)
+IsBySettings None files names c how has_input what = IsByNames (is_clash how.lean names.log names.book) files names c how has_input what
+
+abbrev pub IsRecord : Files → FileNames → RawSettings → Manner → Bool → Told → Type 0
+IsRecord files names c how has_input what = IsBySettings (first_bad c) files names c how has_input what

@@ -1,6 +1,5 @@
 -- Where a command has an answer, and where it is done.
-use Rattle.std.specs.Prelude.{◌≡◌, ◌≤◌, ◌⊎◌, ℕ, List, false, length, Option, Some, None, Ok}
-use Rattle.std.specs.Str.{bytes_eq}
+use Rattle.std.specs.Prelude.{◌≡◌, ◌≤◌, ◌⊎◌, ℕ, Bool, List, true, false, length, Option, Some, None, Ok}
 use Rattle.sha2.specs.Sha256.{sha256}
 use Rattle.bn_base.specs.Programs.{Program}
 use Rattle.bn_base.specs.Ranges.{first_bad}
@@ -12,6 +11,7 @@ use Rattle.hart_replay.specs.Replay.{Interval}
 use Rattle.run_model.specs.Files.{file_of}
 use Rattle.file_laws.specs.Given.{IsRecording}
 use Rattle.bugnet.specs.Told.{Told}
+use Rattle.bugnet.specs.Commands.{is_clash}
 use Rattle.bugnet.specs.Joined.{CanJoin}
 use Rattle.bugnet.specs.Answers.{IsAnswer}
 use Rattle.bugnet.specs.Headline.{Part, ReplaysRun}
@@ -20,10 +20,16 @@ use Rattle.bugnet.specs.Saves.{IsRecorded, input_by, HoldsBytes}
 
 -- ---- answers
 
--- the log of a line that loads one is bytes
+-- the program file of a lean recording without a seed is bytes
+abbrev pub HasProgram : (lean : Bool) → Option ℕ → Option (List ℕ) → Type 0
+HasProgram true None there = HoldsBytes there
+HasProgram true (Some seed) there = Unit {0}
+HasProgram false seed there = Unit {0}
+
+-- so is the log of a line that loads one
 abbrev pub HasBytes : Option Line → Files → Type 0
 HasBytes None files = Unit {0}
-HasBytes (Some (RecordLine r)) files = Unit {0}
+HasBytes (Some (RecordLine r)) files = HasProgram r.lean r.seed (files r.elf)
 HasBytes (Some (ReplayLine log elf hart interval)) files = HoldsBytes (files log)
 HasBytes (Some (JointLine log elf)) files = HoldsBytes (files log)
 HasBytes (Some (ListLine log)) files = HoldsBytes (files log)
@@ -35,14 +41,14 @@ EachHasAnAnswer = (line : Option Line) (files : Files) → HasBytes line files �
 
 -- ---- commands that can be done
 
--- the settings are in range, LOG and BOOK are two names, and the files are there, within their limits, the program's one that
+-- the settings are in range, LOG and BOOK are two names unless it is lean, and the files are there, within their limits, the program's one that
 -- can be loaded
 pub record CanRecord (r : RecordingLine) (files : Files) : Type 0 where
   pub elf : List ℕ
   pub program : Program
   pub input : List ℕ
   pub settings : first_bad r.settings ≡ None
-  pub names : bytes_eq r.log r.book ≡ false
+  pub names : is_clash r.lean r.log r.book ≡ false
   pub elf_there : files r.elf ≡ Some elf
   pub elf_small : length elf ≤ 67108864
   pub loaded : image_of elf r.settings ≡ Ok program
@@ -67,10 +73,17 @@ CanDo (JointLine log elf) files = CanJoin log elf files
 CanDo (ListLine log) files = HasLog (files log)
 CanDo (CheckLine log) files = HasLog (files log)
 
+-- what a line that can be done needs for an answer: a program file that is bytes
+abbrev pub HasElfBytes : Line → Files → Type 0
+HasElfBytes (RecordLine r) files = HasProgram r.lean r.seed (files r.elf)
+HasElfBytes (ReplayLine log elf hart interval) files = Unit {0}
+HasElfBytes (JointLine log elf) files = Unit {0}
+HasElfBytes (ListLine log) files = Unit {0}
+HasElfBytes (CheckLine log) files = Unit {0}
+
 -- there is an answer, and each answer is that of a command that is done
 pub record CanBeDone (line : Line) (files : Files) : Type 0 where
-  pub what : Told
-  pub answer : IsAnswer (Some line) files what
+  pub answer : HasElfBytes line files → (what : Told) × IsAnswer (Some line) files what
   pub done : (told : Told) → IsAnswer (Some line) files told → IsRecorded told.status
 
 abbrev pub EachCanBeDone : Type 0

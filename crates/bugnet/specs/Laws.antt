@@ -1,5 +1,5 @@
 -- Laws of answers, by their names.
-use Rattle.std.specs.Prelude.{◌≡◌, ℕ, List, length, Option, Some, None, option_map}
+use Rattle.std.specs.Prelude.{◌≡◌, ℕ, List, length, Bool, true, false, Option, Some, None, option_and_then}
 use Rattle.sha2.specs.Sha256.{sha256}
 use Rattle.bn_base.specs.Programs.{Program}
 use Rattle.bn_base.specs.Ranges.{first_bad}
@@ -17,23 +17,24 @@ use Rattle.bugnet.specs.Saves.{IsWithin}
 
 -- the list of turns that an answer saves
 abbrev pub book_of : Told → Option (List ℕ)
-book_of what = option_map (λ (s : Saved). s.book) what.saved
+book_of what = option_and_then (λ (s : Saved). s.book) what.saved
 
--- of recordings without a seed, two that save one list of turns
-abbrev pub AreOfOneList : Option ℕ → (a b : Told) → Type 0
-AreOfOneList (Some seed) a b = Unit {0}
-AreOfOneList None a b = book_of a ≡ book_of b
+-- of recordings without a seed, two that save one list of turns; of lean ones none is said to be alike
+abbrev pub AreOfOneList : Option ℕ → (lean : Bool) → (a b : Told) → Type 0
+AreOfOneList (Some seed) lean a b = Unit {0}
+AreOfOneList None false a b = book_of a ≡ book_of b
+AreOfOneList None true a b = ⊥
 
 abbrev pub AreAlike : Option Line → (a b : Told) → Type 0
 AreAlike None a b = Unit {0}
-AreAlike (Some (RecordLine r)) a b = AreOfOneList r.seed a b
+AreAlike (Some (RecordLine r)) a b = AreOfOneList r.seed r.lean a b
 AreAlike (Some (ReplayLine log elf hart interval)) a b = Unit {0}
 AreAlike (Some (JointLine log elf)) a b = Unit {0}
 AreAlike (Some (ListLine log)) a b = Unit {0}
 AreAlike (Some (CheckLine log)) a b = Unit {0}
 
 -- No words have two answers. A recording without a seed may take any turns that are legal and finished; it has one answer
--- for each such list
+-- for each such list, where it saves it
 abbrev pub OneAnswer : Type 0
 OneAnswer = (line : Option Line) (files : Files) (a b : Told) → IsAnswer line files a → IsAnswer line files b → AreAlike line a b → a ≡ b
 

@@ -1,5 +1,5 @@
 -- What the parts of a command do to the outside.
-use Rattle.std.specs.Prelude.{◌≡◌, ◌≢◌, ◌≤◌, ◌<◌, ◌⊎◌, ◌++◌, ℕ, List, length, Option, Some, None, Result, Ok, Err, IsSomeAnd, Bool, true, false}
+use Rattle.std.specs.Prelude.{◌≡◌, ◌≢◌, ◌≤◌, ◌<◌, ◌⊎◌, ◌++◌, ℕ, List, length, Option, Some, None, Result, Ok, Err, IsSomeAnd, option_map, Bool, true, false}
 use Rattle.std.specs.Io.KnownBytes.{Appends}
 use Rattle.std.specs.Str.{bytes_eq}
 use Rattle.std.specs.declared.vec.Vec.{Vec}
@@ -58,8 +58,12 @@ ProgramTells bytes c (Err refusal) = (refusal ≡ why.OutOfMemory) ⊎ ((e : Elf
 
 -- ---- what is answered
 
+-- the list of turns that a recording has
+abbrev pub list_in : Recording → Option (List ℕ)
+list_in r = option_map (λ (list : Vec ℕ Global). list.items) r.book
+
 abbrev pub saved_of : Recording → Saved
-saved_of r = record { log = r.log.items; book = r.book.items }
+saved_of r = record { log = r.log.items; book = list_in r }
 
 abbrev pub told_of_recording : Recording → Told
 told_of_recording r = record { status = end_status r.end; out = r.out.items; err = r.err.items; saved = Some (saved_of r) }
@@ -170,15 +174,24 @@ abbrev pub SameBut : List ℕ → List ℕ → Files → Files → Type 0
 SameBut log book old new = (name : List ℕ) → name ≢ log → name ≢ book → new name ≡ old name
 
 -- the log under its name, and the turn list under the book's
-pub record KeptBoth (saved : Saved) (log book : List ℕ) (old new : Files) : Type 0 where
-  pub log_there : log ≢ book → new log ≡ Some saved.log
-  pub book_there : new book ≡ Some saved.book
+pub record KeptBoth (bytes list : List ℕ) (log book : List ℕ) (old new : Files) : Type 0 where
+  pub log_there : log ≢ book → new log ≡ Some bytes
+  pub book_there : new book ≡ Some list
   pub others : SameBut log book old new
+
+-- the log under its name, and all other names have what they had
+pub record KeptLog (bytes : List ℕ) (log : List ℕ) (old new : Files) : Type 0 where
+  pub there : new log ≡ Some bytes
+  pub others : SameElsewhere log old new
+
+abbrev pub KeptSaved : (bytes : List ℕ) → Option (List ℕ) → (log book : List ℕ) → Files → Files → Type 0
+KeptSaved bytes None log book old new = KeptLog bytes log old new
+KeptSaved bytes (Some list) log book old new = KeptBoth bytes list log book old new
 
 -- what was to be saved is saved, and nothing else
 abbrev pub KeptFiles : Option Saved → List ℕ → List ℕ → Files → Files → Type 0
 KeptFiles None log book old new = SameFiles old new
-KeptFiles (Some saved) log book old new = KeptBoth saved log book old new
+KeptFiles (Some saved) log book old new = KeptSaved saved.log saved.book log book old new
 
 -- the log is under its name, and nothing is known of what the book's has
 pub record LogAlone (bytes : List ℕ) (log book : List ℕ) (old new : Files) : Type 0 where
@@ -190,14 +203,14 @@ pub record LogAlone (bytes : List ℕ) (log book : List ℕ) (old new : Files) :
 abbrev pub SaveBroke : Role → Saved → (log book : List ℕ) → Files → Files → Type 0
 SaveBroke role.Elf saved log book old new = ⊥
 SaveBroke role.Log saved log book old new = SameElsewhere log old new
-SaveBroke role.Book saved log book old new = LogAlone saved.log log book old new
+SaveBroke role.Book saved log book old new = IsSomeAnd saved.book (λ list. LogAlone saved.log log book old new)
 SaveBroke role.Input saved log book old new = ⊥
 
 -- what a command may have done to the files, whatever happened: nothing where nothing was to be saved; else the save of the
--- log may have been refused, or that of the book, or none
+-- log may have been refused, or that of the book, where there is one, or none
 abbrev pub MayChange : Option Saved → (log book : List ℕ) → Files → Files → Type 0
 MayChange None log book old new = SameFiles old new
-MayChange (Some saved) log book old new = SameElsewhere log old new ⊎ LogAlone saved.log log book old new
+MayChange (Some saved) log book old new = SameElsewhere log old new ⊎ IsSomeAnd saved.book (λ list. LogAlone saved.log log book old new)
 
 -- why saving stopped, and what it left: the store failed, or memory was wanting
 abbrev pub Unsaved : Option Saved → FileNames → (old new : Option Files) → (before now : Counts) → Refusal → Type 0
@@ -206,7 +219,7 @@ Unsaved (Some saved) names old new before now (why.StoreFailed role) = WhereTold
 Unsaved (Some saved) names old new before now why.OutOfMemory = (role : Role) × WhereTold old new (SaveBroke role saved names.log names.book)
 Unsaved (Some saved) names old new before now refusal = ⊥
 
--- both files were saved, or not
+-- all was saved, or not
 abbrev pub SaveTells : {A : Type 0} → Saved → FileNames → (old new : Option Files) → (before now : Counts) → Result A Refusal → Type 0
-SaveTells saved names old new before now (Ok value) = WhereTold old new (KeptBoth saved names.log names.book)
+SaveTells saved names old new before now (Ok value) = WhereTold old new (KeptFiles (Some saved) names.log names.book)
 SaveTells saved names old new before now (Err refusal) = Unsaved (Some saved) names old new before now refusal

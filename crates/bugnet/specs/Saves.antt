@@ -1,14 +1,17 @@
 -- What a recording leaves under LOG and BOOK.
-use Rattle.std.specs.Prelude.{◌≡◌, ◌≤◌, ◌⊎◌, ◌+◌, ℕ, List, [], length, Option, Some, None, IfSome}
+use Rattle.std.specs.Prelude.{◌≡◌, ◌≤◌, ◌⊎◌, ◌+◌, ℕ, Bool, true, false, List, [], length, Option, Some, None, Ok, IfSome}
 use Rattle.sha2.specs.Sha256.{sha256}
 use Rattle.bn_base.specs.Programs.{Program}
 use Rattle.bn_base.specs.declared.settings.RawSettings.{RawSettings}
-use Rattle.bn_outside.specs.Files.{Files, WhereTold}
+use Rattle.bn_outside.specs.Files.{Files, WhereTold, SameElsewhere}
+use Rattle.elf_loader.specs.Loaded.{image_of}
+use Rattle.log_order.specs.Content.{Content, IsContent}
+use Rattle.log_file.specs.Layout.{file_bytes}
 use Rattle.command_words.specs.Words.{Line, RecordingLine, RecordLine, ReplayLine, JointLine, ListLine, CheckLine}
 use Rattle.le_numbers.specs.Numbers.{AreBytes}
 use Rattle.log_record.specs.Spelling.{total}
 use Rattle.run_model.specs.Files.{kept_of, file_of}
-use Rattle.run_model.specs.Runs.{run_of}
+use Rattle.run_model.specs.Runs.{run_of, seeded}
 use Rattle.file_laws.specs.Given.{IsRecording}
 use Rattle.bugnet.specs.Outside.{WithFiles, SameBut}
 use Rattle.bugnet.specs.Recordings.{AreTaken}
@@ -46,10 +49,38 @@ pub record Leaves (r : RecordingLine) (old new : Files) : Type 0 where
   pub within : IsWithin r.settings (total (kept_of r.settings (run_of r.settings program input turns))) (length (file_of r.settings program (sha256 elf) input turns))
   pub others : SameBut r.log r.book old new
 
+-- where there is a seed, a log is that of the turns that it chooses
+abbrev pub IsChosenLog : Option ℕ → RawSettings → Program → (digest input : List ℕ) → (log : List ℕ) → Type 0
+IsChosenLog None c i digest input log = Unit {0}
+IsChosenLog (Some seed) c i digest input log = log ≡ file_of c i digest input (seeded c i input seed)
+
+-- the files before and after a lean recording
+pub record LeavesLog (r : RecordingLine) (old new : Files) : Type 0 where
+  pub elf : List ℕ
+  pub program : Program
+  pub input : List ℕ
+  pub says : Content
+  -- what was there
+  pub elf_there : old r.elf ≡ Some elf
+  pub small : length elf ≤ 67108864
+  pub loaded : image_of elf r.settings ≡ Ok program
+  pub input_there : input_by r.input old ≡ Some input
+  -- LOG is the file of what a log can say, with these settings and the digest of ELF, within its size
+  pub content : IsContent says
+  pub head : says.head ≡ record { settings = r.settings; digest = sha256 elf }
+  pub log : new r.log ≡ Some (file_bytes says)
+  pub within : IsWithin r.settings (total says.records) (length (file_bytes says))
+  pub chosen : IsChosenLog r.seed r.settings program (sha256 elf) input (file_bytes says)
+  pub others : SameElsewhere r.log old new
+
+abbrev pub LeavesBy : (lean : Bool) → RecordingLine → (old new : Files) → Type 0
+LeavesBy true r old new = LeavesLog r old new
+LeavesBy false r old new = Leaves r old new
+
 -- so it is once a recording is done
 abbrev pub LeavesRun : Option Line → ℕ → (old new : Option Files) → Type 0
 LeavesRun None status old new = Unit {0}
-LeavesRun (Some (RecordLine r)) status old new = IsRecorded status → WhereTold old new (Leaves r)
+LeavesRun (Some (RecordLine r)) status old new = IsRecorded status → WhereTold old new (LeavesBy r.lean r)
 LeavesRun (Some (ReplayLine log elf hart interval)) status old new = Unit {0}
 LeavesRun (Some (JointLine log elf)) status old new = Unit {0}
 LeavesRun (Some (ListLine log)) status old new = Unit {0}

@@ -4,10 +4,10 @@ use Rattle.bugnet.specs.Names.{FileNames}
 use Rattle.bugnet.specs.Refusals.{status_of, line_of}
 use Rattle.bugnet.specs.declared.refusal.Refusal.{Refusal}
 
--- the log file and the turn list of a recording
+-- the log file of a recording, and its turn list where that is saved too
 pub record Saved : Type 0 where
   pub log : List ℕ
-  pub book : List ℕ
+  pub book : Option (List ℕ)
 
 -- a status, what out and err gain, and what is saved
 pub record Told : Type 0 where

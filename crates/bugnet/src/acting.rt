@@ -1,8 +1,8 @@
 // What an answer does: it prints and saves.
 ghost use Rattle.std.specs.Prelude.{◌≡◌, ◌≢◌, ◌≤◌, ◌⊎◌, Option, None, IfOk, IfErr, OnOk};
-ghost use Rattle.bn_outside.specs.Counts.{Counts, Rose, NoneFell, counted};
+ghost use Rattle.bn_outside.specs.Counts.{Counts, Rose, NoneFell};
 ghost use Rattle.bn_outside.specs.Files.{Files};
-ghost use Rattle.bugnet.specs.Asks.{AtMostTwo, SavesTwo, AnswerSaves};
+ghost use Rattle.bugnet.specs.Asks.{saves_after, AtMostSaves, SavesEach, is_lean, AnswerSaves};
 ghost use Rattle.bugnet.specs.Commands.{list_of};
 ghost use Rattle.bugnet.specs.Logs.{IsBegun, IsAbsent};
 ghost use Rattle.bugnet.specs.Outside.{told_of, told_of_reading, told_of_recording, saved_of, IsPrinted, SaveTells};
@@ -137,18 +137,21 @@ fn print_check<O: Sink, X: Sink>(
     }
 }
 
-// Saves the log, and then the turn list.
+// Saves the log, and then the turn list where there is one.
 fn save<S: Store>(store: &mut S, names: &Names, recording: &Recording) -> Result<(), Refusal>
     ensures told { SaveTells (saved_of recording.now) names.now (S.files store.old) (S.files store.new) (S.counts store.old) (S.counts store.new) result }
     ensures later { NoneFell (S.counts store.old) (S.counts store.new) }
-    ensures few { AtMostTwo (S.saves store.old) (S.saves store.new) }
-    ensures both { OnOk result (S.saves store.new ≡ counted (counted (S.saves store.old))) }
+    ensures few { AtMostSaves (is_lean recording.now) (S.saves store.old) (S.saves store.new) }
+    ensures all { OnOk result (S.saves store.new ≡ saves_after (is_lean recording.now) (S.saves store.old)) }
 {
     match store.save(names.log, &recording.log) {
-        Ok(()) => match store.save(names.book, &recording.book) {
-            Ok(()) => Ok(()),
-            Err(SaveError::Failed) => Err(Refusal::StoreFailed(Role::Book)),
-            Err(SaveError::OutOfMemory) => Err(Refusal::OutOfMemory),
+        Ok(()) => match &recording.book {
+            None => Ok(()),
+            Some(list) => match store.save(names.book, list) {
+                Ok(()) => Ok(()),
+                Err(SaveError::Failed) => Err(Refusal::StoreFailed(Role::Book)),
+                Err(SaveError::OutOfMemory) => Err(Refusal::OutOfMemory),
+            },
         },
         Err(SaveError::Failed) => Err(Refusal::StoreFailed(Role::Log)),
         Err(SaveError::OutOfMemory) => Err(Refusal::OutOfMemory),
@@ -165,7 +168,7 @@ fn keep<S: Store, O: Sink, X: Sink>(
     err: &mut X,
 ) -> u8
     ensures told { Tells names.now (told_of_recording recording.now) result (call S.files S.counts O.written O.faults X.written X.faults store.old out.old err.old store.new out.new err.new) }
-    ensures saves { SavesTwo result (S.saves store.old) (S.saves store.new) }
+    ensures saves { SavesEach (is_lean recording.now) result (S.saves store.old) (S.saves store.new) }
     ensures later { NoneFell (S.counts store.old) (S.counts store.new) }
     ensures out_later { O.faults out.old ≤ O.faults out.new }
     ensures err_later { X.faults err.old ≤ X.faults err.new }

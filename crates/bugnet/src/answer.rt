@@ -58,7 +58,8 @@ pub struct Recording {
     pub out: Vec<u8>,
     pub err: Vec<u8>,
     pub log: Vec<u8>,
-    pub book: Vec<u8>,
+    /// The list of turns, where it is saved.
+    pub book: Option<Vec<u8>>,
 }
 
 /// An interval to be replayed: the program, the log, and the hart and number of the interval.

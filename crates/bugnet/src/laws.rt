@@ -12,11 +12,11 @@ use log_file::laws::{
 };
 use log_file::readings::files_are_read_or_refused;
 use replay_laws::{the_log_suffices, the_rows_of_an_interval_stand_together};
-use run_laws::kept_records_are_an_end;
+use run_laws::{kept_records_are_an_end, own_rows_are_turns, turns_are_lawful, turns_are_own};
 use run_model::format_1_is_version_1;
 
 /// No words have two answers, whatever the files are; but a recording without a seed has one for each
-/// list of turns.
+/// list of turns, and of a lean one without a seed nothing is said.
 pub fn one_answer()
     ensures { OneAnswer }
 {
@@ -65,6 +65,10 @@ pub fn each_has_an_answer()
     ensures { EachHasAnAnswer }
 {
     seeds_are_whole();
+    logs_are_contents();
+    turns_are_lawful();
+    turns_are_own();
+    own_rows_are_turns();
     files_are_read_or_refused();
 }
 
@@ -76,6 +80,9 @@ pub fn each_can_be_done()
 {
     one_answer();
     seeds_are_whole();
+    turns_are_lawful();
+    turns_are_own();
+    own_rows_are_turns();
     the_log_suffices();
     the_rows_of_an_interval_stand_together();
     kept_records_are_an_end();

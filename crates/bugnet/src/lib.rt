@@ -11,6 +11,7 @@ mod laws;
 mod lines;
 mod loading;
 mod logs;
+mod manner;
 mod names;
 mod preparing;
 mod printing;
@@ -26,6 +27,7 @@ pub use laws::{
     one_answer, recordings_are_joined, recordings_are_replayed, recordings_can_be_joined,
     seeds_are_whole,
 };
+pub use manner::Manner;
 pub use names::{Names, Role};
 pub use printing::Ending;
 pub use program::run;

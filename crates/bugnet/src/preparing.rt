@@ -1,6 +1,5 @@
 // What a recording tests and loads before it runs.
 ghost use Rattle.std.specs.Prelude.{◌≡◌, false, [], IfOk};
-ghost use Rattle.std.specs.Str.{bytes_eq};
 ghost use Rattle.sha2.specs.Sha256.{sha256};
 ghost use Rattle.bn_outside.specs.Counts.{NoneFell};
 ghost use Rattle.elf_loader.specs.Loaded.{image_of};
@@ -8,13 +7,14 @@ ghost use Rattle.le_numbers.specs.Numbers.{AreBytes};
 ghost use Rattle.bn_base.specs.Ranges.{first_bad};
 ghost use Rattle.bugnet.specs.Answers.{name_refusal, setting_refusal};
 ghost use Rattle.bugnet.specs.Asks.{IsRecordedRun};
-ghost use Rattle.bugnet.specs.Commands.{IsByInput, IsByProgram, IsByNames, IsRecord};
-ghost use Rattle.bugnet.specs.Recordings.{IsRunOf};
+ghost use Rattle.bugnet.specs.Commands.{is_clash, IsByInput, IsByProgram, IsByNames, IsRecord};
+ghost use Rattle.bugnet.specs.Recordings.{IsRun};
 ghost use Rattle.bugnet.specs.Saves.{HoldsBytes};
 ghost use Rattle.bugnet.specs.Outside.{Gives, GivesBy, IsOwn, CauseBy, ResultCause, WithFiles};
 
 use crate::answer::{Answer, digest_of, load_program};
 use crate::loading::{ELF_LIMIT, INPUT_LIMIT, fetch};
+use crate::manner::Manner;
 use crate::names::{Names, Role};
 use crate::recording::record_run;
 use crate::refusal::Refusal;
@@ -31,14 +31,14 @@ fn record_start<G: Gate, R: Threads + Wait + Sync>(
     alloc: Global,
     names: &Names,
     start: &Start,
-    seed: Option<u64>,
+    how: &Manner,
     gate: &G,
 ) -> Result<Answer, Refusal>
-    ensures gives { Gives names.now (IsRunOf start.now.settings start.now.image start.now.digest seed start.now.input.items) result }
+    ensures gives { Gives names.now (IsRun start.now.settings start.now.image start.now.digest how.now start.now.input.items) result }
     ensures own { IsOwn result }
-    ensures recorded { IfOk result IsRecordedRun }
+    ensures recorded { IfOk result (IsRecordedRun how.now.lean) }
 {
-    let recording = record_run(rt, alloc, start, seed, gate)?;
+    let recording = record_run(rt, alloc, start, how, gate)?;
     Ok(Answer::Recorded(recording))
 }
 
@@ -48,27 +48,27 @@ fn record_input<S: Store, G: Gate, R: Threads + Wait + Sync>(
     alloc: Global,
     names: &Names,
     mut start: Start,
-    seed: Option<u64>,
+    how: &Manner,
     has_input: bool,
     store: &mut S,
     gate: &G,
 ) -> Result<Answer, Refusal>
     requires { start.input.items ≡ [] }
-    ensures told { WithFiles (S.files store.old) (λ files. GivesBy names.now (λ files. IsByInput has_input files names.now (IsRunOf start.settings start.image start.digest seed)) files result) }
+    ensures told { WithFiles (S.files store.old) (λ files. GivesBy names.now (λ files. IsByInput has_input files names.now (IsRun start.settings start.image start.digest how.now)) files result) }
     ensures same { S.files store.new ≡ S.files store.old }
     ensures asks { S.saves store.new ≡ S.saves store.old }
-    ensures recorded { IfOk result IsRecordedRun }
+    ensures recorded { IfOk result (IsRecordedRun how.now.lean) }
     ensures later { NoneFell (S.counts store.old) (S.counts store.new) }
     ensures cause { ResultCause (S.counts store.old) (S.counts store.new) result }
 {
     if !has_input {
-        return record_start(rt, alloc, names, &start, seed, gate);
+        return record_start(rt, alloc, names, &start, how, gate);
     }
     match fetch(alloc, names, store, Role::Input, INPUT_LIMIT) {
         Err(refusal) => Err(refusal),
         Ok(input) => {
             start.input = input;
-            record_start(rt, alloc, names, &start, seed, gate)
+            record_start(rt, alloc, names, &start, how, gate)
         }
     }
 }
@@ -80,16 +80,16 @@ fn record_program<S: Store, G: Gate, R: Threads + Wait + Sync>(
     names: &Names,
     elf: &[u8],
     settings: &Settings,
-    seed: Option<u64>,
+    how: &Manner,
     has_input: bool,
     store: &mut S,
     gate: &G,
 ) -> Result<Answer, Refusal>
     ensures bytes { AreBytes elf.now }
-    ensures told { WithFiles (S.files store.old) (λ files. GivesBy names.now (λ files. IsByProgram (image_of elf.now settings.now) files names.now settings.now seed has_input (sha256 elf.now)) files result) }
+    ensures told { WithFiles (S.files store.old) (λ files. GivesBy names.now (λ files. IsByProgram (image_of elf.now settings.now) files names.now settings.now how.now has_input (sha256 elf.now)) files result) }
     ensures same { S.files store.new ≡ S.files store.old }
     ensures asks { S.saves store.new ≡ S.saves store.old }
-    ensures recorded { IfOk result IsRecordedRun }
+    ensures recorded { IfOk result (IsRecordedRun how.now.lean) }
     ensures later { NoneFell (S.counts store.old) (S.counts store.new) }
     ensures cause { ResultCause (S.counts store.old) (S.counts store.new) result }
 {
@@ -102,7 +102,7 @@ fn record_program<S: Store, G: Gate, R: Threads + Wait + Sync>(
                 input: Vec::new(alloc),
                 digest: digest_of(elf),
             };
-            record_input(rt, alloc, names, start, seed, has_input, store, gate)
+            record_input(rt, alloc, names, start, how, has_input, store, gate)
         }
     }
 }
@@ -113,50 +113,57 @@ fn record_elf<S: Store, G: Gate, R: Threads + Wait + Sync>(
     alloc: Global,
     names: &Names,
     settings: &Settings,
-    seed: Option<u64>,
+    how: &Manner,
     has_input: bool,
     store: &mut S,
     gate: &G,
 ) -> Result<Answer, Refusal>
     ensures bytes { IfOk result (λ _. WithFiles (S.files store.old) (λ files. HoldsBytes (files names.now.elf))) }
-    ensures told { WithFiles (S.files store.old) (λ files. GivesBy names.now (λ files. IsByNames false files names.now settings.now seed has_input) files result) }
+    ensures told { WithFiles (S.files store.old) (λ files. GivesBy names.now (λ files. IsByNames false files names.now settings.now how.now has_input) files result) }
     ensures same { S.files store.new ≡ S.files store.old }
     ensures asks { S.saves store.new ≡ S.saves store.old }
-    ensures recorded { IfOk result IsRecordedRun }
+    ensures recorded { IfOk result (IsRecordedRun how.now.lean) }
     ensures later { NoneFell (S.counts store.old) (S.counts store.new) }
     ensures cause { ResultCause (S.counts store.old) (S.counts store.new) result }
 {
     match fetch(alloc, names, store, Role::Elf, ELF_LIMIT) {
         Err(refusal) => Err(refusal),
         Ok(elf) => record_program(
-            rt, alloc, names, &elf, settings, seed, has_input, store, gate,
+            rt, alloc, names, &elf, settings, how, has_input, store, gate,
         ),
     }
 }
 
-// Records, where LOG and BOOK are two names.
+// Whether LOG and BOOK are one name, where both are saved.
+fn clashes(lean: bool, log: &str, book: &str) -> bool
+    ensures { result ≡ is_clash lean log.now book.now }
+{
+    if lean { false } else { log == book }
+}
+
+// Records, where LOG and BOOK are two names, if both are saved.
 fn record_named<S: Store, G: Gate, R: Threads + Wait + Sync>(
     rt: &R,
     alloc: Global,
     names: &Names,
     settings: &Settings,
-    seed: Option<u64>,
+    how: &Manner,
     has_input: bool,
     store: &mut S,
     gate: &G,
 ) -> Result<Answer, Refusal>
     ensures bytes { IfOk result (λ _. WithFiles (S.files store.old) (λ files. HoldsBytes (files names.now.elf))) }
-    ensures told { WithFiles (S.files store.old) (λ files. GivesBy names.now (λ files. IsByNames (bytes_eq names.now.log names.now.book) files names.now settings.now seed has_input) files result) }
+    ensures told { WithFiles (S.files store.old) (λ files. GivesBy names.now (λ files. IsByNames (is_clash how.now.lean names.now.log names.now.book) files names.now settings.now how.now has_input) files result) }
     ensures same { S.files store.new ≡ S.files store.old }
     ensures asks { S.saves store.new ≡ S.saves store.old }
-    ensures recorded { IfOk result IsRecordedRun }
+    ensures recorded { IfOk result (IsRecordedRun how.now.lean) }
     ensures later { NoneFell (S.counts store.old) (S.counts store.new) }
-    ensures cause { CauseBy (name_refusal (bytes_eq names.now.log names.now.book)) (S.counts store.old) (S.counts store.new) result }
+    ensures cause { CauseBy (name_refusal (is_clash how.now.lean names.now.log names.now.book)) (S.counts store.old) (S.counts store.new) result }
 {
-    if names.log == names.book {
+    if clashes(how.lean, names.log, names.book) {
         Err(Refusal::SameName)
     } else {
-        record_elf(rt, alloc, names, settings, seed, has_input, store, gate)
+        record_elf(rt, alloc, names, settings, how, has_input, store, gate)
     }
 }
 
@@ -167,21 +174,21 @@ pub fn record_files<S: Store, G: Gate, R: Threads + Wait + Sync>(
     alloc: Global,
     names: &Names,
     settings: &RawSettings,
-    seed: Option<u64>,
+    how: &Manner,
     has_input: bool,
     store: &mut S,
     gate: &G,
 ) -> Result<Answer, Refusal>
     ensures bytes { IfOk result (λ _. WithFiles (S.files store.old) (λ files. HoldsBytes (files names.now.elf))) }
-    ensures told { WithFiles (S.files store.old) (λ files. GivesBy names.now (λ files. IsRecord files names.now settings.now seed has_input) files result) }
+    ensures told { WithFiles (S.files store.old) (λ files. GivesBy names.now (λ files. IsRecord files names.now settings.now how.now has_input) files result) }
     ensures same { S.files store.new ≡ S.files store.old }
     ensures asks { S.saves store.new ≡ S.saves store.old }
-    ensures recorded { IfOk result IsRecordedRun }
+    ensures recorded { IfOk result (IsRecordedRun how.now.lean) }
     ensures later { NoneFell (S.counts store.old) (S.counts store.new) }
-    ensures cause { CauseBy (setting_refusal (first_bad settings.now) (bytes_eq names.now.log names.now.book)) (S.counts store.old) (S.counts store.new) result }
+    ensures cause { CauseBy (setting_refusal (first_bad settings.now) (is_clash how.now.lean names.now.log names.now.book)) (S.counts store.old) (S.counts store.new) result }
 {
     match Settings::checked(settings) {
         Err(bad) => Err(Refusal::OutOfRange(bad)),
-        Ok(settings) => record_named(rt, alloc, names, &settings, seed, has_input, store, gate),
+        Ok(settings) => record_named(rt, alloc, names, &settings, how, has_input, store, gate),
     }
 }

@@ -1,8 +1,8 @@
 // The program: it reads its words, loads, answers, saves and prints.
 ghost use Rattle.std.specs.Prelude.{◌≡◌, ◌≤◌, ◌⊎◌, Some, IfOk};
 ghost use Rattle.bn_outside.specs.Counts.{Rose, NoneFell};
-ghost use Rattle.command_words.specs.Words.{command_in, seen};
-ghost use Rattle.bugnet.specs.Answers.{names_in, refusal_in, IsAnswer};
+ghost use Rattle.command_words.specs.Words.{command_in, seen, seen_recording};
+ghost use Rattle.bugnet.specs.Answers.{names_in, manner_of, refusal_in, IsAnswer};
 ghost use Rattle.bugnet.specs.Asks.{LineSaves, RecordsRun};
 ghost use Rattle.bugnet.specs.Laws.{IsNoRecording};
 ghost use Rattle.bugnet.specs.Complete.{IsDone};
@@ -20,12 +20,15 @@ use crate::laws::{
     seeds_are_whole,
 };
 use crate::loading::{check_files, list_files, replay_files};
+use crate::manner::Manner;
 use crate::names::Names;
 use crate::preparing::record_files;
 use crate::printing::refuse;
 use crate::refusal::Refusal;
 use bn_outside::{Gate, Sink, Source, Store};
-use command_words::{Command, WordsError, read_words};
+use command_words::{Command, Recording, WordsError, read_words};
+use file_laws::logs_are_contents;
+use log_file::laws::files_have_their_size;
 use std::alloc::Global;
 use std::sync::Wait;
 use std::thread::Threads;
@@ -58,6 +61,16 @@ fn names_of<'a>(command: &Command<'a>) -> Names<'a>
     }
 }
 
+// How a recording is made.
+fn manner_of(recording: &Recording) -> Manner
+    ensures { result ≡ manner_of (seen_recording recording.now) }
+{
+    Manner {
+        seed: recording.seed,
+        lean: recording.lean,
+    }
+}
+
 // What a command answers. Nothing is saved or printed yet.
 fn answer_to<S: Store, G: Gate, R: Threads + Wait + Sync>(
     rt: &R,
@@ -83,7 +96,7 @@ fn answer_to<S: Store, G: Gate, R: Threads + Wait + Sync>(
             alloc,
             names,
             &recording.settings,
-            recording.seed,
+            &manner_of(recording),
             recording.input.is_some(),
             store,
             gate,
@@ -122,6 +135,8 @@ fn obey<S: Store, O: Sink, X: Sink, G: Gate, R: Threads + Wait + Sync>(
 {
     seeds_are_whole();
     files_keep_to_their_size();
+    logs_are_contents();
+    files_have_their_size();
     let names = names_of(command);
     match answer_to(rt, alloc, command, &names, store, gate) {
         Err(refusal) => refuse(alloc, &names, &refusal, err),
@@ -134,7 +149,7 @@ fn obey<S: Store, O: Sink, X: Sink, G: Gate, R: Threads + Wait + Sync>(
 ///
 /// | words | what it does |
 /// |---|---|
-/// | `record [SETTINGS] [--seed N] [--input FILE] ELF LOG BOOK` | runs the program, and saves its log and the list of its turns |
+/// | `record [SETTINGS] [--seed N] [--lean] [--input FILE] ELF LOG BOOK` | runs the program, and saves its log and the list of its turns |
 /// | `replay LOG ELF HART INTERVAL` | prints what the recorded run did in one interval, instruction by instruction |
 /// | `joint LOG ELF` | prints what all harts did in the intervals that the log keeps, in an order that its Edges allow, and the words of memory that are known then |
 /// | `list LOG` | prints a line for each interval that the log keeps, in the order of their Headers |
@@ -146,13 +161,14 @@ fn obey<S: Store, O: Sink, X: Sink, G: Gate, R: Threads + Wait + Sync>(
 ///
 /// With a seed its number chooses the turns, on the caller's thread. Without one each hart runs in a
 /// thread of its own, and the gate is called around its turns. Which turns come then isn't told; they
-/// are legal and finished, and the list under BOOK is theirs.
+/// are legal and finished, and the list under BOOK is theirs. A lean recording keeps no list and saves
+/// nothing under BOOK, which then may be LOG's name.
 ///
 /// | status | comes |
 /// |---|---|
 /// | 0 | done |
 /// | 10, 11 | a recording is done, and the run ended in a fault; in no fault, and a hart met the limit |
-/// | 2 | the words are no command, a setting is out of range, or LOG and BOOK are one name |
+/// | 2 | the words are no command, a setting is out of range, or LOG and BOOK are one name and not lean |
 /// | 3, 4, 5 | the store failed at a name, has nothing under it, or more bytes than such a file may have |
 /// | 6 | the loader refuses ELF |
 /// | 7 | LOG is no log file |
@@ -198,13 +214,14 @@ pub fn run<S: Store, I: Source, O: Sink, X: Sink, G: Gate, R: Threads + Wait + S
     ensures others { ChangesFew (command_in words.now) (S.files store.old) (S.files store.new) }
     ensures still { IsNoRecording (command_in words.now) → S.files store.new ≡ S.files store.old }
 
-    // A recording that is done has saved twice, and so each of its two files once; a refused one at most
-    // so often, and no other command saves.
+    // A recording that is done has saved twice, and so each of its two files once, a lean one once; a
+    // refused one at most so often, and no other command saves.
     ensures saves { LineSaves (command_in words.now) result (S.saves store.old) (S.saves store.new) }
 
     // A recording leaves under BOOK its turns, legal and finished, where there is a seed those that it
     // chooses, and under LOG the file of their run: its records have at most log-size bytes, and it has
-    // 124 more.
+    // 124 more. A lean one leaves BOOK as it was, and under LOG the file of what a log can say, within
+    // its size; where there is a seed that of the run that it chooses.
     ensures recorded { LeavesRun (command_in words.now) result (S.files store.old) (S.files store.new) }
 
     // A refusal by the outside comes only where its count rose, and no count falls.

@@ -1,25 +1,26 @@
 // The recording of a run.
-ghost use Rattle.std.specs.Prelude.{◌≡◌, ◌++◌, IfOk, Some, None};
+ghost use Rattle.std.specs.Prelude.{◌≡◌, ◌++◌, IfOk, length, Some, None, true, false, option_map};
 ghost use Rattle.std.specs.List.{flat_map, list_any};
 ghost use Rattle.log_record.specs.Spelling.{bytes_of};
 ghost use Rattle.log_file.specs.Layout.{spelling};
 ghost use Rattle.run_laws.specs.Laws.{harts_of};
-ghost use Rattle.bugnet.specs.Recordings.{count_of, instructions_of, is_fault, is_limit, end_by, end_word, IsRunOf};
+ghost use Rattle.bugnet.specs.Recordings.{count_of, instructions_of, is_fault, is_limit, end_by, end_word, book_if};
 ghost use Rattle.bugnet.specs.Texts.{summary_text};
-ghost use Rattle.bugnet.specs.Outside.{told_of_recording};
-ghost use Rattle.bugnet.specs.Keeping.{IsRecordingOf};
+ghost use Rattle.bugnet.specs.Keeping.{IsRecordingOf, IsRecordingBy};
 
 use crate::answer::{Recording, RunEnd};
+use crate::manner::Manner;
 use crate::texts::{RunCounts, push_summary};
 use bn_base::EndMark;
 use bn_base::end_mark::{FAULT, LIMIT};
 use bn_outside::{Book, FullBook, Gate, LeanBook, TurnRow};
 use bus_core::Closed;
+use file_laws::logs_of_rows_are_contents;
 use hart_worker::{run_listed, run_threads};
 use log_file::write_file;
 use log_record::Head;
 use log_ring::Ring;
-use run_model::{Start, format_1_is_version_1};
+use run_model::Start;
 use rv_text::Text;
 use std::alloc::{AllocError, Global};
 use std::sync::Wait;
@@ -118,15 +119,15 @@ fn err_of(
     Ok(err)
 }
 
-// The recording of a closed run and the list of its turns.
+// The recording of a closed run, and of the list of its turns where that is saved.
 fn recording_of<B: Book>(
     alloc: Global,
     start: &Start,
     closed: Closed<B>,
-    list: Vec<u8>,
+    book: Option<Vec<u8>>,
 ) -> Result<Recording, AllocError>
     requires { closed.ring.size ≡ start.now.settings.log_size }
-    ensures { IfOk result (λ r. IsRecordingOf start.now closed list.items r) }
+    ensures { IfOk result (λ r. IsRecordingOf start.now closed (option_map (λ list. list.items) book) r) }
 {
     let end = end_by(&closed.ends);
     let counts = RunCounts {
@@ -142,19 +143,30 @@ fn recording_of<B: Book>(
         out: closed.out,
         err,
         log,
-        book: list,
+        book,
     })
+}
+
+// The list of turns, where it is to be saved.
+fn book_if(lean: bool, list: Vec<u8>) -> Option<Vec<u8>>
+    ensures { option_map (λ l. l.items) result ≡ book_if lean list.items }
+{
+    if lean { None } else { Some(list) }
 }
 
 // The recording of the run by the turns that a number chooses. Of a turn one byte is kept, the number
 // of its hart, and no row.
-fn record_seeded(alloc: Global, start: &Start, seed: u64) -> Result<Recording, AllocError>
-    ensures { IfOk result (λ r. IsRunOf start.now.settings start.now.image start.now.digest (Some seed) start.now.input.items (told_of_recording r)) }
+fn record_seeded(
+    alloc: Global,
+    start: &Start,
+    seed: u64,
+    lean: bool,
+) -> Result<Recording, AllocError>
+    ensures { IfOk result (λ r. IsRecordingBy start.now (record { seed = Some seed; lean = lean }) r) }
 {
-    format_1_is_version_1();
     let _format = start.settings.format();
     let listed = run_listed(alloc, start, LeanBook, seed)?;
-    recording_of(alloc, start, listed.closed, listed.list)
+    recording_of(alloc, start, listed.closed, book_if(lean, listed.list))
 }
 
 // The harts of rows: a byte for each, its number.
@@ -182,13 +194,34 @@ fn record_threads<G: Gate, R: Threads + Wait + Sync>(
     start: &Start,
     gate: &G,
 ) -> Result<Recording, AllocError>
-    ensures { IfOk result (λ r. IsRunOf start.now.settings start.now.image start.now.digest None start.now.input.items (told_of_recording r)) }
+    ensures { IfOk result (λ r. IsRecordingBy start.now (record { seed = None; lean = false }) r) }
 {
-    format_1_is_version_1();
     let _format = start.settings.format();
     let closed = run_threads(rt, alloc, start, FullBook::new(alloc), gate)?;
     let list = list_of(alloc, &closed.book)?;
-    recording_of(alloc, start, closed, list)
+    recording_of(alloc, start, closed, Some(list))
+}
+
+// A SHA-256 has 32 bytes (FIPS 180-4, 6.2).
+fn digest_has_its_length(digest: [u8; 32])
+    ensures { length digest ≡ 32 }
+{}
+
+// The recording of such a run of which no row is kept.
+fn record_lean<G: Gate, R: Threads + Wait + Sync>(
+    rt: &R,
+    alloc: Global,
+    start: &Start,
+    gate: &G,
+) -> Result<Recording, AllocError>
+    ensures { IfOk result (λ r. IsRecordingBy start.now (record { seed = None; lean = true }) r) }
+{
+    logs_of_rows_are_contents();
+    let _format = start.settings.format();
+    let _settings = start.settings.raw();
+    digest_has_its_length(start.digest);
+    let closed = run_threads(rt, alloc, start, LeanBook, gate)?;
+    recording_of(alloc, start, closed, None)
 }
 
 /// The recording of the run by the turns that a number chooses, or, where there is none, of a run whose
@@ -197,13 +230,19 @@ pub fn record_run<G: Gate, R: Threads + Wait + Sync>(
     rt: &R,
     alloc: Global,
     start: &Start,
-    seed: Option<u64>,
+    how: &Manner,
     gate: &G,
 ) -> Result<Recording, AllocError>
-    ensures { IfOk result (λ r. IsRunOf start.now.settings start.now.image start.now.digest seed start.now.input.items (told_of_recording r)) }
+    ensures { IfOk result (λ r. IsRecordingBy start.now how.now r) }
 {
-    match seed {
-        Some(seed) => record_seeded(alloc, start, seed),
-        None => record_threads(rt, alloc, start, gate),
+    match how.seed {
+        Some(seed) => record_seeded(alloc, start, seed, how.lean),
+        None => {
+            if how.lean {
+                record_lean(rt, alloc, start, gate)
+            } else {
+                record_threads(rt, alloc, start, gate)
+            }
+        }
     }
 }

@@ -1,5 +1,5 @@
 -- The lines worked out, by computation.
-use Rattle.std.proofs.Common.{◌≡◌, [], ◌∷◌, codes, Some, None, refl}
+use Rattle.std.proofs.Common.{◌≡◌, [], ◌∷◌, codes, Some, None, true, refl}
 use Rattle.clap.proofs.OnLiterals.{clap_on_literals}
 use Rattle.bn_base.specs.Ranges.{default_settings}
 use Rattle.command_words.specs.Words.{RecordLine, ReplayLine, JointLine, ListLine, CheckLine, line_of}
@@ -80,6 +80,14 @@ no_command = refl
 pub no_seed : said (codes "record" ∷ codes "E" ∷ codes "L" ∷ codes "B" ∷ []) ≡ Some (RecordLine (record plain { seed = None }))
 unfolding line_of clap_on_literals
 no_seed = refl
+
+pub lean : said (codes "record" ∷ codes "--lean" ∷ codes "E" ∷ codes "L" ∷ codes "B" ∷ codes "--seed=5" ∷ []) ≡ Some (RecordLine (record plain { lean = true }))
+unfolding line_of clap_on_literals
+lean = refl
+
+pub valued : said (codes "record" ∷ codes "--lean=true" ∷ codes "E" ∷ codes "L" ∷ codes "B" ∷ []) ≡ None
+unfolding line_of clap_on_literals
+valued = refl
 
 pub no_seed_number : said (codes "record" ∷ codes "--seed" ∷ codes "E" ∷ codes "L" ∷ codes "B" ∷ []) ≡ None
 unfolding line_of clap_on_literals

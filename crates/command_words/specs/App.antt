@@ -4,7 +4,7 @@ use Rattle.clap.specs.Words.{App, Rule, Shape, Text, app_of, new_app, new_rule, 
 use Rattle.clap.specs.declared.builder.arg.Arg.{Arg}
 use Rattle.clap.specs.declared.builder.command.Command.{Command}
 use Rattle.clap.specs.declared.builder.command.Command.TheViews.{out-Command}
-use Rattle.clap.specs.declared.builder.action.ArgAction.TheVariants.{Set}
+use Rattle.clap.specs.declared.builder.action.ArgAction.TheVariants.{Set, SetTrue}
 use Rattle.clap.specs.declared.builder.value_parser.ValueParser.TheVariants as value_parser
 
 -- `--ID N`, where N is below 2 ^ 64
@@ -18,6 +18,10 @@ number_option id = record (new_rule id) {
 -- `--ID TEXT`
 abbrev pub text_option : Text → Rule
 text_option id = record (new_rule id) { long = Some id; action = Some Set }
+
+-- `--ID`
+abbrev pub flag : Text → Rule
+flag id = record (new_rule id) { long = Some id; action = Some SetTrue }
 
 -- a word that has to be there
 abbrev pub word : Text → Rule
@@ -38,10 +42,10 @@ settings_app = with_rules (new_app (codes "record"))
     ∷ number_option (codes "log-size") ∷ number_option (codes "memory") ∷ number_option (codes "sets")
     ∷ number_option (codes "ways") ∷ number_option (codes "line") ∷ [])
 
--- `record [SETTINGS] [--seed N] [--input FILE] ELF LOG BOOK`
+-- `record [SETTINGS] [--seed N] [--lean] [--input FILE] ELF LOG BOOK`
 abbrev pub record_app : App
 record_app = with_rules settings_app
-    (number_option (codes "seed") ∷ text_option (codes "input")
+    (number_option (codes "seed") ∷ flag (codes "lean") ∷ text_option (codes "input")
     ∷ word (codes "elf") ∷ word (codes "log") ∷ word (codes "book") ∷ [])
 
 -- `replay LOG ELF HART INTERVAL`

@@ -1,5 +1,5 @@
 -- What the worked lines say.
-use Rattle.std.specs.Prelude.{List, ◌∷◌, Option, Some, None, codes}
+use Rattle.std.specs.Prelude.{List, ◌∷◌, Option, Some, None, false, codes}
 use Rattle.clap.specs.Words.{Text}
 use Rattle.bn_base.specs.Ranges.{default_settings}
 use Rattle.command_words.specs.Words.{Line, RecordingLine, line_of}
@@ -8,6 +8,6 @@ use Rattle.command_words.specs.Words.{Line, RecordingLine, line_of}
 abbrev pub said : List Text → Option Line
 said words = line_of (codes "bugnet" ∷ words)
 
--- the recording of E with seed 5 under L and B, by default settings and without input
+-- the recording of E with seed 5 under L and B, by default settings, without input and with a list of turns
 abbrev pub plain : RecordingLine
-plain = record { settings = default_settings; seed = Some 5; input = None; elf = codes "E"; log = codes "L"; book = codes "B" }
+plain = record { settings = default_settings; seed = Some 5; lean = false; input = None; elf = codes "E"; log = codes "L"; book = codes "B" }

@@ -1,5 +1,5 @@
 -- What the words of a command line say.
-use Rattle.std.specs.Prelude.{ℕ, List, [], ◌∷◌, Option, Some, None, codes, map, option_and_then, option_map, if◌then◌else◌}
+use Rattle.std.specs.Prelude.{ℕ, Bool, false, List, [], ◌∷◌, Option, Some, None, codes, map, option_and_then, option_map, if◌then◌else◌}
 use Rattle.std.specs.String.{string_bytes}
 use Rattle.std.specs.Str.{bytes_eq}
 use Rattle.std.specs.Str.Parse.{digits_value, without_leading_plus}
@@ -21,6 +21,7 @@ use Rattle.command_words.specs.declared.commands.Command.TheVariants as command
 pub record RecordingLine : Type 0 where
   pub settings : RawSettings
   pub seed : Option ℕ
+  pub lean : Bool
   pub input : Option (List ℕ)
   pub elf : List ℕ
   pub log : List ℕ
@@ -40,6 +41,7 @@ abbrev pub seen_recording : Recording → RecordingLine
 seen_recording r = record {
   settings = r.settings;
   seed = r.seed;
+  lean = r.lean;
   input = option_map (λ s. s.now) r.input;
   elf = r.elf.now;
   log = r.log.now;
@@ -85,6 +87,14 @@ abbrev pub and_then : {X Y : Type 0} → Option X → (X → Option Y) → Optio
 and_then None f = None
 and_then (Some x) f = f x
 
+abbrev pub is_set : Option Text → Bool
+is_set None = false
+is_set (Some t) = bytes_eq t (codes "true")
+
+-- whether a flag is given
+abbrev pub flag_in : Text → List Row → Bool
+flag_in id rows = is_set (first_of id rows)
+
 -- the settings, of which the last three have no option
 abbrev pub settings_in : List Row → Option RawSettings
 settings_in rows =
@@ -105,7 +115,7 @@ recording_in rows =
     and_then (first_of (codes "elf") rows) (λ elf.
     and_then (first_of (codes "log") rows) (λ log.
     and_then (first_of (codes "book") rows) (λ book.
-    Some (record { settings = settings; seed = seed; input = first_of (codes "input") rows; elf = elf; log = log; book = book }))))))
+    Some (record { settings = settings; seed = seed; lean = flag_in (codes "lean") rows; input = first_of (codes "input") rows; elf = elf; log = log; book = book }))))))
 
 abbrev pub record_in : List Row → Option Line
 record_in rows = option_map RecordLine (recording_in rows)

@@ -9,6 +9,8 @@ pub struct Recording<'a> {
     pub settings: RawSettings,
     /// The seed of the turns, if there is one.
     pub seed: Option<u64>,
+    /// Whether no list of turns is kept.
+    pub lean: bool,
     /// The name of the file that the program reads as its input, if there is one.
     pub input: Option<&'a str>,
     /// The name of the program's file.

@@ -2,7 +2,7 @@
 ghost use Rattle.std.specs.Prelude.{◌≡◌, IfOk, codes};
 ghost use Rattle.clap.specs.Words.{app_of, rule_of};
 ghost use Rattle.clap.specs.declared.builder.command.Command.TheViews.{out-Command};
-ghost use Rattle.command_words.specs.App.{IsRule, IsSeenAs, number_option, text_option, word, number_word};
+ghost use Rattle.command_words.specs.App.{IsRule, IsSeenAs, number_option, flag, text_option, word, number_word};
 ghost use Rattle.command_words.specs.App.{settings_app, record_app, replay_app, joint_app, log_app, bugnet_app};
 
 use clap::builder::ValueParser;
@@ -24,6 +24,13 @@ fn text_option<'a>(alloc: Global, id: &'a str) -> Arg<'a>
     ensures { IsRule (text_option id.entry.now) result }
 {
     Arg::new(alloc, id).long(id).action(ArgAction::Set)
+}
+
+// `--ID`
+fn flag<'a>(alloc: Global, id: &'a str) -> Arg<'a>
+    ensures { IsRule (flag id.entry.now) result }
+{
+    Arg::new(alloc, id).long(id).action(ArgAction::SetTrue)
 }
 
 // a word that has to be there
@@ -55,12 +62,13 @@ fn settings_command<'a>(alloc: Global) -> Result<Command<'a>, AllocError>
     command.arg(number_option(alloc, "line"))
 }
 
-// `record [OPTIONS] [--seed N] [--input FILE] ELF LOG BOOK`
+// `record [OPTIONS] [--seed N] [--lean] [--input FILE] ELF LOG BOOK`
 fn record_command<'a>(alloc: Global) -> Result<Command<'a>, AllocError>
     ensures { IfOk result (IsSeenAs record_app) }
 {
     let command = settings_command(alloc)?;
     let command = command.arg(number_option(alloc, "seed"))?;
+    let command = command.arg(flag(alloc, "lean"))?;
     let command = command.arg(text_option(alloc, "input"))?;
     let command = command.arg(word(alloc, "elf"))?;
     let command = command.arg(word(alloc, "log"))?;

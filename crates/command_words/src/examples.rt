@@ -1,17 +1,18 @@
 // Lines whose meaning is worked out, so that the definition is seen at work.
-ghost use Rattle.std.specs.Prelude.{◌≡◌, ◌∷◌, [], Some, None, codes};
+ghost use Rattle.std.specs.Prelude.{◌≡◌, ◌∷◌, [], Some, None, true, codes};
 ghost use Rattle.bn_base.specs.Ranges.{default_settings};
 ghost use Rattle.command_words.specs.Words.{RecordLine, ReplayLine, JointLine, ListLine, CheckLine, line_of};
 ghost use Rattle.command_words.specs.Examples.{said, plain};
 
 /// Options stand before, between and after names, with `=` or in two words. Settings that aren't
 /// given have their defaults.
-#[tactic(auto, using(crate::proofs::Cases::before, crate::proofs::Cases::between, crate::proofs::Cases::after, crate::proofs::Cases::no_seed, crate::proofs::Cases::setting))]
+#[tactic(auto, using(crate::proofs::Cases::before, crate::proofs::Cases::between, crate::proofs::Cases::after, crate::proofs::Cases::no_seed, crate::proofs::Cases::lean, crate::proofs::Cases::setting))]
 pub fn options_stand_anywhere()
     ensures before { said (codes "record" ∷ codes "--seed" ∷ codes "5" ∷ codes "E" ∷ codes "L" ∷ codes "B" ∷ []) ≡ Some (RecordLine plain) }
     ensures between { said (codes "record" ∷ codes "E" ∷ codes "--seed=5" ∷ codes "L" ∷ codes "B" ∷ []) ≡ Some (RecordLine plain) }
     ensures after { said (codes "record" ∷ codes "E" ∷ codes "L" ∷ codes "B" ∷ codes "--input" ∷ codes "F" ∷ codes "--seed" ∷ codes "5" ∷ []) ≡ Some (RecordLine (record plain { input = Some (codes "F") })) }
     ensures no_seed { said (codes "record" ∷ codes "E" ∷ codes "L" ∷ codes "B" ∷ []) ≡ Some (RecordLine (record plain { seed = None })) }
+    ensures lean { said (codes "record" ∷ codes "--lean" ∷ codes "E" ∷ codes "L" ∷ codes "B" ∷ codes "--seed=5" ∷ []) ≡ Some (RecordLine (record plain { lean = true })) }
     ensures setting { said (codes "record" ∷ codes "--ways" ∷ codes "2" ∷ codes "E" ∷ codes "L" ∷ codes "B" ∷ codes "--seed=5" ∷ []) ≡ Some (RecordLine (record plain { settings = record default_settings { ways = 2 } })) }
 {}
 
@@ -44,13 +45,14 @@ pub fn names_may_look_like_other_words()
 
 /// A word too few or too many, an option that is repeated, shortened or unknown, and what asks for
 /// help or the version are refused.
-#[tactic(auto, using(crate::proofs::Cases::no_words, crate::proofs::Cases::no_command, crate::proofs::Cases::no_seed_number, crate::proofs::Cases::no_name, crate::proofs::Cases::one_more, crate::proofs::Cases::repeated, crate::proofs::Cases::shortened, crate::proofs::Cases::unknown, crate::proofs::Cases::help, crate::proofs::Cases::help_of_a_command, crate::proofs::Cases::version))]
+#[tactic(auto, using(crate::proofs::Cases::no_words, crate::proofs::Cases::no_command, crate::proofs::Cases::no_seed_number, crate::proofs::Cases::no_name, crate::proofs::Cases::one_more, crate::proofs::Cases::valued, crate::proofs::Cases::repeated, crate::proofs::Cases::shortened, crate::proofs::Cases::unknown, crate::proofs::Cases::help, crate::proofs::Cases::help_of_a_command, crate::proofs::Cases::version))]
 pub fn other_lines_are_refused()
     ensures no_words { line_of [] ≡ None }
     ensures no_command { said [] ≡ None }
     ensures no_number { said (codes "record" ∷ codes "--seed" ∷ codes "E" ∷ codes "L" ∷ codes "B" ∷ []) ≡ None }
     ensures no_name { said (codes "record" ∷ codes "--seed=5" ∷ codes "E" ∷ codes "L" ∷ []) ≡ None }
     ensures one_more { said (codes "check" ∷ codes "L" ∷ codes "L" ∷ []) ≡ None }
+    ensures valued { said (codes "record" ∷ codes "--lean=true" ∷ codes "E" ∷ codes "L" ∷ codes "B" ∷ []) ≡ None }
     ensures repeated { said (codes "record" ∷ codes "--seed=5" ∷ codes "--seed=5" ∷ codes "E" ∷ codes "L" ∷ codes "B" ∷ []) ≡ None }
     ensures shortened { said (codes "record" ∷ codes "--see=5" ∷ codes "E" ∷ codes "L" ∷ codes "B" ∷ []) ≡ None }
     ensures unknown { said (codes "check" ∷ codes "--deep" ∷ codes "L" ∷ []) ≡ None }

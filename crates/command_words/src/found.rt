@@ -2,7 +2,7 @@
 ghost use Rattle.std.specs.Prelude.{◌≡◌, option_map, codes};
 ghost use Rattle.clap.specs.Words.{first_of, found_of, rows_of};
 ghost use Rattle.bn_base.specs.Ranges.{default_settings};
-ghost use Rattle.command_words.specs.Words.{seen, seen_recording, number_of, number_or, number_if, number_at, settings_in, recording_in, record_in, replay_in, joint_in, list_in, check_in, named};
+ghost use Rattle.command_words.specs.Words.{seen, seen_recording, number_of, number_or, number_if, number_at, flag_in, settings_in, recording_in, record_in, replay_in, joint_in, list_in, check_in, named};
 
 use crate::commands::{Command, Recording};
 use bn_base::RawSettings;
@@ -50,6 +50,15 @@ fn number_if(matches: &ArgMatches<'_>, id: &str) -> Option<Option<u64>>
     }
 }
 
+fn flag_in(matches: &ArgMatches<'_>, id: &str) -> bool
+    ensures { result ≡ flag_in id.now (rows_of (found_of matches.now)) }
+{
+    match text_at(matches, id) {
+        None => false,
+        Some(text) => text == "true",
+    }
+}
+
 fn settings_in(matches: &ArgMatches<'_>) -> Option<RawSettings>
     ensures { result ≡ settings_in (rows_of (found_of matches.now)) }
 {
@@ -83,10 +92,12 @@ fn recording_in<'a>(matches: &ArgMatches<'a>) -> Option<Recording<'a>>
     let elf = text_at(matches, "elf")?;
     let log = text_at(matches, "log")?;
     let book = text_at(matches, "book")?;
+    let lean = flag_in(matches, "lean");
     let input = text_at(matches, "input");
     Some(Recording {
         settings,
         seed,
+        lean,
         input,
         elf,
         log,

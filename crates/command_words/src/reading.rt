@@ -27,7 +27,7 @@ fn matched<'a>(matches: &ArgMatches<'a>) -> Option<Command<'a>>
 ///
 /// ```text
 /// record [--harts N] [--interval N] [--limit N] [--log-size N] [--memory N] [--sets N]
-///        [--ways N] [--line N] [--seed N] [--input FILE] ELF LOG BOOK
+///        [--ways N] [--line N] [--seed N] [--lean] [--input FILE] ELF LOG BOOK
 /// replay LOG ELF HART INTERVAL
 /// joint LOG ELF
 /// list LOG

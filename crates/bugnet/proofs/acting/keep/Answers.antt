@@ -21,4 +21,4 @@ returns-in-Err-send_bytes-2-clause-told g c =
 
 pub returns-in-Err-clause-saves : goal.returns-in-Err-clause-saves
 returns-in-Err-clause-saves g c =
-    unsaved-saves (saved_of c.args.recording.now) c.args.names.now _ _ (g.S.Store.counts c.args.store.now) (g.S.Store.counts c.save.new.store) c.in-Err.refusal c.refuse.result _ _ _ _ _ _ c.in-Err.ensures.told c.refuse.ensures.told c.in-Err.ensures.few
+    unsaved-saves (saved_of c.args.recording.now) c.args.names.now _ _ (g.S.Store.counts c.args.store.now) (g.S.Store.counts c.save.new.store) c.in-Err.refusal c.refuse.result _ _ _ _ _ _ _ c.in-Err.ensures.told c.refuse.ensures.told c.in-Err.ensures.few

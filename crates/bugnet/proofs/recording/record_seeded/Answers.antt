@@ -1,11 +1,14 @@
-use Rattle.std.proofs.Common.{sym, ◌∙◌}
-use Rattle.std.specs.Prelude.{false, [], Some}
+use Rattle.std.proofs.Common.{ℕ, sym, ◌∙◌, ◌≡◌, arith}
+use Rattle.std.specs.Prelude.{false, [], Some, None, option_map}
 use Rattle.bugnet.proofs.Recorded.{recording-run}
 use Rattle.bugnet.proofs.recording.record_seeded.Goals as goal
+
+never-none : (n : ℕ) → Some n ≡ None → ⊥
+never-none n e = grind arith
 
 pub returns : goal.returns
 returns c =
     let s = c.args.start.now in
     let run = c.in_ok-listed.listed in
-    let version = c.format_1_is_version_1.ensures s.settings s.image s.digest s.input.items run.list.items (sym c.format-format.ensures.value ∙ c.format-format.ensures.one) in
-    recording-run false s run.closed [] run.list.items (Some c.args.seed) c.recording_of.result version c.in_ok-listed.ensures.list c.in_ok-listed.ensures.run c.recording_of.ensures
+    recording-run false s run.closed [] run.list.items (record { seed = Some c.args.seed; lean = c.args.lean }) (option_map (λ l. l.items) c.book_if.result) c.recording_of.result
+    (sym c.format-format.ensures.value ∙ c.format-format.ensures.one) (λ lean none. never-none c.args.seed none) c.in_ok-listed.ensures.list c.book_if.ensures c.in_ok-listed.ensures.run c.recording_of.ensures

@@ -1,11 +1,13 @@
-use Rattle.std.proofs.Common.{ℕ, List, sym, subst, refl, ◌∙◌}
-use Rattle.std.specs.Prelude.{true, None, IfOk}
+use Rattle.std.proofs.Common.{ℕ, Bool, List, Option, sym, ap, refl, ◌∙◌, ◌≡◌, arith}
+use Rattle.std.specs.Prelude.{true, false, Some, None}
 use Rattle.bus_core.specs.Bus.{began_of}
 use Rattle.hart_worker.specs.Threads.{IsThreaded}
 use Rattle.run_laws.specs.Laws.{harts_of}
-use Rattle.bugnet.specs.Keeping.{IsRecordingOf}
 use Rattle.bugnet.proofs.Recorded.{recording-run, threads-taken}
 use Rattle.bugnet.proofs.recording.record_threads.Goals as goal
+
+never-true : false ≡ true → ⊥
+never-true e = grind arith
 
 pub returns : goal.returns
 returns g c =
@@ -13,6 +15,5 @@ returns g c =
     let closed = c.in_ok-closed.closed in
     let rows = closed.book.rows in
     let is : IsThreaded (began_of s) closed rows = c.in_ok-closed.ensures.run refl in
-    let version = c.format_1_is_version_1.ensures s.settings s.image s.digest s.input.items (harts_of rows) (sym c.format-format.ensures.value ∙ c.format-format.ensures.one) in
-    recording-run true s closed rows (harts_of rows) None c.recording_of.result version (threads-taken s closed rows is) is.ended
-    (subst (λ (list : List ℕ). IfOk c.recording_of.result (λ r. IsRecordingOf s closed list r)) c.in_ok-list.ensures c.recording_of.ensures)
+    recording-run true s closed rows (harts_of rows) (record { seed = None; lean = false }) (Some c.in_ok-list.list.items) c.recording_of.result
+    (sym c.format-format.ensures.value ∙ c.format-format.ensures.one) (λ lean none. never-true lean) (threads-taken s closed rows is) (ap (λ (list : List ℕ). Some list) c.in_ok-list.ensures) is.ended c.recording_of.ensures

@@ -1,0 +1,10 @@
+// How a run is recorded.
+
+/// How a run is recorded.
+#[derive(Clone, Copy, Debug, PartialEq, Eq, Drop)]
+pub struct Manner {
+    /// The number that chooses its turns. Without one each hart runs in a thread of its own.
+    pub seed: Option<u64>,
+    /// Whether no list of its turns is kept and saved.
+    pub lean: bool,
+}
