@@ -30,6 +30,7 @@ fn plain<'a>() -> Recording<'a> {
     Recording {
         settings: RawSettings::default(),
         seed: Some(5),
+        lean: false,
         input: None,
         elf: "E",
         log: "L",
@@ -56,6 +57,7 @@ fn a_recording_with_all_options(rt: HostRuntime) -> Result<(), Fail> {
             ways2: 0,
         },
         seed: Some(10),
+        lean: false,
         input: Some("in.txt"),
         elf: "p.elf",
         log: "p.log",
@@ -82,6 +84,7 @@ fn a_recording_by_default(rt: HostRuntime) -> Result<(), Fail> {
             ways2: 0,
         },
         seed: None,
+        lean: false,
         input: None,
         elf: "p.elf",
         log: "p.log",
@@ -129,6 +132,23 @@ fn options_stand_before_between_and_after_names(rt: HostRuntime) -> Result<(), F
     for line in lines {
         assert!(rt;
             asks_for(rt.alloc(), line, Command::Record(plain()))?,
+            "{line}"
+        );
+    }
+    Ok(())
+}
+
+#[test]
+fn a_recording_with_no_list_of_turns(rt: HostRuntime) -> Result<(), Fail> {
+    let mut wanted = plain();
+    wanted.lean = true;
+    for line in [
+        "bugnet record --lean --seed 5 E L B",
+        "bugnet record --seed 5 E --lean L B",
+        "bugnet record --seed 5 E L B --lean",
+    ] {
+        assert!(rt;
+            asks_for(rt.alloc(), line, Command::Record(wanted))?,
             "{line}"
         );
     }
@@ -266,6 +286,8 @@ fn options_that_are_unknown_repeated_or_misplaced(rt: HostRuntime) -> Result<(),
         "bugnet record --seed -5 E L B",
         "bugnet record --seed 5 --input -x E L B",
         "bugnet record -- --seed 5 E L B",
+        "bugnet record --lean --lean --seed 5 E L B",
+        "bugnet record --lean=yes --seed 5 E L B",
         "bugnet --seed 5 record E L B",
         "bugnet check --harts 1 L",
         "bugnet replay --seed 5 L E 0 0",
@@ -313,8 +335,6 @@ fn words_that_are_no_command(rt: HostRuntime) -> Result<(), Fail> {
         "bugnet audit L E B",
         "bugnet audit L E B --input F",
         "bugnet demo 7",
-        "bugnet record --lean --seed 5 E L B",
-        "bugnet record --seed 5 E L B --lean",
     ];
     for line in lines {
         assert!(rt; is_refused(rt.alloc(), line)?, "{line}");
