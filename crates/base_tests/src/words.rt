@@ -129,7 +129,7 @@ fn options_stand_before_between_and_after_names(rt: HostRuntime) -> Result<(), F
         "bugnet record E --seed 5 L -- B",
         "another record --seed 5 E L B",
     ];
-    for line in lines {
+    for &line in &lines {
         assert!(rt;
             asks_for(rt.alloc(), line, Command::Record(plain()))?,
             "{line}"
@@ -142,7 +142,7 @@ fn options_stand_before_between_and_after_names(rt: HostRuntime) -> Result<(), F
 fn a_recording_with_no_list_of_turns(rt: HostRuntime) -> Result<(), Fail> {
     let mut wanted = plain();
     wanted.lean = true;
-    for line in [
+    for &line in &[
         "bugnet record --lean --seed 5 E L B",
         "bugnet record --seed 5 E --lean L B",
         "bugnet record --seed 5 E L B --lean",
@@ -159,7 +159,7 @@ fn a_recording_with_no_list_of_turns(rt: HostRuntime) -> Result<(), Fail> {
 fn a_file_of_input(rt: HostRuntime) -> Result<(), Fail> {
     let mut wanted = plain();
     wanted.input = Some("-");
-    for line in [
+    for &line in &[
         "bugnet record --seed 5 E L B --input -",
         "bugnet record --input=- --seed 5 E L B",
     ] {
@@ -180,7 +180,7 @@ fn numbers_of_64_bits(rt: HostRuntime) -> Result<(), Fail> {
         ("+00018446744073709551615", u64::MAX),
         ("18446744073709551615", u64::MAX),
     ];
-    for (number, interval) in table {
+    for &(number, interval) in &table {
         let alloc = rt.alloc();
         let line = format!(in alloc; "bugnet replay L E 0 {number}")?;
         let wanted = Command::Replay {
@@ -210,8 +210,8 @@ fn words_that_are_no_numbers(rt: HostRuntime) -> Result<(), Fail> {
         "+-5",
         "18446744073709551616",
     ];
-    for number in numbers {
-        for (before, after) in [
+    for &number in &numbers {
+        for &(before, after) in &[
             ("bugnet replay L E ", " 0"),
             ("bugnet replay L E 0 ", ""),
             ("bugnet record E L B --seed ", ""),
@@ -236,7 +236,7 @@ fn names_that_look_like_other_words(rt: HostRuntime) -> Result<(), Fail> {
         ("bugnet check ", ""),
         ("bugnet check a=b", "a=b"),
     ];
-    for (line, log) in table {
+    for &(line, log) in &table {
         assert!(rt;
             asks_for(rt.alloc(), line, Command::Check { log })?,
             "{line}"
@@ -263,8 +263,8 @@ fn lines_that_lack_or_add_a_word(rt: HostRuntime) -> Result<(), Fail> {
         "bugnet check --",
         "bugnet check L check L",
     ];
-    for line in lines {
-        assert!(rt; is_refused(rt.alloc(), line)?, "{line}");
+    for line in &lines {
+        assert!(rt; is_refused(rt.alloc(), *line)?, "{line}");
     }
     let none = Vec::new(rt.alloc());
     assert!(rt; read_words(rt.alloc(), &none).err() == Some(WordsError::Refused));
@@ -293,7 +293,7 @@ fn options_that_are_unknown_repeated_or_misplaced(rt: HostRuntime) -> Result<(),
         "bugnet replay --seed 5 L E 0 0",
         "bugnet check -x",
     ];
-    for line in lines {
+    for &line in &lines {
         assert!(rt; is_refused(rt.alloc(), line)?, "{line}");
     }
     Ok(())
@@ -314,7 +314,7 @@ fn help_and_version_are_refused(rt: HostRuntime) -> Result<(), Fail> {
         "bugnet check L --version",
         "bugnet check L -V",
     ];
-    for line in lines {
+    for &line in &lines {
         assert!(rt; is_refused(rt.alloc(), line)?, "{line}");
     }
     Ok(())
@@ -336,7 +336,7 @@ fn words_that_are_no_command(rt: HostRuntime) -> Result<(), Fail> {
         "bugnet audit L E B --input F",
         "bugnet demo 7",
     ];
-    for line in lines {
+    for &line in &lines {
         assert!(rt; is_refused(rt.alloc(), line)?, "{line}");
     }
     Ok(())
