@@ -1,13 +1,13 @@
 // The joint replay: rows per second of one, two, four and eight harts, beside single replays of the
-// same intervals.
-ghost use Rattle.std.specs.Prelude.{◌≡◌, ◌×◌, ◌<◌, IfOk, IfSome, length};
+// same intervals, and beside the debugger that takes all its steps.
+ghost use Rattle.std.specs.Prelude.{◌≡◌, ◌<◌, IfSome, length};
 ghost use Rattle.joint_replay.specs.declared.kinds.Readiness.TheVariants.{Ready};
 ghost use Rattle.joint_replay.specs.Joining.{readiness};
 
 use crate::rate::{micros_since, rate_of};
 use crate::replay_timing::next_sum;
 use bn_base::{HartId, Image, RawSettings, Settings};
-use bn_outside::LeanBook;
+use bn_outside::{LeanBook, MemorySink, MemorySource};
 use elf_loader::load;
 use guest_gen::{Kind, guest};
 use hart_replay::Replayer;
@@ -20,6 +20,7 @@ use log_ring::Ring;
 use run_model::Start;
 use std::alloc::{AllocError, Global};
 use std::time::Instant;
+use step_debugger::debug;
 
 // So many rows in so many microseconds.
 #[derive(Clone, Copy, Drop)]
@@ -163,6 +164,44 @@ fn time_intervals(rt: &HostRuntime, image: &Image, log: &KeptLog) -> anyhow::Res
     Ok(sum)
 }
 
+// Lets the debugger take all steps by one command.
+fn debug_all(alloc: Global, joint: &mut Joint) -> anyhow::Result<()> {
+    let mut input = MemorySource::new(Vec::from_slice(alloc, b"go\n")?, Vec::new(alloc));
+    let mut out = MemorySink::new(alloc, Vec::new(alloc));
+    match debug(alloc, joint, &mut input, &mut out) {
+        Ok(()) => Ok(()),
+        Err(_) => anyhow::bail!("the debugger failed"),
+    }
+}
+
+// Times that command: how many microseconds it took.
+fn time_debugger(rt: &HostRuntime, image: &Image, log: &KeptLog) -> anyhow::Result<u64> {
+    let Ok(mut joint) = Joint::begin(rt.alloc(), image, log) else {
+        anyhow::bail!("not enough memory");
+    };
+    let clock = Instant::now(rt)?;
+    debug_all(rt.alloc(), &mut joint)?;
+    micros_since(rt, clock)
+}
+
+// Prints how many rows a second came in each way.
+fn tell(
+    rt: &HostRuntime,
+    harts: HartId,
+    joint: Spent,
+    single: Spent,
+    debugged: u64,
+) -> anyhow::Result<()> {
+    let (rows, singles) = (joint.rows, single.rows);
+    let together = rate_of(rows, joint.micros);
+    let alone = rate_of(singles, single.micros);
+    let by_command = rate_of(rows, debugged);
+    println!(rt;
+        "joint {harts} harts: {rows} rows, {together} a second; {singles} in single replays, {alone} a second; debugged {by_command} a second"
+    )?;
+    Ok(())
+}
+
 fn timed(rt: &HostRuntime, harts: HartId, count: u64) -> anyhow::Result<()>
     requires { 0 < harts }
 {
@@ -170,19 +209,12 @@ fn timed(rt: &HostRuntime, harts: HartId, count: u64) -> anyhow::Result<()>
     let log = recorded(rt.alloc(), &start)?;
     let joint = time_joint(rt, &start.image, &log)?;
     let single = time_intervals(rt, &start.image, &log)?;
-    let (rows, singles) = (joint.rows, single.rows);
-    let (together, alone) = (
-        rate_of(joint.rows, joint.micros),
-        rate_of(single.rows, single.micros),
-    );
-    println!(rt;
-        "joint {harts} harts: {rows} rows, {together} a second; one interval after another: {singles} rows, {alone} a second"
-    )?;
-    Ok(())
+    let debugged = time_debugger(rt, &start.image, &log)?;
+    tell(rt, harts, joint, single, debugged)
 }
 
-/// Times the joint replay of a recording of so many instructions of a generated program, and single
-/// replays of its intervals: of one hart, two, four and eight.
+/// Times the joint replay of a recording of so many instructions of a generated program, single
+/// replays of its intervals, and the debugger over it: of one hart, two, four and eight.
 pub fn joint_replays(rt: &HostRuntime, count: u64) -> anyhow::Result<()> {
     timed(rt, 1, count)?;
     timed(rt, 2, count)?;
