@@ -2,8 +2,10 @@
 # Times the whole program on examples/sort.elf: its recording, the replay of its longest interval,
 # and the reading of a full log of 64 MiB, with the memory that it takes. Beside them stand
 # qemu-riscv32 on the same program, one instruction at a time too, and sha256sum on the same log.
-# Then how much memory the list of turns takes, and last how far back a log of 1 MiB reaches in each
-# example. It prints ratios; the times beside them are those of the machine and of the moment.
+# Then how much memory the list of turns takes; harts in threads beside harts by a seed, by the clock;
+# the joint replay beside single replays of the same intervals; and last how far back a log of 1 MiB
+# reaches in each example. It prints ratios; the times beside them are those of the machine and of the
+# moment.
 #
 # bench/programs.sh [RUNS]: each is run RUNS times (3), and the least processor time counts.
 set -eu
@@ -16,13 +18,18 @@ zelkuma=$("$top/zelkuma" build) # the program itself
 
 # seconds STATUS WORD..: runs the words, which have to end with this status, and prints the least
 # processor time of all the runs. What they write to err last is in $work/err.
-seconds() {
-    local wanted=$1 run status
-    shift
+seconds() { timed '%U %S' "$@"; }
+
+# The same by the clock.
+elapsed() { timed '%R' "$@"; }
+
+timed() { # WHICH STATUS WORD..
+    local which=$1 wanted=$2 run status
+    shift 2
     : >"$work/times"
     for run in $(seq "$runs"); do
         status=0
-        { TIMEFORMAT='%U %S'; time "$@" >/dev/null 2>"$work/err"; } 2>>"$work/times" || status=$?
+        { TIMEFORMAT=$which; time "$@" >/dev/null 2>"$work/err"; } 2>>"$work/times" || status=$?
         if [ "$status" -ne "$wanted" ]; then
             echo "run $run of '$*' ended with $status, and not with $wanted:" >&2
             cat "$work/err" >&2
@@ -124,6 +131,78 @@ if [ -x /usr/bin/time ]; then
 else
     echo "/usr/bin/time (Debian's time) is not installed: the list of turns is not measured"
 fi
+
+# number N..: each as the four bytes of a word.
+number() {
+    local n
+    for n in "$@"; do
+        printf "$(printf '\\x%02x' $((n & 255)) $((n >> 8 & 255)) $((n >> 16 & 255)) $((n >> 24)))"
+    done
+}
+
+# harts COUNT TIMES LOOPS: lets `harts` be so many harts of bench/harts.elf, each with so many loads and
+# stores and so many loops of two instructions before each.
+harts() {
+    local hart
+    for hart in $(seq "$1"); do
+        number "$2" "$3"
+    done >"$work/input"
+    harts=(record --harts "$1" --input "$work/input")
+}
+
+# Harts in threads beside the same harts by a seed, by the clock: WHAT TIMES LOOPS.
+threads() {
+    local what=$1 seeded threaded lean
+    harts 4 "$2" "$3"
+    seeded=$(elapsed 0 "$zelkuma" "${harts[@]}" --seed 1 "$top/bench/harts.elf" "$work/LOG" "$work/BOOK")
+    threaded=$(elapsed 0 "$zelkuma" "${harts[@]}" "$top/bench/harts.elf" "$work/LOG" "$work/BOOK")
+    lean=$(elapsed 0 "$zelkuma" "${harts[@]}" --lean "$top/bench/harts.elf" "$work/LOG" -)
+    awk -v what="$what" -v turns="$(told turns)" -v n="$(told instructions)" -v s="$seeded" -v t="$threaded" -v l="$lean" 'BEGIN {
+        printf "4 harts, %s, %d instructions in %d turns, by the clock: %.3f seconds with a seed", what, n, turns, s
+        printf ", in threads %.2f of that, with --lean %.2f\n", t / s, l / s
+    }'
+}
+threads "40,000 quiet instructions before each access" 1000 20000
+threads "fighting at each access" 100000 0
+
+# What a turn of harts in threads takes, as above.
+if [ -x /usr/bin/time ]; then
+    for lean in "" --lean; do
+        harts 4 100000 0
+        most=$(peak "$zelkuma" "${harts[@]}" $lean "$top/bench/harts.elf" "$work/LOG" "$work/BOOK")
+        turns=$(told turns)
+        harts 4 50000 0
+        less=$(peak "$zelkuma" "${harts[@]}" $lean "$top/bench/harts.elf" "$work/LOG" "$work/BOOK")
+        awk -v how="${lean:+, $lean}" -v most="$most" -v less="$less" -v turns="$turns" -v fewer="$(told turns)" 'BEGIN {
+            printf "harts in threads%s: %.0f bytes a turn, %d KiB at the peak of %d turns\n",
+                how, (most - less) * 1024 / (turns - fewer), most, turns
+        }'
+    done
+fi
+
+# The joint replay of so many harts, 800,000 instructions together, beside single replays of all their
+# intervals, and what memory it takes beyond that of the log's list of records.
+joint() { # HARTS
+    local hart interval alone=0 rows joined one
+    harts "$1" $((800000 / $1 / 18)) 4
+    "$zelkuma" "${harts[@]}" --seed 1 --log-size 67108864 "$top/bench/harts.elf" "$work/LOG" "$work/BOOK" 2>/dev/null
+    "$zelkuma" list "$work/LOG" >"$work/list"
+    while read -r hart interval _; do
+        one=$(seconds 0 "$zelkuma" replay "$work/LOG" "$top/bench/harts.elf" "$hart" "$interval")
+        alone=$(awk -v a="$alone" -v b="$one" 'BEGIN { print a + b }')
+    done <"$work/list"
+    joined=$(seconds 0 "$zelkuma" joint "$work/LOG" "$top/bench/harts.elf")
+    rows=$("$zelkuma" joint "$work/LOG" "$top/bench/harts.elf" | grep -c '^[0-9]')
+    rate "joint, $1 harts" "$rows" rows "$joined" "single replays" "$alone"
+    if [ -x /usr/bin/time ]; then
+        awk -v most="$(peak "$zelkuma" joint "$work/LOG" "$top/bench/harts.elf")" \
+            -v less="$(peak "$zelkuma" list "$work/LOG")" -v bytes="$(stat -c %s "$work/LOG")" \
+            'BEGIN { printf "  %d KiB at the peak, %d without the joint replay, for a log of %d KiB\n", most, less, bytes / 1024 }'
+    fi
+}
+for count in 1 2 4 8; do
+    joint "$count"
+done
 
 # How many of an example's instructions go into 1 MiB of records, by those of the whole run.
 reach() { # NAME WORD..

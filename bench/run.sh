@@ -6,7 +6,7 @@
 # bench/run.sh [COUNT [RUNS]]: the meaning of so many instructions is timed RUNS times, in turns with
 # its twin, and the best of each counts, so that a busy moment of the machine spoils no ratio.
 #
-# bench/touches.sh times touches of a cache beside those of an earlier commit.
+# bench/before.sh times caches and the race log beside those of an earlier commit.
 set -eu
 top=$(cd "$(dirname "$0")/.." && pwd)
 work=$(mktemp -d)
@@ -43,6 +43,22 @@ done
 "$ours" cache 20000000
 "$ours" file 6710886
 "$ours" serve 2000000
+
+# The joint replay of 800,000 instructions, single replays of the same intervals, and the debugger that takes
+# the same steps by one command: the best of all runs.
+for _ in $(seq "$runs"); do
+    "$ours" joint 800000 >>"$work/joint"
+done
+awk '/^joint/ {
+        if ($6 + 0 > joint[$2]) joint[$2] = $6 + 0
+        if ($13 + 0 > single[$2]) single[$2] = $13 + 0
+        if ($17 + 0 > debugged[$2]) debugged[$2] = $17 + 0
+    }
+    END {
+        for (n = 1; n <= 8; n *= 2)
+            printf "joint, %d harts: %d rows a second, %.2f of single replays (%d); the debugger %d a second, %.2f of the time of the joint replay\n",
+                n, joint[n], joint[n] / single[n], single[n], debugged[n], joint[n] / debugged[n]
+    }' "$work/joint"
 
 # The replay of an interval of the greatest length beside the quiet run of the same instructions.
 for _ in $(seq "$runs"); do

@@ -25,7 +25,7 @@ build() { # NAME SOURCE..
     riscv64-unknown-elf-strip -o "$to/$name.elf" "$names/$name.elf"
 }
 
-for name in wild_store counter word_count sort hand_over two_locks; do
+for name in wild_store counter word_count sort hand_over two_locks tills; do
     build "$name" "$here/lib/start.S" "$here/lib/machine.c" "$here/$name.c"
 done
 build lock "$here/lock.S"

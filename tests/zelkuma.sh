@@ -12,7 +12,7 @@ export RT_CALLS=$calls TMPDIR=$work/temporary
 
 # What the script may need of the system, and nothing else: so no other rt is found.
 mkdir -p "$work/system" "$work/kit/bin" "$TMPDIR" "$tree"
-for name in awk bash basename cat chmod cut dirname env find flock grep install ln mkdir nproc readlink rm sed sh \
+for name in awk bash basename cat chmod cut dirname env find flock grep install ln mkdir nproc readlink renice rm sed sh \
     sha256sum sleep sort tail touch tr wc xargs; do
     ln -s "$(type -P "$name")" "$work/system/$name"
 done

@@ -57,7 +57,7 @@ fn memory_begins_with_the_words_of_the_program(rt: HostRuntime) -> Result<(), Fa
         (0x20000, 0),
         (0xffffc, 0),
     ];
-    for (addr, wanted) in words {
+    for &(addr, wanted) in &words {
         assert!(rt; addr % 4 == 0);
         assert!(rt; addr < image.memory());
         assert_eq!(rt; memory.word(addr), wanted, "at {addr:x}");
@@ -115,7 +115,7 @@ fn a_put_changes_one_word(rt: HostRuntime) -> Result<(), Fail> {
     let image = program(&rt)?;
     let mut memory = Memory::new(rt.alloc(), &image)?;
     memory.room(0xffffc, 1)?;
-    for (addr, value) in [
+    for &(addr, value) in &[
         (0x12ffc, 0x11),
         (0x13000, 0x22),
         (0xffffc, 0x33),
@@ -125,7 +125,7 @@ fn a_put_changes_one_word(rt: HostRuntime) -> Result<(), Fail> {
         assert!(rt; memory.has_page(addr));
         memory.put(addr, value);
     }
-    for (addr, wanted) in [
+    for &(addr, wanted) in &[
         (0x12ff8, 7),
         (0x12ffc, 0x44),
         (0x13000, 0x22),

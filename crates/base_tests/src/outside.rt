@@ -102,7 +102,7 @@ fn a_store_gives_what_was_saved(rt: HostRuntime) -> Result<(), Fail> {
 fn a_store_refuses_what_is_too_long_or_missing(rt: HostRuntime) -> Result<(), Fail> {
     let mut store = saved(rt.alloc())?;
     store.put("b", b"fiver")?;
-    for (name, error) in [("b", LoadError::TooLong), ("c", LoadError::Missing)] {
+    for &(name, error) in &[("b", LoadError::TooLong), ("c", LoadError::Missing)] {
         assert_eq!(rt; load_by(&mut store, rt.alloc(), name).err(), Some(error));
     }
     assert_eq!(rt; store.bytes("b").ok_or("no b")?, b"fiver".as_slice());
@@ -131,7 +131,7 @@ fn source_of(alloc: Global, bytes: &[u8], failing: u64) -> Result<MemorySource, 
 #[test]
 fn a_source_is_read_in_pieces_to_its_end_or_the_limit(rt: HostRuntime) -> Result<(), Fail> {
     let alloc = rt.alloc();
-    for (room, limit, failing, expected) in [
+    for &(room, limit, failing, expected) in &[
         (0, 8, 9, None),
         (100, usize::MAX, 9, None),
         (8, 7, 9, Some(ReadError::TooLong)),

@@ -40,7 +40,7 @@ fn each_range_has_these_ends(rt: HostRuntime) {
         (11, 0, 0, 1, 64),
         (12, 0, 0, 1, 4),
     ];
-    for (field, low, high, under, over) in table {
+    for &(field, low, high, under, over) in &table {
         assert!(rt;
             Settings::checked(&with(field, low)).is_ok(),
             "{field} {low}"
@@ -49,7 +49,7 @@ fn each_range_has_these_ends(rt: HostRuntime) {
             Settings::checked(&with(field, high)).is_ok(),
             "{field} {high}"
         );
-        for value in [under, over, u64::MAX] {
+        for &value in &[under, over, u64::MAX] {
             let bad = BadSetting { field, value };
             assert_eq!(rt; Settings::checked(&with(field, value)).err(), Some(bad));
         }
@@ -89,7 +89,7 @@ fn at(image: &Image, addr: Addr) -> (Option<u32>, u32, bool) {
 #[test]
 fn a_program_has_its_words_and_permissions(rt: HostRuntime) -> Result<(), AllocError> {
     let image = program(rt.alloc())?.copy()?;
-    for (addr, code, first, store) in [
+    for &(addr, code, first, store) in &[
         (0x0fffc, None, 0, true),
         (0x10054, Some(0x0050_0513), 0x0050_0513, false),
         (0x10058, Some(0x73), 0x73, false),

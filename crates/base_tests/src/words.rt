@@ -30,6 +30,7 @@ fn plain<'a>() -> Recording<'a> {
     Recording {
         settings: RawSettings::default(),
         seed: Some(5),
+        lean: false,
         input: None,
         elf: "E",
         log: "L",
@@ -56,6 +57,7 @@ fn a_recording_with_all_options(rt: HostRuntime) -> Result<(), Fail> {
             ways2: 0,
         },
         seed: Some(10),
+        lean: false,
         input: Some("in.txt"),
         elf: "p.elf",
         log: "p.log",
@@ -82,6 +84,7 @@ fn a_recording_by_default(rt: HostRuntime) -> Result<(), Fail> {
             ways2: 0,
         },
         seed: None,
+        lean: false,
         input: None,
         elf: "p.elf",
         log: "p.log",
@@ -126,9 +129,26 @@ fn options_stand_before_between_and_after_names(rt: HostRuntime) -> Result<(), F
         "bugnet record E --seed 5 L -- B",
         "another record --seed 5 E L B",
     ];
-    for line in lines {
+    for &line in &lines {
         assert!(rt;
             asks_for(rt.alloc(), line, Command::Record(plain()))?,
+            "{line}"
+        );
+    }
+    Ok(())
+}
+
+#[test]
+fn a_recording_with_no_list_of_turns(rt: HostRuntime) -> Result<(), Fail> {
+    let mut wanted = plain();
+    wanted.lean = true;
+    for &line in &[
+        "bugnet record --lean --seed 5 E L B",
+        "bugnet record --seed 5 E --lean L B",
+        "bugnet record --seed 5 E L B --lean",
+    ] {
+        assert!(rt;
+            asks_for(rt.alloc(), line, Command::Record(wanted))?,
             "{line}"
         );
     }
@@ -139,7 +159,7 @@ fn options_stand_before_between_and_after_names(rt: HostRuntime) -> Result<(), F
 fn a_file_of_input(rt: HostRuntime) -> Result<(), Fail> {
     let mut wanted = plain();
     wanted.input = Some("-");
-    for line in [
+    for &line in &[
         "bugnet record --seed 5 E L B --input -",
         "bugnet record --input=- --seed 5 E L B",
     ] {
@@ -160,7 +180,7 @@ fn numbers_of_64_bits(rt: HostRuntime) -> Result<(), Fail> {
         ("+00018446744073709551615", u64::MAX),
         ("18446744073709551615", u64::MAX),
     ];
-    for (number, interval) in table {
+    for &(number, interval) in &table {
         let alloc = rt.alloc();
         let line = format!(in alloc; "bugnet replay L E 0 {number}")?;
         let wanted = Command::Replay {
@@ -190,8 +210,8 @@ fn words_that_are_no_numbers(rt: HostRuntime) -> Result<(), Fail> {
         "+-5",
         "18446744073709551616",
     ];
-    for number in numbers {
-        for (before, after) in [
+    for &number in &numbers {
+        for &(before, after) in &[
             ("bugnet replay L E ", " 0"),
             ("bugnet replay L E 0 ", ""),
             ("bugnet record E L B --seed ", ""),
@@ -216,7 +236,7 @@ fn names_that_look_like_other_words(rt: HostRuntime) -> Result<(), Fail> {
         ("bugnet check ", ""),
         ("bugnet check a=b", "a=b"),
     ];
-    for (line, log) in table {
+    for &(line, log) in &table {
         assert!(rt;
             asks_for(rt.alloc(), line, Command::Check { log })?,
             "{line}"
@@ -243,8 +263,8 @@ fn lines_that_lack_or_add_a_word(rt: HostRuntime) -> Result<(), Fail> {
         "bugnet check --",
         "bugnet check L check L",
     ];
-    for line in lines {
-        assert!(rt; is_refused(rt.alloc(), line)?, "{line}");
+    for line in &lines {
+        assert!(rt; is_refused(rt.alloc(), *line)?, "{line}");
     }
     let none = Vec::new(rt.alloc());
     assert!(rt; read_words(rt.alloc(), &none).err() == Some(WordsError::Refused));
@@ -266,12 +286,14 @@ fn options_that_are_unknown_repeated_or_misplaced(rt: HostRuntime) -> Result<(),
         "bugnet record --seed -5 E L B",
         "bugnet record --seed 5 --input -x E L B",
         "bugnet record -- --seed 5 E L B",
+        "bugnet record --lean --lean --seed 5 E L B",
+        "bugnet record --lean=yes --seed 5 E L B",
         "bugnet --seed 5 record E L B",
         "bugnet check --harts 1 L",
         "bugnet replay --seed 5 L E 0 0",
         "bugnet check -x",
     ];
-    for line in lines {
+    for &line in &lines {
         assert!(rt; is_refused(rt.alloc(), line)?, "{line}");
     }
     Ok(())
@@ -292,7 +314,7 @@ fn help_and_version_are_refused(rt: HostRuntime) -> Result<(), Fail> {
         "bugnet check L --version",
         "bugnet check L -V",
     ];
-    for line in lines {
+    for &line in &lines {
         assert!(rt; is_refused(rt.alloc(), line)?, "{line}");
     }
     Ok(())
@@ -313,10 +335,8 @@ fn words_that_are_no_command(rt: HostRuntime) -> Result<(), Fail> {
         "bugnet audit L E B",
         "bugnet audit L E B --input F",
         "bugnet demo 7",
-        "bugnet record --lean --seed 5 E L B",
-        "bugnet record --seed 5 E L B --lean",
     ];
-    for line in lines {
+    for &line in &lines {
         assert!(rt; is_refused(rt.alloc(), line)?, "{line}");
     }
     Ok(())

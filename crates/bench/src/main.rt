@@ -9,11 +9,13 @@
 //! | `cache COUNT` | so many touches of a hart's cache |
 //! | `file COUNT` | a log file with so many first loads, written and read |
 //! | `serve COUNT` | so many asks that the bus serves, of one hart and of eight that take turns |
+//! | `joint COUNT` | the joint replay of so many instructions of one to eight harts, and single replays of the same |
 //! | `replay COUNT` | an interval of so many instructions, at most 10,000,000: its run and its replay |
 #![tactic(auto)]
 
 mod decode_timing;
 mod file_timing;
+mod joint_timing;
 mod meaning_timing;
 mod race_timing;
 mod rate;
@@ -52,6 +54,9 @@ fn main(rt: HostRuntime) -> anyhow::Result<()> {
     if layer == "file" && count > 0 {
         return file_timing::files(&rt, count);
     }
+    if layer == "joint" && count > 0 {
+        return joint_timing::joint_replays(&rt, count);
+    }
     if layer == "replay" && count > 0 && count <= 10_000_000 {
         return replay_timing::replay(&rt, count);
     }
@@ -59,7 +64,7 @@ fn main(rt: HostRuntime) -> anyhow::Result<()> {
         return serve_timing::asks(&rt, count);
     }
     println!(rt;
-        "bench LAYER COUNT, where LAYER is decode, meaning, races, ring, cache, file, serve or replay"
+        "bench LAYER COUNT, where LAYER is decode, meaning, races, ring, cache, file, serve, joint or replay"
     )?;
     Ok(())
 }

@@ -103,7 +103,7 @@ fn sum_of_row(row: &Row) -> u32 {
 }
 
 // That number of the next row; `None` behind the last.
-fn next_sum(replayer: &mut Replayer) -> Result<Option<u32>, ReplayError> {
+pub(crate) fn next_sum(replayer: &mut Replayer) -> Result<Option<u32>, ReplayError> {
     match replayer.step() {
         Ok(Some(row)) => Ok(Some(sum_of_row(&row))),
         Ok(None) => Ok(None),

@@ -77,7 +77,7 @@ fn note_from_two<B: Book + Send, R: Threads + Wait + Sync>(
 fn a_full_book_tells_its_rows_in_the_order_of_the_notes(rt: HostRuntime) -> Result<(), Fail> {
     let mut book = FullBook::new(rt.alloc());
     assert_eq!(rt; harts_in(&book), Some(0));
-    for hart in [2, 1, 7] {
+    for &hart in &[2, 1, 7] {
         note_one(&mut book, row_of(hart))?;
     }
     assert_eq!(rt; harts_in(&book), Some(217));

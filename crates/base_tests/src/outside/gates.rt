@@ -29,7 +29,7 @@ fn come<G: Gate>(gate: &G, hart: HartId, comers: &AtomicU64) -> u64 {
 #[test]
 fn an_open_gate_holds_no_hart(rt: HostRuntime) {
     let digits = AtomicU64::new(0);
-    for hart in [4, 2, 2] {
+    for &hart in &[4, 2, 2] {
         take_turns(&OpenGate, hart, 1, &digits);
     }
     assert_eq!(rt; digits.load(Ordering::SeqCst), 422);
@@ -37,7 +37,7 @@ fn an_open_gate_holds_no_hart(rt: HostRuntime) {
 
 #[test]
 fn harts_meet_before_one_passes(rt: HostRuntime) -> Result<(), Fail> {
-    for harts in [1u8, 2, 8] {
+    for &harts in &[1u8, 2, 8] {
         let gate = MeetGate::new(harts);
         assert!(rt; !gate.met());
         let comers = AtomicU64::new(0);
@@ -142,7 +142,7 @@ fn a_list_that_a_hart_could_not_wait_for_is_not_kept(rt: HostRuntime) -> Result<
 fn no_wait_yields_once_one_ran_out(rt: HostRuntime) {
     let asked = AtomicU64::new(0);
     let patience = Patience::new(3);
-    for expected in [4, 5] {
+    for &expected in &[4, 5] {
         patience.wait(|| {
             asked.fetch_add(1, Ordering::SeqCst);
             false
