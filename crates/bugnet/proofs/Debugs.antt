@@ -2,6 +2,7 @@
 use Rattle.std.proofs.Common.{◌≡◌, ◌≢◌, ◌≤◌, ◌⊎◌, ℕ, ◌+◌, Bool, true, false, nat_lt, List, [], ◌∷◌, ◌++◌, length, Option, Some, None, ◌∙◌, ap, subst, sym, refl, arith, inl, inr}
 use Rattle.std.specs.Prelude.{Result, Ok, Err}
 use Rattle.std.specs.Io.KnownBytes.{Appends, Consumes}
+use Rattle.std.proofs.KnownBytes.{Consumes-nil}
 use Rattle.bn_outside.specs.Counts.{Counts, Rose}
 use Rattle.bn_outside.specs.Files.{Files, WhereTold}
 use Rattle.bn_outside.specs.Streams.{AppendsPart, ConsumesAll}
@@ -48,7 +49,7 @@ use Rattle.bugnet.proofs.Prints.{appends-nothing, part-none, part-whole}
 use Rattle.bugnet.proofs.Sessions.{no-quit, last-quit}
 use Rattle.bugnet.proofs.Single.{Grammar, one-session}
 use Rattle.bugnet.proofs.Suffices.{FileLaws}
-use Rattle.bugnet.proofs.Tells.{with-files, refused-told, stopped-told, stopped-free, early-free, same-files, with-any}
+use Rattle.bugnet.proofs.Tells.{with-files, refused-told, stopped-told, stopped-free, early-free, same-files, untouched, with-any}
 
 -- ---- the status by the end of a session
 
@@ -146,10 +147,6 @@ commands_of bytes e = record { bytes = bytes; failed = failed_by e }
 abbrev pub no_commands : Commands
 no_commands = record { bytes = []; failed = false }
 
-consumes-nothing : (known : Option (List ℕ)) → Consumes known known []
-consumes-nothing None = tt
-consumes-nothing (Some xs) = refl
-
 unfailed : (bytes : List ℕ) (status : ℕ) (left now_left : Option (List ℕ)) (before now : ℕ) → Consumes left now_left bytes → status ≢ 12 → status ≢ 0 → AreRead (record { bytes = bytes; failed = false }) status left now_left before now
 unfailed bytes status left now_left before now taken read zero = record {
   taken = taken;
@@ -160,12 +157,12 @@ unfailed bytes status left now_left before now taken read zero = record {
 
 -- nothing
 pub none-read : (status : ℕ) (left : Option (List ℕ)) (faults : ℕ) → status ≢ 12 → status ≢ 0 → AreRead no_commands status left left faults faults
-none-read status left faults read zero = unfailed [] status left left faults faults (consumes-nothing left) read zero
+none-read status left faults read zero = unfailed [] status left left faults faults (Consumes-nil left) read zero
 
 -- a session that is done
-pub done-read : (j : Joining) (left now_left : Option (List ℕ)) (before now : ℕ) (written now_written : Option (List ℕ)) (b n : ℕ) (d : Debugged j left now_left before now written now_written b n (Ok (tt {0})))
+pub done-read : (j : Joining) (u : Unit {0}) (left now_left : Option (List ℕ)) (before now : ℕ) (written now_written : Option (List ℕ)) (b n : ℕ) (d : Debugged j left now_left before now written now_written b n (Ok u))
     → AreRead (record { bytes = d.gone; failed = false }) 0 left now_left before now
-done-read j left now_left before now written now_written b n d = record {
+done-read j u left now_left before now written now_written b n d = record {
   taken = d.taken;
   failed = λ f. absurd cc;
   cause = λ e. absurd (omega (arith, e));
@@ -280,6 +277,30 @@ stop-writes j names e status gone left now_left before now written now_written b
     by (stop.TooMuch m) d h = absurd ((other-ends (stop.TooMuch m) status tt h).write is)
     by (stop.Joint x) d h = absurd ((other-ends (stop.Joint x) status tt h).write is)
     by stop.OutOfMemory d h = absurd ((other-ends stop.OutOfMemory status tt h).write is)
+
+-- ---- a session over a joint replay
+
+pub pair-done : {O X : Type 0} (names : FileNames) (first j : Joining) (u : Unit {0}) (left now_left : Option (List ℕ)) (before now : ℕ) (out : O → Option (List ℕ)) (out_faults : O → ℕ) (err : X → Option (List ℕ)) (err_faults : X → ℕ)
+    (o : O) (e : X) (p : O) → j ≡ first → Debugged j left now_left before now (out o) (out p) (out_faults o) (out_faults p) (Ok u) → DebugsPair names first 0 left now_left before now out out_faults err err_faults o e p e
+pair-done names first j u left now_left before now out out_faults err err_faults o e p same d =
+    (record { bytes = d.gone; failed = false }, done-read j u left now_left before now (out o) (out p) (out_faults o) (out_faults p) d, λ files had.
+    subst (λ (x : Joining). Tells names (session_told names (transcript x (input_of d.gone))) 0 (printing files had out out_faults err err_faults o e p e)) same
+    (done-told names (transcript j (input_of d.gone)) (printing files had out out_faults err err_faults o e p e) d.done.0 d.done.1 (appends-nothing (err e)) (untouched files)))
+
+pub pair-stopped : {O X : Type 0} (names : FileNames) (first j : Joining) (why : DebugError) (status : ℕ) (left now_left : Option (List ℕ)) (before now : ℕ) (out : O → Option (List ℕ)) (out_faults : O → ℕ) (err : X → Option (List ℕ)) (err_faults : X → ℕ)
+    (o : O) (e : X) (p : O) (f : X) → j ≡ first → Debugged j left now_left before now (out o) (out p) (out_faults o) (out_faults p) (Err why) → ToldStop names why status (err e) (err f) (err_faults e) (err_faults f)
+    → DebugsPair names first status left now_left before now out out_faults err err_faults o e p f
+pair-stopped names first j why status left now_left before now out out_faults err err_faults o e p f same d told =
+    (commands_of d.gone why, stop-read j why status d.gone left now_left before now (out o) (out p) (out_faults o) (out_faults p) d.taken d.done (status-of names why status (err e) (err f) (err_faults e) (err_faults f) told), λ files had.
+    subst (λ (x : Joining). Tells names (session_told names (transcript x (input_in (commands_of d.gone why)))) status (printing files had out out_faults err err_faults o e p f)) same
+    (stop-told names j why status d.gone left now_left before now (printing files had out out_faults err err_faults o e p f) d.done (untouched files) told))
+
+pub pair-unbegun : {O X : Type 0} (names : FileNames) (j : Joining) (status : ℕ) (left : Option (List ℕ)) (faults : ℕ) (out : O → Option (List ℕ)) (out_faults : O → ℕ) (err : X → Option (List ℕ)) (err_faults : X → ℕ)
+    (o : O) (e : X) (f : X) → ToldRefusal names why.OutOfMemory status (err e) (err f) (err_faults e) (err_faults f) → DebugsPair names j status left left faults faults out out_faults err err_faults o e o f
+pair-unbegun names j status left faults out out_faults err err_faults o e f told =
+    let nine = memory-status names status (err e) (err f) (err_faults e) (err_faults f) told in
+    (no_commands, none-read status left faults (λ x. omega (arith, x, nine)) (λ x. omega (arith, x, nine)), λ files had.
+    unbegun-told names j status (printing files had out out_faults err err_faults o e o f) refl (untouched files) told)
 
 -- ---- by names
 

@@ -1,6 +1,7 @@
 -- Where sessions of the debugger come, and which of their lines are `quit`.
-use Rattle.std.proofs.Common.{◌≡◌, ◌≢◌, ℕ, zero, suc, ◌+◌, nat_lt, Bool, true, false, refl, sym, ap, ◌∙◌, subst, arith, List, [], ◌∷◌, ◌++◌, length, slice_get, map, Option, Some, None}
+use Rattle.std.proofs.Common.{◌≡◌, ◌≢◌, ℕ, zero, suc, ◌+◌, ◌==◌, nat_lt, Bool, true, false, not, codes, refl, sym, ap, ◌∙◌, subst, arith, List, [], ◌∷◌, ◌++◌, length, slice_get, map, Option, Some, None}
 use Rattle.std.specs.Prelude.{Result, Ok, Err}
+use Rattle.std.specs.List.{filter}
 use Rattle.bn_base.specs.Programs.{Program}
 use Rattle.log_record.specs.declared.record.Record.{Record}
 use Rattle.hart_replay.specs.declared.error.ReplayError.{ReplayError}
@@ -9,13 +10,14 @@ use Rattle.joint_replay.specs.declared.kinds.Readiness.{Readiness}
 use Rattle.joint_replay.specs.declared.kinds.Readiness.TheVariants as is
 use Rattle.joint_replay.specs.declared.kinds.Next.{Next}
 use Rattle.joint_replay.specs.declared.kinds.Next.TheVariants as next
-use Rattle.joint_replay.specs.Calls.{bare, IsReached}
-use Rattle.joint_replay.specs.Joining.{Joining, Walk, begun, longer, fresh, readiness, readiness_of, choice, choice_from, next_step, move}
+use Rattle.joint_replay.specs.Calls.{bare, state_at, IsReached}
+use Rattle.joint_replay.specs.Joining.{Joining, Walk, begun, longer, fresh, readiness, readiness_of, choice, choice_from, next_step, move, steps_left}
+use Rattle.joint_replay.specs.Memory.{word_in}
 use Rattle.joint_replay.specs.Lanes.{Lane, Item, lane_step}
 use Rattle.joint_replay.specs.Orders.{IsBegun, ready_step, walk_on}
 use Rattle.joint_laws.specs.Recordings.{Recording, IsRecorded, IsLogOf, OfBeginnings, begin, kept}
 use Rattle.joint_laws.specs.Laws.{OwnLogsAreLogs, GoesOn, IsNotRefused, ReachedSayTheRun, SaysSoFar}
-use Rattle.step_debugger.specs.Answers.{Moves, Session, Answer, stop_unless, step_by, step_up_to, go_past, go_by, go_for, go_on, says, choose, add_break, take_break, answer}
+use Rattle.step_debugger.specs.Answers.{Moves, Session, Answer, hart_text, address_text, word_text, registers_text, places_from, break_limit, is_set, stop_unless, step_by, step_up_to, go_past, go_by, go_for, go_on, says, moved, unknown, answer}
 use Rattle.step_debugger.specs.Answers.{begin as session_begin}
 use Rattle.step_debugger.specs.Commands.{command_of}
 use Rattle.step_debugger.specs.Transcript.{goes_on_by, answers}
@@ -102,25 +104,37 @@ AnswersOn P a = P a.session.now × ((e : JointError) → a.ends ≢ ending.Refus
 not-refused : (x : Ending) (e : JointError) → x ≡ ending.GoesOn → x ≢ ending.Refused e
 not-refused x e h f = absurd cc
 
-said-on : (P : Joining → Type 0) (a : Answer) → P a.session.now → a.ends ≡ ending.GoesOn → AnswersOn P a
-said-on P a p e = (p, λ x. not-refused a.ends x e)
+said-on : (P : Joining → Type 0) (s : Session) (text : List ℕ) → P s.now → AnswersOn P (says s text)
+said-on P s text p = (p, λ e f. absurd cc)
+
+moved-on : (P : Joining → Type 0) (s : Session) (m : Moves) → MovesOn P m → AnswersOn P (moved s m)
+moved-on P s m p = (p.0, λ e f. not-refused m.ends e p.1 f)
 
 either-on : (P : Joining → Type 0) (b : Bool) (x y : Answer) → AnswersOn P x → AnswersOn P y → AnswersOn P (elim b as (λ z. Answer) [ true ↦ x | false ↦ y ])
 either-on P true x y p q = p
 either-on P false x y p q = q
 
 answer-on : (P : Joining → Type 0) → Lasts P → (s : Session) (c : Command) → P s.now → AnswersOn P (answer s c)
-answer-on P g s to.Empty p = said-on P _ p refl
-answer-on P g s (to.Hart n) p = either-on P (nat_lt n (length s.now.lanes)) _ _ (said-on P _ p refl) (said-on P _ p refl)
-answer-on P g s (to.Step k) p = let m = steps-on P g s.hart k s.now p in said-on P _ m.0 m.1
-answer-on P g s to.Go p = let m = goes-on P g _ true s.breaks s.now p in said-on P _ m.0 m.1
-answer-on P g s (to.Break addr) p = either-on P _ _ _ (said-on P _ p refl) (either-on P _ _ _ (said-on P _ p refl) (said-on P _ p refl))
-answer-on P g s (to.Unbreak addr) p = either-on P _ _ _ (said-on P _ p refl) (said-on P _ p refl)
-answer-on P g s to.Registers p = said-on P _ p refl
-answer-on P g s (to.Word addr) p = said-on P _ p refl
-answer-on P g s to.Where p = said-on P _ p refl
+answer-on P g s to.Empty p = said-on P s [] p
+answer-on P g s (to.Hart n) p =
+    either-on P (nat_lt n (length s.now.lanes)) (says (record s { hart = n }) (hart_text n)) (unknown s) (said-on P (record s { hart = n }) (hart_text n) p) (said-on P s (codes "?\n") p)
+answer-on P g s (to.Step k) p = moved-on P s (step_up_to s.hart k s.now) (steps-on P g s.hart k s.now p)
+answer-on P g s to.Go p = moved-on P s (go_on true s.breaks s.now) (goes-on P g (steps_left s.now.lanes + 1) true s.breaks s.now p)
+answer-on P g s (to.Break addr) p =
+    let t : Session = record s { breaks = s.breaks ++ addr ∷ [] } in
+    let text = address_text (codes "break ") addr in
+    let full : Answer = elim (nat_lt (length s.breaks) break_limit) as (λ z. Answer) [ true ↦ says t text | false ↦ says s (codes "full\n") ] in
+    either-on P (is_set s.breaks addr) (says s text) full (said-on P s text p)
+    (either-on P (nat_lt (length s.breaks) break_limit) (says t text) (says s (codes "full\n")) (said-on P t text p) (said-on P s (codes "full\n") p))
+answer-on P g s (to.Unbreak addr) p =
+    let t : Session = record s { breaks = filter (λ b. not (b == addr)) s.breaks } in
+    let text = address_text (codes "unbreak ") addr in
+    either-on P (is_set s.breaks addr) (says t text) (says s (codes "none\n")) (said-on P t text p) (said-on P s (codes "none\n") p)
+answer-on P g s to.Registers p = said-on P s (registers_text (state_at s.now s.hart)) p
+answer-on P g s (to.Word addr) p = said-on P s (word_text addr (word_in s.now.memory addr)) p
+answer-on P g s to.Where p = said-on P s (places_from s.now 0 (length s.now.lanes)) p
 answer-on P g s to.Quit p = (p, λ e f. absurd cc)
-answer-on P g s to.Other p = said-on P _ p refl
+answer-on P g s to.Other p = said-on P s (codes "?\n") p
 
 ends-on : (P : Joining → Type 0) (e : Ending) (a : Answer) (go : Session → Answer) → AnswersOn P a → ((t : Session) → P t.now → AnswersOn P (go t)) → AnswersOn P (goes_on_by e a go)
 ends-on P ending.GoesOn a go p rest = rest a.session p.0
@@ -128,7 +142,7 @@ ends-on P ending.Quits a go p rest = p
 ends-on P (ending.Refused e) a go p rest = p
 
 answers-on : (P : Joining → Type 0) → Lasts P → (lines : List (List ℕ)) (s : Session) → P s.now → AnswersOn P (answers lines s)
-answers-on P g [] s p = said-on P _ p refl
+answers-on P g [] s p = said-on P s [] p
 answers-on P g (line ∷ lines) s p =
     let a = answer s (command_of line) in ends-on P a.ends a (λ t. answers lines t) (answer-on P g s (command_of line) p) (λ t q. answers-on P g lines t q)
 
@@ -266,60 +280,68 @@ either-never : (b : Bool) (x y : Answer) → x.ends ≢ ending.Quits → y.ends 
 either-never true x y p q = p
 either-never false x y p q = q
 
-said-never : (a : Answer) → a.ends ≡ ending.GoesOn → a.ends ≢ ending.Quits
-said-never a h e = absurd cc
+said-never : (s : Session) (text : List ℕ) → (says s text).ends ≢ ending.Quits
+said-never s text e = absurd cc
 
 -- only the command `quit` quits
 only-quit : (s : Session) (c : Command) → (answer s c).ends ≡ ending.Quits → c ≡ to.Quit
-only-quit s to.Empty e = absurd cc
-only-quit s (to.Hart n) e = absurd (either-never (nat_lt n (length s.now.lanes)) _ _ (said-never _ refl) (said-never _ refl) e)
+only-quit s to.Empty e = absurd (said-never s [] e)
+only-quit s (to.Hart n) e =
+    absurd (either-never (nat_lt n (length s.now.lanes)) (says (record s { hart = n }) (hart_text n)) (unknown s) (said-never (record s { hart = n }) (hart_text n)) (said-never s (codes "?\n")) e)
 only-quit s (to.Step k) e = absurd (steps-never s.hart k s.now e)
-only-quit s to.Go e = absurd (goes-never _ true s.breaks s.now e)
-only-quit s (to.Break addr) e = absurd (either-never _ _ _ (said-never _ refl) (either-never _ _ _ (said-never _ refl) (said-never _ refl)) e)
-only-quit s (to.Unbreak addr) e = absurd (either-never _ _ _ (said-never _ refl) (said-never _ refl) e)
-only-quit s to.Registers e = absurd cc
-only-quit s (to.Word addr) e = absurd cc
-only-quit s to.Where e = absurd cc
+only-quit s to.Go e = absurd (goes-never (steps_left s.now.lanes + 1) true s.breaks s.now e)
+only-quit s (to.Break addr) e =
+    let t : Session = record s { breaks = s.breaks ++ addr ∷ [] } in
+    let text = address_text (codes "break ") addr in
+    let full : Answer = elim (nat_lt (length s.breaks) break_limit) as (λ z. Answer) [ true ↦ says t text | false ↦ says s (codes "full\n") ] in
+    absurd (either-never (is_set s.breaks addr) (says s text) full (said-never s text)
+    (either-never (nat_lt (length s.breaks) break_limit) (says t text) (says s (codes "full\n")) (said-never t text) (said-never s (codes "full\n"))) e)
+only-quit s (to.Unbreak addr) e =
+    let t : Session = record s { breaks = filter (λ b. not (b == addr)) s.breaks } in
+    let text = address_text (codes "unbreak ") addr in
+    absurd (either-never (is_set s.breaks addr) (says t text) (says s (codes "none\n")) (said-never t text) (said-never s (codes "none\n")) e)
+only-quit s to.Registers e = absurd (said-never s (registers_text (state_at s.now s.hart)) e)
+only-quit s (to.Word addr) e = absurd (said-never s (word_text addr (word_in s.now.memory addr)) e)
+only-quit s to.Where e = absurd (said-never s (places_from s.now 0 (length s.now.lanes)) e)
 only-quit s to.Quit e = refl
-only-quit s to.Other e = absurd cc
+only-quit s to.Other e = absurd (said-never s (codes "?\n") e)
 
 quit-ends : (s : Session) (c : Command) → c ≡ to.Quit → (answer s c).ends ≡ ending.Quits
 quit-ends s c e = subst (λ (x : Command). (answer s x).ends ≡ ending.Quits) (sym e) refl
 
+two-ends : (x : Ending) → x ≡ ending.GoesOn → x ≡ ending.Quits → ⊥
+two-ends x e f = absurd cc
+
 going : (s : Session) (c : Command) → (answer s c).ends ≡ ending.GoesOn → c ≢ to.Quit
-going s c e q = let f = quit-ends s c q in absurd cc
+going s c e q = two-ends (answer s c).ends e (quit-ends s c q)
+
+no-quit-by : (x : Ending) (a : Answer) (line : List ℕ) (lines : List (List ℕ)) (go : Session → Answer) → a.ends ≡ x → (a.ends ≡ ending.GoesOn → command_of line ≢ to.Quit) → ((go a.session).ends ≡ ending.GoesOn → NoQuit lines)
+    → (goes_on_by x a go).ends ≡ ending.GoesOn → NoQuit (line ∷ lines)
+no-quit-by ending.GoesOn a line lines go f here rest e = (here f, rest e)
+no-quit-by ending.Quits a line lines go f here rest e = absurd (two-ends a.ends e f)
+no-quit-by (ending.Refused x) a line lines go f here rest e = absurd (not-refused a.ends x e f)
 
 -- where a session goes on after lines, none of them is `quit`
 pub no-quit : (lines : List (List ℕ)) (s : Session) → (answers lines s).ends ≡ ending.GoesOn → NoQuit lines
 no-quit [] s e = tt
-no-quit (line ∷ lines) s e = by a.ends refl e (λ g. no-quit lines a.session g)
-  where
-    a : Answer
-    a = answer s (command_of line)
+no-quit (line ∷ lines) s e =
+    let a = answer s (command_of line) in
+    no-quit-by a.ends a line lines (λ t. answers lines t) refl (λ f. going s (command_of line) f) (λ f. no-quit lines a.session f) e
 
-    by : (x : Ending) → a.ends ≡ x → (goes_on_by x a (λ t. answers lines t)).ends ≡ ending.GoesOn → ((answers lines a.session).ends ≡ ending.GoesOn → NoQuit lines) → NoQuit (line ∷ lines)
-    by ending.GoesOn f g rest = (going s (command_of line) f, rest g)
-    by ending.Quits f g rest = absurd cc
-    by (ending.Refused x) f g rest = absurd cc
+quits-by : (x : Ending) (a : Answer) (go : Session → Answer) → a.ends ≡ x → ((t : Session) → (go t).ends ≡ ending.GoesOn) → (goes_on_by x a go).ends ≡ ending.Quits → a.ends ≡ ending.Quits
+quits-by ending.GoesOn a go f rest e = absurd (two-ends (go a.session).ends (rest a.session) e)
+quits-by ending.Quits a go f rest e = e
+quits-by (ending.Refused x) a go f rest e = e
+
+later-by : (x : Ending) (a : Answer) (front whole : Session → Answer) {T : Type 0} → a.ends ≡ x → ((front a.session).ends ≡ ending.GoesOn → (whole a.session).ends ≡ ending.Quits → T)
+    → (goes_on_by x a front).ends ≡ ending.GoesOn → (goes_on_by x a whole).ends ≡ ending.Quits → T
+later-by ending.GoesOn a front whole f rest e g = rest e g
+later-by ending.Quits a front whole f rest e g = absurd (two-ends a.ends e f)
+later-by (ending.Refused x) a front whole f rest e g = absurd (not-refused a.ends x e f)
 
 -- the line that ends it is `quit`
 pub last-quit : (front : List (List ℕ)) (line : List ℕ) (s : Session) → (answers front s).ends ≡ ending.GoesOn → (answers (front ++ line ∷ []) s).ends ≡ ending.Quits → command_of line ≡ to.Quit
-last-quit [] line s e f = only-quit s (command_of line) (by a.ends refl f)
-  where
-    a : Answer
-    a = answer s (command_of line)
-
-    by : (x : Ending) → a.ends ≡ x → (goes_on_by x a (λ t. says t [])).ends ≡ ending.Quits → a.ends ≡ ending.Quits
-    by ending.GoesOn g h = absurd cc
-    by ending.Quits g h = g
-    by (ending.Refused x) g h = h
-last-quit (l ∷ front) line s e f = by a.ends refl e f (λ g h. last-quit front line a.session g h)
-  where
-    a : Answer
-    a = answer s (command_of l)
-
-    by : (x : Ending) → a.ends ≡ x → (goes_on_by x a (λ t. answers front t)).ends ≡ ending.GoesOn → (goes_on_by x a (λ t. answers (front ++ line ∷ []) t)).ends ≡ ending.Quits
-        → ((answers front a.session).ends ≡ ending.GoesOn → (answers (front ++ line ∷ []) a.session).ends ≡ ending.Quits → command_of line ≡ to.Quit) → command_of line ≡ to.Quit
-    by ending.GoesOn g h k rest = rest h k
-    by ending.Quits g h k rest = absurd cc
-    by (ending.Refused x) g h k rest = absurd cc
+last-quit [] line s e f =
+    let a = answer s (command_of line) in only-quit s (command_of line) (quits-by a.ends a (λ t. answers [] t) refl (λ t. refl) f)
+last-quit (l ∷ front) line s e f =
+    let a = answer s (command_of l) in later-by a.ends a (λ t. answers front t) (λ t. answers (front ++ line ∷ []) t) refl (λ g h. last-quit front line a.session g h) e f
