@@ -7,7 +7,7 @@ use Rattle.bn_base.specs.Ranges.{first_bad}
 use Rattle.bn_base.specs.declared.settings.BadSetting.{BadSetting}
 use Rattle.bn_base.specs.declared.settings.RawSettings.{RawSettings}
 use Rattle.bn_outside.specs.Files.{Files}
-use Rattle.command_words.specs.Words.{Line, RecordingLine, RecordLine, ReplayLine, JointLine, ListLine, CheckLine}
+use Rattle.command_words.specs.Words.{Line, RecordingLine, RecordLine, ReplayLine, JointLine, DebugLine, ListLine, CheckLine, AuditLine, DemoLine}
 use Rattle.elf_loader.specs.Loaded.{image_of}
 use Rattle.elf_loader.specs.declared.error.ElfError.{ElfError}
 use Rattle.log_order.specs.Content.{Content, IsContent}
@@ -35,9 +35,11 @@ use Rattle.bugnet.specs.Headline.{Part, ReplaysRun}
 use Rattle.bugnet.specs.Outside.{WithFiles}
 use Rattle.bugnet.specs.Run.{Call, IsFree, Tells, StoppedEarly, SomeTold, TellsAnswer}
 use Rattle.bugnet.specs.Saves.{IsRecorded, input_by, HoldsBytes}
-use Rattle.bugnet.specs.Joined.{joint_status, ran_told, joint_loaded, joint_same, joint_of, IsJointOf, IsJoint, CanJoin}
+use Rattle.bugnet.specs.Joined.{joint_status, ran_told, joint_with, CanJoin}
+use Rattle.bugnet.specs.Pairs.{ByPair, pair_loaded, pair_same, pair_of, IsPairOf, IsPair, ArePair}
+use Rattle.bugnet.specs.Sessions.{Commands, debug_with, session_status, session_told, IsSession, CanDebug}
 use Rattle.bugnet.specs.Complete.{EachHasAnAnswer, HasProgram, CanRecord, HasLog, CanBeDone, EachCanBeDone, IsDone}
-use Rattle.bugnet.specs.Laws.{OneAnswer, AreAlike, SeedsAreWhole}
+use Rattle.bugnet.specs.Laws.{OneAnswer, OneSession, AreAlike, SeedsAreWhole}
 use Rattle.bugnet.specs.declared.answer.RunEnd.{RunEnd}
 use Rattle.bugnet.specs.declared.answer.RunEnd.TheVariants as ends
 use Rattle.bugnet.specs.declared.manner.Manner.{Manner}
@@ -159,6 +161,12 @@ some-settings : RowLaws → (bad : Option BadSetting) (files : Files) (names : F
 some-settings laws (Some bad) files names c how has ok bytes = (refused names (OutOfRange bad), refl)
 some-settings laws None files names c how has ok bytes = some-names laws (is_clash how.lean names.log names.book) files names c how has ok bytes
 
+some-pair : AreReadOrRefused → (go : ByPair) (files : Files) (names : FileNames) → HoldsBytes (files names.log) → Some-told (IsPair go files names)
+some-pair law go files names read =
+    some-file files names role.Log 268500992 (λ log what. IsPairOf go files names log what)
+    (read-there law (files names.log) _ (λ bytes says reads. some-file files names role.Elf 67108864 (λ elf what. IsByLog names bytes (pair_of go names elf) what)
+    (any-there (files names.elf) _ (λ program. some-log names bytes (pair_of go names program) says reads))) read)
+
 pub some-answer : RowLaws → AreReadOrRefused → EachHasAnAnswer
 some-answer laws law None files read = (refused no_names WordsRefused, refl)
 some-answer laws law (Some (RecordLine r)) files read = some-settings laws (first_bad r.settings) files (names_in (RecordLine r)) r.settings (manner_of r) (is_some r.input) refl read
@@ -167,17 +175,20 @@ some-answer laws law (Some (ReplayLine log elf hart interval)) files read =
     some-file files names role.Log 268500992 (λ log what. IsReplayOf files names hart interval log what)
     (read-there law (files log) _ (λ bytes says reads. some-file files names role.Elf 67108864 (λ elf what. IsByLog names bytes (replay_of names hart interval elf) what)
     (any-there (files elf) _ (λ program. some-log names bytes (replay_of names hart interval program) says reads))) read)
-some-answer laws law (Some (JointLine log elf)) files read =
-    let names = names_in (JointLine log elf) in
-    some-file files names role.Log 268500992 (λ log what. IsJointOf files names log what)
-    (read-there law (files log) _ (λ bytes says reads. some-file files names role.Elf 67108864 (λ elf what. IsByLog names bytes (joint_of names elf) what)
-    (any-there (files elf) _ (λ program. some-log names bytes (joint_of names program) says reads))) read)
+some-answer laws law (Some (JointLine log elf)) files read = let names = names_in (JointLine log elf) in some-pair law (joint_with names) files names read
+some-answer laws law (Some (DebugLine log elf)) files read =
+    let names = names_in (DebugLine log elf) in
+    let none : Commands = record { bytes = []; failed = false } in
+    let some = some-pair law (debug_with names none) files names read in
+    (some.0, none, some.1)
 some-answer laws law (Some (ListLine log)) files read =
     let names = names_in (ListLine log) in
     some-file files names role.Log 268500992 (λ log what. IsByLog names log list_of what) (read-there law (files log) _ (λ bytes says reads. some-log names bytes list_of says reads) read)
 some-answer laws law (Some (CheckLine log)) files read =
     let names = names_in (CheckLine log) in
     some-file files names role.Log 268500992 (λ log what. IsByLog names log check_of what) (read-there law (files log) _ (λ bytes says reads. some-log names bytes check_of says reads) read)
+some-answer laws law (Some (AuditLine log elf book input)) files read = (refused (names_in (AuditLine log elf book input)) WordsRefused, refl)
+some-answer laws law (Some (DemoLine seed)) files read = (refused no_names WordsRefused, refl)
 
 -- ---- commands that can be done
 
@@ -275,20 +286,31 @@ can-replay law stand laws line files p v r small =
     subst (λ (l : Option Line). (what : Told) × IsAnswer l files what × IsRecorded what.status) (sym r.command) (what, log, done)
 
 -- the joint replay of a log that isn't stopped is done
-join-status : (names : FileNames) (log elf : List ℕ) (files : Files) (h : CanJoin log elf files) → (joint_of names h.bytes h.content).status ≡ 0
+join-status : (names : FileNames) (log elf : List ℕ) (files : Files) (h : CanJoin log elf files) → (joint_with names h.content h.program).status ≡ 0
 unfolding ran_told
-join-status names log elf files h =
-    ap (λ (b : Bool). (joint_same b names h.bytes h.content).status) h.same ∙ ap (λ (i : Result Program ElfError). (joint_loaded names h.content i).status) h.loaded ∙ ap joint_status h.goes_on
+join-status names log elf files h = ap joint_status h.goes_on
+
+-- what a log and its program that are there make it tell
+pair-told : (go : ByPair) (names : FileNames) (log elf : List ℕ) (files : Files) (d : Content) (i : Program) (p : ArePair log elf files d i) → pair_of go names p.bytes d ≡ go d i
+pair-told go names log elf files d i p = ap (λ (b : Bool). pair_same b go names p.bytes d) p.same ∙ ap (λ (r : Result Program ElfError). pair_loaded go names d r) p.loaded
+
+pub can-pair : FileLaws → (go : ByPair) (names : FileNames) (files : Files) (d : Content) (i : Program) → ArePair names.log names.elf files d i → IsPair go files names (go d i)
+can-pair laws go names files d i p =
+    let what = go d i in
+    let program : IsPairOf go files names (file_bytes d) what =
+    there-file files names role.Elf 67108864 p.bytes (λ elf what. IsByLog names (file_bytes d) (pair_of go names elf) what) what p.elf_there p.elf_small
+    (record { says = Ok d; reads = (p.is, refl); is = sym (pair-told go names names.log names.elf files d i p) }) in
+    there-file files names role.Log 268500992 (file_bytes d) (λ log what. IsPairOf go files names log what) what p.log_there (file-size laws d p.is) program
 
 can-join : FileLaws → (log elf : List ℕ) (files : Files) → CanJoin log elf files → (what : Told) × IsAnswer (Some (JointLine log elf)) files what × IsRecorded what.status
 can-join laws log elf files h =
     let names = names_in (JointLine log elf) in
-    let d = h.content in
-    let what = joint_of names h.bytes d in
-    let program : IsJointOf files names (file_bytes d) what =
-    there-file files names role.Elf 67108864 h.bytes (λ elf what. IsByLog names (file_bytes d) (joint_of names elf) what) what h.elf_there h.elf_small (record { says = Ok d; reads = (h.is, refl); is = refl }) in
-    let whole : IsJoint files names what = there-file files names role.Log 268500992 (file_bytes d) (λ log what. IsJointOf files names log what) what h.log_there (file-size laws d h.is) program in
-    (what, whole, inl (join-status names log elf files h))
+    (joint_with names h.content h.program, can-pair laws (joint_with names) names files h.content h.program h.pair, inl (join-status names log elf files h))
+
+-- a session that isn't stopped is done
+session-status : (names : FileNames) (c : Commands) (log elf : List ℕ) (files : Files) (h : CanDebug c log elf files) → (debug_with names c h.content h.program).status ≡ 0
+unfolding session_told
+session-status names c log elf files h = ap session_status h.goes_on
 
 -- a line of which one answer is done, and that has no other
 only-done : OneAnswer → (line : Line) (files : Files) (what : Told) → ((a b : Told) → AreAlike (Some line) a b) → IsAnswer (Some line) files what → IsRecorded what.status → CanBeDone line files
@@ -312,12 +334,32 @@ can-be-done rows one law stand laws (ReplayLine log elf hart interval) files h =
 can-be-done rows one law stand laws (JointLine log elf) files h =
     let l = can-join laws log elf files h in
     only-done one (JointLine log elf) files l.0 (λ a b. tt) l.1 l.2
+can-be-done rows one law stand laws (DebugLine log elf) files h = absurd h
 can-be-done rows one law stand laws (ListLine log) files h =
     let l = can-log laws files (names_in (ListLine log)) list_of h in
     only-done one (ListLine log) files l.0 (λ a b. tt) l.1 (inl (ap (λ (t : Told). t.status) l.2))
 can-be-done rows one law stand laws (CheckLine log) files h =
     let l = can-log laws files (names_in (CheckLine log)) check_of h in
     only-done one (CheckLine log) files l.0 (λ a b. tt) l.1 (inl (ap (λ (t : Told). t.status) l.2))
+can-be-done rows one law stand laws (AuditLine log elf book input) files h = absurd h
+can-be-done rows one law stand laws (DemoLine seed) files h = absurd h
+
+-- ---- a session
+
+session-so : (names : FileNames) (what : Told) (status : ℕ) (k : Call) → what.status ≡ 0 → Tells names what status k → IsFree status ⊎ (status ≡ 0)
+session-so names what status k is (inl done) = inr (done.status_is ∙ is)
+session-so names what status k is (inr s) = inl (stopped-free names what status k s)
+
+-- so it is where all that it needs is there
+pub session-done : OneSession → FileLaws → (c : Commands) (log elf : List ℕ) (files : Files) (status : ℕ) (k : Call)
+    → SomeTold (IsSession c files (names_in (DebugLine log elf))) (λ what. Tells (names_in (DebugLine log elf)) what status k) ⊎ StoppedEarly (Some (DebugLine log elf)) files status k
+    → CanDebug c log elf files → IsFree status ⊎ (status ≡ 0)
+session-done one laws c log elf files status k (inr early) h = inl (early-free (Some (DebugLine log elf)) files status k early)
+session-done one laws c log elf files status k (inl a) h =
+    let names = names_in (DebugLine log elf) in
+    let there = can-pair laws (debug_with names c) names files h.content h.program h.pair in
+    let is : a.0 ≡ debug_with names c h.content h.program = one c files names a.0 (debug_with names c h.content h.program) a.1 there in
+    session-so names a.0 status k (ap (λ (t : Told). t.status) is ∙ session-status names c log elf files h) a.2
 
 -- ---- a call
 

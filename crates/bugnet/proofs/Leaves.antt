@@ -10,7 +10,7 @@ use Rattle.bn_base.specs.Ranges.{first_bad}
 use Rattle.bn_base.specs.declared.settings.BadSetting.{BadSetting}
 use Rattle.bn_base.specs.declared.settings.RawSettings.{RawSettings}
 use Rattle.bn_outside.specs.Files.{Files, WhereTold}
-use Rattle.command_words.specs.Words.{Line, RecordingLine, RecordLine, ReplayLine, JointLine, ListLine, CheckLine}
+use Rattle.command_words.specs.Words.{Line, RecordingLine, RecordLine, ReplayLine, JointLine, DebugLine, ListLine, CheckLine, AuditLine, DemoLine}
 use Rattle.elf_loader.specs.Loaded.{image_of}
 use Rattle.elf_loader.specs.declared.error.ElfError.{ElfError}
 use Rattle.le_numbers.specs.Numbers.{AreBytes}
@@ -42,7 +42,7 @@ use Rattle.bugnet.specs.Laws.{SeedsAreWhole, FilesKeepToTheirSize}
 use Rattle.bugnet.specs.declared.names.Role.{Role}
 use Rattle.bugnet.specs.declared.names.Role.TheVariants as role
 use Rattle.bugnet.specs.declared.refusal.Refusal.{Refusal}
-use Rattle.bugnet.specs.declared.refusal.Refusal.TheVariants.{WordsRefused, OutOfRange, SameName, StoreFailed, Missing, TooLong, ElfRefused, LogRefused, ProgramDiffers, OutOfMemory, WriteFailed, ReplayStopped}
+use Rattle.bugnet.specs.declared.refusal.Refusal.TheVariants.{WordsRefused, OutOfRange, SameName, StoreFailed, Missing, TooLong, ElfRefused, LogRefused, ProgramDiffers, OutOfMemory, WriteFailed, ReplayStopped, ReadFailed, LineTooLong, CommandsTooLong}
 use Rattle.bugnet.proofs.Tested.{in-range}
 use Rattle.bugnet.proofs.Tells.{with-files, stopped-free, early-free}
 
@@ -77,6 +77,9 @@ refusals-apart (ProgramDiffers kept found) = apart 8 8 refl (λ e. omega (arith,
 refusals-apart OutOfMemory = apart 9 9 refl (λ e. omega (arith, e)) (λ e. omega (arith, e)) (λ e. omega (arith, e))
 refusals-apart WriteFailed = apart 13 13 refl (λ e. omega (arith, e)) (λ e. omega (arith, e)) (λ e. omega (arith, e))
 refusals-apart (ReplayStopped e) = replays-apart e
+refusals-apart ReadFailed = apart 12 12 refl (λ e. omega (arith, e)) (λ e. omega (arith, e)) (λ e. omega (arith, e))
+refusals-apart LineTooLong = apart 18 18 refl (λ e. omega (arith, e)) (λ e. omega (arith, e)) (λ e. omega (arith, e))
+refusals-apart CommandsTooLong = apart 18 18 refl (λ e. omega (arith, e)) (λ e. omega (arith, e)) (λ e. omega (arith, e))
 
 -- the status of a refusal that was told
 pub told-apart : (names : FileNames) (r : Refusal) (status : ℕ) (err_old err_new : Option (List ℕ)) (before now : ℕ) → ToldRefusal names r status err_old err_new before now → IsRecorded status → ⊥
@@ -93,8 +96,11 @@ leaves-none None status old new never = tt
 leaves-none (Some (RecordLine r)) status old new never = λ is. absurd (never is)
 leaves-none (Some (ReplayLine log elf hart interval)) status old new never = tt
 leaves-none (Some (JointLine log elf)) status old new never = tt
+leaves-none (Some (DebugLine log elf)) status old new never = tt
 leaves-none (Some (ListLine log)) status old new never = tt
 leaves-none (Some (CheckLine log)) status old new never = tt
+leaves-none (Some (AuditLine log elf book input)) status old new never = tt
+leaves-none (Some (DemoLine seed)) status old new never = tt
 
 -- ---- what is recorded
 
@@ -327,5 +333,8 @@ call-leaves whole sizes contents lengths (RecordLine r) status k bytes h = λ is
     found files is (inr early) = absurd (free-apart status (early-free (Some (RecordLine r)) files status k early) is)
 call-leaves whole sizes contents lengths (ReplayLine log elf hart interval) status k bytes h = tt
 call-leaves whole sizes contents lengths (JointLine log elf) status k bytes h = tt
+call-leaves whole sizes contents lengths (DebugLine log elf) status k bytes h = tt
 call-leaves whole sizes contents lengths (ListLine log) status k bytes h = tt
 call-leaves whole sizes contents lengths (CheckLine log) status k bytes h = tt
+call-leaves whole sizes contents lengths (AuditLine log elf book input) status k bytes h = tt
+call-leaves whole sizes contents lengths (DemoLine seed) status k bytes h = tt

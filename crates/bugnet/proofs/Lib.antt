@@ -16,3 +16,5 @@ mod Tested
 mod Leaves
 mod Complete
 mod Joins
+mod Sessions
+mod Debugs

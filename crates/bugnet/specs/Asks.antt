@@ -1,7 +1,7 @@
 -- How often a command asks its store to save.
 use Rattle.std.specs.Prelude.{◌≡◌, ◌⊎◌, ℕ, Bool, true, false, not, Option, Some, None, is_some}
 use Rattle.bn_outside.specs.Counts.{counted}
-use Rattle.command_words.specs.Words.{Line, RecordLine, ReplayLine, JointLine, ListLine, CheckLine}
+use Rattle.command_words.specs.Words.{Line, RecordLine, ReplayLine, JointLine, DebugLine, ListLine, CheckLine, AuditLine, DemoLine}
 use Rattle.bugnet.specs.Saves.{IsRecorded}
 use Rattle.bugnet.specs.declared.answer.Answer.{Answer}
 use Rattle.bugnet.specs.declared.answer.Recording.{Recording}
@@ -44,8 +44,11 @@ LineSaves None status before after = after ≡ before
 LineSaves (Some (RecordLine r)) status before after = SavesEach r.lean status before after
 LineSaves (Some (ReplayLine log elf hart interval)) status before after = after ≡ before
 LineSaves (Some (JointLine log elf)) status before after = after ≡ before
+LineSaves (Some (DebugLine log elf)) status before after = after ≡ before
 LineSaves (Some (ListLine log)) status before after = after ≡ before
 LineSaves (Some (CheckLine log)) status before after = after ≡ before
+LineSaves (Some (AuditLine log elf book input)) status before after = after ≡ before
+LineSaves (Some (DemoLine seed)) status before after = after ≡ before
 
 -- an answer that is a recording, lean or not
 abbrev pub IsRecordedRun : (lean : Bool) → Answer → Type 0
@@ -60,5 +63,8 @@ abbrev pub RecordsRun : Line → Answer → Type 0
 RecordsRun (RecordLine r) answer = IsRecordedRun r.lean answer
 RecordsRun (ReplayLine log elf hart interval) answer = Unit {0}
 RecordsRun (JointLine log elf) answer = Unit {0}
+RecordsRun (DebugLine log elf) answer = Unit {0}
 RecordsRun (ListLine log) answer = Unit {0}
 RecordsRun (CheckLine log) answer = Unit {0}
+RecordsRun (AuditLine log elf book input) answer = Unit {0}
+RecordsRun (DemoLine seed) answer = Unit {0}

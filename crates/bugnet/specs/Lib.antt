@@ -5,8 +5,11 @@ pub mod Texts
 pub mod Told
 pub mod Recordings
 pub mod Commands
+pub mod Pairs
 pub mod Joined
+pub mod Sessions
 pub mod Outside
+pub mod Reading
 pub mod Joinings
 pub mod Printed
 pub mod Keeping
@@ -17,5 +20,7 @@ pub mod Saves
 pub mod Laws
 pub mod Headline
 pub mod Jointly
+pub mod Steps
+pub mod Debugging
 pub mod Complete
 pub mod Asks

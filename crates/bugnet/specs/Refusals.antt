@@ -14,7 +14,7 @@ use Rattle.hart_replay.specs.declared.error.ReplayError.TheVariants as replay
 use Rattle.bugnet.specs.Names.{FileNames, name_of}
 use Rattle.bugnet.specs.Marks.{counted}
 use Rattle.bugnet.specs.declared.refusal.Refusal.{Refusal}
-use Rattle.bugnet.specs.declared.refusal.Refusal.TheVariants.{WordsRefused, OutOfRange, SameName, StoreFailed, Missing, TooLong, ElfRefused, LogRefused, ProgramDiffers, OutOfMemory, WriteFailed, ReplayStopped}
+use Rattle.bugnet.specs.declared.refusal.Refusal.TheVariants.{WordsRefused, OutOfRange, SameName, StoreFailed, Missing, TooLong, ElfRefused, LogRefused, ProgramDiffers, OutOfMemory, WriteFailed, ReplayStopped, ReadFailed, LineTooLong, CommandsTooLong}
 
 -- ---- the status
 
@@ -35,6 +35,9 @@ status_of (ProgramDiffers kept found) = 8
 status_of OutOfMemory = 9
 status_of WriteFailed = 13
 status_of (ReplayStopped error) = replay_status error
+status_of ReadFailed = 12
+status_of LineTooLong = 18
+status_of CommandsTooLong = 18
 
 -- ---- the line
 
@@ -100,6 +103,9 @@ said_of names (ProgramDiffers kept found) = digests_text (codes "program differs
 said_of names OutOfMemory = codes "out of memory"
 said_of names WriteFailed = codes "write failed"
 said_of names (ReplayStopped error) = replay_said error
+said_of names ReadFailed = codes "read failed"
+said_of names LineTooLong = codes "line too long"
+said_of names CommandsTooLong = codes "commands too long"
 
 -- the whole line
 unfoldable pub line_of : FileNames → Refusal → List ℕ

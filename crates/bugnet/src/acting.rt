@@ -65,6 +65,7 @@ fn print_interval<O: Sink, X: Sink>(
     ensures err_later { X.faults err.old ≤ X.faults err.new }
     ensures write { result ≡ 13 → Rose (O.faults out.old) (O.faults out.new) ⊎ Rose (X.faults err.old) (X.faults err.new) }
     ensures words { result ≢ 2 }
+    ensures read { result ≢ 12 }
     ensures failed { result ≢ 3 }
     ensures missing { result ≢ 4 }
     ensures long { result ≢ 5 }
@@ -104,6 +105,7 @@ fn print_list<O: Sink, X: Sink>(
     ensures err_later { X.faults err.old ≤ X.faults err.new }
     ensures write { result ≡ 13 → Rose (O.faults out.old) (O.faults out.new) ⊎ Rose (X.faults err.old) (X.faults err.new) }
     ensures words { result ≢ 2 }
+    ensures read { result ≢ 12 }
     ensures failed { result ≢ 3 }
     ensures missing { result ≢ 4 }
     ensures long { result ≢ 5 }
@@ -127,6 +129,7 @@ fn print_check<O: Sink, X: Sink>(
     ensures err_later { X.faults err.old ≤ X.faults err.new }
     ensures write { result ≡ 13 → Rose (O.faults out.old) (O.faults out.new) ⊎ Rose (X.faults err.old) (X.faults err.new) }
     ensures words { result ≢ 2 }
+    ensures read { result ≢ 12 }
     ensures failed { result ≢ 3 }
     ensures missing { result ≢ 4 }
     ensures long { result ≢ 5 }
@@ -173,6 +176,7 @@ fn keep<S: Store, O: Sink, X: Sink>(
     ensures out_later { O.faults out.old ≤ O.faults out.new }
     ensures err_later { X.faults err.old ≤ X.faults err.new }
     ensures words { result ≢ 2 }
+    ensures read { result ≢ 12 }
     ensures failed { result ≡ 3 → Rose (S.counts store.old).faults (S.counts store.new).faults }
     ensures missing { result ≢ 4 }
     ensures long { result ≢ 5 }
@@ -206,6 +210,7 @@ pub fn act<S: Store, O: Sink, X: Sink>(
     ensures out_later { O.faults out.old ≤ O.faults out.new }
     ensures err_later { X.faults err.old ≤ X.faults err.new }
     ensures words { result ≢ 2 }
+    ensures read { result ≢ 12 }
     ensures failed { result ≡ 3 → Rose (S.counts store.old).faults (S.counts store.new).faults }
     ensures missing { result ≢ 4 }
     ensures long { result ≢ 5 }

@@ -5,8 +5,8 @@ ghost use Rattle.bugnet.specs.Commands.{IsByLog, list_of, check_of, replay_loade
 ghost use Rattle.bugnet.specs.Recordings.{end_status, end_word};
 ghost use Rattle.bugnet.specs.Outside.{Gives, IsOwn, LogTells, ProgramTells, IsPrinted};
 
-use crate::joining::JointReading;
 use crate::names::Names;
+use crate::pairs::JointReading;
 use crate::refusal::Refusal;
 use bn_base::{Image, Settings};
 use elf_loader::{ElfError, load};

@@ -1,12 +1,16 @@
 // What holds of answers.
-ghost use Rattle.bugnet.specs.Laws.{OneAnswer, SeedsAreWhole, FilesKeepToTheirSize};
+ghost use Rattle.bugnet.specs.Debugging.{SessionsShowTheRun, RecordingsCanBeDebugged};
+ghost use Rattle.bugnet.specs.Laws.{OneAnswer, OneSession, SeedsAreWhole, FilesKeepToTheirSize};
 ghost use Rattle.bugnet.specs.Complete.{EachHasAnAnswer, EachCanBeDone};
 ghost use Rattle.bugnet.specs.Headline.{Headline, RecordingsAreReplayed};
 ghost use Rattle.bugnet.specs.Jointly.{JointHeadline, RecordingsCanBeJoined, RecordingsAreJoined};
 
 use file_laws::logs_are_contents;
 use hart_worker::seeded_lists_end;
-use joint_laws::files_say_the_run_jointly;
+use joint_laws::{
+    beginnings_go_on, files_say_the_run_jointly, own_logs_are_logs,
+    reached_joint_replays_say_the_run, steps_are_not_refused,
+};
 use log_file::laws::{
     files_have_their_size, files_say_one_thing, logs_are_not_refused, refusals_are_unique,
 };
@@ -23,6 +27,38 @@ pub fn one_answer()
     files_say_one_thing();
     logs_are_not_refused();
     refusals_are_unique();
+}
+
+/// A session of the debugger has one answer for the commands that are read.
+pub fn one_session()
+    ensures { OneSession }
+{
+    files_say_one_thing();
+    logs_are_not_refused();
+    refusals_are_unique();
+}
+
+/// Wherever a session over the log of a recording comes by its commands, its replay isn't refused, and
+/// what it shows is the run's: the order of the steps, the rows, the states of the harts, and the words.
+pub fn sessions_show_the_run()
+    ensures { SessionsShowTheRun }
+{
+    own_logs_are_logs();
+    beginnings_go_on();
+    steps_are_not_refused();
+    reached_joint_replays_say_the_run();
+}
+
+/// Where the log file of a recording and its program file are there, the program file within its limit,
+/// and the commands are read whole and keep to their limits, there is all that a session of the debugger
+/// needs: it isn't stopped.
+pub fn recordings_can_be_debugged()
+    ensures { RecordingsCanBeDebugged }
+{
+    sessions_show_the_run();
+    logs_are_contents();
+    format_1_is_version_1();
+    files_have_their_size();
 }
 
 /// The answer to the replay of an interval from the log file of a run is the text of the run's own

@@ -190,6 +190,9 @@ impl Refusal {
             Refusal::OutOfMemory => text.push_str("out of memory"),
             Refusal::WriteFailed => text.push_str("write failed"),
             Refusal::ReplayStopped(error) => push_replay(text, error),
+            Refusal::ReadFailed => text.push_str("read failed"),
+            Refusal::LineTooLong => text.push_str("line too long"),
+            Refusal::CommandsTooLong => text.push_str("commands too long"),
         }
     }
 

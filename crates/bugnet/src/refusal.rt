@@ -37,6 +37,12 @@ pub enum Refusal {
     WriteFailed,
     /// The log keeps no such interval, or its replay can't go on.
     ReplayStopped(ReplayError),
+    /// Reading commands failed.
+    ReadFailed,
+    /// A line of commands has more than 256 bytes.
+    LineTooLong,
+    /// The commands have more than 2^24 bytes.
+    CommandsTooLong,
 }
 
 impl From<AllocError> for Refusal {
@@ -76,6 +82,9 @@ impl Refusal {
             Refusal::OutOfMemory => 9,
             Refusal::WriteFailed => 13,
             Refusal::ReplayStopped(error) => replay_status(error),
+            Refusal::ReadFailed => 12,
+            Refusal::LineTooLong => 18,
+            Refusal::CommandsTooLong => 18,
         }
     }
 }

@@ -13,7 +13,10 @@
 //! | `zeros NAME LENGTH` | a file of so many bytes 0 |
 //! | `failing-store CALL ..` | a store of no file, whose calls of these numbers fail |
 //! | `failing-out CALL ..` | the next call's out fails at its writes of these numbers |
-//! | `run WORD ..` | the program with these words |
+//! | `type TEXT` | the next call can read this line, behind what it could before |
+//! | `keys HEX`, `keys HEX COUNT` | the same of these bytes, or of a byte so many times |
+//! | `failing-keys CALL ..` | the next call's reads of these numbers fail |
+//! | `run WORD ..` | the program with these words; where it could read, how much it left |
 //! | `run-meet HARTS WORD ..` | the same, where the harts meet before their first turns |
 //! | `run-listed HEX WORD ..` | the same, where the harts take their turns in this order, a byte for each |
 //! | `size NAME`, `show NAME` | how long a file is, and its bytes |

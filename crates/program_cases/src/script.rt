@@ -67,7 +67,11 @@ fn run<G: Gate, R: Print + Threads + Wait + Sync>(
     println!(rt; "{line}")?;
     println!(rt; "status {status}")?;
     print_text(rt, "out", machine.out.written())?;
-    print_text(rt, "err", machine.err.written())
+    print_text(rt, "err", machine.err.written())?;
+    if let Some(left) = machine.left {
+        println!(rt; "left {left}")?;
+    }
+    Ok(())
 }
 
 // Runs the program as a line says: with a gate at which harts meet, or one that gives the order of their
@@ -94,6 +98,22 @@ fn run_gated<R: Print + Threads + Wait + Sync>(
         run(rt, machine, line, words.get(1..).unwrap_or(&[]), &OpenGate)?;
     }
     Ok(())
+}
+
+// What a line adds to what the next call reads: a line of text, bytes, or a byte so many times.
+fn typed(alloc: Global, line: &str, words: &[&str]) -> anyhow::Result<Vec<u8>> {
+    if words.first().copied().unwrap_or("") == "keys" {
+        let mut keys = hex::bytes(alloc, words.get(1).copied().unwrap_or(""))?;
+        if words.len() > 2 {
+            let byte = keys.first().copied().unwrap_or(0);
+            keys.clear();
+            keys.resize(number(words.get(2))?, byte)?;
+        }
+        return Ok(keys);
+    }
+    let mut keys = Vec::from_slice(alloc, line.strip_prefix("type ").unwrap_or("").as_bytes())?;
+    keys.push(b'\n')?;
+    Ok(keys)
 }
 
 // Prints how long a file is, and its bytes where they are to be seen.
@@ -142,6 +162,12 @@ impl Case {
             self.machine = Machine::new(self.alloc, calls);
         } else if verb == "failing-out" {
             self.machine.failing = numbers(self.alloc, words.get(1..).unwrap_or(&[]))?;
+        } else if verb == "failing-keys" {
+            let calls = numbers(self.alloc, words.get(1..).unwrap_or(&[]))?;
+            self.machine.failing_keys = calls;
+        } else if verb == "type" || verb == "keys" {
+            let keys = typed(self.alloc, line, words)?;
+            self.machine.keys.extend_from_slice(&keys)?;
         } else if verb == "run" || verb == "run-meet" || verb == "run-listed" {
             run_gated(rt, self.alloc, &mut self.machine, line, words)?;
         } else if verb == "size" || verb == "show" {
