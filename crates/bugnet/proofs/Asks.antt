@@ -10,9 +10,9 @@ use Rattle.bugnet.specs.Outside.{ToldRefusal, Unsaved, IsPrinted}
 use Rattle.bugnet.specs.Saves.{IsRecorded}
 use Rattle.bugnet.specs.Told.{Saved}
 use Rattle.bugnet.specs.declared.answer.Answer.{Answer}
-use Rattle.bugnet.specs.declared.answer.Answer.TheVariants.{Recorded, Interval, Joined, Listed, Checked}
+use Rattle.bugnet.specs.declared.answer.Answer.TheVariants.{Recorded, Interval, Joined, Listed, Checked, Agreed}
 use Rattle.bugnet.specs.declared.refusal.Refusal.{Refusal}
-use Rattle.bugnet.specs.declared.refusal.Refusal.TheVariants.{WordsRefused, OutOfRange, SameName, StoreFailed, Missing, TooLong, ElfRefused, LogRefused, ProgramDiffers, OutOfMemory, WriteFailed, ReplayStopped, ReadFailed, LineTooLong, CommandsTooLong}
+use Rattle.bugnet.specs.declared.refusal.Refusal.TheVariants.{WordsRefused, OutOfRange, SameName, StoreFailed, Missing, TooLong, ElfRefused, LogRefused, ProgramDiffers, OutOfMemory, WriteFailed, ReplayStopped, ReadFailed, LineTooLong, CommandsTooLong, BookRefused, FileDiffers}
 use Rattle.bugnet.proofs.Leaves.{told-apart}
 
 -- neither a recording that is done, nor one whose texts a write refused
@@ -41,6 +41,8 @@ unsaved-write saved names old new before now (ReplayStopped x) status err_old er
 unsaved-write saved names old new before now ReadFailed status err_old err_new m n u (inl h) = absurd u
 unsaved-write saved names old new before now LineTooLong status err_old err_new m n u (inl h) = absurd u
 unsaved-write saved names old new before now CommandsTooLong status err_old err_new m n u (inl h) = absurd u
+unsaved-write saved names old new before now (BookRefused x) status err_old err_new m n u (inl h) = absurd u
+unsaved-write saved names old new before now (FileDiffers place) status err_old err_new m n u (inl h) = absurd u
 unsaved-write saved names old new before now r status err_old err_new m n u (inr h) = no-write status 9 h.0 (λ e. omega (arith, e))
 
 -- nor is that of want of memory
@@ -82,6 +84,7 @@ printed (Interval r) status before mid after p same saves = saves ∙ same
 printed (Joined r) status before mid after p same saves = saves ∙ same
 printed (Listed d) status before mid after p same saves = saves ∙ same
 printed (Checked d) status before mid after p same saves = saves ∙ same
+printed Agreed status before mid after p same saves = saves ∙ same
 
 -- a line whose answer was acted on
 pub line-acts : (line : Line) (answer : Answer) (status before mid after : ℕ) → RecordsRun line answer → (IsNoRecording (Some line) → IsPrinted answer) → mid ≡ before
@@ -91,6 +94,7 @@ line-acts (RecordLine r) (Interval x) status before mid after records prints sam
 line-acts (RecordLine r) (Joined x) status before mid after records prints same saves = absurd records
 line-acts (RecordLine r) (Listed d) status before mid after records prints same saves = absurd records
 line-acts (RecordLine r) (Checked d) status before mid after records prints same saves = absurd records
+line-acts (RecordLine r) Agreed status before mid after records prints same saves = absurd records
 line-acts (ReplayLine log elf hart interval) answer status before mid after records prints same saves = printed answer status before mid after (prints tt) same saves
 line-acts (JointLine log elf) answer status before mid after records prints same saves = printed answer status before mid after (prints tt) same saves
 line-acts (DebugLine log elf) answer status before mid after records prints same saves = printed answer status before mid after (prints tt) same saves

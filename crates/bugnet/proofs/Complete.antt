@@ -31,6 +31,17 @@ use Rattle.run_laws.specs.Laws.{TurnsAreLawful, TurnsAreOwn, OwnRowsAreTurns}
 use Rattle.file_laws.specs.Given.{IsRecording}
 use Rattle.file_laws.specs.Laws.{LogsAreContents}
 use Rattle.bugnet.specs.Answers.{names_in, names_by, manner_of, IsAnswer}
+use Rattle.bugnet.specs.Audits.{verdict_told, turns_told, audited, IsAuditOf, IsAuditWith, IsAuditBy, IsAuditIn, IsAudit, Agrees}
+use Rattle.bugnet.specs.Texts.{agree_text}
+use Rattle.run_model.specs.Lists.{list_error}
+use Rattle.run_model.specs.Audits.{verdict_of}
+use Rattle.run_model.specs.declared.error.TurnError.{TurnError}
+use Rattle.run_model.specs.declared.verdict.Verdict.{Verdict}
+use Rattle.run_model.specs.declared.verdict.Verdict.TheVariants.{Agree}
+use Rattle.bus_core.specs.Bus.{Began}
+use Rattle.le_numbers.specs.Numbers.{AreBytes}
+use Rattle.std.proofs.lemmas.Slice.Eq.{bytes_eq-Decides}
+use Rattle.bugnet.proofs.Agrees.{AuditLaws}
 use Rattle.bugnet.specs.Headline.{Part, ReplaysRun}
 use Rattle.bugnet.specs.Outside.{WithFiles}
 use Rattle.bugnet.specs.Run.{Call, IsFree, Tells, StoppedEarly, SomeTold, TellsAnswer}
@@ -167,6 +178,13 @@ some-pair law go files names read =
     (read-there law (files names.log) _ (λ bytes says reads. some-file files names role.Elf 67108864 (λ elf what. IsByLog names bytes (pair_of go names elf) what)
     (any-there (files names.elf) _ (λ program. some-log names bytes (pair_of go names program) says reads))) read)
 
+some-audit : AreReadOrRefused → (files : Files) (names : FileNames) (has : Bool) → HoldsBytes (files names.log) → Some-told (IsAudit files names has)
+some-audit law files names has read =
+    some-file files names role.Log 268500992 (λ log what. IsAuditIn files names has log what)
+    (read-there law (files names.log) _ (λ bytes says reads. some-file files names role.Elf 67108864 (λ elf what. IsAuditBy files names has bytes elf what)
+    (any-there (files names.elf) _ (λ elf. some-file files names role.Book 1073741824 (λ book what. IsAuditWith files names has bytes elf book what)
+    (any-there (files names.book) _ (λ book. some-input has files names (IsAuditOf names bytes elf book) (λ input. some-log names bytes (pair_of (audited names bytes book input) names elf) says reads)))))) read)
+
 pub some-answer : RowLaws → AreReadOrRefused → EachHasAnAnswer
 some-answer laws law None files read = (refused no_names WordsRefused, refl)
 some-answer laws law (Some (RecordLine r)) files read = some-settings laws (first_bad r.settings) files (names_in (RecordLine r)) r.settings (manner_of r) (is_some r.input) refl read
@@ -187,7 +205,7 @@ some-answer laws law (Some (ListLine log)) files read =
 some-answer laws law (Some (CheckLine log)) files read =
     let names = names_in (CheckLine log) in
     some-file files names role.Log 268500992 (λ log what. IsByLog names log check_of what) (read-there law (files log) _ (λ bytes says reads. some-log names bytes check_of says reads) read)
-some-answer laws law (Some (AuditLine log elf book input)) files read = (refused (names_in (AuditLine log elf book input)) WordsRefused, refl)
+some-answer laws law (Some (AuditLine log elf book input)) files read = some-audit law files (names_in (AuditLine log elf book input)) (is_some input) read
 some-answer laws law (Some (DemoLine seed)) files read = (refused no_names WordsRefused, refl)
 
 -- ---- commands that can be done
@@ -312,6 +330,37 @@ session-status : (names : FileNames) (c : Commands) (log elf : List ℕ) (files 
 unfolding session_told
 session-status names c log elf files h = ap session_status h.goes_on
 
+-- the audit of a log that agrees is done
+audit-told : AuditLaws → (names : FileNames) (d : Content) (i : Program) (elf log book input : List ℕ) → bytes_eq (sha256 elf) d.head.digest ≡ true → image_of elf d.head.settings ≡ Ok i → list_error d.head.settings i input book ≡ None
+    → log ≡ file_of d.head.settings i d.head.digest input book → pair_of (audited names log book input) names elf d ≡ printed agree_text
+audit-told laws names d i elf log book input same loaded none is =
+    let go = audited names log book input in
+    let file = file_of d.head.settings i d.head.digest input book in
+    let agree : verdict_of file log ≡ Agree = laws.verdicts.one file log (verdict_of file log) Agree (laws.verdicts.is file log) is in
+    ap (λ (b : Bool). pair_same b go names elf d) same ∙ ap (λ (r : Result Program ElfError). pair_loaded go names d r) loaded
+    ∙ ap (λ (o : Option TurnError). turns_told o names (verdict_of file log)) none ∙ ap (λ (v : Verdict). verdict_told names v) agree
+
+can-audit : FileLaws → AuditLaws → (log elf book : List ℕ) (input : Option (List ℕ)) (files : Files) (a : Agrees log elf book input files) → AreBytes a.bytes
+    → (what : Told) × IsAnswer (Some (AuditLine log elf book input)) files what × IsRecorded what.status
+can-audit laws audits log elf book input files a bytes =
+    let names = names_in (AuditLine log elf book input) in
+    let has = is_some input in
+    let digest = sha256 a.bytes in
+    let d = content_of a.settings digest (run_of a.settings a.program a.given a.turns) in
+    let is : IsContent d = laws.contents a.settings a.program a.bytes a.given a.turns (record { setting = a.setting; bytes = bytes; loaded = a.loaded; legal = a.whole.legal; over = a.whole.over }) in
+    let one : a.settings.format ≡ 1 = omega (arith, a.setting.format_low, a.setting.format_high) in
+    let same : file_of a.settings a.program digest a.given a.turns ≡ file_bytes d = laws.version a.settings a.program digest a.given a.turns one in
+    let there : files log ≡ Some (file_bytes d) = a.log_there ∙ ap (λ (bytes : List ℕ). Some bytes) same in
+    let began : Began = record { image = a.program; settings = a.settings; input = a.given; digest = digest } in
+    let what = pair_of (audited names (file_bytes d) a.turns a.given) names a.bytes d in
+    let told = audit-told audits names d a.program a.bytes (file_bytes d) a.turns a.given ((bytes_eq-Decides digest digest).1 refl) a.loaded ((audits.errors began a.turns).1 (a.whole.legal, a.whole.over)) (sym same) in
+    let read : IsAuditOf names (file_bytes d) a.bytes a.turns a.given what = record { says = Ok d; reads = (is, refl); is = refl } in
+    let given : IsAuditWith files names has (file_bytes d) a.bytes a.turns what = with-input input elf log book files (IsAuditOf names (file_bytes d) a.bytes a.turns) a.given what a.input_there a.input_small read in
+    let turns : IsAuditBy files names has (file_bytes d) a.bytes what = there-file files names role.Book 1073741824 a.turns (λ book what. IsAuditWith files names has (file_bytes d) a.bytes book what) what a.book_there a.book_small given in
+    let program : IsAuditIn files names has (file_bytes d) what = there-file files names role.Elf 67108864 a.bytes (λ elf what. IsAuditBy files names has (file_bytes d) elf what) what a.elf_there a.elf_small turns in
+    let whole : IsAudit files names has what = there-file files names role.Log 268500992 (file_bytes d) (λ log what. IsAuditIn files names has log what) what there (file-size laws d is) program in
+    (what, whole, inl (ap (λ (t : Told). t.status) told))
+
 -- a line of which one answer is done, and that has no other
 only-done : OneAnswer → (line : Line) (files : Files) (what : Told) → ((a b : Told) → AreAlike (Some line) a b) → IsAnswer (Some line) files what → IsRecorded what.status → CanBeDone line files
 only-done one line files what alike is done = record {
@@ -319,8 +368,8 @@ only-done one line files what alike is done = record {
   done = λ told other. subst (λ (t : Told). IsRecorded t.status) (one (Some line) files what told is other (alike what told)) done;
 }
 
-pub can-be-done : RowLaws → OneAnswer → LogSuffices → Together → FileLaws → EachCanBeDone
-can-be-done rows one law stand laws (RecordLine r) files h =
+pub can-be-done : RowLaws → OneAnswer → LogSuffices → Together → FileLaws → AuditLaws → EachCanBeDone
+can-be-done rows one law stand laws audits (RecordLine r) files h =
     let how = manner_of r in
     record {
       answer = λ bytes.
@@ -328,21 +377,23 @@ can-be-done rows one law stand laws (RecordLine r) files h =
           (run.0, can-record r files h run.0 run.1);
       done = λ told is. run-recorded how.lean how.seed r.settings h.program (sha256 h.elf) how h.input told (is-record r files h told is);
     }
-can-be-done rows one law stand laws (ReplayLine log elf hart interval) files h =
+can-be-done rows one law stand laws audits (ReplayLine log elf hart interval) files h =
     let l = can-replay law stand laws (Some (ReplayLine log elf hart interval)) files h.0 h.1 h.2 h.3 in
     only-done one (ReplayLine log elf hart interval) files l.0 (λ a b. tt) l.1 l.2
-can-be-done rows one law stand laws (JointLine log elf) files h =
+can-be-done rows one law stand laws audits (JointLine log elf) files h =
     let l = can-join laws log elf files h in
     only-done one (JointLine log elf) files l.0 (λ a b. tt) l.1 l.2
-can-be-done rows one law stand laws (DebugLine log elf) files h = absurd h
-can-be-done rows one law stand laws (ListLine log) files h =
+can-be-done rows one law stand laws audits (DebugLine log elf) files h = absurd h
+can-be-done rows one law stand laws audits (ListLine log) files h =
     let l = can-log laws files (names_in (ListLine log)) list_of h in
     only-done one (ListLine log) files l.0 (λ a b. tt) l.1 (inl (ap (λ (t : Told). t.status) l.2))
-can-be-done rows one law stand laws (CheckLine log) files h =
+can-be-done rows one law stand laws audits (CheckLine log) files h =
     let l = can-log laws files (names_in (CheckLine log)) check_of h in
     only-done one (CheckLine log) files l.0 (λ a b. tt) l.1 (inl (ap (λ (t : Told). t.status) l.2))
-can-be-done rows one law stand laws (AuditLine log elf book input) files h = absurd h
-can-be-done rows one law stand laws (DemoLine seed) files h = absurd h
+can-be-done rows one law stand laws audits (AuditLine log elf book input) files h =
+    let l = can-audit laws audits log elf book input files h.0 h.1 in
+    only-done one (AuditLine log elf book input) files l.0 (λ a b. tt) l.1 l.2
+can-be-done rows one law stand laws audits (DemoLine seed) files h = absurd h
 
 -- ---- a session
 

@@ -22,6 +22,7 @@ use Rattle.bugnet.specs.Joined.{joint_with}
 use Rattle.bugnet.specs.Pairs.{ByPair, pair_of, IsPairOf, IsPair}
 use Rattle.bugnet.specs.Sessions.{debug_with}
 use Rattle.bugnet.specs.Answers.{names_in, manner_of, IsAnswer}
+use Rattle.bugnet.specs.Audits.{audited, IsAuditOf, IsAuditWith, IsAuditBy, IsAuditIn, IsAudit}
 use Rattle.bugnet.specs.Laws.{OneAnswer, OneSession, AreAlike, AreOfOneList, book_of}
 use Rattle.bugnet.specs.Recordings.{AreTaken, IsRunOf, IsRunBy, IsRun, told_run, recorded}
 use Rattle.run_model.specs.Runs.{seeded}
@@ -151,6 +152,13 @@ one-settings : (bad : Option BadSetting) (files : Files) (names : FileNames) (c 
 one-settings (Some bad) files names c how has_input a b alike p q = p ∙ sym q
 one-settings None files names c how has_input a b alike p q = one-names (is_clash how.lean names.log names.book) files names c how has_input a b alike p q
 
+one-audit : Grammar → (files : Files) (names : FileNames) (has_input : Bool) → One (IsAudit files names has_input)
+one-audit g files names has_input =
+    one-file files names role.Log 268500992 (λ log what. IsAuditIn files names has_input log what)
+    (λ log. one-file files names role.Elf 67108864 (λ elf what. IsAuditBy files names has_input log elf what)
+    (λ elf. one-file files names role.Book 1073741824 (λ book what. IsAuditWith files names has_input log elf book what)
+    (λ book a b p q. one-input has_input files names (IsAuditOf names log elf book) a b (λ input x y. one-log g names log (pair_of (audited names log book input) names elf) a b x y) p q)))
+
 one-line : Grammar → (line : Line) (files : Files) (a b : Told) → IsAnswer (Some line) files a → IsAnswer (Some line) files b → AreAlike (Some line) a b → a ≡ b
 one-line g (RecordLine r) files a b p q alike = one-settings (first_bad r.settings) files (names_in (RecordLine r)) r.settings (manner_of r) _ a b alike p q
 one-line g (ReplayLine log elf hart interval) files a b p q alike = one-replay g files (names_in (ReplayLine log elf hart interval)) hart interval a b p q
@@ -162,7 +170,7 @@ one-line g (ListLine log) files a b p q alike =
 one-line g (CheckLine log) files a b p q alike =
     let names = names_in (CheckLine log) in
     one-file files names role.Log 268500992 (λ log what. IsByLog names log check_of what) (λ log. one-log g names log check_of) a b p q
-one-line g (AuditLine log elf book input) files a b p q alike = p ∙ sym q
+one-line g (AuditLine log elf book input) files a b p q alike = one-audit g files (names_in (AuditLine log elf book input)) _ a b p q
 one-line g (DemoLine seed) files a b p q alike = p ∙ sym q
 
 pub one-answer : Grammar → OneAnswer

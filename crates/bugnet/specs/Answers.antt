@@ -10,6 +10,7 @@ use Rattle.bugnet.specs.Commands.{is_clash, IsRecord, IsReplay, IsList, IsCheck}
 use Rattle.bugnet.specs.declared.manner.Manner.{Manner}
 use Rattle.bugnet.specs.Joined.{IsJoint}
 use Rattle.bugnet.specs.Sessions.{IsDebug}
+use Rattle.bugnet.specs.Audits.{IsAudit}
 use Rattle.bugnet.specs.declared.refusal.Refusal.{Refusal}
 use Rattle.bugnet.specs.declared.refusal.Refusal.TheVariants.{WordsRefused, OutOfRange, SameName}
 
@@ -48,7 +49,7 @@ refusal_in (JointLine log elf) = None
 refusal_in (DebugLine log elf) = None
 refusal_in (ListLine log) = None
 refusal_in (CheckLine log) = None
-refusal_in (AuditLine log elf book input) = Some WordsRefused
+refusal_in (AuditLine log elf book input) = None
 refusal_in (DemoLine seed) = Some WordsRefused
 
 abbrev pub refusal_by : Option Line → Option Refusal
@@ -64,5 +65,5 @@ IsAnswer (Some (JointLine log elf)) files what = IsJoint files (names_in (JointL
 IsAnswer (Some (DebugLine log elf)) files what = IsDebug files (names_in (DebugLine log elf)) what
 IsAnswer (Some (ListLine log)) files what = IsList files (names_in (ListLine log)) what
 IsAnswer (Some (CheckLine log)) files what = IsCheck files (names_in (CheckLine log)) what
-IsAnswer (Some (AuditLine log elf book input)) files what = what ≡ refused (names_in (AuditLine log elf book input)) WordsRefused
+IsAnswer (Some (AuditLine log elf book input)) files what = IsAudit files (names_in (AuditLine log elf book input)) (is_some input) what
 IsAnswer (Some (DemoLine seed)) files what = what ≡ refused no_names WordsRefused

@@ -12,6 +12,8 @@ use Rattle.run_model.specs.Files.{file_of}
 use Rattle.file_laws.specs.Given.{IsRecording}
 use Rattle.bugnet.specs.Told.{Told}
 use Rattle.bugnet.specs.Commands.{is_clash}
+use Rattle.le_numbers.specs.Numbers.{AreBytes}
+use Rattle.bugnet.specs.Audits.{Agrees}
 use Rattle.bugnet.specs.Joined.{CanJoin}
 use Rattle.bugnet.specs.Answers.{IsAnswer}
 use Rattle.bugnet.specs.Headline.{Part, ReplaysRun}
@@ -35,7 +37,7 @@ HasBytes (Some (JointLine log elf)) files = HoldsBytes (files log)
 HasBytes (Some (DebugLine log elf)) files = HoldsBytes (files log)
 HasBytes (Some (ListLine log)) files = HoldsBytes (files log)
 HasBytes (Some (CheckLine log)) files = HoldsBytes (files log)
-HasBytes (Some (AuditLine log elf book input)) files = Unit {0}
+HasBytes (Some (AuditLine log elf book input)) files = HoldsBytes (files log)
 HasBytes (Some (DemoLine seed)) files = Unit {0}
 
 -- then there is an answer
@@ -76,7 +78,7 @@ CanDo (JointLine log elf) files = CanJoin log elf files
 CanDo (DebugLine log elf) files = ⊥
 CanDo (ListLine log) files = HasLog (files log)
 CanDo (CheckLine log) files = HasLog (files log)
-CanDo (AuditLine log elf book input) files = ⊥
+CanDo (AuditLine log elf book input) files = (a : Agrees log elf book input files) × AreBytes a.bytes
 CanDo (DemoLine seed) files = ⊥
 
 -- what a line that can be done needs for an answer: a program file that is bytes

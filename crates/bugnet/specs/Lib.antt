@@ -14,6 +14,7 @@ pub mod Joinings
 pub mod Printed
 pub mod Keeping
 pub mod Logs
+pub mod Audits
 pub mod Answers
 pub mod Run
 pub mod Saves
@@ -24,3 +25,4 @@ pub mod Steps
 pub mod Debugging
 pub mod Complete
 pub mod Asks
+pub mod Agreements

@@ -19,7 +19,7 @@ use Rattle.log_file.specs.declared.error.FileError.TheVariants as file
 use Rattle.bugnet.specs.Names.{FileNames, name_of}
 use Rattle.bugnet.specs.Refusals.{status_of, line_of}
 use Rattle.bugnet.specs.Told.{Told, Saved, refused, printed}
-use Rattle.bugnet.specs.Texts.{check_line}
+use Rattle.bugnet.specs.Texts.{check_line, agree_text}
 use Rattle.bugnet.specs.Recordings.{end_status}
 use Rattle.bugnet.specs.Commands.{list_of, replay_with}
 use Rattle.bugnet.specs.Joined.{joint_with}
@@ -30,7 +30,7 @@ use Rattle.bugnet.specs.declared.refusal.Refusal.TheVariants as why
 use Rattle.bugnet.specs.declared.answer.Answer.{Answer}
 use Rattle.bugnet.specs.declared.answer.Reading.{Reading}
 use Rattle.bugnet.specs.declared.answer.Recording.{Recording}
-use Rattle.bugnet.specs.declared.answer.Answer.TheVariants.{Recorded, Interval, Joined, Listed, Checked}
+use Rattle.bugnet.specs.declared.answer.Answer.TheVariants.{Recorded, Interval, Joined, Listed, Checked, Agreed}
 
 -- ---- what is loaded
 
@@ -78,6 +78,7 @@ told_of names (Interval r) = told_of_reading names r
 told_of names (Joined r) = joint_with names r.log r.image
 told_of names (Listed d) = list_of d
 told_of names (Checked n) = printed (check_line n)
+told_of names Agreed = printed agree_text
 
 -- an answer that saves nothing
 abbrev pub IsPrinted : Answer → Type 0
@@ -86,6 +87,7 @@ IsPrinted (Interval r) = Unit {0}
 IsPrinted (Joined r) = Unit {0}
 IsPrinted (Listed d) = Unit {0}
 IsPrinted (Checked n) = Unit {0}
+IsPrinted Agreed = Unit {0}
 
 -- what was made of loaded bytes, by what it tells, is what the command has to answer, or memory was wanting
 abbrev pub GivesTo : {A : Type 0} → (A → Told) → FileNames → (Told → Type 0) → Result A Refusal → Type 0

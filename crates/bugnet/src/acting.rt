@@ -12,6 +12,7 @@ ghost use Rattle.bugnet.specs.Run.{call, printing, Tells};
 ghost use Rattle.bugnet.specs.declared.refusal.Refusal.TheVariants.{OutOfMemory};
 
 use crate::answer::{Answer, Reading, Recording};
+use crate::auditing::print_agreement;
 use crate::joining::print_joint;
 use crate::logs::interval_mark;
 use crate::names::{Names, Role};
@@ -221,6 +222,7 @@ pub fn act<S: Store, O: Sink, X: Sink>(
         Answer::Joined(reading) => print_joint(alloc, names, reading, out, err),
         Answer::Listed(log) => print_list(alloc, names, log, out, err),
         Answer::Checked(log) => print_check(alloc, names, log, out, err),
+        Answer::Agreed => print_agreement(alloc, names, out, err),
         Answer::Recorded(recording) => keep(alloc, names, recording, store, out, err),
     }
 }

@@ -84,6 +84,8 @@ pub enum Answer {
     Listed(KeptLog),
     /// What a log has is counted.
     Checked(LogCounts),
+    /// A log is the file of the run of a list of turns.
+    Agreed,
 }
 
 /// The SHA-256 digest (FIPS 180-4).

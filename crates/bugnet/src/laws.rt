@@ -1,12 +1,13 @@
 // What holds of answers.
 ghost use Rattle.bugnet.specs.Debugging.{SessionsShowTheRun, RecordingsCanBeDebugged};
 ghost use Rattle.bugnet.specs.Laws.{OneAnswer, OneSession, SeedsAreWhole, FilesKeepToTheirSize};
+ghost use Rattle.bugnet.specs.Agreements.{AuditsAgree};
 ghost use Rattle.bugnet.specs.Complete.{EachHasAnAnswer, EachCanBeDone};
 ghost use Rattle.bugnet.specs.Headline.{Headline, RecordingsAreReplayed};
 ghost use Rattle.bugnet.specs.Jointly.{JointHeadline, RecordingsCanBeJoined, RecordingsAreJoined};
 
 use file_laws::logs_are_contents;
-use hart_worker::seeded_lists_end;
+use hart_worker::{seeded_lists_end, whole_runs_have_no_error};
 use joint_laws::{
     beginnings_go_on, files_say_the_run_jointly, own_logs_are_logs,
     reached_joint_replays_say_the_run, steps_are_not_refused,
@@ -17,7 +18,7 @@ use log_file::laws::{
 use log_file::readings::files_are_read_or_refused;
 use replay_laws::{the_log_suffices, the_rows_of_an_interval_stand_together};
 use run_laws::{kept_records_are_an_end, own_rows_are_turns, turns_are_lawful, turns_are_own};
-use run_model::format_1_is_version_1;
+use run_model::{format_1_is_version_1, verdicts_are_unique};
 
 /// No words have two answers, whatever the files are; but a recording without a seed has one for each
 /// list of turns, and of a lean one without a seed nothing is said.
@@ -114,6 +115,8 @@ pub fn each_has_an_answer()
 pub fn each_can_be_done()
     ensures { EachCanBeDone }
 {
+    verdicts_are_unique();
+    whole_runs_have_no_error();
     one_answer();
     seeds_are_whole();
     turns_are_lawful();
@@ -125,6 +128,15 @@ pub fn each_can_be_done()
     logs_are_contents();
     format_1_is_version_1();
     files_have_their_size();
+}
+
+/// Where an audit is done, the log is the file of the run of the book's turns, with settings in range, the
+/// program and the input, and these turns are legal and finished.
+pub fn audits_agree()
+    ensures { AuditsAgree }
+{
+    verdicts_are_unique();
+    whole_runs_have_no_error();
 }
 
 /// Of the files that a recording leaves, the replay of each interval whose Header the log keeps prints

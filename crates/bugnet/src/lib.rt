@@ -6,6 +6,7 @@
 
 mod acting;
 mod answer;
+mod auditing;
 mod debugging;
 mod joining;
 mod laws;
@@ -24,8 +25,8 @@ mod texts;
 
 pub use answer::{Answer, Reading, Recording, RunEnd};
 pub use laws::{
-    each_can_be_done, each_has_an_answer, files_keep_to_their_size, headline, joint_headline,
-    one_answer, one_session, recordings_are_joined, recordings_are_replayed,
+    audits_agree, each_can_be_done, each_has_an_answer, files_keep_to_their_size, headline,
+    joint_headline, one_answer, one_session, recordings_are_joined, recordings_are_replayed,
     recordings_can_be_debugged, recordings_can_be_joined, seeds_are_whole, sessions_show_the_run,
 };
 pub use manner::Manner;

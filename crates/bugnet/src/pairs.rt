@@ -41,8 +41,13 @@ fn pair_log(alloc: Global, names: &Names, elf: &[u8], log: KeptLog) -> Result<Jo
     }
 }
 
-// A log file with a program file.
-fn pair_of(alloc: Global, names: &Names, elf: &[u8], log: &[u8]) -> Result<JointReading, Refusal>
+/// A log file with a program file, by their bytes.
+pub fn pair_of(
+    alloc: Global,
+    names: &Names,
+    elf: &[u8],
+    log: &[u8],
+) -> Result<JointReading, Refusal>
     ensures gives { (go : ByPair) → GivesTo (by_reading go) names.now (IsByLog names.now log.now (pair_of go names.now elf.now)) result }
     ensures own { IsOwn result }
 {

@@ -7,6 +7,7 @@ ghost use Rattle.bugnet.specs.Asks.{LineSaves, RecordsRun};
 ghost use Rattle.bugnet.specs.Laws.{IsNoRecording, IsNoSession};
 ghost use Rattle.bugnet.specs.Sessions.{is_begun};
 ghost use Rattle.bugnet.specs.Debugging.{Debugs};
+ghost use Rattle.bugnet.specs.Agreements.{AuditsRun};
 ghost use Rattle.bugnet.specs.Complete.{IsDone};
 ghost use Rattle.bugnet.specs.Headline.{PrintsRun};
 ghost use Rattle.bugnet.specs.Jointly.{PrintsJointly};
@@ -16,11 +17,12 @@ ghost use Rattle.bugnet.specs.Run.{call, TellsAnswer, ByWords, Keeps, ChangesFew
 
 use crate::acting::act;
 use crate::answer::Answer;
+use crate::auditing::audit_files;
 use crate::debugging::debug_files;
 use crate::joining::join_files;
 use crate::laws::{
-    each_can_be_done, files_keep_to_their_size, headline, joint_headline, one_answer, one_session,
-    seeds_are_whole, sessions_show_the_run,
+    audits_agree, each_can_be_done, files_keep_to_their_size, headline, joint_headline, one_answer,
+    one_session, seeds_are_whole, sessions_show_the_run,
 };
 use crate::loading::{check_files, list_files, replay_files};
 use crate::manner::Manner;
@@ -131,7 +133,7 @@ fn answer_to<S: Store, G: Gate, R: Threads + Wait + Sync>(
         Command::Debug { .. } => unreachable!(),
         Command::List { .. } => list_files(alloc, names, store),
         Command::Check { .. } => check_files(alloc, names, store),
-        Command::Audit { .. } => Err(Refusal::WordsRefused),
+        Command::Audit { input, .. } => audit_files(alloc, names, input.is_some(), store),
         Command::Demo { .. } => Err(Refusal::WordsRefused),
     }
 }
@@ -226,6 +228,7 @@ fn obey<S: Store, I: Source, O: Sink, X: Sink, G: Gate, R: Threads + Wait + Sync
 /// | `debug LOG ELF` | steps through what `joint` prints, by commands that it reads from `input`, a line each |
 /// | `list LOG` | prints a line for each interval that the log keeps, in the order of their Headers |
 /// | `check LOG` | prints what the log has |
+/// | `audit LOG ELF BOOK [--input FILE]` | runs the program again by the turns of BOOK, with the settings of the log, and says whether LOG is the file of that run |
 ///
 /// A recording does this, in order: it tests the settings, and that LOG and BOOK are two names, loads
 /// ELF, loads FILE, which else is empty, runs the program, saves the log under LOG and the list of turns
@@ -250,6 +253,8 @@ fn obey<S: Store, I: Source, O: Sink, X: Sink, G: Gate, R: Threads + Wait + Sync
 /// | 13 | writing to out or err failed |
 /// | 14 | the log keeps no such interval |
 /// | 15 | the program doesn't do what the log says, or its Edges wait for each other |
+/// | 16 | the audited LOG isn't the file of the run |
+/// | 17 | BOOK isn't a whole run: a hart isn't live at its turn, or is live after the last |
 /// | 18 | a line of commands has more than 256 bytes, or they have more than 2^24 |
 ///
 /// For each status but 0, 10 and 11 a line on err says more.
@@ -307,6 +312,10 @@ pub fn run<S: Store, I: Source, O: Sink, X: Sink, G: Gate, R: Threads + Wait + S
     ensures first { (is_begun result ≡ true) ⊎ (input.new ≡ input.old) }
     ensures unread { IsNoSession (command_in words.now) → input.new ≡ input.old }
 
+    // Where an audit is done, LOG is the file of the run of BOOK's turns, which are legal and finished, with
+    // settings in range, the program and the input.
+    ensures audited { WithFiles (S.files store.old) (λ files. AuditsRun (command_in words.now) files result) }
+
     // A refusal by the outside comes only where its count rose, and no count falls.
     ensures failed { result ≡ 3 → Rose (S.counts store.old).faults (S.counts store.new).faults }
     ensures missing { result ≡ 4 → Rose (S.counts store.old).misses (S.counts store.new).misses }
@@ -322,6 +331,7 @@ pub fn run<S: Store, I: Source, O: Sink, X: Sink, G: Gate, R: Threads + Wait + S
     joint_headline();
     one_answer();
     each_can_be_done();
+    audits_agree();
     match read_words(alloc, words) {
         Err(WordsError::Refused) => refuse(alloc, &Names::none(), &Refusal::WordsRefused, err),
         Err(WordsError::OutOfMemory) => refuse(alloc, &Names::none(), &Refusal::OutOfMemory, err),

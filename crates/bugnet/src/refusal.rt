@@ -8,6 +8,7 @@ use bn_base::BadSetting;
 use elf_loader::ElfError;
 use hart_replay::ReplayError;
 use log_file::FileError;
+use run_model::TurnError;
 use std::alloc::AllocError;
 
 /// Why a command is refused. An error held in a refusal is never its OutOfMemory.
@@ -43,6 +44,10 @@ pub enum Refusal {
     LineTooLong,
     /// The commands have more than 2^24 bytes.
     CommandsTooLong,
+    /// The list of turns isn't a whole run of the program.
+    BookRefused(TurnError),
+    /// The log isn't the file of the run: they differ first at this byte.
+    FileDiffers { at_byte: u64 },
 }
 
 impl From<AllocError> for Refusal {
@@ -85,6 +90,8 @@ impl Refusal {
             Refusal::ReadFailed => 12,
             Refusal::LineTooLong => 18,
             Refusal::CommandsTooLong => 18,
+            Refusal::BookRefused(_) => 17,
+            Refusal::FileDiffers { .. } => 16,
         }
     }
 }

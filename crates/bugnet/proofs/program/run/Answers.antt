@@ -18,6 +18,7 @@ use Rattle.bugnet.proofs.Tells.{refusal-answers, memory-names, with-any, answers
 use Rattle.bugnet.proofs.Causes.{memory-words}
 use Rattle.bugnet.proofs.Suffices.{prints-run}
 use Rattle.bugnet.proofs.Jointly.{prints-jointly}
+use Rattle.bugnet.proofs.Agrees.{call-audits}
 use Rattle.bugnet.proofs.Complete.{call-done}
 use Rattle.bugnet.specs.Saves.{LeavesRun}
 use Rattle.bugnet.proofs.Leaves.{leaves-none, told-apart}
@@ -193,3 +194,18 @@ returns-in-Ok-clause-session g c =
 
 pub returns-in-Ok-clause-unread : goal.returns-in-Ok-clause-unread
 returns-in-Ok-clause-unread g c = λ no. c.obey.ensures.unread (subst (λ (l : Option Line). IsNoSession l) c.in-Ok.ensures.taken no)
+
+pub returns-in-Err-Refused-clause-audited : goal.returns-in-Err-Refused-clause-audited
+returns-in-Err-Refused-clause-audited g c =
+    let k = call (g.S.Store.files) (g.S.Store.counts) (g.O.Sink.written) (g.O.Sink.faults) (g.X.Sink.written) (g.X.Sink.faults) c.args.store.now c.args.out.now c.args.err.now c.args.store.now c.args.out.now c.refuse.new.err in
+    call-audits c.audits_agree.ensures (command_in c.args.words.now) c.refuse.result k (returns-in-Err-Refused-clause-told g c)
+
+pub returns-in-Err-OutOfMemory-clause-audited : goal.returns-in-Err-OutOfMemory-clause-audited
+returns-in-Err-OutOfMemory-clause-audited g c =
+    let k = call (g.S.Store.files) (g.S.Store.counts) (g.O.Sink.written) (g.O.Sink.faults) (g.X.Sink.written) (g.X.Sink.faults) c.args.store.now c.args.out.now c.args.err.now c.args.store.now c.args.out.now c.refuse-in-Err-OutOfMemory.new.err in
+    call-audits c.audits_agree.ensures (command_in c.args.words.now) c.refuse-in-Err-OutOfMemory.result k (returns-in-Err-OutOfMemory-clause-told g c)
+
+pub returns-in-Ok-clause-audited : goal.returns-in-Ok-clause-audited
+returns-in-Ok-clause-audited g c =
+    let k = call (g.S.Store.files) (g.S.Store.counts) (g.O.Sink.written) (g.O.Sink.faults) (g.X.Sink.written) (g.X.Sink.faults) c.args.store.now c.args.out.now c.args.err.now c.obey.new.store c.obey.new.out c.obey.new.err in
+    call-audits c.audits_agree.ensures (command_in c.args.words.now) c.obey.result k (returns-in-Ok-clause-told g c)
