@@ -1,5 +1,5 @@
 -- What is counted of a demonstration.
-use Rattle.std.proofs.Common.{◌≡◌, ℕ, ◌+◌, ◌-◌, ◌*◌, ◌/◌, ◌≤◌, nat_lt, Bool, true, false, List, [], length, take, drop, Option, Some, None, ◌∙◌, ap, subst, sym, refl, arith}
+use Rattle.std.proofs.Common.{◌≡◌, ℕ, ◌+◌, ◌-◌, ◌*◌, ◌/◌, ◌≤◌, nat_lt, Bool, true, false, List, [], length, take, drop, length-take, Option, Some, None, ◌∙◌, ap, subst, sym, refl, arith}
 use Rattle.std.specs.Prelude.{Ok}
 use Rattle.std.specs.List.{flat_map}
 use Rattle.sha2.specs.Sha256.{sha256}
@@ -18,7 +18,7 @@ use Rattle.file_laws.specs.Laws.{LogsAreContents}
 use Rattle.joint_laws.specs.Recordings.{Recording, IsRecorded, recorded, kept}
 use Rattle.joint_laws.specs.Laws.{OwnLogsAreLogs, RunsToTheEnd}
 use Rattle.demo_run.specs.declared.figures.Figures.{Figures}
-use Rattle.demo_run.specs.Demonstration.{demo, demo_settings, demo_program, demo_elf, demo_turns, demo_log, word_bytes, rows_in, known_words, figures_of}
+use Rattle.demo_run.specs.Demonstration.{demo, demo_settings, demo_program, demo_elf, demo_turns, demo_log, word_bytes, rows_in, known_words, instructions_of, figures_of}
 use Rattle.demo_run.specs.Laws.{DemonstrationsAreRecordings}
 use Rattle.demo_run.specs.Starts.{ComesToEnd, AllComeToEnd, GoesThrough}
 use Rattle.demo_run.proofs.Joins.{eight-each}
@@ -31,7 +31,7 @@ says are law seed = law demo_settings (demo_program seed) (demo_elf seed) [] (de
 -- ---- its replays come to their ends
 
 taken : (n : ℕ) (rs : List Row) → length (take n rs) ≤ n
-taken n rs = ?
+taken n rs = omega (arith, length-take n rs)
 
 one-more : (t : Bool) → (if t then 1 else 0) ≤ 1
 one-more true = omega arith
@@ -79,21 +79,37 @@ words-so seed i d bytes e f h =
 pub count-so : (ms : List (ℕ × ℕ)) (bytes : List ℕ) → bytes ≡ flat_map word_bytes ms → length bytes / 8 ≡ length ms
 count-so ms bytes e = omega (arith, ap (λ (t : List ℕ). length t) e, eight-each ms)
 
-pub figures-so : (seed turns : ℕ) (instructions : ℕ) (n : LogCounts) (rows words : ℕ) (bytes : List ℕ)
-    → turns ≡ (figures_of seed (demo seed)).turns → instructions ≡ (figures_of seed (demo seed)).instructions → n ≡ counts_of (demo_log seed)
-    → rows ≡ (figures_of seed (demo seed)).rows → bytes ≡ flat_map word_bytes (known_words (demo seed)) → words ≡ length (known_words (demo seed))
-    → ◌≡◌ {A = Figures}
-      (record {
-        seed = seed;
-        turns = turns;
-        instructions = instructions;
-        records = n.records;
-        dropped = n.dropped;
-        bytes = n.bytes;
-        intervals = n.intervals;
-        rows = rows;
-        words = words;
-        digest = sha256 bytes;
-      })
-      (figures_of seed (demo seed))
-figures-so seed turns instructions n rows words bytes a b d e f g = ?
+-- figures by their fields
+abbrev figured : (seed turns instructions records dropped bytes intervals rows words : ℕ) → List ℕ → Figures
+figured seed turns instructions records dropped bytes intervals rows words digest = record {
+  seed = seed;
+  turns = turns;
+  instructions = instructions;
+  records = records;
+  dropped = dropped;
+  bytes = bytes;
+  intervals = intervals;
+  rows = rows;
+  words = words;
+  digest = digest;
+}
+
+-- those that were counted, of which a log has these counts
+abbrev pub with_counts : (seed turns instructions : ℕ) → LogCounts → (rows words : ℕ) → List ℕ → Figures
+with_counts seed turns instructions n rows words digest = figured seed turns instructions n.records n.dropped n.bytes n.intervals rows words digest
+
+pub figures-so : (seed turns instructions : ℕ) (n : LogCounts) (rows words : ℕ) (bytes : List ℕ)
+    → turns ≡ length (demo_turns seed) → instructions ≡ instructions_of (demo seed) → n ≡ counts_of (demo_log seed)
+    → rows ≡ rows_in (demo_program seed) (kept (demo seed)) (kept (demo seed)) → words ≡ length (known_words (demo seed)) → bytes ≡ flat_map word_bytes (known_words (demo seed))
+    → with_counts seed turns instructions n rows words (sha256 bytes) ≡ figures_of seed (demo seed)
+figures-so seed turns instructions n rows words bytes a b d e f g =
+    let t = length (demo_turns seed) in
+    let i = instructions_of (demo seed) in
+    let c : LogCounts = counts_of (demo_log seed) in
+    let r = rows_in (demo_program seed) (kept (demo seed)) (kept (demo seed)) in
+    ap (λ (x : ℕ). with_counts seed x instructions n rows words (sha256 bytes)) a
+    ∙ ap (λ (x : ℕ). with_counts seed t x n rows words (sha256 bytes)) b
+    ∙ ap (λ (x : LogCounts). with_counts seed t i x rows words (sha256 bytes)) d
+    ∙ ap (λ (x : ℕ). with_counts seed t i c x words (sha256 bytes)) e
+    ∙ ap (λ (x : ℕ). with_counts seed t i c r x (sha256 bytes)) f
+    ∙ ap (λ (x : List ℕ). with_counts seed t i c r (length (known_words (demo seed))) (sha256 x)) g
