@@ -1,6 +1,7 @@
 -- What is counted of a demonstration.
 use Rattle.std.proofs.Common.{◌≡◌, ℕ, ◌+◌, ◌-◌, ◌*◌, ◌/◌, ◌≤◌, nat_lt, Bool, true, false, List, [], length, take, drop, length-take, Option, Some, None, ◌∙◌, ap, subst, sym, refl, arith}
-use Rattle.std.specs.Prelude.{Ok}
+use Rattle.std.specs.Prelude.{Result, Ok, Err, if◌then◌else◌}
+use Rattle.log_file.specs.declared.error.FileError.{FileError}
 use Rattle.std.specs.List.{flat_map}
 use Rattle.sha2.specs.Sha256.{sha256}
 use Rattle.bn_base.specs.Programs.{Program}
@@ -27,6 +28,13 @@ use Rattle.demo_run.proofs.Whole.{one_format, low_limit}
 -- what the log says is what a log can say
 pub says : DemonstrationsAreRecordings → LogsAreContents → (seed : ℕ) → IsContent (demo_log seed)
 says are law seed = law demo_settings (demo_program seed) (demo_elf seed) [] (demo_turns seed) (are seed)
+
+-- what is counted, where it can't be refused
+pub counted-so : (a b : LogCounts) → ◌≡◌ {A = Result LogCounts FileError} (Ok a) (Ok b) → a ≡ b
+counted-so a b e = ap (λ (r : Result LogCounts FileError). elim r as (λ x. LogCounts) [ Ok n ↦ n | Err f ↦ b ]) e
+
+pub never-refused : (f : FileError) (n : LogCounts) → ◌≡◌ {A = Result LogCounts FileError} (Err f) (Ok n) → ⊥
+never-refused f n e = cc
 
 -- ---- its replays come to their ends
 
@@ -76,8 +84,8 @@ words-so seed i d bytes e f h =
     h ∙ ap (λ (x : Program). flat_map word_bytes (run_all (fresh x d.head.settings.harts d.records)).walk.now.memory) e
     ∙ ap (λ (x : Content). flat_map word_bytes (run_all (fresh (demo_program seed) x.head.settings.harts x.records)).walk.now.memory) f
 
-pub count-so : (ms : List (ℕ × ℕ)) (bytes : List ℕ) → bytes ≡ flat_map word_bytes ms → length bytes / 8 ≡ length ms
-count-so ms bytes e = omega (arith, ap (λ (t : List ℕ). length t) e, eight-each ms)
+pub count-so : (ms : List (ℕ × ℕ)) (bytes : List ℕ) (size : ℕ) → size ≡ length bytes → bytes ≡ flat_map word_bytes ms → size / 8 ≡ length ms
+count-so ms bytes size same e = omega (arith, same, ap (λ (t : List ℕ). length t) e, eight-each ms)
 
 -- figures by their fields
 abbrev figured : (seed turns instructions records dropped bytes intervals rows words : ℕ) → List ℕ → Figures

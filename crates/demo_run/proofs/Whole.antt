@@ -1,9 +1,12 @@
 -- What a demonstration records is a recording.
-use Rattle.std.proofs.Common.{◌≡◌, ℕ, zero, suc, ◌<◌, ◌&&◌, nat_lt, Bool, true, false, List, [], ◌∷◌, ◌++◌, slice_index, refl, ap, subst, sym, arith}
-use Rattle.std.specs.Int.{bytes_low_first}
+use Rattle.std.proofs.Common.{◌≡◌, ℕ, zero, suc, ◌<◌, ◌^◌, ◌&&◌, ◌∙◌, nat_lt, Bool, true, false, List, [], ◌∷◌, ◌++◌, slice_index, refl, ap, subst, sym, arith}
+use Rattle.std.specs.Prelude.{Result, Ok, Err}
+use Rattle.std.specs.Int.{byte_at, bytes_low_first}
 use Rattle.std.specs.List.{list_all, flat_map}
 use Rattle.std.proofs.lemmas.List.Concat.{flat_map-cons}
-use Rattle.bn_base.specs.Ranges.{IsSetting}
+use Rattle.bn_base.specs.Ranges.{IsSetting, checked}
+use Rattle.bn_base.specs.declared.settings.BadSetting.{BadSetting}
+use Rattle.bn_base.specs.declared.settings.RawSettings.{RawSettings}
 use Rattle.le_numbers.specs.Numbers.{number_bytes, AreBytes}
 use Rattle.rv_decode.specs.Encode.{encoded}
 use Rattle.rv_decode.specs.Table.{Instruction}
@@ -53,6 +56,17 @@ pub low_limit : demo_settings.limit < 2 ^ 63
 unfolding demo_settings
 low_limit = omega arith
 
+tested : checked demo_settings ≡ Ok demo_settings
+unfolding demo_settings lib.Count.ones
+tested = refl
+
+-- none of them is out of range
+pub never_bad : (bad : BadSetting) → Err bad ≡ checked demo_settings → ⊥
+never_bad bad e = err_not_ok (e ∙ tested)
+  where
+    err_not_ok : ◌≡◌ {A = Result RawSettings BadSetting} (Err bad) (Ok demo_settings) → ⊥
+    err_not_ok f = cc
+
 -- ---- the program file is bytes
 
 both : (xs ys : List ℕ) → AreBytes xs → AreBytes ys → AreBytes (xs ++ ys)
@@ -60,9 +74,13 @@ both [] ys p q i = q i
 both (x ∷ xs) ys p q zero = p 0
 both (x ∷ xs) ys p q (suc i) = both xs ys (λ j. p (suc j)) q i
 
+byte : (i n : ℕ) → byte_at i n < 256
+byte zero n = omega arith
+byte (suc i) n = omega arith
+
 low_bytes : (i k n : ℕ) → AreBytes (bytes_low_first i k n)
 low_bytes i zero n j = omega arith
-low_bytes i (suc k) n zero = omega arith
+low_bytes i (suc k) n zero = byte i n
 low_bytes i (suc k) n (suc j) = low_bytes (suc i) k n j
 
 word : (n : ℕ) → AreBytes (number_bytes 4 n)

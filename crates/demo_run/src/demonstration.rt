@@ -1,5 +1,6 @@
 // The whole demonstration.
 ghost use Rattle.std.specs.Prelude.{◌≡◌, IfOk};
+ghost use Rattle.log_file.specs.declared.error.FileError.TheVariants.{OutOfMemory};
 ghost use Rattle.log_file.specs.Counts.{counts_of};
 ghost use Rattle.log_file.specs.Layout.{file_bytes};
 ghost use Rattle.demo_run.specs.Demonstration.{demo, demo_log, figures_of, demo_text};
@@ -19,6 +20,16 @@ use rv_text::Text;
 use sha2::{Digest, Sha256};
 use std::alloc::{AllocError, Global};
 
+// The error of a file that is one is want of memory.
+fn wanting(error: FileError) -> AllocError
+    requires { error ≡ OutOfMemory }
+{
+    match error {
+        FileError::OutOfMemory => AllocError,
+        _ => unreachable!(),
+    }
+}
+
 // What the log file says.
 fn read_back(alloc: Global, file: &[u8], seed: u64) -> Result<KeptLog, AllocError>
     requires { file.now ≡ file_bytes (demo_log seed) }
@@ -28,8 +39,7 @@ fn read_back(alloc: Global, file: &[u8], seed: u64) -> Result<KeptLog, AllocErro
     logs_are_contents();
     match read_file(alloc, file) {
         Ok(log) => Ok(log),
-        Err(FileError::OutOfMemory) => Err(AllocError),
-        Err(_) => unreachable!(),
+        Err(error) => Err(wanting(error)),
     }
 }
 
