@@ -1,6 +1,6 @@
 -- The steps of a joint replay that goes through, and the bytes of known words.
-use Rattle.std.proofs.Common.{◌≡◌, ℕ, ◌+◌, ◌*◌, nat_lt, Bool, true, false, List, [], ◌∷◌, ◌++◌, length, length-append, Option, Some, None, ◌∙◌, ap, subst, sym, refl, arith, inl, inr, ◌⊎◌, append_assoc}
-use Rattle.std.specs.Prelude.{Result, Ok, Err}
+use Rattle.std.proofs.Common.{◌≡◌, ℕ, ◌*◌, nat_lt, Bool, true, false, List, [], ◌∷◌, ◌++◌, length, length-append, Some, None, ◌∙◌, ap, sym, refl, arith, inl, inr, append_assoc}
+use Rattle.std.specs.Prelude.{Ok, Err}
 use Rattle.std.specs.List.{flat_map}
 use Rattle.std.proofs.lemmas.List.Concat.{flat_map-cons}
 use Rattle.le_numbers.specs.Numbers.{number_bytes}
@@ -9,7 +9,7 @@ use Rattle.joint_replay.specs.declared.error.JointError.TheVariants.{Replay, Stu
 use Rattle.joint_replay.specs.declared.error.JointError.TheVariants as joint
 use Rattle.joint_replay.specs.Memory.{known_from}
 use Rattle.joint_replay.specs.Joining.{Joining, Ran, begun, ran, run_all}
-use Rattle.joint_replay.specs.Runs.{one_step, Advanced, Advances, IsFirst, RunsGoOn, RunsEnd}
+use Rattle.joint_replay.specs.Runs.{Advances, IsFirst, RunsGoOn, RunsEnd}
 use Rattle.demo_run.specs.Demonstration.{word_bytes}
 
 -- ---- steps

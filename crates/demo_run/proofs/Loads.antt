@@ -1,12 +1,9 @@
 -- Generated programs are loaded: their headers name a segment of code in the file and a page of data, both within memory.
 use Rattle.std.proofs.Common.{◌≡◌, ℕ, ◌==◌, nat_lt, false, not, List, [], ◌∷◌, ◌++◌, length, Option, None, Ok, refl, ap, ◌∙◌}
 use Rattle.std.specs.List.{list_any}
-use Rattle.std.specs.Option.{option_or}
-use Rattle.bn_base.specs.Programs.{Program}
 use Rattle.le_numbers.specs.Numbers.{number_at, number_bytes}
 use Rattle.elf_loader.specs.declared.error.ElfError.{ElfError}
 use Rattle.elf_loader.specs.declared.error.ElfError.TheVariants.{NotElf, Truncated, NotRv32, NotStatic, NeedsCompressed, NeedsE, TooMany, EntryOutside}
-use Rattle.elf_loader.specs.declared.program_header.ProgramHeader.{ProgramHeader}
 use Rattle.elf_loader.specs.Headers as headers_of
 use Rattle.elf_loader.specs.Headers.{table_end, table}
 use Rattle.elf_loader.specs.Segments.{has_flag, segments, file_words}

@@ -1,8 +1,8 @@
 -- What a demonstration records is a recording.
-use Rattle.std.proofs.Common.{◌≡◌, ℕ, zero, suc, ◌<◌, ◌^◌, ◌&&◌, ◌∙◌, nat_lt, Bool, true, false, List, [], ◌∷◌, ◌++◌, slice_index, refl, ap, subst, sym, arith}
+use Rattle.std.proofs.Common.{◌≡◌, ℕ, zero, suc, ◌<◌, ◌^◌, ◌&&◌, ◌∙◌, nat_lt, Bool, true, false, List, [], ◌∷◌, ◌++◌, slice_index, refl, subst, sym, arith}
 use Rattle.std.specs.Prelude.{Result, Ok, Err}
 use Rattle.std.specs.Int.{byte_at, bytes_low_first}
-use Rattle.std.specs.List.{list_all, flat_map}
+use Rattle.std.specs.List.{list_all}
 use Rattle.std.proofs.lemmas.List.Concat.{flat_map-cons}
 use Rattle.bn_base.specs.Ranges.{IsSetting, checked}
 use Rattle.bn_base.specs.declared.settings.BadSetting.{BadSetting}
@@ -15,7 +15,7 @@ use Rattle.guest_gen.specs.declared.kind.Kind.TheVariants.{Loop}
 use Rattle.guest_gen.specs.Code.{code}
 use Rattle.guest_gen.specs.File.{identification, file_header, headers, code_bytes, guest_bytes}
 use Rattle.hart_worker.specs.Laws.{SeededListsEnd}
-use Rattle.demo_run.specs.Demonstration.{demo, demo_settings, demo_program, demo_turns}
+use Rattle.demo_run.specs.Demonstration.{demo_settings, demo_program, demo_turns}
 use Rattle.demo_run.specs.Laws.{GuestsAreLoaded, DemonstrationsAreRecordings}
 
 -- ---- the settings

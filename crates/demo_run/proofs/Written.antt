@@ -1,5 +1,5 @@
 -- The run of a demonstration, as its closed bus has it.
-use Rattle.std.proofs.Common.{◌≡◌, ℕ, Bool, List, [], length, ◌∙◌, ap, arith}
+use Rattle.std.proofs.Common.{◌≡◌, ℕ, Bool, List, length, ◌∙◌, ap, arith}
 use Rattle.std.specs.Prelude.{Option}
 use Rattle.std.specs.List.{flat_map}
 use Rattle.bn_base.specs.Programs.{Program}

@@ -1,6 +1,5 @@
 use Rattle.std.proofs.Common.{◌≡◌, ℕ, List, ◌/◌, ◌∙◌, ap, arith}
 use Rattle.std.specs.List.{flat_map}
-use Rattle.sha2.specs.Sha256.{sha256}
 use Rattle.demo_run.specs.Demonstration.{demo, word_bytes, known_words}
 use Rattle.demo_run.proofs.Shown.{all-come, goes-through, ends-there, goes-there, rows-so, words-so, count-so, with_counts, figures-so}
 use Rattle.demo_run.proofs.demonstration.figures.Goals as goal
@@ -25,7 +24,7 @@ returns c =
     let words : bytes ≡ flat_map word_bytes (known_words (demo seed)) = words-so seed c.in_ok-start.start.image c.in_ok-log.log bytes image log c.in_ok-known.ensures in
     ap (λ (d : List ℕ). with_counts seed recorded.turns recorded.instructions c.counts-counts.result c.in_ok-rows.rows (c.len.result / 8) d) c.digest.ensures
     ∙ figures-so seed recorded.turns recorded.instructions c.counts-counts.result c.in_ok-rows.rows (c.len.result / 8) bytes
-      c.in_ok-recorded.ensures.turns c.in_ok-recorded.ensures.instructions c.counts-counts.ensures
-      (rows-so seed c.in_ok-start.start.image c.in_ok-log.log c.in_ok-rows.rows image log c.in_ok-rows.ensures)
-      (count-so (known_words (demo seed)) bytes c.len.result (omega (arith, c.len.ensures, c.in_ok-known.known.ok)) words)
-      words
+    c.in_ok-recorded.ensures.turns c.in_ok-recorded.ensures.instructions c.counts-counts.ensures
+    (rows-so seed c.in_ok-start.start.image c.in_ok-log.log c.in_ok-rows.rows image log c.in_ok-rows.ensures)
+    (count-so (known_words (demo seed)) bytes c.len.result (omega (arith, c.len.ensures, c.in_ok-known.known.ok)) words)
+    words
