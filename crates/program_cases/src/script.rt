@@ -4,6 +4,7 @@ use crate::runs::Runs;
 use crate::words::{code, number, numbers, words_of};
 use crate::{files, hex};
 use bn_outside::{Gate, ListGate, MeetGate, OpenGate};
+use guest_gen::{Kind, guest};
 use std::alloc::Global;
 use std::sync::Wait;
 use std::thread::Threads;
@@ -28,6 +29,9 @@ fn changed(
     let mut file = machine.file(name)?;
     if verb == "program" {
         return Ok(files::program(alloc, &code(alloc, rest)?)?);
+    }
+    if verb == "guest" {
+        return Ok(guest(alloc, number(rest.first())? as u64, Kind::Crash)?);
     }
     if verb == "bytes" {
         file.extend_from_slice(&hex::bytes(alloc, text)?)?;
@@ -116,6 +120,32 @@ fn typed(alloc: Global, line: &str, words: &[&str]) -> anyhow::Result<Vec<u8>> {
     Ok(keys)
 }
 
+// Runs the program, and prints its status, and of what it wrote to out the last lines alone.
+fn run_last<R: Print + Threads + Wait + Sync>(
+    rt: &R,
+    machine: &mut Machine,
+    line: &str,
+    words: &[&str],
+) -> anyhow::Result<()> {
+    let count = number(words.get(1))?;
+    let status = machine.run(rt, words.get(2..).unwrap_or(&[]), &OpenGate)?;
+    println!(rt; "{line}")?;
+    println!(rt; "status {status}")?;
+    let text = std::str::from_utf8(machine.out.written())?;
+    let lines = text.lines().count();
+    for last in text.lines().skip(lines.saturating_sub(count)) {
+        println!(rt; "{last}")?;
+    }
+    Ok(())
+}
+
+// Prints whether two files have the same bytes.
+fn compare<R: Print>(rt: &R, machine: &Machine, name: &str, other: &str) -> anyhow::Result<()> {
+    let same = machine.file(name)? == machine.file(other)?;
+    println!(rt; "{name} is {other}: {same}")?;
+    Ok(())
+}
+
 // Prints how long a file is, and its bytes where they are to be seen.
 fn show<R: Print>(rt: &R, machine: &Machine, name: &str, whole: bool) -> anyhow::Result<()> {
     match machine.store.bytes(name) {
@@ -170,6 +200,11 @@ impl Case {
             self.machine.keys.extend_from_slice(&keys)?;
         } else if verb == "run" || verb == "run-meet" || verb == "run-listed" {
             run_gated(rt, self.alloc, &mut self.machine, line, words)?;
+        } else if verb == "run-last" {
+            run_last(rt, &mut self.machine, line, words)?;
+        } else if verb == "alike" {
+            let other = words.get(2).copied().unwrap_or("");
+            compare(rt, &self.machine, name, other)?;
         } else if verb == "size" || verb == "show" {
             show(rt, &self.machine, name, verb == "show")?;
         } else {
