@@ -10,7 +10,7 @@ use Rattle.bugnet.specs.Outside.{ToldRefusal, Unsaved, IsPrinted}
 use Rattle.bugnet.specs.Saves.{IsRecorded}
 use Rattle.bugnet.specs.Told.{Saved}
 use Rattle.bugnet.specs.declared.answer.Answer.{Answer}
-use Rattle.bugnet.specs.declared.answer.Answer.TheVariants.{Recorded, Interval, Joined, Listed, Checked, Agreed}
+use Rattle.bugnet.specs.declared.answer.Answer.TheVariants.{Recorded, Interval, Joined, Listed, Checked, Agreed, Demonstrated}
 use Rattle.bugnet.specs.declared.refusal.Refusal.{Refusal}
 use Rattle.bugnet.specs.declared.refusal.Refusal.TheVariants.{WordsRefused, OutOfRange, SameName, StoreFailed, Missing, TooLong, ElfRefused, LogRefused, ProgramDiffers, OutOfMemory, WriteFailed, ReplayStopped, ReadFailed, LineTooLong, CommandsTooLong, BookRefused, FileDiffers}
 use Rattle.bugnet.proofs.Leaves.{told-apart}
@@ -85,6 +85,7 @@ printed (Joined r) status before mid after p same saves = saves ∙ same
 printed (Listed d) status before mid after p same saves = saves ∙ same
 printed (Checked d) status before mid after p same saves = saves ∙ same
 printed Agreed status before mid after p same saves = saves ∙ same
+printed (Demonstrated lines) status before mid after p same saves = saves ∙ same
 
 -- a line whose answer was acted on
 pub line-acts : (line : Line) (answer : Answer) (status before mid after : ℕ) → RecordsRun line answer → (IsNoRecording (Some line) → IsPrinted answer) → mid ≡ before
@@ -95,6 +96,7 @@ line-acts (RecordLine r) (Joined x) status before mid after records prints same 
 line-acts (RecordLine r) (Listed d) status before mid after records prints same saves = absurd records
 line-acts (RecordLine r) (Checked d) status before mid after records prints same saves = absurd records
 line-acts (RecordLine r) Agreed status before mid after records prints same saves = absurd records
+line-acts (RecordLine r) (Demonstrated lines) status before mid after records prints same saves = absurd records
 line-acts (ReplayLine log elf hart interval) answer status before mid after records prints same saves = printed answer status before mid after (prints tt) same saves
 line-acts (JointLine log elf) answer status before mid after records prints same saves = printed answer status before mid after (prints tt) same saves
 line-acts (DebugLine log elf) answer status before mid after records prints same saves = printed answer status before mid after (prints tt) same saves

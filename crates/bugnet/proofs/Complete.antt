@@ -21,7 +21,8 @@ use Rattle.hart_replay.specs.Replay.{Interval}
 use Rattle.run_model.specs.Files.{content_of}
 use Rattle.replay_laws.specs.Law.{LogSuffices}
 use Rattle.bugnet.specs.Names.{FileNames, no_names, name_of}
-use Rattle.bugnet.specs.Told.{Told, refused}
+use Rattle.demo_run.specs.Demonstration.{demo_text}
+use Rattle.bugnet.specs.Told.{Told, refused, printed}
 use Rattle.bugnet.specs.Commands.{is_clash, Either, IsByFile, WithFile, Reads, by_log, IsByLog, list_of, check_of, replay_of, IsReplayOf, IsReplay, IsByInput, IsByProgram, IsByNames, IsBySettings, IsRecord}
 use Rattle.bugnet.specs.Recordings.{end_status, told_run, recorded, AreTaken, IsRunOf, IsUntold, IsRunBy, IsRun}
 use Rattle.run_model.specs.Turn.{Run}
@@ -206,7 +207,7 @@ some-answer laws law (Some (CheckLine log)) files read =
     let names = names_in (CheckLine log) in
     some-file files names role.Log 268500992 (λ log what. IsByLog names log check_of what) (read-there law (files log) _ (λ bytes says reads. some-log names bytes check_of says reads) read)
 some-answer laws law (Some (AuditLine log elf book input)) files read = some-audit law files (names_in (AuditLine log elf book input)) (is_some input) read
-some-answer laws law (Some (DemoLine seed)) files read = (refused no_names WordsRefused, refl)
+some-answer laws law (Some (DemoLine seed)) files read = (printed (demo_text seed), refl)
 
 -- ---- commands that can be done
 
@@ -393,7 +394,7 @@ can-be-done rows one law stand laws audits (CheckLine log) files h =
 can-be-done rows one law stand laws audits (AuditLine log elf book input) files h =
     let l = can-audit laws audits log elf book input files h.0 h.1 in
     only-done one (AuditLine log elf book input) files l.0 (λ a b. tt) l.1 l.2
-can-be-done rows one law stand laws audits (DemoLine seed) files h = absurd h
+can-be-done rows one law stand laws audits (DemoLine seed) files h = only-done one (DemoLine seed) files (printed (demo_text seed)) (λ a b. tt) refl (inl refl)
 
 -- ---- a session
 

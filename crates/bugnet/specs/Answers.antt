@@ -5,7 +5,8 @@ use Rattle.bn_base.specs.declared.settings.BadSetting.{BadSetting}
 use Rattle.bn_outside.specs.Files.{Files}
 use Rattle.command_words.specs.Words.{Line, RecordingLine, RecordLine, ReplayLine, JointLine, DebugLine, ListLine, CheckLine, AuditLine, DemoLine}
 use Rattle.bugnet.specs.Names.{FileNames, no_names}
-use Rattle.bugnet.specs.Told.{Told, refused}
+use Rattle.demo_run.specs.Demonstration.{demo_text}
+use Rattle.bugnet.specs.Told.{Told, refused, printed}
 use Rattle.bugnet.specs.Commands.{is_clash, IsRecord, IsReplay, IsList, IsCheck}
 use Rattle.bugnet.specs.declared.manner.Manner.{Manner}
 use Rattle.bugnet.specs.Joined.{IsJoint}
@@ -50,7 +51,7 @@ refusal_in (DebugLine log elf) = None
 refusal_in (ListLine log) = None
 refusal_in (CheckLine log) = None
 refusal_in (AuditLine log elf book input) = None
-refusal_in (DemoLine seed) = Some WordsRefused
+refusal_in (DemoLine seed) = None
 
 abbrev pub refusal_by : Option Line → Option Refusal
 refusal_by None = Some WordsRefused
@@ -66,4 +67,4 @@ IsAnswer (Some (DebugLine log elf)) files what = IsDebug files (names_in (DebugL
 IsAnswer (Some (ListLine log)) files what = IsList files (names_in (ListLine log)) what
 IsAnswer (Some (CheckLine log)) files what = IsCheck files (names_in (CheckLine log)) what
 IsAnswer (Some (AuditLine log elf book input)) files what = IsAudit files (names_in (AuditLine log elf book input)) (is_some input) what
-IsAnswer (Some (DemoLine seed)) files what = what ≡ refused no_names WordsRefused
+IsAnswer (Some (DemoLine seed)) files what = what ≡ printed (demo_text seed)

@@ -5,7 +5,7 @@ use Rattle.command_words.specs.Words.{Line, RecordLine, ReplayLine, JointLine, D
 use Rattle.bugnet.specs.Saves.{IsRecorded}
 use Rattle.bugnet.specs.declared.answer.Answer.{Answer}
 use Rattle.bugnet.specs.declared.answer.Recording.{Recording}
-use Rattle.bugnet.specs.declared.answer.Answer.TheVariants.{Recorded, Interval, Joined, Listed, Checked, Agreed}
+use Rattle.bugnet.specs.declared.answer.Answer.TheVariants.{Recorded, Interval, Joined, Listed, Checked, Agreed, Demonstrated}
 
 -- a recording saves two files; a lean one saves one
 abbrev pub saves_after : (lean : Bool) → ℕ → ℕ
@@ -38,6 +38,7 @@ AnswerSaves (Joined r) status before after = after ≡ before
 AnswerSaves (Listed d) status before after = after ≡ before
 AnswerSaves (Checked d) status before after = after ≡ before
 AnswerSaves Agreed status before after = after ≡ before
+AnswerSaves (Demonstrated lines) status before after = after ≡ before
 
 -- what a command saves
 abbrev pub LineSaves : Option Line → (status before after : ℕ) → Type 0
@@ -59,6 +60,7 @@ IsRecordedRun lean (Joined r) = ⊥
 IsRecordedRun lean (Listed d) = ⊥
 IsRecordedRun lean (Checked d) = ⊥
 IsRecordedRun lean Agreed = ⊥
+IsRecordedRun lean (Demonstrated lines) = ⊥
 
 -- the answer to a line that records is a recording
 abbrev pub RecordsRun : Line → Answer → Type 0

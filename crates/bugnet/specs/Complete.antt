@@ -79,7 +79,7 @@ CanDo (DebugLine log elf) files = ⊥
 CanDo (ListLine log) files = HasLog (files log)
 CanDo (CheckLine log) files = HasLog (files log)
 CanDo (AuditLine log elf book input) files = (a : Agrees log elf book input files) × AreBytes a.bytes
-CanDo (DemoLine seed) files = ⊥
+CanDo (DemoLine seed) files = Unit {0}
 
 -- what a line that can be done needs for an answer: a program file that is bytes
 abbrev pub HasElfBytes : Line → Files → Type 0

@@ -30,7 +30,7 @@ use Rattle.bugnet.specs.declared.refusal.Refusal.TheVariants as why
 use Rattle.bugnet.specs.declared.answer.Answer.{Answer}
 use Rattle.bugnet.specs.declared.answer.Reading.{Reading}
 use Rattle.bugnet.specs.declared.answer.Recording.{Recording}
-use Rattle.bugnet.specs.declared.answer.Answer.TheVariants.{Recorded, Interval, Joined, Listed, Checked, Agreed}
+use Rattle.bugnet.specs.declared.answer.Answer.TheVariants.{Recorded, Interval, Joined, Listed, Checked, Agreed, Demonstrated}
 
 -- ---- what is loaded
 
@@ -79,6 +79,7 @@ told_of names (Joined r) = joint_with names r.log r.image
 told_of names (Listed d) = list_of d
 told_of names (Checked n) = printed (check_line n)
 told_of names Agreed = printed agree_text
+told_of names (Demonstrated lines) = printed lines
 
 -- an answer that saves nothing
 abbrev pub IsPrinted : Answer → Type 0
@@ -88,6 +89,7 @@ IsPrinted (Joined r) = Unit {0}
 IsPrinted (Listed d) = Unit {0}
 IsPrinted (Checked n) = Unit {0}
 IsPrinted Agreed = Unit {0}
+IsPrinted (Demonstrated lines) = Unit {0}
 
 -- what was made of loaded bytes, by what it tells, is what the command has to answer, or memory was wanting
 abbrev pub GivesTo : {A : Type 0} → (A → Told) → FileNames → (Told → Type 0) → Result A Refusal → Type 0

@@ -13,6 +13,7 @@ ghost use Rattle.bugnet.specs.declared.refusal.Refusal.TheVariants.{OutOfMemory}
 
 use crate::answer::{Answer, Reading, Recording};
 use crate::auditing::print_agreement;
+use crate::demonstrating::print_lines;
 use crate::joining::print_joint;
 use crate::logs::interval_mark;
 use crate::names::{Names, Role};
@@ -223,6 +224,7 @@ pub fn act<S: Store, O: Sink, X: Sink>(
         Answer::Listed(log) => print_list(alloc, names, log, out, err),
         Answer::Checked(log) => print_check(alloc, names, log, out, err),
         Answer::Agreed => print_agreement(alloc, names, out, err),
+        Answer::Demonstrated(lines) => print_lines(alloc, names, lines, out, err),
         Answer::Recorded(recording) => keep(alloc, names, recording, store, out, err),
     }
 }

@@ -12,6 +12,7 @@ use bn_base::{Image, Settings};
 use elf_loader::{ElfError, load};
 use log_file::{FileError, LogCounts, count_file, read_file};
 use log_order::KeptLog;
+use rv_text::Text;
 use sha2::{Digest, Sha256};
 use std::alloc::Global;
 
@@ -86,6 +87,8 @@ pub enum Answer {
     Checked(LogCounts),
     /// A log is the file of the run of a list of turns.
     Agreed,
+    /// The lines of a demonstration.
+    Demonstrated(Text),
 }
 
 /// The SHA-256 digest (FIPS 180-4).

@@ -8,6 +8,7 @@ mod acting;
 mod answer;
 mod auditing;
 mod debugging;
+mod demonstrating;
 mod joining;
 mod laws;
 mod lines;

@@ -19,6 +19,7 @@ use crate::acting::act;
 use crate::answer::Answer;
 use crate::auditing::audit_files;
 use crate::debugging::debug_files;
+use crate::demonstrating::demonstrate;
 use crate::joining::join_files;
 use crate::laws::{
     audits_agree, each_can_be_done, files_keep_to_their_size, headline, joint_headline, one_answer,
@@ -134,7 +135,7 @@ fn answer_to<S: Store, G: Gate, R: Threads + Wait + Sync>(
         Command::List { .. } => list_files(alloc, names, store),
         Command::Check { .. } => check_files(alloc, names, store),
         Command::Audit { input, .. } => audit_files(alloc, names, input.is_some(), store),
-        Command::Demo { .. } => Err(Refusal::WordsRefused),
+        Command::Demo { seed } => demonstrate(alloc, names, *seed),
     }
 }
 
