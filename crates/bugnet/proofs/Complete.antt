@@ -18,7 +18,7 @@ use Rattle.log_file.specs.Readings.{AreReadOrRefused}
 use Rattle.log_file.specs.declared.error.FileError.TheVariants as file
 use Rattle.log_file.specs.declared.error.FileError.{FileError}
 use Rattle.hart_replay.specs.Replay.{Interval}
-use Rattle.run_model.specs.Files.{content_of}
+use Rattle.run_model.specs.Files.{file_of, content_of}
 use Rattle.replay_laws.specs.Law.{LogSuffices}
 use Rattle.bugnet.specs.Names.{FileNames, no_names, name_of}
 use Rattle.demo_run.specs.Demonstration.{demo_text}
@@ -41,6 +41,7 @@ use Rattle.run_model.specs.declared.verdict.Verdict.{Verdict}
 use Rattle.run_model.specs.declared.verdict.Verdict.TheVariants.{Agree}
 use Rattle.bus_core.specs.Bus.{Began}
 use Rattle.le_numbers.specs.Numbers.{AreBytes}
+use Rattle.std.specs.Str.{bytes_eq}
 use Rattle.std.proofs.lemmas.Slice.Eq.{bytes_eq-Decides}
 use Rattle.bugnet.proofs.Agrees.{AuditLaws}
 use Rattle.bugnet.specs.Headline.{Part, ReplaysRun}
@@ -199,7 +200,7 @@ some-answer laws law (Some (DebugLine log elf)) files read =
     let names = names_in (DebugLine log elf) in
     let none : Commands = record { bytes = []; failed = false } in
     let some = some-pair law (debug_with names none) files names read in
-    (some.0, none, some.1)
+    (some.0, (none, some.1))
 some-answer laws law (Some (ListLine log)) files read =
     let names = names_in (ListLine log) in
     some-file files names role.Log 268500992 (λ log what. IsByLog names log list_of what) (read-there law (files log) _ (λ bytes says reads. some-log names bytes list_of says reads) read)
