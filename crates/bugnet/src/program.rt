@@ -230,6 +230,7 @@ fn obey<S: Store, I: Source, O: Sink, X: Sink, G: Gate, R: Threads + Wait + Sync
 /// | `list LOG` | prints a line for each interval that the log keeps, in the order of their Headers |
 /// | `check LOG` | prints what the log has |
 /// | `audit LOG ELF BOOK [--input FILE]` | runs the program again by the turns of BOOK, with the settings of the log, and says whether LOG is the file of that run |
+/// | `demo SEED` | records a generated program, reads its log back, replays all that it keeps, and prints what was counted |
 ///
 /// A recording does this, in order: it tests the settings, and that LOG and BOOK are two names, loads
 /// ELF, loads FILE, which else is empty, runs the program, saves the log under LOG and the list of turns
