@@ -31,6 +31,7 @@ use Rattle.bugnet.specs.Joined.{joint_status}
 use Rattle.bugnet.specs.Answers.{names_in, names_by, IsAnswer}
 use Rattle.bugnet.specs.Debugging.{ShowsRun, SessionsShowTheRun, session_of, HasRun, DoneSession, ShowsSession, RecordingsCanBeDebugged, DebugsFiles}
 use Rattle.bugnet.specs.Debugging.{Debugs as DebugsLine}
+use Rattle.bugnet.specs.Laws.{IsNoSession}
 use Rattle.bugnet.specs.Outside.{WithFiles, SendStops, ToldRefusal, Wrote, SameFiles, IsEarly, GivesOf, RefusalCause}
 use Rattle.bugnet.specs.Run.{Call, printing, IsFree, AreKept, SomeTold, Tells, StoppedBy, StoppedEarly, TellsAnswer}
 use Rattle.bugnet.specs.Sessions.{Commands, cut, input_in, NoQuit, EndsWithQuit, AreRead, stop_status, stop_line, session_status, session_line, session_told, debug_with, IsSession, IsDebug, is_begun}
@@ -282,25 +283,34 @@ stop-writes j names e status gone left now_left before now written now_written b
 
 pub pair-done : {O X : Type 0} (names : FileNames) (first j : Joining) (u : Unit {0}) (left now_left : Option (List ℕ)) (before now : ℕ) (out : O → Option (List ℕ)) (out_faults : O → ℕ) (err : X → Option (List ℕ)) (err_faults : X → ℕ)
     (o : O) (e : X) (p : O) → j ≡ first → Debugged j left now_left before now (out o) (out p) (out_faults o) (out_faults p) (Ok u) → DebugsPair names first 0 left now_left before now out out_faults err err_faults o e p e
-pair-done names first j u left now_left before now out out_faults err err_faults o e p same d =
-    (record { bytes = d.gone; failed = false }, done-read j u left now_left before now (out o) (out p) (out_faults o) (out_faults p) d, λ files had.
-    subst (λ (x : Joining). Tells names (session_told names (transcript x (input_of d.gone))) 0 (printing files had out out_faults err err_faults o e p e)) same
-    (done-told names (transcript j (input_of d.gone)) (printing files had out out_faults err err_faults o e p e) d.done.0 d.done.1 (appends-nothing (err e)) (untouched files)))
+pair-done names first j u left now_left before now out out_faults err err_faults o e p same d = (
+  record { bytes = d.gone; failed = false },
+  done-read j u left now_left before now (out o) (out p) (out_faults o) (out_faults p) d,
+  λ files had.
+      subst (λ (x : Joining). Tells names (session_told names (transcript x (input_of d.gone))) 0 (printing files had out out_faults err err_faults o e p e)) same
+      (done-told names (transcript j (input_of d.gone)) (printing files had out out_faults err err_faults o e p e) d.done.0 d.done.1 (appends-nothing (err e)) (untouched files)),
+)
 
 pub pair-stopped : {O X : Type 0} (names : FileNames) (first j : Joining) (why : DebugError) (status : ℕ) (left now_left : Option (List ℕ)) (before now : ℕ) (out : O → Option (List ℕ)) (out_faults : O → ℕ) (err : X → Option (List ℕ)) (err_faults : X → ℕ)
     (o : O) (e : X) (p : O) (f : X) → j ≡ first → Debugged j left now_left before now (out o) (out p) (out_faults o) (out_faults p) (Err why) → ToldStop names why status (err e) (err f) (err_faults e) (err_faults f)
     → DebugsPair names first status left now_left before now out out_faults err err_faults o e p f
-pair-stopped names first j why status left now_left before now out out_faults err err_faults o e p f same d told =
-    (commands_of d.gone why, stop-read j why status d.gone left now_left before now (out o) (out p) (out_faults o) (out_faults p) d.taken d.done (status-of names why status (err e) (err f) (err_faults e) (err_faults f) told), λ files had.
-    subst (λ (x : Joining). Tells names (session_told names (transcript x (input_in (commands_of d.gone why)))) status (printing files had out out_faults err err_faults o e p f)) same
-    (stop-told names j why status d.gone left now_left before now (printing files had out out_faults err err_faults o e p f) d.done (untouched files) told))
+pair-stopped names first j why status left now_left before now out out_faults err err_faults o e p f same d told = (
+  commands_of d.gone why,
+  stop-read j why status d.gone left now_left before now (out o) (out p) (out_faults o) (out_faults p) d.taken d.done (status-of names why status (err e) (err f) (err_faults e) (err_faults f) told),
+  λ files had.
+      subst (λ (x : Joining). Tells names (session_told names (transcript x (input_in (commands_of d.gone why)))) status (printing files had out out_faults err err_faults o e p f)) same
+      (stop-told names j why status d.gone left now_left before now (printing files had out out_faults err err_faults o e p f) d.done (untouched files) told),
+)
 
 pub pair-unbegun : {O X : Type 0} (names : FileNames) (j : Joining) (status : ℕ) (left : Option (List ℕ)) (faults : ℕ) (out : O → Option (List ℕ)) (out_faults : O → ℕ) (err : X → Option (List ℕ)) (err_faults : X → ℕ)
     (o : O) (e : X) (f : X) → ToldRefusal names why.OutOfMemory status (err e) (err f) (err_faults e) (err_faults f) → DebugsPair names j status left left faults faults out out_faults err err_faults o e o f
 pair-unbegun names j status left faults out out_faults err err_faults o e f told =
-    let nine = memory-status names status (err e) (err f) (err_faults e) (err_faults f) told in
-    (no_commands, none-read status left faults (λ x. omega (arith, x, nine)) (λ x. omega (arith, x, nine)), λ files had.
-    unbegun-told names j status (printing files had out out_faults err err_faults o e o f) refl (untouched files) told)
+    let nine = memory-status names status (err e) (err f) (err_faults e) (err_faults f) told in (
+      no_commands,
+      none-read status left faults (λ x. omega (arith, x, nine)) (λ x. omega (arith, x, nine)),
+      λ files had.
+          unbegun-told names j status (printing files had out out_faults err err_faults o e o f) refl (untouched files) told,
+    )
 
 -- ---- by names
 
@@ -351,30 +361,20 @@ named-made names c reading known status k e is told =
 -- ---- a recording
 
 -- no bytes are refused as a joint replay is
+fed : (b : Bool) (x y : Input) (e : JointError) → x.refused ≢ Some (stop.Joint e) → y.refused ≢ Some (stop.Joint e) → (elim b as (λ z. Input) [ true ↦ x | false ↦ y ]).refused ≢ Some (stop.Joint e)
+fed true x y e p q = p
+fed false x y e p q = q
+
 own-refusal : (count : ℕ) (line bytes : List ℕ) (e : JointError) → (input_from count line bytes).refused ≢ Some (stop.Joint e)
 own-refusal count line [] e f = absurd cc
-own-refusal count line (byte ∷ bytes) e f = over (is_over line byte) f
-  where
-    fed : (b : Bool) → (elim b as (λ y. Input) [ true ↦ with_line line (input_from (count + 1) [] bytes) | false ↦ input_from (count + 1) (line ++ byte ∷ []) bytes ]).refused ≢ Some (stop.Joint e)
-    fed true g = own-refusal (count + 1) [] bytes e g
-    fed false g = own-refusal (count + 1) (line ++ byte ∷ []) bytes e g
-
-    many : (b : Bool) → (elim b as (λ y. Input) [
-      | false ↦ ends_in line (Some (stop.TooMuch (count + 1)))
-      | true ↦ elim (is_line_feed byte) as (λ y. Input) [ true ↦ with_line line (input_from (count + 1) [] bytes) | false ↦ input_from (count + 1) (line ++ byte ∷ []) bytes ]
-    ]).refused ≢ Some (stop.Joint e)
-    many false g = absurd cc
-    many true g = fed (is_line_feed byte) g
-
-    over : (b : Bool) → (elim b as (λ y. Input) [
-      | true ↦ ends_in line (Some (stop.LineTooLong (length line + 1)))
-      | false ↦ elim (nat_lt count input_limit) as (λ y. Input) [
-        | false ↦ ends_in line (Some (stop.TooMuch (count + 1)))
-        | true ↦ elim (is_line_feed byte) as (λ y. Input) [ true ↦ with_line line (input_from (count + 1) [] bytes) | false ↦ input_from (count + 1) (line ++ byte ∷ []) bytes ]
-      ]
-    ]).refused ≢ Some (stop.Joint e)
-    over true g = absurd cc
-    over false g = many (nat_lt count input_limit) g
+own-refusal count line (byte ∷ bytes) e f =
+    let next : Input = with_line line (input_from (count + 1) [] bytes) in
+    let more : Input = input_from (count + 1) (line ++ byte ∷ []) bytes in
+    let read : Input = elim (is_line_feed byte) as (λ z. Input) [ true ↦ next | false ↦ more ] in
+    let kept : Input = elim (nat_lt count input_limit) as (λ z. Input) [ true ↦ read | false ↦ ends_in line (Some (stop.TooMuch (count + 1))) ] in
+    fed (is_over line byte) (ends_in line (Some (stop.LineTooLong (length line + 1)))) kept e (λ g. absurd cc)
+    (fed (nat_lt count input_limit) read (ends_in line (Some (stop.TooMuch (count + 1)))) e
+    (fed (is_line_feed byte) next more e (own-refusal (count + 1) [] bytes e) (own-refusal (count + 1) (line ++ byte ∷ []) bytes e)) (λ g. absurd cc)) f
 
 cut-refusal : (failed : Bool) (i : Input) (e : JointError) → i.refused ≢ Some (stop.Joint e) → (cut failed i).refused ≢ Some (stop.Joint e)
 cut-refusal true i e h f = absurd cc
@@ -466,6 +466,29 @@ answers-so names log elf status left now_left before now k e h =
         → SomeTold (IsAnswer (Some (DebugLine log elf)) files) (λ what. Tells (names_in (DebugLine log elf)) what status k) ⊎ StoppedEarly (Some (DebugLine log elf)) files status k
     so files (inl a) = inl (a.0, (h.0, a.1), a.2)
     so files (inr early) = inr early
+
+-- of a line that is a session
+pub debugs-any : Grammar → FileLaws → SessionsShowTheRun → (line : Line) (names : FileNames) (status : ℕ) (left now_left : Option (List ℕ)) (before now : ℕ) (k : Call) → (IsNoSession (Some line) → ⊥) → names ≡ names_in line
+    → DebugsNamed names status left now_left before now k → DebugsLine (Some line) status left now_left before now k
+debugs-any g laws show (DebugLine log elf) names status left now_left before now k is e h = debugs-so g laws show names log elf status left now_left before now k e h
+debugs-any g laws show (RecordLine r) names status left now_left before now k is e h = tt
+debugs-any g laws show (ReplayLine log elf hart interval) names status left now_left before now k is e h = tt
+debugs-any g laws show (JointLine log elf) names status left now_left before now k is e h = tt
+debugs-any g laws show (ListLine log) names status left now_left before now k is e h = tt
+debugs-any g laws show (CheckLine log) names status left now_left before now k is e h = tt
+debugs-any g laws show (AuditLine log elf book input) names status left now_left before now k is e h = tt
+debugs-any g laws show (DemoLine seed) names status left now_left before now k is e h = tt
+
+pub answers-any : (line : Line) (names : FileNames) (status : ℕ) (left now_left : Option (List ℕ)) (before now : ℕ) (k : Call) → (IsNoSession (Some line) → ⊥) → names ≡ names_in line
+    → DebugsNamed names status left now_left before now k → TellsAnswer (Some line) status k
+answers-any (DebugLine log elf) names status left now_left before now k is e h = answers-so names log elf status left now_left before now k e h
+answers-any (RecordLine r) names status left now_left before now k is e h = absurd (is tt)
+answers-any (ReplayLine log elf hart interval) names status left now_left before now k is e h = absurd (is tt)
+answers-any (JointLine log elf) names status left now_left before now k is e h = absurd (is tt)
+answers-any (ListLine log) names status left now_left before now k is e h = absurd (is tt)
+answers-any (CheckLine log) names status left now_left before now k is e h = absurd (is tt)
+answers-any (AuditLine log elf book input) names status left now_left before now k is e h = absurd (is tt)
+answers-any (DemoLine seed) names status left now_left before now k is e h = absurd (is tt)
 
 -- there was no memory for the words
 pub debugs-early : (line : Option Line) (status : ℕ) (left : Option (List ℕ)) (faults : ℕ) (k : Call) → Appends k.old.out k.new.out [] → k.new.files ≡ k.old.files

@@ -23,7 +23,7 @@ use crate::demonstrating::demonstrate;
 use crate::joining::join_files;
 use crate::laws::{
     audits_agree, each_can_be_done, files_keep_to_their_size, headline, joint_headline, one_answer,
-    one_session, seeds_are_whole, sessions_show_the_run,
+    seeds_are_whole, sessions_show_the_run,
 };
 use crate::loading::{check_files, list_files, replay_files};
 use crate::manner::Manner;
@@ -34,7 +34,9 @@ use crate::refusal::Refusal;
 use bn_outside::{Gate, Sink, Source, Store};
 use command_words::{Command, Recording, WordsError, read_words};
 use file_laws::logs_are_contents;
-use log_file::laws::files_have_their_size;
+use log_file::laws::{
+    files_have_their_size, files_say_one_thing, logs_are_not_refused, refusals_are_unique,
+};
 use run_model::format_1_is_version_1;
 use std::alloc::Global;
 use std::sync::Wait;
@@ -206,7 +208,9 @@ fn obey<S: Store, I: Source, O: Sink, X: Sink, G: Gate, R: Threads + Wait + Sync
     ensures long { result ≡ 5 → Rose (S.counts store.old).longs (S.counts store.new).longs }
     ensures write { result ≡ 13 → Rose (O.faults out.old) (O.faults out.new) ⊎ Rose (X.faults err.old) (X.faults err.new) }
 {
-    one_session();
+    files_say_one_thing();
+    logs_are_not_refused();
+    refusals_are_unique();
     sessions_show_the_run();
     logs_are_contents();
     format_1_is_version_1();

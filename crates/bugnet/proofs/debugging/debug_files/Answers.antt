@@ -1,4 +1,4 @@
-use Rattle.std.proofs.Common.{◌≡◌, refl, arith, inl, inr, sym, subst, ap, ◌∙◌, absurd}
+use Rattle.std.proofs.Common.{◌≡◌, refl, arith, inl, inr, sym, subst, ap, ◌∙◌}
 use Rattle.bugnet.specs.Names.{FileNames}
 use Rattle.bugnet.specs.Run.{call}
 use Rattle.bugnet.specs.Sessions.{debug_with}
