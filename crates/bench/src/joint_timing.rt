@@ -1,10 +1,10 @@
 // The joint replay: rows per second of one, two, four and eight harts, beside single replays of the
-// same intervals, and beside the debugger that takes all its steps.
+// same intervals, and beside the debugger that takes all its steps; each in processor time.
 ghost use Rattle.std.specs.Prelude.{◌≡◌, ◌<◌, IfSome, length};
 ghost use Rattle.joint_replay.specs.declared.kinds.Readiness.TheVariants.{Ready};
 ghost use Rattle.joint_replay.specs.Joining.{readiness};
 
-use crate::rate::{micros_since, rate_of};
+use crate::rate::{rate_of, spent_micros};
 use crate::replay_timing::next_sum;
 use bn_base::{HartId, Image, RawSettings, Settings};
 use bn_outside::{LeanBook, MemorySink, MemorySource};
@@ -19,7 +19,6 @@ use log_record::{Head, Record};
 use log_ring::Ring;
 use run_model::Start;
 use std::alloc::{AllocError, Global};
-use std::time::Instant;
 use step_debugger::debug;
 
 // So many rows in so many microseconds.
@@ -112,11 +111,11 @@ fn time_joint(rt: &HostRuntime, image: &Image, log: &KeptLog) -> anyhow::Result<
     let Ok(mut joint) = Joint::begin(rt.alloc(), image, log) else {
         anyhow::bail!("not enough memory");
     };
-    let clock = Instant::now(rt)?;
+    let before = spent_micros(rt);
     let rows = step_all(&mut joint, u64::MAX)?;
     Ok(Spent {
         rows,
-        micros: micros_since(rt, clock)?,
+        micros: spent_micros(rt).saturating_sub(before),
     })
 }
 
@@ -141,11 +140,11 @@ fn time_interval(
     interval: u64,
 ) -> anyhow::Result<Spent> {
     let mut replayer = Replayer::begin(rt.alloc(), image, log, u64::from(hart), interval)?;
-    let clock = Instant::now(rt)?;
+    let before = spent_micros(rt);
     let rows = rows_of(&mut replayer)?;
     Ok(Spent {
         rows,
-        micros: micros_since(rt, clock)?,
+        micros: spent_micros(rt).saturating_sub(before),
     })
 }
 
@@ -179,9 +178,9 @@ fn time_debugger(rt: &HostRuntime, image: &Image, log: &KeptLog) -> anyhow::Resu
     let Ok(mut joint) = Joint::begin(rt.alloc(), image, log) else {
         anyhow::bail!("not enough memory");
     };
-    let clock = Instant::now(rt)?;
+    let before = spent_micros(rt);
     debug_all(rt.alloc(), &mut joint)?;
-    micros_since(rt, clock)
+    Ok(spent_micros(rt).saturating_sub(before))
 }
 
 // Prints how many rows a second came in each way.
