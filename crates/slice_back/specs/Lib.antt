@@ -1,5 +1,9 @@
 pub mod Uses
 pub mod Needs
+pub mod FirstLoads
 pub mod Slices
+pub mod Sets
+pub mod Passes
+pub mod Tracing
 pub mod Texts
 pub mod Examples

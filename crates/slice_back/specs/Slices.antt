@@ -82,27 +82,42 @@ in_slice e later = is_last later || gives (live later) e.row
 
 -- ---- its four lists, of rows up to the given one
 
+-- a row before others, if it is chosen
+abbrev pub row_if : Bool → Row → List Row → List Row
+row_if true r rs = r ∷ rs
+row_if false r rs = rs
+
 abbrev pub slice_rows : List Noted → List Row
 slice_rows [] = []
-slice_rows (e ∷ later) = elim (in_slice e later) [ true ↦ e.row ∷ slice_rows later | false ↦ slice_rows later ]
+slice_rows (e ∷ later) = row_if (in_slice e later) e.row (slice_rows later)
 
 -- the rows of branches that aren't in it
 abbrev pub slice_branches : List Noted → List Row
 slice_branches [] = []
-slice_branches (e ∷ later) = elim (not (in_slice e later) && is_branch e.row) [ true ↦ e.row ∷ slice_branches later | false ↦ slice_branches later ]
+slice_branches (e ∷ later) = row_if (not (in_slice e later) && is_branch e.row) e.row (slice_branches later)
 
--- whether the first load that a row takes, of the word at a, is for a row of the slice
-abbrev pub is_taken : ℕ → Noted → List Noted → Bool
-is_taken a e later = in_slice e later || (not (stores_word a e.row) && (live later).words a)
+-- the word at a with the value of the first load, if it is wanted
+abbrev pub wanted : Bool → ℕ → ℕ → Option (ℕ × ℕ)
+wanted true a v = Some (a, v)
+wanted false a v = None
 
-abbrev pub taken_word : Option ℕ → Option ℕ → Noted → List Noted → List (ℕ × ℕ × ℕ) → List (ℕ × ℕ × ℕ)
-taken_word (Some a) (Some v) e later more = elim (is_taken a e later) [ true ↦ (e.row.ic, a, v) ∷ more | false ↦ more ]
-taken_word o p e later more = more
+-- the word that a row takes from the log for a row of the slice: for itself, or for a later one, which has it unless this row
+-- stores it
+abbrev pub taken : Bool → Live → Noted → Option (ℕ × ℕ)
+taken chosen l e = elim (used_word e.row) [
+  | None ↦ None
+  | Some a ↦ elim (e.first_load) [ None ↦ None | Some v ↦ wanted (chosen || (not (stores_word a e.row) && l.words a)) a v ]
+]
+
+-- a word with a count before others, if there is one
+abbrev pub word_if : ℕ → Option (ℕ × ℕ) → List (ℕ × ℕ × ℕ) → List (ℕ × ℕ × ℕ)
+word_if ic None more = more
+word_if ic (Some w) more = (ic, w.0, w.1) ∷ more
 
 -- the words that its rows have as taken, each with the count of the row that takes it
 abbrev pub slice_words : List Noted → List (ℕ × ℕ × ℕ)
 slice_words [] = []
-slice_words (e ∷ later) = taken_word (used_word e.row) e.first_load e later (slice_words later)
+slice_words (e ∷ later) = word_if e.row.ic (taken (in_slice e later) (live later) e) (slice_words later)
 
 -- the registers from q on, n of them, that its rows use and no row before them wrote, with their contents x at the start
 abbrev pub registers_from : List ℕ → (ℕ → Bool) → ℕ → ℕ → List (ℕ × ℕ)

@@ -4,8 +4,13 @@
 
 mod error;
 mod examples;
+mod first_loads;
+mod live_set;
 mod noted;
 mod slice;
+mod slicing;
+mod trace;
+mod uses;
 
 pub use error::SliceError;
 pub use noted::Noted;
