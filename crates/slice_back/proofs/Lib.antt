@@ -1,3 +1,4 @@
 mod Worked
 mod Loads
 mod Traces
+mod Backs

@@ -4,7 +4,7 @@ use Rattle.bn_base.specs.Programs.{Program}
 use Rattle.bn_base.specs.declared.row.Row.{Row}
 use Rattle.log_record.specs.declared.record.Record.{Record}
 use Rattle.log_record.specs.declared.record.Record.TheVariants.{Header, FirstLoad, End}
-use Rattle.slice_back.specs.declared.slice.Slice.{Slice}
+use Rattle.slice_back.specs.declared.lists.Slice.{Slice}
 use Rattle.slice_back.specs.declared.error.SliceError.{SliceError}
 use Rattle.slice_back.specs.Slices.{sliced}
 use Rattle.slice_back.specs.Texts.{slice_text}

@@ -6,7 +6,7 @@ use Rattle.log_record.specs.declared.record.Record.{Record}
 use Rattle.hart_replay.specs.Replay.{Replayed, Outcome, Done, Refused, Interval, interval_of, replayed}
 use Rattle.hart_replay.specs.Scans.{Pending, due, met}
 use Rattle.slice_back.specs.declared.noted.Noted.{Noted}
-use Rattle.slice_back.specs.declared.slice.Slice.{Slice}
+use Rattle.slice_back.specs.declared.lists.Slice.{Slice}
 use Rattle.slice_back.specs.declared.error.SliceError.{SliceError}
 use Rattle.slice_back.specs.declared.error.SliceError.TheVariants.{Replay, NoRow}
 use Rattle.slice_back.specs.Uses.{uses_register, writes_register, used_word, uses_word, stores_word, takes_word, is_branch, word_of, is_of}
@@ -119,10 +119,15 @@ abbrev pub slice_words : List Noted → List (ℕ × ℕ × ℕ)
 slice_words [] = []
 slice_words (e ∷ later) = word_if e.row.ic (taken (in_slice e later) (live later) e) (slice_words later)
 
+-- a register before others, if it is chosen
+abbrev pub register_if : Bool → ℕ × ℕ → List (ℕ × ℕ) → List (ℕ × ℕ)
+register_if true r rs = r ∷ rs
+register_if false r rs = rs
+
 -- the registers from q on, n of them, that its rows use and no row before them wrote, with their contents x at the start
-abbrev pub registers_from : List ℕ → (ℕ → Bool) → ℕ → ℕ → List (ℕ × ℕ)
+unfoldable pub registers_from : List ℕ → (ℕ → Bool) → ℕ → ℕ → List (ℕ × ℕ)
 registers_from x used q zero = []
-registers_from x used q (suc n) = elim (used q) [ true ↦ (q, slice_index x q) ∷ registers_from x used (q + 1) n | false ↦ registers_from x used (q + 1) n ]
+registers_from x used q (suc n) = register_if (used q) (q, slice_index x q) (registers_from x used (q + 1) n)
 
 abbrev pub slice_regs : List ℕ → List Noted → List (ℕ × ℕ)
 slice_regs x es = registers_from x (live es).registers 0 32

@@ -5,7 +5,7 @@ use Rattle.bn_base.specs.declared.row.Row.{Row}
 use Rattle.rv_text.specs.Names.{register_name}
 use Rattle.rv_text.specs.Instructions.{hex8}
 use Rattle.rv_text.specs.Rows.{row_text}
-use Rattle.slice_back.specs.declared.slice.Slice.{Slice}
+use Rattle.slice_back.specs.declared.lists.Slice.{Slice}
 
 -- the first line: the hart, and the count of the row
 unfoldable pub head_text : ℕ → ℕ → List ℕ

@@ -2,16 +2,18 @@
 //! before.
 #![tactic(auto)]
 
+mod back;
 mod error;
 mod examples;
 mod first_loads;
+mod lists;
 mod live_set;
 mod noted;
-mod slice;
 mod slicing;
 mod trace;
 mod uses;
 
 pub use error::SliceError;
 pub use noted::Noted;
-pub use slice::Slice;
+pub use back::slice;
+pub use lists::Slice;

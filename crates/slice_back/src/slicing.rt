@@ -1,14 +1,14 @@
 //! The pass back over the rows up to a given one.
-ghost use Rattle.std.specs.Prelude.{◌≡◌, ◌∷◌, ◌%◌, ◌&&◌, ◌||◌, [], List, not, reverse, OnOk, IfOk};
+ghost use Rattle.std.specs.Prelude.{◌≡◌, ◌∷◌, ◌%◌, ◌&&◌, ◌||◌, ◌++◌, ℕ, [], List, slice_index, not, reverse, OnOk, IfOk};
 ghost use Rattle.slice_back.specs.declared.noted.Noted.{Noted as NotedOf};
 ghost use Rattle.slice_back.specs.Uses.{is_branch, stores_word};
-ghost use Rattle.slice_back.specs.Slices.{Live, in_slice, is_last, taken, word_if, row_if, registers_from, slice_of};
+ghost use Rattle.slice_back.specs.Slices.{Live, in_slice, is_last, taken, word_if, row_if, register_if, registers_from, slice_of};
 ghost use Rattle.slice_back.specs.Sets.{Holds, has_register};
 ghost use Rattle.slice_back.specs.Passes.{Tells};
 
 use crate::live_set::LiveSet;
 use crate::noted::Noted;
-use crate::slice::Slice;
+use crate::lists::Slice;
 use crate::uses::{is_branch, used_word, word_of};
 use bn_base::{Addr, Ic, List as ListOf, Register, Registers, Row};
 use std::alloc::{AllocError, Global};
@@ -129,7 +129,7 @@ impl Slicing {
 
     // The lists, the oldest row first.
     fn into_slice(self, regs: Vec<(Register, u32)>) -> Slice
-        ensures { result ≡ record { rows = reverse self.entry.rows.items; regs = regs.entry.items; words = reverse self.entry.words.items; branches = reverse self.entry.branches.items } }
+        ensures { result ≡ record { rows = reverse self.rows.items; regs = regs.items; words = reverse self.words.items; branches = reverse self.branches.items } }
     {
         let mut rows = self.rows;
         let mut words = self.words;
@@ -146,6 +146,21 @@ impl Slicing {
     }
 }
 
+// Adds a register with its contents, if the set has it.
+fn push_register(
+    regs: &mut Vec<(Register, u32)>,
+    set: &LiveSet,
+    x: &Registers,
+    register: Register,
+) -> Result<(), AllocError>
+    ensures { OnOk result ((more : List (ℕ × ℕ)) → regs.new.items ++ more ≡ regs.old.items ++ register_if (has_register set.now register) (register, slice_index x.now register) more) }
+{
+    if set.has_register(register) {
+        regs.push((register, x.get(register)))?;
+    }
+    Ok(())
+}
+
 // The registers of a set, with their contents.
 fn contents(
     alloc: Global,
@@ -156,15 +171,13 @@ fn contents(
 {
     let mut regs = Vec::new(alloc);
     for number in 0..32u8 {
-        let register = Register::new(number);
-        if set.has_register(register) {
-            regs.push((register, x.get(register)))?;
-        }
+        push_register(&mut regs, set, x, Register::new(number))?;
     }
     Ok(regs)
 }
 
 /// The slice of the last of some rows, by the registers before the first.
+#[tactic(auto, using(crate::proofs::Backs::sliced_back))]
 pub(crate) fn slice_of(
     alloc: Global,
     x: &Registers,
