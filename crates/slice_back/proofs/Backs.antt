@@ -23,7 +23,7 @@ tells-more t u es passed e less at tells step =
     let next : suc (length es - 1 - passed) ≡ length es - passed = omega (arith, less) in
     let count : length later ≡ passed = omega (arith, less, length-drop (length es - passed) es) in
     let parts : drop (length es - (passed + 1)) es ≡ e ∷ later =
-        ap (λ n. drop n es) first ∙ drop-cons es (length es - 1 - passed) e (omega (arith, less)) ∙ ap (λ x. x ∷ drop (suc (length es - 1 - passed)) es) at ∙ ap (λ n. e ∷ drop n es) next in
+    ap (λ n. drop n es) first ∙ drop-cons es (length es - 1 - passed) e (omega (arith, less)) ∙ ap (λ x. x ∷ drop (suc (length es - 1 - passed)) es) at ∙ ap (λ n. e ∷ drop n es) next in
     subst (λ (xs : List Noted). Tells u xs) (sym parts) (step later (last_is later ∙ ap (λ n. n == 0) count) tells)
 
 pub tells-all : (t : Slicing) (es : List Noted) (passed : ℕ) → length es ≤ passed → Tells t (drop (length es - passed) es) → Tells t es

@@ -2,3 +2,7 @@ mod Worked
 mod Loads
 mod Traces
 mod Backs
+mod Bools
+mod Least
+mod LeastSteps
+mod LeastLaws

@@ -2,6 +2,7 @@ pub mod Uses
 pub mod Needs
 pub mod FirstLoads
 pub mod Slices
+pub mod Laws
 pub mod Answers
 pub mod Sets
 pub mod Passes

@@ -11,9 +11,7 @@ pub enum SliceError {
     Replay(ReplayError),
     /// The interval has no row of this count.
     #[error("no row {ic}")]
-    NoRow {
-        ic: Ic,
-    },
+    NoRow { ic: Ic },
     /// Not enough memory.
     #[error("out of memory")]
     OutOfMemory,

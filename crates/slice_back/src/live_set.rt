@@ -158,7 +158,13 @@ impl LiveSet {
                     self.words.forget(word);
                     Ok(())
                 }
-                None => { if chosen { self.words.put(word, 0) } else { Ok(()) } }
+                None => {
+                    if chosen {
+                        self.words.put(word, 0)
+                    } else {
+                        Ok(())
+                    }
+                }
             },
         }
     }

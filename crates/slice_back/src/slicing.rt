@@ -6,9 +6,9 @@ ghost use Rattle.slice_back.specs.Slices.{Live, in_slice, is_last, taken, word_i
 ghost use Rattle.slice_back.specs.Sets.{Holds, has_register};
 ghost use Rattle.slice_back.specs.Passes.{Tells};
 
+use crate::lists::Slice;
 use crate::live_set::LiveSet;
 use crate::noted::Noted;
-use crate::lists::Slice;
 use crate::uses::{is_branch, used_word, word_of};
 use bn_base::{Addr, Ic, List as ListOf, Register, Registers, Row};
 use std::alloc::{AllocError, Global};
@@ -162,11 +162,7 @@ fn push_register(
 }
 
 // The registers of a set, with their contents.
-fn contents(
-    alloc: Global,
-    set: &LiveSet,
-    x: &Registers,
-) -> Result<Vec<(Register, u32)>, AllocError>
+fn contents(alloc: Global, set: &LiveSet, x: &Registers) -> Result<Vec<(Register, u32)>, AllocError>
     ensures { IfOk result (λ regs. regs.items ≡ registers_from x.now (has_register set.now) 0 32) }
 {
     let mut regs = Vec::new(alloc);
@@ -178,11 +174,7 @@ fn contents(
 
 /// The slice of the last of some rows, by the registers before the first.
 #[tactic(auto, using(crate::proofs::Backs::sliced_back))]
-pub(crate) fn slice_of(
-    alloc: Global,
-    x: &Registers,
-    noted: &[Noted],
-) -> Result<Slice, AllocError>
+pub(crate) fn slice_of(alloc: Global, x: &Registers, noted: &[Noted]) -> Result<Slice, AllocError>
     ensures { IfOk result (λ s. s ≡ slice_of x.now noted.now) }
 {
     let slicing = Slicing::over(alloc, noted)?;

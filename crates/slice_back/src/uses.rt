@@ -68,7 +68,13 @@ pub(crate) fn used_word(row: &Row) -> Option<Addr>
 {
     match row.load {
         Some((addr, _)) => Some(addr / 4 * 4),
-        None => { if stores_part(row.word) { word_of(row.store) } else { None } }
+        None => {
+            if stores_part(row.word) {
+                word_of(row.store)
+            } else {
+                None
+            }
+        }
     }
 }
 
