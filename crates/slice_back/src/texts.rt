@@ -1,5 +1,5 @@
 //! The lines of a slice.
-ghost use Rattle.std.specs.Prelude.{◌≡◌, ◌++◌, codes, OnOk, OnErr};
+ghost use Rattle.std.specs.Prelude.{◌≡◌, ◌++◌, codes, decimal, OnOk, OnErr};
 ghost use Rattle.rv_text.specs.Instructions.{hex8};
 ghost use Rattle.rv_text.specs.Texts.{BeginsWith};
 ghost use Rattle.slice_back.specs.Texts.{head_text, register_line, word_line, branch_line};
@@ -64,7 +64,7 @@ pub fn write_register(register: Register, value: u32, text: &mut Text) -> Result
 
 // A word, its address and its contents.
 fn write_contents(addr: Addr, word: u32, text: &mut Text) -> Result<(), AllocError>
-    ensures ok { OnOk result (text.new ≡ text.old ++ hex8 addr ++ codes "=" ++ hex8 word ++ codes "\n") }
+    ensures ok { OnOk result (text.new ≡ text.old ++ (hex8 addr ++ codes "=" ++ hex8 word ++ codes "\n")) }
     ensures begins { BeginsWith text.old text.new }
 {
     text.push_hex8(addr)?;
@@ -73,15 +73,23 @@ fn write_contents(addr: Addr, word: u32, text: &mut Text) -> Result<(), AllocErr
     text.push_str("\n")
 }
 
+// The word for what was there before, and the count of the row that took it.
+fn write_taker(ic: Ic, text: &mut Text) -> Result<(), AllocError>
+    ensures ok { OnOk result (text.new ≡ text.old ++ (codes "in " ++ decimal ic ++ codes " ")) }
+    ensures begins { BeginsWith text.old text.new }
+{
+    text.push_str("in ")?;
+    text.push_decimal(ic)?;
+    text.push_str(" ")
+}
+
 // The line of a word, which may stop in the middle.
 #[tactic(auto, unfolding(crate::specs::Texts::word_line))]
 fn write_word_parts(ic: Ic, addr: Addr, word: u32, text: &mut Text) -> Result<(), AllocError>
     ensures ok { OnOk result (text.new ≡ text.old ++ word_line (ic, addr, word)) }
     ensures begins { BeginsWith text.old text.new }
 {
-    text.push_str("in ")?;
-    text.push_decimal(ic)?;
-    text.push_str(" ")?;
+    write_taker(ic, text)?;
     write_contents(addr, word, text)
 }
 
