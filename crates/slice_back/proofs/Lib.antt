@@ -6,3 +6,9 @@ mod Bools
 mod Least
 mod LeastSteps
 mod LeastLaws
+mod Meanings
+mod Fields
+mod Turns
+mod Places
+mod Facts
+mod Afters

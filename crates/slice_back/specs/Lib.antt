@@ -3,6 +3,7 @@ pub mod Needs
 pub mod FirstLoads
 pub mod Slices
 pub mod Laws
+pub mod Agreeing
 pub mod Answers
 pub mod Sets
 pub mod Passes

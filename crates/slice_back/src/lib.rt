@@ -17,7 +17,7 @@ mod uses;
 
 pub use back::slice;
 pub use error::SliceError;
-pub use laws::slices_are_least;
+pub use laws::{slices_are_least, slices_suffice};
 pub use lists::Slice;
 pub use noted::Noted;
 pub use texts::{write_branch, write_head, write_register, write_word};
