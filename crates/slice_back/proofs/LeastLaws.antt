@@ -41,10 +41,10 @@ registers_before es n q count =
 -- ---- words
 
 -- what a taken word says
-record Says (l : Live) (c : Bool) (e : Noted) (a v : ℕ) : Type 0 where
-  used : uses_word a e.row ≡ true
-  first : e.first_load ≡ Some v
-  wants : (c || (not (stores_word a e.row) && l.words a)) ≡ true
+pub record Says (l : Live) (c : Bool) (e : Noted) (a v : ℕ) : Type 0 where
+  pub used : uses_word a e.row ≡ true
+  pub first : e.first_load ≡ Some v
+  pub wants : (c || (not (stores_word a e.row) && l.words a)) ≡ true
 
 wanted_is : (b : Bool) (c d a v : ℕ) → wanted b c d ≡ Some (a, v) → (b ≡ true) × (c ≡ a) × (d ≡ v)
 wanted_is true c d a v h = let p : ◌≡◌ {A = ℕ × ℕ} (c, d) (a, v) = cc in (refl, ap (λ (x : ℕ × ℕ). x.0) p, ap (λ (x : ℕ × ℕ). x.1) p)
@@ -68,7 +68,7 @@ taken_says c l e a v h = by (used_word e.row) (e.first_load) refl refl h
           wants = subst (λ (k : ℕ). (c || (not (stores_word k e.row) && l.words k)) ≡ true) is.1 is.0;
         }
 
-says_taken : (c : Bool) (l : Live) (e : Noted) (a v : ℕ) → Says l c e a v → taken c l e ≡ Some (a, v)
+pub says_taken : (c : Bool) (l : Live) (e : Noted) (a v : ℕ) → Says l c e a v → taken c l e ≡ Some (a, v)
 says_taken c l e a v s = by (used_word e.row) (e.first_load) refl refl
   where
     by : (o p : Option ℕ) → used_word e.row ≡ o → e.first_load ≡ p → (elim o as (λ x. Option (ℕ × ℕ)) [ None ↦ None | Some b ↦ elim p as (λ x. Option (ℕ × ℕ)) [ None ↦ None | Some w ↦ wanted (c || (not (stores_word b e.row) && l.words b)) b w ] ]) ≡ Some (a, v)

@@ -12,3 +12,5 @@ mod Turns
 mod Places
 mod Facts
 mod Afters
+mod Pairs
+mod Twins

@@ -85,7 +85,7 @@ TurnTo i h v p (On q) = (row : Row) × (q.rows ≡ row ∷ p.rows) × Turn i h v
 TurnTo i h v p (Stop o) = Unit {0}
 
 -- a store of a word leaves its value
-whole : (a w y x : ℕ) → (w == 4) ≡ true → stored_word a w y x ≡ y
+pub whole : (a w y x : ℕ) → (w == 4) ≡ true → stored_word a w y x ≡ y
 whole a w y x e = subst (λ (n : ℕ). stored_word a n y x ≡ y) (sym (same_number w 4 e)) refl
 
 no_more : (n : ℕ) → n ≡ n + 0
