@@ -14,3 +14,4 @@ mod Facts
 mod Afters
 mod Pairs
 mod Twins
+mod TwinSteps

@@ -25,7 +25,7 @@ use Rattle.slice_back.proofs.Afters.{used_by}
 
 -- ---- one instruction in two states
 
-pub code_as : (i : Program) (s : HartState) (d : Instruction) → instruction_in (code_at i s.pc) ≡ Some d → Code i s
+abbrev pub code_as : (i : Program) (s : HartState) (d : Instruction) → instruction_in (code_at i s.pc) ≡ Some d → Code i s
 code_as i s d e = let f = subst (λ (o : Option Instruction). StepShape o s (step i s)) e (step_shape i s) in record { code = d; is = e; none = f.0; form = f.1 }
 
 step_means : (i : Program) (s : HartState) (d : Instruction) → instruction_in (code_at i s.pc) ≡ Some d → step i s ≡ meaning d.name i d s

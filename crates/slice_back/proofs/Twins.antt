@@ -44,7 +44,7 @@ pub record Agreeing (l : Live) (p q : Position) : Type 0 where
 -- ---- one side
 
 -- the word that a row loads
-loaded : (i : Program) (h : ℕ) (v : Interval) (p q : Position) (pend : Pending) (row : Row) (b x : ℕ) → Side i h v p q pend row → row.load ≡ Some (b, x) → Source (note pend row).first_load p.rows (aligned b) x
+pub loaded : (i : Program) (h : ℕ) (v : Interval) (p q : Position) (pend : Pending) (row : Row) (b x : ℕ) → Side i h v p q pend row → row.load ≡ Some (b, x) → Source (note pend row).first_load p.rows (aligned b) x
 loaded i h v p q pend row b x s e = by s.turn
   where
     uses : used_word row ≡ Some (aligned b)
@@ -73,7 +73,7 @@ loaded i h v p q pend row b x s e = by s.turn
     by (asked k c y f a u r w n) = by_ask k c y a r w
 
 -- a row that takes no first load of a word leaves what the rows know of it, unless it stores it
-kept : (i : Program) (h : ℕ) (v : Interval) (p q : Position) (pend : Pending) (row : Row) (a : ℕ) → Side i h v p q pend row → takes_word a (note pend row) ≡ false → at_address a row.load (known a p.rows) ≡ known a p.rows
+pub kept : (i : Program) (h : ℕ) (v : Interval) (p q : Position) (pend : Pending) (row : Row) (a : ℕ) → Side i h v p q pend row → takes_word a (note pend row) ≡ false → at_address a row.load (known a p.rows) ≡ known a p.rows
 kept i h v p q pend row a s n = by row.load refl
   where
     by : (o : Option (ℕ × ℕ)) → row.load ≡ o → at_address a o (known a p.rows) ≡ known a p.rows
@@ -92,7 +92,7 @@ kept i h v p q pend row a s n = by row.load refl
         ]
 
 -- a row that takes one and doesn't store the word has its value
-taken_now : (i : Program) (h : ℕ) (v : Interval) (p q : Position) (pend : Pending) (row : Row) (a x : ℕ) → Side i h v p q pend row → takes_word a (note pend row) ≡ true → stores_word a row ≡ false → (note pend row).first_load ≡ Some x
+pub taken_now : (i : Program) (h : ℕ) (v : Interval) (p q : Position) (pend : Pending) (row : Row) (a x : ℕ) → Side i h v p q pend row → takes_word a (note pend row) ≡ true → stores_word a row ≡ false → (note pend row).first_load ≡ Some x
     → at_address a row.load (known a p.rows) ≡ Some x
 taken_now i h v p q pend row a x s t n f = by row.load refl (and_right (took (note pend row).first_load) (uses_word a row) t)
   where
@@ -130,7 +130,7 @@ takes_by_word a e = by e.first_load
 pub takes_alike : (e f : Noted) (a : ℕ) → AreAlike e f → takes_word a e ≡ takes_word a f
 takes_alike e f a h = takes_by_word a e ∙ ap (λ o. is_word a o) h.took ∙ sym (takes_by_word a f)
 
-over_store : (a : ℕ) (o : Option (ℕ × ℕ)) (r s : Option ℕ) → is_word a (word_of o) ≡ true → at_address a o r ≡ at_address a o s
+pub over_store : (a : ℕ) (o : Option (ℕ × ℕ)) (r s : Option ℕ) → is_word a (word_of o) ≡ true → at_address a o r ≡ at_address a o s
 over_store a None r s t = absurd cc
 over_store a (Some z) r s t =
     let same : a ≡ aligned z.0 = same_number a (aligned z.0) t in
@@ -144,6 +144,6 @@ flip a b h = by (b == a) refl
     by false e = refl
     by true e = sym (equal_numbers a) ∙ ap (λ k. a == k) (sym (same_number b a e)) ∙ h
 
-past_store : (a : ℕ) (o : Option (ℕ × ℕ)) (r : Option ℕ) → is_word a (word_of o) ≡ false → at_address a o r ≡ r
+pub past_store : (a : ℕ) (o : Option (ℕ × ℕ)) (r : Option ℕ) → is_word a (word_of o) ≡ false → at_address a o r ≡ r
 past_store a None r t = refl
 past_store a (Some z) r t = ap (λ b. elim b as (λ y. Option ℕ) [ true ↦ Some z.1 | false ↦ r ]) (flip a (aligned z.0) t)
