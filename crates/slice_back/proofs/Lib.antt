@@ -15,3 +15,4 @@ mod Afters
 mod Pairs
 mod Twins
 mod TwinSteps
+mod RowsOn
