@@ -16,3 +16,5 @@ mod Pairs
 mod Twins
 mod TwinSteps
 mod RowsOn
+mod Matching
+mod Sufficing
