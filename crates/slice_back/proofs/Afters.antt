@@ -19,7 +19,7 @@ use Rattle.hart_replay.specs.Replay.{Interval, Position, logged, or_else, word_f
 use Rattle.hart_replay.specs.Sides.{call_reg, call_answer}
 use Rattle.hart_replay.specs.Scans.{Pending, due}
 use Rattle.slice_back.specs.declared.noted.Noted.{Noted}
-use Rattle.slice_back.specs.Uses.{is_call, is_part_store, stores_part, is_of, word_of, used_word}
+use Rattle.slice_back.specs.Uses.{is_call, is_part_store, stores_part, part_stored, is_of, word_of, used_word}
 use Rattle.slice_back.specs.Slices.{note}
 use Rattle.slice_back.proofs.Meanings.{Changed, AskShape, Shape}
 use Rattle.slice_back.proofs.Turns.{IsAsk, reply_for, asked_row, count_of, WordOf, Turn}
@@ -101,7 +101,7 @@ used_by (System n args) = None
 used_by Cut = None
 used_by (Faulted f y) = None
 
-no_store : (b : Bool) → (elim b as (λ x. Option ℕ) [ true ↦ word_of None | false ↦ None ]) ≡ None
+pub no_store : (b : Bool) → part_stored b None ≡ None
 no_store true = refl
 no_store false = refl
 

@@ -52,7 +52,7 @@ used_same i p o e l d agree word pc one two is = record {
   pc = pc;
   zero_same = agree.zero_same;
   read = λ q n r. agree.registers q (or_first (true && uses_register q e.row) (not (writes_register q e.row) && l.registers q)
-    (both true (uses_register q e.row) refl (both (not (q == 0)) (reads q (instruction_in e.row.word)) (not_false (q == 0) n) (ap (λ k. reads q k) (ap instruction_in word ∙ is) ∙ r))));
+      (both true (uses_register q e.row) refl (both (not (q == 0)) (reads q (instruction_in e.row.word)) (not_false (q == 0) n) (ap (λ k. reads q k) (ap instruction_in word ∙ is) ∙ r))));
   count = one ∙ sym two;
 }
 
@@ -138,18 +138,18 @@ match_faults i h g v w p o pend rest e f later laters k j y z s a b n c d = reco
   takes = λ m. takes_alike e f m s.alike.0;
   writes = λ l. absurd (let t : true ≡ false = sym (ap is_last n) ∙ l in cc);
   rows = λ t. (
-    let one : e.row ≡ fault_row h i p.state k y = ap (λ (x : Noted). x.row) b in
-    let two : f.row ≡ fault_row g i o.state j z = ap (λ (x : Noted). x.row) d in
-    let pc : p.state.pc ≡ o.state.pc = sym (ap (λ (x : Row). x.pc) one) ∙ s.alike.0.pc ∙ ap (λ (x : Row). x.pc) two in
-    let word : e.row.word ≡ code_at i p.state.pc = ap (λ (x : Row). x.word) one in
-    let there : step i o.state ≡ Asks (Faulted k y) = fault_there i p.state o.state k y pc
-        (λ m is. used_same i p o e (live []) m (last_live e later p o n s.agree) word pc s.count s.other_count is) a in
-    let same : Asks (Faulted k y) ≡ Asks (Faulted j z) = sym there ∙ c in
-    let kinds : ◌≡◌ {A = Want} (Faulted k y) (Faulted j z) = cc in
-    let kind : k ≡ j = cc in
-    let value : y ≡ z = cc in
-    bare_same e.row f.row s.alike.0.pc s.alike.0.word (ap (λ (x : Row). x.reg) one ∙ sym (ap (λ (x : Row). x.reg) two)) (ap (λ (x : Row). x.load) one ∙ sym (ap (λ (x : Row). x.load) two))
-    (ap (λ (x : Row). x.store) one ∙ sym (ap (λ (x : Row). x.store) two)) (ap (λ (x : Row). x.fault) one ∙ ap (λ (x : Fault). Some (x, y)) kind ∙ ap (λ (x : ℕ). Some (j, x)) value ∙ sym (ap (λ (x : Row). x.fault) two)));
+      let one : e.row ≡ fault_row h i p.state k y = ap (λ (x : Noted). x.row) b in
+      let two : f.row ≡ fault_row g i o.state j z = ap (λ (x : Noted). x.row) d in
+      let pc : p.state.pc ≡ o.state.pc = sym (ap (λ (x : Row). x.pc) one) ∙ s.alike.0.pc ∙ ap (λ (x : Row). x.pc) two in
+      let word : e.row.word ≡ code_at i p.state.pc = ap (λ (x : Row). x.word) one in
+      let there : step i o.state ≡ Asks (Faulted k y) = fault_there i p.state o.state k y pc
+      (λ m is. used_same i p o e (live []) m (last_live e later p o n s.agree) word pc s.count s.other_count is) a in
+      let same : Asks (Faulted k y) ≡ Asks (Faulted j z) = sym there ∙ c in
+      let kinds : ◌≡◌ {A = Want} (Faulted k y) (Faulted j z) = cc in
+      let kind : k ≡ j = cc in
+      let value : y ≡ z = cc in
+      bare_same e.row f.row s.alike.0.pc s.alike.0.word (ap (λ (x : Row). x.reg) one ∙ sym (ap (λ (x : Row). x.reg) two)) (ap (λ (x : Row). x.load) one ∙ sym (ap (λ (x : Row). x.load) two))
+      (ap (λ (x : Row). x.store) one ∙ sym (ap (λ (x : Row). x.store) two)) (ap (λ (x : Row). x.fault) one ∙ ap (λ (x : Fault). Some (x, y)) kind ∙ ap (λ (x : ℕ). Some (j, x)) value ∙ sym (ap (λ (x : Row). x.fault) two)));
 }
 
 -- one faults, and its twin would go on
@@ -176,23 +176,24 @@ both_go : (i : Program) (h g : ℕ) (v w : Interval) (p q o u : Position) (pend 
     → Turn i h v p q row → q.rows ≡ row ∷ p.rows → Turn i g w o u other → u.rows ≡ other ∷ o.rows
     → Match (note pend row) (note rest other) later × Alongside v w q u (passed pend row) (passed rest other) later laters
 both_go i h g v w p q o u pend rest row other later laters s a b c d = (
-    record {
-      stores = λ m. stores_alike (note pend row) (note rest other) m s.alike.0;
-      takes = λ m. takes_alike (note pend row) (note rest other) m s.alike.0;
-      writes = λ n r. twin_writes twin r;
-      rows = λ t. twin_chosen i h g v w p q o u pend rest row other twin (live later) (in_slice (note pend row) later) t s.agree s.words.0;
-    },
-    record {
-      linked = linked_next v pend p.loads row (used_word row) q.loads s.linked refl (row_loads i h v p q row (code_of i h v p q row a) a);
-      other_linked = linked_next w rest o.loads other (used_word other) u.loads s.other_linked refl (row_loads i g w o u other (code_of i g w o u other c) c);
-      count = row_count i h v p q row (code_of i h v p q row a) a ∙ s.count;
-      other_count = row_count i g w o u other (code_of i g w o u other c) c ∙ s.other_count;
-      alike = s.alike.1;
-      words = s.words.1;
-      reason = s.reason;
-      value = s.value;
-      agree = twin_next i h g v w p q o u pend rest row other twin (live later) (in_slice (note pend row) later) (λ y. or_second (is_last later) (gives (live later) row) y) s.agree s.words.0;
-    })
+  record {
+    stores = λ m. stores_alike (note pend row) (note rest other) m s.alike.0;
+    takes = λ m. takes_alike (note pend row) (note rest other) m s.alike.0;
+    writes = λ n r. twin_writes twin r;
+    rows = λ t. twin_chosen i h g v w p q o u pend rest row other twin (live later) (in_slice (note pend row) later) t s.agree s.words.0;
+  },
+  record {
+    linked = linked_next v pend p.loads row (used_word row) q.loads s.linked refl (row_loads i h v p q row (code_of i h v p q row a) a);
+    other_linked = linked_next w rest o.loads other (used_word other) u.loads s.other_linked refl (row_loads i g w o u other (code_of i g w o u other c) c);
+    count = row_count i h v p q row (code_of i h v p q row a) a ∙ s.count;
+    other_count = row_count i g w o u other (code_of i g w o u other c) c ∙ s.other_count;
+    alike = s.alike.1;
+    words = s.words.1;
+    reason = s.reason;
+    value = s.value;
+    agree = twin_next i h g v w p q o u pend rest row other twin (live later) (in_slice (note pend row) later) (λ y. or_second (is_last later) (gives (live later) row) y) s.agree s.words.0;
+  },
+)
   where
     twin : Twin i h g v w p q o u pend rest row other
     twin = record {
@@ -221,7 +222,7 @@ matched i h g v w n m p o pend rest (e ∷ later) (f ∷ laters) more others a b
         → Alongside v w q u pend2 rest2 later laters → Matched later laters) → Match e f later × Matched later laters
     by (goes q row k t r x l) (goes u other j t2 r2 x2 l2) go =
         let here : Alongside v w p o pend rest (note pend row ∷ later) (note rest other ∷ laters) =
-            subst (λ (z : Noted). Alongside v w p o pend rest (note pend row ∷ later) (z ∷ laters)) x2 (subst (λ (z : Noted). Alongside v w p o pend rest (z ∷ later) (f ∷ laters)) x s) in
+        subst (λ (z : Noted). Alongside v w p o pend rest (note pend row ∷ later) (z ∷ laters)) x2 (subst (λ (z : Noted). Alongside v w p o pend rest (z ∷ later) (f ∷ laters)) x s) in
         let both = both_go i h g v w p q o u pend rest row other later laters here t r t2 r2 in
         (subst (λ (z : Noted). Match e z later) (sym x2) (subst (λ (z : Noted). Match z (note rest other) later) (sym x) both.0), go k j q u (passed pend row) (passed rest other) l l2 both.1)
     by (goes q row k t r x l) (faults c y z x2 n) go = absurd (other_faults i h g v w p q o pend rest e f later laters c y row s z x2 (none_before later laters s.alike.1 n) t x)

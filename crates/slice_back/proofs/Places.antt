@@ -110,9 +110,9 @@ linked_met : (v : Interval) (p : Pending) (k : ℕ) → Linked v p k → Linked 
 linked_met v p k h = record {
   waiting = met_waits p.skipped p.loads h.waiting;
   loads = λ j. (
-    let here : k + 1 + j ≡ k + (1 + j) = omega arith in
-    let there : p.skipped + (1 + j) ≡ p.skipped + 1 + j = omega arith in
-    ap (λ n. logged v.loads n) here ∙ h.loads (1 + j) ∙ ap (λ n. logged p.loads n) there ∙ logged_met p.skipped p.loads j);
+      let here : k + 1 + j ≡ k + (1 + j) = omega arith in
+      let there : p.skipped + (1 + j) ≡ p.skipped + 1 + j = omega arith in
+      ap (λ n. logged v.loads n) here ∙ h.loads (1 + j) ∙ ap (λ n. logged p.loads n) there ∙ logged_met p.skipped p.loads j);
 }
 
 -- by the word that a row uses

@@ -62,29 +62,29 @@ live_same e f later laters h hs s = by (in_slice e later) refl
         let rows : bare e.row ≡ bare f.row = h.rows is in
         record {
           registers = λ q. (
-            ap (λ b. (b && uses_register q e.row) || (not (writes_register q e.row) && (live later).registers q)) chosen
-            ∙ ap (λ (r : Row). (in_slice f laters && uses_register q r) || (not (writes_register q r) && (live later).registers q)) rows
-            ∙ ap (λ b. (in_slice f laters && uses_register q f.row) || (not (writes_register q f.row) && b)) (s.registers q));
+              ap (λ b. (b && uses_register q e.row) || (not (writes_register q e.row) && (live later).registers q)) chosen
+              ∙ ap (λ (r : Row). (in_slice f laters && uses_register q r) || (not (writes_register q r) && (live later).registers q)) rows
+              ∙ ap (λ b. (in_slice f laters && uses_register q f.row) || (not (writes_register q f.row) && b)) (s.registers q));
           words = λ a. (
-            ap (λ b. not (takes_word a e) && ((b && uses_word a e.row) || (not (stores_word a e.row) && (live later).words a))) chosen
-            ∙ ap (λ b. not b && ((in_slice f laters && uses_word a e.row) || (not (stores_word a e.row) && (live later).words a))) (h.takes a)
-            ∙ ap (λ (r : Row). not (takes_word a f) && ((in_slice f laters && uses_word a r) || (not (stores_word a r) && (live later).words a))) rows
-            ∙ ap (λ b. not (takes_word a f) && ((in_slice f laters && uses_word a f.row) || (not (stores_word a f.row) && b))) (s.words a));
+              ap (λ b. not (takes_word a e) && ((b && uses_word a e.row) || (not (stores_word a e.row) && (live later).words a))) chosen
+              ∙ ap (λ b. not b && ((in_slice f laters && uses_word a e.row) || (not (stores_word a e.row) && (live later).words a))) (h.takes a)
+              ∙ ap (λ (r : Row). not (takes_word a f) && ((in_slice f laters && uses_word a r) || (not (stores_word a r) && (live later).words a))) rows
+              ∙ ap (λ b. not (takes_word a f) && ((in_slice f laters && uses_word a f.row) || (not (stores_word a f.row) && b))) (s.words a));
         }
     by false is =
         let other : in_slice f laters ≡ false = sym chosen ∙ is in
         record {
           registers = λ q. (
-            ap (λ b. (b && uses_register q e.row) || (not (writes_register q e.row) && (live later).registers q)) is
-            ∙ ap (λ b. not b && (live later).registers q) (h.writes (not_last is) q)
-            ∙ ap (λ b. not (writes_register q f.row) && b) (s.registers q)
-            ∙ sym (ap (λ b. (b && uses_register q f.row) || (not (writes_register q f.row) && (live laters).registers q)) other));
+              ap (λ b. (b && uses_register q e.row) || (not (writes_register q e.row) && (live later).registers q)) is
+              ∙ ap (λ b. not b && (live later).registers q) (h.writes (not_last is) q)
+              ∙ ap (λ b. not (writes_register q f.row) && b) (s.registers q)
+              ∙ sym (ap (λ b. (b && uses_register q f.row) || (not (writes_register q f.row) && (live laters).registers q)) other));
           words = λ a. (
-            ap (λ b. not (takes_word a e) && ((b && uses_word a e.row) || (not (stores_word a e.row) && (live later).words a))) is
-            ∙ ap (λ b. not b && (not (stores_word a e.row) && (live later).words a)) (h.takes a)
-            ∙ ap (λ b. not (takes_word a f) && (not b && (live later).words a)) (h.stores a)
-            ∙ ap (λ b. not (takes_word a f) && (not (stores_word a f.row) && b)) (s.words a)
-            ∙ sym (ap (λ b. not (takes_word a f) && ((b && uses_word a f.row) || (not (stores_word a f.row) && (live laters).words a))) other));
+              ap (λ b. not (takes_word a e) && ((b && uses_word a e.row) || (not (stores_word a e.row) && (live later).words a))) is
+              ∙ ap (λ b. not b && (not (stores_word a e.row) && (live later).words a)) (h.takes a)
+              ∙ ap (λ b. not (takes_word a f) && (not b && (live later).words a)) (h.stores a)
+              ∙ ap (λ b. not (takes_word a f) && (not (stores_word a f.row) && b)) (s.words a)
+              ∙ sym (ap (λ b. not (takes_word a f) && ((b && uses_word a f.row) || (not (stores_word a f.row) && (live laters).words a))) other));
         }
       where
         not_last : in_slice e later ≡ false → is_last later ≡ false
@@ -119,7 +119,7 @@ rows_from : (i : Program) (records : List Record) (h c ic : ℕ) (v : Interval) 
     → (more : List Noted) × (es ++ more ≡ noted_from (record { loads = v.loads; skipped = 0 }) (rows_on i h v (v.mark.ic - v.start.ic) (first v)))
 rows_from i records h c ic v es r =
     let rows : (replayed i records h c).rows ≡ rows_on i h v (v.mark.ic - v.start.ic) (first v) =
-        ap (λ (o : Option Interval). (replayed_in i h c o).rows) r.found ∙ steps_rows i h v (v.mark.ic - v.start.ic) (first v) in
+    ap (λ (o : Option Interval). (replayed_in i h c o).rows) r.found ∙ steps_rows i h v (v.mark.ic - v.start.ic) (first v) in
     let front = up_to_front ic (noted v.loads (replayed i records h c).rows) es r.rows in
     (front.0, front.1 ∙ ap (λ rs. noted v.loads rs) rows)
 

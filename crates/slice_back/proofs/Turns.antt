@@ -111,10 +111,14 @@ store_turn i h v p a w y e = by (w == 4) refl
       | true ↦ after_ask i h p ask Stored 0 None (Some (a, y))
       | false ↦ elim (word_for v p a) as (λ u. Next) [ None ↦ missing h p a | Some x ↦ after_ask i h p ask Stored 1 None (Some (a, stored_word a w y x)) ]
     ])
-    by true f = (_, refl, asked (Store a w y) false 0 e tt refl
-        (ap (λ n. row_of h i p.state (absorbed ask Stored) None (Some (a, n))) (sym (whole a w y 0 f)))
-        (λ g. absurd (let t : true ≡ false = sym f ∙ g in cc))
-        (ap (λ (c : Bool). p.loads + elim c as (λ u. ℕ) [ true ↦ 0 | false ↦ 1 ]) (sym f)))
+    by true f = (
+      _,
+      refl,
+      asked (Store a w y) false 0 e tt refl
+          (ap (λ n. row_of h i p.state (absorbed ask Stored) None (Some (a, n))) (sym (whole a w y 0 f)))
+          (λ g. absurd (let t : true ≡ false = sym f ∙ g in cc))
+          (ap (λ (c : Bool). p.loads + elim c as (λ u. ℕ) [ true ↦ 0 | false ↦ 1 ]) (sym f)),
+    )
     by false f = by_word i h v p a (λ x. after_ask i h p ask Stored 1 None (Some (a, stored_word a w y x))) (word_for v p a) refl
         (λ x g. (_, refl, asked (Store a w y) false x e tt refl refl (λ t. g) (ap (λ (c : Bool). p.loads + elim c as (λ u. ℕ) [ true ↦ 0 | false ↦ 1 ]) (sym f))))
 
@@ -144,17 +148,23 @@ call_turn i h v p n args e = by (p.state.ic + 1 == v.mark.ic && (reason == v.mar
         → TurnTo i h v p (elim c as (λ u. Next) [ true ↦ elim r as (λ u. Next) [ true ↦ On going | false ↦ On leaving ] | false ↦ Stop (Refused (EndDiffers h v.mark (found (p.state.ic + 1) reason value))) ])
     by false r f g = tt
     by true true f g =
-        let two : true ≡ (v.mark.reason == 2) = sym g ∙ ap (λ k. k == 2) (same_reason f) in
-        (_, refl, asked (System n args) false 0 e tt
-        (ap (λ (c : Bool). after (System n args) (elim c as (λ u. Reply) [ true ↦ Answer v.mark.value | false ↦ Over ]) p.state) two)
-        (ap (λ (c : Bool). call_row h i p.state (elim c as (λ u. Option (ℕ × ℕ)) [ true ↦ Some (10, v.mark.value) | false ↦ None ])) two)
-        tt (no_more p.loads))
+        let two : true ≡ (v.mark.reason == 2) = sym g ∙ ap (λ k. k == 2) (same_reason f) in (
+          _,
+          refl,
+          asked (System n args) false 0 e tt
+              (ap (λ (c : Bool). after (System n args) (elim c as (λ u. Reply) [ true ↦ Answer v.mark.value | false ↦ Over ]) p.state) two)
+              (ap (λ (c : Bool). call_row h i p.state (elim c as (λ u. Option (ℕ × ℕ)) [ true ↦ Some (10, v.mark.value) | false ↦ None ])) two)
+              tt (no_more p.loads),
+        )
     by true false f g =
-        let two : false ≡ (v.mark.reason == 2) = sym g ∙ ap (λ k. k == 2) (same_reason f) in
-        (_, refl, asked (System n args) false 0 e tt
-        (ap (λ (c : Bool). after (System n args) (elim c as (λ u. Reply) [ true ↦ Answer v.mark.value | false ↦ Over ]) p.state) two)
-        (ap (λ (c : Bool). call_row h i p.state (elim c as (λ u. Option (ℕ × ℕ)) [ true ↦ Some (10, v.mark.value) | false ↦ None ])) two)
-        tt (no_more p.loads))
+        let two : false ≡ (v.mark.reason == 2) = sym g ∙ ap (λ k. k == 2) (same_reason f) in (
+          _,
+          refl,
+          asked (System n args) false 0 e tt
+              (ap (λ (c : Bool). after (System n args) (elim c as (λ u. Reply) [ true ↦ Answer v.mark.value | false ↦ Over ]) p.state) two)
+              (ap (λ (c : Bool). call_row h i p.state (elim c as (λ u. Option (ℕ × ℕ)) [ true ↦ Some (10, v.mark.value) | false ↦ None ])) two)
+              tt (no_more p.loads),
+        )
 
 ask_turn : (i : Program) (h : ℕ) (v : Interval) (p : Position) (k : Want) → step i p.state ≡ Asks k → TurnTo i h v p (ask_step i h v p k)
 ask_turn i h v p (Load a w g rd) e = by_word i h v p a (λ x. after_ask i h p (record { state = p.state; want = Load a w g rd }) (Word x) 1 (Some (a, x)) None) (word_for v p a) refl

@@ -127,7 +127,7 @@ twin_rows i h g v w p q o u pend rest row other t c same words = by t.one.turn t
         let w1 : AlikeSteps d (Asks j) (step i o.state) = subst (λ (x : Step). AlikeSteps d x (step i o.state)) e k in
         let w2 : j ≡ l = subst (λ (x : Step). AlikeSteps d (Asks j) x) f w1 in
         let all2 : (step i o.state ≡ Asks j) × (u.state ≡ after j (reply_for w.mark j b2 y) o.state) × (other ≡ asked_row g i o.state u.state w.mark j b2 y) × WordOf w o j y =
-            subst (λ (x : Want). (step i o.state ≡ Asks x) × (u.state ≡ after x (reply_for w.mark x b2 y) o.state) × (other ≡ asked_row g i o.state u.state w.mark x b2 y) × WordOf w o x y) (sym w2) (f, s2, r2, z2) in
+        subst (λ (x : Want). (step i o.state ≡ Asks x) × (u.state ≡ after x (reply_for w.mark x b2 y) o.state) × (other ≡ asked_row g i o.state u.state w.mark x b2 y) × WordOf w o x y) (sym w2) (f, s2, r2, z2) in
         asks j b b2 x y e all2.0 a s r z all2.1 all2.2 all2.3
 
 -- ---- a row of the slice
@@ -154,8 +154,8 @@ twin_chosen i h g v w p q o u pend rest row other t l chosen is agree told = twi
       pc = sym (row_pc i h v p q row t.one.turn) ∙ t.alike.pc ∙ row_pc i g w o u other t.two.turn;
       zero_same = agree.zero_same;
       read = λ r n m. agree.registers r (or_first (chosen && uses_register r row) (not (writes_register r row) && l.registers r)
-        (both chosen (uses_register r row) is (both (not (r == 0)) (reads r (instruction_in row.word)) (not_false (r == 0) n)
-        (ap (λ k. reads r k) (ap instruction_in (row_word i h v p q row t.one.turn) ∙ c.is) ∙ m))));
+          (both chosen (uses_register r row) is (both (not (r == 0)) (reads r (instruction_in row.word)) (not_false (r == 0) n)
+          (ap (λ k. reads r k) (ap instruction_in (row_word i h v p q row t.one.turn) ∙ c.is) ∙ m))));
       count = t.one.count ∙ sym t.two.count;
     }
 
@@ -233,7 +233,7 @@ twin_next i h g v w p q o u pend rest row other t l chosen gave agree told = rec
             let reg : row.reg ≡ other.reg = ap (λ (z : Row). z.reg) (rows_same given) in
             elim b [
               | inl n ↦ (let z : ◌≡◌ {A = Option (ℕ × ℕ)} (Some (r, slice_index q.state.x r)) (Some (r, slice_index u.state.x r)) = sym a ∙ reg ∙ n in
-                let z2 : ◌≡◌ {A = ℕ × ℕ} (r, slice_index q.state.x r) (r, slice_index u.state.x r) = cc in ap (λ (k : ℕ × ℕ). k.1) z2)
+                  let z2 : ◌≡◌ {A = ℕ × ℕ} (r, slice_index q.state.x r) (r, slice_index u.state.x r) = cc in ap (λ (k : ℕ × ℕ). k.1) z2)
               | inr n ↦ absurd (let z : true ≡ false = sym (written r (slice_index q.state.x r) (sym reg ∙ a)) ∙ n.0 in cc)
             ]
         by (inr a) (inl n) = absurd (let z : true ≡ false = sym (written r (slice_index u.state.x r) n) ∙ sym (twin_writes t r) ∙ a.0 in cc)

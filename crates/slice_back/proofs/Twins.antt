@@ -84,10 +84,10 @@ kept i h v p q pend row a s n = by row.load refl
         at false f = refl
         at true f = elim (loaded i h v p q pend row z.0 z.1 s e) [
           | inl first ↦ absurd (
-            let same : aligned z.0 ≡ a = same_number (aligned z.0) a f in
-            let uses : used_word row ≡ Some a = ap (λ (o : Option (ℕ × ℕ)). elim o as (λ y. Option ℕ) [ Some z ↦ Some (aligned z.0) | None ↦ elim (stores_part (instruction_in row.word)) as (λ y. Option ℕ) [ true ↦ word_of row.store | false ↦ None ] ]) e ∙ ap (λ k. Some k) same in
-            let yes : takes_word a (note pend row) ≡ true = both (took (note pend row).first_load) (uses_word a row) (ap took first) (ap (λ o. is_word a o) uses ∙ equal_numbers a) in
-            let t : true ≡ false = sym yes ∙ n in cc)
+              let same : aligned z.0 ≡ a = same_number (aligned z.0) a f in
+              let uses : used_word row ≡ Some a = ap (λ (o : Option (ℕ × ℕ)). elim o as (λ y. Option ℕ) [ Some z ↦ Some (aligned z.0) | None ↦ elim (stores_part (instruction_in row.word)) as (λ y. Option ℕ) [ true ↦ word_of row.store | false ↦ None ] ]) e ∙ ap (λ k. Some k) same in
+              let yes : takes_word a (note pend row) ≡ true = both (took (note pend row).first_load) (uses_word a row) (ap took first) (ap (λ o. is_word a o) uses ∙ equal_numbers a) in
+              let t : true ≡ false = sym yes ∙ n in cc)
           | inr known_is ↦ sym known_is.1 ∙ ap (λ k. known k p.rows) (same_number (aligned z.0) a f)
         ]
 

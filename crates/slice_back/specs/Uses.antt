@@ -54,10 +54,14 @@ abbrev pub word_of : Option (ℕ × ℕ) → Option ℕ
 word_of None = None
 word_of (Some x) = Some (aligned x.0)
 
+-- the word of a store, where the test says that it is of a part
+abbrev pub part_stored : Bool → Option (ℕ × ℕ) → Option ℕ
+part_stored test store = elim test [ true ↦ word_of store | false ↦ None ]
+
 -- the aligned word that a row uses: that of its load or AMO, or of a store of a byte or halfword, which keeps the other
 -- bytes. These are the loading accesses
 abbrev pub used_word : Row → Option ℕ
-used_word r = elim (r.load) [ Some x ↦ Some (aligned x.0) | None ↦ elim (stores_part (instruction_in r.word)) [ true ↦ word_of r.store | false ↦ None ] ]
+used_word r = elim (r.load) [ Some x ↦ Some (aligned x.0) | None ↦ part_stored (stores_part (instruction_in r.word)) r.store ]
 
 abbrev pub is_word : ℕ → Option ℕ → Bool
 is_word a None = false

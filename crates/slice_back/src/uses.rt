@@ -3,7 +3,7 @@ ghost use Rattle.std.specs.Prelude.{◌≡◌, ◌%◌, IfSome};
 ghost use Rattle.std.specs.Option.{option_map};
 ghost use Rattle.rv_decode.specs.Seen.{seen};
 ghost use Rattle.hart_rows.specs.Rows.{instruction_in};
-ghost use Rattle.slice_back.specs.Uses.{is_call, is_part_store, stores_part, word_of, used_word, is_choice, chooses, is_branch};
+ghost use Rattle.slice_back.specs.Uses.{is_call, is_part_store, stores_part, word_of, part_stored, used_word, is_choice, chooses, is_branch};
 
 use bn_base::{Addr, Row};
 use rv_decode::{Instr, Name, decode};
@@ -60,6 +60,24 @@ pub(crate) fn word_of(access: Option<(Addr, u32)>) -> Option<Addr>
     }
 }
 
+// The aligned address of a store, where it is of a byte or halfword. Only a store is decoded.
+#[tactic(auto, using(crate::proofs::Afters::no_store))]
+fn part_store(word: Option<u32>, store: Option<(Addr, u32)>) -> Option<Addr>
+    ensures value { result ≡ part_stored (stores_part (instruction_in word)) store }
+    ensures aligned { IfSome result (λ a. a % 4 ≡ 0) }
+{
+    match store {
+        None => None,
+        Some(_) => {
+            if stores_part(word) {
+                word_of(store)
+            } else {
+                None
+            }
+        }
+    }
+}
+
 /// The aligned address of the word that a row uses: that of its load or AMO, or of its store of a
 /// byte or halfword.
 pub(crate) fn used_word(row: &Row) -> Option<Addr>
@@ -68,13 +86,7 @@ pub(crate) fn used_word(row: &Row) -> Option<Addr>
 {
     match row.load {
         Some((addr, _)) => Some(addr / 4 * 4),
-        None => {
-            if stores_part(row.word) {
-                word_of(row.store)
-            } else {
-                None
-            }
-        }
+        None => part_store(row.word, row.store),
     }
 }
 
