@@ -1,4 +1,4 @@
--- The dynamic slice of a row (Weiser 1984; Agrawal and Horgan 1990): the rows that it needs, the rows that these need, and so
+-- The dynamic slice of a row by data alone (Agrawal and Horgan, 1990): the rows that it needs, the rows that these need, and so
 -- on. Rows go by their places in the list of an interval's rows, oldest first.
 use Rattle.std.specs.Prelude.{◌≡◌, ℕ, ◌<◌, ◌≤◌, ◌⊎◌, Bool, true, false, List, slice_get, Option, Some, None, IsTrue, IsFalse}
 use Rattle.slice_back.specs.declared.noted.Noted.{Noted}

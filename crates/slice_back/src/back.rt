@@ -12,7 +12,7 @@ use hart_replay::Replayer;
 use log_order::KeptLog;
 use std::alloc::Global;
 
-/// The backward slice of the row of a count in an interval of a hart (Weiser 1984): the rows that it
+/// The backward slice of the row of a count in an interval of a hart, by data alone: the rows that it
 /// stands on, what of it came from before the interval or from the log, and the branches that aren't
 /// in it.
 ///
