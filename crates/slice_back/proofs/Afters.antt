@@ -1,14 +1,13 @@
 -- Registers and words after a row of a replay.
-use Rattle.std.proofs.Common.{◌≡◌, ℕ, zero, suc, ◌+◌, ◌<◌, ◌==◌, ◌⊎◌, Bool, true, false, not, cond, List, [], ◌∷◌, length, Option, Some, None, refl, sym, ◌∙◌, ap, subst, inl, inr, arith}
-use Rattle.std.specs.Prelude.{set, slice_index}
+use Rattle.std.proofs.Common.{◌≡◌, ℕ, ◌+◌, ◌<◌, ◌==◌, ◌⊎◌, Bool, true, false, not, cond, List, length, Option, Some, None, refl, sym, ◌∙◌, ap, subst, inl, inr, arith}
+use Rattle.std.specs.Prelude.{slice_index}
 use Rattle.bn_base.specs.Programs.{Program, code_at}
-use Rattle.bn_base.specs.Registers.{put_reg}
 use Rattle.bn_base.specs.declared.end_mark.EndMark.{EndMark}
 use Rattle.bn_base.specs.declared.row.Row.{Row}
 use Rattle.bn_base.specs.declared.state.HartState.{HartState}
 use Rattle.rv_decode.specs.Table.{Instruction}
 use Rattle.rv_meaning.specs.Words.{aligned}
-use Rattle.rv_meaning.specs.Execute.{Step, Quiet, Asks, step, after}
+use Rattle.rv_meaning.specs.Execute.{Step, Asks, step, after}
 use Rattle.rv_meaning.specs.declared.asks.Reply.{Reply}
 use Rattle.rv_meaning.specs.declared.asks.Reply.TheVariants.{Answer, Over}
 use Rattle.rv_meaning.specs.declared.asks.Want.{Want}
@@ -18,11 +17,10 @@ use Rattle.hart_rows.specs.Rows.{instruction_in, row_of, known}
 use Rattle.hart_replay.specs.Replay.{Interval, Position, logged, or_else, word_for}
 use Rattle.hart_replay.specs.Sides.{call_reg, call_answer}
 use Rattle.hart_replay.specs.Scans.{Pending, due}
-use Rattle.slice_back.specs.declared.noted.Noted.{Noted}
-use Rattle.slice_back.specs.Uses.{is_call, is_part_store, stores_part, part_stored, is_of, word_of, used_word}
+use Rattle.slice_back.specs.Uses.{is_call, stores_part, part_stored, word_of, used_word}
 use Rattle.slice_back.specs.Slices.{note}
 use Rattle.slice_back.proofs.Meanings.{Changed, AskShape, Shape}
-use Rattle.slice_back.proofs.Turns.{IsAsk, reply_for, asked_row, count_of, WordOf, Turn}
+use Rattle.slice_back.proofs.Turns.{IsAsk, reply_for, asked_row, count_of, Turn}
 use Rattle.slice_back.proofs.Turns.Turn.{quiet, asked}
 use Rattle.slice_back.proofs.Places.{Linked, linked_due}
 use Rattle.slice_back.proofs.Facts.{Code, reg_for, ap_call, row_reg, After, changed_after, asked_changed, put_count, set_here, put_other}

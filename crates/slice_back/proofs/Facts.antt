@@ -1,5 +1,5 @@
 -- What a row of a replay tells of the instruction and its states.
-use Rattle.std.proofs.Common.{◌≡◌, ◌≢◌, ℕ, zero, suc, ◌+◌, ◌<◌, ◌==◌, ◌⊎◌, Bool, true, false, not, cond, List, [], ◌∷◌, length, Option, Some, None, refl, sym, ◌∙◌, ap, subst, inl, inr, arith}
+use Rattle.std.proofs.Common.{◌≡◌, ◌≢◌, ℕ, zero, suc, ◌<◌, ◌==◌, ◌⊎◌, Bool, true, false, List, [], ◌∷◌, length, Option, Some, None, refl, sym, ◌∙◌, ap, subst, inl, inr, arith}
 use Rattle.std.specs.Prelude.{set, slice_index}
 use Rattle.std.proofs.lemmas.Bool.Decides.{eqb_tells}
 use Rattle.bn_base.specs.Programs.{Program, code_at}
@@ -9,22 +9,18 @@ use Rattle.bn_base.specs.declared.row.Row.{Row}
 use Rattle.bn_base.specs.declared.state.HartState.{HartState}
 use Rattle.bn_base.specs.declared.fault.Fault.{Fault}
 use Rattle.rv_decode.specs.Table.{Instruction, decoded}
-use Rattle.rv_meaning.specs.Words.{aligned}
 use Rattle.rv_meaning.specs.Access.{loaded_value}
-use Rattle.rv_meaning.specs.Execute.{Step, Quiet, Asks, step, fetched, executed, meaning, after}
-use Rattle.rv_meaning.specs.declared.asks.Reply.{Reply}
-use Rattle.rv_meaning.specs.declared.asks.Reply.TheVariants.{Answer, Over}
-use Rattle.rv_meaning.specs.declared.asks.Reply.TheVariants as replies
+use Rattle.rv_meaning.specs.Execute.{Step, Quiet, Asks, step, fetched, executed, after}
 use Rattle.rv_meaning.specs.declared.asks.Want.{Want}
 use Rattle.rv_meaning.specs.declared.asks.Want.TheVariants.{Load, Store, LoadReserved, StoreConditional, Amo, System, Cut, Faulted}
-use Rattle.hart_rows.specs.Rows.{instruction_in, written, row_of}
+use Rattle.hart_rows.specs.Rows.{instruction_in, written}
 use Rattle.hart_replay.specs.Replay.{Interval, Position}
-use Rattle.hart_replay.specs.Sides.{call_reg, call_answer}
-use Rattle.slice_back.specs.Uses.{is_call, is_part_store, stores_part, is_of, word_of, used_word, writes_register}
+use Rattle.hart_replay.specs.Sides.{call_reg}
+use Rattle.slice_back.specs.Uses.{is_call, is_of}
 use Rattle.slice_back.proofs.Bools.{same_number}
 use Rattle.slice_back.proofs.Fields.{no_rd}
 use Rattle.slice_back.proofs.Meanings.{writes_none, Changed, AskShape, Shape, shape}
-use Rattle.slice_back.proofs.Turns.{IsAsk, reply_for, asked_row, count_of, Turn}
+use Rattle.slice_back.proofs.Turns.{IsAsk, reply_for, asked_row, Turn}
 use Rattle.slice_back.proofs.Turns.Turn.{quiet, asked}
 
 -- ---- the instruction of a step

@@ -1,11 +1,11 @@
 -- What is live before rows, and which rows are in the slice, by the definition of the least set.
-use Rattle.std.proofs.Common.{◌≡◌, ℕ, zero, suc, ◌+◌, ◌<◌, ◌≤◌, ◌==◌, Bool, true, false, not, ◌&&◌, ◌||◌, ◌⊎◌, List, [], ◌∷◌, length, drop, slice_get, Option, Some, None, refl, sym, ◌∙◌, ap, subst, inl, inr, arith}
+use Rattle.std.proofs.Common.{◌≡◌, ℕ, ◌+◌, ◌<◌, ◌≤◌, Bool, true, false, ◌⊎◌, List, [], ◌∷◌, length, slice_get, Option, Some, None, refl, sym, ◌∙◌, ap, subst, inl, inr, arith}
 use Rattle.slice_back.specs.declared.noted.Noted.{Noted}
 use Rattle.slice_back.specs.Uses.{uses_register, writes_register, uses_word, stores_word, takes_word, is_of, is_word, word_of}
-use Rattle.slice_back.specs.Needs.{passes, at, NeedsRegister, NeedsWord, Needs, InSlice}
+use Rattle.slice_back.specs.Needs.{passes, at, Needs, InSlice}
 use Rattle.slice_back.specs.Needs.InSlice.{itself, needed}
-use Rattle.slice_back.specs.Slices.{Live, live, live_before, writes_live, stores_live, gives, is_last, in_slice}
-use Rattle.slice_back.proofs.Bools.{and_left, and_right, both, or_split, or_first, or_second, not_false, false_not, same_number, equal_numbers}
+use Rattle.slice_back.specs.Slices.{Live, live, writes_live, stores_live, gives, is_last, in_slice}
+use Rattle.slice_back.proofs.Bools.{or_split, or_first, or_second, same_number, equal_numbers}
 
 -- ---- the least set
 

@@ -1,12 +1,12 @@
 -- The tests of a slice are those of the least set.
-use Rattle.std.proofs.Common.{◌≡◌, ℕ, zero, suc, ◌+◌, ◌<◌, ◌≤◌, ◌==◌, ◌↔◌, Bool, true, false, not, ◌&&◌, ◌||◌, ◌⊎◌, List, [], ◌∷◌, length, drop, slice_get, Option, Some, None, refl, sym, ◌∙◌, ap, subst, inl, inr, arith, length-drop}
+use Rattle.std.proofs.Common.{◌≡◌, ℕ, suc, ◌+◌, ◌≤◌, ◌==◌, ◌↔◌, Bool, true, false, not, ◌&&◌, ◌||◌, List, [], ◌∷◌, length, drop, Option, Some, None, refl, sym, ◌∙◌, ap, subst, inl, inr, arith, length-drop}
 use Rattle.slice_back.specs.declared.noted.Noted.{Noted}
-use Rattle.slice_back.specs.Uses.{uses_register, writes_register, uses_word, stores_word, takes_word, used_word, took, is_word}
-use Rattle.slice_back.specs.Needs.{passes, at, InSlice, TakenBy, FromBefore}
+use Rattle.slice_back.specs.Uses.{uses_word, stores_word, takes_word, used_word, took, is_word}
+use Rattle.slice_back.specs.Needs.{at, InSlice, TakenBy}
 use Rattle.slice_back.specs.Slices.{Live, live, in_slice, taken, wanted}
 use Rattle.slice_back.specs.Laws.{chosen, taken_first, Took, RowsAreLeast, RegistersAreFromBefore, WordsAreTaken}
 use Rattle.slice_back.proofs.Bools.{and_left, and_right, both, or_split, or_first, or_second, not_false, false_not, same_number, equal_numbers}
-use Rattle.slice_back.proofs.Least.{LiveRegister, LiveWord, Known, Row_at, test_here, here_test, chosen_is, is_chosen, inside}
+use Rattle.slice_back.proofs.Least.{Known, Row_at, test_here, here_test, chosen_is, is_chosen, inside}
 use Rattle.slice_back.proofs.LeastSteps.{known_from, row_in, next_rest, first_or}
 
 -- a row that is there, with what is known after it

@@ -1,12 +1,11 @@
 -- What is live before a row, by what is live after it, and so of all rows.
-use Rattle.std.proofs.Common.{◌≡◌, ℕ, zero, suc, ◌+◌, ◌<◌, ◌≤◌, ◌==◌, ◌↔◌, Bool, true, false, not, ◌&&◌, ◌||◌, ◌⊎◌, List, [], ◌∷◌, length, drop, slice_get, Option, Some, None, refl, sym, ◌∙◌, ap, subst, inl, inr, arith}
+use Rattle.std.proofs.Common.{◌≡◌, ℕ, zero, suc, ◌+◌, ◌≤◌, true, false, not, ◌&&◌, ◌||◌, ◌⊎◌, List, [], ◌∷◌, length, drop, slice_get, Some, sym, ◌∙◌, ap, subst, inl, inr, arith}
 use Rattle.std.proofs.Math.Nat.{eq-or-lt_of_le}
 use Rattle.slice_back.specs.declared.noted.Noted.{Noted}
-use Rattle.slice_back.specs.Uses.{uses_register, writes_register, uses_word, stores_word, takes_word, used_word, took, is_word}
-use Rattle.slice_back.specs.Needs.{passes, at, InSlice, TakenBy, FromBefore}
-use Rattle.slice_back.specs.Slices.{Live, live, live_before, in_slice, taken, wanted}
-use Rattle.slice_back.specs.Laws.{chosen, taken_first, Took, RowsAreLeast, RegistersAreFromBefore, WordsAreTaken}
-use Rattle.slice_back.proofs.Bools.{and_left, and_right, both, or_split, or_first, or_second, not_false, false_not, same_number, equal_numbers}
+use Rattle.slice_back.specs.Uses.{uses_register, writes_register, uses_word, stores_word, takes_word}
+use Rattle.slice_back.specs.Needs.{at, InSlice}
+use Rattle.slice_back.specs.Slices.{live, live_before, in_slice}
+use Rattle.slice_back.proofs.Bools.{and_left, and_right, both, or_split, or_first, or_second, not_false, false_not}
 use Rattle.slice_back.proofs.Least.{LiveRegister, LiveWord, Known, Row_at, test_here, here_test, chosen_is, is_chosen, inside}
 
 -- a place from m on is m or a later one

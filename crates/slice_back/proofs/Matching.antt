@@ -1,9 +1,8 @@
 -- Row by row, two replays that agree give rows that are told alike.
-use Rattle.std.proofs.Common.{◌≡◌, ℕ, zero, suc, ◌+◌, ◌<◌, ◌==◌, ◌&&◌, ◌||◌, ◌⊎◌, ◌++◌, Bool, true, false, not, List, [], ◌∷◌, length, map, Option, Some, None, refl, sym, ◌∙◌, ap, subst, inl, inr, arith}
-use Rattle.std.specs.Prelude.{slice_index}
+use Rattle.std.proofs.Common.{◌≡◌, ℕ, ◌==◌, ◌&&◌, ◌++◌, true, false, not, List, [], ◌∷◌, length, Option, Some, None, refl, sym, ◌∙◌, ap, subst}
 use Rattle.bn_base.specs.Programs.{Program, code_at}
 use Rattle.bn_base.specs.declared.fault.Fault.{Fault}
-use Rattle.bn_base.specs.declared.fault.Fault.TheVariants.{FetchOutside, Illegal}
+use Rattle.bn_base.specs.declared.fault.Fault.TheVariants.{FetchOutside}
 use Rattle.bn_base.specs.declared.row.Row.{Row}
 use Rattle.bn_base.specs.declared.state.HartState.{HartState}
 use Rattle.rv_decode.specs.Table.{Instruction, decoded}
@@ -14,19 +13,19 @@ use Rattle.hart_rows.specs.Rows.{instruction_in, fault_row}
 use Rattle.hart_replay.specs.Replay.{Interval, Position}
 use Rattle.hart_replay.specs.Scans.{Pending}
 use Rattle.slice_back.specs.declared.noted.Noted.{Noted}
-use Rattle.slice_back.specs.Uses.{is_of, is_word, word_of, used_word, uses_register, writes_register, uses_word, stores_word, takes_word, reads}
-use Rattle.slice_back.specs.Slices.{Live, note, passed, noted_from, live, live_before, writes_live, stores_live, gives, is_last, in_slice, row_if, slice_rows}
-use Rattle.slice_back.specs.Agreeing.{bare, AreAlike, AllAlike, WordsAgree}
-use Rattle.slice_back.proofs.Bools.{both, or_first, or_second, not_false, same_number, equal_numbers}
+use Rattle.slice_back.specs.Uses.{used_word, uses_register, writes_register, stores_word, takes_word, reads}
+use Rattle.slice_back.specs.Slices.{Live, note, passed, noted_from, live, live_before, gives, is_last, in_slice}
+use Rattle.slice_back.specs.Agreeing.{bare, AllAlike, WordsAgree}
+use Rattle.slice_back.proofs.Bools.{both, or_first, or_second, not_false}
 use Rattle.slice_back.proofs.Meanings.{AlikeSteps}
 use Rattle.slice_back.proofs.Turns.{IsAsk, Turn}
 use Rattle.slice_back.proofs.Turns.Turn.{quiet, asked}
 use Rattle.slice_back.proofs.Places.{Linked, linked_next}
-use Rattle.slice_back.proofs.Facts.{Code, code_of, row_word, row_pc}
-use Rattle.slice_back.proofs.Afters.{row_count, row_loads, ask_count}
+use Rattle.slice_back.proofs.Facts.{code_of, row_word, row_pc}
+use Rattle.slice_back.proofs.Afters.{row_count, row_loads}
 use Rattle.slice_back.proofs.Pairs.{code_as, SameUsed, steps_alike, bare_same}
-use Rattle.slice_back.proofs.Twins.{Side, Agreeing, stores_alike, takes_alike}
-use Rattle.slice_back.proofs.TwinSteps.{Twin, TakenSame, twin_writes, twin_chosen, twin_next}
+use Rattle.slice_back.proofs.Twins.{Agreeing, stores_alike, takes_alike}
+use Rattle.slice_back.proofs.TwinSteps.{Twin, twin_writes, twin_chosen, twin_next}
 use Rattle.slice_back.proofs.RowsOn.{rows_on, Head, head}
 use Rattle.slice_back.proofs.RowsOn.Head.{goes, faults}
 

@@ -1,5 +1,5 @@
 -- What an instruction depends on, and what it changes.
-use Rattle.std.proofs.Common.{◌≡◌, ℕ, zero, suc, ◌+◌, ◌*◌, ◌/◌, ◌%◌, ◌^◌, ◌==◌, ◌⊎◌, nat_lt, Bool, true, false, not, List, [], ◌∷◌, length, Option, Some, None, refl, sym, ◌∙◌, ap, subst, inl, inr, arith, bit_and, bit_or}
+use Rattle.std.proofs.Common.{◌≡◌, ℕ, zero, suc, ◌*◌, ◌/◌, ◌%◌, ◌==◌, ◌⊎◌, nat_lt, Bool, true, false, not, List, [], ◌∷◌, length, Option, Some, None, refl, sym, ◌∙◌, ap, subst, inl, inr, arith, bit_and, bit_or}
 use Rattle.std.specs.Prelude.{set, slice_index, bit_xor, if◌then◌else◌}
 use Rattle.bn_base.specs.Programs.{Program, may_load, may_store}
 use Rattle.bn_base.specs.Registers.{put_reg}

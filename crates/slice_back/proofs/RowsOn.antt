@@ -1,6 +1,6 @@
 -- The rows that a replay still gives.
-use Rattle.std.proofs.Common.{◌≡◌, ℕ, zero, suc, ◌+◌, ◌-◌, ◌==◌, ◌&&◌, ◌||◌, ◌++◌, nat_lt, Bool, true, false, not, List, [], ◌∷◌, take, length, Option, Some, None, refl, sym, ◌∙◌, ap, subst}
-use Rattle.bn_base.specs.Programs.{Program, code_at}
+use Rattle.std.proofs.Common.{◌≡◌, ℕ, zero, suc, ◌+◌, ◌==◌, ◌&&◌, ◌||◌, ◌++◌, nat_lt, Bool, true, false, not, List, [], ◌∷◌, take, Option, Some, None, refl, sym, ◌∙◌, ap}
+use Rattle.bn_base.specs.Programs.{Program}
 use Rattle.bn_base.specs.Faults.{fault_number}
 use Rattle.bn_base.specs.declared.fault.Fault.{Fault}
 use Rattle.bn_base.specs.declared.row.Row.{Row}
@@ -8,7 +8,7 @@ use Rattle.rv_meaning.specs.Execute.{Step, Quiet, Asks, step}
 use Rattle.rv_meaning.specs.declared.asks.Want.{Want}
 use Rattle.rv_meaning.specs.declared.asks.Want.TheVariants.{Load, Store, LoadReserved, StoreConditional, Amo, System, Cut, Faulted}
 use Rattle.hart_rows.specs.Rows.{fault_row}
-use Rattle.hart_replay.specs.Replay.{Outcome, Refused, Replayed, Interval, Position, Next, On, Stop, one_step, steps, finish, onto, left_over, found, fault_end, ended}
+use Rattle.hart_replay.specs.Replay.{Refused, Replayed, Interval, Position, Next, On, Stop, one_step, steps, finish, onto, left_over, found, fault_end, ended}
 use Rattle.hart_replay.specs.Scans.{Pending}
 use Rattle.hart_replay.specs.declared.error.ReplayError.TheVariants.{EndDiffers}
 use Rattle.slice_back.specs.declared.noted.Noted.{Noted}

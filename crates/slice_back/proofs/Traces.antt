@@ -1,12 +1,12 @@
 -- A replay that is gone through to its end.
-use Rattle.std.proofs.Common.{◌≡◌, ℕ, ◌==◌, ◌++◌, ◌⊎◌, Bool, true, false, List, [], ◌∷◌, Option, Some, None, refl, sym, ◌∙◌, ap, inl, inr, subst}
+use Rattle.std.proofs.Common.{◌≡◌, ℕ, ◌⊎◌, List, [], ◌∷◌, Option, Some, None, refl, sym, ◌∙◌, ap, inl, inr, subst}
 use Rattle.bn_base.specs.declared.row.Row.{Row}
-use Rattle.hart_replay.specs.Replay.{Replayed, Outcome, Done, Refused}
+use Rattle.hart_replay.specs.Replay.{Replayed, Done, Refused}
 use Rattle.hart_replay.specs.Coming.{over, with_rows}
 use Rattle.hart_replay.specs.declared.error.ReplayError.{ReplayError}
 use Rattle.hart_replay.specs.declared.error.ReplayError.TheVariants.{NoInterval, LoadMissing, ScMissing, RecordsLeft, EndDiffers, OutOfMemory}
 use Rattle.slice_back.specs.declared.noted.Noted.{Noted}
-use Rattle.slice_back.specs.Slices.{note, passed, noted, noted_from, up_to, before}
+use Rattle.slice_back.specs.Slices.{noted, up_to}
 use Rattle.slice_back.specs.Tracing.{Tracing, behind, reached, error_of, IsStop, IsTraced}
 
 -- what is noted so far, with what the rows that are left add, is what the whole replay gives

@@ -1,5 +1,5 @@
 -- Two replays go on alike: their rows of a slice are the same, and they agree on what is live after them.
-use Rattle.std.proofs.Common.{◌≡◌, ℕ, zero, suc, ◌+◌, ◌<◌, ◌==◌, ◌&&◌, ◌||◌, ◌⊎◌, Bool, true, false, not, List, [], ◌∷◌, length, Option, Some, None, refl, sym, ◌∙◌, ap, subst, inl, inr, arith}
+use Rattle.std.proofs.Common.{◌≡◌, ℕ, ◌==◌, ◌&&◌, ◌||◌, Bool, true, false, not, List, Option, Some, None, refl, sym, ◌∙◌, ap, subst, inl, inr, arith}
 use Rattle.std.specs.Prelude.{slice_index}
 use Rattle.bn_base.specs.Programs.{Program, code_at}
 use Rattle.bn_base.specs.declared.end_mark.EndMark.{EndMark}
@@ -10,22 +10,20 @@ use Rattle.rv_meaning.specs.Words.{aligned}
 use Rattle.rv_meaning.specs.Execute.{Step, Quiet, Asks, step, after}
 use Rattle.rv_meaning.specs.declared.asks.Want.{Want}
 use Rattle.rv_meaning.specs.declared.asks.Want.TheVariants.{Load, Store, LoadReserved, StoreConditional, Amo, System, Cut, Faulted}
-use Rattle.hart_rows.specs.Rows.{instruction_in, written, row_of, known, at_address}
+use Rattle.hart_rows.specs.Rows.{instruction_in, written, known, at_address}
 use Rattle.hart_replay.specs.Replay.{Interval, Position, word_for}
 use Rattle.hart_replay.specs.Scans.{Pending}
-use Rattle.hart_replay.specs.Sides.{call_reg}
 use Rattle.slice_back.specs.declared.noted.Noted.{Noted}
 use Rattle.slice_back.specs.Uses.{is_call, reads, is_of, is_word, word_of, used_word, uses_register, writes_register, uses_word, stores_word, takes_word, took}
 use Rattle.slice_back.specs.Slices.{Live, note, live_before, writes_live, stores_live, gives, taken}
 use Rattle.slice_back.specs.Agreeing.{bare, address_of, took_word, AreAlike}
-use Rattle.slice_back.proofs.Bools.{and_left, and_right, both, or_split, or_first, or_second, not_false, false_not, same_number, equal_numbers}
-use Rattle.slice_back.proofs.LeastLaws.{Says, says_taken}
-use Rattle.slice_back.proofs.Meanings.{AskShape, Shape, AlikeSteps}
+use Rattle.slice_back.proofs.Bools.{and_left, and_right, both, or_first, or_second, not_false, same_number, equal_numbers}
+use Rattle.slice_back.proofs.LeastLaws.{says_taken}
+use Rattle.slice_back.proofs.Meanings.{Shape, AlikeSteps}
 use Rattle.slice_back.proofs.Turns.{IsAsk, reply_for, asked_row, WordOf, Turn}
 use Rattle.slice_back.proofs.Turns.Turn.{quiet, asked}
-use Rattle.slice_back.proofs.Places.{Linked}
 use Rattle.slice_back.proofs.Facts.{Code, code_of, row_word, row_pc, row_fault, row_reg, reg_for, same_writes, After}
-use Rattle.slice_back.proofs.Afters.{row_after, row_count, used_by, row_uses, Source, source_of}
+use Rattle.slice_back.proofs.Afters.{row_after, used_by, row_uses, Source, source_of}
 use Rattle.slice_back.proofs.Pairs.{code_as, SameUsed, steps_alike, SameWord, loads_same, stores_same, writes_same, bare_same, reg_same}
 use Rattle.slice_back.proofs.Twins.{Side, Agreeing, kept, taken_now, stores_alike, takes_alike, over_store, past_store}
 

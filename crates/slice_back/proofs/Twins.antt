@@ -1,32 +1,23 @@
 -- The same row of two replays that agree on what is live: what it tells, and what is live after it.
-use Rattle.std.proofs.Common.{◌≡◌, ℕ, zero, suc, ◌+◌, ◌<◌, ◌==◌, ◌&&◌, ◌||◌, ◌⊎◌, Bool, true, false, not, List, [], ◌∷◌, length, Option, Some, None, refl, sym, ◌∙◌, ap, subst, inl, inr, arith}
+use Rattle.std.proofs.Common.{◌≡◌, ℕ, ◌==◌, ◌&&◌, Bool, true, false, ◌∷◌, length, Option, Some, None, refl, sym, ◌∙◌, ap, subst, inl, inr}
 use Rattle.std.specs.Prelude.{slice_index}
-use Rattle.bn_base.specs.Programs.{Program, code_at}
-use Rattle.bn_base.specs.declared.end_mark.EndMark.{EndMark}
+use Rattle.bn_base.specs.Programs.{Program}
 use Rattle.bn_base.specs.declared.row.Row.{Row}
-use Rattle.bn_base.specs.declared.state.HartState.{HartState}
-use Rattle.rv_decode.specs.Table.{Instruction}
 use Rattle.rv_meaning.specs.Words.{aligned}
-use Rattle.rv_meaning.specs.Execute.{Step, Quiet, Asks, step, after}
 use Rattle.rv_meaning.specs.declared.asks.Want.{Want}
 use Rattle.rv_meaning.specs.declared.asks.Want.TheVariants.{Load, Store, LoadReserved, StoreConditional, Amo, System, Cut, Faulted}
-use Rattle.hart_rows.specs.Rows.{instruction_in, written, row_of, known, at_address}
+use Rattle.hart_rows.specs.Rows.{instruction_in, known, at_address}
 use Rattle.hart_replay.specs.Replay.{Interval, Position, word_for}
 use Rattle.hart_replay.specs.Scans.{Pending}
-use Rattle.hart_replay.specs.Sides.{call_reg}
 use Rattle.slice_back.specs.declared.noted.Noted.{Noted}
-use Rattle.slice_back.specs.Uses.{is_call, reads, is_of, is_word, word_of, used_word, uses_register, writes_register, uses_word, stores_word, takes_word, took, stores_part}
-use Rattle.slice_back.specs.Slices.{Live, note, passed, live_before, writes_live, stores_live, gives, taken}
-use Rattle.slice_back.specs.Agreeing.{bare, address_of, took_word, AreAlike}
-use Rattle.slice_back.proofs.Bools.{and_left, and_right, both, or_split, or_first, or_second, not_false, false_not, same_number, equal_numbers}
-use Rattle.slice_back.proofs.LeastLaws.{Says, says_taken}
-use Rattle.slice_back.proofs.Meanings.{AskShape, Shape, AlikeSteps}
-use Rattle.slice_back.proofs.Turns.{IsAsk, reply_for, asked_row, WordOf, Turn}
+use Rattle.slice_back.specs.Uses.{is_word, word_of, used_word, uses_word, stores_word, takes_word, took, stores_part}
+use Rattle.slice_back.specs.Slices.{Live, note}
+use Rattle.slice_back.specs.Agreeing.{address_of, took_word, AreAlike}
+use Rattle.slice_back.proofs.Bools.{and_right, both, same_number, equal_numbers}
+use Rattle.slice_back.proofs.Turns.{IsAsk, asked_row, WordOf, Turn}
 use Rattle.slice_back.proofs.Turns.Turn.{quiet, asked}
 use Rattle.slice_back.proofs.Places.{Linked}
-use Rattle.slice_back.proofs.Facts.{Code, code_of, row_word, row_pc, row_fault, row_reg, reg_for, same_writes, After}
-use Rattle.slice_back.proofs.Afters.{row_after, row_count, used_by, row_uses, Source, source_of}
-use Rattle.slice_back.proofs.Pairs.{code_as, SameUsed, steps_alike, SameWord, loads_same, stores_same, writes_same, bare_same, reg_same}
+use Rattle.slice_back.proofs.Afters.{Source, source_of}
 
 -- one side: a row that was done, with what it took
 pub record Side (i : Program) (h : ℕ) (v : Interval) (p q : Position) (pend : Pending) (row : Row) : Type 0 where

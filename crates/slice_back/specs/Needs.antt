@@ -1,6 +1,6 @@
 -- The dynamic slice of a row by data alone (Agrawal and Horgan, 1990): the rows that it needs, the rows that these need, and so
 -- on. Rows go by their places in the list of an interval's rows, oldest first.
-use Rattle.std.specs.Prelude.{◌≡◌, ℕ, ◌<◌, ◌≤◌, ◌⊎◌, Bool, true, false, List, slice_get, Option, Some, None, IsTrue, IsFalse}
+use Rattle.std.specs.Prelude.{ℕ, ◌<◌, ◌≤◌, ◌⊎◌, Bool, false, List, slice_get, Option, Some, None, IsTrue, IsFalse}
 use Rattle.slice_back.specs.declared.noted.Noted.{Noted}
 use Rattle.slice_back.specs.Uses.{uses_register, writes_register, uses_word, stores_word, takes_word}
 

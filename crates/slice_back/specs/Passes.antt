@@ -1,6 +1,5 @@
 -- The lists of a slice as they grow from the last row back.
-use Rattle.std.specs.Prelude.{◌≡◌, ℕ, List, reverse}
-use Rattle.bn_base.specs.declared.row.Row.{Row}
+use Rattle.std.specs.Prelude.{◌≡◌, List, reverse}
 use Rattle.slice_back.specs.declared.noted.Noted.{Noted}
 use Rattle.slice_back.specs.Slices.{live, slice_rows, slice_words, slice_branches}
 use Rattle.slice_back.specs.declared.slicing.Slicing.{Slicing}

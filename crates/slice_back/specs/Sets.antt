@@ -1,5 +1,5 @@
 -- The live registers and words of rows, as a set holds them.
-use Rattle.std.specs.Prelude.{◌≡◌, ℕ, ◌*◌, ◌<◌, Bool, true, false, List, get_or, Option, Some, None, is_some}
+use Rattle.std.specs.Prelude.{◌≡◌, ℕ, ◌*◌, ◌<◌, Bool, false, List, get_or, is_some}
 use Rattle.hart_replay.specs.Pages.{Frame, word_at}
 use Rattle.slice_back.specs.Slices.{Live}
 

@@ -1,15 +1,15 @@
 -- The backward slice of a row of an interval, by tests that compute.
-use Rattle.std.specs.Prelude.{◌≡◌, ℕ, zero, suc, ◌+◌, ◌-◌, ◌==◌, Bool, true, false, not, ◌&&◌, ◌||◌, List, [], ◌∷◌, slice_index, Option, Some, None, Result, Ok, Err}
+use Rattle.std.specs.Prelude.{ℕ, zero, suc, ◌+◌, ◌==◌, Bool, true, false, not, ◌&&◌, ◌||◌, List, [], ◌∷◌, slice_index, Option, Some, None, Result, Ok, Err}
 use Rattle.bn_base.specs.Programs.{Program}
 use Rattle.bn_base.specs.declared.row.Row.{Row}
 use Rattle.log_record.specs.declared.record.Record.{Record}
-use Rattle.hart_replay.specs.Replay.{Replayed, Outcome, Done, Refused, Interval, interval_of, replayed}
+use Rattle.hart_replay.specs.Replay.{Replayed, Done, Refused, Interval, interval_of, replayed}
 use Rattle.hart_replay.specs.Scans.{Pending, due, met}
 use Rattle.slice_back.specs.declared.noted.Noted.{Noted}
 use Rattle.slice_back.specs.declared.lists.Slice.{Slice}
 use Rattle.slice_back.specs.declared.error.SliceError.{SliceError}
 use Rattle.slice_back.specs.declared.error.SliceError.TheVariants.{Replay, NoRow}
-use Rattle.slice_back.specs.Uses.{uses_register, writes_register, used_word, uses_word, stores_word, takes_word, is_branch, word_of, is_of}
+use Rattle.slice_back.specs.Uses.{uses_register, writes_register, used_word, uses_word, stores_word, takes_word, is_branch, word_of}
 
 -- ---- the rows with the first loads that they took
 

@@ -1,4 +1,4 @@
-use Rattle.std.proofs.Common.{◌≡◌, ℕ, zero, suc, Bool, true, false, List, [], ◌∷◌, get_or, refl, ap}
+use Rattle.std.proofs.Common.{◌≡◌, ℕ, zero, suc, false, get_or, refl, ap}
 use Rattle.std.specs.Prelude.{is_some, replicate}
 use Rattle.slice_back.proofs.live_set.LiveSet.new.Goals as goal
 
