@@ -14,3 +14,5 @@ mod records;
 mod replaying;
 #[cfg(test)]
 mod ring;
+#[cfg(test)]
+mod slicing;
