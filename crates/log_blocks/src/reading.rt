@@ -1,0 +1,119 @@
+// Reading a file.
+ghost use Rattle.std.specs.Prelude.{◌≡◌, ◌≢◌, ◌≤◌, ◌+◌, List, ℕ, Some, None, true, drop, length, take, MatchResult, IfOk, IfErr};
+ghost use Rattle.bn_base.specs.Ranges.{IsSetting};
+ghost use Rattle.std.specs.List.{AllByRecursion};
+ghost use Rattle.log_record.specs.Spelling.{total, Fits};
+ghost use Rattle.log_order.specs.Content.{Content, content, IsContent};
+ghost use Rattle.log_file.specs.declared.error.FileError.TheVariants.{OutOfMemory};
+ghost use Rattle.log_file.specs.Layout.{file_bytes, file_bytes2};
+ghost use Rattle.log_blocks.specs.declared.damage.Damage.TheVariants.{File};
+ghost use Rattle.log_blocks.specs.Fields.{settings_in, head_in, dropped_in, size_in, head_digest, blocks_in};
+ghost use Rattle.log_blocks.specs.Faults.{is_second, head_fault};
+ghost use Rattle.log_blocks.specs.Pieces.{Piece, gathered, IsWalk};
+ghost use Rattle.log_blocks.specs.Walks.{AreLaid};
+ghost use Rattle.log_blocks.specs.File.{HasBlocks, IsRecordsFault, IsOrderFault, IsSecondRefusal, IsRefusal, IsRead};
+
+use crate::damage::Damage;
+use crate::gathering::{first_wrong, gather};
+use crate::head::{HEAD_SIZE, checked_settings, head_digest, is_second, program_in};
+use crate::sealing::tail;
+use crate::splitting::split;
+use crate::walking::{Walk, walk_back};
+use bn_base::Settings;
+use le_numbers::{read_u32, read_u64};
+use log_file::FileError;
+use log_order::KeptLog;
+use log_record::{Head, Record};
+use std::alloc::Global;
+
+// The log of records that are in their blocks.
+fn in_order(head: Head, dropped: u64, records: Vec<Record>) -> Result<KeptLog, Damage>
+    requires fit { AllByRecursion (Fits head.settings.format) records.items }
+    requires bound { total records.items ≤ head.settings.log_size }
+    ensures ok { IfOk result (λ c. c ≡ content head dropped records.items) }
+    ensures whole { IfOk result (λ c. IsContent c) }
+    ensures err { IfErr result (IsOrderFault head dropped records.items) }
+{
+    match KeptLog::checked(head, dropped, records) {
+        Ok(log) => Ok(log),
+        Err(found) => Err(Damage::File(FileError::BadOrder {
+            at: found.at,
+            rule: found.rule,
+        })),
+    }
+}
+
+/// What the blocks say that a walk back over the bytes behind a head kept.
+pub(crate) fn content_of(
+    alloc: Global,
+    head: Head,
+    dropped: u64,
+    bytes: &[u8],
+    walk: &Walk,
+) -> Result<KeptLog, Damage>
+    requires laid { (pieces : List Piece) × AreLaid bytes.now walk.now.rest walk.now.size walk.now.sizes.items pieces }
+    requires bound { walk.now.size ≤ head.settings.log_size }
+    ensures { (pieces : List Piece) → AreLaid bytes.now walk.now.rest walk.now.size walk.now.sizes.items pieces → MatchResult result (HasBlocks head dropped (136 + walk.now.rest) pieces) (IsRecordsFault head dropped (136 + walk.now.rest) pieces) }
+{
+    let gathered = gather(alloc, bytes, walk)?;
+    let records = split(alloc, head.settings.format(), &gathered)?;
+    match first_wrong(bytes, walk, dropped, &gathered) {
+        Some(at) => Err(Damage::BadBlock { at }),
+        None => in_order(head, dropped, records),
+    }
+}
+
+// What a file says whose head has no fault and these settings.
+fn content_in(alloc: Global, bytes: &[u8], settings: Settings) -> Result<KeptLog, Damage>
+    requires long { 136 ≤ length bytes.now }
+    requires settings { settings ≡ settings_in bytes.now }
+    requires fault { head_fault bytes.now ≡ None }
+    ensures read { IfOk result (IsRead bytes.now) }
+    ensures refused { IfErr result (IsSecondRefusal bytes.now) }
+{
+    let _range = settings.raw();
+    let said = read_u32(bytes, 100) as usize;
+    let blocks = tail(bytes, HEAD_SIZE);
+    let walk = walk_back(alloc, &head_digest(bytes), said, blocks)?;
+    if 0 < walk.rest {
+        return Err(Damage::BadBlock {
+            at: (HEAD_SIZE + walk.rest) as u64,
+        });
+    }
+    if said != walk.size {
+        return Err(Damage::File(FileError::LengthDiffers {
+            said: said as u64,
+            found: walk.size as u64,
+        }));
+    }
+    let head = Head {
+        settings,
+        digest: program_in(bytes),
+    };
+    content_of(alloc, head, read_u64(bytes, 92), blocks, &walk)
+}
+
+/// What a log file of version 2 says. The error is the first that applies.
+pub(crate) fn read_second(alloc: Global, bytes: &[u8]) -> Result<KeptLog, Damage>
+    ensures read { IfOk result (IsRead bytes.now) }
+    ensures refused { IfErr result (IsSecondRefusal bytes.now) }
+{
+    match checked_settings(bytes) {
+        Err(fault) => Err(Damage::File(fault)),
+        Ok(settings) => content_in(alloc, bytes, settings),
+    }
+}
+
+/// What a log file of either version says.
+pub fn read_file(alloc: Global, bytes: &[u8]) -> Result<KeptLog, Damage>
+    ensures refused { IfErr result (IsRefusal bytes.now) }
+{
+    if is_second(bytes) {
+        read_second(alloc, bytes)
+    } else {
+        match log_file::read_file(alloc, bytes) {
+            Ok(log) => Ok(log),
+            Err(fault) => Err(Damage::File(fault)),
+        }
+    }
+}
