@@ -1,0 +1,6 @@
+pub mod Bytes
+pub mod Left
+pub mod Firsts
+pub mod Backwards
+pub mod Compared
+pub mod Pushed

@@ -22,6 +22,7 @@ pub(crate) fn gather(alloc: Global, bytes: &[u8], walk: &Walk) -> Result<Vec<u8>
     requires { (pieces : List Piece) × AreLaid bytes.now walk.now.rest walk.now.size walk.now.sizes.items pieces }
     ensures { (pieces : List Piece) → AreLaid bytes.now walk.now.rest walk.now.size walk.now.sizes.items pieces → IfOk result (λ v. v.items ≡ gathered pieces) }
 {
+    let _length = bytes.len();
     let mut out = Vec::with_capacity(alloc, walk.size)?;
     let mut at = walk.rest;
     let mut left = walk.sizes.len();
@@ -49,6 +50,7 @@ pub(crate) fn first_wrong(bytes: &[u8], walk: &Walk, dropped: u64, records: &[u8
     requires { (pieces : List Piece) × AreLaid bytes.now walk.now.rest walk.now.size walk.now.sizes.items pieces }
     ensures { (format : ℕ) (rs : List Record) (pieces : List Piece) → AllByRecursion (Fits format) rs → records.now ≡ flat_map bytes_of rs → records.now ≡ gathered pieces → AreLaid bytes.now walk.now.rest walk.now.size walk.now.sizes.items pieces → result ≡ first_wrong (136 + walk.now.rest) (blocks_of dropped rs) pieces }
 {
+    let _length = bytes.len();
     let mut at = walk.rest;
     let mut left = walk.sizes.len();
     let mut rest = records;

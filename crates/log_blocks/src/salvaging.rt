@@ -34,13 +34,13 @@ fn dropped_before(bytes: &[u8], walk: &Walk, dropped: u64) -> u64
     requires { (pieces : List Piece) × AreLaid bytes.now walk.now.rest walk.now.size walk.now.sizes.items pieces }
     ensures { (pieces : List Piece) → AreLaid bytes.now walk.now.rest walk.now.size walk.now.sizes.items pieces → result ≡ dropped_before dropped pieces }
 {
-    match walk.sizes.last() {
-        None => dropped,
-        Some(size) => {
-            let end = walk.rest + *size;
-            read_u64(front(bytes, end + SEAL_SIZE), end)
-        }
+    let _length = bytes.len();
+    let count = walk.sizes.len();
+    if count == 0 {
+        return dropped;
     }
+    let end = walk.rest + walk.sizes[count - 1];
+    read_u64(front(bytes, end + SEAL_SIZE), end)
 }
 
 // What is salvaged of a file whose head has no fault and these settings.

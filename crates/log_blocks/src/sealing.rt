@@ -31,7 +31,8 @@ pub(crate) fn tail(bytes: &[u8], at: usize) -> &[u8]
 // So many bytes from a place on.
 pub(crate) fn part(bytes: &[u8], at: usize, size: usize) -> &[u8]
     requires { at + size ≤ length bytes.now }
-    ensures { result.now ≡ take size (drop at bytes.now) }
+    ensures value { result.now ≡ take size (drop at bytes.now) }
+    ensures len { length result.now ≡ size }
 {
     &tail(bytes, at)[..size]
 }
