@@ -28,3 +28,11 @@ told_by_length xs ys us vs e = by (length ys == length xs) (bytes_eq xs ys) refl
     by false false n t = refl
     by true false n t = sym t ∙ (bytes_eq-Decides xs ys).1 (same_front xs ys us vs e (eqb-true _ _ n))
     by false true n t = sym (eq-eqb (length ys) (length xs) (ap length (sym ((bytes_eq-Decides xs ys).0 t)))) ∙ n
+
+pub some_bytes_of : (xs : List ℕ) → (length xs == 0) ≡ false → 0 < length xs
+some_bytes_of [] e = absurd cc
+some_bytes_of (x ∷ xs) e = omega arith
+
+pub no_bytes_of : (xs : List ℕ) → (length xs == 0) ≡ true → xs ≡ []
+no_bytes_of [] e = refl
+no_bytes_of (x ∷ xs) e = absurd (grind arith)

@@ -37,10 +37,10 @@ compared_none format bytes sizes rs pieces dropped start size count rest small i
 pub add_mod : (a b n k : ℕ) → a ≡ n % 2 ^ 64 → b ≡ (a + k) % 2 ^ 64 → b ≡ (n + k) % 2 ^ 64
 add_mod a b n k e f = omega (arith, e, f)
 
-abbrev block_at : List Record → ℕ → ℕ → Block
+abbrev pub block_at : List Record → ℕ → ℕ → Block
 block_at rs before left = record { records = rs; before = before; left = left }
 
-some_records : (rs : List Record) (bytes : List ℕ) → bytes ≡ flat_map bytes_of rs → 0 < length bytes → 0 < length rs
+pub some_records : (rs : List Record) (bytes : List ℕ) → bytes ≡ flat_map bytes_of rs → 0 < length bytes → 0 < length rs
 some_records [] bytes e lt = absurd (omega (arith, lt, ap length e))
 some_records (r ∷ rs) bytes e lt = omega arith
 

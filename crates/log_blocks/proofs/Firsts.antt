@@ -71,10 +71,14 @@ none_left : (left : List Record) → flat_map bytes_of left ≡ [] → left ≡ 
 none_left [] e = refl
 none_left (r ∷ left) e = absurd (omega (arith, ap length (sym (flat_map-cons bytes_of r left) ∙ e), length-append (bytes_of r) (flat_map bytes_of left), some_bytes r))
 
-total_more : (block : List Record) (r : Record) → total (block ++ r ∷ []) ≡ total block + length (bytes_of r)
+pub total_more : (block : List Record) (r : Record) → total (block ++ r ∷ []) ≡ total block + length (bytes_of r)
 total_more [] r = omega (arith, ap length (flat_map-cons bytes_of r []), length-append (bytes_of r) [])
 total_more (b ∷ block) r =
     omega (arith, total_more block r, ap length (flat_map-cons bytes_of b block), ap length (flat_map-cons bytes_of b (block ++ r ∷ [])), length-append (bytes_of b) (flat_map bytes_of block), length-append (bytes_of b) (flat_map bytes_of (block ++ r ∷ [])))
+
+some_block : (block : List Record) → 0 < total block → 0 < length block
+some_block [] lt = absurd (omega (arith, lt))
+some_block (r ∷ block) lt = omega arith
 
 module _ (tell : TellTheirSize) (format : ℕ) (bytes : List ℕ) (rs : List Record) where
   tag_here : (at : ℕ) (r : Record) (rest : List ℕ) → Fits format r → drop at bytes ≡ bytes_of r ++ rest → size_of (slice_index bytes at) ≡ some (length (bytes_of r))
@@ -118,6 +122,7 @@ module _ (tell : TellTheirSize) (format : ℕ) (bytes : List ℕ) (rs : List Rec
         parts = b.parts;
         count_is = b.count_is;
         size_is = b.size_is;
+        some = λ lt. omega (arith, lt, ap length whole);
         cut = λ lt. b.cut ∙ ap (cut_from b.block at) empty ∙ last b.block (omega (arith, lt, ap length whole)) ∙ ap (λ (t : List Record). b.block ∷ cut_from [] 0 t) (sym empty);
         fit = b.fit;
       }
@@ -143,7 +148,8 @@ module _ (tell : TellTheirSize) (format : ℕ) (bytes : List ℕ) (rs : List Rec
         parts = parts;
         count_is = n;
         size_is = t;
-        cut = λ some. cut ∙ cut_stop block at r left stop ∙ ap (λ (x : List (List Record)). block ∷ x) (sym (cut_first r left (omega (arith, same, small))));
+        some = λ lots. some_block block (omega (arith, stop, t, same, small));
+        cut = λ lots. cut ∙ cut_stop block at r left stop ∙ ap (λ (x : List (List Record)). block ∷ x) (sym (cut_first r left (omega (arith, same, small))));
         fit = fit;
       }
 

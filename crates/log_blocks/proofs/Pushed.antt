@@ -54,19 +54,15 @@ pub pushed_all : (format : ℕ) (digest : List ℕ) (rs : List Record) (dropped 
 pushed_all format digest rs dropped start out rest before empty p =
     sym (p.goes ∙ ap (λ (t : List Record). out ++ all_sealed digest (numbered p.number (cut_from [] 0 t))) (empty_rest p.records rest empty p.rest_is) ∙ append-nil out)
 
--- the first block of some records has some
-some_first : (block rest records : List Record) → records ≡ block ++ rest → 0 < length records → cut_from [] 0 records ≡ block ∷ cut_from [] 0 rest → total block ≡ 0 → ⊥
-some_first (r ∷ block) rest records parts lt cut none = omega (arith, some_bytes r, none, total_first r block)
-some_first [] rest [] parts lt cut none = omega (arith, lt)
-some_first [] rest (r ∷ records) parts lt cut none = ?
+none_first : (block : List Record) → 0 < length block → total block ≡ 0 → ⊥
+none_first [] lt none = omega (arith, lt)
+none_first (r ∷ block) lt none = omega (arith, some_bytes r, none, total_first r block)
 
 pub pushed_stuck : (format : ℕ) (digest : List ℕ) (rs : List Record) (dropped : ℕ) (start out rest : List ℕ) (before count size : ℕ) → 0 < length rest → size ≡ 0 → ((f : ℕ) (x : List Record) → AllByRecursion (Fits f) x → rest ≡ flat_map bytes_of x → IsNext f x count size)
     → PushedTo format digest rs dropped start out rest before → ⊥
 pushed_stuck format digest rs dropped start out rest before count size lt none next p =
     let n = next format p.records p.fit p.rest_is in
-    let lots = some_records p.records rest p.rest_is lt in
-    some_first n.block n.rest p.records n.parts lots (n.cut lots) (omega (arith, none, n.size_is))
-
+    none_first n.block (n.some (some_records p.records rest p.rest_is lt)) (omega (arith, none, n.size_is))
 
 pub pushed_more : (format : ℕ) (digest : List ℕ) (rs : List Record) (dropped : ℕ) (start out more block behind rest : List ℕ) (before after count size : ℕ) → 0 < length rest
     → ((f : ℕ) (x : List Record) → AllByRecursion (Fits f) x → rest ≡ flat_map bytes_of x → IsNext f x count size)

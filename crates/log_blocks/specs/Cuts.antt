@@ -20,6 +20,7 @@ pub record IsNext (format : ℕ) (records : List Record) (count size : ℕ) : Ty
   pub parts : records ≡ block ++ rest
   pub count_is : count ≡ length block
   pub size_is : size ≡ total block
+  pub some : 0 < length records → 0 < length block
   pub cut : 0 < length records → cut_from [] 0 records ≡ block ∷ cut_from [] 0 rest
   pub fit : AllByRecursion (Fits format) rest
 

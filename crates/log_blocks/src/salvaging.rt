@@ -1,5 +1,5 @@
 // What can be read of a damaged file.
-ghost use Rattle.std.specs.Prelude.{◌≡◌, ◌≤◌, List, None, length, IfOk, IfErr};
+ghost use Rattle.std.specs.Prelude.{◌≡◌, ◌≤◌, ◌==◌, ◌&&◌, not, List, None, length, IfOk, IfErr};
 ghost use Rattle.log_blocks.specs.Fields.{settings_in};
 ghost use Rattle.log_blocks.specs.Faults.{head_fault};
 ghost use Rattle.log_blocks.specs.Pieces.{Piece};
@@ -43,6 +43,13 @@ fn dropped_before(bytes: &[u8], walk: &Walk, dropped: u64) -> u64
     read_u64(front(bytes, end + SEAL_SIZE), end)
 }
 
+// Whether there should be bytes of records and no block was kept.
+fn is_lost(said: usize, walk: &Walk) -> bool
+    ensures { result ≡ (not (said == 0) && (length walk.now.sizes.items == 0)) }
+{
+    said != 0 && walk.sizes.is_empty()
+}
+
 // What is salvaged of a file whose head has no fault and these settings.
 fn salvage_in(alloc: Global, bytes: &[u8], settings: Settings) -> Result<KeptLog, SalvageError>
     requires long { 136 ≤ length bytes.now }
@@ -55,7 +62,7 @@ fn salvage_in(alloc: Global, bytes: &[u8], settings: Settings) -> Result<KeptLog
     let said = read_u32(bytes, 100) as usize;
     let blocks = tail(bytes, HEAD_SIZE);
     let walk = walk_back(alloc, &head_digest(bytes), said, blocks)?;
-    if said != 0 && walk.sizes.is_empty() {
+    if is_lost(said, &walk) {
         return Err(SalvageError::NothingLeft);
     }
     let head = Head {
