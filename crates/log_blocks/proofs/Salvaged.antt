@@ -163,13 +163,13 @@ salvaged bytes digest body n rest size sizes head given dropped (Err e) b w kept
 
 -- ---- by cases on what a call answered
 
-pub if_ok : {P : Content → Type 0} {Q : Damage → Type 0} (r : Result Content Damage) → MatchResult r P Q → IfOk r P
-if_ok (Ok c) m = m
-if_ok (Err e) m = tt
+pub if_ok : (P : Content → Type 0) (Q : Damage → Type 0) (r : Result Content Damage) → MatchResult r P Q → IfOk r P
+if_ok P Q (Ok c) m = m
+if_ok P Q (Err e) m = tt
 
-pub if_err : {P : Content → Type 0} {Q : Damage → Type 0} (r : Result Content Damage) → MatchResult r P Q → IfErr r Q
-if_err (Ok c) m = tt
-if_err (Err e) m = m
+pub if_err : (P : Content → Type 0) (Q : Damage → Type 0) (r : Result Content Damage) → MatchResult r P Q → IfErr r Q
+if_err P Q (Ok c) m = tt
+if_err P Q (Err e) m = m
 
 abbrev log_ok : Content → Result Content Damage
 log_ok c = Ok c
