@@ -6,3 +6,7 @@ pub mod Backwards
 pub mod Compared
 pub mod Pushed
 pub mod Salvaged
+pub mod Layouts
+pub mod Goods
+pub mod Sealed
+pub mod Ends

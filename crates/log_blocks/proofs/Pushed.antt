@@ -73,7 +73,7 @@ pushed_more format digest rs dropped start out more block behind rest before aft
     let parts : rest ≡ flat_map bytes_of n.block ++ flat_map bytes_of n.rest = p.rest_is ∙ ap (flat_map bytes_of) n.parts ∙ flat_map-append bytes_of n.block n.rest in
     let here : block ≡ flat_map bytes_of n.block = block_is ∙ ap (take size) parts ∙ take_at (flat_map bytes_of n.block) (flat_map bytes_of n.rest) size (sym n.size_is) in
     let later : behind ≡ flat_map bytes_of n.rest = behind_is ∙ ap (drop size) parts ∙ drop_at (flat_map bytes_of n.block) (flat_map bytes_of n.rest) size (sym n.size_is) in
-    let left : length behind ≡ total_of (cut_from [] 0 n.rest) = ap length later ∙ sym (total_cut n.rest [] 0) in
+    let left : length behind ≡ total_of (cut_from [] 0 n.rest) = omega (arith, ap length later, total_cut n.rest [] 0) in
     let b = block_at n.block p.number (total_of (cut_from [] 0 n.rest)) in
     let same : piece block before (length behind) ≡ piece (flat_map bytes_of n.block) (p.number % 2 ^ 64) (total_of (cut_from [] 0 n.rest)) =
     ap (λ (x : List ℕ). piece x before (length behind)) here ∙ ap₂ (λ (x y : ℕ). piece (flat_map bytes_of n.block) x y) p.before_is left in

@@ -5,6 +5,7 @@ pub mod cutting;
 pub mod damage;
 pub mod gathering;
 pub mod head;
+pub mod laws;
 pub mod reading;
 pub mod salvaging;
 pub mod sealing;
