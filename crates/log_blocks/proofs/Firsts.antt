@@ -36,7 +36,7 @@ cut_step block used r rs le = ap (λ (b : Bool). chosen b block r used (length (
 cut_stop : (block : List Record) (used : ℕ) (r : Record) (rs : List Record) → block_size < used + length (bytes_of r) → cut_from block used (r ∷ rs) ≡ block ∷ cut_from (r ∷ []) (length (bytes_of r)) rs
 cut_stop block used r rs lt = ap (λ (b : Bool). chosen b block r used (length (bytes_of r)) rs) (le_is_not (used + length (bytes_of r)) block_size lt)
 
-cut_first : (r : Record) (rs : List Record) → length (bytes_of r) ≤ block_size → cut_from [] 0 (r ∷ rs) ≡ cut_from (r ∷ []) (length (bytes_of r)) rs
+pub cut_first : (r : Record) (rs : List Record) → length (bytes_of r) ≤ block_size → cut_from [] 0 (r ∷ rs) ≡ cut_from (r ∷ []) (length (bytes_of r)) rs
 cut_first r rs le =
     let n : 0 + length (bytes_of r) ≡ length (bytes_of r) = omega arith in
     cut_step [] 0 r rs (omega (arith, le)) ∙ ap (λ (k : ℕ). cut_from (r ∷ []) k rs) n

@@ -98,7 +98,7 @@ piece_is written long digest n left bytes are g =
 -- ---- the walk
 
 -- each of several pieces has some bytes, and knows how many are behind it
-pub Lefts : List Piece → Type 0
+unfoldable pub Lefts : List Piece → Type 0
 Lefts [] = Unit {0}
 Lefts (p ∷ ps) = (1 ≤ length p.bytes) × ((p.left ≡ length (gathered ps)) × Lefts ps)
 
@@ -108,6 +108,7 @@ pub record WalkSays (digest bytes rest : List ℕ) (kept pieces : List Piece) : 
 
 pub walk_says : AreWritten → HaveTheirWidth → (digest : List ℕ) (n count : ℕ) (bytes : List ℕ) (kept : List Piece) (rest : List ℕ) (pieces : List Piece) → AreBytes bytes → Lefts kept → Walked digest n count bytes kept rest pieces
     → WalkSays digest bytes rest kept pieces
+unfolding Lefts
 walk_says written long digest n zero bytes kept rest pieces are lefts w =
     record { parts = ap₂ (λ (x : List ℕ) (y : List Piece). x ++ pieces_bytes digest y) (sym w.1.0) (sym w.1.1); lefts = subst Lefts (sym w.1.1) lefts }
 walk_says written long digest n (suc count) bytes kept rest pieces are lefts w =

@@ -9,4 +9,6 @@ pub mod Salvaged
 pub mod Layouts
 pub mod Goods
 pub mod Sealed
+pub mod Written
+pub mod Recovered
 pub mod Ends

@@ -17,7 +17,7 @@ total_last : (block : List Record) → total_of (last_block block) ≡ total blo
 total_last [] = refl
 total_last (r ∷ rs) = omega arith
 
-total_first : (r : Record) (rs : List Record) → total (r ∷ rs) ≡ length (bytes_of r) + total rs
+pub total_first : (r : Record) (rs : List Record) → total (r ∷ rs) ≡ length (bytes_of r) + total rs
 total_first r rs = ap length (flat_map-cons bytes_of r rs) ∙ length-append (bytes_of r) (flat_map bytes_of rs)
 
 total_one : (r : Record) → total (r ∷ []) ≡ length (bytes_of r)

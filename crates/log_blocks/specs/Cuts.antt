@@ -7,12 +7,6 @@ use Rattle.log_record.specs.Spelling.{bytes_of, total, Fits}
 use Rattle.log_file.specs.Blocks.{Block, cut_from}
 use Rattle.log_blocks.specs.Pieces.{Piece}
 
--- the bytes are whole records of logs of this format
-pub record AreRecords (format : ℕ) (bytes : List ℕ) : Type 0 where
-  pub records : List Record
-  pub fit : AllByRecursion (Fits format) records
-  pub parts : bytes ≡ flat_map bytes_of records
-
 -- the first block of some records has so many of them, which have so many bytes
 pub record IsNext (format : ℕ) (records : List Record) (count size : ℕ) : Type 0 where
   pub block : List Record

@@ -9,6 +9,7 @@ use Rattle.log_order.specs.Content.{Content, IsContent}
 use Rattle.log_file.specs.declared.error.FileError.{FileError}
 use Rattle.log_file.specs.declared.error.FileError.TheVariants.{Short, BadMagic, BadVersion, BadHead, LengthDiffers, DigestDiffers, BadRecord, BadOrder, OutOfMemory}
 use Rattle.log_file.specs.Blocks.{blocks_of}
+use Rattle.log_file.specs.Layout.{file_bytes, file_bytes2}
 use Rattle.log_file.specs.File as first
 use Rattle.log_blocks.specs.declared.damage.Damage.{Damage}
 use Rattle.log_blocks.specs.declared.damage.Damage.TheVariants.{File, BadBlock}
@@ -130,6 +131,10 @@ IsFirstRefusal bytes (BadBlock at) = ⊥
 -- the first refusal, by the version that the bytes name
 abbrev pub IsRefusal : List ℕ → Damage → Type 0
 IsRefusal bytes e = elim (is_second bytes) [ true ↦ IsSecondRefusal bytes e | false ↦ IsFirstRefusal bytes e ]
+
+-- the bytes are the spelling of a log in the version that they name
+abbrev pub IsSpelled : List ℕ → Content → Type 0
+IsSpelled bytes c = elim (is_second bytes) [ true ↦ bytes ≡ file_bytes2 c | false ↦ bytes ≡ file_bytes c ]
 
 -- ---- salvage
 

@@ -11,7 +11,7 @@ ghost use Rattle.log_blocks.specs.Fields.{settings_in, head_in, dropped_in, size
 ghost use Rattle.log_blocks.specs.Faults.{is_second, head_fault};
 ghost use Rattle.log_blocks.specs.Pieces.{Piece, gathered, IsWalk};
 ghost use Rattle.log_blocks.specs.Walks.{AreLaid};
-ghost use Rattle.log_blocks.specs.File.{HasBlocks, IsRecordsFault, IsOrderFault, IsSecondRefusal, IsRefusal, IsRead};
+ghost use Rattle.log_blocks.specs.File.{HasBlocks, IsRecordsFault, IsOrderFault, IsSecondRefusal, IsRefusal, IsSpelled, IsRead};
 
 use crate::damage::Damage;
 use crate::gathering::{first_wrong, gather};
@@ -20,9 +20,11 @@ use crate::sealing::tail;
 use crate::splitting::split;
 use crate::walking::{Walk, walk_back};
 use bn_base::Settings;
+use le_numbers::laws::{numbers_have_their_width, read_numbers_are_written};
 use le_numbers::{read_u32, read_u64};
 use log_file::FileError;
 use log_order::KeptLog;
+use log_record::laws::tags_tell_sizes;
 use log_record::{Head, Record};
 use std::alloc::Global;
 
@@ -96,16 +98,24 @@ fn content_in(alloc: Global, bytes: &[u8], settings: Settings) -> Result<KeptLog
 /// What a log file of version 2 says. The error is the first that applies.
 pub(crate) fn read_second(alloc: Global, bytes: &[u8]) -> Result<KeptLog, Damage>
     ensures read { IfOk result (IsRead bytes.now) }
+    ensures spelled { IfOk result (λ c. bytes.now ≡ file_bytes2 c) }
     ensures refused { IfErr result (IsSecondRefusal bytes.now) }
 {
+    read_numbers_are_written();
+    numbers_have_their_width();
+    tags_tell_sizes();
     match checked_settings(bytes) {
         Err(fault) => Err(Damage::File(fault)),
         Ok(settings) => content_in(alloc, bytes, settings),
     }
 }
 
-/// What a log file of either version says.
+/// What a log file of either version says. The error is the first that applies, in the order of the
+/// version that the bytes name.
 pub fn read_file(alloc: Global, bytes: &[u8]) -> Result<KeptLog, Damage>
+    // A log that is read is one that the format has, and the bytes are its spelling.
+    ensures content { IfOk result (λ c. IsContent c) }
+    ensures found { IfOk result (IsSpelled bytes.now) }
     ensures refused { IfErr result (IsRefusal bytes.now) }
 {
     if is_second(bytes) {

@@ -7,7 +7,6 @@ ghost use Rattle.log_order.specs.Content.{content};
 ghost use Rattle.log_file.specs.Layout.{settings_bytes, head_bytes2, file_bytes2};
 ghost use Rattle.log_file.specs.Blocks.{blocks_of, all_sealed};
 ghost use Rattle.log_blocks.specs.Pieces.{piece, piece_bytes};
-ghost use Rattle.log_blocks.specs.Cuts.{AreRecords};
 
 use crate::cutting::next_block;
 use crate::head::{HEAD_SIZE, VERSION};
@@ -104,17 +103,16 @@ fn push_blocks(
     Ok(())
 }
 
-/// The file of version 2 with this head, so many dropped records and these kept ones: whole records
-/// that logs of the head's format have, of at most log-size bytes. They are cut into blocks from the
-/// front, each sealed by a digest. The error comes of want of memory alone.
+/// The file of version 2 with this head, so many dropped records and these kept ones, at most log-size
+/// bytes: whole records that logs of the head's format have, else it is no log's. They are cut into
+/// blocks from the front, each sealed by a digest. The error comes of want of memory alone.
 pub fn write_file2(
     alloc: Global,
     head: &Head,
     dropped: u64,
     records: &[u8],
 ) -> Result<Vec<u8>, AllocError>
-    requires whole { AreRecords head.now.settings.format records.now }
-    requires bound { length records.now ≤ head.now.settings.log_size }
+    requires { length records.now ≤ head.now.settings.log_size }
     ensures { (rs : List Record) → AllByRecursion (Fits head.now.settings.format) rs → records.now ≡ flat_map bytes_of rs → IfOk result (λ v. v.items ≡ file_bytes2 (content head.now dropped rs)) }
 {
     let _bound = head.settings.log_size();
