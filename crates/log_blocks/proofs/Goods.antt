@@ -81,16 +81,16 @@ piece_is written long digest n left bytes are g =
     let m : s + len_in bytes ≡ length bytes - 48 = omega (arith, g.within) in
     let size : length p.bytes ≡ len_in bytes = length-take-le (len_in bytes) (drop s bytes) (omega (arith, length-drop s bytes, g.within)) in
     let e36 : drop (length bytes - 36) bytes ≡ number_bytes 4 (len_in bytes) ++ drop (length bytes - 32) bytes =
-        written 4 (length bytes - 36) bytes are (omega (arith, g.within)) ∙ ap (λ (k : ℕ). number_bytes 4 (len_in bytes) ++ drop k bytes) (omega (arith, g.within)) in
+    written 4 (length bytes - 36) bytes are (omega (arith, g.within)) ∙ ap (λ (k : ℕ). number_bytes 4 (len_in bytes) ++ drop k bytes) (omega (arith, g.within)) in
     let e40 : drop (length bytes - 40) bytes ≡ number_bytes 4 (left_in bytes) ++ drop (length bytes - 36) bytes =
-        written 4 (length bytes - 40) bytes are (omega (arith, g.within)) ∙ ap (λ (k : ℕ). number_bytes 4 (left_in bytes) ++ drop k bytes) (omega (arith, g.within)) in
+    written 4 (length bytes - 40) bytes are (omega (arith, g.within)) ∙ ap (λ (k : ℕ). number_bytes 4 (left_in bytes) ++ drop k bytes) (omega (arith, g.within)) in
     let e48 : drop (length bytes - 48) bytes ≡ number_bytes 8 (before_in bytes) ++ drop (length bytes - 40) bytes =
-        written 8 (length bytes - 48) bytes are (omega (arith, g.within)) ∙ ap (λ (k : ℕ). number_bytes 8 (before_in bytes) ++ drop k bytes) (omega (arith, g.within)) in
+    written 8 (length bytes - 48) bytes are (omega (arith, g.within)) ∙ ap (λ (k : ℕ). number_bytes 8 (before_in bytes) ++ drop k bytes) (omega (arith, g.within)) in
     let tail : drop (length bytes - 48) bytes ≡ number_bytes 8 p.before ++ (number_bytes 4 p.left ++ (number_bytes 4 (length p.bytes) ++ drop (length bytes - 32) bytes)) =
-        e48 ∙ ap (λ (t : List ℕ). number_bytes 8 p.before ++ t) (e40 ∙ ap (λ (t : List ℕ). number_bytes 4 p.left ++ t) (e36 ∙ ap (λ (k : ℕ). number_bytes 4 k ++ drop (length bytes - 32) bytes) (sym size))) in
+    e48 ∙ ap (λ (t : List ℕ). number_bytes 8 p.before ++ t) (e40 ∙ ap (λ (t : List ℕ). number_bytes 4 p.left ++ t) (e36 ∙ ap (λ (k : ℕ). number_bytes 4 k ++ drop (length bytes - 32) bytes) (sym size))) in
     let whole : drop s bytes ≡ piece_body p ++ drop (length bytes - 32) bytes =
-        sym (take-append-drop (len_in bytes) (drop s bytes)) ∙ ap (λ (t : List ℕ). p.bytes ++ t) (drop-drop (len_in bytes) s bytes ∙ ap (λ (k : ℕ). drop k bytes) m ∙ tail)
-        ∙ regroup p.bytes (number_bytes 8 p.before) (number_bytes 4 p.left) (number_bytes 4 (length p.bytes)) (drop (length bytes - 32) bytes) in
+    sym (take-append-drop (len_in bytes) (drop s bytes)) ∙ ap (λ (t : List ℕ). p.bytes ++ t) (drop-drop (len_in bytes) s bytes ∙ ap (λ (k : ℕ). drop k bytes) m ∙ tail)
+    ∙ regroup p.bytes (number_bytes 8 p.before) (number_bytes 4 p.left) (number_bytes 4 (length p.bytes)) (drop (length bytes - 32) bytes) in
     let body : take (len_in bytes + 16) (drop s bytes) ≡ piece_body p = ap (take (len_in bytes + 16)) whole ∙ take_at (piece_body p) (drop (length bytes - 32) bytes) (len_in bytes + 16) (omega (arith, body_size long p, size)) in
     let seal : drop (length bytes - 32) bytes ≡ sha256 (digest ++ piece_body p) = g.seal ∙ ap (λ (t : List ℕ). sha256 (digest ++ t)) body in
     sym (take-append-drop s bytes) ∙ ap (λ (t : List ℕ). take s bytes ++ t) (whole ∙ ap (λ (t : List ℕ). piece_body p ++ t) seal)

@@ -64,7 +64,7 @@ cancel xs ys zs e = same_front xs ys zs zs e (omega (arith, ap length e, length-
 pub head_written : AreWritten → (bytes : List ℕ) → AreBytes bytes → Passed bytes → take 104 bytes ≡ head_bytes2 (head_in bytes) (dropped_in bytes) (size_in bytes)
 head_written written bytes are p =
     cancel (take 104 bytes) (head_bytes2 (head_in bytes) (dropped_in bytes) (size_in bytes)) (drop 104 bytes) (
-      take-append-drop 104 bytes ∙ head_parts written bytes are (omega (arith, p.long)) p.begins p.version ∙ sym (head_is_spelled (head_in bytes) (dropped_in bytes) (size_in bytes) (drop 104 bytes)))
+    take-append-drop 104 bytes ∙ head_parts written bytes are (omega (arith, p.long)) p.begins p.version ∙ sym (head_is_spelled (head_in bytes) (dropped_in bytes) (size_in bytes) (drop 104 bytes)))
 
 -- a file is its head, the head's digest, and the blocks
 pub file_parts : AreWritten → (bytes : List ℕ) → AreBytes bytes → Passed bytes → bytes ≡ head_bytes2 (head_in bytes) (dropped_in bytes) (size_in bytes) ++ head_digest bytes ++ blocks_in bytes

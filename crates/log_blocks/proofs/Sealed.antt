@@ -156,9 +156,9 @@ read_is_spelled written long tell bytes are c r =
     let parts = cut_from [] 0 c.records in
     let pieces : blocks_in bytes ≡ pieces_bytes digest r.pieces = sym (append-nil (blocks_in bytes)) ∙ w.parts in
     let cut = sealed_is digest 136 c.dropped r.pieces parts w.lefts (r.blocks.parts ∙ sym (parts_cut c.records [] 0)) (full_first tell c.head.settings.format c.records r.blocks.content.fit)
-        (ap (λ (k : ℕ). first_wrong 136 (blocks_of k c.records) r.pieces) r.blocks.dropped_is ∙ r.blocks.blocks) in
+    (ap (λ (k : ℕ). first_wrong 136 (blocks_of k c.records) r.pieces) r.blocks.dropped_is ∙ r.blocks.blocks) in
     let head : head_bytes2 (head_in bytes) (dropped_in bytes) (size_in bytes) ≡ head_bytes2 c.head c.dropped (total c.records) =
-        head_again (head_in bytes) c.head (dropped_in bytes) c.dropped (size_in bytes) (total c.records) (sym r.blocks.head_is) (sym r.blocks.dropped_is) (r.size_is ∙ ap length r.blocks.parts) in
+    head_again (head_in bytes) c.head (dropped_in bytes) c.dropped (size_in bytes) (total c.records) (sym r.blocks.head_is) (sym r.blocks.dropped_is) (r.size_is ∙ ap length r.blocks.parts) in
     file_parts written bytes are p
     ∙ assemble (head_bytes2 (head_in bytes) (dropped_in bytes) (size_in bytes)) (head_bytes2 c.head c.dropped (total c.records)) digest (blocks_in bytes) (blocks_of c.dropped c.records) head
     (ap sha256 (head_written written bytes are p ∙ head)) (pieces ∙ cut)

@@ -62,8 +62,8 @@ again read long n left front digest p small s =
     let size : length bytes ≡ length front + length p.bytes + 48 = omega (arith, length-append front (piece_bytes digest p), piece_size long digest p) in
     let at0 : drop (length front) bytes ≡ piece_bytes digest p = drop_at front (piece_bytes digest p) (length front) refl in
     let at48 : drop (length bytes - 48) bytes ≡ number_bytes 8 p.before ++ (number_bytes 4 p.left ++ (number_bytes 4 (length p.bytes) ++ d)) =
-        ap (λ (k : ℕ). drop k bytes) (omega (arith, size)) ∙ sym (drop-drop (length p.bytes) (length front) bytes) ∙ ap (drop (length p.bytes)) (at0 ∙ ungroup p.bytes (number_bytes 8 p.before) (number_bytes 4 p.left) (number_bytes 4 (length p.bytes)) d)
-        ∙ drop_at p.bytes (number_bytes 8 p.before ++ (number_bytes 4 p.left ++ (number_bytes 4 (length p.bytes) ++ d))) (length p.bytes) refl in
+    ap (λ (k : ℕ). drop k bytes) (omega (arith, size)) ∙ sym (drop-drop (length p.bytes) (length front) bytes) ∙ ap (drop (length p.bytes)) (at0 ∙ ungroup p.bytes (number_bytes 8 p.before) (number_bytes 4 p.left) (number_bytes 4 (length p.bytes)) d)
+    ∙ drop_at p.bytes (number_bytes 8 p.before ++ (number_bytes 4 p.left ++ (number_bytes 4 (length p.bytes) ++ d))) (length p.bytes) refl in
     let r48 = read 8 (length bytes - 48) p.before bytes _ (omega (arith, s.before_fits)) at48 in
     let at40 : drop (length bytes - 40) bytes ≡ number_bytes 4 p.left ++ (number_bytes 4 (length p.bytes) ++ d) = ap (λ (k : ℕ). drop k bytes) (omega (arith, size)) ∙ r48.1 in
     let r40 = read 4 (length bytes - 40) p.left bytes _ (omega (arith, s.left_is, s.few, small)) at40 in
@@ -94,17 +94,17 @@ good_again read long n left front digest p small s =
     let a = again read long n left front digest p small s in
     let bytes = front ++ piece_bytes digest p in
     let body : take (len_in bytes + 16) (drop (start_in bytes) bytes) ≡ piece_body p =
-        ap₂ (λ (k m : ℕ). take (k + 16) (drop m bytes)) a.len_is a.start_is ∙ ap (take (length p.bytes + 16)) a.rest_is ∙ take_at (piece_body p) (sha256 (digest ++ piece_body p)) (length p.bytes + 16) (body_size long p) in
+    ap₂ (λ (k m : ℕ). take (k + 16) (drop m bytes)) a.len_is a.start_is ∙ ap (take (length p.bytes + 16)) a.rest_is ∙ take_at (piece_body p) (sha256 (digest ++ piece_body p)) (length p.bytes + 16) (body_size long p) in
     let seal : bytes_eq (drop (length bytes - 32) bytes) (sha256 (digest ++ take (len_in bytes + 16) (drop (start_in bytes) bytes))) ≡ true =
-        (bytes_eq-Decides _ _).1 (a.seal ∙ ap (λ (t : List ℕ). sha256 (digest ++ t)) (sym body)) in
+    (bytes_eq-Decides _ _).1 (a.seal ∙ ap (λ (t : List ℕ). sha256 (digest ++ t)) (sym body)) in
     let sized : is_sized (len_in bytes) (left_in bytes) left n (length bytes) ≡ true =
-        rw (
-          le_is 1 (len_in bytes) (omega (arith, s.low, a.len_is)),
-          le_is (len_in bytes) block_size (omega (arith, s.high, a.len_is)),
-          le_is (len_in bytes + 48) (length bytes) (omega (arith, a.len_is, a.long)),
-          eq-eqb (left_in bytes) left (a.left_is ∙ s.left_is),
-          le_is (left + len_in bytes) n (omega (arith, s.few, a.len_is)),
-        ) refl in
+    rw (
+      le_is 1 (len_in bytes) (omega (arith, s.low, a.len_is)),
+      le_is (len_in bytes) block_size (omega (arith, s.high, a.len_is)),
+      le_is (len_in bytes + 48) (length bytes) (omega (arith, a.len_is, a.long)),
+      eq-eqb (left_in bytes) left (a.left_is ∙ s.left_is),
+      le_is (left + len_in bytes) n (omega (arith, s.few, a.len_is)),
+    ) refl in
     rw (lt_not (length bytes) 48 (omega (arith, a.long)), sized, seal) refl
 
 piece_again : (p : Piece) (bytes : List ℕ) (before left : ℕ) → bytes ≡ p.bytes → before ≡ p.before → left ≡ p.left → piece bytes before left ≡ p
@@ -116,8 +116,8 @@ piece_read read long n left front digest p small s =
     let bytes = front ++ piece_bytes digest p in
     let d = sha256 (digest ++ piece_body p) in
     let records : take (len_in bytes) (drop (start_in bytes) bytes) ≡ p.bytes =
-        ap₂ (λ (k m : ℕ). take k (drop m bytes)) a.len_is a.start_is ∙ ap (take (length p.bytes)) (a.rest_is ∙ ungroup p.bytes (number_bytes 8 p.before) (number_bytes 4 p.left) (number_bytes 4 (length p.bytes)) d)
-        ∙ take_at p.bytes (number_bytes 8 p.before ++ (number_bytes 4 p.left ++ (number_bytes 4 (length p.bytes) ++ d))) (length p.bytes) refl in
+    ap₂ (λ (k m : ℕ). take k (drop m bytes)) a.len_is a.start_is ∙ ap (take (length p.bytes)) (a.rest_is ∙ ungroup p.bytes (number_bytes 8 p.before) (number_bytes 4 p.left) (number_bytes 4 (length p.bytes)) d)
+    ∙ take_at p.bytes (number_bytes 8 p.before ++ (number_bytes 4 p.left ++ (number_bytes 4 (length p.bytes) ++ d))) (length p.bytes) refl in
     piece_again p _ _ _ records a.before_is a.left_is
 
 -- sound pieces are walked over, and the walk goes on ahead of them
@@ -131,7 +131,7 @@ walked_over read long digest n small (p ∷ ps) front kept more rest pieces soun
     let first : Walked digest n (suc more) (front ++ piece_bytes digest p) (ps ++ kept) rest pieces = (
       good_again read long n left front digest p small sound.0,
       subst (λ (t : List ℕ). Walked digest n more t (piece_in (front ++ piece_bytes digest p) ∷ (ps ++ kept)) rest pieces) (sym a.ahead)
-      (subst (λ (q : Piece). Walked digest n more front (q ∷ (ps ++ kept)) rest pieces) (sym (piece_read read long n left front digest p small sound.0)) w),
+          (subst (λ (q : Piece). Walked digest n more front (q ∷ (ps ++ kept)) rest pieces) (sym (piece_read read long n left front digest p small sound.0)) w),
     ) in
     let later = walked_over read long digest n small ps (front ++ piece_bytes digest p) kept (suc more) rest pieces sound.1 first in
     subst (λ (t : List ℕ). Walked digest n (length (p ∷ ps) + more) t kept rest pieces) (append_assoc front (piece_bytes digest p) (pieces_bytes digest ps))

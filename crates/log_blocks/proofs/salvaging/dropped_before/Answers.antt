@@ -11,26 +11,35 @@ returns-then-count-eq0 c = λ pieces l. before_none c.args.bytes.now c.args.walk
 pub overflow_add-end : goal.overflow_add-end
 overflow_add-end c =
     let count : c.len-count.result ≡ length c.args.walk.now.sizes.items = omega (arith, c.len-count.ensures, c.args.walk.now.sizes.ok) in
-    omega (arith, within c.args.bytes.now c.args.walk.now.sizes.items c.args.walk.now.rest (c.len-count.result - 1) c.len-count.result c.index.result.now c.requires.0 (omega (arith, c.if-count-eq0.false)) (omega (arith, c.if-count-eq0.false, count)) c.index.ensures
-    (all_left c.args.bytes.now c.args.walk.now.sizes.items c.args.walk.now.rest c.args.walk.now.size c.len-count.result c.requires.0 count c.requires.1))
+    omega (
+      arith,
+      within c.args.bytes.now c.args.walk.now.sizes.items c.args.walk.now.rest (c.len-count.result - 1) c.len-count.result c.index.result.now c.requires.0 (omega (arith, c.if-count-eq0.false)) (omega (arith, c.if-count-eq0.false, count)) c.index.ensures
+          (all_left c.args.bytes.now c.args.walk.now.sizes.items c.args.walk.now.rest c.args.walk.now.size c.len-count.result c.requires.0 count c.requires.1),
+    )
 
 pub overflow_add-end-2 : goal.overflow_add-end-2
 overflow_add-end-2 c =
     let count : c.len-count.result ≡ length c.args.walk.now.sizes.items = omega (arith, c.len-count.ensures, c.args.walk.now.sizes.ok) in
-    omega (arith, within c.args.bytes.now c.args.walk.now.sizes.items c.args.walk.now.rest (c.len-count.result - 1) c.len-count.result c.index.result.now c.requires.0 (omega (arith, c.if-count-eq0.false)) (omega (arith, c.if-count-eq0.false, count)) c.index.ensures
-    (all_left c.args.bytes.now c.args.walk.now.sizes.items c.args.walk.now.rest c.args.walk.now.size c.len-count.result c.requires.0 count c.requires.1))
+    omega (
+      arith,
+      within c.args.bytes.now c.args.walk.now.sizes.items c.args.walk.now.rest (c.len-count.result - 1) c.len-count.result c.index.result.now c.requires.0 (omega (arith, c.if-count-eq0.false)) (omega (arith, c.if-count-eq0.false, count)) c.index.ensures
+          (all_left c.args.bytes.now c.args.walk.now.sizes.items c.args.walk.now.rest c.args.walk.now.size c.len-count.result c.requires.0 count c.requires.1),
+    )
 
 pub front-requires : goal.front-requires
 front-requires c =
     let count : c.len-count.result ≡ length c.args.walk.now.sizes.items = omega (arith, c.len-count.ensures, c.args.walk.now.sizes.ok) in
-    omega (arith, within c.args.bytes.now c.args.walk.now.sizes.items c.args.walk.now.rest (c.len-count.result - 1) c.len-count.result c.index.result.now c.requires.0 (omega (arith, c.if-count-eq0.false)) (omega (arith, c.if-count-eq0.false, count)) c.index.ensures
-    (all_left c.args.bytes.now c.args.walk.now.sizes.items c.args.walk.now.rest c.args.walk.now.size c.len-count.result c.requires.0 count c.requires.1))
+    omega (
+      arith,
+      within c.args.bytes.now c.args.walk.now.sizes.items c.args.walk.now.rest (c.len-count.result - 1) c.len-count.result c.index.result.now c.requires.0 (omega (arith, c.if-count-eq0.false)) (omega (arith, c.if-count-eq0.false, count)) c.index.ensures
+          (all_left c.args.bytes.now c.args.walk.now.sizes.items c.args.walk.now.rest c.args.walk.now.size c.len-count.result c.requires.0 count c.requires.1),
+    )
 
 pub read_u64-requires : goal.read_u64-requires
 read_u64-requires c =
     let count : c.len-count.result ≡ length c.args.walk.now.sizes.items = omega (arith, c.len-count.ensures, c.args.walk.now.sizes.ok) in
     let end = within c.args.bytes.now c.args.walk.now.sizes.items c.args.walk.now.rest (c.len-count.result - 1) c.len-count.result c.index.result.now c.requires.0 (omega (arith, c.if-count-eq0.false)) (omega (arith, c.if-count-eq0.false, count)) c.index.ensures
-        (all_left c.args.bytes.now c.args.walk.now.sizes.items c.args.walk.now.rest c.args.walk.now.size c.len-count.result c.requires.0 count c.requires.1) in
+    (all_left c.args.bytes.now c.args.walk.now.sizes.items c.args.walk.now.rest c.args.walk.now.size c.len-count.result c.requires.0 count c.requires.1) in
     omega (arith, ap length c.front.ensures, length-take-le (c.args.walk.now.rest + c.index.result.now + 48) c.args.bytes.now end)
 
 pub returns : goal.returns
