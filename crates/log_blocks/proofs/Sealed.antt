@@ -73,7 +73,7 @@ none_there : (end : ℕ) → ◌≡◌ {A = Option ℕ} (Some end) None → ⊥
 none_there end e = cc
 
 -- each part has some bytes
-pub Full : List (List Record) → Type 0
+unfoldable pub Full : List (List Record) → Type 0
 Full [] = Unit {0}
 Full (rs ∷ rest) = (0 < total rs) × Full rest
 

@@ -22,7 +22,7 @@ pub record IsSound (n left : ℕ) (p : Piece) : Type 0 where
   pub before_fits : p.before < 2 ^ 64
 
 -- each is, by those behind it and those kept before
-pub AreSound : ℕ → List Piece → List Piece → Type 0
+unfoldable pub AreSound : ℕ → List Piece → List Piece → Type 0
 AreSound n kept [] = Unit {0}
 AreSound n kept (p ∷ ps) = IsSound n (length (gathered (ps ++ kept))) p × AreSound n kept ps
 
@@ -124,7 +124,8 @@ piece_read read long n left front digest p small s =
 pub walked_over : AreRead → HaveTheirWidth → (digest : List ℕ) (n : ℕ) → n < 2 ^ 32 → (ps : List Piece) (front : List ℕ) (kept : List Piece) (more : ℕ) (rest : List ℕ) (pieces : List Piece) → AreSound n kept ps
     → Walked digest n more front (ps ++ kept) rest pieces → Walked digest n (length ps + more) (front ++ pieces_bytes digest ps) kept rest pieces
 unfolding AreSound
-walked_over read long digest n small [] front kept more rest pieces sound w = subst (λ (t : List ℕ). Walked digest n more t kept rest pieces) (sym (append-nil front)) w
+walked_over read long digest n small [] front kept more rest pieces sound w =
+    subst (λ (k : ℕ). Walked digest n k (front ++ []) kept rest pieces) (omega arith) (subst (λ (t : List ℕ). Walked digest n more t kept rest pieces) (sym (append-nil front)) w)
 walked_over read long digest n small (p ∷ ps) front kept more rest pieces sound w =
     let left = length (gathered (ps ++ kept)) in
     let a = again read long n left front digest p small sound.0 in

@@ -1,5 +1,36 @@
 // What blocks, files and logs have to do with each other.
-ghost use Rattle.log_blocks.specs.Laws.{LastBlocksAreAnEnd};
+ghost use Rattle.log_blocks.specs.Laws.{SayOneThing, AreNotRefused, HaveTheirSize, LastBlocksAreAnEnd};
+
+use le_numbers::laws::{numbers_have_their_width, written_numbers_are_read};
+use log_record::laws::{no_record_begins_another, tags_tell_sizes};
+
+/// No file of version 2 says two things.
+pub fn files_say_one_thing()
+    ensures { SayOneThing }
+{
+    written_numbers_are_read();
+    numbers_have_their_width();
+    tags_tell_sizes();
+    no_record_begins_another();
+}
+
+/// Bytes that are a log's in version 2 have no cause for a refusal.
+pub fn logs_are_not_refused()
+    ensures { AreNotRefused }
+{
+    written_numbers_are_read();
+    numbers_have_their_width();
+    tags_tell_sizes();
+    no_record_begins_another();
+}
+
+/// The file of version 2 of a log has 136 bytes, and 48 a block, more than the records that the log
+/// keeps.
+pub fn files_have_their_size()
+    ensures { HaveTheirSize }
+{
+    numbers_have_their_width();
+}
 
 /// The last blocks of some records hold the last of them, know how many are ahead, and are the
 /// blocks into which they are cut again: what is salvaged of a log is an end of it.
