@@ -11,4 +11,5 @@ pub mod Goods
 pub mod Sealed
 pub mod Written
 pub mod Recovered
+pub mod Versions
 pub mod Ends

@@ -207,7 +207,7 @@ faultless bytes long begins version ranges within digest =
       (bytes_eq-Decides (kept_digest bytes) (head_digest bytes)).1 digest,
     ) refl
 
-no_fault_again : AreRead → HaveTheirWidth → (c : Content) → IsContent c → head_fault (file_bytes2 c) ≡ None
+pub no_fault_again : AreRead → HaveTheirWidth → (c : Content) → IsContent c → head_fault (file_bytes2 c) ≡ None
 no_fault_again read long c is =
     let a = content_again read c is in
     let p = placed long c is in
@@ -275,8 +275,7 @@ unfolding pieces_of Full Bounded AreSound
 sound n number [] full bounded le = tt
 sound n number (rs ∷ rest) full bounded le =
     let behind : length (gathered (pieces_of (numbered (number + length rs) rest) ++ [])) ≡ total_of rest =
-        ap (λ (t : List Piece). length (gathered t)) (append-nil (pieces_of (numbered (number + length rs) rest))) ∙ ap length (gathered_are (number + length rs) rest) ∙ parts_total rest in
-    (
+    ap (λ (t : List Piece). length (gathered t)) (append-nil (pieces_of (numbered (number + length rs) rest))) ∙ ap length (gathered_are (number + length rs) rest) ∙ parts_total rest in (
       record { low = omega (arith, full.0); high = bounded.0; left_is = sym behind; few = omega (arith, behind, le); before_fits = small_mod number },
       sound n (number + length rs) rest full.1 bounded.1 (omega (arith, le)),
     )
@@ -323,7 +322,7 @@ no_stop alone format (r ∷ rs) [] rest fr fb e more none = none r (flat_map byt
 no_stop alone format [] (b ∷ bs) rest fr fb e more none = omega (arith, more, ap length e, length-append (flat_map bytes_of (b ∷ bs)) rest)
 no_stop alone format (r ∷ rs) (b ∷ bs) rest fr fb e more none =
     let f : bytes_of r ++ flat_map bytes_of rs ≡ bytes_of b ++ (flat_map bytes_of bs ++ rest) =
-        sym (flat_map-cons bytes_of r rs) ∙ e ∙ ap (λ (t : List ℕ). t ++ rest) (flat_map-cons bytes_of b bs) ∙ append_assoc (bytes_of b) (flat_map bytes_of bs) rest in
+    sym (flat_map-cons bytes_of r rs) ∙ e ∙ ap (λ (t : List ℕ). t ++ rest) (flat_map-cons bytes_of b bs) ∙ append_assoc (bytes_of b) (flat_map bytes_of bs) rest in
     let o = alone r b (flat_map bytes_of rs) (flat_map bytes_of bs ++ rest) fr.0.fields fb.0.fields f in
     no_stop alone format rs bs rest fr.1 fb.1 o.1 more none
 
@@ -404,7 +403,7 @@ one_content read long tell alone c d ic id e =
     let head : c.head ≡ d.head = sym a.head ∙ ap head_in e ∙ b.head in
     let dropped : c.dropped ≡ d.dropped = sym a.dropped_is ∙ ap dropped_in e ∙ b.dropped_is in
     let other : IsWalk (head_digest (file_bytes2 c)) (size_in (file_bytes2 c)) (blocks_in (file_bytes2 c)) [] (pieces_for d) =
-        subst (λ (t : List ℕ). IsWalk (head_digest t) (size_in t) (blocks_in t) [] (pieces_for d)) (sym e) (walked_for read long tell d id) in
+    subst (λ (t : List ℕ). IsWalk (head_digest t) (size_in t) (blocks_in t) [] (pieces_for d)) (sym e) (walked_for read long tell d id) in
     let s = one_walk _ _ _ _ _ _ _ (walked_for read long tell c ic) other in
     let rs = one_list alone c.head.settings.format d.head.settings.format c.records d.records ic.fit id.fit (sym (gathered_for c) ∙ ap gathered s.pieces_are ∙ gathered_for d) in
     ap (λ (h : Head). content h c.dropped c.records) head ∙ ap (λ (n : ℕ). content d.head n c.records) dropped ∙ ap (content d.head d.dropped) rs

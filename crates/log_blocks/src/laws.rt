@@ -1,8 +1,16 @@
 // What blocks, files and logs have to do with each other.
-ghost use Rattle.log_blocks.specs.Laws.{SayOneThing, AreNotRefused, HaveTheirSize, LastBlocksAreAnEnd};
+ghost use Rattle.log_blocks.specs.Laws.{NameTheirVersion, SayOneThing, AreNotRefused, HaveTheirSize, LastBlocksAreAnEnd};
 
 use le_numbers::laws::{numbers_have_their_width, written_numbers_are_read};
 use log_record::laws::{no_record_begins_another, tags_tell_sizes};
+
+/// The files of both versions are told apart by the version that they name.
+pub fn files_name_their_version()
+    ensures { NameTheirVersion }
+{
+    written_numbers_are_read();
+    numbers_have_their_width();
+}
 
 /// No file of version 2 says two things.
 pub fn files_say_one_thing()

@@ -16,6 +16,7 @@ ghost use Rattle.log_blocks.specs.File.{HasBlocks, IsRecordsFault, IsOrderFault,
 use crate::damage::Damage;
 use crate::gathering::{first_wrong, gather};
 use crate::head::{HEAD_SIZE, checked_settings, head_digest, is_second, program_in};
+use crate::laws::{files_name_their_version, files_say_one_thing, logs_are_not_refused};
 use crate::sealing::tail;
 use crate::splitting::split;
 use crate::walking::{Walk, walk_back};
@@ -110,10 +111,7 @@ pub(crate) fn read_second(alloc: Global, bytes: &[u8]) -> Result<KeptLog, Damage
     }
 }
 
-/// What a log file of either version says. The error is the first that applies, in the order of the
-/// version that the bytes name.
-pub fn read_file(alloc: Global, bytes: &[u8]) -> Result<KeptLog, Damage>
-    // A log that is read is one that the format has, and the bytes are its spelling.
+fn read_either(alloc: Global, bytes: &[u8]) -> Result<KeptLog, Damage>
     ensures content { IfOk result (λ c. IsContent c) }
     ensures found { IfOk result (IsSpelled bytes.now) }
     ensures refused { IfErr result (IsRefusal bytes.now) }
@@ -126,4 +124,23 @@ pub fn read_file(alloc: Global, bytes: &[u8]) -> Result<KeptLog, Damage>
             Err(fault) => Err(Damage::File(fault)),
         }
     }
+}
+
+/// What a log file of either version says. The error is the first that applies, in the order of the
+/// version that the bytes name.
+pub fn read_file(alloc: Global, bytes: &[u8]) -> Result<KeptLog, Damage>
+    // A log that is read is one that the format has, and the bytes are its spelling.
+    ensures content { IfOk result (λ c. IsContent c) }
+    ensures found { IfOk result (IsSpelled bytes.now) }
+    // A log whose spelling in either version the bytes are is read.
+    ensures first { (d : Content) → IsContent d → bytes.now ≡ file_bytes d → MatchResult result (λ c. c ≡ d) (λ e. e ≡ File OutOfMemory) }
+    ensures second { (d : Content) → IsContent d → bytes.now ≡ file_bytes2 d → MatchResult result (λ c. c ≡ d) (λ e. e ≡ File OutOfMemory) }
+    ensures refused { IfErr result (IsRefusal bytes.now) }
+{
+    files_name_their_version();
+    log_file::laws::files_say_one_thing();
+    log_file::laws::logs_are_not_refused();
+    files_say_one_thing();
+    logs_are_not_refused();
+    read_either(alloc, bytes)
 }
