@@ -1,10 +1,10 @@
 -- The walk back over blocks.
-use Rattle.std.proofs.Common.{◌≡◌, ℕ, zero, suc, ◌+◌, ◌-◌, ◌<◌, ◌≤◌, true, false, List, [], ◌∷◌, ◌++◌, length, take, drop, length-append, length-drop, refl, sym, ap, ap₂, subst, ◌∙◌, arith}
+use Rattle.std.proofs.Common.{◌≡◌, ℕ, suc, ◌+◌, ◌-◌, ◌≤◌, true, false, List, [], ◌∷◌, ◌++◌, length, take, drop, length-append, length-drop, refl, sym, ap, ap₂, subst, ◌∙◌, arith}
 use Rattle.std.proofs.lemmas.List.{length-take-le, drop-take}
 use Rattle.std.proofs.Math.Seq.{take-length}
 use Rattle.le_numbers.specs.Numbers.{number_at}
 use Rattle.log_blocks.specs.Pieces.{Piece, gathered, len_in, start_in, piece_in, is_good, Walked, IsWalk}
-use Rattle.log_blocks.specs.Walks.{sizes_of, IsAt, AreAt, AreLaid, HasWalked}
+use Rattle.log_blocks.specs.Walks.{AreAt, AreLaid, HasWalked}
 use Rattle.log_blocks.proofs.Bytes.{take_take}
 
 -- the blocks that were walked over so far, with which each walk from here is one from the end

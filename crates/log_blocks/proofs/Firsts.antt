@@ -3,12 +3,12 @@ use Rattle.std.proofs.Common.{◌≡◌, ℕ, ◌+◌, ◌<◌, ◌≤◌, Bool,
 use Rattle.std.specs.Prelude.{slice_index}
 use Rattle.std.specs.List.{flat_map, AllByRecursion}
 use Rattle.std.proofs.lemmas.List.{drop-drop, drop_at, drop_all, get_or-drop, length-drop}
-use Rattle.std.proofs.lemmas.List.Concat.{flat_map-cons, flat_map-append}
+use Rattle.std.proofs.lemmas.List.Concat.{flat_map-cons}
 use Rattle.log_record.specs.declared.record.Record.{Record}
 use Rattle.log_record.specs.declared.record.Record.TheVariants.{Header, FirstLoad, ScOk, ScFailed, Edge, End}
 use Rattle.log_record.specs.Spelling.{size_of, bytes_of, total, Fits}
 use Rattle.log_record.specs.Laws.{TellTheirSize}
-use Rattle.log_file.specs.Blocks.{block_size, cut_from, last_block, total_of}
+use Rattle.log_file.specs.Blocks.{block_size, cut_from, last_block}
 use Rattle.log_blocks.specs.Cuts.{IsNext}
 
 pub some_bytes : (r : Record) → 0 < length (bytes_of r)

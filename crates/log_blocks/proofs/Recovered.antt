@@ -1,6 +1,6 @@
 -- A file that is written is read again, and nothing is wrong with it.
-use Rattle.std.proofs.Common.{◌≡◌, ℕ, zero, suc, ◌+◌, ◌-◌, ◌*◌, ◌%◌, ◌^◌, ◌<◌, ◌≤◌, Bool, true, false, not, cond, eqb, ltb, nat_le, List, [], ◌∷◌, ◌++◌, length, take, drop, length-append, length-drop, append_assoc, append-nil, Option, Some, None, Result, Ok, Err, inl, inr, refl, sym, ap, ap₂, subst, ◌∙◌, arith}
-use Rattle.std.specs.Prelude.{◌==◌, ◌&&◌, ◌⊎◌, IsTrue, if◌then◌else◌, IfOk, IfErr, MatchResult}
+use Rattle.std.proofs.Common.{◌≡◌, ℕ, ◌+◌, ◌*◌, ◌%◌, ◌^◌, ◌<◌, ◌≤◌, Bool, true, false, ltb, nat_le, List, [], ◌∷◌, ◌++◌, length, take, drop, length-append, append_assoc, append-nil, Option, Some, None, inl, inr, refl, sym, ap, subst, ◌∙◌, arith}
+use Rattle.std.specs.Prelude.{◌==◌, ◌&&◌, IsTrue, if◌then◌else◌}
 use Rattle.std.specs.List.{flat_map, AllByRecursion}
 use Rattle.std.specs.Int.{is_power_of_two}
 use Rattle.std.specs.Str.{bytes_eq}
@@ -25,21 +25,20 @@ use Rattle.log_order.specs.Content.{Content, content, IsContent}
 use Rattle.log_file.specs.declared.error.FileError.{FileError}
 use Rattle.log_file.specs.declared.error.FileError.TheVariants.{Short, BadMagic, BadVersion, BadHead, LengthDiffers, DigestDiffers, BadRecord, BadOrder, OutOfMemory}
 use Rattle.log_file.specs.Layout.{magic, head_bytes2, file_bytes2}
-use Rattle.log_file.specs.Faults.{setting_fault}
 use Rattle.log_file.specs.Blocks.{Block, block_size, cut_from, last_block, total_of, numbered, blocks_of, sealed, all_sealed}
 use Rattle.log_blocks.specs.declared.damage.Damage.{Damage}
 use Rattle.log_blocks.specs.declared.damage.Damage.TheVariants.{File, BadBlock}
-use Rattle.log_blocks.specs.Fields.{settings_in, program_in, head_in, dropped_in, size_in, kept_digest, head_digest, blocks_in}
-use Rattle.log_blocks.specs.Faults.{later_fault, head_fault}
-use Rattle.log_blocks.specs.Pieces.{Piece, piece, piece_of, piece_bytes, pieces_bytes, gathered, IsWalk}
-use Rattle.log_blocks.specs.Cuts.{is_block, piece_end, first_wrong}
-use Rattle.log_blocks.specs.File.{IsRecordsFault, IsWalkFault, IsHeadFault, IsBlocksFault, IsSecondRefusal}
+use Rattle.log_blocks.specs.Fields.{settings_in, head_in, dropped_in, size_in, kept_digest, head_digest, blocks_in}
+use Rattle.log_blocks.specs.Faults.{head_fault}
+use Rattle.log_blocks.specs.Pieces.{Piece, piece_of, pieces_bytes, gathered, IsWalk}
+use Rattle.log_blocks.specs.Cuts.{first_wrong}
+use Rattle.log_blocks.specs.File.{IsRecordsFault, IsWalkFault, IsHeadFault}
 use Rattle.log_blocks.specs.Laws.{SayOneThing, AreNotRefused, HaveTheirSize}
 use Rattle.log_blocks.proofs.Layouts.{spelled, head_is_spelled}
 use Rattle.log_blocks.proofs.Firsts.{some_bytes}
 use Rattle.log_blocks.proofs.Pushed.{total_cut, total_first}
 use Rattle.log_blocks.proofs.Sealed.{parts_bytes, parts_cut, Full, TagsTell, small, full_first}
-use Rattle.log_blocks.proofs.Written.{IsSound, AreSound, Same, walked_whole, one_walk, piece_size}
+use Rattle.log_blocks.proofs.Written.{AreSound, Same, walked_whole, one_walk, piece_size}
 
 -- ---- the fields of a head
 

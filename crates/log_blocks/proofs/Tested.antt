@@ -1,5 +1,5 @@
 -- What a head without a fault says.
-use Rattle.std.proofs.Common.{◌≡◌, ℕ, ◌<◌, ◌≤◌, Bool, true, false, not, cond, eqb, ltb, List, length, take, Option, Some, None, refl, sym, ap, ◌∙◌, arith}
+use Rattle.std.proofs.Common.{◌≡◌, ℕ, ◌≤◌, Bool, true, false, not, cond, eqb, ltb, List, length, take, Option, Some, None, refl, ap, ◌∙◌, arith}
 use Rattle.std.specs.Prelude.{◌≢◌}
 use Rattle.std.specs.Str.{bytes_eq}
 use Rattle.std.proofs.lemmas.Bool.{eqb-true, ltb-false}
@@ -13,7 +13,7 @@ use Rattle.log_file.specs.declared.error.FileError.TheVariants.{Short, BadMagic,
 use Rattle.log_file.specs.Layout.{magic}
 use Rattle.log_file.specs.Faults.{setting_fault}
 use Rattle.log_blocks.specs.Fields.{settings_in, size_in, kept_digest, head_digest}
-use Rattle.log_blocks.specs.Faults.{later_fault, head_fault}
+use Rattle.log_blocks.specs.Faults.{head_fault}
 
 passed : (b : Bool) (e : FileError) (r : Option FileError) → cond (not b) (Some e) r ≡ None → (b ≡ true) × (r ≡ None)
 passed true e r h = (refl, h)

@@ -1,14 +1,11 @@
 -- Which version a file names, and that its log is read.
-use Rattle.std.proofs.Common.{◌≡◌, ℕ, ◌<◌, ◌≤◌, ◌^◌, Bool, true, false, eqb, nat_le, List, [], ◌∷◌, ◌++◌, length, take, drop, append_assoc, Result, Ok, Err, inl, inr, refl, sym, ap, ap₂, subst, ◌∙◌, arith}
-use Rattle.std.specs.Prelude.{◌==◌, ◌&&◌, ◌⊎◌, IfOk, IfErr, MatchResult}
-use Rattle.std.specs.List.{flat_map}
+use Rattle.std.proofs.Common.{◌≡◌, ℕ, ◌≤◌, Bool, true, false, nat_le, List, ◌++◌, length, take, drop, append_assoc, Result, Ok, Err, refl, sym, ap, subst, ◌∙◌, arith}
+use Rattle.std.specs.Prelude.{◌==◌, ◌&&◌, IfOk, IfErr, MatchResult}
 use Rattle.std.specs.Str.{bytes_eq}
 use Rattle.std.proofs.lemmas.Bool.{eq-eqb}
 use Rattle.std.proofs.lemmas.Slice.Eq.{bytes_eq-Decides}
-use Rattle.sha2.specs.Sha256.{sha256}
 use Rattle.le_numbers.specs.Numbers.{number_at, number_bytes}
 use Rattle.le_numbers.specs.Laws.{HaveTheirWidth, AreRead}
-use Rattle.log_record.specs.Spelling.{bytes_of}
 use Rattle.log_order.specs.Content.{Content, IsContent}
 use Rattle.log_file.specs.declared.error.FileError.{FileError}
 use Rattle.log_file.specs.declared.error.FileError.TheVariants.{OutOfMemory}

@@ -1,4 +1,4 @@
-use Rattle.std.proofs.Common.{◌≡◌, ◌≤◌, ◌+◌, ◌<◌, length, refl, arith}
+use Rattle.std.proofs.Common.{◌≤◌, ◌+◌, refl, arith}
 use Rattle.log_blocks.proofs.Firsts.{begun_none, begun_more, begun_all, begun_unknown, begun_over}
 use Rattle.log_blocks.proofs.cutting.next_block.Goals as goal
 

@@ -1,5 +1,5 @@
-use Rattle.std.proofs.Common.{◌≡◌, ℕ, ◌+◌, ◌-◌, ◌<◌, ◌≤◌, List, length, arith, refl, sym, ap, subst, ◌∙◌}
-use Rattle.log_blocks.proofs.Left.{AreLeft, step, all_left, within, behind_it}
+use Rattle.std.proofs.Common.{◌≡◌, ◌+◌, ◌-◌, ◌<◌, length, arith, refl, sym, ◌∙◌}
+use Rattle.log_blocks.proofs.Left.{all_left, within, behind_it}
 use Rattle.log_blocks.proofs.Compared.{compared_none, compared_more, compared_all, differs}
 use Rattle.log_blocks.proofs.gathering.first_wrong.Goals as goal
 

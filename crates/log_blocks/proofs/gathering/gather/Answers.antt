@@ -1,6 +1,4 @@
-use Rattle.std.proofs.Common.{◌≡◌, ℕ, ◌+◌, ◌-◌, ◌<◌, ◌≤◌, ◌++◌, List, length, arith, refl, sym, ap, subst, ◌∙◌}
-use Rattle.std.proofs.lemmas.List.{length-take-le}
-use Rattle.log_blocks.specs.Pieces.{Piece}
+use Rattle.std.proofs.Common.{ℕ, ◌+◌, ◌-◌, List, arith, refl, sym, subst}
 use Rattle.log_blocks.proofs.Left.{GatheredTo, gathered_none, gathered_more, gathered_all, within}
 use Rattle.log_blocks.proofs.gathering.gather.Goals as goal
 

@@ -1,4 +1,4 @@
-use Rattle.std.proofs.Common.{ℕ, ◌≤◌, List, length}
+use Rattle.std.proofs.Common.{◌≤◌, List, length}
 use Rattle.log_blocks.specs.Pieces.{Piece}
 use Rattle.log_blocks.specs.Walks.{AreLaid}
 use Rattle.log_blocks.proofs.Left.{GatheredTo}

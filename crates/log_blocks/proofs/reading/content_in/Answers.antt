@@ -1,10 +1,7 @@
-use Rattle.std.proofs.Common.{◌≡◌, ℕ, ◌<◌, ◌≤◌, List, Result, Ok, Err, refl, sym, ap, ap₂, subst, ◌∙◌, arith}
-use Rattle.std.specs.Prelude.{IfOk, IfErr, MatchResult}
-use Rattle.log_order.specs.Content.{Content}
-use Rattle.log_blocks.specs.declared.damage.Damage.{Damage}
+use Rattle.std.proofs.Common.{arith}
 use Rattle.log_blocks.specs.File.{IsRead, IsSecondRefusal}
 use Rattle.log_blocks.proofs.Tested.{size_bound}
-use Rattle.log_blocks.proofs.Salvaged.{Behind, bad_block, other_length, read_ok, if_ok, if_err, head_is}
+use Rattle.log_blocks.proofs.Salvaged.{bad_block, other_length, read_ok, if_ok, if_err, head_is}
 use Rattle.log_blocks.proofs.reading.content_in.Goals as goal
 
 pub returns-then-walk-gt0-clause-refused : goal.returns-then-walk-gt0-clause-refused

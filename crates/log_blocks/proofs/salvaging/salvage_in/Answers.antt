@@ -1,8 +1,8 @@
-use Rattle.std.proofs.Common.{◌≡◌, ℕ, ◌<◌, ◌≤◌, ◌++◌, List, Result, Ok, Err, refl, sym, ap, ap₂, subst, ◌∙◌, arith}
+use Rattle.std.proofs.Common.{sym, subst, ◌∙◌}
 use Rattle.log_blocks.specs.File.{IsSalvageRefusal}
 use Rattle.log_blocks.specs.declared.damage.SalvageError.{SalvageError}
 use Rattle.log_blocks.proofs.Tested.{size_bound}
-use Rattle.log_blocks.proofs.Salvaged.{Behind, lost, salvaged, salvaged_log, salvage_told, head_is}
+use Rattle.log_blocks.proofs.Salvaged.{lost, salvaged, salvaged_log, salvage_told, head_is}
 use Rattle.log_blocks.proofs.salvaging.salvage_in.Goals as goal
 
 pub returns-then-is_lost-clause-refused : goal.returns-then-is_lost-clause-refused

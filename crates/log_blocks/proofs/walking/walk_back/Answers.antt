@@ -1,4 +1,4 @@
-use Rattle.std.proofs.Common.{◌≡◌, ℕ, ◌+◌, ◌-◌, ◌<◌, ◌≤◌, ◌++◌, List, length, arith, refl, sym, ap, ap₂, subst, ◌∙◌}
+use Rattle.std.proofs.Common.{ℕ, ◌+◌, ◌-◌, List, length, arith, refl, sym, ap, subst, ◌∙◌}
 use Rattle.log_blocks.specs.Pieces.{is_good, len_in}
 use Rattle.log_blocks.proofs.Backwards.{WalkedTo, walked_none, walked_more, walked_all}
 use Rattle.log_blocks.proofs.walking.walk_back.Goals as goal

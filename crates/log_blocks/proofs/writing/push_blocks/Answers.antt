@@ -1,5 +1,4 @@
-use Rattle.std.proofs.Common.{◌≡◌, ℕ, ◌+◌, ◌<◌, ◌≤◌, ◌++◌, List, length, arith, refl, sym, ap, ap₂, subst, ◌∙◌}
-use Rattle.log_blocks.specs.Pieces.{piece, piece_bytes}
+use Rattle.std.proofs.Common.{arith, refl, sym, ◌∙◌}
 use Rattle.log_blocks.proofs.Bytes.{some_bytes_of, no_bytes_of}
 use Rattle.log_blocks.proofs.Pushed.{pushed_none, pushed_all, pushed_stuck, pushed_more}
 use Rattle.log_blocks.proofs.writing.push_blocks.Goals as goal
