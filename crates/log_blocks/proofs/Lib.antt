@@ -12,4 +12,5 @@ pub mod Sealed
 pub mod Written
 pub mod Recovered
 pub mod Versions
+pub mod Uniques
 pub mod Ends

@@ -314,7 +314,7 @@ walked_for read long tell c is =
 -- ---- records
 
 -- no place in the bytes of records is one where nothing begins
-no_stop : BeginNoOther → (format : ℕ) (rs before : List Record) (rest : List ℕ) → AllByRecursion (Fits format) rs → AllByRecursion (Fits format) before → flat_map bytes_of rs ≡ flat_map bytes_of before ++ rest → 0 < length rest
+pub no_stop : BeginNoOther → (format : ℕ) (rs before : List Record) (rest : List ℕ) → AllByRecursion (Fits format) rs → AllByRecursion (Fits format) before → flat_map bytes_of rs ≡ flat_map bytes_of before ++ rest → 0 < length rest
     → ((r : Record) (y : List ℕ) → Fits format r → rest ≡ bytes_of r ++ y → ⊥) → ⊥
 no_stop alone format [] [] rest fr fb e more none = omega (arith, more, ap length e)
 no_stop alone format (r ∷ rs) [] rest fr fb e more none = none r (flat_map bytes_of rs) fr.0 (sym e ∙ flat_map-cons bytes_of r rs)
@@ -329,7 +329,7 @@ nothing_left : (r : Record) (rs : List Record) → flat_map bytes_of (r ∷ rs) 
 nothing_left r rs e = omega (arith, some_bytes r, ap length (sym (flat_map-cons bytes_of r rs) ∙ e), length-append (bytes_of r) (flat_map bytes_of rs))
 
 -- bytes are those of at most one list of records
-one_list : BeginNoOther → (format other : ℕ) (rs ss : List Record) → AllByRecursion (Fits format) rs → AllByRecursion (Fits other) ss → flat_map bytes_of rs ≡ flat_map bytes_of ss → rs ≡ ss
+pub one_list : BeginNoOther → (format other : ℕ) (rs ss : List Record) → AllByRecursion (Fits format) rs → AllByRecursion (Fits other) ss → flat_map bytes_of rs ≡ flat_map bytes_of ss → rs ≡ ss
 one_list alone format other [] [] fr fs e = refl
 one_list alone format other (r ∷ rs) [] fr fs e = absurd (nothing_left r rs e)
 one_list alone format other [] (s ∷ ss) fr fs e = absurd (nothing_left s ss (sym e))

@@ -1,17 +1,21 @@
 -- Laws of blocks and their files, by their names.
-use Rattle.std.specs.Prelude.{◌≡◌, ◌≤◌, ◌+◌, ◌*◌, true, false, ℕ, List, ◌∷◌, ◌++◌, length}
+use Rattle.std.specs.Prelude.{◌≡◌, ◌≤◌, ◌+◌, ◌*◌, true, false, ℕ, List, ◌∷◌, ◌++◌, length, ◌≢◌}
 use Rattle.std.specs.List.{AllByRecursion}
 use Rattle.log_record.specs.declared.record.Record.{Record}
 use Rattle.log_record.specs.Spelling.{bytes_of, total}
 use Rattle.log_order.specs.Content.{Content, IsContent}
 use Rattle.log_file.specs.Layout.{file_bytes, file_bytes2}
 use Rattle.log_file.specs.Blocks.{Block, block_size, blocks_of}
+use Rattle.log_file.specs.declared.error.FileError.{FileError}
 use Rattle.log_file.specs.declared.error.FileError.TheVariants.{OutOfMemory}
+use Rattle.log_file.specs.File as first
+use Rattle.log_blocks.specs.declared.damage.SalvageError.{SalvageError}
+use Rattle.log_blocks.specs.declared.damage.SalvageError.TheVariants as salvage
 use Rattle.log_blocks.specs.declared.damage.Damage.{Damage}
 use Rattle.log_blocks.specs.declared.damage.Damage.TheVariants.{File}
 use Rattle.log_blocks.specs.Cuts.{records_in}
 use Rattle.log_blocks.specs.Faults.{is_second}
-use Rattle.log_blocks.specs.File.{IsSecondRefusal}
+use Rattle.log_blocks.specs.File.{IsSecondRefusal, IsRefusal, IsSalvaged, IsSalvageRefusal}
 
 -- each record fits a block
 abbrev pub AreSmall : List Record → Type 0
@@ -33,6 +37,26 @@ SayOneThing = (c d : Content) → IsContent c → IsContent d → file_bytes2 c 
 -- bytes that are a log's in version 2 have no cause for a refusal
 abbrev pub AreNotRefused : Type 0
 AreNotRefused = (c : Content) → IsContent c → (e : Damage) → IsSecondRefusal (file_bytes2 c) e → e ≡ File OutOfMemory
+
+-- files of version 1 have at most one first cause for a refusal
+abbrev pub FirstAreUnique : Type 0
+FirstAreUnique = (bytes : List ℕ) (e f : FileError) → first.IsRefusal bytes e → first.IsRefusal bytes f → e ≢ OutOfMemory → f ≢ OutOfMemory → e ≡ f
+
+-- and so have files of either version
+abbrev pub RefusalsAreUnique : Type 0
+RefusalsAreUnique = (bytes : List ℕ) (e f : Damage) → IsRefusal bytes e → IsRefusal bytes f → e ≢ File OutOfMemory → f ≢ File OutOfMemory → e ≡ f
+
+-- at most one log is salvaged of some bytes
+abbrev pub SalvagedAreUnique : Type 0
+SalvagedAreUnique = (bytes : List ℕ) (c d : Content) → IsSalvaged bytes c → IsSalvaged bytes d → c ≡ d
+
+-- where one is, there is no cause to refuse that
+abbrev pub SalvagedAreNotRefused : Type 0
+SalvagedAreNotRefused = (bytes : List ℕ) (c : Content) (e : SalvageError) → IsSalvaged bytes c → IsSalvageRefusal bytes e → e ≡ salvage.OutOfMemory
+
+-- and there is at most one cause
+abbrev pub SalvageRefusalsAreUnique : Type 0
+SalvageRefusalsAreUnique = (bytes : List ℕ) (e f : SalvageError) → IsSalvageRefusal bytes e → IsSalvageRefusal bytes f → e ≢ salvage.OutOfMemory → f ≢ salvage.OutOfMemory → e ≡ f
 
 -- a file of version 2 has 136 bytes and 48 a block beside those of its records
 abbrev pub HaveTheirSize : Type 0

@@ -1,5 +1,5 @@
 // What blocks, files and logs have to do with each other.
-ghost use Rattle.log_blocks.specs.Laws.{NameTheirVersion, SayOneThing, AreNotRefused, HaveTheirSize, LastBlocksAreAnEnd};
+ghost use Rattle.log_blocks.specs.Laws.{NameTheirVersion, SayOneThing, AreNotRefused, RefusalsAreUnique, SalvagedAreUnique, SalvagedAreNotRefused, SalvageRefusalsAreUnique, HaveTheirSize, LastBlocksAreAnEnd};
 
 use le_numbers::laws::{numbers_have_their_width, written_numbers_are_read};
 use log_record::laws::{no_record_begins_another, tags_tell_sizes};
@@ -29,6 +29,23 @@ pub fn logs_are_not_refused()
     written_numbers_are_read();
     numbers_have_their_width();
     tags_tell_sizes();
+    no_record_begins_another();
+}
+
+/// Bytes have at most one first cause for a refusal.
+pub fn refusals_are_unique()
+    ensures { RefusalsAreUnique }
+{
+    no_record_begins_another();
+    log_file::laws::refusals_are_unique();
+}
+
+/// What is salvaged of some bytes is one log, or there is one cause to refuse it.
+pub fn salvage_is_unique()
+    ensures log { SalvagedAreUnique }
+    ensures either { SalvagedAreNotRefused }
+    ensures cause { SalvageRefusalsAreUnique }
+{
     no_record_begins_another();
 }
 
