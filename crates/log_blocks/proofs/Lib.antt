@@ -10,7 +10,9 @@ pub mod Layouts
 pub mod Goods
 pub mod Sealed
 pub mod Written
+pub mod Heads
 pub mod Recovered
 pub mod Versions
 pub mod Uniques
+pub mod Kept
 pub mod Ends

@@ -33,199 +33,22 @@ use Rattle.log_blocks.specs.Faults.{head_fault}
 use Rattle.log_blocks.specs.Pieces.{Piece, piece_of, pieces_bytes, gathered, IsWalk}
 use Rattle.log_blocks.specs.Cuts.{first_wrong}
 use Rattle.log_blocks.specs.File.{IsRecordsFault, IsWalkFault, IsHeadFault}
-use Rattle.log_blocks.specs.Laws.{SayOneThing, AreNotRefused, HaveTheirSize}
+use Rattle.log_blocks.specs.Laws.{pieces_of, SayOneThing, AreNotRefused, HaveTheirSize}
 use Rattle.log_blocks.proofs.Layouts.{spelled, head_is_spelled}
 use Rattle.log_blocks.proofs.Firsts.{some_bytes}
 use Rattle.log_blocks.proofs.Pushed.{total_cut, total_first}
 use Rattle.log_blocks.proofs.Sealed.{parts_bytes, parts_cut, Full, TagsTell, small, full_first}
 use Rattle.log_blocks.proofs.Written.{AreSound, Same, walked_whole, one_walk, piece_size}
-
--- ---- the fields of a head
-
-most : (s : RawSettings) → most_harts s ≤ 16
-most s = by (s.format == 2)
-  where
-    by : (b : Bool) → (if b then 16 else 8) ≤ 16
-    by true = omega arith
-    by false = omega arith
-
-abbrev head_with : List ℕ → RawSettings → Head
-head_with digest s = record { settings = s; digest = digest }
-
--- what stands at the places of the fields
-pub record Again (bytes : List ℕ) (h : Head) (dropped n : ℕ) (rest : List ℕ) : Type 0 where
-  pub begins : take 8 bytes ≡ magic
-  pub version : number_at 4 8 bytes ≡ 2
-  pub head : head_in bytes ≡ h
-  pub dropped_is : dropped_in bytes ≡ dropped
-  pub n_is : size_in bytes ≡ n
-  pub rest_is : drop 104 bytes ≡ rest
-
-spelled_again : AreRead → (h : Head) (dropped n : ℕ) (rest bytes : List ℕ) → IsSetting h.settings → length h.digest ≡ 32 → dropped < 2 ^ 64 → n < 2 ^ 32 → bytes ≡ spelled h dropped n rest → Again bytes h dropped n rest
-unfolding spelled magic
-spelled_again read h dropped n rest bytes is len small fits e =
-    let s8 = read 4 8 2 bytes _ (omega arith) (ap (drop 8) e) in
-    let s12 = read 4 12 h.settings.harts bytes _ (omega (arith, most h.settings, is.harts_high)) s8.1 in
-    let s16 = read 4 16 h.settings.interval bytes _ (omega (arith, is.interval_high)) s12.1 in
-    let s20 = read 8 20 h.settings.limit bytes _ (omega (arith, is.limit_high)) s16.1 in
-    let s28 = read 4 28 h.settings.log_size bytes _ (omega (arith, is.log_size_high)) s20.1 in
-    let s32 = read 4 32 h.settings.memory bytes _ (omega (arith, is.memory_high)) s28.1 in
-    let s36 = read 4 36 h.settings.sets bytes _ (omega (arith, is.sets_high)) s32.1 in
-    let s40 = read 4 40 h.settings.ways bytes _ (omega (arith, is.ways_high)) s36.1 in
-    let s44 = read 4 44 h.settings.line bytes _ (omega (arith, is.line_high)) s40.1 in
-    let s48 = read 4 48 h.settings.format bytes _ (omega (arith, is.format_high)) s44.1 in
-    let s52 = read 4 52 h.settings.sets2 bytes _ (omega (arith, eqb-true h.settings.sets2 0 is.second_sets)) s48.1 in
-    let s56 = read 4 56 h.settings.ways2 bytes _ (omega (arith, eqb-true h.settings.ways2 0 is.second_ways)) s52.1 in
-    let digest : take 32 (drop 60 bytes) ≡ h.digest = ap (take 32) s56.1 ∙ take_at h.digest _ 32 len in
-    let later = sym (drop-drop 32 60 bytes) ∙ ap (drop 32) s56.1 ∙ drop_at h.digest _ 32 len in
-    let s92 = read 8 92 dropped bytes _ small later in
-    let s100 = read 4 100 n bytes rest fits s92.1 in
-    let fields : head_in bytes ≡ head_with h.digest h.settings = rw (s12.0, s16.0, s20.0, s28.0, s32.0, s36.0, s40.0, s44.0, s48.0, s52.0, s56.0, digest) refl in
-    record { begins = ap (take 8) e; version = s8.0; head = fields; dropped_is = s92.0; n_is = s100.0; rest_is = s100.1 }
-
-abbrev head_for : Content → List ℕ
-head_for c = head_bytes2 c.head c.dropped (total c.records)
-
-abbrev sealed_for : Content → List ℕ
-sealed_for c = all_sealed (sha256 (head_for c)) (blocks_of c.dropped c.records)
-
--- the bytes of a log's records are fewer than a field of four bytes counts
-small_size : (c : Content) → IsContent c → total c.records < 2 ^ 32
-small_size c is = omega (arith, is.bound, is.settings.log_size_high)
-
-content_again : AreRead → (c : Content) → IsContent c → Again (file_bytes2 c) c.head c.dropped (total c.records) (sha256 (head_for c) ++ sealed_for c)
-content_again read c is =
-    spelled_again read c.head c.dropped (total c.records) (sha256 (head_for c) ++ sealed_for c) (file_bytes2 c) is.settings is.digest is.dropped (small_size c is)
-    (append_assoc (head_for c) (sha256 (head_for c)) (sealed_for c) ∙ head_is_spelled c.head c.dropped (total c.records) (sha256 (head_for c) ++ sealed_for c))
-
-module _ (long : HaveTheirWidth) where
-  number_first : (width n : ℕ) (rest : List ℕ) → length (number_bytes width n ++ rest) ≡ width + length rest
-  number_first width n rest = omega (arith, length-append (number_bytes width n) rest, long width n)
-
-  length-spelled : (h : Head) (dropped n : ℕ) (rest : List ℕ) → length (spelled h dropped n rest) ≡ 72 + length h.digest + length rest
-  unfolding spelled magic
-  length-spelled h dropped n rest =
-      let s = h.settings in
-      let t100 = number_bytes 4 n ++ rest in
-      let t92 = number_bytes 8 dropped ++ t100 in
-      let t60 = h.digest ++ t92 in
-      let t56 = number_bytes 4 s.ways2 ++ t60 in
-      let t52 = number_bytes 4 s.sets2 ++ t56 in
-      let t48 = number_bytes 4 s.format ++ t52 in
-      let t44 = number_bytes 4 s.line ++ t48 in
-      let t40 = number_bytes 4 s.ways ++ t44 in
-      let t36 = number_bytes 4 s.sets ++ t40 in
-      let t32 = number_bytes 4 s.memory ++ t36 in
-      let t28 = number_bytes 4 s.log_size ++ t32 in
-      let t20 = number_bytes 8 s.limit ++ t28 in
-      let t16 = number_bytes 4 s.interval ++ t20 in
-      let t12 = number_bytes 4 s.harts ++ t16 in
-      omega (
-        arith,
-        number_first 4 2 t12,
-        number_first 4 s.harts t16,
-        number_first 4 s.interval t20,
-        number_first 8 s.limit t28,
-        number_first 4 s.log_size t32,
-        number_first 4 s.memory t36,
-        number_first 4 s.sets t40,
-        number_first 4 s.ways t44,
-        number_first 4 s.line t48,
-        number_first 4 s.format t52,
-        number_first 4 s.sets2 t56,
-        number_first 4 s.ways2 t60,
-        length-append h.digest t92,
-        number_first 8 dropped t100,
-        number_first 4 n rest,
-      )
-
-  head_size : (c : Content) → IsContent c → length (head_for c) ≡ 104
-  head_size c is =
-      omega (arith, ap length (sym (append-nil (head_for c)) ∙ head_is_spelled c.head c.dropped (total c.records) []), length-spelled c.head c.dropped (total c.records) [], is.digest)
-
-  -- what stands behind the head
-  pub record Placed (c : Content) : Type 0 where
-    pub head_is : take 104 (file_bytes2 c) ≡ head_for c
-    pub kept : kept_digest (file_bytes2 c) ≡ sha256 (head_for c)
-    pub blocks : blocks_in (file_bytes2 c) ≡ sealed_for c
-    pub enough : 136 ≤ length (file_bytes2 c)
-
-  placed : (c : Content) → IsContent c → Placed c
-  placed c is =
-      let h = head_for c in
-      let d = sha256 h in
-      let e : file_bytes2 c ≡ h ++ (d ++ sealed_for c) = append_assoc h d (sealed_for c) in
-      let behind : drop 104 (file_bytes2 c) ≡ d ++ sealed_for c = ap (drop 104) e ∙ drop_at h (d ++ sealed_for c) 104 (head_size c is) in
-      record {
-        head_is = ap (take 104) e ∙ take_at h (d ++ sealed_for c) 104 (head_size c is);
-        kept = ap (take 32) behind ∙ take_at d (sealed_for c) 32 (length-sha256 h);
-        blocks = sym (drop-drop 32 104 (file_bytes2 c)) ∙ ap (drop 32) behind ∙ drop_at d (sealed_for c) 32 (length-sha256 h);
-        enough = omega (arith, ap length e, length-append h (d ++ sealed_for c), length-append d (sealed_for c), length-sha256 h, head_size c is);
-      }
-
--- ---- a head that is written has no fault
-
-between : (low high value : ℕ) → low ≤ value → value ≤ high → is_between low high value ≡ true
-between low high value l h = grind arith
-
-power : (high value : ℕ) → 1 ≤ value → value ≤ high → IsTrue (is_power_of_two value) → is_small_power high value ≡ true
-power high value l h p = grind arith
-
-memory : (value : ℕ) → 65536 ≤ value → value ≤ 2 ^ 26 → value % 4096 ≡ 0 → is_memory_size value ≡ true
-memory value l h p = grind arith
-
-none_bad : (s : RawSettings) → IsSetting s → first_bad s ≡ None
-none_bad s is =
-    rw (
-      between 1 (most_harts s) s.harts is.harts_low is.harts_high,
-      between 1 10000000 s.interval is.interval_low is.interval_high,
-      between 1 (2 ^ 40) s.limit is.limit_low is.limit_high,
-      between 16384 (2 ^ 28) s.log_size is.log_size_low is.log_size_high,
-      memory s.memory is.memory_low is.memory_high is.memory_pages,
-      power 1024 s.sets is.sets_low is.sets_high is.sets_power,
-      between 1 16 s.ways is.ways_low is.ways_high,
-      power 16 s.line is.line_low is.line_high is.line_power,
-      between 1 1 s.format is.format_low is.format_high,
-      is.second_sets,
-      is.second_ways,
-    ) refl
-
-lt_not : (a b : ℕ) → b ≤ a → ltb a b ≡ false
-lt_not a b e = grind arith
-
-faultless : (bytes : List ℕ) → 136 ≤ length bytes → take 8 bytes ≡ magic → number_at 4 8 bytes ≡ 2 → first_bad (settings_in bytes) ≡ None → size_in bytes ≤ (settings_in bytes).log_size → kept_digest bytes ≡ head_digest bytes → head_fault bytes ≡ None
-unfolding head_fault
-faultless bytes long begins version ranges within digest =
-    rw (
-      lt_not (length bytes) 124 (omega (arith, long)),
-      (bytes_eq-Decides (take 8 bytes) magic).1 begins,
-      eq-eqb _ _ version,
-      lt_not (length bytes) 136 long,
-      ranges,
-      lt_not (settings_in bytes).log_size (size_in bytes) within,
-      (bytes_eq-Decides (kept_digest bytes) (head_digest bytes)).1 digest,
-    ) refl
-
-pub no_fault_again : AreRead → HaveTheirWidth → (c : Content) → IsContent c → head_fault (file_bytes2 c) ≡ None
-no_fault_again read long c is =
-    let a = content_again read c is in
-    let p = placed long c is in
-    let settings : settings_in (file_bytes2 c) ≡ c.head.settings = ap (λ (h : Head). h.settings) a.head in
-    faultless (file_bytes2 c) p.enough a.begins a.version (ap first_bad settings ∙ none_bad c.head.settings is.settings) (omega (arith, a.n_is, ap (λ (s : RawSettings). s.log_size) settings, is.bound)) (p.kept ∙ sym (ap sha256 p.head_is))
+use Rattle.log_blocks.proofs.Heads.{Again, head_for, sealed_for, small_size, content_again, head_size, Placed, placed, no_fault_again}
 
 -- ---- the blocks of a log as pieces
 
-pieces_of : List Block → List Piece
-pieces_of [] = []
-pieces_of (b ∷ bs) = piece_of b ∷ pieces_of bs
-
 pieces_are : (digest : List ℕ) (bs : List Block) → pieces_bytes digest (pieces_of bs) ≡ all_sealed digest bs
-unfolding pieces_of
 pieces_are digest [] = refl
 pieces_are digest (b ∷ bs) = ap (λ (t : List ℕ). sealed digest b ++ t) (pieces_are digest bs)
 
 gathered_are : (number : ℕ) (parts : List (List Record)) → gathered (pieces_of (numbered number parts)) ≡ parts_bytes parts
-unfolding pieces_of parts_bytes
+unfolding parts_bytes
 gathered_are number [] = refl
 gathered_are number (rs ∷ rest) = ap (λ (t : List ℕ). flat_map bytes_of rs ++ t) (gathered_are (number + length rs) rest)
 
@@ -270,7 +93,7 @@ small_mod : (k : ℕ) → k % 2 ^ 64 < 2 ^ 64
 small_mod k = omega arith
 
 sound : (n number : ℕ) (parts : List (List Record)) → Full parts → Bounded parts → total_of parts ≤ n → AreSound n [] (pieces_of (numbered number parts))
-unfolding pieces_of Full Bounded AreSound
+unfolding Full Bounded AreSound
 sound n number [] full bounded le = tt
 sound n number (rs ∷ rest) full bounded le =
     let behind : length (gathered (pieces_of (numbered (number + length rs) rest) ++ [])) ≡ total_of rest =
@@ -283,7 +106,6 @@ right_if : (a b : Bool) (o : Option ℕ) (end : ℕ) → a ≡ true → b ≡ tr
 right_if a b o end ea eb = rw (ea, eb) refl
 
 all_right : (start number : ℕ) (parts : List (List Record)) → first_wrong start (numbered number parts) (pieces_of (numbered number parts)) ≡ None
-unfolding pieces_of
 all_right start number [] = refl
 all_right start number (rs ∷ rest) =
     right_if (bytes_eq (flat_map bytes_of rs) (flat_map bytes_of rs)) (number % 2 ^ 64 == number % 2 ^ 64) _ _ ((bytes_eq-Decides (flat_map bytes_of rs) (flat_map bytes_of rs)).1 refl) (eq-eqb (number % 2 ^ 64) (number % 2 ^ 64) refl)
@@ -410,7 +232,6 @@ one_content read long tell alone c d ic id e =
 -- ---- how many bytes a file has
 
 sealed_size : HaveTheirWidth → (digest : List ℕ) (bs : List Block) → length (all_sealed digest bs) ≡ length (gathered (pieces_of bs)) + 48 * length bs
-unfolding pieces_of
 sealed_size long digest [] = refl
 sealed_size long digest (b ∷ bs) =
     omega (arith, sealed_size long digest bs, length-append (sealed digest b) (all_sealed digest bs), piece_size long digest (piece_of b), length-append (flat_map bytes_of b.records) (gathered (pieces_of bs)))

@@ -17,7 +17,7 @@ use Rattle.log_blocks.specs.Faults.{is_second}
 use Rattle.log_blocks.specs.File.{IsSecondRefusal, IsFirstRefusal, IsRefusal, IsSpelled}
 use Rattle.log_blocks.specs.Laws.{NameTheirVersion, SayOneThing, AreNotRefused}
 use Rattle.log_blocks.proofs.Tested.{Passed, no_fault}
-use Rattle.log_blocks.proofs.Recovered.{no_fault_again}
+use Rattle.log_blocks.proofs.Heads.{no_fault_again}
 
 le_is : (a b : ℕ) → a ≤ b → nat_le a b ≡ true
 le_is a b e = grind arith

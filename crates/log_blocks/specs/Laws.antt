@@ -1,6 +1,7 @@
 -- Laws of blocks and their files, by their names.
-use Rattle.std.specs.Prelude.{◌≡◌, ◌≤◌, ◌+◌, ◌*◌, true, false, ℕ, List, ◌∷◌, ◌++◌, length, ◌≢◌}
+use Rattle.std.specs.Prelude.{◌≡◌, ◌≤◌, ◌+◌, ◌*◌, true, false, ℕ, List, ◌∷◌, ◌++◌, length, ◌≢◌, ◌%◌, ◌^◌, []}
 use Rattle.std.specs.List.{AllByRecursion}
+use Rattle.log_record.specs.declared.head.Head.{Head}
 use Rattle.log_record.specs.declared.record.Record.{Record}
 use Rattle.log_record.specs.Spelling.{bytes_of, total}
 use Rattle.log_order.specs.Content.{Content, IsContent}
@@ -15,7 +16,8 @@ use Rattle.log_blocks.specs.declared.damage.Damage.{Damage}
 use Rattle.log_blocks.specs.declared.damage.Damage.TheVariants.{File}
 use Rattle.log_blocks.specs.Cuts.{records_in}
 use Rattle.log_blocks.specs.Faults.{is_second}
-use Rattle.log_blocks.specs.File.{IsSecondRefusal, IsRefusal, IsSalvaged, IsSalvageRefusal}
+use Rattle.log_blocks.specs.Pieces.{Piece, piece_of}
+use Rattle.log_blocks.specs.File.{dropped_before, HasBlocks, IsSecondRefusal, IsRefusal, IsSalvaged, IsSalvageRefusal}
 
 -- each record fits a block
 abbrev pub AreSmall : List Record → Type 0
@@ -29,6 +31,17 @@ LastBlocksAreAnEnd = (dropped : ℕ) (records : List Record) (front : List Block
 -- a file of version 2 names it, and one of version 1 doesn't
 abbrev pub NameTheirVersion : Type 0
 NameTheirVersion = (c : Content) → IsContent c → (is_second (file_bytes2 c) ≡ true) × (is_second (file_bytes c) ≡ false)
+
+-- the blocks as they stand in a file
+abbrev pub pieces_of : List Block → List Piece
+pieces_of [] = []
+pieces_of (b ∷ bs) = piece_of b ∷ pieces_of bs
+
+-- where the kept blocks are the last of those of a log, of whatever head, what is salvaged has the log's last records, and counts those ahead of them
+abbrev pub SalvagedAreAnEnd : Type 0
+SalvagedAreAnEnd = (log : Content) → IsContent log → (front : List Block) (b : Block) (back : List Block) → blocks_of log.dropped log.records ≡ front ++ b ∷ back
+    → (head : Head) (dropped start : ℕ) (c : Content) → HasBlocks head (dropped_before dropped (pieces_of (b ∷ back))) start (pieces_of (b ∷ back)) c
+    → (log.records ≡ records_in front ++ c.records) × (c.dropped ≡ (log.dropped + length (records_in front)) % 2 ^ 64)
 
 -- no file of version 2 says two things
 abbrev pub SayOneThing : Type 0

@@ -1,5 +1,5 @@
 // What blocks, files and logs have to do with each other.
-ghost use Rattle.log_blocks.specs.Laws.{NameTheirVersion, SayOneThing, AreNotRefused, RefusalsAreUnique, SalvagedAreUnique, SalvagedAreNotRefused, SalvageRefusalsAreUnique, HaveTheirSize, LastBlocksAreAnEnd};
+ghost use Rattle.log_blocks.specs.Laws.{NameTheirVersion, SayOneThing, AreNotRefused, RefusalsAreUnique, SalvagedAreUnique, SalvagedAreNotRefused, SalvageRefusalsAreUnique, HaveTheirSize, LastBlocksAreAnEnd, SalvagedAreAnEnd};
 
 use le_numbers::laws::{numbers_have_their_width, written_numbers_are_read};
 use log_record::laws::{no_record_begins_another, tags_tell_sizes};
@@ -62,3 +62,12 @@ pub fn files_have_their_size()
 pub fn last_blocks_are_an_end()
     ensures { LastBlocksAreAnEnd }
 {}
+
+/// Where the blocks that are salvaged are the last of a log's, what is salvaged has the log's last
+/// records, and counts those ahead of them: it is an end of the log.
+pub fn salvaged_blocks_are_an_end()
+    ensures { SalvagedAreAnEnd }
+{
+    tags_tell_sizes();
+    no_record_begins_another();
+}
