@@ -1,13 +1,9 @@
 -- The head of a file that is written is read again, and has no fault.
-use Rattle.std.proofs.Common.{◌≡◌, ℕ, ◌+◌, ◌*◌, ◌%◌, ◌^◌, ◌<◌, ◌≤◌, Bool, true, false, ltb, nat_le, List, [], ◌∷◌, ◌++◌, length, take, drop, length-append, append_assoc, append-nil, Option, Some, None, inl, inr, refl, sym, ap, subst, ◌∙◌, arith}
-use Rattle.std.specs.Prelude.{◌==◌, ◌&&◌, IsTrue, if◌then◌else◌}
-use Rattle.std.specs.List.{flat_map, AllByRecursion}
+use Rattle.std.proofs.Common.{◌≡◌, ℕ, ◌+◌, ◌%◌, ◌^◌, ◌<◌, ◌≤◌, Bool, true, false, ltb, List, [], ◌++◌, length, take, drop, length-append, append_assoc, append-nil, None, refl, sym, ap, ◌∙◌, arith}
+use Rattle.std.specs.Prelude.{◌==◌, IsTrue, if◌then◌else◌}
 use Rattle.std.specs.Int.{is_power_of_two}
-use Rattle.std.specs.Str.{bytes_eq}
 use Rattle.std.proofs.lemmas.Bool.{eqb-true, eq-eqb}
-use Rattle.std.proofs.lemmas.Grind.{flat_map-append}
 use Rattle.std.proofs.lemmas.List.{drop-drop, take_at, drop_at}
-use Rattle.std.proofs.lemmas.List.Concat.{flat_map-cons}
 use Rattle.std.proofs.lemmas.Slice.Eq.{bytes_eq-Decides}
 use Rattle.sha2.specs.Sha256.{sha256}
 use Rattle.sha2.proofs.Facts256.{length-sha256}
@@ -16,29 +12,14 @@ use Rattle.bn_base.specs.Ranges.{IsSetting, is_between, is_small_power, is_memor
 use Rattle.le_numbers.specs.Numbers.{number_at, number_bytes}
 use Rattle.le_numbers.specs.Laws.{HaveTheirWidth, AreRead}
 use Rattle.log_record.specs.declared.head.Head.{Head}
-use Rattle.log_record.specs.declared.record.Record.{Record}
-use Rattle.log_record.specs.Spelling.{bytes_of, total, Fits}
-use Rattle.log_record.specs.Laws.{BeginNoOther}
-use Rattle.log_order.specs.declared.walk.OrderBreak.{OrderBreak}
-use Rattle.log_order.specs.Order.{order_break, broken_by}
-use Rattle.log_order.specs.Content.{Content, content, IsContent}
-use Rattle.log_file.specs.declared.error.FileError.{FileError}
-use Rattle.log_file.specs.declared.error.FileError.TheVariants.{Short, BadMagic, BadVersion, BadHead, LengthDiffers, DigestDiffers, BadRecord, BadOrder, OutOfMemory}
+use Rattle.log_record.specs.Spelling.{total}
+use Rattle.log_order.specs.Content.{Content, IsContent}
 use Rattle.log_file.specs.Layout.{magic, head_bytes2, file_bytes2}
-use Rattle.log_file.specs.Blocks.{Block, block_size, cut_from, last_block, total_of, numbered, blocks_of, sealed, all_sealed}
-use Rattle.log_blocks.specs.declared.damage.Damage.{Damage}
-use Rattle.log_blocks.specs.declared.damage.Damage.TheVariants.{File, BadBlock}
+use Rattle.log_file.specs.Blocks.{blocks_of, all_sealed}
 use Rattle.log_blocks.specs.Fields.{settings_in, head_in, dropped_in, size_in, kept_digest, head_digest, blocks_in}
 use Rattle.log_blocks.specs.Faults.{head_fault}
-use Rattle.log_blocks.specs.Pieces.{Piece, piece_of, pieces_bytes, gathered, IsWalk}
-use Rattle.log_blocks.specs.Cuts.{first_wrong}
-use Rattle.log_blocks.specs.File.{IsRecordsFault, IsWalkFault, IsHeadFault}
-use Rattle.log_blocks.specs.Laws.{SayOneThing, AreNotRefused, HaveTheirSize}
 use Rattle.log_blocks.proofs.Layouts.{spelled, head_is_spelled}
-use Rattle.log_blocks.proofs.Firsts.{some_bytes}
-use Rattle.log_blocks.proofs.Pushed.{total_cut, total_first}
-use Rattle.log_blocks.proofs.Sealed.{parts_bytes, parts_cut, Full, TagsTell, small, full_first}
-use Rattle.log_blocks.proofs.Written.{AreSound, Same, walked_whole, one_walk, piece_size}
+use Rattle.log_blocks.proofs.Sealed.{small}
 
 most : (s : RawSettings) → most_harts s ≤ 16
 most s = by (s.format == 2)

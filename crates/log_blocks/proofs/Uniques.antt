@@ -1,5 +1,5 @@
 -- Bytes have one answer.
-use Rattle.std.proofs.Common.{◌≡◌, ℕ, ◌+◌, ◌<◌, ◌≤◌, Bool, true, false, List, [], ◌∷◌, ◌++◌, length, length-append, append_assoc, Option, Some, None, inl, inr, refl, sym, ap, ap₂, subst, ◌∙◌, arith}
+use Rattle.std.proofs.Common.{◌≡◌, ℕ, ◌+◌, ◌<◌, Bool, true, false, List, [], ◌∷◌, ◌++◌, length, append_assoc, Option, Some, None, inl, inr, refl, sym, ap, ap₂, subst, ◌∙◌, arith}
 use Rattle.std.specs.Prelude.{◌≢◌, ◌⊎◌}
 use Rattle.std.specs.List.{flat_map, AllByRecursion}
 use Rattle.std.proofs.lemmas.List.Concat.{flat_map-cons}
@@ -15,13 +15,12 @@ use Rattle.log_file.specs.declared.error.FileError.TheVariants.{Short, BadMagic,
 use Rattle.log_file.specs.Blocks.{blocks_of}
 use Rattle.log_blocks.specs.declared.damage.Damage.{Damage}
 use Rattle.log_blocks.specs.declared.damage.Damage.TheVariants.{File, BadBlock}
-use Rattle.log_blocks.specs.declared.damage.SalvageError.{SalvageError}
 use Rattle.log_blocks.specs.declared.damage.SalvageError.TheVariants as salvage
 use Rattle.log_blocks.specs.Fields.{head_in, dropped_in, size_in, head_digest, blocks_in}
 use Rattle.log_blocks.specs.Faults.{is_second, head_fault}
 use Rattle.log_blocks.specs.Pieces.{Piece, gathered, IsWalk}
 use Rattle.log_blocks.specs.Cuts.{first_wrong}
-use Rattle.log_blocks.specs.File.{NoRecord, CutOtherwise, BreaksOrder, HasBlocks, IsRecordsFault, IsHeadFault, IsWalkFault, IsBlocksFault, IsSecondRefusal, dropped_before, IsSalvaged, IsSalvageFault, NoneIsLeft, IsFirstRefusal, IsRefusal, IsSalvageRefusal}
+use Rattle.log_blocks.specs.File.{NoRecord, CutOtherwise, BreaksOrder, HasBlocks, IsRecordsFault, IsHeadFault, IsWalkFault, IsSecondRefusal, dropped_before, IsSalvaged, IsSalvageFault, NoneIsLeft, IsFirstRefusal}
 use Rattle.log_blocks.specs.Laws.{FirstAreUnique, RefusalsAreUnique, SalvagedAreUnique, SalvagedAreNotRefused, SalvageRefusalsAreUnique}
 use Rattle.log_blocks.proofs.Written.{Same, one_walk}
 use Rattle.log_blocks.proofs.Recovered.{no_stop, one_list}
