@@ -6,7 +6,7 @@ ghost use Rattle.log_record.specs.declared.record.Record.{Record};
 ghost use Rattle.log_record.specs.Spelling.{bytes_of, Fits};
 ghost use Rattle.log_file.specs.Blocks.{blocks_of};
 ghost use Rattle.log_blocks.specs.Pieces.{Piece, gathered};
-ghost use Rattle.log_blocks.specs.Walks.{AreLaid};
+ghost use Rattle.log_blocks.specs.Walks.{AreKept, FindsWrong};
 ghost use Rattle.log_blocks.specs.Cuts.{first_wrong};
 
 use crate::cutting::next_block;
@@ -19,8 +19,8 @@ use std::alloc::{AllocError, Global};
 /// The records' bytes of the blocks that a walk back over some bytes kept. The error comes of want
 /// of memory alone.
 pub(crate) fn gather(alloc: Global, bytes: &[u8], walk: &Walk) -> Result<Vec<u8>, AllocError>
-    requires { (pieces : List Piece) × AreLaid bytes.now walk.now.rest walk.now.size walk.now.sizes.items pieces }
-    ensures { (pieces : List Piece) → AreLaid bytes.now walk.now.rest walk.now.size walk.now.sizes.items pieces → IfOk result (λ v. v.items ≡ gathered pieces) }
+    requires { (pieces : List Piece) × AreKept bytes.now walk.now pieces }
+    ensures { (pieces : List Piece) → AreKept bytes.now walk.now pieces → IfOk result (λ v. v.items ≡ gathered pieces) }
 {
     let _length = bytes.len();
     let mut out = Vec::with_capacity(alloc, walk.size)?;
@@ -47,8 +47,8 @@ fn is_other(bytes: &[u8], at: usize, size: usize, cut: usize, before: u64) -> bo
 /// Where the first of the blocks that a walk back kept ends that isn't cut as their records are, so
 /// many records having been given up before them: its place in the file.
 pub(crate) fn first_wrong(bytes: &[u8], walk: &Walk, dropped: u64, records: &[u8]) -> Option<u64>
-    requires { (pieces : List Piece) × AreLaid bytes.now walk.now.rest walk.now.size walk.now.sizes.items pieces }
-    ensures { (format : ℕ) (rs : List Record) (pieces : List Piece) → AllByRecursion (Fits format) rs → records.now ≡ flat_map bytes_of rs → records.now ≡ gathered pieces → AreLaid bytes.now walk.now.rest walk.now.size walk.now.sizes.items pieces → result ≡ first_wrong (136 + walk.now.rest) (blocks_of dropped rs) pieces }
+    requires { (pieces : List Piece) × AreKept bytes.now walk.now pieces }
+    ensures { FindsWrong bytes.now walk.now dropped records.now result }
 {
     let _length = bytes.len();
     let mut at = walk.rest;

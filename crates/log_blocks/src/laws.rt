@@ -1,5 +1,6 @@
 // What blocks, files and logs have to do with each other.
-ghost use Rattle.log_blocks.specs.Laws.{NameTheirVersion, SayOneThing, AreNotRefused, RefusalsAreUnique, SalvagedAreUnique, SalvagedAreNotRefused, SalvageRefusalsAreUnique, HaveTheirSize, LastBlocksAreAnEnd, SalvagedAreAnEnd};
+ghost use Rattle.log_blocks.specs.Laws.{NameTheirVersion, SayOneThing, AreNotRefused, RefusalsAreUnique, HaveTheirSize};
+ghost use Rattle.log_blocks.specs.Laws.{SalvagedAreUnique, SalvagedAreNotRefused, SalvageRefusalsAreUnique, LastBlocksAreAnEnd, SalvagedAreAnEnd};
 
 use le_numbers::laws::{numbers_have_their_width, written_numbers_are_read};
 use log_record::laws::{no_record_begins_another, tags_tell_sizes};

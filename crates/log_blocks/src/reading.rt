@@ -10,7 +10,7 @@ ghost use Rattle.log_blocks.specs.declared.damage.Damage.TheVariants.{File};
 ghost use Rattle.log_blocks.specs.Fields.{settings_in, head_in, dropped_in, size_in, head_digest, blocks_in};
 ghost use Rattle.log_blocks.specs.Faults.{is_second, head_fault};
 ghost use Rattle.log_blocks.specs.Pieces.{Piece, gathered, IsWalk};
-ghost use Rattle.log_blocks.specs.Walks.{AreLaid};
+ghost use Rattle.log_blocks.specs.Walks.{AreKept};
 ghost use Rattle.log_blocks.specs.File.{HasBlocks, IsRecordsFault, IsOrderFault, IsSecondRefusal, IsRefusal, IsSpelled, IsRead};
 
 use crate::damage::Damage;
@@ -54,9 +54,9 @@ pub(crate) fn content_of(
     bytes: &[u8],
     walk: &Walk,
 ) -> Result<KeptLog, Damage>
-    requires laid { (pieces : List Piece) × AreLaid bytes.now walk.now.rest walk.now.size walk.now.sizes.items pieces }
+    requires laid { (pieces : List Piece) × AreKept bytes.now walk.now pieces }
     requires bound { walk.now.size ≤ head.settings.log_size }
-    ensures { (pieces : List Piece) → AreLaid bytes.now walk.now.rest walk.now.size walk.now.sizes.items pieces → MatchResult result (HasBlocks head dropped (136 + walk.now.rest) pieces) (IsRecordsFault head dropped (136 + walk.now.rest) pieces) }
+    ensures { (pieces : List Piece) → AreKept bytes.now walk.now pieces → MatchResult result (HasBlocks head dropped (136 + walk.now.rest) pieces) (IsRecordsFault head dropped (136 + walk.now.rest) pieces) }
 {
     let gathered = gather(alloc, bytes, walk)?;
     let records = split(alloc, head.settings.format(), &gathered)?;

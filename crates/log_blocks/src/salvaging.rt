@@ -3,7 +3,7 @@ ghost use Rattle.std.specs.Prelude.{◌≡◌, ◌≤◌, ◌==◌, ◌&&◌, no
 ghost use Rattle.log_blocks.specs.Fields.{settings_in};
 ghost use Rattle.log_blocks.specs.Faults.{head_fault};
 ghost use Rattle.log_blocks.specs.Pieces.{Piece};
-ghost use Rattle.log_blocks.specs.Walks.{AreLaid};
+ghost use Rattle.log_blocks.specs.Walks.{AreKept};
 ghost use Rattle.log_blocks.specs.File.{dropped_before, told, IsSalvaged, IsSalvageRefusal};
 
 use crate::damage::{Damage, SalvageError};
@@ -31,8 +31,8 @@ fn told(damage: Damage) -> SalvageError
 // How many records were given up before the blocks that a walk back kept: what the first of them
 // says, or, of none, the head.
 fn dropped_before(bytes: &[u8], walk: &Walk, dropped: u64) -> u64
-    requires { (pieces : List Piece) × AreLaid bytes.now walk.now.rest walk.now.size walk.now.sizes.items pieces }
-    ensures { (pieces : List Piece) → AreLaid bytes.now walk.now.rest walk.now.size walk.now.sizes.items pieces → result ≡ dropped_before dropped pieces }
+    requires { (pieces : List Piece) × AreKept bytes.now walk.now pieces }
+    ensures { (pieces : List Piece) → AreKept bytes.now walk.now pieces → result ≡ dropped_before dropped pieces }
 {
     let _length = bytes.len();
     let count = walk.sizes.len();
