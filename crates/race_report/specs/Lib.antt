@@ -1,0 +1,5 @@
+pub mod Points
+pub mod Races
+pub mod Reports
+pub mod Tracks
+pub mod Examples
