@@ -2,6 +2,7 @@
 -- of the joint replay.
 use Rattle.std.specs.Prelude.{◌≡◌, ◌≤◌, ◌<◌, ℕ, zero, suc, ◌+◌, ◌==◌, nat_lt, Bool, true, false, not, cond, ◌&&◌, List, [], ◌∷◌, ◌++◌, filter, map, length, min, slice_get, Option, Some, None}
 use Rattle.std.specs.List.{list_any}
+use Rattle.bn_base.specs.declared.row.Row.{Row}
 use Rattle.race_log.specs.Points.{Point, Access, MeetAt, IsConflict}
 use Rattle.race_log.specs.Netzer.{Before}
 use Rattle.race_log.specs.Tests.{clashes, before}
@@ -101,12 +102,22 @@ count_below run (suc m) = count_below run m + length (meetings_of run m)
 abbrev pub race_count : List Accessing → ℕ
 race_count run = count_below run (length run)
 
-abbrev pub race_of : Accessing → Accessing → ℕ → Race
-race_of p q word = record { first = p.row; second = q.row; word = word }
+-- the row of the point at a place, where that is of hart g
+abbrev pub row_if : ℕ → Option Accessing → Option Row
+row_if g None = None
+row_if g (Some p) = cond (p.hart == g) (Some p.row) None
+
+abbrev pub row_of : List Accessing → ℕ → ℕ → Option Row
+row_of run n g = row_if g (slice_get run n)
+
+abbrev pub race_by : Option Accessing → Option Row → ℕ → List Race
+race_by None other word = []
+race_by (Some p) None word = []
+race_by (Some p) (Some row) word = record { first = p.row; second = row; word = word } ∷ []
 
 -- the race of place m with another, where that one is of hart g
 abbrev pub race_if : List Accessing → ℕ → ℕ → Meeting → List Race
-race_if run m g x = elim (slice_get run m) [ None ↦ [] | Some p ↦ elim (slice_get run x.second) [ None ↦ [] | Some q ↦ cond (q.hart == g) (race_of p q x.word ∷ []) [] ] ]
+race_if run m g x = race_by (slice_get run m) (row_of run x.second g) x.word
 
 abbrev pub races_with : List Accessing → ℕ → ℕ → List Meeting → List Race
 races_with run m g [] = []

@@ -35,11 +35,18 @@ impl Found {
     }
 
     /// The places that are races with a place.
-    pub(crate) fn with(&self, first: u32) -> &[Meeting]
+    pub(crate) fn with(&self, first: usize) -> &[Meeting]
         requires { first < length (lists_of self.now) }
         ensures { slice_get (lists_of self.now) first ≡ Some result.now }
     {
-        &self.lists[first as usize]
+        &self.lists[first]
+    }
+
+    /// How many places there are.
+    pub(crate) fn len(&self) -> usize
+        ensures { result ≡ length (lists_of self.now) }
+    {
+        self.lists.len()
     }
 
     /// One more place, which is a race with none.

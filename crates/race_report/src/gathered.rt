@@ -19,14 +19,14 @@ use std::alloc::{AllocError, Global};
 /// synchronisation orders, and the races.
 #[derive(Drop)]
 pub(crate) struct Gathered {
-    harts: HartId,
-    rows: Vec<Row>,
-    owners: Vec<HartId>,
+    pub(crate) harts: HartId,
+    pub(crate) rows: Vec<Row>,
+    pub(crate) owners: Vec<HartId>,
     // All accesses, and those that write.
     all: Track,
     written: Track,
     shadow: Shadow,
-    found: Found,
+    pub(crate) found: Found,
 }
 
 impl Gathered {

@@ -8,10 +8,23 @@
 //! given up isn't seen.
 #![tactic(auto)]
 
+mod calls;
 mod error;
 mod examples;
+mod found;
+mod gathered;
+mod listing;
+mod meeting;
+mod meets;
 mod race;
+mod reach;
+mod reporting;
+mod texts;
+mod touch;
+mod track;
 
 pub use examples::{a_filled_word_races, a_relay_has_three_races, an_atomic_passes_a_message};
 pub use error::RaceError;
 pub use race::Race;
+pub use reporting::report;
+pub use texts::{write_count, write_race};
