@@ -1,5 +1,6 @@
 -- What is found of a point's races, place by place.
-use Rattle.std.proofs.Common.{◌≡◌, ◌≢◌, ℕ, zero, suc, ◌+◌, ◌<◌, ◌≤◌, ◌==◌, nat_lt, Bool, true, false, not, cond, ◌&&◌, ◌||◌, refl, sym, ap, ◌∙◌, subst, arith, List, [], ◌∷◌, ◌++◌, length, map, filter, slice_get, slice_set, min, Vec, Option, Some, None}
+use Rattle.std.proofs.Common.{◌≡◌, ◌≢◌, ℕ, zero, suc, ◌+◌, ◌-◌, if◌then◌else◌, slice_index_or, ◌<◌, ◌≤◌, ◌==◌, nat_lt, Bool, true, false, not, cond, ◌&&◌, ◌||◌, refl, sym, ap, ◌∙◌, subst, arith, List, [], ◌∷◌, ◌++◌, length, map, filter, slice_get, slice_set, min, Vec, Option, Some, None}
+use Rattle.std.proofs.lemmas.Option.{slice_get-get_or}
 use Rattle.std.specs.Global.{Global}
 use Rattle.std.specs.List.{list_any}
 use Rattle.race_report.specs.declared.meeting.Meeting.{Meeting}
@@ -49,24 +50,25 @@ met_after n w (x ∷ y ∷ ys) o e = ap (λ (zs : List Meeting). x ∷ zs) (met_
 twice_least : (v w : ℕ) → min (min v w) w ≡ min v w
 twice_least v w = omega arith
 
+abbrev one_met : ℕ → ℕ → Meeting → Bool → List Meeting
+one_met n w x b = elim b as (λ y. List Meeting) [ true ↦ meeting n (min x.word w) ∷ [] | false ↦ x ∷ meeting n w ∷ [] ]
+
+last_twice : (n w : ℕ) → met n w (meeting n w ∷ []) ≡ meeting n w ∷ []
+last_twice n w = ap (λ (b : Bool). one_met n w (meeting n w) b) (same_is n) ∙ ap (λ (u : ℕ). meeting n u ∷ []) (omega arith)
+
+one_twice : (n w : ℕ) (x : Meeting) (b : Bool) → (x.second == n) ≡ b → met n w (one_met n w x b) ≡ one_met n w x b
+one_twice n w x true f = ap (λ (b : Bool). one_met n w (meeting n (min x.word w)) b) (same_is n) ∙ ap (λ (u : ℕ). meeting n u ∷ []) (twice_least x.word w)
+one_twice n w x false f = ap (λ (zs : List Meeting). x ∷ zs) (last_twice n w)
+
+-- behind another one
+more_twice : (n w : ℕ) (x y : Meeting) (b : Bool) → (y.second == n) ≡ b → met n w (x ∷ one_met n w y b) ≡ x ∷ one_met n w y b
+more_twice n w x y true f = ap (λ (zs : List Meeting). x ∷ zs) (one_twice n w y true f)
+more_twice n w x y false f = ap (λ (zs : List Meeting). x ∷ zs) (one_twice n w y false f)
+
 pub met_twice : (n w : ℕ) (xs : List Meeting) → met n w (met n w xs) ≡ met n w xs
-met_twice n w [] = ap (λ (b : Bool). elim b as (λ y. List Meeting) [ true ↦ meeting n (min w w) ∷ [] | false ↦ meeting n w ∷ meeting n w ∷ [] ]) (same_is n) ∙ ap (λ (u : ℕ). meeting n u ∷ []) (omega arith)
-met_twice n w (x ∷ []) = one (x.second == n) refl
-  where
-    one : (b : Bool) → (x.second == n) ≡ b
-        → met n w (elim b as (λ y. List Meeting) [ true ↦ meeting n (min x.word w) ∷ [] | false ↦ x ∷ meeting n w ∷ [] ])
-        ≡ elim b as (λ y. List Meeting) [ true ↦ meeting n (min x.word w) ∷ [] | false ↦ x ∷ meeting n w ∷ [] ]
-    one true f =
-        ap (λ (b : Bool). elim b as (λ y. List Meeting) [ true ↦ meeting n (min (min x.word w) w) ∷ [] | false ↦ meeting n (min x.word w) ∷ meeting n w ∷ [] ]) (same_is n)
-        ∙ ap (λ (u : ℕ). meeting n u ∷ []) (twice_least x.word w)
-    one false f = ap (λ (zs : List Meeting). x ∷ zs) (met_twice n w [])
-met_twice n w (x ∷ y ∷ []) = after (y.second == n) refl
-  where
-    after : (b : Bool) → (y.second == n) ≡ b
-        → met n w (x ∷ elim b as (λ z. List Meeting) [ true ↦ meeting n (min y.word w) ∷ [] | false ↦ y ∷ meeting n w ∷ [] ])
-        ≡ x ∷ elim b as (λ z. List Meeting) [ true ↦ meeting n (min y.word w) ∷ [] | false ↦ y ∷ meeting n w ∷ [] ]
-    after true f = ap (λ (zs : List Meeting). x ∷ zs) (subst (λ (b : Bool). met n w (elim b as (λ z. List Meeting) [ true ↦ meeting n (min y.word w) ∷ [] | false ↦ y ∷ meeting n w ∷ [] ]) ≡ elim b as (λ z. List Meeting) [ true ↦ meeting n (min y.word w) ∷ [] | false ↦ y ∷ meeting n w ∷ [] ]) f (met_twice n w (y ∷ [])))
-    after false f = ap (λ (zs : List Meeting). x ∷ zs) (subst (λ (b : Bool). met n w (elim b as (λ z. List Meeting) [ true ↦ meeting n (min y.word w) ∷ [] | false ↦ y ∷ meeting n w ∷ [] ]) ≡ elim b as (λ z. List Meeting) [ true ↦ meeting n (min y.word w) ∷ [] | false ↦ y ∷ meeting n w ∷ [] ]) f (met_twice n w (y ∷ [])))
+met_twice n w [] = last_twice n w
+met_twice n w (x ∷ []) = one_twice n w x (x.second == n) refl
+met_twice n w (x ∷ y ∷ []) = more_twice n w x y (y.second == n) refl
 met_twice n w (x ∷ y ∷ z ∷ zs) = ap (λ (us : List Meeting). x ∷ us) (met_twice n w (y ∷ z ∷ zs))
 
 -- ---- all lists
@@ -127,14 +129,77 @@ cond_same false x y e = refl
 
 pub met_all_at : (n w k : ℕ) (ps : List ℕ) (ls : List (List Meeting)) (l : List Meeting) → slice_get ls k ≡ Some l → slice_get (met_all n w ps ls) k ≡ Some (cond (is_in k ps) (met n w l) l)
 met_all_at n w k [] ls l e = e
-met_all_at n w k (m ∷ ms) ls l e = by (m == k) refl
+met_all_at n w k (m ∷ ms) ls l e = by (m == k) refl (λ x f. met_all_at n w k ms (met_at n w m ls) x f)
   where
-    by : (b : Bool) → (m == k) ≡ b → slice_get (met_all n w ms (met_at n w m ls)) k ≡ Some (cond (b || is_in k ms) (met n w l) l)
-    by true f =
+    by : (b : Bool) → (m == k) ≡ b → ((x : List Meeting) → slice_get (met_at n w m ls) k ≡ Some x → slice_get (met_all n w ms (met_at n w m ls)) k ≡ Some (cond (is_in k ms) (met n w x) x))
+        → slice_get (met_all n w ms (met_at n w m ls)) k ≡ Some (cond (b || is_in k ms) (met n w l) l)
+    by true f rest =
         let here : slice_get (met_at n w m ls) k ≡ Some (met n w l) = subst (λ (j : ℕ). slice_get (met_at n w m ls) j ≡ Some (met n w l)) (same_number m k f) (met_here n w m ls l (ap (slice_get ls) (same_number m k f) ∙ e)) in
-        met_all_at n w k ms (met_at n w m ls) (met n w l) here ∙ ap (λ (x : List Meeting). Some x) (cond_same (is_in k ms) (met n w (met n w l)) (met n w l) (met_twice n w l))
-    by false f = met_all_at n w k ms (met_at n w m ls) l (met_there n w m k ls f ∙ e)
+        rest (met n w l) here ∙ ap (λ (x : List Meeting). Some x) (cond_same (is_in k ms) (met n w (met n w l)) (met n w l) (met_twice n w l))
+    by false f rest = rest l (met_there n w m k ls f ∙ e)
 
 pub met_all_length : (n w : ℕ) (ps : List ℕ) (ls : List (List Meeting)) → length (met_all n w ps ls) ≡ length ls
 met_all_length n w [] ls = refl
 met_all_length n w (m ∷ ms) ls = met_all_length n w ms (met_at n w m ls) ∙ met_at_length n w m ls
+
+-- ---- the last of a list, and lists that grow
+
+pub last_is : (n k : ℕ) (xs : List Meeting) (d : Meeting) → length xs ≡ suc k
+    → elim ((slice_index_or xs k d).second == n) as (λ y. Option ℕ) [ true ↦ Some (slice_index_or xs k d).word | false ↦ None ] ≡ last_meets n xs
+last_is n k [] d l = absurd cc
+last_is n zero (x ∷ []) d l = refl
+last_is n (suc k) (x ∷ []) d l = absurd (omega (arith, l))
+last_is n zero (x ∷ y ∷ ys) d l = absurd (omega (arith, l))
+last_is n (suc k) (x ∷ y ∷ ys) d l = last_is n k (y ∷ ys) d (omega (arith, l))
+
+pub last_with : (n : ℕ) (xs : List Meeting) (d : Meeting) → 0 < length xs → (slice_index_or xs (length xs - 1) d).second ≡ n → Some (slice_index_or xs (length xs - 1) d).word ≡ last_meets n xs
+last_with n xs d some e =
+    ap (λ (b : Bool). elim b as (λ y. Option ℕ) [ true ↦ Some (slice_index_or xs (length xs - 1) d).word | false ↦ None ]) (sym (is_number _ n e))
+    ∙ last_is n (length xs - 1) xs d (omega (arith, some))
+  where
+    is_number : (a b : ℕ) → a ≡ b → (a == b) ≡ true
+    is_number a b h = grind arith
+
+pub last_without : (n : ℕ) (xs : List Meeting) (d : Meeting) → 0 < length xs → (slice_index_or xs (length xs - 1) d).second ≢ n → None ≡ last_meets n xs
+last_without n xs d some e =
+    ap (λ (b : Bool). elim b as (λ y. Option ℕ) [ true ↦ Some (slice_index_or xs (length xs - 1) d).word | false ↦ None ]) (sym (no_number _ n e))
+    ∙ last_is n (length xs - 1) xs d (omega (arith, some))
+  where
+    no_number : (a b : ℕ) → a ≢ b → (a == b) ≡ false
+    no_number a b h = grind arith
+
+pub some_there : (xs : List Meeting) → (length xs == 0) ≡ false → 0 < length xs
+some_there [] e = absurd cc
+some_there (x ∷ xs) e = omega arith
+
+pub total_grown : (b : Bool) (count : ℕ) (vs ws : List (Vec Meeting Global)) (v : Vec Meeting Global) → ws ≡ (if b then vs ++ v ∷ [] else vs) → v.items ≡ [] → count ≡ total vs → count ≡ total ws
+total_grown true count vs ws v e f g =
+    let added : total ws ≡ total_of (lists_in vs ++ v.items ∷ []) = ap total e ∙ ap total_of (lists_added vs v) in
+    let sum = total_added (lists_in vs) v.items in
+    let none : length v.items ≡ 0 = ap length f in
+    omega (arith, added, sum, none, g)
+total_grown false count vs ws v e f g = g ∙ ap total (sym e)
+
+pub lists_grown : (vs : List (Vec Meeting Global)) (v : Vec Meeting Global) → v.items ≡ [] → lists_in (vs ++ v ∷ []) ≡ lists_in vs ++ [] ∷ []
+lists_grown vs v e = lists_added vs v ∙ ap (λ (l : List Meeting). lists_in vs ++ l ∷ []) e
+
+pub set_length : (vs : List (Vec Meeting Global)) (m : ℕ) (v : Vec Meeting Global) → length (lists_in (slice_set vs m v)) ≡ length (lists_in vs)
+set_length [] m v = refl
+set_length (u ∷ vs) zero v = refl
+set_length (u ∷ vs) (suc m) v = ap suc (set_length vs m v)
+
+-- the list at a place, as indexing gives it
+pub list_at : (vs : List (Vec Meeting Global)) (m : ℕ) (u : Vec Meeting Global) → m < length (lists_in vs) → u ≡ slice_index_or vs m u → slice_get vs m ≡ Some u
+list_at vs m u low e = slice_get-get_or vs m u (omega (arith, low, lists_length vs)) ∙ ap (λ (x : Vec Meeting Global). Some x) (sym e)
+
+pub last_some : (n : ℕ) (xs : List Meeting) (v : ℕ) → last_meets n xs ≡ Some v → 0 < length xs
+last_some n [] v e = absurd cc
+last_some n (x ∷ xs) v e = omega arith
+
+pub grown_by : (b : Bool) (x a : ℕ) → x ≡ (if b then a + 1 else a) → b ≡ true → x ≡ a + 1
+grown_by true x a e f = e
+grown_by false x a e f = absurd cc
+
+pub not_grown : (b : Bool) (x a : ℕ) → x ≡ (if b then a + 1 else a) → b ≡ false → x ≡ a
+not_grown true x a e f = absurd cc
+not_grown false x a e f = e

@@ -1,7 +1,6 @@
 -- The races that were found so far.
 use Rattle.std.specs.Prelude.{ℕ, zero, suc, ◌+◌, ◌==◌, nat_lt, Bool, true, false, cond, List, [], ◌∷◌, length, map, min, Vec, Option, Some, None}
 use Rattle.std.specs.Global.{Global}
-use Rattle.race_report.specs.declared.found.Found.{Found}
 use Rattle.race_report.specs.declared.meeting.Meeting.{Meeting}
 
 abbrev pub meeting : ℕ → ℕ → Meeting
@@ -11,9 +10,6 @@ meeting n w = record { second = n; word = w }
 abbrev pub lists_in : List (Vec Meeting Global) → List (List Meeting)
 lists_in [] = []
 lists_in (v ∷ vs) = v.items ∷ lists_in vs
-
-abbrev pub lists_of : Found → List (List Meeting)
-lists_of f = lists_in f.lists.items
 
 -- how many they have together
 abbrev pub total_of : List (List Meeting) → ℕ

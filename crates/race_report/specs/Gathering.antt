@@ -1,6 +1,6 @@
 -- The points of a joint replay so far, as they are gathered.
-use Rattle.std.specs.Prelude.{◌≡◌, ◌<◌, ◌≤◌, ◌%◌, ◌⊎◌, ◌↔◌, ℕ, zero, suc, Bool, true, false, IsTrue, cond, List, [], ◌∷◌, ◌++◌, length, map, slice_get, Option, Some, None}
-use Rattle.std.specs.List.{list_any, Contains}
+use Rattle.std.specs.Prelude.{◌≡◌, ◌<◌, ◌≤◌, ◌%◌, ◌==◌, ◌&&◌, ℕ, Bool, true, false, IsTrue, cond, List, [], ◌∷◌, ◌++◌, length, map, slice_get, Option, Some, None}
+use Rattle.std.specs.List.{list_any}
 use Rattle.bn_base.specs.declared.settings.TheConstants.{HARTS}
 use Rattle.bn_base.specs.declared.row.Row.{Row}
 use Rattle.race_log.specs.Points.{Point, Access}
@@ -11,8 +11,9 @@ use Rattle.race_report.specs.declared.track.Track.{Track}
 use Rattle.race_report.specs.declared.gathered.Gathered.{Gathered}
 use Rattle.race_report.specs.Points.{Accessing, accesses_of}
 use Rattle.race_report.specs.Races.{syncs_from, with_accesses, sync_accesses, meetings_of, race_count}
-use Rattle.race_report.specs.Tracks.{IsTracked, AreBelow}
-use Rattle.race_report.specs.Found.{lists_of, total}
+use Rattle.race_report.specs.Tracks.{AreBelow}
+use Rattle.race_report.specs.Found.{total}
+use Rattle.race_report.specs.Kept.{IsTracked, lists_of}
 
 abbrev pub everyone : ℕ → Bool
 everyone h = true
@@ -27,8 +28,12 @@ point_by hart row touch = record { hart = hart; row = row; touch = touch }
 -- ---- the accesses of each word
 
 -- the point is of hart h and has an access that clashes with one of the word, which writes it or not
-abbrev pub Meets : ℕ → ℕ → Bool → Accessing → Type 0
-Meets h w writes p = (p.hart ≡ h) × (list_any (λ y. clashes y (record { word = w; writes = writes })) (accesses_of p.touch) ≡ true)
+abbrev pub meets : ℕ → ℕ → Bool → Accessing → Bool
+meets h w writes p = (p.hart == h) && list_any (λ y. clashes y (record { word = w; writes = writes })) (accesses_of p.touch)
+
+abbrev pub passes : (Accessing → Bool) → Option Accessing → Bool
+passes test None = false
+passes test (Some p) = test p
 
 -- places, of which no later one is greater
 abbrev pub AreFalling : List ℕ → Type 0
@@ -37,10 +42,9 @@ AreFalling (m ∷ []) = Unit {0}
 AreFalling (m ∷ k ∷ ks) = (k ≤ m) × AreFalling (k ∷ ks)
 
 -- they are the places of the points that pass, the latest first
-pub record ArePlaces (run : List Accessing) (Passes : Accessing → Type 0) (ps : List ℕ) : Type 0 where
+pub record ArePlaces (run : List Accessing) (test : Accessing → Bool) (ps : List ℕ) : Type 0 where
   pub falling : AreFalling ps
-  pub there : (m : ℕ) → Contains ps m → (p : Accessing) × (slice_get run m ≡ Some p) × Passes p
-  pub all : (m : ℕ) (p : Accessing) → slice_get run m ≡ Some p → Passes p → Contains ps m
+  pub members : (m : ℕ) → list_any (λ k. k == m) ps ≡ passes test (slice_get run m)
 
 -- a track has the places of the accesses that clash with such an access of each word
 pub record Follows (harts : ℕ) (run : List Accessing) (writes : Bool) (t : Track) : Type 0 where
@@ -48,7 +52,7 @@ pub record Follows (harts : ℕ) (run : List Accessing) (writes : Bool) (t : Tra
   pub below : AreBelow (length run) t.entries.items
   pub places : ℕ → ℕ → List ℕ
   pub tracked : (h w : ℕ) → w % 4 ≡ 0 → IsTracked t h w (places h w)
-  pub are : (h w : ℕ) → w % 4 ≡ 0 → ArePlaces run (Meets h w writes) (places h w)
+  pub are : (h w : ℕ) → w % 4 ≡ 0 → ArePlaces run (meets h w writes) (places h w)
 
 -- ---- all of it
 

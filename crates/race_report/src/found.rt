@@ -1,6 +1,6 @@
 //! The races that were found so far.
 ghost use Rattle.std.specs.Prelude.{◌≡◌, ◌<◌, ◌+◌, ◌==◌, ◌++◌, [], ◌∷◌, true, false, min, length, slice_get, Some, None, OnOk, OnErr, IfOk, if◌then◌else◌};
-ghost use Rattle.race_report.specs.Found.{met, met_at, lists_of, total, last_meets};
+ghost use Rattle.race_report.specs.Found.{met, met_at, lists_in, total, last_meets};
 
 use crate::meeting::Meeting;
 use bn_base::Addr;
@@ -19,7 +19,7 @@ impl Found {
 
     /// No place.
     pub(crate) fn new(alloc: Global) -> Found
-        ensures { lists_of result ≡ [] }
+        ensures { lists_in result.lists.items ≡ [] }
     {
         Found {
             lists: Vec::new(alloc),
@@ -36,22 +36,22 @@ impl Found {
 
     /// The places that are races with a place.
     pub(crate) fn with(&self, first: usize) -> &[Meeting]
-        requires { first < length (lists_of self.now) }
-        ensures { slice_get (lists_of self.now) first ≡ Some result.now }
+        requires { first < length (lists_in self.now.lists.items) }
+        ensures { slice_get (lists_in self.now.lists.items) first ≡ Some result.now }
     {
         &self.lists[first]
     }
 
     /// How many places there are.
     pub(crate) fn len(&self) -> usize
-        ensures { result ≡ length (lists_of self.now) }
+        ensures { result ≡ length (lists_in self.now.lists.items) }
     {
         self.lists.len()
     }
 
     /// One more place, which is a race with none.
     pub(crate) fn add_place(&mut self) -> Result<(), AllocError>
-        ensures { OnOk result (lists_of self.new ≡ lists_of self.old ++ [] ∷ []) }
+        ensures { OnOk result (lists_in self.new.lists.items ≡ lists_in self.old.lists.items ++ [] ∷ []) }
     {
         let alloc = *self.lists.allocator();
         self.lists.push(Vec::new(alloc))?;
@@ -60,9 +60,9 @@ impl Found {
 
     /// The places are a race, in that word among others.
     pub(crate) fn meet(&mut self, first: u32, second: u32, word: Addr) -> Result<(), AllocError>
-        requires { first < length (lists_of self.old) }
-        ensures same { length (lists_of self.new) ≡ length (lists_of self.old) }
-        ensures met { OnOk result (lists_of self.new ≡ met_at second word first (lists_of self.old)) }
+        requires { first < length (lists_in self.old.lists.items) }
+        ensures same { length (lists_in self.new.lists.items) ≡ length (lists_in self.old.lists.items) }
+        ensures met { OnOk result (lists_in self.new.lists.items ≡ met_at second word first (lists_in self.old.lists.items)) }
     {
         let more = match self.count.checked_add(1) {
             None => return Err(AllocError),

@@ -12,7 +12,7 @@ use crate::reach::reach;
 use crate::touch::{Touch, touch_of};
 use crate::track::Track;
 use bn_base::{HartId, Row, Settings};
-use race_log::Shadow;
+use race_log::{Shadow, places_stand_for_counts, tests_decide};
 use std::alloc::{AllocError, Global};
 
 /// The points so far with their rows and harts, the accesses of each word, which of the points
@@ -71,6 +71,8 @@ impl Gathered {
         requires gathered { (harts : ℕ) × (run : List Accessing) × (hart < harts) × IsGathered harts run self.old }
         ensures { OnOk result ((harts : ℕ) (run : List Accessing) → hart < harts → IsGathered harts run self.old → IsGathered harts (run ++ point_by hart row.now touch ∷ []) self.new) }
     {
+        tests_decide();
+        places_stand_for_counts();
         let place = self.next_place()?;
         let known = reach(&mut self.shadow, hart, place, touch)?;
         let point = Reached { hart, place, known };

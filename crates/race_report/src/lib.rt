@@ -13,6 +13,7 @@ mod error;
 mod examples;
 mod found;
 mod gathered;
+pub mod laws;
 mod listing;
 mod meeting;
 mod meets;

@@ -1,9 +1,9 @@
 //! The races in their order.
-ghost use Rattle.std.specs.Prelude.{◌≡◌, ◌<◌, ◌++◌, [], ℕ, List, cond, length, OnOk, IfOk};
-ghost use Rattle.std.specs.Option.{option_to_list};
+ghost use Rattle.std.specs.Prelude.{◌≡◌, ◌<◌, ◌++◌, [], ℕ, List, cond, length, slice_get, OnOk, IfOk};
+ghost use Rattle.std.specs.Option.{option_map, option_to_list};
 ghost use Rattle.race_report.specs.Points.{Accessing};
 ghost use Rattle.race_report.specs.Races.{is_at, row_of, race_if, races_with, races_by_second, races_by_place, races_of, meetings_of};
-ghost use Rattle.race_report.specs.Found.{lists_of};
+ghost use Rattle.race_report.specs.Kept.{lists_of};
 ghost use Rattle.race_report.specs.Gathering.{IsGathered};
 
 use crate::gathered::Gathered;
@@ -11,6 +11,16 @@ use crate::meeting::Meeting;
 use crate::race::Race;
 use bn_base::{HartId, Row};
 use std::alloc::{AllocError, Global};
+
+// Appends a race, if there is one.
+fn push_race(race: Option<Race>, out: &mut Vec<Race>) -> Result<(), AllocError>
+    ensures { OnOk result (out.new.items ≡ out.old.items ++ option_to_list race) }
+{
+    match race {
+        None => Ok(()),
+        Some(race) => out.extend_from_slice(&[race]),
+    }
+}
 
 impl Gathered {
     // The row of a point of this hart at a place.
@@ -29,16 +39,23 @@ impl Gathered {
         }
     }
 
+    // The row of the point at a place.
+    fn row_at(&self, place: usize) -> Option<Row>
+        ensures { (harts : ℕ) (run : List Accessing) → IsGathered harts run self.now → result ≡ option_map (λ p. p.row) (slice_get run place) }
+    {
+        self.rows.get(place).copied()
+    }
+
     // The race of a place with a later one, where that one is of this hart.
     fn race_with(&self, first: usize, hart: HartId, meeting: Meeting) -> Option<Race>
         ensures { (harts : ℕ) (run : List Accessing) → IsGathered harts run self.now → race_if run first hart meeting ≡ option_to_list result }
     {
-        match self.rows.get(first) {
+        match self.row_at(first) {
             None => None,
             Some(row) => match self.row_of(meeting.second as usize, hart) {
                 None => None,
                 Some(second) => Some(Race {
-                    first: *row,
+                    first: row,
                     second,
                     word: meeting.word,
                 }),
@@ -53,9 +70,7 @@ impl Gathered {
     {
         let meetings = self.found.with(first);
         for k in 0..meetings.len() {
-            if let Some(race) = self.race_with(first, hart, meetings[k]) {
-                out.extend_from_slice(&[race])?;
-            }
+            push_race(self.race_with(first, hart, meetings[k]), out)?;
         }
         Ok(())
     }
@@ -76,15 +91,9 @@ impl Gathered {
         requires { first < length (lists_of self.now.found) }
         ensures { OnOk result ((harts : ℕ) (run : List Accessing) → IsGathered harts run self.now → out.new.items ≡ out.old.items ++ cond (is_at run first hart) (races_by_second run first harts) []) }
     {
-        match self.owners.get(first) {
+        match self.row_of(first, hart) {
             None => Ok(()),
-            Some(owner) => {
-                if *owner == hart {
-                    self.push_first(first, out)
-                } else {
-                    Ok(())
-                }
-            }
+            Some(_) => self.push_first(first, out),
         }
     }
 

@@ -3,8 +3,9 @@ ghost use Rattle.std.specs.Prelude.{◌≡◌, ◌<◌, ◌≤◌, ◌%◌, ◌^
 ghost use Rattle.bn_base.specs.declared.settings.TheConstants.{HARTS};
 ghost use Rattle.vector_time.specs.Times.{count_of};
 ghost use Rattle.race_report.specs.Points.{words_from};
-ghost use Rattle.race_report.specs.Tracks.{IsTracked, AreBelow, noted};
-ghost use Rattle.race_report.specs.Found.{lists_of, met_all, met_harts, met_words, uncovered};
+ghost use Rattle.race_report.specs.Tracks.{AreBelow, noted};
+ghost use Rattle.race_report.specs.Found.{met_all, met_harts, met_words, uncovered};
+ghost use Rattle.race_report.specs.Kept.{IsTracked, lists_of};
 
 use crate::found::Found;
 use crate::touch::Touch;

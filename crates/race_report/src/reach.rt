@@ -22,6 +22,13 @@ fn mode_of(writes: bool) -> Mode
     if writes { Mode::Write } else { Mode::Read }
 }
 
+// How many words of a point count: its one word where it is a sync point.
+fn counted(syncs: bool) -> u32
+    ensures { result ≡ (if syncs then 1 else 0) }
+{
+    if syncs { 1 } else { 0 }
+}
+
 /// Takes in a point, and answers how many of each hart's points are ordered before it. A point that isn't
 /// a sync point counts as one that accesses nothing.
 pub(crate) fn reach(
@@ -43,7 +50,7 @@ pub(crate) fn reach(
     ensures turn { OnOk result (next_turn shadow.new ≡ place + 1) }
     ensures counts { OnOk result ((h : ℕ) → next_count shadow.new h ≡ (if h == hart then place + 1 else next_count shadow.old h)) }
 {
-    let count = u32::from(touch.syncs);
+    let count = counted(touch.syncs);
     let turn = u64::from(place);
     shadow.reserve(touch.first, count)?;
     shadow.access(hart, turn, turn, touch.first, count, mode_of(touch.writes));
