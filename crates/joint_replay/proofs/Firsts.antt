@@ -42,9 +42,9 @@ step_is_first : (j : Joining) (h : ℕ) (x : Item × Joining) → j.refused ≡ 
 step_is_first j h x none c e =
     let o = is_onward j (taken_by h x.0) x.1 (step_taken j h x none c e) in
     let whole : run_all j ≡ ran (record { taken = (run_all x.1).walk.taken ++ taken_by h x.0 ∷ []; now = (run_all x.1).walk.now }) (run_all x.1).stopped =
-        first_of j o.0
-        ∙ ap (λ (t : Taken). ran (record { taken = (run_all o.0.next).walk.taken ++ t ∷ []; now = (run_all o.0.next).walk.now }) (run_all o.0.next).stopped) o.1
-        ∙ ap (λ (n : Joining). ran (record { taken = (run_all n).walk.taken ++ taken_by h x.0 ∷ []; now = (run_all n).walk.now }) (run_all n).stopped) o.2 in
+    first_of j o.0
+    ∙ ap (λ (t : Taken). ran (record { taken = (run_all o.0.next).walk.taken ++ t ∷ []; now = (run_all o.0.next).walk.now }) (run_all o.0.next).stopped) o.1
+    ∙ ap (λ (n : Joining). ran (record { taken = (run_all n).walk.taken ++ taken_by h x.0 ∷ []; now = (run_all n).walk.now }) (run_all n).stopped) o.2 in
     let k = keeps j h x e in
     record {
       taken = ap (λ (r : Ran). r.walk.taken) whole;

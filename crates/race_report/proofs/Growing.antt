@@ -132,7 +132,7 @@ module _ (hart : ℕ) (row : Row) (touch : Touch) (run : List Accessing) (counts
       by (Some q) e =
           ap (λ (x : List (List Meeting)). slice_get x m) is
           ∙ found_at n hart m q.hart harts counts f.places (clash q) (λ g w a. (f.are g w a).falling) (own q e) (members q e) (words_from touch.first touch.count) ls (meetings_of run m)
-              (all_aligned touch.first touch.count first) (low m q e) (no_last run m n n (omega arith)) (old m below)
+          (all_aligned touch.first touch.count first) (low m q e) (no_last run m n n (omega arith)) (old m below)
           ∙ ap (λ (x : List Meeting). Some x) (meetings_known m q below e)
 
 -- with a list more for the new point

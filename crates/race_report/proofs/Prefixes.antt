@@ -76,8 +76,8 @@ pub before_same : (xs ys : List Point) (m n : ℕ) → n < length xs → before 
 unfolding before
 before_same xs ys m n high =
     leads_same (either (program_order (xs ++ ys)) (conflict (xs ++ ys))) (either (program_order xs) (conflict xs)) (length xs)
-      (λ k j low top. ap (λ (b : Bool). b || conflict (xs ++ ys) k j) (at_places_same is_same_hart xs ys k j low top) ∙ ap (λ (b : Bool). program_order xs k j || b) (at_places_same is_conflict xs ys k j low top))
-      m n n (omega arith) high
+    (λ k j low top. ap (λ (b : Bool). b || conflict (xs ++ ys) k j) (at_places_same is_same_hart xs ys k j low top) ∙ ap (λ (b : Bool). program_order xs k j || b) (at_places_same is_conflict xs ys k j low top))
+    m n n (omega arith) high
 
 -- ---- races
 

@@ -94,7 +94,7 @@ module _ (n w h k g0 : ℕ) (counts : ℕ → ℕ) (places : ℕ → List ℕ) (
   lt_own g e = grind arith
 
   pub met_harts_at : (harts : ℕ) (ls : List (List Meeting)) (l : List Meeting) → slice_get ls k ≡ Some l → slice_get (met_harts n w h counts places harts ls) k ≡ Some (after harts l)
-  met_harts_at zero ls l e = e
+  met_harts_at zero ls l e = e ∙ ap (λ (b : Bool). Some (cond (b && admits) (met n w l) l)) (sym (not_lt g0 0 (omega arith)))
   met_harts_at (suc g) ls l e = by (met_harts_at g ls l e) (g == g0) refl (g == h) refl
     where
       skipped : g ≡ g0 → (g == h) ≡ true → admits ≡ false
@@ -182,8 +182,8 @@ module _ (n h k g0 harts : ℕ) (counts : ℕ → ℕ) (places : ℕ → ℕ →
   met_words_at [] ls l a e = e
   met_words_at (w ∷ ws) ls l a e =
       met_words_at ws (met_harts n w h counts (λ g. places g w) harts ls) (cond (meets_in w) (met n w l) l) a.1
-        (met_harts_at n w h k g0 counts (λ g. places g w) (λ g. falling g w a.0) (λ g. own g w a.0) harts ls l e
-        ∙ ap (λ (b : Bool). Some (cond (nat_lt g0 harts && (not (g0 == h) && (b && not (nat_lt k (counts g0))))) (met n w l) l)) (members w a.0))
+      (met_harts_at n w h k g0 counts (λ g. places g w) (λ g. falling g w a.0) (λ g. own g w a.0) harts ls l e
+      ∙ ap (λ (b : Bool). Some (cond (nat_lt g0 harts && (not (g0 == h) && (b && not (nat_lt k (counts g0))))) (met n w l) l)) (members w a.0))
 
   pub found_at : (ws : List ℕ) (ls : List (List Meeting)) (l : List Meeting) → AllAligned ws → g0 < harts → last_meets n l ≡ None → slice_get ls k ≡ Some l
       → slice_get (met_words n h counts places harts ws ls) k ≡ Some (l ++ meeting_at n (cond (not (g0 == h) && not (nat_lt k (counts g0))) (least_from None (filter passes ws)) None))

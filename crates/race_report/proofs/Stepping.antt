@@ -16,7 +16,7 @@ use Rattle.joint_replay.specs.declared.kinds.Next.TheVariants.{Hart, AllDone, No
 use Rattle.joint_replay.specs.Lanes.{Course, Lane, Item, Passing, Doing, Ending, row_given, lane_step, course_step, state_of}
 use Rattle.joint_replay.specs.Memory.{memory_after}
 use Rattle.hart_replay.specs.Replay.{Outcome, Done, Refused}
-use Rattle.joint_replay.specs.Joining.{Joining, Taken, Ran, begun, ran, choice, move, next_step, error_of, positions_from, steps_left, run_all}
+use Rattle.joint_replay.specs.Joining.{Joining, Taken, Ran, fresh, lanes_from, begun, ran, choice, move, next_step, error_of, positions_from, steps_left, run_all}
 use Rattle.joint_replay.specs.Calls.{stepped_of, state_at, IsRefused, IsHalted, Steps}
 use Rattle.joint_replay.specs.Runs.{stopped_by, Runs, RanToEnd, FoundNoMemory}
 use Rattle.joint_replay.specs.Firsts.{IsFirstStep, RunsByStep}
@@ -25,8 +25,13 @@ use Rattle.race_report.specs.declared.error.RaceError.{RaceError}
 use Rattle.race_report.specs.declared.error.RaceError.TheVariants.{Joint, TooMany, OutOfMemory}
 use Rattle.race_report.specs.declared.gathered.Gathered.{Gathered}
 use Rattle.race_report.specs.Points.{Accessing, accessing, asked_by, touch_of, point_in, points_of}
-use Rattle.race_report.specs.Gathering.{IsState}
-use Rattle.race_report.specs.Reports.{Tells, Stops, TakesRow, Advances, HasState, IsOnTheWay, Gathers, joint_of}
+use Rattle.race_report.specs.Gathering.{IsGathered, IsState}
+use Rattle.race_report.proofs.Counting.{state_of as whole_state, total_is}
+use Rattle.log_record.specs.declared.record.Record.{Record}
+use Rattle.race_report.specs.declared.race.Race.{Race}
+use Rattle.race_report.specs.Races.{races_of}
+use Rattle.race_report.specs.Found.{total}
+use Rattle.race_report.specs.Reports.{IsReport, Tells, Stops, TakesRow, Advances, HasState, IsOnTheWay, Gathers, joint_of}
 
 -- ---- a step that did no row
 
@@ -65,9 +70,9 @@ shown_row i c cs before row next e = by c.left.rows e
     same_ok x y f = cc
 
     by : (rows : List Row) → elim rows as (λ y. Result (Item × Lane) ReplayError) [
-          | r ∷ rs ↦ Ok (Doing c.state r, record { points = []; courses = row_given i c r rs ∷ cs })
-          | [] ↦ elim c.left.outcome as (λ y. Result (Item × Lane) ReplayError) [ Done ↦ Ok (Ending c.number c.mark, record { points = []; courses = cs }) | Refused e ↦ Err e ]
-        ] ≡ Ok (Doing before row, next) → c.state ≡ before
+      | r ∷ rs ↦ Ok (Doing c.state r, record { points = []; courses = row_given i c r rs ∷ cs })
+      | [] ↦ elim c.left.outcome as (λ y. Result (Item × Lane) ReplayError) [ Done ↦ Ok (Ending c.number c.mark, record { points = []; courses = cs }) | Refused e ↦ Err e ]
+    ] ≡ Ok (Doing before row, next) → c.state ≡ before
     by (r ∷ rs) f = same_doing c.state before r row (ap (λ (x : Item × Lane). x.0) (same_ok (Doing c.state r, record { points = []; courses = row_given i c r rs ∷ cs }) (Doing before row, next) f))
     by [] f = done c.left.outcome f
       where
@@ -170,8 +175,8 @@ way_first harts most first g none count state = record { done = []; taken = sym 
 points_more : (ts : List Taken) (h : ℕ) (item : Item) → points_of (record { hart = h; item = item } ∷ ts) ≡ points_of ts ++ point_in h item
 points_more ts h item = refl
 
-pub way_next : RunsByStep → (harts most h : ℕ) (first now new : Joining) (g next : Gathered) → choice now ≡ Hart h → IsOnTheWay harts most first now g → Advances h most now g (Ok tt) new next → IsOnTheWay harts most first new next
-way_next law harts most h first now new g next lowest w a =
+pub way_next : RunsByStep → (harts most h : ℕ) (first now new : Joining) (g next : Gathered) (u : Unit {0}) → choice now ≡ Hart h → IsOnTheWay harts most first now g → Advances h most now g (Ok u) new next → IsOnTheWay harts most first new next
+way_next law harts most h first now new g next u lowest w a =
     let f : IsFirstStep now h (a.0, new) = law.first now h (a.0, new) w.none lowest a.1 in
     let t : Taken = record { hart = h; item = a.0 } in
     let low : h < harts = subst (λ (k : ℕ). h < k) w.count (law.there now h lowest) in
@@ -187,8 +192,8 @@ way_next law harts most h first now new g next lowest w a =
 pub way_has : RunsByStep → (harts most h : ℕ) (first now : Joining) (g : Gathered) → choice now ≡ Hart h → IsOnTheWay harts most first now g → HasState h most g
 way_has law harts most h first now g lowest w = (harts, points_of w.done, subst (λ (k : ℕ). h < k) w.count (law.there now h lowest), w.state)
 
-pub way_fewer : RunsByStep → (harts most h : ℕ) (first now new : Joining) (g next : Gathered) → choice now ≡ Hart h → IsOnTheWay harts most first now g → Advances h most now g (Ok tt) new next → steps_left new.lanes < steps_left now.lanes
-way_fewer law harts most h first now new g next lowest w a = (law.first now h (a.0, new) w.none lowest a.1).fewer
+pub way_fewer : RunsByStep → (harts most h : ℕ) (first now new : Joining) (g next : Gathered) (u : Unit {0}) → choice now ≡ Hart h → IsOnTheWay harts most first now g → Advances h most now g (Ok u) new next → steps_left new.lanes < steps_left now.lanes
+way_fewer law harts most h first now new g next u lowest w a = (law.first now h (a.0, new) w.none lowest a.1).fewer
 
 pub way_done : RunsByStep → (harts most : ℕ) (first now : Joining) (g : Gathered) → choice now ≡ AllDone → IsOnTheWay harts most first now g → Gathers harts most (run_all first) (Ok g)
 way_done law harts most first now g done w =
@@ -199,3 +204,17 @@ pub way_stopped : (harts most : ℕ) (first now : Joining) (g : Gathered) (e : R
 way_stopped harts most first now g (Joint e) w s = (w.stopped ∙ s.0, s.1)
 way_stopped harts most first now g (TooMany max) w s = s
 way_stopped harts most first now g OutOfMemory w s = tt
+
+lanes_long : (i : Program) (records : List Record) (h n : ℕ) → length (lanes_from i records h n) ≡ n
+lanes_long i records h zero = refl
+lanes_long i records h (suc n) = ap suc (lanes_long i records (h + 1) n)
+
+pub way_fresh : (i : Program) (harts most : ℕ) (records : List Record) (now : Joining) (g : Gathered) → now ≡ fresh i harts records → IsGathered harts [] g → IsOnTheWay harts most (fresh i harts records) now g
+way_fresh i harts most records now g e state = subst (λ (j : Joining). IsOnTheWay harts most (fresh i harts records) j g) (sym e) (way_first harts most (fresh i harts records) g refl (lanes_long i records 0 harts) (whole_state harts most [] g state))
+
+pub reported : (harts most count : ℕ) (r : Ran) (g : Gathered) (races items : List Race) → Gathers harts most r (Ok g) → count ≡ total g.found.lists.items → count ≤ most → races ≡ items
+    → ((hs : ℕ) (run : List Accessing) → IsGathered hs run g → items ≡ races_of hs run) → IsReport harts most r (Ok races)
+reported harts most count r g races items s e low f all =
+    let here = s.1.gathered (let same = e in omega (arith, same, low)) in
+    let size = total_is harts (points_of r.walk.taken) g here in
+    (s.0, (omega (arith, size, e, low)), f ∙ all harts (points_of r.walk.taken) here)

@@ -96,9 +96,9 @@ heads_set heads hart word number old new low there put h w = by (hart == h) refl
     by : (b : Bool) → (hart == h) ≡ b → head_at (slice_set heads hart new) h w ≡ cond (b && (word / 4 == w / 4)) (Some number) (head_at heads h w)
     by true e =
         subst (λ (k : ℕ). head_at (slice_set heads hart new) k w ≡ cond (word / 4 == w / 4) (Some number) (head_at heads k w)) (same_number hart h e)
-          (ap (λ (o : Option Known). known_at o w) (set_here heads hart new low) ∙ put (w / 4) ∙ as_cond (w / 4 == word / 4) (Some number) (word_at old.pages (w / 4))
-          ∙ ap (λ (b : Bool). cond b (Some number) (word_at old.pages (w / 4))) (turned (w / 4) (word / 4))
-          ∙ ap (λ (o : Option Known). cond (word / 4 == w / 4) (Some number) (known_at o w)) (sym there))
+        (ap (λ (o : Option Known). known_at o w) (set_here heads hart new low) ∙ put (w / 4) ∙ as_cond (w / 4 == word / 4) (Some number) (word_at old.pages (w / 4))
+        ∙ ap (λ (b : Bool). cond b (Some number) (word_at old.pages (w / 4))) (turned (w / 4) (word / 4))
+        ∙ ap (λ (o : Option Known). cond (word / 4 == w / 4) (Some number) (known_at o w)) (sym there))
     by false e = ap (λ (o : Option Known). known_at o w) (set_there heads hart h new e)
 
 pub linked_set : (heads other : List Known) (entries : List Entry) (hart word number : ℕ) → number < length entries

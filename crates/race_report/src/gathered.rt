@@ -76,7 +76,14 @@ impl Gathered {
         let place = self.next_place()?;
         let known = reach(&mut self.shadow, hart, place, touch)?;
         let point = Reached { hart, place, known };
-        meet_point(&self.all, &self.written, &mut self.found, self.harts, touch, &point)?;
+        meet_point(
+            &self.all,
+            &self.written,
+            &mut self.found,
+            self.harts,
+            touch,
+            &point,
+        )?;
         note_point(&mut self.all, &mut self.written, touch, hart, place)?;
         self.rows.extend_from_slice(&[*row])?;
         self.owners.push(hart)?;
@@ -85,7 +92,13 @@ impl Gathered {
 
     /// Takes in a row of a hart that asked this of a system call before it, as long as there are no more
     /// than so many races.
-    pub(crate) fn take_row(&mut self, hart: HartId, asked: Asked, row: &Row, most: u64) -> Result<(), AllocError>
+    pub(crate) fn take_row(
+        &mut self,
+        hart: HartId,
+        asked: Asked,
+        row: &Row,
+        most: u64,
+    ) -> Result<(), AllocError>
         requires there { (harts : ℕ) × (run : List Accessing) × (hart < harts) × IsState harts most run self.old }
         ensures { OnOk result ((harts : ℕ) (run : List Accessing) (before : HartState) → hart < harts → asked ≡ asked_by before → IsState harts most run self.old → IsState harts most (run ++ accessing hart row.now (touch_of before row.now)) self.new) }
     {

@@ -24,8 +24,8 @@ mod texts;
 mod touch;
 mod track;
 
-pub use examples::{a_filled_word_races, a_relay_has_three_races, an_atomic_passes_a_message};
 pub use error::RaceError;
+pub use examples::{a_filled_word_races, a_relay_has_three_races, an_atomic_passes_a_message};
 pub use race::Race;
 pub use reporting::report;
 pub use texts::{write_count, write_race};

@@ -98,7 +98,12 @@ pub(crate) fn meet_words(
 }
 
 /// Adds the accesses of a point's words.
-pub(crate) fn note_words(track: &mut Track, touch: Touch, hart: HartId, place: u32) -> Result<(), AllocError>
+pub(crate) fn note_words(
+    track: &mut Track,
+    touch: Touch,
+    hart: HartId,
+    place: u32,
+) -> Result<(), AllocError>
     requires hart { hart < length track.old.heads.items }
     requires aligned { touch.first % 4 ≡ 0 }
     ensures harts { length track.new.heads.items ≡ length track.old.heads.items }

@@ -41,7 +41,13 @@ fn asked_in(joint: &Joint, hart: HartId) -> Option<Asked>
 }
 
 // Takes in a row.
-fn take_row(gathered: &mut Gathered, hart: HartId, asked: Option<Asked>, row: &Row, most: u64) -> Result<(), RaceError>
+fn take_row(
+    gathered: &mut Gathered,
+    hart: HartId,
+    asked: Option<Asked>,
+    row: &Row,
+    most: u64,
+) -> Result<(), RaceError>
     requires { HasState hart most gathered.old }
     ensures { TakesRow hart most asked row.now gathered.old result gathered.new }
 {
@@ -55,7 +61,12 @@ fn take_row(gathered: &mut Gathered, hart: HartId, asked: Option<Asked>, row: &R
 }
 
 // Takes the next step of the lowest ready hart, and takes in its row, if it did one.
-fn advance(joint: &mut Joint, gathered: &mut Gathered, hart: HartId, most: u64) -> Result<(), RaceError>
+fn advance(
+    joint: &mut Joint,
+    gathered: &mut Gathered,
+    hart: HartId,
+    most: u64,
+) -> Result<(), RaceError>
     requires none { joint.old.refused ≡ None }
     requires lowest { choice joint.old ≡ Hart hart }
     requires state { HasState hart most gathered.old }
@@ -117,7 +128,12 @@ fn gather(alloc: Global, image: &Image, log: &KeptLog, most: u64) -> Result<Gath
 /// Where the joint replay stops, the error is why it does; else where there are more than `max` races,
 /// it is TooMany. It keeps the rows that access words, at most 2^32 - 1 of them; more are taken for want
 /// of memory.
-pub fn report(alloc: Global, image: &Image, log: &KeptLog, max: u64) -> Result<List<Race>, RaceError>
+pub fn report(
+    alloc: Global,
+    image: &Image,
+    log: &KeptLog,
+    max: u64,
+) -> Result<List<Race>, RaceError>
     ensures { IsReport log.now.head.settings.harts max (joint_of image.now log.now) result }
 {
     match gather(alloc, image, log, max) {

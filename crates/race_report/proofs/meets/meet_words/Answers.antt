@@ -14,7 +14,7 @@ loop-preserved c = record {
   met = λ places tracked.
       let counts = count_of c.args.point.now.known in
       ap (λ (ls : List (List Meeting)). met_words c.args.point.now.place c.args.point.now.hart counts places c.args.harts (words_from ((c.loop.word + 4) % 4294967296) (c.args.touch.count - (c.loop.counter + 1))) ls)
-        (c.in_ok-meet_word.ensures.met (λ g. places g c.loop.word) (λ g. tracked g c.loop.word c.loop.invariant.aligned))
+      (c.in_ok-meet_word.ensures.met (λ g. places g c.loop.word) (λ g. tracked g c.loop.word c.loop.invariant.aligned))
       ∙ ap (λ (ws : List ℕ). met_words c.args.point.now.place c.args.point.now.hart counts places c.args.harts ws (lists_of c.loop.found)) (sym (words_next c.loop.word c.args.touch.count c.loop.counter c.loop-test.true))
       ∙ c.loop.invariant.met places tracked;
 }

@@ -16,5 +16,5 @@ loop-first-preserved c = λ harts run g.
 
 pub returns : goal.returns
 returns c = λ harts run g.
-    let same : c.loop-first.first ≡ length run = (let own = g.size in omega (arith, own, c.len.ensures, c.loop-first-test.false, c.loop-first.auto.first-end)) in
+    let same : c.loop-first.first ≡ length run = (let own = g.size in omega (arith, own, c.len-first-end.ensures, c.loop-first-test.false, c.loop-first.auto.first-end)) in
     c.loop-first.invariant harts run g ∙ ap (λ (k : ℕ). c.args.out.now.items ++ races_by_place harts run c.args.hart k) same

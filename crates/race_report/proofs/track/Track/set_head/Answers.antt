@@ -18,8 +18,10 @@ invariant_of-self c =
     let p = c.index_mut.result.now in
     let there = known_is heads c.args.hart p c.requires.hart c.index_mut.ensures.value in
     let put = on_ok c.put.result _ (c.put.ensures.taken (room_is heads c.args.hart p there c.requires.room)) c.put.ensures.word in
-    record { linked = linked_set heads _ c.args.self.now.entries.items c.args.hart c.args.word c.args.number c.requires.number
-        (heads_set heads c.args.hart c.args.word c.args.number p c.put.new.self c.requires.hart there put) c.args.self.now.linked }
+    record {
+      linked = linked_set heads _ c.args.self.now.entries.items c.args.hart c.args.word c.args.number c.requires.number
+          (heads_set heads c.args.hart c.args.word c.args.number p c.put.new.self c.requires.hart there put) c.args.self.now.linked;
+    }
 
 pub unreachable-requires : goal.unreachable-requires
 unreachable-requires c =
