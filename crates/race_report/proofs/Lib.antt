@@ -13,3 +13,4 @@ pub mod Counting
 pub mod Stepping
 pub mod Orders
 pub mod Agreeing
+pub mod Counted
