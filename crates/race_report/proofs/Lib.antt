@@ -14,3 +14,4 @@ pub mod Stepping
 pub mod Orders
 pub mod Agreeing
 pub mod Counted
+pub mod Listed

@@ -1,5 +1,5 @@
 //! Laws of race reports. These functions do nothing: their contracts are theorems.
-ghost use Rattle.race_report.specs.Laws.{TestsSayRaces, PointsAreCounted};
+ghost use Rattle.race_report.specs.Laws.{TestsSayRaces, PointsAreCounted, RacesAreListed};
 
 use joint_replay::laws::{
     runs_go_by_steps, soundness_stays, starts_are_sound, steps_pass_their_points,
@@ -22,4 +22,11 @@ pub fn points_are_counted()
     steps_pass_their_points();
     soundness_stays();
     starts_are_sound();
+}
+
+/// The list of all races has each pair of points that is a race, with its word, and nothing else.
+pub fn races_are_listed()
+    ensures { RacesAreListed }
+{
+    tests_say_races();
 }
