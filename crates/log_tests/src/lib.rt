@@ -11,6 +11,8 @@ mod first_log;
 #[cfg(test)]
 mod order;
 #[cfg(test)]
+mod races;
+#[cfg(test)]
 mod records;
 #[cfg(test)]
 mod replaying;
