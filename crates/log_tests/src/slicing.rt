@@ -3,9 +3,7 @@ use crate::replaying::{end, first_load, header, log, program};
 use hart_replay::ReplayError;
 use log_order::KeptLog;
 use rv_text::{Text, write_row};
-use slice_back::{
-    Slice, SliceError, slice, write_branch, write_head, write_register, write_word,
-};
+use slice_back::{Slice, SliceError, slice, write_branch, write_head, write_register, write_word};
 use std::alloc::{AllocError, Global};
 use std::process::Abort;
 use std::test::*;
@@ -23,13 +21,17 @@ const BRANCH: [u32; 6] = [
     0x00020437, 0x00051a63, 0x00b42023, 0x00042283, 0x05d00893, 0x00000073,
 ];
 
-const BYTE_LINES: &str = "slice 0 2\n0 0 00010054 00020437 lui s0,0x20 | s0=00020000\n0 1 00010058 00b40023 sb a1,0(s0) | store 00020000=00000001\n0 2 0001005c 00042283 lw t0,0(s0) | t0=00000001 | load 00020000=00000001\nin a1=00000001\nin 1 00020000=00000000\n";
+const BYTE_LINES: &str =
+    "slice 0 2\n0 0 00010054 00020437 lui s0,0x20 | s0=00020000\n0 1 00010058 00b40023 sb a1,0(s0) | store 00020000=00000001\n0 2 0001005c 00042283 lw t0,0(s0) | t0=00000001 | load 00020000=00000001\nin a1=00000001\nin 1 00020000=00000000\n";
 
-const FAULT_LINES: &str = "slice 0 0\n0 0 00010054 00002283 lw t0,0(zero) | fault LoadOutside 00000000\n";
+const FAULT_LINES: &str =
+    "slice 0 0\n0 0 00010054 00002283 lw t0,0(zero) | fault LoadOutside 00000000\n";
 
-const NEWER_LINES: &str = "slice 0 3\n0 0 00010054 00020437 lui s0,0x20 | s0=00020000\n0 3 00010060 00042303 lw t1,0(s0) | t1=00000007 | load 00020000=00000007\nin 3 00020000=00000007\n";
+const NEWER_LINES: &str =
+    "slice 0 3\n0 0 00010054 00020437 lui s0,0x20 | s0=00020000\n0 3 00010060 00042303 lw t1,0(s0) | t1=00000007 | load 00020000=00000007\nin 3 00020000=00000007\n";
 
-const BRANCH_LINES: &str = "slice 0 3\n0 0 00010054 00020437 lui s0,0x20 | s0=00020000\n0 2 0001005c 00b42023 sw a1,0(s0) | store 00020000=00000001\n0 3 00010060 00042283 lw t0,0(s0) | t0=00000001 | load 00020000=00000001\nin a1=00000001\nbranch 0 1 00010058 00051a63 bne a0,zero,0001006c\n";
+const BRANCH_LINES: &str =
+    "slice 0 3\n0 0 00010054 00020437 lui s0,0x20 | s0=00020000\n0 2 0001005c 00b42023 sw a1,0(s0) | store 00020000=00000001\n0 3 00010060 00042283 lw t0,0(s0) | t0=00000001 | load 00020000=00000001\nin a1=00000001\nbranch 0 1 00010058 00051a63 bne a0,zero,0001006c\n";
 
 // The slice of a row of hart 0's first interval.
 fn sliced(
