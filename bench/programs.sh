@@ -1,11 +1,11 @@
 #!/usr/bin/env bash
-# Times the whole program on examples/sort.elf: its recording, the replay of its longest interval,
-# and the reading of a full log of 64 MiB, with the memory that it takes. Beside them stand
-# qemu-riscv32 on the same program, one instruction at a time too, and sha256sum on the same log.
-# Then how much memory the list of turns takes; harts in threads beside harts by a seed, by the clock;
-# the joint replay beside single replays of the same intervals; and last how far back a log of 1 MiB
-# reaches in each example. It prints ratios; the times beside them are those of the machine and of the
-# moment.
+# Times the whole program on examples/sort.elf: its recording, the audit of it, the replay of its longest
+# interval, a demonstration, and the reading of a full log of 64 MiB, with the memory that it takes. Beside
+# them stand qemu-riscv32 on the same program, one instruction at a time too, the demonstration's parts by
+# single commands, and sha256sum on the same log.
+# Then how much memory the list of turns takes; harts in threads beside harts by a seed, by the clock; the
+# joint replay beside single replays of the same intervals; and last how far back a log of 1 MiB reaches in
+# each example. It prints ratios; the times beside them are those of the machine and of the moment.
 #
 # bench/programs.sh [RUNS]: each is run RUNS times (3), and the least processor time counts.
 set -eu
@@ -87,6 +87,10 @@ else
 fi
 rate record "$instructions" instructions "$recorded" "${others[@]}"
 
+# The audit of that recording does the run again, and compares its log.
+audited=$(seconds 0 "$zelkuma" audit "$work/LOG" "$elf" "$work/BOOK")
+rate audit "$instructions" instructions "$audited" "the recording" "$recorded"
+
 # The longest interval, beside how long so many instructions took in the other ways.
 read -r hart interval rows < <(awk '
     { n = $4 - $3; if (n > most) { most = n; which = $1 " " $2 } }
@@ -97,6 +101,22 @@ for i in $(seq 1 2 "${#others[@]}"); do
     others[i]=$(share "${others[i]}")
 done
 rate replay "$rows" rows "$replayed" "the recording of as many" "$(share "$recorded")" "${others[@]}"
+
+# A demonstration, beside the same by single commands: the recording, the reading of the log, the replay
+# of each interval that it keeps, and the joint replay.
+python3 "$top/bench/guest.py" 7 >"$work/guest.elf"
+apart=$(seconds 11 "$zelkuma" record --seed 7 --harts 4 --interval 10000 --limit 200000 \
+    --sets 16 --ways 2 --line 4 "$work/guest.elf" "$work/LOG" "$work/BOOK")
+all=$(told instructions)
+"$zelkuma" list "$work/LOG" >"$work/list"
+apart="$apart $(seconds 0 "$zelkuma" check "$work/LOG")"
+while read -r hart interval _; do
+    apart="$apart $(seconds 0 "$zelkuma" replay "$work/LOG" "$work/guest.elf" "$hart" "$interval")"
+done <"$work/list"
+apart="$apart $(seconds 0 "$zelkuma" joint "$work/LOG" "$work/guest.elf")"
+apart=$(awk -v RS=' ' '{ sum += $1 } END { print sum }' <<<"$apart")
+shown=$(seconds 0 "$zelkuma" demo 7)
+rate demo "$all" instructions "$shown" "single commands" "$apart"
 
 # A full log: intervals of 20 instructions make more than 64 MiB of Headers, Ends and FirstLoads.
 runs=1 seconds 0 "$zelkuma" record --seed 1 --interval 20 --log-size 67108864 \

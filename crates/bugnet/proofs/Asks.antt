@@ -2,7 +2,7 @@
 use Rattle.std.proofs.Common.{◌≡◌, ◌≢◌, ℕ, Bool, true, false, List, Option, Some, None, ◌∙◌, subst, refl, arith, inl, inr}
 use Rattle.bn_outside.specs.Counts.{Counts}
 use Rattle.bn_outside.specs.Files.{Files}
-use Rattle.command_words.specs.Words.{Line, RecordLine, ReplayLine, JointLine, ListLine, CheckLine}
+use Rattle.command_words.specs.Words.{Line, RecordLine, ReplayLine, JointLine, DebugLine, ListLine, CheckLine, AuditLine, DemoLine}
 use Rattle.bugnet.specs.Asks.{SavedAll, SavesEach, AtMostSaves, AnswerSaves, LineSaves, RecordsRun, is_lean}
 use Rattle.bugnet.specs.Laws.{IsNoRecording}
 use Rattle.bugnet.specs.Names.{FileNames}
@@ -10,9 +10,9 @@ use Rattle.bugnet.specs.Outside.{ToldRefusal, Unsaved, IsPrinted}
 use Rattle.bugnet.specs.Saves.{IsRecorded}
 use Rattle.bugnet.specs.Told.{Saved}
 use Rattle.bugnet.specs.declared.answer.Answer.{Answer}
-use Rattle.bugnet.specs.declared.answer.Answer.TheVariants.{Recorded, Interval, Joined, Listed, Checked}
+use Rattle.bugnet.specs.declared.answer.Answer.TheVariants.{Recorded, Interval, Joined, Listed, Checked, Agreed, Demonstrated}
 use Rattle.bugnet.specs.declared.refusal.Refusal.{Refusal}
-use Rattle.bugnet.specs.declared.refusal.Refusal.TheVariants.{WordsRefused, OutOfRange, SameName, StoreFailed, Missing, TooLong, ElfRefused, LogRefused, ProgramDiffers, OutOfMemory, WriteFailed, ReplayStopped}
+use Rattle.bugnet.specs.declared.refusal.Refusal.TheVariants.{WordsRefused, OutOfRange, SameName, StoreFailed, Missing, TooLong, ElfRefused, LogRefused, ProgramDiffers, OutOfMemory, WriteFailed, ReplayStopped, ReadFailed, LineTooLong, CommandsTooLong, BookRefused, FileDiffers}
 use Rattle.bugnet.proofs.Leaves.{told-apart}
 
 -- neither a recording that is done, nor one whose texts a write refused
@@ -38,6 +38,11 @@ unsaved-write saved names old new before now (LogRefused x) status err_old err_n
 unsaved-write saved names old new before now (ProgramDiffers kept found) status err_old err_new m n u (inl h) = absurd u
 unsaved-write saved names old new before now WriteFailed status err_old err_new m n u (inl h) = absurd u
 unsaved-write saved names old new before now (ReplayStopped x) status err_old err_new m n u (inl h) = absurd u
+unsaved-write saved names old new before now ReadFailed status err_old err_new m n u (inl h) = absurd u
+unsaved-write saved names old new before now LineTooLong status err_old err_new m n u (inl h) = absurd u
+unsaved-write saved names old new before now CommandsTooLong status err_old err_new m n u (inl h) = absurd u
+unsaved-write saved names old new before now (BookRefused x) status err_old err_new m n u (inl h) = absurd u
+unsaved-write saved names old new before now (FileDiffers place) status err_old err_new m n u (inl h) = absurd u
 unsaved-write saved names old new before now r status err_old err_new m n u (inr h) = no-write status 9 h.0 (λ e. omega (arith, e))
 
 -- nor is that of want of memory
@@ -67,8 +72,11 @@ line-none None status before after never same = same
 line-none (Some (RecordLine r)) status before after never same = record { few = no-saves r.lean before after same; all = λ is. absurd (never is) }
 line-none (Some (ReplayLine log elf hart interval)) status before after never same = same
 line-none (Some (JointLine log elf)) status before after never same = same
+line-none (Some (DebugLine log elf)) status before after never same = same
 line-none (Some (ListLine log)) status before after never same = same
 line-none (Some (CheckLine log)) status before after never same = same
+line-none (Some (AuditLine log elf book input)) status before after never same = same
+line-none (Some (DemoLine seed)) status before after never same = same
 
 printed : (answer : Answer) (status before mid after : ℕ) → IsPrinted answer → mid ≡ before → AnswerSaves answer status mid after → after ≡ before
 printed (Recorded r) status before mid after p same saves = absurd p
@@ -76,6 +84,8 @@ printed (Interval r) status before mid after p same saves = saves ∙ same
 printed (Joined r) status before mid after p same saves = saves ∙ same
 printed (Listed d) status before mid after p same saves = saves ∙ same
 printed (Checked d) status before mid after p same saves = saves ∙ same
+printed Agreed status before mid after p same saves = saves ∙ same
+printed (Demonstrated lines) status before mid after p same saves = saves ∙ same
 
 -- a line whose answer was acted on
 pub line-acts : (line : Line) (answer : Answer) (status before mid after : ℕ) → RecordsRun line answer → (IsNoRecording (Some line) → IsPrinted answer) → mid ≡ before
@@ -85,7 +95,12 @@ line-acts (RecordLine r) (Interval x) status before mid after records prints sam
 line-acts (RecordLine r) (Joined x) status before mid after records prints same saves = absurd records
 line-acts (RecordLine r) (Listed d) status before mid after records prints same saves = absurd records
 line-acts (RecordLine r) (Checked d) status before mid after records prints same saves = absurd records
+line-acts (RecordLine r) Agreed status before mid after records prints same saves = absurd records
+line-acts (RecordLine r) (Demonstrated lines) status before mid after records prints same saves = absurd records
 line-acts (ReplayLine log elf hart interval) answer status before mid after records prints same saves = printed answer status before mid after (prints tt) same saves
 line-acts (JointLine log elf) answer status before mid after records prints same saves = printed answer status before mid after (prints tt) same saves
+line-acts (DebugLine log elf) answer status before mid after records prints same saves = printed answer status before mid after (prints tt) same saves
 line-acts (ListLine log) answer status before mid after records prints same saves = printed answer status before mid after (prints tt) same saves
 line-acts (CheckLine log) answer status before mid after records prints same saves = printed answer status before mid after (prints tt) same saves
+line-acts (AuditLine log elf book input) answer status before mid after records prints same saves = printed answer status before mid after (prints tt) same saves
+line-acts (DemoLine seed) answer status before mid after records prints same saves = printed answer status before mid after (prints tt) same saves

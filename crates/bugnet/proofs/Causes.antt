@@ -10,42 +10,44 @@ use Rattle.bugnet.specs.Refusals.{status_of, replay_status}
 use Rattle.bugnet.specs.Outside.{ToldRefusal, RefusalCause, CauseBy}
 use Rattle.bugnet.specs.Run.{Call, IsByWords}
 use Rattle.bugnet.specs.declared.refusal.Refusal.{Refusal}
-use Rattle.bugnet.specs.declared.refusal.Refusal.TheVariants.{WordsRefused, OutOfRange, SameName, StoreFailed, Missing, TooLong, ElfRefused, LogRefused, ProgramDiffers, OutOfMemory, WriteFailed, ReplayStopped}
+use Rattle.bugnet.specs.declared.refusal.Refusal.TheVariants.{WordsRefused, OutOfRange, SameName, StoreFailed, Missing, TooLong, ElfRefused, LogRefused, ProgramDiffers, OutOfMemory, WriteFailed, ReplayStopped, ReadFailed, LineTooLong, CommandsTooLong, BookRefused, FileDiffers}
 
--- the statuses of the store come where its counts rose, and this isn't that of a write
+-- the statuses of the store come where its counts rose, and this isn't that of a write or of a read
 pub record Causes (before now : Counts) (status : ℕ) : Type 0 where
   pub three : status ≡ 3 → Rose before.faults now.faults
   pub four : status ≡ 4 → Rose before.misses now.misses
   pub five : status ≡ 5 → Rose before.longs now.longs
   pub write : status ≢ 13
+  pub read : status ≢ 12
 
 -- the same, and it isn't that of words
-record Caused (before now : Counts) (status : ℕ) : Type 0 where
+pub record Caused (before now : Counts) (status : ℕ) : Type 0 where
   pub words : status ≢ 2
   pub causes : Causes before now status
 
 -- none of these
-plain : (before now : Counts) (status n : ℕ) → status ≡ n → (n ≢ 3) → (n ≢ 4) → (n ≢ 5) → (n ≢ 13) → Causes before now status
-plain before now status n is a b c d = record {
+plain : (before now : Counts) (status n : ℕ) → status ≡ n → (n ≢ 3) → (n ≢ 4) → (n ≢ 5) → (n ≢ 13) → (n ≢ 12) → Causes before now status
+plain before now status n is a b c d f = record {
   three = λ e. absurd (a (sym is ∙ e));
   four = λ e. absurd (b (sym is ∙ e));
   five = λ e. absurd (c (sym is ∙ e));
   write = λ e. d (sym is ∙ e);
+  read = λ e. f (sym is ∙ e);
 }
 
-high : (before now : Counts) (status n : ℕ) → status ≡ n → 6 ≤ n → n ≢ 13 → Caused before now status
-high before now status n is low d = record {
+high : (before now : Counts) (status n : ℕ) → status ≡ n → 6 ≤ n → n ≢ 13 → n ≢ 12 → Caused before now status
+high before now status n is low d f = record {
   words = λ e. omega (arith, e, is, low);
-  causes = plain before now status n is (λ e. omega (arith, e, low)) (λ e. omega (arith, e, low)) (λ e. omega (arith, e, low)) d;
+  causes = plain before now status n is (λ e. omega (arith, e, low)) (λ e. omega (arith, e, low)) (λ e. omega (arith, e, low)) d f;
 }
 
-replay-high : (e : ReplayError) → (6 ≤ replay_status e) × (replay_status e ≢ 13)
-replay-high (replay.NoInterval hart interval) = (omega arith, λ e. omega (arith, e))
-replay-high (replay.LoadMissing hart ic addr) = (omega arith, λ e. omega (arith, e))
-replay-high (replay.ScMissing hart ic) = (omega arith, λ e. omega (arith, e))
-replay-high (replay.RecordsLeft hart left) = (omega arith, λ e. omega (arith, e))
-replay-high (replay.EndDiffers hart said found) = (omega arith, λ e. omega (arith, e))
-replay-high replay.OutOfMemory = (omega arith, λ e. omega (arith, e))
+replay-high : (e : ReplayError) → (6 ≤ replay_status e) × (replay_status e ≢ 13) × (replay_status e ≢ 12)
+replay-high (replay.NoInterval hart interval) = (omega arith, λ e. omega (arith, e), λ e. omega (arith, e))
+replay-high (replay.LoadMissing hart ic addr) = (omega arith, λ e. omega (arith, e), λ e. omega (arith, e))
+replay-high (replay.ScMissing hart ic) = (omega arith, λ e. omega (arith, e), λ e. omega (arith, e))
+replay-high (replay.RecordsLeft hart left) = (omega arith, λ e. omega (arith, e), λ e. omega (arith, e))
+replay-high (replay.EndDiffers hart said found) = (omega arith, λ e. omega (arith, e), λ e. omega (arith, e))
+replay-high replay.OutOfMemory = (omega arith, λ e. omega (arith, e), λ e. omega (arith, e))
 
 by-files : (before now : Counts) (r : Refusal) (status : ℕ) → RefusalCause before now r → status ≡ status_of r → Caused before now status
 by-files before now WordsRefused status c h = absurd c
@@ -53,30 +55,35 @@ by-files before now (OutOfRange bad) status c h = absurd c
 by-files before now SameName status c h = absurd c
 by-files before now (StoreFailed role) status c h = record {
   words = λ e. omega (arith, e, h);
-  causes = record { three = λ e. c; four = λ e. absurd (omega (arith, e, h)); five = λ e. absurd (omega (arith, e, h)); write = λ e. omega (arith, e, h) };
+  causes = record { three = λ e. c; four = λ e. absurd (omega (arith, e, h)); five = λ e. absurd (omega (arith, e, h)); write = λ e. omega (arith, e, h); read = λ e. omega (arith, e, h) };
 }
 by-files before now (Missing role) status c h = record {
   words = λ e. omega (arith, e, h);
-  causes = record { three = λ e. absurd (omega (arith, e, h)); four = λ e. c; five = λ e. absurd (omega (arith, e, h)); write = λ e. omega (arith, e, h) };
+  causes = record { three = λ e. absurd (omega (arith, e, h)); four = λ e. c; five = λ e. absurd (omega (arith, e, h)); write = λ e. omega (arith, e, h); read = λ e. omega (arith, e, h) };
 }
 by-files before now (TooLong role) status c h = record {
   words = λ e. omega (arith, e, h);
-  causes = record { three = λ e. absurd (omega (arith, e, h)); four = λ e. absurd (omega (arith, e, h)); five = λ e. c; write = λ e. omega (arith, e, h) };
+  causes = record { three = λ e. absurd (omega (arith, e, h)); four = λ e. absurd (omega (arith, e, h)); five = λ e. c; write = λ e. omega (arith, e, h); read = λ e. omega (arith, e, h) };
 }
-by-files before now (ElfRefused x) status c h = high before now status 6 h (omega arith) (λ e. omega (arith, e))
-by-files before now (LogRefused x) status c h = high before now status 7 h (omega arith) (λ e. omega (arith, e))
-by-files before now (ProgramDiffers kept found) status c h = high before now status 8 h (omega arith) (λ e. omega (arith, e))
-by-files before now OutOfMemory status c h = high before now status 9 h (omega arith) (λ e. omega (arith, e))
+by-files before now (ElfRefused x) status c h = high before now status 6 h (omega arith) (λ e. omega (arith, e)) (λ e. omega (arith, e))
+by-files before now (LogRefused x) status c h = high before now status 7 h (omega arith) (λ e. omega (arith, e)) (λ e. omega (arith, e))
+by-files before now (ProgramDiffers kept found) status c h = high before now status 8 h (omega arith) (λ e. omega (arith, e)) (λ e. omega (arith, e))
+by-files before now OutOfMemory status c h = high before now status 9 h (omega arith) (λ e. omega (arith, e)) (λ e. omega (arith, e))
 by-files before now WriteFailed status c h = absurd c
-by-files before now (ReplayStopped x) status c h = high before now status (replay_status x) h (replay-high x).0 (replay-high x).1
+by-files before now (ReplayStopped x) status c h = high before now status (replay_status x) h (replay-high x).0 (replay-high x).1 (replay-high x).2
+by-files before now ReadFailed status c h = absurd c
+by-files before now LineTooLong status c h = absurd c
+by-files before now CommandsTooLong status c h = absurd c
+by-files before now (BookRefused x) status c h = high before now status 17 h (omega arith) (λ e. omega (arith, e)) (λ e. omega (arith, e))
+by-files before now (FileDiffers place) status c h = high before now status 16 h (omega arith) (λ e. omega (arith, e)) (λ e. omega (arith, e))
 
 memory : (before now : Counts) (status : ℕ) → status ≡ 9 → Caused before now status
-memory before now status h = high before now status 9 h (omega arith) (λ e. omega (arith, e))
+memory before now status h = high before now status 9 h (omega arith) (λ e. omega (arith, e)) (λ e. omega (arith, e))
 
 same_refusal : (A : Type 0) (r x : Refusal) → ◌≡◌ {A = Result A Refusal} (Err r) (Err x) → r ≡ x
 same_refusal A r x e = grind arith
 
-caused : (names : FileNames) (before now : Counts) (r : Refusal) (status : ℕ) (err_old err_new : Option (List ℕ)) (m n : ℕ)
+pub caused : (names : FileNames) (before now : Counts) (r : Refusal) (status : ℕ) (err_old err_new : Option (List ℕ)) (m n : ℕ)
     → RefusalCause before now r → ToldRefusal names r status err_old err_new m n → Caused before now status
 caused names before now r status err_old err_new m n c (inl h) = by-files before now r status c h.0
 caused names before now r status err_old err_new m n c (inr h) = memory before now status h.0
@@ -84,7 +91,7 @@ caused names before now r status err_old err_new m n c (inr h) = memory before n
 by-words : (before now : Counts) (names : FileNames) (r : Refusal) (status : ℕ) (err_old err_new : Option (List ℕ)) (m n : ℕ)
     → status_of r ≡ 2 → ToldRefusal names r status err_old err_new m n → Causes before now status
 by-words before now names r status err_old err_new m n two (inl h) =
-    plain before now status 2 (h.0 ∙ two) (λ e. omega (arith, e)) (λ e. omega (arith, e)) (λ e. omega (arith, e)) (λ e. omega (arith, e))
+    plain before now status 2 (h.0 ∙ two) (λ e. omega (arith, e)) (λ e. omega (arith, e)) (λ e. omega (arith, e)) (λ e. omega (arith, e)) (λ e. omega (arith, e))
 by-words before now names r status err_old err_new m n two (inr h) = (memory before now status h.0).causes
 
 -- a refused command

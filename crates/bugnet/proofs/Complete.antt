@@ -7,7 +7,7 @@ use Rattle.bn_base.specs.Ranges.{first_bad}
 use Rattle.bn_base.specs.declared.settings.BadSetting.{BadSetting}
 use Rattle.bn_base.specs.declared.settings.RawSettings.{RawSettings}
 use Rattle.bn_outside.specs.Files.{Files}
-use Rattle.command_words.specs.Words.{Line, RecordingLine, RecordLine, ReplayLine, JointLine, ListLine, CheckLine}
+use Rattle.command_words.specs.Words.{Line, RecordingLine, RecordLine, ReplayLine, JointLine, DebugLine, ListLine, CheckLine, AuditLine, DemoLine}
 use Rattle.elf_loader.specs.Loaded.{image_of}
 use Rattle.elf_loader.specs.declared.error.ElfError.{ElfError}
 use Rattle.log_order.specs.Content.{Content, IsContent}
@@ -18,10 +18,11 @@ use Rattle.log_file.specs.Readings.{AreReadOrRefused}
 use Rattle.log_file.specs.declared.error.FileError.TheVariants as file
 use Rattle.log_file.specs.declared.error.FileError.{FileError}
 use Rattle.hart_replay.specs.Replay.{Interval}
-use Rattle.run_model.specs.Files.{content_of}
+use Rattle.run_model.specs.Files.{file_of, content_of}
 use Rattle.replay_laws.specs.Law.{LogSuffices}
 use Rattle.bugnet.specs.Names.{FileNames, no_names, name_of}
-use Rattle.bugnet.specs.Told.{Told, refused}
+use Rattle.demo_run.specs.Demonstration.{demo_text}
+use Rattle.bugnet.specs.Told.{Told, refused, printed}
 use Rattle.bugnet.specs.Commands.{is_clash, Either, IsByFile, WithFile, Reads, by_log, IsByLog, list_of, check_of, replay_of, IsReplayOf, IsReplay, IsByInput, IsByProgram, IsByNames, IsBySettings, IsRecord}
 use Rattle.bugnet.specs.Recordings.{end_status, told_run, recorded, AreTaken, IsRunOf, IsUntold, IsRunBy, IsRun}
 use Rattle.run_model.specs.Turn.{Run}
@@ -31,13 +32,27 @@ use Rattle.run_laws.specs.Laws.{TurnsAreLawful, TurnsAreOwn, OwnRowsAreTurns}
 use Rattle.file_laws.specs.Given.{IsRecording}
 use Rattle.file_laws.specs.Laws.{LogsAreContents}
 use Rattle.bugnet.specs.Answers.{names_in, names_by, manner_of, IsAnswer}
+use Rattle.bugnet.specs.Audits.{verdict_told, turns_told, audited, IsAuditOf, IsAuditWith, IsAuditBy, IsAuditIn, IsAudit, Agrees}
+use Rattle.bugnet.specs.Texts.{agree_text}
+use Rattle.run_model.specs.Lists.{list_error}
+use Rattle.run_model.specs.Audits.{verdict_of}
+use Rattle.run_model.specs.declared.error.TurnError.{TurnError}
+use Rattle.run_model.specs.declared.verdict.Verdict.{Verdict}
+use Rattle.run_model.specs.declared.verdict.Verdict.TheVariants.{Agree}
+use Rattle.bus_core.specs.Bus.{Began}
+use Rattle.le_numbers.specs.Numbers.{AreBytes}
+use Rattle.std.specs.Str.{bytes_eq}
+use Rattle.std.proofs.lemmas.Slice.Eq.{bytes_eq-Decides}
+use Rattle.bugnet.proofs.Agrees.{AuditLaws}
 use Rattle.bugnet.specs.Headline.{Part, ReplaysRun}
 use Rattle.bugnet.specs.Outside.{WithFiles}
 use Rattle.bugnet.specs.Run.{Call, IsFree, Tells, StoppedEarly, SomeTold, TellsAnswer}
 use Rattle.bugnet.specs.Saves.{IsRecorded, input_by, HoldsBytes}
-use Rattle.bugnet.specs.Joined.{joint_status, ran_told, joint_loaded, joint_same, joint_of, IsJointOf, IsJoint, CanJoin}
+use Rattle.bugnet.specs.Joined.{joint_status, ran_told, joint_with, CanJoin}
+use Rattle.bugnet.specs.Pairs.{ByPair, pair_loaded, pair_same, pair_of, IsPairOf, IsPair, ArePair}
+use Rattle.bugnet.specs.Sessions.{Commands, debug_with, session_status, session_told, IsSession, CanDebug}
 use Rattle.bugnet.specs.Complete.{EachHasAnAnswer, HasProgram, CanRecord, HasLog, CanBeDone, EachCanBeDone, IsDone}
-use Rattle.bugnet.specs.Laws.{OneAnswer, AreAlike, SeedsAreWhole}
+use Rattle.bugnet.specs.Laws.{OneAnswer, OneSession, AreAlike, SeedsAreWhole}
 use Rattle.bugnet.specs.declared.answer.RunEnd.{RunEnd}
 use Rattle.bugnet.specs.declared.answer.RunEnd.TheVariants as ends
 use Rattle.bugnet.specs.declared.manner.Manner.{Manner}
@@ -159,6 +174,19 @@ some-settings : RowLaws → (bad : Option BadSetting) (files : Files) (names : F
 some-settings laws (Some bad) files names c how has ok bytes = (refused names (OutOfRange bad), refl)
 some-settings laws None files names c how has ok bytes = some-names laws (is_clash how.lean names.log names.book) files names c how has ok bytes
 
+some-pair : AreReadOrRefused → (go : ByPair) (files : Files) (names : FileNames) → HoldsBytes (files names.log) → Some-told (IsPair go files names)
+some-pair law go files names read =
+    some-file files names role.Log 268500992 (λ log what. IsPairOf go files names log what)
+    (read-there law (files names.log) _ (λ bytes says reads. some-file files names role.Elf 67108864 (λ elf what. IsByLog names bytes (pair_of go names elf) what)
+    (any-there (files names.elf) _ (λ program. some-log names bytes (pair_of go names program) says reads))) read)
+
+some-audit : AreReadOrRefused → (files : Files) (names : FileNames) (has : Bool) → HoldsBytes (files names.log) → Some-told (IsAudit files names has)
+some-audit law files names has read =
+    some-file files names role.Log 268500992 (λ log what. IsAuditIn files names has log what)
+    (read-there law (files names.log) _ (λ bytes says reads. some-file files names role.Elf 67108864 (λ elf what. IsAuditBy files names has bytes elf what)
+    (any-there (files names.elf) _ (λ elf. some-file files names role.Book 1073741824 (λ book what. IsAuditWith files names has bytes elf book what)
+    (any-there (files names.book) _ (λ book. some-input has files names (IsAuditOf names bytes elf book) (λ input. some-log names bytes (pair_of (audited names bytes book input) names elf) says reads)))))) read)
+
 pub some-answer : RowLaws → AreReadOrRefused → EachHasAnAnswer
 some-answer laws law None files read = (refused no_names WordsRefused, refl)
 some-answer laws law (Some (RecordLine r)) files read = some-settings laws (first_bad r.settings) files (names_in (RecordLine r)) r.settings (manner_of r) (is_some r.input) refl read
@@ -167,17 +195,20 @@ some-answer laws law (Some (ReplayLine log elf hart interval)) files read =
     some-file files names role.Log 268500992 (λ log what. IsReplayOf files names hart interval log what)
     (read-there law (files log) _ (λ bytes says reads. some-file files names role.Elf 67108864 (λ elf what. IsByLog names bytes (replay_of names hart interval elf) what)
     (any-there (files elf) _ (λ program. some-log names bytes (replay_of names hart interval program) says reads))) read)
-some-answer laws law (Some (JointLine log elf)) files read =
-    let names = names_in (JointLine log elf) in
-    some-file files names role.Log 268500992 (λ log what. IsJointOf files names log what)
-    (read-there law (files log) _ (λ bytes says reads. some-file files names role.Elf 67108864 (λ elf what. IsByLog names bytes (joint_of names elf) what)
-    (any-there (files elf) _ (λ program. some-log names bytes (joint_of names program) says reads))) read)
+some-answer laws law (Some (JointLine log elf)) files read = let names = names_in (JointLine log elf) in some-pair law (joint_with names) files names read
+some-answer laws law (Some (DebugLine log elf)) files read =
+    let names = names_in (DebugLine log elf) in
+    let none : Commands = record { bytes = []; failed = false } in
+    let some = some-pair law (debug_with names none) files names read in
+    (some.0, (none, some.1))
 some-answer laws law (Some (ListLine log)) files read =
     let names = names_in (ListLine log) in
     some-file files names role.Log 268500992 (λ log what. IsByLog names log list_of what) (read-there law (files log) _ (λ bytes says reads. some-log names bytes list_of says reads) read)
 some-answer laws law (Some (CheckLine log)) files read =
     let names = names_in (CheckLine log) in
     some-file files names role.Log 268500992 (λ log what. IsByLog names log check_of what) (read-there law (files log) _ (λ bytes says reads. some-log names bytes check_of says reads) read)
+some-answer laws law (Some (AuditLine log elf book input)) files read = some-audit law files (names_in (AuditLine log elf book input)) (is_some input) read
+some-answer laws law (Some (DemoLine seed)) files read = (printed (demo_text seed), refl)
 
 -- ---- commands that can be done
 
@@ -275,20 +306,62 @@ can-replay law stand laws line files p v r small =
     subst (λ (l : Option Line). (what : Told) × IsAnswer l files what × IsRecorded what.status) (sym r.command) (what, log, done)
 
 -- the joint replay of a log that isn't stopped is done
-join-status : (names : FileNames) (log elf : List ℕ) (files : Files) (h : CanJoin log elf files) → (joint_of names h.bytes h.content).status ≡ 0
+join-status : (names : FileNames) (log elf : List ℕ) (files : Files) (h : CanJoin log elf files) → (joint_with names h.content h.program).status ≡ 0
 unfolding ran_told
-join-status names log elf files h =
-    ap (λ (b : Bool). (joint_same b names h.bytes h.content).status) h.same ∙ ap (λ (i : Result Program ElfError). (joint_loaded names h.content i).status) h.loaded ∙ ap joint_status h.goes_on
+join-status names log elf files h = ap joint_status h.goes_on
+
+-- what a log and its program that are there make it tell
+pair-told : (go : ByPair) (names : FileNames) (log elf : List ℕ) (files : Files) (d : Content) (i : Program) (p : ArePair log elf files d i) → pair_of go names p.bytes d ≡ go d i
+pair-told go names log elf files d i p = ap (λ (b : Bool). pair_same b go names p.bytes d) p.same ∙ ap (λ (r : Result Program ElfError). pair_loaded go names d r) p.loaded
+
+pub can-pair : FileLaws → (go : ByPair) (names : FileNames) (files : Files) (d : Content) (i : Program) → ArePair names.log names.elf files d i → IsPair go files names (go d i)
+can-pair laws go names files d i p =
+    let what = go d i in
+    let program : IsPairOf go files names (file_bytes d) what =
+    there-file files names role.Elf 67108864 p.bytes (λ elf what. IsByLog names (file_bytes d) (pair_of go names elf) what) what p.elf_there p.elf_small
+    (record { says = Ok d; reads = (p.is, refl); is = sym (pair-told go names names.log names.elf files d i p) }) in
+    there-file files names role.Log 268500992 (file_bytes d) (λ log what. IsPairOf go files names log what) what p.log_there (file-size laws d p.is) program
 
 can-join : FileLaws → (log elf : List ℕ) (files : Files) → CanJoin log elf files → (what : Told) × IsAnswer (Some (JointLine log elf)) files what × IsRecorded what.status
 can-join laws log elf files h =
     let names = names_in (JointLine log elf) in
-    let d = h.content in
-    let what = joint_of names h.bytes d in
-    let program : IsJointOf files names (file_bytes d) what =
-    there-file files names role.Elf 67108864 h.bytes (λ elf what. IsByLog names (file_bytes d) (joint_of names elf) what) what h.elf_there h.elf_small (record { says = Ok d; reads = (h.is, refl); is = refl }) in
-    let whole : IsJoint files names what = there-file files names role.Log 268500992 (file_bytes d) (λ log what. IsJointOf files names log what) what h.log_there (file-size laws d h.is) program in
-    (what, whole, inl (join-status names log elf files h))
+    (joint_with names h.content h.program, can-pair laws (joint_with names) names files h.content h.program h.pair, inl (join-status names log elf files h))
+
+-- a session that isn't stopped is done
+session-status : (names : FileNames) (c : Commands) (log elf : List ℕ) (files : Files) (h : CanDebug c log elf files) → (debug_with names c h.content h.program).status ≡ 0
+unfolding session_told
+session-status names c log elf files h = ap session_status h.goes_on
+
+-- the audit of a log that agrees is done
+audit-told : AuditLaws → (names : FileNames) (d : Content) (i : Program) (elf log book input : List ℕ) → bytes_eq (sha256 elf) d.head.digest ≡ true → image_of elf d.head.settings ≡ Ok i → list_error d.head.settings i input book ≡ None
+    → log ≡ file_of d.head.settings i d.head.digest input book → pair_of (audited names log book input) names elf d ≡ printed agree_text
+audit-told laws names d i elf log book input same loaded none is =
+    let go = audited names log book input in
+    let file = file_of d.head.settings i d.head.digest input book in
+    let agree : verdict_of file log ≡ Agree = laws.verdicts.one file log (verdict_of file log) Agree (laws.verdicts.is file log) is in
+    ap (λ (b : Bool). pair_same b go names elf d) same ∙ ap (λ (r : Result Program ElfError). pair_loaded go names d r) loaded
+    ∙ ap (λ (o : Option TurnError). turns_told o names (verdict_of file log)) none ∙ ap (λ (v : Verdict). verdict_told names v) agree
+
+can-audit : FileLaws → AuditLaws → (log elf book : List ℕ) (input : Option (List ℕ)) (files : Files) (a : Agrees log elf book input files) → AreBytes a.bytes
+    → (what : Told) × IsAnswer (Some (AuditLine log elf book input)) files what × IsRecorded what.status
+can-audit laws audits log elf book input files a bytes =
+    let names = names_in (AuditLine log elf book input) in
+    let has = is_some input in
+    let digest = sha256 a.bytes in
+    let d = content_of a.settings digest (run_of a.settings a.program a.given a.turns) in
+    let is : IsContent d = laws.contents a.settings a.program a.bytes a.given a.turns (record { setting = a.setting; bytes = bytes; loaded = a.loaded; legal = a.whole.legal; over = a.whole.over }) in
+    let one : a.settings.format ≡ 1 = omega (arith, a.setting.format_low, a.setting.format_high) in
+    let same : file_of a.settings a.program digest a.given a.turns ≡ file_bytes d = laws.version a.settings a.program digest a.given a.turns one in
+    let there : files log ≡ Some (file_bytes d) = a.log_there ∙ ap (λ (bytes : List ℕ). Some bytes) same in
+    let began : Began = record { image = a.program; settings = a.settings; input = a.given; digest = digest } in
+    let what = pair_of (audited names (file_bytes d) a.turns a.given) names a.bytes d in
+    let told = audit-told audits names d a.program a.bytes (file_bytes d) a.turns a.given ((bytes_eq-Decides digest digest).1 refl) a.loaded ((audits.errors began a.turns).1 (a.whole.legal, a.whole.over)) (sym same) in
+    let read : IsAuditOf names (file_bytes d) a.bytes a.turns a.given what = record { says = Ok d; reads = (is, refl); is = refl } in
+    let given : IsAuditWith files names has (file_bytes d) a.bytes a.turns what = with-input input elf log book files (IsAuditOf names (file_bytes d) a.bytes a.turns) a.given what a.input_there a.input_small read in
+    let turns : IsAuditBy files names has (file_bytes d) a.bytes what = there-file files names role.Book 1073741824 a.turns (λ book what. IsAuditWith files names has (file_bytes d) a.bytes book what) what a.book_there a.book_small given in
+    let program : IsAuditIn files names has (file_bytes d) what = there-file files names role.Elf 67108864 a.bytes (λ elf what. IsAuditBy files names has (file_bytes d) elf what) what a.elf_there a.elf_small turns in
+    let whole : IsAudit files names has what = there-file files names role.Log 268500992 (file_bytes d) (λ log what. IsAuditIn files names has log what) what there (file-size laws d is) program in
+    (what, whole, inl (ap (λ (t : Told). t.status) told))
 
 -- a line of which one answer is done, and that has no other
 only-done : OneAnswer → (line : Line) (files : Files) (what : Told) → ((a b : Told) → AreAlike (Some line) a b) → IsAnswer (Some line) files what → IsRecorded what.status → CanBeDone line files
@@ -297,8 +370,8 @@ only-done one line files what alike is done = record {
   done = λ told other. subst (λ (t : Told). IsRecorded t.status) (one (Some line) files what told is other (alike what told)) done;
 }
 
-pub can-be-done : RowLaws → OneAnswer → LogSuffices → Together → FileLaws → EachCanBeDone
-can-be-done rows one law stand laws (RecordLine r) files h =
+pub can-be-done : RowLaws → OneAnswer → LogSuffices → Together → FileLaws → AuditLaws → EachCanBeDone
+can-be-done rows one law stand laws audits (RecordLine r) files h =
     let how = manner_of r in
     record {
       answer = λ bytes.
@@ -306,18 +379,40 @@ can-be-done rows one law stand laws (RecordLine r) files h =
           (run.0, can-record r files h run.0 run.1);
       done = λ told is. run-recorded how.lean how.seed r.settings h.program (sha256 h.elf) how h.input told (is-record r files h told is);
     }
-can-be-done rows one law stand laws (ReplayLine log elf hart interval) files h =
+can-be-done rows one law stand laws audits (ReplayLine log elf hart interval) files h =
     let l = can-replay law stand laws (Some (ReplayLine log elf hart interval)) files h.0 h.1 h.2 h.3 in
     only-done one (ReplayLine log elf hart interval) files l.0 (λ a b. tt) l.1 l.2
-can-be-done rows one law stand laws (JointLine log elf) files h =
+can-be-done rows one law stand laws audits (JointLine log elf) files h =
     let l = can-join laws log elf files h in
     only-done one (JointLine log elf) files l.0 (λ a b. tt) l.1 l.2
-can-be-done rows one law stand laws (ListLine log) files h =
+can-be-done rows one law stand laws audits (DebugLine log elf) files h = absurd h
+can-be-done rows one law stand laws audits (ListLine log) files h =
     let l = can-log laws files (names_in (ListLine log)) list_of h in
     only-done one (ListLine log) files l.0 (λ a b. tt) l.1 (inl (ap (λ (t : Told). t.status) l.2))
-can-be-done rows one law stand laws (CheckLine log) files h =
+can-be-done rows one law stand laws audits (CheckLine log) files h =
     let l = can-log laws files (names_in (CheckLine log)) check_of h in
     only-done one (CheckLine log) files l.0 (λ a b. tt) l.1 (inl (ap (λ (t : Told). t.status) l.2))
+can-be-done rows one law stand laws audits (AuditLine log elf book input) files h =
+    let l = can-audit laws audits log elf book input files h.0 h.1 in
+    only-done one (AuditLine log elf book input) files l.0 (λ a b. tt) l.1 l.2
+can-be-done rows one law stand laws audits (DemoLine seed) files h = only-done one (DemoLine seed) files (printed (demo_text seed)) (λ a b. tt) refl (inl refl)
+
+-- ---- a session
+
+session-so : (names : FileNames) (what : Told) (status : ℕ) (k : Call) → what.status ≡ 0 → Tells names what status k → IsFree status ⊎ (status ≡ 0)
+session-so names what status k is (inl done) = inr (done.status_is ∙ is)
+session-so names what status k is (inr s) = inl (stopped-free names what status k s)
+
+-- so it is where all that it needs is there
+pub session-done : OneSession → FileLaws → (c : Commands) (log elf : List ℕ) (files : Files) (status : ℕ) (k : Call)
+    → SomeTold (IsSession c files (names_in (DebugLine log elf))) (λ what. Tells (names_in (DebugLine log elf)) what status k) ⊎ StoppedEarly (Some (DebugLine log elf)) files status k
+    → CanDebug c log elf files → IsFree status ⊎ (status ≡ 0)
+session-done one laws c log elf files status k (inr early) h = inl (early-free (Some (DebugLine log elf)) files status k early)
+session-done one laws c log elf files status k (inl a) h =
+    let names = names_in (DebugLine log elf) in
+    let there = can-pair laws (debug_with names c) names files h.content h.program h.pair in
+    let is : a.0 ≡ debug_with names c h.content h.program = one c files names a.0 (debug_with names c h.content h.program) a.1 there in
+    session-so names a.0 status k (ap (λ (t : Told). t.status) is ∙ session-status names c log elf files h) a.2
 
 -- ---- a call
 

@@ -17,7 +17,7 @@ use Rattle.bugnet.specs.Joined.{joint_status, joint_line, ran_told, joined}
 use Rattle.bugnet.specs.Joinings.{told_of_joint, stop_of, RanAs, ToldEnd}
 use Rattle.bugnet.specs.Outside.{Sent, SendStops, ToldRefusal, Wrote, SameFiles}
 use Rattle.bugnet.specs.Run.{Call, AreKept, Tells}
-use Rattle.bugnet.specs.declared.joining.JointReading.{JointReading}
+use Rattle.bugnet.specs.declared.pairs.JointReading.{JointReading}
 use Rattle.bugnet.specs.declared.refusal.Refusal.{Refusal}
 use Rattle.bugnet.specs.declared.refusal.Refusal.TheVariants.{OutOfMemory}
 use Rattle.bugnet.proofs.Prints.{SoFar, so_far-none, so_far-more, so_far-gathered, so_far-done, so_far-stopped, so_far-ends, part-longer, part-none, part-whole, part-behind, stops-later, appends-both}

@@ -1,5 +1,5 @@
 -- The answer to the joint replay of a recording's log is the text of one that says the run.
-use Rattle.std.proofs.Common.{◌≡◌, ℕ, Bool, true, false, List, length, nat_lt, Option, Some, None, ◌∙◌, ap, subst, sym, refl, arith, inl, inr, ◌⊎◌}
+use Rattle.std.proofs.Common.{◌≡◌, ◌≤◌, ℕ, Bool, true, false, List, length, nat_lt, Option, Some, None, ◌∙◌, ap, subst, sym, refl, arith, inl, inr, ◌⊎◌}
 use Rattle.std.specs.Prelude.{Result}
 use Rattle.std.specs.Io.KnownBytes.{Appends}
 use Rattle.sha2.specs.Sha256.{sha256}
@@ -18,7 +18,8 @@ use Rattle.joint_laws.specs.Laws.{JointFilesSayTheRun}
 use Rattle.bugnet.specs.Names.{FileNames}
 use Rattle.bugnet.specs.Told.{Told, refused, printed}
 use Rattle.bugnet.specs.Commands.{Either, WithFile, IsByLog}
-use Rattle.bugnet.specs.Joined.{joint_status, joint_line, ran_told, joint_loaded, joint_same, joint_of, IsJointOf, IsJoint}
+use Rattle.bugnet.specs.Joined.{joint_status, joint_line, ran_told, joint_with, IsJoint}
+use Rattle.bugnet.specs.Pairs.{ByPair, pair_loaded, pair_same, pair_of, IsPairOf, IsPair, ArePair}
 use Rattle.bugnet.specs.Answers.{names_in, names_by, IsAnswer}
 use Rattle.bugnet.specs.Jointly.{joint_run, SaysRun, JoinsRun, TellsRun, IsJoined, JointHeadline, RecordingsCanBeJoined, recording_of, RecordingsAreJoined, DoneJointly, PrintsJointly}
 use Rattle.bugnet.specs.Outside.{WithFiles}
@@ -33,7 +34,7 @@ use Rattle.bugnet.proofs.Tells.{with-files, stopped-free, early-free}
 -- ---- the log
 
 -- what the log of a recording says
-abbrev log_of : Recording → Content
+abbrev pub log_of : Recording → Content
 log_of r = content_of r.settings (sha256 r.elf) (recorded r)
 
 is-content : FileLaws → (r : Recording) → IsRecorded r → IsContent (log_of r)
@@ -58,26 +59,47 @@ told-joint : (names : FileNames) (x : Ran) → x.stopped ≡ None → ran_told n
 unfolding ran_told
 told-joint names x e = ap (λ (o : Option JointError). told_at names (joint_text x) o) e
 
-answer : (names : FileNames) (r : Recording) → IsRecorded r → SaysRun r → joint_of names r.elf (log_of r) ≡ printed (joint_text (joint_run r))
-answer names r is says =
+-- what is told by the log of a recording and its program
+pair-told : (go : ByPair) (names : FileNames) (r : Recording) → IsRecorded r → pair_of go names r.elf (log_of r) ≡ go (log_of r) r.program
+pair-told go names r is =
     let d = log_of r in
-    ap (λ (b : Bool). joint_same b names r.elf d) (same (sha256 r.elf)) ∙ ap (λ (i : Result Program ElfError). joint_loaded names d i) is.loaded ∙ told-joint names (joint_run r) says.stopped
+    ap (λ (b : Bool). pair_same b go names r.elf d) (same (sha256 r.elf)) ∙ ap (λ (i : Result Program ElfError). pair_loaded go names d i) is.loaded
+
+-- so is what is answered
+pub pair-so : Grammar → FileLaws → (go : ByPair) (names : FileNames) (files : Files) (r : Recording) (what : Told) → IsRecorded r → files names.log ≡ Some (file_of r.settings r.program (sha256 r.elf) r.input r.turns)
+    → files names.elf ≡ Some r.elf → IsPair go files names what → Either (nat_lt 67108864 (length r.elf)) (what ≡ refused names (TooLong role.Elf)) (what ≡ go (log_of r) r.program)
+unfolding WithFile
+pair-so g laws go names files r what recorded log_is elf_is is =
+    let d = log_of r in
+    let log = file_bytes d in
+    let there : files names.log ≡ Some log = log_is ∙ ap (λ (bytes : List ℕ). Some bytes) (file-bytes laws r recorded) in
+    let content : IsContent d = is-content laws r recorded in
+    let first : IsPairOf go files names log what =
+    by-file (files names.log) names role.Log 268500992 log (λ log what. IsPairOf go files names log what) what there (file-size laws d content) is in
+    let second = by-size (files names.elf) names role.Elf 67108864 r.elf (λ elf what. IsByLog names log (pair_of go names elf) what) what elf_is first in
+    then-so (nat_lt 67108864 (length r.elf)) _ _ _ (λ (by : IsByLog names log (pair_of go names r.elf) what).
+    by-content g names log d (pair_of go names r.elf) what content refl by ∙ pair-told go names r recorded) second
+
+-- the log of a recording and its program are there
+pub are-pair : FileLaws → (log elf : List ℕ) (files : Files) (r : Recording) → IsRecorded r → files log ≡ Some (file_of r.settings r.program (sha256 r.elf) r.input r.turns) → files elf ≡ Some r.elf
+    → length r.elf ≤ 67108864 → ArePair log elf files (log_of r) r.program
+are-pair laws log elf files r is log_is elf_is small = record {
+  bytes = r.elf;
+  is = is-content laws r is;
+  log_there = log_is ∙ ap (λ (bytes : List ℕ). Some bytes) (file-bytes laws r is);
+  elf_there = elf_is;
+  elf_small = small;
+  same = same (sha256 r.elf);
+  loaded = is.loaded;
+}
 
 joins : Grammar → JointFilesSayTheRun → FileLaws → (files : Files) (r : Recording) (line : Option Line) (j : JoinsRun line files r) (what : Told)
     → IsJoint files (names_in (JointLine j.log_name j.elf_name)) what → IsJoined (Some (JointLine j.log_name j.elf_name)) r what
-unfolding WithFile
 joins g law laws files r line j what is =
     let names = names_in (JointLine j.log_name j.elf_name) in
-    let d = log_of r in
-    let log = file_bytes d in
-    let there : files j.log_name ≡ Some log = j.log ∙ ap (λ (bytes : List ℕ). Some bytes) (file-bytes laws r j.recording) in
-    let content : IsContent d = is-content laws r j.recording in
-    let first : IsJointOf files names log what =
-    by-file (files j.log_name) names role.Log 268500992 log (λ log what. IsJointOf files names log what) what there (file-size laws d content) is in
-    let second = by-size (files j.elf_name) names role.Elf 67108864 r.elf (λ elf what. IsByLog names log (joint_of names elf) what) what j.program first in
     let says : SaysRun r = says-run law laws r j.recording in
-    then-so (nat_lt 67108864 (length r.elf)) _ _ _ (λ (by : IsByLog names log (joint_of names r.elf) what).
-    record { text = by-content g names log d (joint_of names r.elf) what content refl by ∙ answer names r j.recording says; says = says }) second
+    then-so (nat_lt 67108864 (length r.elf)) _ _ _ (λ (by : what ≡ joint_with names (log_of r) r.program).
+    record { text = by ∙ told-joint names (joint_run r) says.stopped; says = says }) (pair-so g laws (joint_with names) names files r what j.recording j.log j.program is)
 
 pub joint-headline : Grammar → JointFilesSayTheRun → FileLaws → JointHeadline
 joint-headline g law laws line files r j what is =
@@ -102,14 +124,8 @@ can-be-joined law laws log elf files r is log_is elf_is small =
     let says : SaysRun r = says-run law laws r is in
     record {
       content = log_of r;
-      bytes = r.elf;
       program = r.program;
-      is = is-content laws r is;
-      log_there = log_is ∙ ap (λ (bytes : List ℕ). Some bytes) (file-bytes laws r is);
-      elf_there = elf_is;
-      elf_small = small;
-      same = same (sha256 r.elf);
-      loaded = is.loaded;
+      pair = are-pair laws log elf files r is log_is elf_is small;
       goes_on = says.stopped;
     }
 

@@ -10,7 +10,7 @@ use Rattle.bn_base.specs.Ranges.{first_bad}
 use Rattle.bn_base.specs.declared.settings.BadSetting.{BadSetting}
 use Rattle.bn_base.specs.declared.settings.RawSettings.{RawSettings}
 use Rattle.bn_outside.specs.Files.{Files, WhereTold}
-use Rattle.command_words.specs.Words.{Line, RecordingLine, RecordLine, ReplayLine, JointLine, ListLine, CheckLine}
+use Rattle.command_words.specs.Words.{Line, RecordingLine, RecordLine, ReplayLine, JointLine, DebugLine, ListLine, CheckLine, AuditLine, DemoLine}
 use Rattle.elf_loader.specs.Loaded.{image_of}
 use Rattle.elf_loader.specs.declared.error.ElfError.{ElfError}
 use Rattle.le_numbers.specs.Numbers.{AreBytes}
@@ -42,7 +42,7 @@ use Rattle.bugnet.specs.Laws.{SeedsAreWhole, FilesKeepToTheirSize}
 use Rattle.bugnet.specs.declared.names.Role.{Role}
 use Rattle.bugnet.specs.declared.names.Role.TheVariants as role
 use Rattle.bugnet.specs.declared.refusal.Refusal.{Refusal}
-use Rattle.bugnet.specs.declared.refusal.Refusal.TheVariants.{WordsRefused, OutOfRange, SameName, StoreFailed, Missing, TooLong, ElfRefused, LogRefused, ProgramDiffers, OutOfMemory, WriteFailed, ReplayStopped}
+use Rattle.bugnet.specs.declared.refusal.Refusal.TheVariants.{WordsRefused, OutOfRange, SameName, StoreFailed, Missing, TooLong, ElfRefused, LogRefused, ProgramDiffers, OutOfMemory, WriteFailed, ReplayStopped, ReadFailed, LineTooLong, CommandsTooLong, BookRefused, FileDiffers}
 use Rattle.bugnet.proofs.Tested.{in-range}
 use Rattle.bugnet.proofs.Tells.{with-files, stopped-free, early-free}
 
@@ -77,13 +77,18 @@ refusals-apart (ProgramDiffers kept found) = apart 8 8 refl (λ e. omega (arith,
 refusals-apart OutOfMemory = apart 9 9 refl (λ e. omega (arith, e)) (λ e. omega (arith, e)) (λ e. omega (arith, e))
 refusals-apart WriteFailed = apart 13 13 refl (λ e. omega (arith, e)) (λ e. omega (arith, e)) (λ e. omega (arith, e))
 refusals-apart (ReplayStopped e) = replays-apart e
+refusals-apart ReadFailed = apart 12 12 refl (λ e. omega (arith, e)) (λ e. omega (arith, e)) (λ e. omega (arith, e))
+refusals-apart LineTooLong = apart 18 18 refl (λ e. omega (arith, e)) (λ e. omega (arith, e)) (λ e. omega (arith, e))
+refusals-apart CommandsTooLong = apart 18 18 refl (λ e. omega (arith, e)) (λ e. omega (arith, e)) (λ e. omega (arith, e))
+refusals-apart (BookRefused e) = apart 17 17 refl (λ e. omega (arith, e)) (λ e. omega (arith, e)) (λ e. omega (arith, e))
+refusals-apart (FileDiffers place) = apart 16 16 refl (λ e. omega (arith, e)) (λ e. omega (arith, e)) (λ e. omega (arith, e))
 
 -- the status of a refusal that was told
 pub told-apart : (names : FileNames) (r : Refusal) (status : ℕ) (err_old err_new : Option (List ℕ)) (before now : ℕ) → ToldRefusal names r status err_old err_new before now → IsRecorded status → ⊥
 told-apart names r status err_old err_new before now (inl h) is = refusals-apart r (subst (λ (n : ℕ). IsRecorded n) h.0 is)
 told-apart names r status err_old err_new before now (inr h) is = refusals-apart OutOfMemory (subst (λ (n : ℕ). IsRecorded n) h.0 is)
 
-refused-apart : (names : FileNames) (r : Refusal) (what : Told) → what ≡ refused names r → IsRecorded what.status → ⊥
+pub refused-apart : (names : FileNames) (r : Refusal) (what : Told) → what ≡ refused names r → IsRecorded what.status → ⊥
 unfolding refused
 refused-apart names r what e is = refusals-apart r (subst (λ (t : Told). IsRecorded t.status) e is)
 
@@ -93,8 +98,11 @@ leaves-none None status old new never = tt
 leaves-none (Some (RecordLine r)) status old new never = λ is. absurd (never is)
 leaves-none (Some (ReplayLine log elf hart interval)) status old new never = tt
 leaves-none (Some (JointLine log elf)) status old new never = tt
+leaves-none (Some (DebugLine log elf)) status old new never = tt
 leaves-none (Some (ListLine log)) status old new never = tt
 leaves-none (Some (CheckLine log)) status old new never = tt
+leaves-none (Some (AuditLine log elf book input)) status old new never = tt
+leaves-none (Some (DemoLine seed)) status old new never = tt
 
 -- ---- what is recorded
 
@@ -115,7 +123,7 @@ within : (limit n : ℕ) → nat_lt limit n ≡ false → n ≤ limit
 within limit n e = grind (arith, nat_tests)
 
 -- a file that is there, with its bytes
-by-file : (there : Option (List ℕ)) (names : FileNames) (role : Role) (limit : ℕ) (Go : List ℕ → Told → Type 0) (what : Told) → IsByFile there names role limit Go what → IsRecorded what.status
+pub by-file : (there : Option (List ℕ)) (names : FileNames) (role : Role) (limit : ℕ) (Go : List ℕ → Told → Type 0) (what : Told) → IsByFile there names role limit Go what → IsRecorded what.status
     → (bytes : List ℕ) × (there ≡ Some bytes) × Go bytes what × (length bytes ≤ limit)
 by-file None names role limit Go what h is = absurd (refused-apart names (Missing role) what h is)
 by-file (Some bytes) names role limit Go what h is =
@@ -126,14 +134,14 @@ by-file (Some bytes) names role limit Go what h is =
     go true e x = absurd (refused-apart names (TooLong role) what x is)
     go false e x = (x, within limit (length bytes) e)
 
-by-input : (there : Option (List ℕ)) (elf log book : List ℕ) (files : Files) (Go : List ℕ → Told → Type 0) (what : Told)
+pub by-input : (there : Option (List ℕ)) (elf log book : List ℕ) (files : Files) (Go : List ℕ → Told → Type 0) (what : Told)
     → IsByInput (is_some there) files (record { elf = elf; log = log; book = book; input = unwrap_or there [] }) Go what → IsRecorded what.status
-    → (input : List ℕ) × (input_by there files ≡ Some input) × Go input what
+    → (input : List ℕ) × (input_by there files ≡ Some input) × Go input what × (length input ≤ 16777216)
 unfolding WithFile
-by-input None elf log book files Go what h is = ([], refl, h)
+by-input None elf log book files Go what h is = ([], refl, h, omega arith)
 by-input (Some name) elf log book files Go what h is =
     let f = by-file (files name) (record { elf = elf; log = log; book = book; input = name }) role.Input 16777216 Go what h is in
-    (f.0, f.1, f.2)
+    (f.0, f.1, f.2, f.3)
 
 by-program : (i : Result Program ElfError) (files : Files) (r : RecordingLine) (digest : List ℕ) (what : Told)
     → IsByProgram i files (names_in (RecordLine r)) r.settings (manner_of r) (is_some r.input) digest what → IsRecorded what.status
@@ -293,7 +301,7 @@ left-by whole sizes contents lengths false r old new what e f bytes kept = left 
 -- ---- a call
 
 -- it is done, since it wasn't stopped
-free-apart : (status : ℕ) → IsFree status → IsRecorded status → ⊥
+pub free-apart : (status : ℕ) → IsFree status → IsRecorded status → ⊥
 free-apart status (inl e) = apart status 3 e (λ e. omega (arith, e)) (λ e. omega (arith, e)) (λ e. omega (arith, e))
 free-apart status (inr (inl e)) = apart status 9 e (λ e. omega (arith, e)) (λ e. omega (arith, e)) (λ e. omega (arith, e))
 free-apart status (inr (inr e)) = apart status 13 e (λ e. omega (arith, e)) (λ e. omega (arith, e)) (λ e. omega (arith, e))
@@ -327,5 +335,8 @@ call-leaves whole sizes contents lengths (RecordLine r) status k bytes h = λ is
     found files is (inr early) = absurd (free-apart status (early-free (Some (RecordLine r)) files status k early) is)
 call-leaves whole sizes contents lengths (ReplayLine log elf hart interval) status k bytes h = tt
 call-leaves whole sizes contents lengths (JointLine log elf) status k bytes h = tt
+call-leaves whole sizes contents lengths (DebugLine log elf) status k bytes h = tt
 call-leaves whole sizes contents lengths (ListLine log) status k bytes h = tt
 call-leaves whole sizes contents lengths (CheckLine log) status k bytes h = tt
+call-leaves whole sizes contents lengths (AuditLine log elf book input) status k bytes h = tt
+call-leaves whole sizes contents lengths (DemoLine seed) status k bytes h = tt

@@ -1,4 +1,5 @@
 mod Asks
+mod Audits
 mod Marks
 mod Counts
 mod Prints
@@ -14,5 +15,8 @@ mod Sums
 mod Recorded
 mod Tested
 mod Leaves
+mod Agrees
 mod Complete
 mod Joins
+mod Sessions
+mod Debugs

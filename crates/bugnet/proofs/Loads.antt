@@ -21,7 +21,7 @@ use Rattle.bugnet.specs.Commands.{Either, IsByFile, WithFile, IsByLog, IsByInput
 use Rattle.bugnet.specs.Recordings.{IsRun}
 use Rattle.bugnet.specs.declared.manner.Manner.{Manner}
 use Rattle.bugnet.specs.Answers.{names_in, manner_of, IsAnswer}
-use Rattle.bugnet.specs.Outside.{WithFiles, FetchTells, LogTells, ProgramTells, Gives, unless, without, GivesBy}
+use Rattle.bugnet.specs.Outside.{WithFiles, FetchTells, LogTells, ProgramTells, Gives, unless, without, GivesTo, GivesOf, GivesBy, told_of}
 use Rattle.bugnet.specs.declared.names.Role.{Role}
 use Rattle.bugnet.specs.declared.names.Role.TheVariants.{Input}
 use Rattle.bugnet.specs.declared.answer.Answer.{Answer}
@@ -84,20 +84,25 @@ missing-named names a b e = ap (λ (name : List ℕ). told_missing name) e
     told_missing name = record { status = 4; out = []; err = codes "bugnet: " ++ (codes "missing: " ++ name) ++ codes "\n"; saved = None }
 
 -- a load that was refused ends the command
-stopped : (files : Files) (names : FileNames) (role : Role) (limit : ℕ) (r : Refusal) (Go : Files → List ℕ → Told → Type 0)
-    → FetchTells role limit (files (name_of names role)) (Err r) → GivesBy names (λ f. WithFile f names role limit (Go f)) files (Err r)
+stopped : (A : Type 0) (tells : A → Told) (files : Files) (names : FileNames) (role : Role) (limit : ℕ) (r : Refusal) (Go : Files → List ℕ → Told → Type 0)
+    → FetchTells role limit (files (name_of names role)) (Err r) → GivesOf tells names (λ f. WithFile f names role limit (Go f)) files (Err r)
 unfolding WithFile
-stopped files names role limit r Go (inl (inl memory)) = inl (inl memory)
-stopped files names role limit r Go (inl (inr failed)) =
+stopped A tells files names role limit r Go (inl (inl memory)) = inl (inl memory)
+stopped A tells files names role limit r Go (inl (inr failed)) =
     let n = name_of names role in
     inl (inr (role, failed, by-missing (without n files n) names role limit (Go (without n files)) (gone n files)))
-stopped files names role limit r Go (inr h) = inr (refused-by (files (name_of names role)) names role limit r (Go files) h)
+stopped A tells files names role limit r Go (inr h) = inr (refused-by (files (name_of names role)) names role limit r (Go files) h)
+
+pub made-stopped : (A : Type 0) (tells : A → Told) (known : Option Files) (names : FileNames) (role : Role) (limit : ℕ) (r : Refusal) (Go : Files → List ℕ → Told → Type 0)
+    → WithFiles known (λ files. FetchTells role limit (files (name_of names role)) (Err r))
+    → WithFiles known (λ files. GivesOf tells names (λ f. WithFile f names role limit (Go f)) files (Err r))
+made-stopped A tells None names role limit r Go h = tt
+made-stopped A tells (Some files) names role limit r Go h = stopped A tells files names role limit r Go h
 
 pub gives-stopped : (known : Option Files) (names : FileNames) (role : Role) (limit : ℕ) (r : Refusal) (Go : Files → List ℕ → Told → Type 0)
     → WithFiles known (λ files. FetchTells role limit (files (name_of names role)) (Err r))
     → WithFiles known (λ files. GivesBy names (λ f. WithFile f names role limit (Go f)) files (Err r))
-gives-stopped None names role limit r Go h = tt
-gives-stopped (Some files) names role limit r Go h = stopped files names role limit r Go h
+gives-stopped known names role limit r Go h = made-stopped Answer (told_of names) known names role limit r Go h
 
 -- a load that gave bytes goes on with them
 apart : (b : Bool) (names : FileNames) (here role : Role) (there : Option (List ℕ)) (bytes : List ℕ) (limit : ℕ) (Go : List ℕ → Told → Type 0)
@@ -106,47 +111,64 @@ apart : (b : Bool) (names : FileNames) (here role : Role) (there : Option (List 
 apart true names here role there bytes limit Go same e h go = missing-named names role here (sym (same refl))
 apart false names here role there bytes limit Go same e h go = by-bytes there names here bytes limit Go (refused names (Missing role)) e h go
 
-loaded : (files : Files) (names : FileNames) (here : Role) (limit : ℕ) (bytes : Vec ℕ Global) (result : Result Answer Refusal) (Go : Files → List ℕ → Told → Type 0)
-    → FetchTells here limit (files (name_of names here)) (Ok bytes) → GivesBy names (λ f. Go f bytes.items) files result → GivesBy names (λ f. WithFile f names here limit (Go f)) files result
+loaded : (A : Type 0) (tells : A → Told) (files : Files) (names : FileNames) (here : Role) (limit : ℕ) (bytes : Vec ℕ Global) (result : Result A Refusal) (Go : Files → List ℕ → Told → Type 0)
+    → FetchTells here limit (files (name_of names here)) (Ok bytes) → GivesOf tells names (λ f. Go f bytes.items) files result → GivesOf tells names (λ f. WithFile f names here limit (Go f)) files result
 unfolding WithFile
-loaded files names here limit bytes (Ok answer) Go h go = by-bytes (files (name_of names here)) names here bytes.items limit (Go files) _ h.0 h.1 go
-loaded files names here limit bytes (Err r) Go h (inl (inl memory)) = inl (inl memory)
-loaded files names here limit bytes (Err r) Go h (inl (inr failed)) =
+loaded A tells files names here limit bytes (Ok answer) Go h go = by-bytes (files (name_of names here)) names here bytes.items limit (Go files) _ h.0 h.1 go
+loaded A tells files names here limit bytes (Err r) Go h (inl (inl memory)) = inl (inl memory)
+loaded A tells files names here limit bytes (Err r) Go h (inl (inr failed)) =
     let n = name_of names failed.0 in
     inl (inr (failed.0, failed.1, apart (bytes_eq (name_of names here) n) names here failed.0 (files (name_of names here)) bytes.items limit (Go (without n files)) (λ e. (bytes_eq-Decides (name_of names here) n).0 e) h.0 h.1 failed.2))
-loaded files names here limit bytes (Err r) Go h (inr go) = inr (by-bytes (files (name_of names here)) names here bytes.items limit (Go files) (refused names r) h.0 h.1 go)
+loaded A tells files names here limit bytes (Err r) Go h (inr go) = inr (by-bytes (files (name_of names here)) names here bytes.items limit (Go files) (refused names r) h.0 h.1 go)
+
+pub made-loaded : (A : Type 0) (tells : A → Told) (known : Option Files) (names : FileNames) (role : Role) (limit : ℕ) (bytes : Vec ℕ Global) (result : Result A Refusal) (Go : Files → List ℕ → Told → Type 0)
+    → WithFiles known (λ files. FetchTells role limit (files (name_of names role)) (Ok bytes))
+    → WithFiles known (λ files. GivesOf tells names (λ f. Go f bytes.items) files result)
+    → WithFiles known (λ files. GivesOf tells names (λ f. WithFile f names role limit (Go f)) files result)
+made-loaded A tells None names role limit bytes result Go h rest = tt
+made-loaded A tells (Some files) names role limit bytes result Go h rest = loaded A tells files names role limit bytes result Go h rest
 
 pub gives-loaded : (known : Option Files) (names : FileNames) (role : Role) (limit : ℕ) (bytes : Vec ℕ Global) (result : Result Answer Refusal) (Go : Files → List ℕ → Told → Type 0)
     → WithFiles known (λ files. FetchTells role limit (files (name_of names role)) (Ok bytes))
     → WithFiles known (λ files. GivesBy names (λ f. Go f bytes.items) files result)
     → WithFiles known (λ files. GivesBy names (λ f. WithFile f names role limit (Go f)) files result)
-gives-loaded None names role limit bytes result Go h rest = tt
-gives-loaded (Some files) names role limit bytes result Go h rest = loaded files names role limit bytes result Go h rest
+gives-loaded known names role limit bytes result Go h rest = made-loaded Answer (told_of names) known names role limit bytes result Go h rest
 
 -- an answer whatever the files are
-own : (files : Files) (names : FileNames) (Is : Told → Type 0) (result : Result Answer Refusal) → Gives names Is result → GivesBy names (λ f. Is) files result
-own files names Is (Ok answer) h = h
-own files names Is (Err r) (inl memory) = inl (inl memory)
-own files names Is (Err r) (inr is) = inr is
+own : (A : Type 0) (tells : A → Told) (files : Files) (names : FileNames) (Is : Told → Type 0) (result : Result A Refusal) → GivesTo tells names Is result → GivesOf tells names (λ f. Is) files result
+own A tells files names Is (Ok answer) h = h
+own A tells files names Is (Err r) (inl memory) = inl (inl memory)
+own A tells files names Is (Err r) (inr is) = inr is
+
+pub made-any : (A : Type 0) (tells : A → Told) (known : Option Files) (names : FileNames) (Is : Told → Type 0) (result : Result A Refusal)
+    → GivesTo tells names Is result → WithFiles known (λ files. GivesOf tells names (λ f. Is) files result)
+made-any A tells None names Is result h = tt
+made-any A tells (Some files) names Is result h = own A tells files names Is result h
 
 pub gives-any : (known : Option Files) (names : FileNames) (Is : Told → Type 0) (result : Result Answer Refusal)
     → Gives names Is result → WithFiles known (λ files. GivesBy names (λ f. Is) files result)
-gives-any None names Is result h = tt
-gives-any (Some files) names Is result h = own files names Is result h
+gives-any known names Is result h = made-any Answer (told_of names) known names Is result h
 
 -- ---- logs
 
 -- a log that is refused ends the command
-pub log-refused : (names : FileNames) (bytes : List ℕ) (go : Content → Told) (r : Refusal) → LogTells bytes (Err r) → Gives names (IsByLog names bytes go) (Err r)
-log-refused names bytes go r (inl e) = inl e
-log-refused names bytes go r (inr h) = inr (record { says = Err h.0; reads = (h.2, h.3); is = ap (λ (x : Refusal). refused names x) h.1 })
+pub made-refused : (A : Type 0) (tells : A → Told) (names : FileNames) (bytes : List ℕ) (go : Content → Told) (r : Refusal) → LogTells bytes (Err r) → GivesTo tells names (IsByLog names bytes go) (Err r)
+made-refused A tells names bytes go r (inl e) = inl e
+made-refused A tells names bytes go r (inr h) = inr (record { says = Err h.0; reads = (h.2, h.3); is = ap (λ (x : Refusal). refused names x) h.1 })
 
 -- what a log says goes on
+pub made-read : (A : Type 0) (tells : A → Told) (names : FileNames) (bytes : List ℕ) (d : Content) (go : Content → Told) (result : Result A Refusal)
+    → LogTells bytes (Ok d) → GivesTo tells names (λ what. what ≡ go d) result → GivesTo tells names (IsByLog names bytes go) result
+made-read A tells names bytes d go (Ok answer) h e = record { says = Ok d; reads = h; is = e }
+made-read A tells names bytes d go (Err r) h (inl memory) = inl memory
+made-read A tells names bytes d go (Err r) h (inr e) = inr (record { says = Ok d; reads = h; is = e })
+
+pub log-refused : (names : FileNames) (bytes : List ℕ) (go : Content → Told) (r : Refusal) → LogTells bytes (Err r) → Gives names (IsByLog names bytes go) (Err r)
+log-refused names bytes go r h = made-refused Answer (told_of names) names bytes go r h
+
 pub log-read : (names : FileNames) (bytes : List ℕ) (d : Content) (go : Content → Told) (result : Result Answer Refusal)
     → LogTells bytes (Ok d) → Gives names (λ what. what ≡ go d) result → Gives names (IsByLog names bytes go) result
-log-read names bytes d go (Ok answer) h e = record { says = Ok d; reads = h; is = e }
-log-read names bytes d go (Err r) h (inl memory) = inl memory
-log-read names bytes d go (Err r) h (inr e) = inr (record { says = Ok d; reads = h; is = e })
+log-read names bytes d go result h e = made-read Answer (told_of names) names bytes d go result h e
 
 -- ---- what a recording loads
 

@@ -7,7 +7,7 @@ use Rattle.bn_base.specs.Ranges.{first_bad}
 use Rattle.bn_base.specs.declared.settings.BadSetting.{BadSetting}
 use Rattle.bn_base.specs.declared.settings.RawSettings.{RawSettings}
 use Rattle.bn_outside.specs.Files.{Files}
-use Rattle.command_words.specs.Words.{Line, RecordLine, ReplayLine, JointLine, ListLine, CheckLine}
+use Rattle.command_words.specs.Words.{Line, RecordLine, ReplayLine, JointLine, DebugLine, ListLine, CheckLine, AuditLine, DemoLine}
 use Rattle.elf_loader.specs.Loaded.{image_of}
 use Rattle.elf_loader.specs.declared.error.ElfError.{ElfError}
 use Rattle.log_order.specs.Content.{Content}
@@ -18,9 +18,12 @@ use Rattle.log_file.specs.declared.error.FileError.TheVariants as file
 use Rattle.bugnet.specs.Names.{FileNames, name_of}
 use Rattle.bugnet.specs.Told.{Told}
 use Rattle.bugnet.specs.Commands.{is_clash, Either, IsByFile, WithFile, Reads, by_log, IsByLog, list_of, check_of, replay_of, IsReplayOf, IsReplay, IsByInput, IsByProgram, IsByNames, IsBySettings}
-use Rattle.bugnet.specs.Joined.{joint_of, IsJointOf}
+use Rattle.bugnet.specs.Joined.{joint_with}
+use Rattle.bugnet.specs.Pairs.{ByPair, pair_of, IsPairOf, IsPair}
+use Rattle.bugnet.specs.Sessions.{debug_with}
 use Rattle.bugnet.specs.Answers.{names_in, manner_of, IsAnswer}
-use Rattle.bugnet.specs.Laws.{OneAnswer, AreAlike, AreOfOneList, book_of}
+use Rattle.bugnet.specs.Audits.{audited, IsAuditOf, IsAuditWith, IsAuditBy, IsAuditIn, IsAudit}
+use Rattle.bugnet.specs.Laws.{OneAnswer, OneSession, AreAlike, AreOfOneList, book_of}
 use Rattle.bugnet.specs.Recordings.{AreTaken, IsRunOf, IsRunBy, IsRun, told_run, recorded}
 use Rattle.run_model.specs.Runs.{seeded}
 use Rattle.bugnet.specs.declared.manner.Manner.{Manner}
@@ -72,6 +75,11 @@ one-replay : Grammar → (files : Files) (names : FileNames) (hart interval : �
 one-replay g files names hart interval =
     one-file files names role.Log 268500992 (λ log what. IsReplayOf files names hart interval log what)
     (λ log. one-file files names role.Elf 67108864 (λ elf what. IsByLog names log (replay_of names hart interval elf) what) (λ elf. one-log g names log (replay_of names hart interval elf)))
+
+one-pair : Grammar → (go : ByPair) (files : Files) (names : FileNames) → One (IsPair go files names)
+one-pair g go files names =
+    one-file files names role.Log 268500992 (λ log what. IsPairOf go files names log what)
+    (λ log. one-file files names role.Elf 67108864 (λ elf what. IsByLog names log (pair_of go names elf) what) (λ elf. one-log g names log (pair_of go names elf)))
 
 -- ---- recordings: one answer for each list of turns
 
@@ -144,20 +152,30 @@ one-settings : (bad : Option BadSetting) (files : Files) (names : FileNames) (c 
 one-settings (Some bad) files names c how has_input a b alike p q = p ∙ sym q
 one-settings None files names c how has_input a b alike p q = one-names (is_clash how.lean names.log names.book) files names c how has_input a b alike p q
 
+one-audit : Grammar → (files : Files) (names : FileNames) (has_input : Bool) → One (IsAudit files names has_input)
+one-audit g files names has_input =
+    one-file files names role.Log 268500992 (λ log what. IsAuditIn files names has_input log what)
+    (λ log. one-file files names role.Elf 67108864 (λ elf what. IsAuditBy files names has_input log elf what)
+    (λ elf. one-file files names role.Book 1073741824 (λ book what. IsAuditWith files names has_input log elf book what)
+    (λ book a b p q. one-input has_input files names (IsAuditOf names log elf book) a b (λ input x y. one-log g names log (pair_of (audited names log book input) names elf) a b x y) p q)))
+
 one-line : Grammar → (line : Line) (files : Files) (a b : Told) → IsAnswer (Some line) files a → IsAnswer (Some line) files b → AreAlike (Some line) a b → a ≡ b
 one-line g (RecordLine r) files a b p q alike = one-settings (first_bad r.settings) files (names_in (RecordLine r)) r.settings (manner_of r) _ a b alike p q
 one-line g (ReplayLine log elf hart interval) files a b p q alike = one-replay g files (names_in (ReplayLine log elf hart interval)) hart interval a b p q
-one-line g (JointLine log elf) files a b p q alike =
-    let names = names_in (JointLine log elf) in
-    one-file files names role.Log 268500992 (λ log what. IsJointOf files names log what)
-    (λ log. one-file files names role.Elf 67108864 (λ elf what. IsByLog names log (joint_of names elf) what) (λ elf. one-log g names log (joint_of names elf))) a b p q
+one-line g (JointLine log elf) files a b p q alike = let names = names_in (JointLine log elf) in one-pair g (joint_with names) files names a b p q
+one-line g (DebugLine log elf) files a b p q alike = absurd alike
 one-line g (ListLine log) files a b p q alike =
     let names = names_in (ListLine log) in
     one-file files names role.Log 268500992 (λ log what. IsByLog names log list_of what) (λ log. one-log g names log list_of) a b p q
 one-line g (CheckLine log) files a b p q alike =
     let names = names_in (CheckLine log) in
     one-file files names role.Log 268500992 (λ log what. IsByLog names log check_of what) (λ log. one-log g names log check_of) a b p q
+one-line g (AuditLine log elf book input) files a b p q alike = one-audit g files (names_in (AuditLine log elf book input)) _ a b p q
+one-line g (DemoLine seed) files a b p q alike = p ∙ sym q
 
 pub one-answer : Grammar → OneAnswer
 one-answer g None files a b p q alike = p ∙ sym q
 one-answer g (Some line) files a b p q alike = one-line g line files a b p q alike
+
+pub one-session : Grammar → OneSession
+one-session g c files names a b p q = one-pair g (debug_with names c) files names a b p q

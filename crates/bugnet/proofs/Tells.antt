@@ -18,7 +18,7 @@ use Rattle.bugnet.specs.declared.names.Role.TheVariants as role
 use Rattle.bugnet.specs.declared.answer.Answer.{Answer}
 use Rattle.bugnet.specs.declared.answer.Recording.{Recording}
 use Rattle.bugnet.specs.declared.refusal.Refusal.{Refusal}
-use Rattle.bugnet.specs.declared.refusal.Refusal.TheVariants.{WordsRefused, OutOfRange, SameName, StoreFailed, Missing, TooLong, ElfRefused, LogRefused, ProgramDiffers, OutOfMemory, WriteFailed, ReplayStopped}
+use Rattle.bugnet.specs.declared.refusal.Refusal.TheVariants.{WordsRefused, OutOfRange, SameName, StoreFailed, Missing, TooLong, ElfRefused, LogRefused, ProgramDiffers, OutOfMemory, WriteFailed, ReplayStopped, ReadFailed, LineTooLong, CommandsTooLong, BookRefused, FileDiffers}
 use Rattle.bugnet.proofs.Prints.{part-whole, rose-later}
 
 -- ---- a refusal
@@ -64,6 +64,11 @@ free-status names (ProgramDiffers kept found) status err_old err_new before now 
 free-status names OutOfMemory status err_old err_new before now o (inl h) = inr (inl h.0)
 free-status names WriteFailed status err_old err_new before now o (inl h) = inr (inr h.0)
 free-status names (ReplayStopped e) status err_old err_new before now o (inl h) = absurd o
+free-status names ReadFailed status err_old err_new before now o (inl h) = absurd o
+free-status names LineTooLong status err_old err_new before now o (inl h) = absurd o
+free-status names CommandsTooLong status err_old err_new before now o (inl h) = absurd o
+free-status names (BookRefused x) status err_old err_new before now o (inl h) = absurd o
+free-status names (FileDiffers place) status err_old err_new before now o (inl h) = absurd o
 
 sends-free : (r : Refusal) (before now : ℕ) → SendStops before now r → FreeRefusal r
 sends-free WordsRefused before now s = absurd s
@@ -78,6 +83,11 @@ sends-free (ProgramDiffers kept found) before now s = absurd s
 sends-free OutOfMemory before now s = tt
 sends-free WriteFailed before now s = tt
 sends-free (ReplayStopped e) before now s = absurd s
+sends-free ReadFailed before now s = absurd s
+sends-free LineTooLong before now s = absurd s
+sends-free CommandsTooLong before now s = absurd s
+sends-free (BookRefused x) before now s = absurd s
+sends-free (FileDiffers place) before now s = absurd s
 
 -- ---- saves
 
@@ -100,6 +110,11 @@ broken saved names old new before now (ProgramDiffers kept found) u = absurd u
 broken saved names old new before now OutOfMemory u = record { role = u.0; broke = u.1; is = inr refl }
 broken saved names old new before now WriteFailed u = absurd u
 broken saved names old new before now (ReplayStopped e) u = absurd u
+broken saved names old new before now ReadFailed u = absurd u
+broken saved names old new before now LineTooLong u = absurd u
+broken saved names old new before now CommandsTooLong u = absurd u
+broken saved names old new before now (BookRefused x) u = absurd u
+broken saved names old new before now (FileDiffers place) u = absurd u
 
 memory-or-store : (names : FileNames) (r : Refusal) (role : Role) (status : ℕ) (err_old err_new : Option (List ℕ)) (before now : ℕ)
     → (r ≡ StoreFailed role) ⊎ (r ≡ OutOfMemory) → ToldRefusal names r status err_old err_new before now → IsUnsaved status
@@ -385,6 +400,11 @@ unsaved-from (Some saved) names old new before mid now (ProgramDiffers kept foun
 unsaved-from (Some saved) names old new before mid now OutOfMemory n u = u
 unsaved-from (Some saved) names old new before mid now WriteFailed n u = absurd u
 unsaved-from (Some saved) names old new before mid now (ReplayStopped e) n u = absurd u
+unsaved-from (Some saved) names old new before mid now ReadFailed n u = absurd u
+unsaved-from (Some saved) names old new before mid now LineTooLong n u = absurd u
+unsaved-from (Some saved) names old new before mid now CommandsTooLong n u = absurd u
+unsaved-from (Some saved) names old new before mid now (BookRefused x) n u = absurd u
+unsaved-from (Some saved) names old new before mid now (FileDiffers place) n u = absurd u
 
 pub tells-from : (names : FileNames) (what : Told) (status : ℕ) (files : Option Files) (counts : Counts) (k : Call) → k.old.files ≡ files → NoneFell counts k.old.counts
     → Tells names what status k → Tells names what status (from files counts k)

@@ -3,12 +3,15 @@ use Rattle.std.specs.Prelude.{◌≡◌, [], Bool, true, false, Option, Some, No
 use Rattle.bn_base.specs.Ranges.{first_bad}
 use Rattle.bn_base.specs.declared.settings.BadSetting.{BadSetting}
 use Rattle.bn_outside.specs.Files.{Files}
-use Rattle.command_words.specs.Words.{Line, RecordingLine, RecordLine, ReplayLine, JointLine, ListLine, CheckLine}
+use Rattle.command_words.specs.Words.{Line, RecordingLine, RecordLine, ReplayLine, JointLine, DebugLine, ListLine, CheckLine, AuditLine, DemoLine}
 use Rattle.bugnet.specs.Names.{FileNames, no_names}
-use Rattle.bugnet.specs.Told.{Told, refused}
+use Rattle.demo_run.specs.Demonstration.{demo_text}
+use Rattle.bugnet.specs.Told.{Told, refused, printed}
 use Rattle.bugnet.specs.Commands.{is_clash, IsRecord, IsReplay, IsList, IsCheck}
 use Rattle.bugnet.specs.declared.manner.Manner.{Manner}
 use Rattle.bugnet.specs.Joined.{IsJoint}
+use Rattle.bugnet.specs.Sessions.{IsDebug}
+use Rattle.bugnet.specs.Audits.{IsAudit}
 use Rattle.bugnet.specs.declared.refusal.Refusal.{Refusal}
 use Rattle.bugnet.specs.declared.refusal.Refusal.TheVariants.{WordsRefused, OutOfRange, SameName}
 
@@ -17,8 +20,11 @@ abbrev pub names_in : Line → FileNames
 names_in (RecordLine r) = record { elf = r.elf; log = r.log; book = r.book; input = unwrap_or r.input [] }
 names_in (ReplayLine log elf hart interval) = record { elf = elf; log = log; book = []; input = [] }
 names_in (JointLine log elf) = record { elf = elf; log = log; book = []; input = [] }
+names_in (DebugLine log elf) = record { elf = elf; log = log; book = []; input = [] }
 names_in (ListLine log) = record { elf = []; log = log; book = []; input = [] }
 names_in (CheckLine log) = record { elf = []; log = log; book = []; input = [] }
+names_in (AuditLine log elf book input) = record { elf = elf; log = log; book = book; input = unwrap_or input [] }
+names_in (DemoLine seed) = no_names
 
 abbrev pub names_by : Option Line → FileNames
 names_by None = no_names
@@ -41,8 +47,11 @@ abbrev pub refusal_in : Line → Option Refusal
 refusal_in (RecordLine r) = setting_refusal (first_bad r.settings) (is_clash r.lean r.log r.book)
 refusal_in (ReplayLine log elf hart interval) = None
 refusal_in (JointLine log elf) = None
+refusal_in (DebugLine log elf) = None
 refusal_in (ListLine log) = None
 refusal_in (CheckLine log) = None
+refusal_in (AuditLine log elf book input) = None
+refusal_in (DemoLine seed) = None
 
 abbrev pub refusal_by : Option Line → Option Refusal
 refusal_by None = Some WordsRefused
@@ -54,5 +63,8 @@ IsAnswer None files what = what ≡ refused no_names WordsRefused
 IsAnswer (Some (RecordLine r)) files what = IsRecord files (names_in (RecordLine r)) r.settings (manner_of r) (is_some r.input) what
 IsAnswer (Some (ReplayLine log elf hart interval)) files what = IsReplay files (names_in (ReplayLine log elf hart interval)) hart interval what
 IsAnswer (Some (JointLine log elf)) files what = IsJoint files (names_in (JointLine log elf)) what
+IsAnswer (Some (DebugLine log elf)) files what = IsDebug files (names_in (DebugLine log elf)) what
 IsAnswer (Some (ListLine log)) files what = IsList files (names_in (ListLine log)) what
 IsAnswer (Some (CheckLine log)) files what = IsCheck files (names_in (CheckLine log)) what
+IsAnswer (Some (AuditLine log elf book input)) files what = IsAudit files (names_in (AuditLine log elf book input)) (is_some input) what
+IsAnswer (Some (DemoLine seed)) files what = what ≡ printed (demo_text seed)

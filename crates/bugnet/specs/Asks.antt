@@ -1,11 +1,11 @@
 -- How often a command asks its store to save.
 use Rattle.std.specs.Prelude.{◌≡◌, ◌⊎◌, ℕ, Bool, true, false, not, Option, Some, None, is_some}
 use Rattle.bn_outside.specs.Counts.{counted}
-use Rattle.command_words.specs.Words.{Line, RecordLine, ReplayLine, JointLine, ListLine, CheckLine}
+use Rattle.command_words.specs.Words.{Line, RecordLine, ReplayLine, JointLine, DebugLine, ListLine, CheckLine, AuditLine, DemoLine}
 use Rattle.bugnet.specs.Saves.{IsRecorded}
 use Rattle.bugnet.specs.declared.answer.Answer.{Answer}
 use Rattle.bugnet.specs.declared.answer.Recording.{Recording}
-use Rattle.bugnet.specs.declared.answer.Answer.TheVariants.{Recorded, Interval, Joined, Listed, Checked}
+use Rattle.bugnet.specs.declared.answer.Answer.TheVariants.{Recorded, Interval, Joined, Listed, Checked, Agreed, Demonstrated}
 
 -- a recording saves two files; a lean one saves one
 abbrev pub saves_after : (lean : Bool) → ℕ → ℕ
@@ -37,6 +37,8 @@ AnswerSaves (Interval r) status before after = after ≡ before
 AnswerSaves (Joined r) status before after = after ≡ before
 AnswerSaves (Listed d) status before after = after ≡ before
 AnswerSaves (Checked d) status before after = after ≡ before
+AnswerSaves Agreed status before after = after ≡ before
+AnswerSaves (Demonstrated lines) status before after = after ≡ before
 
 -- what a command saves
 abbrev pub LineSaves : Option Line → (status before after : ℕ) → Type 0
@@ -44,8 +46,11 @@ LineSaves None status before after = after ≡ before
 LineSaves (Some (RecordLine r)) status before after = SavesEach r.lean status before after
 LineSaves (Some (ReplayLine log elf hart interval)) status before after = after ≡ before
 LineSaves (Some (JointLine log elf)) status before after = after ≡ before
+LineSaves (Some (DebugLine log elf)) status before after = after ≡ before
 LineSaves (Some (ListLine log)) status before after = after ≡ before
 LineSaves (Some (CheckLine log)) status before after = after ≡ before
+LineSaves (Some (AuditLine log elf book input)) status before after = after ≡ before
+LineSaves (Some (DemoLine seed)) status before after = after ≡ before
 
 -- an answer that is a recording, lean or not
 abbrev pub IsRecordedRun : (lean : Bool) → Answer → Type 0
@@ -54,11 +59,16 @@ IsRecordedRun lean (Interval r) = ⊥
 IsRecordedRun lean (Joined r) = ⊥
 IsRecordedRun lean (Listed d) = ⊥
 IsRecordedRun lean (Checked d) = ⊥
+IsRecordedRun lean Agreed = ⊥
+IsRecordedRun lean (Demonstrated lines) = ⊥
 
 -- the answer to a line that records is a recording
 abbrev pub RecordsRun : Line → Answer → Type 0
 RecordsRun (RecordLine r) answer = IsRecordedRun r.lean answer
 RecordsRun (ReplayLine log elf hart interval) answer = Unit {0}
 RecordsRun (JointLine log elf) answer = Unit {0}
+RecordsRun (DebugLine log elf) answer = Unit {0}
 RecordsRun (ListLine log) answer = Unit {0}
 RecordsRun (CheckLine log) answer = Unit {0}
+RecordsRun (AuditLine log elf book input) answer = Unit {0}
+RecordsRun (DemoLine seed) answer = Unit {0}

@@ -5,13 +5,15 @@ use Rattle.bn_base.specs.Programs.{Program}
 use Rattle.bn_base.specs.Ranges.{first_bad}
 use Rattle.bn_base.specs.declared.settings.RawSettings.{RawSettings}
 use Rattle.bn_outside.specs.Files.{Files}
-use Rattle.command_words.specs.Words.{Line, RecordingLine, RecordLine, ReplayLine, JointLine, ListLine, CheckLine}
+use Rattle.command_words.specs.Words.{Line, RecordingLine, RecordLine, ReplayLine, JointLine, DebugLine, ListLine, CheckLine, AuditLine, DemoLine}
 use Rattle.elf_loader.specs.Loaded.{image_of}
 use Rattle.hart_replay.specs.Replay.{Interval}
 use Rattle.run_model.specs.Files.{file_of}
 use Rattle.file_laws.specs.Given.{IsRecording}
 use Rattle.bugnet.specs.Told.{Told}
 use Rattle.bugnet.specs.Commands.{is_clash}
+use Rattle.le_numbers.specs.Numbers.{AreBytes}
+use Rattle.bugnet.specs.Audits.{Agrees}
 use Rattle.bugnet.specs.Joined.{CanJoin}
 use Rattle.bugnet.specs.Answers.{IsAnswer}
 use Rattle.bugnet.specs.Headline.{Part, ReplaysRun}
@@ -32,8 +34,11 @@ HasBytes None files = Unit {0}
 HasBytes (Some (RecordLine r)) files = HasProgram r.lean r.seed (files r.elf)
 HasBytes (Some (ReplayLine log elf hart interval)) files = HoldsBytes (files log)
 HasBytes (Some (JointLine log elf)) files = HoldsBytes (files log)
+HasBytes (Some (DebugLine log elf)) files = HoldsBytes (files log)
 HasBytes (Some (ListLine log)) files = HoldsBytes (files log)
 HasBytes (Some (CheckLine log)) files = HoldsBytes (files log)
+HasBytes (Some (AuditLine log elf book input)) files = HoldsBytes (files log)
+HasBytes (Some (DemoLine seed)) files = Unit {0}
 
 -- then there is an answer
 abbrev pub EachHasAnAnswer : Type 0
@@ -65,21 +70,27 @@ pub record HasLog (there : Option (List ℕ)) : Type 0 where
   pub recording : IsRecording settings program elf input turns
   pub log : there ≡ Some (file_of settings program (sha256 elf) input turns)
 
--- what a line needs
+-- what a line needs. What a session of the debugger needs is said by itself, since it goes by its commands
 abbrev pub CanDo : Line → Files → Type 0
 CanDo (RecordLine r) files = CanRecord r files
 CanDo (ReplayLine log elf hart interval) files = (p : Part) × (v : Interval) × ReplaysRun (Some (ReplayLine log elf hart interval)) files p v × (length p.elf ≤ 67108864)
 CanDo (JointLine log elf) files = CanJoin log elf files
+CanDo (DebugLine log elf) files = ⊥
 CanDo (ListLine log) files = HasLog (files log)
 CanDo (CheckLine log) files = HasLog (files log)
+CanDo (AuditLine log elf book input) files = (a : Agrees log elf book input files) × AreBytes a.bytes
+CanDo (DemoLine seed) files = Unit {0}
 
 -- what a line that can be done needs for an answer: a program file that is bytes
 abbrev pub HasElfBytes : Line → Files → Type 0
 HasElfBytes (RecordLine r) files = HasProgram r.lean r.seed (files r.elf)
 HasElfBytes (ReplayLine log elf hart interval) files = Unit {0}
 HasElfBytes (JointLine log elf) files = Unit {0}
+HasElfBytes (DebugLine log elf) files = Unit {0}
 HasElfBytes (ListLine log) files = Unit {0}
 HasElfBytes (CheckLine log) files = Unit {0}
+HasElfBytes (AuditLine log elf book input) files = Unit {0}
+HasElfBytes (DemoLine seed) files = Unit {0}
 
 -- there is an answer, and each answer is that of a command that is done
 pub record CanBeDone (line : Line) (files : Files) : Type 0 where

@@ -1,14 +1,9 @@
 -- What the command `joint` answers: the joint replay of all intervals that a log keeps.
-use Rattle.std.specs.Prelude.{◌≡◌, ℕ, ◌≤◌, Bool, true, false, List, ◌++◌, [], length, Option, Some, None, Result, Ok, Err, codes, decimal}
+use Rattle.std.specs.Prelude.{◌≡◌, ℕ, List, ◌++◌, [], Option, Some, None, codes, decimal}
 use Rattle.std.specs.List.{flat_map}
-use Rattle.std.specs.Str.{bytes_eq}
-use Rattle.sha2.specs.Sha256.{sha256}
 use Rattle.bn_base.specs.Programs.{Program}
 use Rattle.bn_outside.specs.Files.{Files}
-use Rattle.elf_loader.specs.Loaded.{image_of}
-use Rattle.elf_loader.specs.declared.error.ElfError.{ElfError}
-use Rattle.log_order.specs.Content.{Content, IsContent}
-use Rattle.log_file.specs.Layout.{file_bytes}
+use Rattle.log_order.specs.Content.{Content}
 use Rattle.joint_replay.specs.declared.error.JointError.{JointError}
 use Rattle.joint_replay.specs.declared.error.JointError.TheVariants.{Replay, Stuck}
 use Rattle.joint_replay.specs.declared.error.JointError.TheVariants as joint
@@ -16,10 +11,9 @@ use Rattle.joint_replay.specs.Joining.{Joining, Ran, fresh, run_all}
 use Rattle.joint_replay.specs.Texts.{joint_text}
 use Rattle.bugnet.specs.Names.{FileNames}
 use Rattle.bugnet.specs.Refusals.{status_of, line_of}
-use Rattle.bugnet.specs.Told.{Told, refused}
-use Rattle.bugnet.specs.Commands.{WithFile, IsByLog}
-use Rattle.bugnet.specs.declared.names.Role.TheVariants as role
-use Rattle.bugnet.specs.declared.refusal.Refusal.TheVariants.{ElfRefused, ProgramDiffers, OutOfMemory, ReplayStopped}
+use Rattle.bugnet.specs.Told.{Told}
+use Rattle.bugnet.specs.Pairs.{IsPair, ArePair}
+use Rattle.bugnet.specs.declared.refusal.Refusal.TheVariants.{OutOfMemory, ReplayStopped}
 
 -- ---- why a joint replay stopped
 
@@ -59,35 +53,14 @@ joined d i = fresh i d.head.settings.harts d.records
 abbrev pub joint_with : FileNames → Content → Program → Told
 joint_with names d i = ran_told names (run_all (joined d i))
 
-abbrev pub joint_loaded : FileNames → Content → Result Program ElfError → Told
-joint_loaded names d (Err e) = refused names (ElfRefused e)
-joint_loaded names d (Ok i) = joint_with names d i
-
-abbrev pub joint_same : Bool → FileNames → List ℕ → Content → Told
-joint_same true names elf d = joint_loaded names d (image_of elf d.head.settings)
-joint_same false names elf d = refused names (ProgramDiffers d.head.digest (sha256 elf))
-
--- the same with a program file: its digest is compared with the log's, and it is loaded with the log's settings
-abbrev pub joint_of : FileNames → List ℕ → Content → Told
-joint_of names elf d = joint_same (bytes_eq (sha256 elf) d.head.digest) names elf d
-
 -- ---- the command
 
-abbrev pub IsJointOf : Files → FileNames → List ℕ → Told → Type 0
-IsJointOf files names log what = WithFile files names role.Elf 67108864 (λ elf what. IsByLog names log (joint_of names elf) what) what
-
 abbrev pub IsJoint : Files → FileNames → Told → Type 0
-IsJoint files names what = WithFile files names role.Log 268500992 (λ log what. IsJointOf files names log what) what
+IsJoint files names what = IsPair (joint_with names) files names what
 
 -- what it needs: a log and its program are there, and their joint replay isn't stopped
 pub record CanJoin (log elf : List ℕ) (files : Files) : Type 0 where
   pub content : Content
-  pub bytes : List ℕ
   pub program : Program
-  pub is : IsContent content
-  pub log_there : files log ≡ Some (file_bytes content)
-  pub elf_there : files elf ≡ Some bytes
-  pub elf_small : length bytes ≤ 67108864
-  pub same : bytes_eq (sha256 bytes) content.head.digest ≡ true
-  pub loaded : image_of bytes content.head.settings ≡ Ok program
+  pub pair : ArePair log elf files content program
   pub goes_on : (run_all (joined content program)).stopped ≡ None

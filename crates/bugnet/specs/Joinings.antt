@@ -9,7 +9,7 @@ use Rattle.bugnet.specs.Refusals.{line_of}
 use Rattle.bugnet.specs.Told.{Told}
 use Rattle.bugnet.specs.Outside.{Wrote}
 use Rattle.bugnet.specs.Joined.{joint_status, joint_line, joint_with}
-use Rattle.bugnet.specs.declared.joining.JointReading.{JointReading}
+use Rattle.bugnet.specs.declared.pairs.JointReading.{JointReading}
 use Rattle.bugnet.specs.declared.refusal.Refusal.{Refusal}
 use Rattle.bugnet.specs.declared.refusal.Refusal.TheVariants as why
 

@@ -5,12 +5,14 @@ use Rattle.bn_base.specs.Programs.{Program}
 use Rattle.bn_base.specs.Ranges.{first_bad}
 use Rattle.bn_base.specs.declared.settings.RawSettings.{RawSettings}
 use Rattle.bn_outside.specs.Files.{Files}
-use Rattle.command_words.specs.Words.{Line, RecordLine, ReplayLine, JointLine, ListLine, CheckLine}
+use Rattle.command_words.specs.Words.{Line, RecordLine, ReplayLine, JointLine, DebugLine, ListLine, CheckLine, AuditLine, DemoLine}
 use Rattle.log_record.specs.Spelling.{total}
 use Rattle.run_model.specs.Files.{kept_of, file_of}
 use Rattle.run_model.specs.Runs.{run_of, seeded}
 use Rattle.replay_laws.specs.Law.{IsWhole}
 use Rattle.file_laws.specs.Given.{IsRecording}
+use Rattle.bugnet.specs.Names.{FileNames}
+use Rattle.bugnet.specs.Sessions.{Commands, IsSession}
 use Rattle.bugnet.specs.Told.{Told, Saved}
 use Rattle.bugnet.specs.Answers.{IsAnswer}
 use Rattle.bugnet.specs.Saves.{IsWithin}
@@ -30,13 +32,19 @@ AreAlike None a b = Unit {0}
 AreAlike (Some (RecordLine r)) a b = AreOfOneList r.seed r.lean a b
 AreAlike (Some (ReplayLine log elf hart interval)) a b = Unit {0}
 AreAlike (Some (JointLine log elf)) a b = Unit {0}
+AreAlike (Some (DebugLine log elf)) a b = ⊥
 AreAlike (Some (ListLine log)) a b = Unit {0}
 AreAlike (Some (CheckLine log)) a b = Unit {0}
+AreAlike (Some (AuditLine log elf book input)) a b = Unit {0}
+AreAlike (Some (DemoLine seed)) a b = Unit {0}
 
 -- No words have two answers. A recording without a seed may take any turns that are legal and finished; it has one answer
--- for each such list, where it saves it
+-- for each such list, where it saves it. A session of the debugger has one for all commands that are read
 abbrev pub OneAnswer : Type 0
 OneAnswer = (line : Option Line) (files : Files) (a b : Told) → IsAnswer line files a → IsAnswer line files b → AreAlike line a b → a ≡ b
+
+abbrev pub OneSession : Type 0
+OneSession = (c : Commands) (files : Files) (names : FileNames) (a b : Told) → IsSession c files names a → IsSession c files names b → a ≡ b
 
 -- words that are no recording
 abbrev pub IsNoRecording : Option Line → Type 0
@@ -44,8 +52,23 @@ IsNoRecording None = Unit {0}
 IsNoRecording (Some (RecordLine r)) = ⊥
 IsNoRecording (Some (ReplayLine log elf hart interval)) = Unit {0}
 IsNoRecording (Some (JointLine log elf)) = Unit {0}
+IsNoRecording (Some (DebugLine log elf)) = Unit {0}
 IsNoRecording (Some (ListLine log)) = Unit {0}
 IsNoRecording (Some (CheckLine log)) = Unit {0}
+IsNoRecording (Some (AuditLine log elf book input)) = Unit {0}
+IsNoRecording (Some (DemoLine seed)) = Unit {0}
+
+-- words that are no session of the debugger
+abbrev pub IsNoSession : Option Line → Type 0
+IsNoSession None = Unit {0}
+IsNoSession (Some (RecordLine r)) = Unit {0}
+IsNoSession (Some (ReplayLine log elf hart interval)) = Unit {0}
+IsNoSession (Some (JointLine log elf)) = Unit {0}
+IsNoSession (Some (DebugLine log elf)) = ⊥
+IsNoSession (Some (ListLine log)) = Unit {0}
+IsNoSession (Some (CheckLine log)) = Unit {0}
+IsNoSession (Some (AuditLine log elf book input)) = Unit {0}
+IsNoSession (Some (DemoLine seed)) = Unit {0}
 
 -- the list of turns that a seed chooses is legal and finished, where the settings were tested
 abbrev pub SeedsAreWhole : Type 0

@@ -19,7 +19,7 @@ use Rattle.log_file.specs.declared.error.FileError.TheVariants as file
 use Rattle.bugnet.specs.Names.{FileNames, name_of}
 use Rattle.bugnet.specs.Refusals.{status_of, line_of}
 use Rattle.bugnet.specs.Told.{Told, Saved, refused, printed}
-use Rattle.bugnet.specs.Texts.{check_line}
+use Rattle.bugnet.specs.Texts.{check_line, agree_text}
 use Rattle.bugnet.specs.Recordings.{end_status}
 use Rattle.bugnet.specs.Commands.{list_of, replay_with}
 use Rattle.bugnet.specs.Joined.{joint_with}
@@ -30,7 +30,7 @@ use Rattle.bugnet.specs.declared.refusal.Refusal.TheVariants as why
 use Rattle.bugnet.specs.declared.answer.Answer.{Answer}
 use Rattle.bugnet.specs.declared.answer.Reading.{Reading}
 use Rattle.bugnet.specs.declared.answer.Recording.{Recording}
-use Rattle.bugnet.specs.declared.answer.Answer.TheVariants.{Recorded, Interval, Joined, Listed, Checked}
+use Rattle.bugnet.specs.declared.answer.Answer.TheVariants.{Recorded, Interval, Joined, Listed, Checked, Agreed, Demonstrated}
 
 -- ---- what is loaded
 
@@ -78,6 +78,8 @@ told_of names (Interval r) = told_of_reading names r
 told_of names (Joined r) = joint_with names r.log r.image
 told_of names (Listed d) = list_of d
 told_of names (Checked n) = printed (check_line n)
+told_of names Agreed = printed agree_text
+told_of names (Demonstrated lines) = printed lines
 
 -- an answer that saves nothing
 abbrev pub IsPrinted : Answer → Type 0
@@ -86,11 +88,16 @@ IsPrinted (Interval r) = Unit {0}
 IsPrinted (Joined r) = Unit {0}
 IsPrinted (Listed d) = Unit {0}
 IsPrinted (Checked n) = Unit {0}
+IsPrinted Agreed = Unit {0}
+IsPrinted (Demonstrated lines) = Unit {0}
 
--- what was made of loaded bytes is what the command has to answer, or memory was wanting
+-- what was made of loaded bytes, by what it tells, is what the command has to answer, or memory was wanting
+abbrev pub GivesTo : {A : Type 0} → (A → Told) → FileNames → (Told → Type 0) → Result A Refusal → Type 0
+GivesTo tells names Is (Ok made) = Is (tells made)
+GivesTo tells names Is (Err refusal) = (refusal ≡ why.OutOfMemory) ⊎ Is (refused names refusal)
+
 abbrev pub Gives : FileNames → (Told → Type 0) → Result Answer Refusal → Type 0
-Gives names Is (Ok answer) = Is (told_of names answer)
-Gives names Is (Err refusal) = (refusal ≡ why.OutOfMemory) ⊎ Is (refused names refusal)
+Gives names Is result = GivesTo (told_of names) names Is result
 
 abbrev pub unless : Bool → Option (List ℕ) → Option (List ℕ)
 unless true there = None
@@ -106,12 +113,16 @@ abbrev pub IsEarly : FileNames → (Files → Told → Type 0) → Files → Ref
 IsEarly names Is files refusal =
     (refusal ≡ why.OutOfMemory) ⊎ ((role : Role) × (refusal ≡ why.StoreFailed role) × Is (without (name_of names role) files) (refused names (why.Missing role)))
 
--- the result of a command is what it has to answer by the files that are there, or it was stopped before it had an answer
-abbrev pub GivesBy : FileNames → (Files → Told → Type 0) → Files → Result Answer Refusal → Type 0
-GivesBy names Is files (Ok answer) = Is files (told_of names answer)
-GivesBy names Is files (Err refusal) = IsEarly names Is files refusal ⊎ Is files (refused names refusal)
+-- what was made of the files that are there, by what it tells, is what the command has to answer by them, or it was stopped
+-- before it had an answer
+abbrev pub GivesOf : {A : Type 0} → (A → Told) → FileNames → (Files → Told → Type 0) → Files → Result A Refusal → Type 0
+GivesOf tells names Is files (Ok made) = Is files (tells made)
+GivesOf tells names Is files (Err refusal) = IsEarly names Is files refusal ⊎ Is files (refused names refusal)
 
--- each refusal by the store has a count that rose, and none is of words or of a write
+abbrev pub GivesBy : FileNames → (Files → Told → Type 0) → Files → Result Answer Refusal → Type 0
+GivesBy names Is files result = GivesOf (told_of names) names Is files result
+
+-- each refusal by the store has a count that rose, and none is of words, of a write, or of the commands of a session
 abbrev pub RefusalCause : Counts → Counts → Refusal → Type 0
 RefusalCause before now (why.StoreFailed role) = Rose before.faults now.faults
 RefusalCause before now (why.Missing role) = Rose before.misses now.misses
@@ -120,6 +131,9 @@ RefusalCause before now why.WordsRefused = ⊥
 RefusalCause before now (why.OutOfRange bad) = ⊥
 RefusalCause before now why.SameName = ⊥
 RefusalCause before now why.WriteFailed = ⊥
+RefusalCause before now why.ReadFailed = ⊥
+RefusalCause before now why.LineTooLong = ⊥
+RefusalCause before now why.CommandsTooLong = ⊥
 RefusalCause before now refusal = Unit {0}
 
 abbrev pub ResultCause : {A : Type 0} → Counts → Counts → Result A Refusal → Type 0
@@ -131,7 +145,7 @@ abbrev pub CauseBy : {A : Type 0} → Option Refusal → Counts → Counts → R
 CauseBy (Some refusal) before now result = (result ≡ Err refusal) × (status_of refusal ≡ 2)
 CauseBy None before now result = ResultCause before now result
 
--- no refusal by a store, of words, or of a write
+-- no refusal by a store, of words, of a write, or of the commands of a session
 abbrev pub IsOwn : {A : Type 0} → Result A Refusal → Type 0
 IsOwn result = (before now : Counts) → ResultCause before now result
 

@@ -11,10 +11,12 @@ use Rattle.log_file.specs.declared.error.FileError.{FileError}
 use Rattle.log_file.specs.declared.error.FileError.TheVariants as file
 use Rattle.hart_replay.specs.declared.error.ReplayError.{ReplayError}
 use Rattle.hart_replay.specs.declared.error.ReplayError.TheVariants as replay
+use Rattle.run_model.specs.declared.error.TurnError.{TurnError}
+use Rattle.run_model.specs.declared.error.TurnError.TheVariants as turns
 use Rattle.bugnet.specs.Names.{FileNames, name_of}
 use Rattle.bugnet.specs.Marks.{counted}
 use Rattle.bugnet.specs.declared.refusal.Refusal.{Refusal}
-use Rattle.bugnet.specs.declared.refusal.Refusal.TheVariants.{WordsRefused, OutOfRange, SameName, StoreFailed, Missing, TooLong, ElfRefused, LogRefused, ProgramDiffers, OutOfMemory, WriteFailed, ReplayStopped}
+use Rattle.bugnet.specs.declared.refusal.Refusal.TheVariants.{WordsRefused, OutOfRange, SameName, StoreFailed, Missing, TooLong, ElfRefused, LogRefused, ProgramDiffers, OutOfMemory, WriteFailed, ReplayStopped, ReadFailed, LineTooLong, CommandsTooLong, BookRefused, FileDiffers}
 
 -- ---- the status
 
@@ -35,6 +37,11 @@ status_of (ProgramDiffers kept found) = 8
 status_of OutOfMemory = 9
 status_of WriteFailed = 13
 status_of (ReplayStopped error) = replay_status error
+status_of ReadFailed = 12
+status_of LineTooLong = 18
+status_of CommandsTooLong = 18
+status_of (BookRefused error) = 17
+status_of (FileDiffers place) = 16
 
 -- ---- the line
 
@@ -86,6 +93,12 @@ replay_said (replay.RecordsLeft hart left) = pair_text (codes "replay: RecordsLe
 replay_said (replay.EndDiffers hart said found) = codes "replay: EndDiffers " ++ (decimal hart ++ codes " " ++ mark_text said ++ codes " " ++ mark_text found)
 replay_said replay.OutOfMemory = codes "out of memory"
 
+-- why a list of turns is refused
+unfoldable pub book_said : TurnError → List ℕ
+book_said (turns.IllegalTurn at hart) = counted (codes "book: turn ") at ++ counted (codes " hart ") hart
+book_said (turns.NotFinished live) = counted (codes "book: unfinished ") live
+book_said turns.OutOfMemory = codes "out of memory"
+
 -- what the line says
 unfoldable pub said_of : FileNames → Refusal → List ℕ
 said_of names WordsRefused = codes "words refused"
@@ -100,6 +113,11 @@ said_of names (ProgramDiffers kept found) = digests_text (codes "program differs
 said_of names OutOfMemory = codes "out of memory"
 said_of names WriteFailed = codes "write failed"
 said_of names (ReplayStopped error) = replay_said error
+said_of names ReadFailed = codes "read failed"
+said_of names LineTooLong = codes "line too long"
+said_of names CommandsTooLong = codes "commands too long"
+said_of names (BookRefused error) = book_said error
+said_of names (FileDiffers place) = counted (codes "differs at ") place
 
 -- the whole line
 unfoldable pub line_of : FileNames → Refusal → List ℕ

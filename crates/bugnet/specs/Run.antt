@@ -116,12 +116,15 @@ Tells names what status k = Done names what status k ⊎ Stopped names what stat
 
 -- it was stopped by the store or by want of memory before there was an answer: out has nothing new, err the refusal's line,
 -- and the files are as they were
-pub record StoppedEarly (line : Option Line) (files : Files) (status : ℕ) (k : Call) : Type 0 where
+pub record StoppedBy (names : FileNames) (Is : Files → Told → Type 0) (files : Files) (status : ℕ) (k : Call) : Type 0 where
   pub refusal : Refusal
-  pub early : IsEarly (names_by line) (λ files. IsAnswer line files) files refusal
+  pub early : IsEarly names Is files refusal
   pub out : Appends k.old.out k.new.out []
   pub same : k.new.files ≡ k.old.files
-  pub told : ToldRefusal (names_by line) refusal status k.old.err k.new.err k.old.err_faults k.new.err_faults
+  pub told : ToldRefusal names refusal status k.old.err k.new.err k.old.err_faults k.new.err_faults
+
+abbrev pub StoppedEarly : Option Line → Files → ℕ → Call → Type 0
+StoppedEarly line files status k = StoppedBy (names_by line) (λ files. IsAnswer line files) files status k
 
 -- there is such an answer, of which this holds
 abbrev pub SomeTold : (Told → Type 0) → (Told → Type 0) → Type 0

@@ -7,7 +7,7 @@ use Rattle.bn_outside.specs.Files.{Files, WhereTold, SameElsewhere}
 use Rattle.elf_loader.specs.Loaded.{image_of}
 use Rattle.log_order.specs.Content.{Content, IsContent}
 use Rattle.log_file.specs.Layout.{file_bytes}
-use Rattle.command_words.specs.Words.{Line, RecordingLine, RecordLine, ReplayLine, JointLine, ListLine, CheckLine}
+use Rattle.command_words.specs.Words.{Line, RecordingLine, RecordLine, ReplayLine, JointLine, DebugLine, ListLine, CheckLine, AuditLine, DemoLine}
 use Rattle.le_numbers.specs.Numbers.{AreBytes}
 use Rattle.log_record.specs.Spelling.{total}
 use Rattle.run_model.specs.Files.{kept_of, file_of}
@@ -83,8 +83,11 @@ LeavesRun None status old new = Unit {0}
 LeavesRun (Some (RecordLine r)) status old new = IsRecorded status → WhereTold old new (LeavesBy r.lean r)
 LeavesRun (Some (ReplayLine log elf hart interval)) status old new = Unit {0}
 LeavesRun (Some (JointLine log elf)) status old new = Unit {0}
+LeavesRun (Some (DebugLine log elf)) status old new = Unit {0}
 LeavesRun (Some (ListLine log)) status old new = Unit {0}
 LeavesRun (Some (CheckLine log)) status old new = Unit {0}
+LeavesRun (Some (AuditLine log elf book input)) status old new = Unit {0}
+LeavesRun (Some (DemoLine seed)) status old new = Unit {0}
 
 -- what is there is bytes
 abbrev pub HoldsBytes : Option (List ℕ) → Type 0
@@ -95,5 +98,8 @@ abbrev pub HasElf : Line → Option Files → Type 0
 HasElf (RecordLine r) known = WithFiles known (λ files. HoldsBytes (files r.elf))
 HasElf (ReplayLine log elf hart interval) known = Unit {0}
 HasElf (JointLine log elf) known = Unit {0}
+HasElf (DebugLine log elf) known = Unit {0}
 HasElf (ListLine log) known = Unit {0}
 HasElf (CheckLine log) known = Unit {0}
+HasElf (AuditLine log elf book input) known = Unit {0}
+HasElf (DemoLine seed) known = Unit {0}

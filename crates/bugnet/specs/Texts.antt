@@ -55,6 +55,12 @@ check_line n = counted (codes "ok records ") n.records ++ counted (codes " inter
 abbrev pub check_text : Content → List ℕ
 check_text d = check_line (counts_of d)
 
+-- ---- an audit
+
+-- the line of a log that is the file of a run
+unfoldable pub agree_text : List ℕ
+agree_text = codes "agree\n"
+
 -- ---- a recording
 
 -- its line: turns, instructions, records given up, bytes kept, and how it ended

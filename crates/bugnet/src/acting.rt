@@ -12,6 +12,8 @@ ghost use Rattle.bugnet.specs.Run.{call, printing, Tells};
 ghost use Rattle.bugnet.specs.declared.refusal.Refusal.TheVariants.{OutOfMemory};
 
 use crate::answer::{Answer, Reading, Recording};
+use crate::auditing::print_agreement;
+use crate::demonstrating::print_lines;
 use crate::joining::print_joint;
 use crate::logs::interval_mark;
 use crate::names::{Names, Role};
@@ -65,6 +67,7 @@ fn print_interval<O: Sink, X: Sink>(
     ensures err_later { X.faults err.old ≤ X.faults err.new }
     ensures write { result ≡ 13 → Rose (O.faults out.old) (O.faults out.new) ⊎ Rose (X.faults err.old) (X.faults err.new) }
     ensures words { result ≢ 2 }
+    ensures read { result ≢ 12 }
     ensures failed { result ≢ 3 }
     ensures missing { result ≢ 4 }
     ensures long { result ≢ 5 }
@@ -104,6 +107,7 @@ fn print_list<O: Sink, X: Sink>(
     ensures err_later { X.faults err.old ≤ X.faults err.new }
     ensures write { result ≡ 13 → Rose (O.faults out.old) (O.faults out.new) ⊎ Rose (X.faults err.old) (X.faults err.new) }
     ensures words { result ≢ 2 }
+    ensures read { result ≢ 12 }
     ensures failed { result ≢ 3 }
     ensures missing { result ≢ 4 }
     ensures long { result ≢ 5 }
@@ -127,6 +131,7 @@ fn print_check<O: Sink, X: Sink>(
     ensures err_later { X.faults err.old ≤ X.faults err.new }
     ensures write { result ≡ 13 → Rose (O.faults out.old) (O.faults out.new) ⊎ Rose (X.faults err.old) (X.faults err.new) }
     ensures words { result ≢ 2 }
+    ensures read { result ≢ 12 }
     ensures failed { result ≢ 3 }
     ensures missing { result ≢ 4 }
     ensures long { result ≢ 5 }
@@ -173,6 +178,7 @@ fn keep<S: Store, O: Sink, X: Sink>(
     ensures out_later { O.faults out.old ≤ O.faults out.new }
     ensures err_later { X.faults err.old ≤ X.faults err.new }
     ensures words { result ≢ 2 }
+    ensures read { result ≢ 12 }
     ensures failed { result ≡ 3 → Rose (S.counts store.old).faults (S.counts store.new).faults }
     ensures missing { result ≢ 4 }
     ensures long { result ≢ 5 }
@@ -206,6 +212,7 @@ pub fn act<S: Store, O: Sink, X: Sink>(
     ensures out_later { O.faults out.old ≤ O.faults out.new }
     ensures err_later { X.faults err.old ≤ X.faults err.new }
     ensures words { result ≢ 2 }
+    ensures read { result ≢ 12 }
     ensures failed { result ≡ 3 → Rose (S.counts store.old).faults (S.counts store.new).faults }
     ensures missing { result ≢ 4 }
     ensures long { result ≢ 5 }
@@ -216,6 +223,8 @@ pub fn act<S: Store, O: Sink, X: Sink>(
         Answer::Joined(reading) => print_joint(alloc, names, reading, out, err),
         Answer::Listed(log) => print_list(alloc, names, log, out, err),
         Answer::Checked(log) => print_check(alloc, names, log, out, err),
+        Answer::Agreed => print_agreement(alloc, names, out, err),
+        Answer::Demonstrated(lines) => print_lines(alloc, names, lines, out, err),
         Answer::Recorded(recording) => keep(alloc, names, recording, store, out, err),
     }
 }

@@ -5,13 +5,14 @@ ghost use Rattle.bugnet.specs.Commands.{IsByLog, list_of, check_of, replay_loade
 ghost use Rattle.bugnet.specs.Recordings.{end_status, end_word};
 ghost use Rattle.bugnet.specs.Outside.{Gives, IsOwn, LogTells, ProgramTells, IsPrinted};
 
-use crate::joining::JointReading;
 use crate::names::Names;
+use crate::pairs::JointReading;
 use crate::refusal::Refusal;
 use bn_base::{Image, Settings};
 use elf_loader::{ElfError, load};
 use log_file::{FileError, LogCounts, count_file, read_file};
 use log_order::KeptLog;
+use rv_text::Text;
 use sha2::{Digest, Sha256};
 use std::alloc::Global;
 
@@ -84,6 +85,10 @@ pub enum Answer {
     Listed(KeptLog),
     /// What a log has is counted.
     Checked(LogCounts),
+    /// A log is the file of the run of a list of turns.
+    Agreed,
+    /// The lines of a demonstration.
+    Demonstrated(Text),
 }
 
 /// The SHA-256 digest (FIPS 180-4).

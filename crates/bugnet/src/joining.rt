@@ -5,85 +5,22 @@ ghost use Rattle.bn_outside.specs.Files.{Files};
 ghost use Rattle.joint_replay.specs.declared.error.JointError.TheVariants.{Stuck};
 ghost use Rattle.joint_replay.specs.Joining.{run_all};
 ghost use Rattle.joint_replay.specs.Texts.{known_text, steps_text, memory_text, joint_text};
-ghost use Rattle.bugnet.specs.Commands.{IsByLog};
-ghost use Rattle.bugnet.specs.Joined.{position_text, positions_text, stuck_line, joint_of, IsJointOf, IsJoint};
+ghost use Rattle.bugnet.specs.Joined.{position_text, positions_text, stuck_line, IsJoint};
 ghost use Rattle.bugnet.specs.Joinings.{told_of_joint, stop_of, RanAs, ToldEnd};
-ghost use Rattle.bugnet.specs.Outside.{Gives, GivesBy, IsOwn, IsPrinted, ResultCause, WithFiles, Sent, Gathered};
+ghost use Rattle.bugnet.specs.Outside.{GivesBy, IsPrinted, ResultCause, WithFiles, Sent, Gathered};
 ghost use Rattle.bugnet.specs.Run.{printing, Tells};
 
-use crate::answer::{Answer, digest_of, load_program, read_log};
-use crate::loading::{ELF_LIMIT, LOG_LIMIT, fetch};
-use crate::names::{Names, Role};
+use crate::answer::Answer;
+use crate::names::Names;
+use crate::pairs::{JointReading, load_pair};
 use crate::printing::{refuse, send, send_block, send_short};
 use crate::refusal::Refusal;
-use bn_base::{HartId, Ic, Image};
+use bn_base::{HartId, Ic};
 use bn_outside::{Sink, Store, send_all};
 use joint_replay::laws::{runs_end, runs_go_on};
 use joint_replay::{Joint, JointError, write_known};
-use log_order::KeptLog;
 use rv_text::Text;
 use std::alloc::{AllocError, Global};
-
-/// A log to be replayed jointly, with its program.
-#[derive(Drop)]
-pub struct JointReading {
-    pub image: Image,
-    pub log: KeptLog,
-}
-
-// ---- what is answered
-
-// The joint replay of a log with a program file.
-fn join_log(alloc: Global, names: &Names, elf: &[u8], log: KeptLog) -> Result<Answer, Refusal>
-    ensures gives { Gives names.now (λ what. what ≡ joint_of names.now elf.now log) result }
-    ensures own { IsOwn result }
-    ensures prints { IfOk result IsPrinted }
-{
-    let found = digest_of(elf);
-    let head = *log.head();
-    if found != head.digest {
-        return Err(Refusal::ProgramDiffers {
-            kept: head.digest,
-            found,
-        });
-    }
-    match load_program(alloc, elf, &head.settings) {
-        Err(refusal) => Err(refusal),
-        Ok(image) => Ok(Answer::Joined(JointReading { image, log })),
-    }
-}
-
-// The joint replay of a log file with a program file.
-fn join_of(alloc: Global, names: &Names, elf: &[u8], log: &[u8]) -> Result<Answer, Refusal>
-    ensures gives { Gives names.now (IsByLog names.now log.now (joint_of names.now elf.now)) result }
-    ensures own { IsOwn result }
-    ensures prints { IfOk result IsPrinted }
-{
-    match read_log(alloc, log) {
-        Ok(log) => join_log(alloc, names, elf, log),
-        Err(refusal) => Err(refusal),
-    }
-}
-
-// Loads the program, and replays a log jointly.
-fn join_with<S: Store>(
-    alloc: Global,
-    names: &Names,
-    store: &mut S,
-    log: &[u8],
-) -> Result<Answer, Refusal>
-    ensures told { WithFiles (S.files store.old) (λ files. GivesBy names.now (λ files. IsJointOf files names.now log.now) files result) }
-    ensures same { S.files store.new ≡ S.files store.old }
-    ensures asks { S.saves store.new ≡ S.saves store.old }
-    ensures later { NoneFell (S.counts store.old) (S.counts store.new) }
-    ensures cause { ResultCause (S.counts store.old) (S.counts store.new) result }
-    ensures prints { IfOk result IsPrinted }
-{
-    match fetch(alloc, names, store, Role::Elf, ELF_LIMIT) {
-        Ok(elf) => join_of(alloc, names, &elf, log),
-        Err(refusal) => Err(refusal),
-    }
-}
 
 /// Loads a log and a program, and replays all intervals of the log together.
 pub fn join_files<S: Store>(alloc: Global, names: &Names, store: &mut S) -> Result<Answer, Refusal>
@@ -94,8 +31,8 @@ pub fn join_files<S: Store>(alloc: Global, names: &Names, store: &mut S) -> Resu
     ensures cause { ResultCause (S.counts store.old) (S.counts store.new) result }
     ensures prints { IfOk result IsPrinted }
 {
-    match fetch(alloc, names, store, Role::Log, LOG_LIMIT) {
-        Ok(log) => join_with(alloc, names, store, &log),
+    match load_pair(alloc, names, store) {
+        Ok(reading) => Ok(Answer::Joined(reading)),
         Err(refusal) => Err(refusal),
     }
 }
@@ -254,6 +191,18 @@ fn refuse_stuck<X: Sink>(
     }
 }
 
+/// Tells on err why a joint replay stopped, and answers the status.
+pub fn stop<X: Sink>(alloc: Global, names: &Names, error: &JointError, err: &mut X) -> u8
+    ensures told { ToldEnd names.now (Some error.now) result (X.written err.old) (X.written err.new) (X.faults err.old) (X.faults err.new) }
+    ensures later { X.faults err.old ≤ X.faults err.new }
+{
+    match error {
+        JointError::Replay(refusal) => refuse(alloc, names, &Refusal::ReplayStopped(*refusal), err),
+        JointError::Stuck { positions } => refuse_stuck(alloc, names, positions.as_slice(), err),
+        JointError::OutOfMemory => refuse(alloc, names, &Refusal::OutOfMemory, err),
+    }
+}
+
 // Tells on err why a joint replay stopped, if it did, and answers the status.
 fn end<X: Sink>(alloc: Global, names: &Names, stopped: &Option<JointError>, err: &mut X) -> u8
     ensures told { ToldEnd names.now stopped.now result (X.written err.old) (X.written err.new) (X.faults err.old) (X.faults err.new) }
@@ -261,15 +210,7 @@ fn end<X: Sink>(alloc: Global, names: &Names, stopped: &Option<JointError>, err:
 {
     match stopped {
         None => 0,
-        Some(error) => match error {
-            JointError::Replay(refusal) => {
-                refuse(alloc, names, &Refusal::ReplayStopped(*refusal), err)
-            }
-            JointError::Stuck { positions } => {
-                refuse_stuck(alloc, names, positions.as_slice(), err)
-            }
-            JointError::OutOfMemory => refuse(alloc, names, &Refusal::OutOfMemory, err),
-        },
+        Some(error) => stop(alloc, names, error, err),
     }
 }
 
@@ -286,6 +227,7 @@ pub fn print_joint<O: Sink, X: Sink>(
     ensures err_later { X.faults err.old ≤ X.faults err.new }
     ensures write { result ≡ 13 → Rose (O.faults out.old) (O.faults out.new) ⊎ Rose (X.faults err.old) (X.faults err.new) }
     ensures words { result ≢ 2 }
+    ensures read { result ≢ 12 }
     ensures failed { result ≢ 3 }
     ensures missing { result ≢ 4 }
     ensures long { result ≢ 5 }

@@ -1,19 +1,24 @@
 // What holds of answers.
-ghost use Rattle.bugnet.specs.Laws.{OneAnswer, SeedsAreWhole, FilesKeepToTheirSize};
+ghost use Rattle.bugnet.specs.Debugging.{SessionsShowTheRun, RecordingsCanBeDebugged};
+ghost use Rattle.bugnet.specs.Laws.{OneAnswer, OneSession, SeedsAreWhole, FilesKeepToTheirSize};
+ghost use Rattle.bugnet.specs.Agreements.{AuditsAgree};
 ghost use Rattle.bugnet.specs.Complete.{EachHasAnAnswer, EachCanBeDone};
 ghost use Rattle.bugnet.specs.Headline.{Headline, RecordingsAreReplayed};
 ghost use Rattle.bugnet.specs.Jointly.{JointHeadline, RecordingsCanBeJoined, RecordingsAreJoined};
 
 use file_laws::logs_are_contents;
-use hart_worker::seeded_lists_end;
-use joint_laws::files_say_the_run_jointly;
+use hart_worker::{seeded_lists_end, whole_runs_have_no_error};
+use joint_laws::{
+    beginnings_go_on, files_say_the_run_jointly, own_logs_are_logs,
+    reached_joint_replays_say_the_run, steps_are_not_refused,
+};
 use log_file::laws::{
     files_have_their_size, files_say_one_thing, logs_are_not_refused, refusals_are_unique,
 };
 use log_file::readings::files_are_read_or_refused;
 use replay_laws::{the_log_suffices, the_rows_of_an_interval_stand_together};
 use run_laws::{kept_records_are_an_end, own_rows_are_turns, turns_are_lawful, turns_are_own};
-use run_model::format_1_is_version_1;
+use run_model::{format_1_is_version_1, verdicts_are_unique};
 
 /// No words have two answers, whatever the files are; but a recording without a seed has one for each
 /// list of turns, and of a lean one without a seed nothing is said.
@@ -23,6 +28,38 @@ pub fn one_answer()
     files_say_one_thing();
     logs_are_not_refused();
     refusals_are_unique();
+}
+
+/// A session of the debugger has one answer for the commands that are read.
+pub fn one_session()
+    ensures { OneSession }
+{
+    files_say_one_thing();
+    logs_are_not_refused();
+    refusals_are_unique();
+}
+
+/// Wherever a session over the log of a recording comes by its commands, its replay isn't refused, and
+/// what it shows is the run's: the order of the steps, the rows, the states of the harts, and the words.
+pub fn sessions_show_the_run()
+    ensures { SessionsShowTheRun }
+{
+    own_logs_are_logs();
+    beginnings_go_on();
+    steps_are_not_refused();
+    reached_joint_replays_say_the_run();
+}
+
+/// Where the log file of a recording and its program file are there, the program file within its limit,
+/// and the commands are read whole and keep to their limits, there is all that a session of the debugger
+/// needs: it isn't stopped.
+pub fn recordings_can_be_debugged()
+    ensures { RecordingsCanBeDebugged }
+{
+    sessions_show_the_run();
+    logs_are_contents();
+    format_1_is_version_1();
+    files_have_their_size();
 }
 
 /// The answer to the replay of an interval from the log file of a run is the text of the run's own
@@ -78,6 +115,8 @@ pub fn each_has_an_answer()
 pub fn each_can_be_done()
     ensures { EachCanBeDone }
 {
+    verdicts_are_unique();
+    whole_runs_have_no_error();
     one_answer();
     seeds_are_whole();
     turns_are_lawful();
@@ -89,6 +128,15 @@ pub fn each_can_be_done()
     logs_are_contents();
     format_1_is_version_1();
     files_have_their_size();
+}
+
+/// Where an audit is done, the log is the file of the run of the book's turns, with settings in range, the
+/// program and the input, and these turns are legal and finished.
+pub fn audits_agree()
+    ensures { AuditsAgree }
+{
+    verdicts_are_unique();
+    whole_runs_have_no_error();
 }
 
 /// Of the files that a recording leaves, the replay of each interval whose Header the log keeps prints

@@ -6,6 +6,9 @@
 
 mod acting;
 mod answer;
+mod auditing;
+mod debugging;
+mod demonstrating;
 mod joining;
 mod laws;
 mod lines;
@@ -13,6 +16,7 @@ mod loading;
 mod logs;
 mod manner;
 mod names;
+mod pairs;
 mod preparing;
 mod printing;
 mod program;
@@ -21,14 +25,14 @@ mod refusal;
 mod texts;
 
 pub use answer::{Answer, Reading, Recording, RunEnd};
-pub use joining::JointReading;
 pub use laws::{
-    each_can_be_done, each_has_an_answer, files_keep_to_their_size, headline, joint_headline,
-    one_answer, recordings_are_joined, recordings_are_replayed, recordings_can_be_joined,
-    seeds_are_whole,
+    audits_agree, each_can_be_done, each_has_an_answer, files_keep_to_their_size, headline,
+    joint_headline, one_answer, one_session, recordings_are_joined, recordings_are_replayed,
+    recordings_can_be_debugged, recordings_can_be_joined, seeds_are_whole, sessions_show_the_run,
 };
 pub use manner::Manner;
 pub use names::{Names, Role};
+pub use pairs::JointReading;
 pub use printing::Ending;
 pub use program::run;
 pub use refusal::Refusal;

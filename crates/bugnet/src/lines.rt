@@ -3,15 +3,17 @@ ghost use Rattle.std.specs.Prelude.{◌≡◌, ◌++◌, OnOk, codes, decimal};
 ghost use Rattle.rv_text.specs.Instructions.{hex8};
 ghost use Rattle.bn_base.specs.Ranges.{setting_name};
 ghost use Rattle.rv_text.specs.Marks.{mark_text};
-ghost use Rattle.bugnet.specs.Refusals.{digest_text, pair_text, digests_text, elf_said, log_said, replay_said, said_of, line_of};
+ghost use Rattle.bugnet.specs.Refusals.{digest_text, pair_text, digests_text, elf_said, log_said, replay_said, book_said, said_of, line_of};
+ghost use Rattle.bugnet.specs.Marks.{counted};
 
 use crate::names::Names;
 use crate::refusal::Refusal;
 use crate::texts::push_counted;
-use bn_base::{BadSetting, EndMark};
+use bn_base::{BadSetting, EndMark, HartId};
 use elf_loader::ElfError;
 use hart_replay::ReplayError;
 use log_file::FileError;
+use run_model::TurnError;
 use rv_text::{Text, write_mark};
 use std::alloc::{AllocError, Global};
 
@@ -160,6 +162,27 @@ fn push_replay(text: &mut Text, error: &ReplayError) -> Result<(), AllocError>
     }
 }
 
+// Appends a turn and its hart.
+fn push_turn(text: &mut Text, at: u64, hart: HartId) -> Result<(), AllocError>
+    ensures { OnOk result (text.new ≡ text.old ++ (counted (codes "book: turn ") at ++ counted (codes " hart ") hart)) }
+{
+    push_counted(text, "book: turn ", at)?;
+    push_counted(text, " hart ", u64::from(hart))
+}
+
+#[tactic(auto, unfolding(crate::specs::Refusals::book_said))]
+fn push_book(text: &mut Text, error: &TurnError) -> Result<(), AllocError>
+    ensures { OnOk result (text.new ≡ text.old ++ book_said error.now) }
+{
+    match error {
+        TurnError::IllegalTurn { at, hart } => push_turn(text, *at, *hart),
+        TurnError::NotFinished { live } => {
+            push_counted(text, "book: unfinished ", u64::from(*live))
+        }
+        TurnError::OutOfMemory => text.push_str("out of memory"),
+    }
+}
+
 fn push_setting(text: &mut Text, bad: &BadSetting) -> Result<(), AllocError>
     ensures { OnOk result (text.new ≡ text.old ++ (codes "setting " ++ setting_name bad.now.field ++ codes " " ++ decimal bad.now.value)) }
 {
@@ -190,6 +213,11 @@ impl Refusal {
             Refusal::OutOfMemory => text.push_str("out of memory"),
             Refusal::WriteFailed => text.push_str("write failed"),
             Refusal::ReplayStopped(error) => push_replay(text, error),
+            Refusal::ReadFailed => text.push_str("read failed"),
+            Refusal::LineTooLong => text.push_str("line too long"),
+            Refusal::CommandsTooLong => text.push_str("commands too long"),
+            Refusal::BookRefused(error) => push_book(text, error),
+            Refusal::FileDiffers { at_byte } => push_counted(text, "differs at ", *at_byte),
         }
     }
 

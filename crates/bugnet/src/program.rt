@@ -1,10 +1,13 @@
 // The program: it reads its words, loads, answers, saves and prints.
-ghost use Rattle.std.specs.Prelude.{◌≡◌, ◌≤◌, ◌⊎◌, Some, IfOk};
+ghost use Rattle.std.specs.Prelude.{◌≡◌, ◌≢◌, ◌≤◌, ◌⊎◌, true, Some, IfOk};
 ghost use Rattle.bn_outside.specs.Counts.{Rose, NoneFell};
 ghost use Rattle.command_words.specs.Words.{command_in, seen, seen_recording};
 ghost use Rattle.bugnet.specs.Answers.{names_in, manner_of, refusal_in, IsAnswer};
 ghost use Rattle.bugnet.specs.Asks.{LineSaves, RecordsRun};
-ghost use Rattle.bugnet.specs.Laws.{IsNoRecording};
+ghost use Rattle.bugnet.specs.Laws.{IsNoRecording, IsNoSession};
+ghost use Rattle.bugnet.specs.Sessions.{is_begun};
+ghost use Rattle.bugnet.specs.Debugging.{Debugs};
+ghost use Rattle.bugnet.specs.Agreements.{AuditsRun};
 ghost use Rattle.bugnet.specs.Complete.{IsDone};
 ghost use Rattle.bugnet.specs.Headline.{PrintsRun};
 ghost use Rattle.bugnet.specs.Jointly.{PrintsJointly};
@@ -14,10 +17,13 @@ ghost use Rattle.bugnet.specs.Run.{call, TellsAnswer, ByWords, Keeps, ChangesFew
 
 use crate::acting::act;
 use crate::answer::Answer;
+use crate::auditing::audit_files;
+use crate::debugging::debug_files;
+use crate::demonstrating::demonstrate;
 use crate::joining::join_files;
 use crate::laws::{
-    each_can_be_done, files_keep_to_their_size, headline, joint_headline, one_answer,
-    seeds_are_whole,
+    audits_agree, each_can_be_done, files_keep_to_their_size, headline, joint_headline, one_answer,
+    seeds_are_whole, sessions_show_the_run,
 };
 use crate::loading::{check_files, list_files, replay_files};
 use crate::manner::Manner;
@@ -28,7 +34,10 @@ use crate::refusal::Refusal;
 use bn_outside::{Gate, Sink, Source, Store};
 use command_words::{Command, Recording, WordsError, read_words};
 use file_laws::logs_are_contents;
-use log_file::laws::files_have_their_size;
+use log_file::laws::{
+    files_have_their_size, files_say_one_thing, logs_are_not_refused, refusals_are_unique,
+};
+use run_model::format_1_is_version_1;
 use std::alloc::Global;
 use std::sync::Wait;
 use std::thread::Threads;
@@ -56,8 +65,26 @@ fn names_of<'a>(command: &Command<'a>) -> Names<'a>
             book: "",
             input: "",
         },
+        Command::Debug { log, elf } => Names {
+            elf,
+            log,
+            book: "",
+            input: "",
+        },
         Command::List { log } => Names::of_log(log),
         Command::Check { log } => Names::of_log(log),
+        Command::Audit {
+            log,
+            elf,
+            book,
+            input,
+        } => Names {
+            elf,
+            log,
+            book,
+            input: input.unwrap_or(""),
+        },
+        Command::Demo { .. } => Names::none(),
     }
 }
 
@@ -71,7 +98,7 @@ fn manner_of(recording: &Recording) -> Manner
     }
 }
 
-// What a command answers. Nothing is saved or printed yet.
+// What a command answers that reads no commands. Nothing is saved or printed yet.
 fn answer_to<S: Store, G: Gate, R: Threads + Wait + Sync>(
     rt: &R,
     alloc: Global,
@@ -80,7 +107,8 @@ fn answer_to<S: Store, G: Gate, R: Threads + Wait + Sync>(
     store: &mut S,
     gate: &G,
 ) -> Result<Answer, Refusal>
-    requires { names.now ≡ names_in (seen command.now) }
+    requires named { names.now ≡ names_in (seen command.now) }
+    requires no_session { IsNoSession (Some (seen command.now)) }
     ensures told { WithFiles (S.files store.old) (λ files. GivesBy names.now (IsAnswer (Some (seen command.now))) files result) }
     ensures same { S.files store.new ≡ S.files store.old }
     ensures later { NoneFell (S.counts store.old) (S.counts store.new) }
@@ -105,21 +133,27 @@ fn answer_to<S: Store, G: Gate, R: Threads + Wait + Sync>(
             alloc, names, store, *hart, *interval,
         ),
         Command::Joint { .. } => join_files(alloc, names, store),
+        Command::Debug { .. } => unreachable!(),
         Command::List { .. } => list_files(alloc, names, store),
         Command::Check { .. } => check_files(alloc, names, store),
+        Command::Audit { input, .. } => audit_files(alloc, names, input.is_some(), store),
+        Command::Demo { seed } => demonstrate(alloc, names, *seed),
     }
 }
 
-// Does what a command asks for.
-fn obey<S: Store, O: Sink, X: Sink, G: Gate, R: Threads + Wait + Sync>(
+// Does what a command asks for that reads no commands.
+fn perform<S: Store, O: Sink, X: Sink, G: Gate, R: Threads + Wait + Sync>(
     rt: &R,
     alloc: Global,
     command: &Command,
+    names: &Names,
     store: &mut S,
     out: &mut O,
     err: &mut X,
     gate: &G,
 ) -> u8
+    requires named { names.now ≡ names_in (seen command.now) }
+    requires no_session { IsNoSession (Some (seen command.now)) }
     ensures told { TellsAnswer (Some (seen command.now)) result (call S.files S.counts O.written O.faults X.written X.faults store.old out.old err.old store.new out.new err.new) }
     ensures words { ByWords (Some (seen command.now)) result (call S.files S.counts O.written O.faults X.written X.faults store.old out.old err.old store.new out.new err.new) }
     ensures later { NoneFell (S.counts store.old) (S.counts store.new) }
@@ -132,15 +166,59 @@ fn obey<S: Store, O: Sink, X: Sink, G: Gate, R: Threads + Wait + Sync>(
     ensures missing { result ≡ 4 → Rose (S.counts store.old).misses (S.counts store.new).misses }
     ensures long { result ≡ 5 → Rose (S.counts store.old).longs (S.counts store.new).longs }
     ensures write { result ≡ 13 → Rose (O.faults out.old) (O.faults out.new) ⊎ Rose (X.faults err.old) (X.faults err.new) }
+    ensures read { result ≢ 12 }
 {
     seeds_are_whole();
     files_keep_to_their_size();
     logs_are_contents();
     files_have_their_size();
+    match answer_to(rt, alloc, command, names, store, gate) {
+        Err(refusal) => refuse(alloc, names, &refusal, err),
+        Ok(answer) => act(alloc, names, &answer, store, out, err),
+    }
+}
+
+// Does what a command asks for.
+fn obey<S: Store, I: Source, O: Sink, X: Sink, G: Gate, R: Threads + Wait + Sync>(
+    rt: &R,
+    alloc: Global,
+    command: &Command,
+    store: &mut S,
+    input: &mut I,
+    out: &mut O,
+    err: &mut X,
+    gate: &G,
+) -> u8
+    ensures told { TellsAnswer (Some (seen command.now)) result (call S.files S.counts O.written O.faults X.written X.faults store.old out.old err.old store.new out.new err.new) }
+    ensures words { ByWords (Some (seen command.now)) result (call S.files S.counts O.written O.faults X.written X.faults store.old out.old err.old store.new out.new err.new) }
+    ensures later { NoneFell (S.counts store.old) (S.counts store.new) }
+    ensures out_later { O.faults out.old ≤ O.faults out.new }
+    ensures err_later { X.faults err.old ≤ X.faults err.new }
+    ensures recorded { LeavesRun (Some (seen command.now)) result (S.files store.old) (S.files store.new) }
+    ensures still { IsNoRecording (Some (seen command.now)) → S.files store.new ≡ S.files store.old }
+    ensures saves { LineSaves (Some (seen command.now)) result (S.saves store.old) (S.saves store.new) }
+    ensures session { Debugs (Some (seen command.now)) result (I.left input.old) (I.left input.new) (I.faults input.old) (I.faults input.new)
+        (call S.files S.counts O.written O.faults X.written X.faults store.old out.old err.old store.new out.new err.new) }
+    ensures first { (is_begun result ≡ true) ⊎ (input.new ≡ input.old) }
+    ensures unread { IsNoSession (Some (seen command.now)) → input.new ≡ input.old }
+    ensures read { result ≡ 12 → Rose (I.faults input.old) (I.faults input.new) }
+    ensures read_later { I.faults input.old ≤ I.faults input.new }
+    ensures failed { result ≡ 3 → Rose (S.counts store.old).faults (S.counts store.new).faults }
+    ensures missing { result ≡ 4 → Rose (S.counts store.old).misses (S.counts store.new).misses }
+    ensures long { result ≡ 5 → Rose (S.counts store.old).longs (S.counts store.new).longs }
+    ensures write { result ≡ 13 → Rose (O.faults out.old) (O.faults out.new) ⊎ Rose (X.faults err.old) (X.faults err.new) }
+{
+    files_say_one_thing();
+    logs_are_not_refused();
+    refusals_are_unique();
+    sessions_show_the_run();
+    logs_are_contents();
+    format_1_is_version_1();
+    files_have_their_size();
     let names = names_of(command);
-    match answer_to(rt, alloc, command, &names, store, gate) {
-        Err(refusal) => refuse(alloc, &names, &refusal, err),
-        Ok(answer) => act(alloc, &names, &answer, store, out, err),
+    match command {
+        Command::Debug { .. } => debug_files(alloc, &names, store, input, out, err),
+        _ => perform(rt, alloc, command, &names, store, out, err, gate),
     }
 }
 
@@ -152,8 +230,11 @@ fn obey<S: Store, O: Sink, X: Sink, G: Gate, R: Threads + Wait + Sync>(
 /// | `record [SETTINGS] [--seed N] [--lean] [--input FILE] ELF LOG BOOK` | runs the program, and saves its log and the list of its turns |
 /// | `replay LOG ELF HART INTERVAL` | prints what the recorded run did in one interval, instruction by instruction |
 /// | `joint LOG ELF` | prints what all harts did in the intervals that the log keeps, in an order that its Edges allow, and the words of memory that are known then |
+/// | `debug LOG ELF` | steps through what `joint` prints, by commands that it reads from `input`, a line each |
 /// | `list LOG` | prints a line for each interval that the log keeps, in the order of their Headers |
 /// | `check LOG` | prints what the log has |
+/// | `audit LOG ELF BOOK [--input FILE]` | runs the program again by the turns of BOOK, with the settings of the log, and says whether LOG is the file of that run |
+/// | `demo SEED` | records a generated program, reads its log back, replays all that it keeps, and prints what was counted |
 ///
 /// A recording does this, in order: it tests the settings, and that LOG and BOOK are two names, loads
 /// ELF, loads FILE, which else is empty, runs the program, saves the log under LOG and the list of turns
@@ -174,9 +255,13 @@ fn obey<S: Store, O: Sink, X: Sink, G: Gate, R: Threads + Wait + Sync>(
 /// | 7 | LOG is no log file |
 /// | 8 | the SHA-256 of ELF isn't the one in the log |
 /// | 9 | memory was wanting |
+/// | 12 | reading commands failed |
 /// | 13 | writing to out or err failed |
 /// | 14 | the log keeps no such interval |
 /// | 15 | the program doesn't do what the log says, or its Edges wait for each other |
+/// | 16 | the audited LOG isn't the file of the run |
+/// | 17 | BOOK isn't a whole run: a hart isn't live at its turn, or is live after the last |
+/// | 18 | a line of commands has more than 256 bytes, or they have more than 2^24 |
 ///
 /// For each status but 0, 10 and 11 a line on err says more.
 pub fn run<S: Store, I: Source, O: Sink, X: Sink, G: Gate, R: Threads + Wait + Sync>(
@@ -224,23 +309,38 @@ pub fn run<S: Store, I: Source, O: Sink, X: Sink, G: Gate, R: Threads + Wait + S
     // its size; where there is a seed that of the run that it chooses.
     ensures recorded { LeavesRun (command_in words.now) result (S.files store.old) (S.files store.new) }
 
+    // Only `debug` reads commands, and only once its files are loaded and tested. What they make it tell
+    // is told: the text of its session, up to a read that failed, a line or commands that are too long, or
+    // a refusal of the replay. It reads nothing behind `quit`. Where the log is a recording's, all that it
+    // shows is the run's, and no replay is refused.
+    ensures session { Debugs (command_in words.now) result (I.left input.old) (I.left input.new) (I.faults input.old) (I.faults input.new)
+        (call S.files S.counts O.written O.faults X.written X.faults store.old out.old err.old store.new out.new err.new) }
+    ensures first { (is_begun result ≡ true) ⊎ (input.new ≡ input.old) }
+    ensures unread { IsNoSession (command_in words.now) → input.new ≡ input.old }
+
+    // Where an audit is done, LOG is the file of the run of BOOK's turns, which are legal and finished, with
+    // settings in range, the program and the input.
+    ensures audited { WithFiles (S.files store.old) (λ files. AuditsRun (command_in words.now) files result) }
+
     // A refusal by the outside comes only where its count rose, and no count falls.
     ensures failed { result ≡ 3 → Rose (S.counts store.old).faults (S.counts store.new).faults }
     ensures missing { result ≡ 4 → Rose (S.counts store.old).misses (S.counts store.new).misses }
     ensures long { result ≡ 5 → Rose (S.counts store.old).longs (S.counts store.new).longs }
+    ensures read { result ≡ 12 → Rose (I.faults input.old) (I.faults input.new) }
     ensures write { result ≡ 13 → Rose (O.faults out.old) (O.faults out.new) ⊎ Rose (X.faults err.old) (X.faults err.new) }
     ensures later { NoneFell (S.counts store.old) (S.counts store.new) }
     ensures out_later { O.faults out.old ≤ O.faults out.new }
     ensures err_later { X.faults err.old ≤ X.faults err.new }
-    ensures input { input.new ≡ input.old }
+    ensures read_later { I.faults input.old ≤ I.faults input.new }
 {
     headline();
     joint_headline();
     one_answer();
     each_can_be_done();
+    audits_agree();
     match read_words(alloc, words) {
         Err(WordsError::Refused) => refuse(alloc, &Names::none(), &Refusal::WordsRefused, err),
         Err(WordsError::OutOfMemory) => refuse(alloc, &Names::none(), &Refusal::OutOfMemory, err),
-        Ok(command) => obey(rt, alloc, &command, store, out, err, gate),
+        Ok(command) => obey(rt, alloc, &command, store, input, out, err, gate),
     }
 }

@@ -8,6 +8,7 @@ use bn_base::BadSetting;
 use elf_loader::ElfError;
 use hart_replay::ReplayError;
 use log_file::FileError;
+use run_model::TurnError;
 use std::alloc::AllocError;
 
 /// Why a command is refused. An error held in a refusal is never its OutOfMemory.
@@ -37,6 +38,16 @@ pub enum Refusal {
     WriteFailed,
     /// The log keeps no such interval, or its replay can't go on.
     ReplayStopped(ReplayError),
+    /// Reading commands failed.
+    ReadFailed,
+    /// A line of commands has more than 256 bytes.
+    LineTooLong,
+    /// The commands have more than 2^24 bytes.
+    CommandsTooLong,
+    /// The list of turns isn't a whole run of the program.
+    BookRefused(TurnError),
+    /// The log isn't the file of the run: they differ first at this byte.
+    FileDiffers { at_byte: u64 },
 }
 
 impl From<AllocError> for Refusal {
@@ -76,6 +87,11 @@ impl Refusal {
             Refusal::OutOfMemory => 9,
             Refusal::WriteFailed => 13,
             Refusal::ReplayStopped(error) => replay_status(error),
+            Refusal::ReadFailed => 12,
+            Refusal::LineTooLong => 18,
+            Refusal::CommandsTooLong => 18,
+            Refusal::BookRefused(_) => 17,
+            Refusal::FileDiffers { .. } => 16,
         }
     }
 }

@@ -2,7 +2,7 @@
 use Rattle.std.proofs.Common.{◌≡◌, [], ◌∷◌, codes, Some, None, true, refl}
 use Rattle.clap.proofs.OnLiterals.{clap_on_literals}
 use Rattle.bn_base.specs.Ranges.{default_settings}
-use Rattle.command_words.specs.Words.{RecordLine, ReplayLine, JointLine, ListLine, CheckLine, line_of}
+use Rattle.command_words.specs.Words.{RecordLine, ReplayLine, JointLine, DebugLine, ListLine, CheckLine, AuditLine, DemoLine, line_of}
 use Rattle.command_words.specs.Examples.{said, plain}
 
 pub before : said (codes "record" ∷ codes "--seed" ∷ codes "5" ∷ codes "E" ∷ codes "L" ∷ codes "B" ∷ []) ≡ Some (RecordLine plain)
@@ -29,6 +29,10 @@ pub joint : said (codes "joint" ∷ codes "L" ∷ codes "E" ∷ []) ≡ Some (Jo
 unfolding line_of clap_on_literals
 joint = refl
 
+pub debug : said (codes "debug" ∷ codes "L" ∷ codes "E" ∷ []) ≡ Some (DebugLine (codes "L") (codes "E"))
+unfolding line_of clap_on_literals
+debug = refl
+
 pub list : said (codes "list" ∷ codes "L" ∷ []) ≡ Some (ListLine (codes "L"))
 unfolding line_of clap_on_literals
 list = refl
@@ -36,6 +40,18 @@ list = refl
 pub check : said (codes "check" ∷ codes "L" ∷ []) ≡ Some (CheckLine (codes "L"))
 unfolding line_of clap_on_literals
 check = refl
+
+pub audit : said (codes "audit" ∷ codes "L" ∷ codes "E" ∷ codes "B" ∷ []) ≡ Some (AuditLine (codes "L") (codes "E") (codes "B") None)
+unfolding line_of clap_on_literals
+audit = refl
+
+pub audit_input : said (codes "audit" ∷ codes "L" ∷ codes "--input=F" ∷ codes "E" ∷ codes "B" ∷ []) ≡ Some (AuditLine (codes "L") (codes "E") (codes "B") (Some (codes "F")))
+unfolding line_of clap_on_literals
+audit_input = refl
+
+pub demo : said (codes "demo" ∷ codes "7" ∷ []) ≡ Some (DemoLine 7)
+unfolding line_of clap_on_literals
+demo = refl
 
 pub signed : said (codes "replay" ∷ codes "L" ∷ codes "E" ∷ codes "0" ∷ codes "+5" ∷ []) ≡ Some (ReplayLine (codes "L") (codes "E") 0 5)
 unfolding line_of clap_on_literals
@@ -96,6 +112,14 @@ no_seed_number = refl
 pub no_name : said (codes "record" ∷ codes "--seed=5" ∷ codes "E" ∷ codes "L" ∷ []) ≡ None
 unfolding line_of clap_on_literals
 no_name = refl
+
+pub no_book : said (codes "audit" ∷ codes "L" ∷ codes "E" ∷ []) ≡ None
+unfolding line_of clap_on_literals
+no_book = refl
+
+pub no_demo_seed : said (codes "demo" ∷ []) ≡ None
+unfolding line_of clap_on_literals
+no_demo_seed = refl
 
 pub one_more : said (codes "check" ∷ codes "L" ∷ codes "L" ∷ []) ≡ None
 unfolding line_of clap_on_literals

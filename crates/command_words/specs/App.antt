@@ -53,13 +53,22 @@ abbrev pub replay_app : App
 replay_app = with_rules (new_app (codes "replay"))
     (word (codes "log") ∷ word (codes "elf") ∷ number_word (codes "hart") ∷ number_word (codes "interval") ∷ [])
 
--- `joint LOG ELF`
-abbrev pub joint_app : App
-joint_app = with_rules (new_app (codes "joint")) (word (codes "log") ∷ word (codes "elf") ∷ [])
+-- `NAME LOG ELF`
+abbrev pub pair_app : Text → App
+pair_app name = with_rules (new_app name) (word (codes "log") ∷ word (codes "elf") ∷ [])
 
 -- `NAME LOG`
 abbrev pub log_app : Text → App
 log_app name = with_rules (new_app name) (word (codes "log") ∷ [])
+
+-- `audit LOG ELF BOOK [--input FILE]`
+abbrev pub audit_app : App
+audit_app = with_rules (new_app (codes "audit"))
+    (text_option (codes "input") ∷ word (codes "log") ∷ word (codes "elf") ∷ word (codes "book") ∷ [])
+
+-- `demo SEED`
+abbrev pub demo_app : App
+demo_app = with_rules (new_app (codes "demo")) (number_word (codes "seed") ∷ [])
 
 -- a line names one of the subcommands
 abbrev pub top_app : App
@@ -74,7 +83,8 @@ with_subcommands a (s ∷ ss) = with_subcommands (with_subcommand a s) ss
 -- the whole command
 abbrev pub bugnet_app : App
 bugnet_app = with_subcommands top_app
-    (record_app.top ∷ replay_app.top ∷ joint_app.top ∷ (log_app (codes "list")).top ∷ (log_app (codes "check")).top ∷ [])
+    (record_app.top ∷ replay_app.top ∷ (pair_app (codes "joint")).top ∷ (pair_app (codes "debug")).top
+    ∷ (log_app (codes "list")).top ∷ (log_app (codes "check")).top ∷ audit_app.top ∷ demo_app.top ∷ [])
 
 -- the command is seen as this, and has nothing global
 abbrev pub IsSeenAs : App → Command → Type 0

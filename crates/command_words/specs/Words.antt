@@ -33,8 +33,14 @@ pub data Line : Type 0 where
   ReplayLine : List ℕ → List ℕ → ℕ → ℕ → Line
   -- log, elf
   JointLine : List ℕ → List ℕ → Line
+  -- log, elf
+  DebugLine : List ℕ → List ℕ → Line
   ListLine : List ℕ → Line
   CheckLine : List ℕ → Line
+  -- log, elf, book, input
+  AuditLine : List ℕ → List ℕ → List ℕ → Option (List ℕ) → Line
+  -- seed
+  DemoLine : ℕ → Line
 
 -- what a contract sees of a recording: the texts behind its references
 abbrev pub seen_recording : Recording → RecordingLine
@@ -53,8 +59,11 @@ abbrev pub seen : Command → Line
 seen (command.Record recording) = RecordLine (seen_recording recording)
 seen (command.Replay log elf hart interval) = ReplayLine log.now elf.now hart interval
 seen (command.Joint log elf) = JointLine log.now elf.now
+seen (command.Debug log elf) = DebugLine log.now elf.now
 seen (command.List log) = ListLine log.now
 seen (command.Check log) = CheckLine log.now
+seen (command.Audit log elf book input) = AuditLine log.now elf.now book.now (option_map (λ s. s.now) input)
+seen (command.Demo seed) = DemoLine seed
 
 -- ---- what was found for the arguments of a subcommand
 
@@ -134,20 +143,39 @@ joint_in rows =
     and_then (first_of (codes "elf") rows) (λ elf.
     Some (JointLine log elf)))
 
+abbrev pub debug_in : List Row → Option Line
+debug_in rows =
+    and_then (first_of (codes "log") rows) (λ log.
+    and_then (first_of (codes "elf") rows) (λ elf.
+    Some (DebugLine log elf)))
+
 abbrev pub list_in : List Row → Option Line
 list_in rows = option_map ListLine (first_of (codes "log") rows)
 
 abbrev pub check_in : List Row → Option Line
 check_in rows = option_map CheckLine (first_of (codes "log") rows)
 
+abbrev pub audit_in : List Row → Option Line
+audit_in rows =
+    and_then (first_of (codes "log") rows) (λ log.
+    and_then (first_of (codes "elf") rows) (λ elf.
+    and_then (first_of (codes "book") rows) (λ book.
+    Some (AuditLine log elf book (first_of (codes "input") rows)))))
+
+abbrev pub demo_in : List Row → Option Line
+demo_in rows = option_map DemoLine (number_at (codes "seed") rows)
+
 -- the line of the subcommand of this name, by what was found for its arguments
 abbrev pub named : Text → List Row → Option Line
 named name rows = if bytes_eq name (codes "record") then record_in rows
     else (if bytes_eq name (codes "replay") then replay_in rows
     else (if bytes_eq name (codes "joint") then joint_in rows
+    else (if bytes_eq name (codes "debug") then debug_in rows
     else (if bytes_eq name (codes "list") then list_in rows
     else (if bytes_eq name (codes "check") then check_in rows
-    else None))))
+    else (if bytes_eq name (codes "audit") then audit_in rows
+    else (if bytes_eq name (codes "demo") then demo_in rows
+    else None)))))))
 
 abbrev pub line_in : Option (Text × List Row) → Option Line
 line_in None = None

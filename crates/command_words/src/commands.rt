@@ -39,6 +39,11 @@ pub enum Command<'a> {
         log: &'a str,
         elf: &'a str,
     },
+    /// Step through the same replay by commands.
+    Debug {
+        log: &'a str,
+        elf: &'a str,
+    },
     /// List the intervals that a log keeps.
     List {
         log: &'a str,
@@ -46,5 +51,17 @@ pub enum Command<'a> {
     /// Check that a file is a log.
     Check {
         log: &'a str,
+    },
+    /// Compare a log with the file of the run by a list of turns, with the program's file and, if
+    /// there is one, the name of the file that the program reads as its input.
+    Audit {
+        log: &'a str,
+        elf: &'a str,
+        book: &'a str,
+        input: Option<&'a str>,
+    },
+    /// Record, read back and replay the program that is generated from a number.
+    Demo {
+        seed: u64,
     },
 }

@@ -3,7 +3,7 @@ ghost use Rattle.std.specs.Prelude.{◌≡◌, IfOk, codes};
 ghost use Rattle.clap.specs.Words.{app_of, rule_of};
 ghost use Rattle.clap.specs.declared.builder.command.Command.TheViews.{out-Command};
 ghost use Rattle.command_words.specs.App.{IsRule, IsSeenAs, number_option, flag, text_option, word, number_word};
-ghost use Rattle.command_words.specs.App.{settings_app, record_app, replay_app, joint_app, log_app, bugnet_app};
+ghost use Rattle.command_words.specs.App.{settings_app, record_app, replay_app, pair_app, log_app, audit_app, demo_app, bugnet_app};
 
 use clap::builder::ValueParser;
 use clap::{Arg, ArgAction, Command};
@@ -86,11 +86,11 @@ fn replay_command<'a>(alloc: Global) -> Result<Command<'a>, AllocError>
     command.arg(number_word(alloc, "interval"))
 }
 
-// `joint LOG ELF`
-fn joint_command<'a>(alloc: Global) -> Result<Command<'a>, AllocError>
-    ensures { IfOk result (IsSeenAs joint_app) }
+// `NAME LOG ELF`
+fn pair_command<'a>(alloc: Global, name: &'a str) -> Result<Command<'a>, AllocError>
+    ensures { IfOk result (IsSeenAs (pair_app name.entry.now)) }
 {
-    let command = Command::new(alloc, "joint");
+    let command = Command::new(alloc, name);
     let command = command.arg(word(alloc, "log"))?;
     command.arg(word(alloc, "elf"))
 }
@@ -102,6 +102,24 @@ fn log_command<'a>(alloc: Global, name: &'a str) -> Result<Command<'a>, AllocErr
     Command::new(alloc, name).arg(word(alloc, "log"))
 }
 
+// `audit LOG ELF BOOK [--input FILE]`
+fn audit_command<'a>(alloc: Global) -> Result<Command<'a>, AllocError>
+    ensures { IfOk result (IsSeenAs audit_app) }
+{
+    let command = Command::new(alloc, "audit");
+    let command = command.arg(text_option(alloc, "input"))?;
+    let command = command.arg(word(alloc, "log"))?;
+    let command = command.arg(word(alloc, "elf"))?;
+    command.arg(word(alloc, "book"))
+}
+
+// `demo SEED`
+fn demo_command<'a>(alloc: Global) -> Result<Command<'a>, AllocError>
+    ensures { IfOk result (IsSeenAs demo_app) }
+{
+    Command::new(alloc, "demo").arg(number_word(alloc, "seed"))
+}
+
 // The whole command, of which each line names one subcommand.
 pub fn bugnet_command<'a>(alloc: Global) -> Result<Command<'a>, AllocError>
     ensures { IfOk result (IsSeenAs bugnet_app) }
@@ -109,7 +127,10 @@ pub fn bugnet_command<'a>(alloc: Global) -> Result<Command<'a>, AllocError>
     let command = Command::new(alloc, "bugnet").subcommand_required(true);
     let command = command.subcommand(record_command(alloc)?)?;
     let command = command.subcommand(replay_command(alloc)?)?;
-    let command = command.subcommand(joint_command(alloc)?)?;
+    let command = command.subcommand(pair_command(alloc, "joint")?)?;
+    let command = command.subcommand(pair_command(alloc, "debug")?)?;
     let command = command.subcommand(log_command(alloc, "list")?)?;
-    command.subcommand(log_command(alloc, "check")?)
+    let command = command.subcommand(log_command(alloc, "check")?)?;
+    let command = command.subcommand(audit_command(alloc)?)?;
+    command.subcommand(demo_command(alloc)?)
 }

@@ -1,7 +1,7 @@
 // Lines whose meaning is worked out, so that the definition is seen at work.
 ghost use Rattle.std.specs.Prelude.{◌≡◌, ◌∷◌, [], Some, None, true, codes};
 ghost use Rattle.bn_base.specs.Ranges.{default_settings};
-ghost use Rattle.command_words.specs.Words.{RecordLine, ReplayLine, JointLine, ListLine, CheckLine, line_of};
+ghost use Rattle.command_words.specs.Words.{RecordLine, ReplayLine, JointLine, DebugLine, ListLine, CheckLine, AuditLine, DemoLine, line_of};
 ghost use Rattle.command_words.specs.Examples.{said, plain};
 
 /// Options stand before, between and after names, with `=` or in two words. Settings that aren't
@@ -17,12 +17,16 @@ pub fn options_stand_anywhere()
 {}
 
 /// The other commands, each with its names and numbers in order.
-#[tactic(auto, using(crate::proofs::Cases::replay, crate::proofs::Cases::joint, crate::proofs::Cases::list, crate::proofs::Cases::check))]
+#[tactic(auto, using(crate::proofs::Cases::replay, crate::proofs::Cases::joint, crate::proofs::Cases::debug, crate::proofs::Cases::list, crate::proofs::Cases::check, crate::proofs::Cases::audit, crate::proofs::Cases::audit_input, crate::proofs::Cases::demo))]
 pub fn each_command_is_taken()
     ensures replay { said (codes "replay" ∷ codes "L" ∷ codes "E" ∷ codes "3" ∷ codes "70" ∷ []) ≡ Some (ReplayLine (codes "L") (codes "E") 3 70) }
     ensures joint { said (codes "joint" ∷ codes "L" ∷ codes "E" ∷ []) ≡ Some (JointLine (codes "L") (codes "E")) }
     ensures list { said (codes "list" ∷ codes "L" ∷ []) ≡ Some (ListLine (codes "L")) }
     ensures check { said (codes "check" ∷ codes "L" ∷ []) ≡ Some (CheckLine (codes "L")) }
+    ensures debug { said (codes "debug" ∷ codes "L" ∷ codes "E" ∷ []) ≡ Some (DebugLine (codes "L") (codes "E")) }
+    ensures audit { said (codes "audit" ∷ codes "L" ∷ codes "E" ∷ codes "B" ∷ []) ≡ Some (AuditLine (codes "L") (codes "E") (codes "B") None) }
+    ensures input { said (codes "audit" ∷ codes "L" ∷ codes "--input=F" ∷ codes "E" ∷ codes "B" ∷ []) ≡ Some (AuditLine (codes "L") (codes "E") (codes "B") (Some (codes "F"))) }
+    ensures demo { said (codes "demo" ∷ codes "7" ∷ []) ≡ Some (DemoLine 7) }
 {}
 
 /// Numbers are decimal, may have a plus sign and leading zeros, and end below 2^64.
@@ -45,12 +49,14 @@ pub fn names_may_look_like_other_words()
 
 /// A word too few or too many, an option that is repeated, shortened or unknown, and what asks for
 /// help or the version are refused.
-#[tactic(auto, using(crate::proofs::Cases::no_words, crate::proofs::Cases::no_command, crate::proofs::Cases::no_seed_number, crate::proofs::Cases::no_name, crate::proofs::Cases::one_more, crate::proofs::Cases::valued, crate::proofs::Cases::repeated, crate::proofs::Cases::shortened, crate::proofs::Cases::unknown, crate::proofs::Cases::help, crate::proofs::Cases::help_of_a_command, crate::proofs::Cases::version))]
+#[tactic(auto, using(crate::proofs::Cases::no_words, crate::proofs::Cases::no_command, crate::proofs::Cases::no_seed_number, crate::proofs::Cases::no_name, crate::proofs::Cases::no_book, crate::proofs::Cases::no_demo_seed, crate::proofs::Cases::one_more, crate::proofs::Cases::valued, crate::proofs::Cases::repeated, crate::proofs::Cases::shortened, crate::proofs::Cases::unknown, crate::proofs::Cases::help, crate::proofs::Cases::help_of_a_command, crate::proofs::Cases::version))]
 pub fn other_lines_are_refused()
     ensures no_words { line_of [] ≡ None }
     ensures no_command { said [] ≡ None }
     ensures no_number { said (codes "record" ∷ codes "--seed" ∷ codes "E" ∷ codes "L" ∷ codes "B" ∷ []) ≡ None }
     ensures no_name { said (codes "record" ∷ codes "--seed=5" ∷ codes "E" ∷ codes "L" ∷ []) ≡ None }
+    ensures no_book { said (codes "audit" ∷ codes "L" ∷ codes "E" ∷ []) ≡ None }
+    ensures no_demo_seed { said (codes "demo" ∷ []) ≡ None }
     ensures one_more { said (codes "check" ∷ codes "L" ∷ codes "L" ∷ []) ≡ None }
     ensures valued { said (codes "record" ∷ codes "--lean=true" ∷ codes "E" ∷ codes "L" ∷ codes "B" ∷ []) ≡ None }
     ensures repeated { said (codes "record" ∷ codes "--seed=5" ∷ codes "--seed=5" ∷ codes "E" ∷ codes "L" ∷ codes "B" ∷ []) ≡ None }

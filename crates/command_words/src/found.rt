@@ -2,7 +2,7 @@
 ghost use Rattle.std.specs.Prelude.{◌≡◌, option_map, codes};
 ghost use Rattle.clap.specs.Words.{first_of, found_of, rows_of};
 ghost use Rattle.bn_base.specs.Ranges.{default_settings};
-ghost use Rattle.command_words.specs.Words.{seen, seen_recording, number_of, number_or, number_if, number_at, flag_in, settings_in, recording_in, record_in, replay_in, joint_in, list_in, check_in, named};
+ghost use Rattle.command_words.specs.Words.{seen, seen_recording, number_of, number_or, number_if, number_at, flag_in, settings_in, recording_in, record_in, replay_in, joint_in, debug_in, list_in, check_in, audit_in, demo_in, named};
 
 use crate::commands::{Command, Recording};
 use bn_base::RawSettings;
@@ -137,6 +137,14 @@ fn joint_in<'a>(matches: &ArgMatches<'a>) -> Option<Command<'a>>
     Some(Command::Joint { log, elf })
 }
 
+fn debug_in<'a>(matches: &ArgMatches<'a>) -> Option<Command<'a>>
+    ensures { option_map seen result ≡ debug_in (rows_of (found_of matches.now)) }
+{
+    let log = text_at(matches, "log")?;
+    let elf = text_at(matches, "elf")?;
+    Some(Command::Debug { log, elf })
+}
+
 fn list_in<'a>(matches: &ArgMatches<'a>) -> Option<Command<'a>>
     ensures { option_map seen result ≡ list_in (rows_of (found_of matches.now)) }
 {
@@ -151,6 +159,27 @@ fn check_in<'a>(matches: &ArgMatches<'a>) -> Option<Command<'a>>
     Some(Command::Check { log })
 }
 
+fn audit_in<'a>(matches: &ArgMatches<'a>) -> Option<Command<'a>>
+    ensures { option_map seen result ≡ audit_in (rows_of (found_of matches.now)) }
+{
+    let log = text_at(matches, "log")?;
+    let elf = text_at(matches, "elf")?;
+    let book = text_at(matches, "book")?;
+    Some(Command::Audit {
+        log,
+        elf,
+        book,
+        input: text_at(matches, "input"),
+    })
+}
+
+fn demo_in<'a>(matches: &ArgMatches<'a>) -> Option<Command<'a>>
+    ensures { option_map seen result ≡ demo_in (rows_of (found_of matches.now)) }
+{
+    let seed = number_at(matches, "seed")?;
+    Some(Command::Demo { seed })
+}
+
 // The command of the subcommand of this name, for whose arguments this was found.
 pub fn named<'a>(name: &str, matches: &ArgMatches<'a>) -> Option<Command<'a>>
     ensures { option_map seen result ≡ named name.now (rows_of (found_of matches.now)) }
@@ -161,10 +190,16 @@ pub fn named<'a>(name: &str, matches: &ArgMatches<'a>) -> Option<Command<'a>>
         replay_in(matches)
     } else if name == "joint" {
         joint_in(matches)
+    } else if name == "debug" {
+        debug_in(matches)
     } else if name == "list" {
         list_in(matches)
     } else if name == "check" {
         check_in(matches)
+    } else if name == "audit" {
+        audit_in(matches)
+    } else if name == "demo" {
+        demo_in(matches)
     } else {
         None
     }

@@ -30,8 +30,11 @@ fn matched<'a>(matches: &ArgMatches<'a>) -> Option<Command<'a>>
 ///        [--ways N] [--line N] [--seed N] [--lean] [--input FILE] ELF LOG BOOK
 /// replay LOG ELF HART INTERVAL
 /// joint LOG ELF
+/// debug LOG ELF
 /// list LOG
 /// check LOG
+/// audit LOG ELF BOOK [--input FILE]
+/// demo SEED
 /// ```
 ///
 /// Each number is in decimal digits, below 2^64, maybe with a `+` and leading zeros. An option that

@@ -15,7 +15,7 @@ use Rattle.bus_core.specs.Bus.{Began, Seen, IsState, IsLogged, first_run, run_af
 use Rattle.bus_core.specs.declared.closed.Closed.{Closed}
 use Rattle.hart_worker.specs.Closed.{IsOfRows}
 use Rattle.hart_worker.specs.Lists.{HasTaken, list_run, is_legal, live_harts_of, seeded_after, error_of}
-use Rattle.hart_worker.specs.declared.error.TurnError.TheVariants.{IllegalTurn, NotFinished}
+use Rattle.run_model.specs.declared.error.TurnError.TheVariants.{IllegalTurn, NotFinished}
 use Rattle.hart_worker.proofs.Errors.{error_at, error_first}
 
 -- ---- before the first turn

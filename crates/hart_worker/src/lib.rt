@@ -5,7 +5,6 @@
 mod choosing;
 mod comparing;
 mod desk;
-mod error;
 mod laws;
 mod listed;
 mod own_place;
@@ -16,7 +15,6 @@ mod turns;
 mod worker;
 
 pub use desk::{Desk, MemoryDesk, drive};
-pub use error::TurnError;
 pub use laws::{rows_name_their_harts, seeded_lists_end, whole_runs_have_no_error};
 pub use listed::Listed;
 pub use own_place::OwnPlace;

@@ -4,14 +4,14 @@ ghost use Rattle.bus_core.specs.Bus.{is_live};
 ghost use Rattle.hart_worker.specs.Lists.{HasTaken, is_finished, seeded_after, list_run, error_of};
 ghost use Rattle.bn_outside.specs.declared.turn_row.TurnRow.{TurnRow};
 ghost use Rattle.hart_worker.specs.Closed.{IsClosed, IsOfRows};
-ghost use Rattle.hart_worker.specs.declared.error.TurnError.TheVariants.{OutOfMemory};
+ghost use Rattle.run_model.specs.declared.error.TurnError.TheVariants.{OutOfMemory};
 
 use crate::choosing::{choose, draw};
-use crate::error::TurnError;
 use bn_base::HartId;
 use bn_outside::Book;
 use bus_core::{Bus, Closed};
 use run_laws::own_asks_are_orderly;
+use run_model::TurnError;
 use rv_meaning::{Ask, DecodedImage};
 use std::alloc::{AllocError, Global};
 

@@ -17,3 +17,4 @@ pub mod Worked
 pub mod Stands
 pub mod Shown
 pub mod Reached
+pub mod Texts

@@ -4,3 +4,4 @@ pub mod Chains
 pub mod Filled
 pub mod Laws
 pub mod Examples
+pub mod Corpus

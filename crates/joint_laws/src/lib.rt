@@ -8,8 +8,10 @@ ghost use Rattle.joint_laws.specs.Laws.{RunsToTheEnd, JointReplaysSayTheRun, Joi
 ghost use Rattle.joint_laws.specs.Chains.{ChainsLead};
 ghost use Rattle.joint_laws.specs.Filled.{FillsAreFilled};
 
+mod corpus;
 mod examples;
 
+pub use corpus::{recordings_of_one_hart_are_joined, recordings_of_several_harts_are_joined};
 use elf_loader::laws::loaded_programs_are_images;
 pub use examples::{a_relay_has_eighteen_orders, a_spoiled_store_has_ten_orders};
 use file_laws::{files_say_the_run, streams_are_in_order};

@@ -25,3 +25,4 @@ pub mod Onto
 pub mod Onward
 pub mod Positions
 pub mod Telling
+pub mod Firsts

@@ -182,7 +182,7 @@ same_taken : (t u : Taken) → ◌≡◌ {A = List Taken} (t ∷ []) (u ∷ []) 
 same_taken t u e = cc
 
 -- a step that is taken is the one of the shape
-is_onward : (j : Joining) (t : Taken) (next : Joining) → IsStep j t next → (o : Onward j) × (o.taken ≡ t) × (o.next ≡ next)
+pub is_onward : (j : Joining) (t : Taken) (next : Joining) → IsStep j t next → (o : Onward j) × (o.taken ≡ t) × (o.next ≡ next)
 is_onward j t next e = by (shape j)
   where
     by : Onward j ⊎ Over j → (o : Onward j) × (o.taken ≡ t) × (o.next ≡ next)
@@ -192,7 +192,7 @@ is_onward j t next e = by (shape j)
 all_is : (j : Joining) → run_all j ≡ run_for (suc (steps_left j.lanes)) (begun j)
 all_is j = let one : steps_left j.lanes + 1 ≡ suc (steps_left j.lanes) = omega arith in ap (λ n. run_for n (begun j)) one
 
-first_of : (j : Joining) (o : Onward j) → run_all j ≡ with_older (o.taken ∷ []) (run_all o.next)
+pub first_of : (j : Joining) (o : Onward j) → run_all j ≡ with_older (o.taken ∷ []) (run_all o.next)
 first_of j o =
     let less = o.fewer in
     all_is j ∙ o.goes [] (λ v. run_for (steps_left j.lanes) v) ∙ run_older (steps_left j.lanes) [] (o.taken ∷ []) o.next

@@ -9,6 +9,7 @@ pub mod Orders
 pub mod Texts
 pub mod Calls
 pub mod Runs
+pub mod Firsts
 pub mod Moves
 pub mod Together
 pub mod Counts

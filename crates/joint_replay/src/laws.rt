@@ -2,6 +2,7 @@
 ghost use Rattle.joint_replay.specs.Laws.{RowsGoOn, StepsPass, OrderedLogsHaveShape, EdgesAreInside, EdgesAscend, PointsAscend};
 ghost use Rattle.joint_replay.specs.Laws.{StartsAreSound, SoundnessStays, ChainsAreKept, NeverStuck};
 ghost use Rattle.joint_replay.specs.Runs.{RunsGoOn, RunsEnd};
+ghost use Rattle.joint_replay.specs.Firsts.{RunsByStep};
 
 use rv_meaning::each_instruction_is_counted_or_asks;
 
@@ -81,3 +82,10 @@ pub fn starts_are_sound()
     edges_lead_into_intervals();
     ordering_points_ascend();
 }
+
+/// A run is the step of the lowest ready hart, and the run after it; it ends where that step is refused,
+/// where none is ready, and where all are done.
+#[tactic(auto, using(crate::proofs::Firsts::runs_by_step))]
+pub fn runs_go_by_steps()
+    ensures { RunsByStep }
+{}

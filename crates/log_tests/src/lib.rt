@@ -3,14 +3,20 @@
 #![tactic(auto)]
 
 #[cfg(test)]
+mod blocks;
+#[cfg(test)]
 mod files;
 #[cfg(test)]
 mod first_log;
 #[cfg(test)]
 mod order;
 #[cfg(test)]
+mod races;
+#[cfg(test)]
 mod records;
 #[cfg(test)]
 mod replaying;
 #[cfg(test)]
 mod ring;
+#[cfg(test)]
+mod slicing;

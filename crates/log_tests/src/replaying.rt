@@ -26,7 +26,7 @@ const OTHER: [u32; 6] = [
 const CONDITIONAL: [u32; 5] = [0x00020437, 0x100422af, 0x18b4232f, 0x05d00893, 0x00000073];
 
 // The program of these words, from 00010054 on.
-fn program(alloc: Global, code: &[u32]) -> Result<Image, AllocError> {
+pub(crate) fn program(alloc: Global, code: &[u32]) -> Result<Image, AllocError> {
     let mut words = Vec::new(alloc);
     words.extend_from_slice(code)?;
     let count = if code.len() < 100 {
@@ -40,7 +40,7 @@ fn program(alloc: Global, code: &[u32]) -> Result<Image, AllocError> {
 }
 
 // The Header of hart 0 at the program's start: a1 is 1, sp the end of memory.
-fn header(interval: u8, ic: u8, pc: u8) -> [u8; 146] {
+pub(crate) fn header(interval: u8, ic: u8, pc: u8) -> [u8; 146] {
     let mut bytes = [0; 146];
     bytes[0] = 1;
     bytes[2] = interval;
@@ -52,11 +52,11 @@ fn header(interval: u8, ic: u8, pc: u8) -> [u8; 146] {
     bytes
 }
 
-fn first_load(skip: u8, value: u8) -> [u8; 10] {
+pub(crate) fn first_load(skip: u8, value: u8) -> [u8; 10] {
     [2, 0, skip, 0, 0, 0, value, 0, 0, 0]
 }
 
-fn end(ic: u8, reason: u8, value: u8) -> [u8; 15] {
+pub(crate) fn end(ic: u8, reason: u8, value: u8) -> [u8; 15] {
     [6, 0, ic, 0, 0, 0, 0, 0, 0, 0, reason, value, 0, 0, 0]
 }
 
@@ -65,7 +65,7 @@ fn mark(ic: u64, reason: u8, value: u32) -> EndMark {
 }
 
 // The log of these records, written to a file and read back.
-fn log(rt: &impl Abort, alloc: Global, harts: u64, parts: &[&[u8]]) -> KeptLog {
+pub(crate) fn log(rt: &impl Abort, alloc: Global, harts: u64, parts: &[&[u8]]) -> KeptLog {
     let mut records = Vec::new(alloc);
     for part in parts {
         records.extend_from_slice(part).expect(rt, "memory");

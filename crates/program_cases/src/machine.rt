@@ -12,6 +12,12 @@ pub struct Machine {
     pub store: MemoryStore,
     /// The writes of the next call's out that fail.
     pub failing: Vec<u64>,
+    /// What the next call can read.
+    pub keys: Vec<u8>,
+    /// The reads of the next call that fail.
+    pub failing_keys: Vec<u64>,
+    /// What the last call left unread, where it had anything to read.
+    pub left: Option<usize>,
     pub out: MemorySink,
     pub err: MemorySink,
 }
@@ -23,6 +29,9 @@ impl Machine {
             alloc,
             store: MemoryStore::new(alloc, failing),
             failing: Vec::new(alloc),
+            keys: Vec::new(alloc),
+            failing_keys: Vec::new(alloc),
+            left: None,
             out: MemorySink::new(alloc, Vec::new(alloc)),
             err: MemorySink::new(alloc, Vec::new(alloc)),
         }
@@ -36,7 +45,16 @@ impl Machine {
         }
     }
 
-    /// Runs the program, with empty outputs and no input.
+    // What the next call reads.
+    fn source(&mut self) -> Result<MemorySource, AllocError> {
+        let keys = self.keys.to_vec(self.alloc)?;
+        let failing = self.failing_keys.to_vec(self.alloc)?;
+        self.keys.clear();
+        self.failing_keys.clear();
+        Ok(MemorySource::new(keys, failing))
+    }
+
+    /// Runs the program, with empty outputs.
     pub fn run<G: Gate, R: Threads + Wait + Sync>(
         &mut self,
         rt: &R,
@@ -50,10 +68,11 @@ impl Machine {
         }
         let failing = self.failing.to_vec(self.alloc)?;
         self.failing.clear();
-        let mut input = MemorySource::new(Vec::new(self.alloc), Vec::new(self.alloc));
+        let mut input = self.source()?;
+        let some = !input.left().is_empty();
         self.out = MemorySink::new(self.alloc, failing);
         self.err = MemorySink::new(self.alloc, Vec::new(self.alloc));
-        Ok(run(
+        let status = run(
             rt,
             self.alloc,
             &owned,
@@ -62,6 +81,8 @@ impl Machine {
             &mut self.out,
             &mut self.err,
             gate,
-        ))
+        );
+        self.left = if some { Some(input.left().len()) } else { None };
+        Ok(status)
     }
 }

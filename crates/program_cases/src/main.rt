@@ -7,16 +7,22 @@
 //! |---|---|
 //! | `# TEXT` | begins a case, with no file, code or input and by default settings, and prints the line |
 //! | `program NAME WORD ..` | a program file of these code words, in hexadecimal |
+//! | `guest NAME NUMBER` | the program file that a number generates and that crashes |
 //! | `bytes NAME HEX` | these bytes behind those that the file has |
 //! | `put NAME PLACE HEX` | these bytes in place of those from a place on |
 //! | `cut NAME LENGTH` | the first bytes of the file alone |
 //! | `zeros NAME LENGTH` | a file of so many bytes 0 |
 //! | `failing-store CALL ..` | a store of no file, whose calls of these numbers fail |
 //! | `failing-out CALL ..` | the next call's out fails at its writes of these numbers |
-//! | `run WORD ..` | the program with these words |
+//! | `type TEXT` | the next call can read this line, behind what it could before |
+//! | `keys HEX`, `keys HEX COUNT` | the same of these bytes, or of a byte so many times |
+//! | `failing-keys CALL ..` | the next call's reads of these numbers fail |
+//! | `run WORD ..` | the program with these words; where it could read, how much it left |
 //! | `run-meet HARTS WORD ..` | the same, where the harts meet before their first turns |
 //! | `run-listed HEX WORD ..` | the same, where the harts take their turns in this order, a byte for each |
+//! | `run-last COUNT WORD ..` | the program with these words, of whose out so many of the last lines alone are printed |
 //! | `size NAME`, `show NAME` | how long a file is, and its bytes |
+//! | `alike NAME NAME` | whether two files have the same bytes |
 //! | `code WORD ..` | at most 64 code words at 0x10054, in hexadecimal, which runs have in place of a file |
 //! | `input HEX` | the bytes that their calls read |
 //! | `set NAME N` | one of their settings: `harts`, `interval` or `line` |

@@ -4,6 +4,7 @@ use crate::runs::Runs;
 use crate::words::{code, number, numbers, words_of};
 use crate::{files, hex};
 use bn_outside::{Gate, ListGate, MeetGate, OpenGate};
+use guest_gen::{Kind, guest};
 use std::alloc::Global;
 use std::sync::Wait;
 use std::thread::Threads;
@@ -28,6 +29,9 @@ fn changed(
     let mut file = machine.file(name)?;
     if verb == "program" {
         return Ok(files::program(alloc, &code(alloc, rest)?)?);
+    }
+    if verb == "guest" {
+        return Ok(guest(alloc, number(rest.first())? as u64, Kind::Crash)?);
     }
     if verb == "bytes" {
         file.extend_from_slice(&hex::bytes(alloc, text)?)?;
@@ -67,7 +71,11 @@ fn run<G: Gate, R: Print + Threads + Wait + Sync>(
     println!(rt; "{line}")?;
     println!(rt; "status {status}")?;
     print_text(rt, "out", machine.out.written())?;
-    print_text(rt, "err", machine.err.written())
+    print_text(rt, "err", machine.err.written())?;
+    if let Some(left) = machine.left {
+        println!(rt; "left {left}")?;
+    }
+    Ok(())
 }
 
 // Runs the program as a line says: with a gate at which harts meet, or one that gives the order of their
@@ -93,6 +101,48 @@ fn run_gated<R: Print + Threads + Wait + Sync>(
     } else {
         run(rt, machine, line, words.get(1..).unwrap_or(&[]), &OpenGate)?;
     }
+    Ok(())
+}
+
+// What a line adds to what the next call reads: a line of text, bytes, or a byte so many times.
+fn typed(alloc: Global, line: &str, words: &[&str]) -> anyhow::Result<Vec<u8>> {
+    if words.first().copied().unwrap_or("") == "keys" {
+        let mut keys = hex::bytes(alloc, words.get(1).copied().unwrap_or(""))?;
+        if words.len() > 2 {
+            let byte = keys.first().copied().unwrap_or(0);
+            keys.clear();
+            keys.resize(number(words.get(2))?, byte)?;
+        }
+        return Ok(keys);
+    }
+    let mut keys = Vec::from_slice(alloc, line.strip_prefix("type ").unwrap_or("").as_bytes())?;
+    keys.push(b'\n')?;
+    Ok(keys)
+}
+
+// Runs the program, and prints its status, and of what it wrote to out the last lines alone.
+fn run_last<R: Print + Threads + Wait + Sync>(
+    rt: &R,
+    machine: &mut Machine,
+    line: &str,
+    words: &[&str],
+) -> anyhow::Result<()> {
+    let count = number(words.get(1))?;
+    let status = machine.run(rt, words.get(2..).unwrap_or(&[]), &OpenGate)?;
+    println!(rt; "{line}")?;
+    println!(rt; "status {status}")?;
+    let text = std::str::from_utf8(machine.out.written())?;
+    let lines = text.lines().count();
+    for last in text.lines().skip(lines.saturating_sub(count)) {
+        println!(rt; "{last}")?;
+    }
+    Ok(())
+}
+
+// Prints whether two files have the same bytes.
+fn compare<R: Print>(rt: &R, machine: &Machine, name: &str, other: &str) -> anyhow::Result<()> {
+    let same = machine.file(name)? == machine.file(other)?;
+    println!(rt; "{name} is {other}: {same}")?;
     Ok(())
 }
 
@@ -142,8 +192,19 @@ impl Case {
             self.machine = Machine::new(self.alloc, calls);
         } else if verb == "failing-out" {
             self.machine.failing = numbers(self.alloc, words.get(1..).unwrap_or(&[]))?;
+        } else if verb == "failing-keys" {
+            let calls = numbers(self.alloc, words.get(1..).unwrap_or(&[]))?;
+            self.machine.failing_keys = calls;
+        } else if verb == "type" || verb == "keys" {
+            let keys = typed(self.alloc, line, words)?;
+            self.machine.keys.extend_from_slice(&keys)?;
         } else if verb == "run" || verb == "run-meet" || verb == "run-listed" {
             run_gated(rt, self.alloc, &mut self.machine, line, words)?;
+        } else if verb == "run-last" {
+            run_last(rt, &mut self.machine, line, words)?;
+        } else if verb == "alike" {
+            let other = words.get(2).copied().unwrap_or("");
+            compare(rt, &self.machine, name, other)?;
         } else if verb == "size" || verb == "show" {
             show(rt, &self.machine, name, verb == "show")?;
         } else {

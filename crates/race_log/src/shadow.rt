@@ -1,5 +1,5 @@
-ghost use Rattle.std.specs.Prelude.{◌≡◌, ◌≢◌, ◌+◌, ◌*◌, ◌<◌, ◌≤◌, ◌^◌, ◌%◌, ◌==◌, ◌↔◌, ℕ, Bool, IsTrue, if◌then◌else◌};
-ghost use Rattle.std.specs.Prelude.{List, [], filter, not, ◌&&◌, All, Contains, length, vec_len, Some, None, IfOk, IsOk, OnOk, OnErr};
+ghost use Rattle.std.specs.Prelude.{◌≡◌, ◌≢◌, ◌+◌, ◌*◌, ◌<◌, ◌≤◌, ◌^◌, ◌%◌, ◌==◌, ℕ, Bool, IsTrue, if◌then◌else◌};
+ghost use Rattle.std.specs.Prelude.{List, [], filter, not, ◌&&◌, All, length, vec_len, Some, None, IfOk, IsOk, OnOk, OnErr};
 ghost use Rattle.std.specs.Option.{ForSome};
 ghost use Rattle.bn_base.specs.declared.settings.TheConstants.{HARTS};
 ghost use Rattle.race_log.specs.Words.{HasRoom, ArePresent};
@@ -37,7 +37,8 @@ impl Shadow {
     ghost use Rattle.vector_time.specs.Times.{count_of};
     ghost use Rattle.race_log.specs.Points.{Point};
     ghost use Rattle.race_log.specs.Tests.{sources_into};
-    ghost use Rattle.race_log.specs.ByCount.{IsPointAt, IsEdgeBetween, IsLatestPoint, IsTimesOf};
+    ghost use Rattle.race_log.specs.ByCount.{IsLatestPoint, IsTimesOf};
+    ghost use Rattle.race_log.specs.Laws.{AreSources};
     ghost use Rattle.race_log.specs.Kept.{access_point, after};
     ghost use Rattle.race_log.specs.Sweep.{has_bit, is_covered, accessed_below};
     ghost use Rattle.race_log.specs.Stands.{Stands, KnowsSame, harts_of, lasting_of, lasts, next_turn, next_count, times_of, kept_of, words_of, held_of, is_known, reserved_range};
@@ -108,8 +109,7 @@ impl Shadow {
         ensures edges { (run : List Point) (live : ℕ → Bool) → IsTrue (live hart) → Stands run live self.old →
             result ≡ sources_into (after run (access_point hart ic turn first count mode)) (length run) }
         ensures exact { (run : List Point) (live : ℕ → Bool) → IsTrue (live hart) → Stands run live self.old →
-            let b = access_point hart ic turn first count mode in
-            (h i : ℕ) → Contains result (h, i) ↔ ((p : Point) × IsPointAt run h i p × IsEdgeBetween (after run b) p b) }
+            AreSources run (access_point hart ic turn first count mode) result }
         ensures few { length result < harts_of self.old }
 
         // The shadow then stands for the run with this point, and the hart's times are those of this point.

@@ -20,3 +20,7 @@ pub mod FormatOne
 pub mod Bytes
 pub mod Alike
 pub mod LiveSets
+pub mod Followed
+pub mod LogFile
+pub mod AuditsWorked
+pub mod Verdicts

@@ -3,6 +3,7 @@ use Rattle.std.proofs.Common.{◌≡◌, ℕ, zero, suc, ◌+◌, ◌<◌, ◌�
 use Rattle.std.specs.Prelude.{Option, IsTrue, slice_get}
 use Rattle.bn_base.specs.Programs.{Program}
 use Rattle.bn_base.specs.declared.settings.RawSettings.{RawSettings}
+use Rattle.bn_base.specs.declared.state.HartState.{HartState}
 use Rattle.rv_meaning.specs.declared.asks.Ask.{Ask}
 use Rattle.rv_meaning.specs.Execute.{ask_of}
 use Rattle.rv_meaning.specs.Orderly.{orderly, is_counted, passes}
@@ -20,13 +21,9 @@ live_within [] (suc k) e = cc
 live_within (h ∷ hs) zero e = (omega arith, e)
 live_within (h ∷ hs) (suc k) e = let rest = live_within hs k e in (omega (arith, rest.0), rest.1)
 
--- an orderly ask of the hart
-pub ordered_at : (c : RawSettings) (i : Program) (x h : Hart) (ask : Ask) (b : ℕ) → x ≡ h → b ≡ budget c x → IsTrue (orderly i x.state.ic b ask) → IsTrue (is_orderly c i h ask)
-ordered_at c i x h ask b e eb o = subst (λ (y : Hart). IsTrue (is_orderly c i y ask)) e (subst (λ (n : ℕ). IsTrue (orderly i x.state.ic n ask)) eb o)
-
--- the count stays small
-pub small_count : (c : RawSettings) (x : Hart) (b : ℕ) → c.limit ≤ 2 ^ 40 → IsFit c x → b ≡ budget c x → x.state.ic + b < 2 ^ 64
-small_count c x b high fit e = omega (arith, high, fit.limit, e, budget_limit c x)
+-- what a hart asks next is orderly
+pub asked_orderly : ((i : Program) (n : ℕ) (s : HartState) → s.ic + n < 2 ^ 64 → IsTrue (orderly i s.ic n (ask_of i n s))) → (c : RawSettings) (i : Program) (h : Hart) (ask : Ask) → c.limit ≤ 2 ^ 40 → IsFit c h → ask ≡ ask_at c i h → IsTrue (is_orderly c i h ask)
+asked_orderly each c i h ask high fit e = subst (λ (a : Ask). IsTrue (is_orderly c i h a)) (sym e) (each i (budget c h) h.state (omega (arith, high, fit.limit, budget_limit c h)))
 
 pub passes_of : (c : RawSettings) (i : Program) (h : Hart) (ask : Ask) → IsTrue (is_orderly c i h ask) → IsTrue (passes i ask.want)
 passes_of c i h ask e = (both (is_counted h.state.ic (budget c h) ask.want ask.state.ic) (passes i ask.want) e).1

@@ -1,9 +1,11 @@
 pub mod Machine
 pub mod Turn
 pub mod Runs
+pub mod Lists
 pub mod Rows
 pub mod Files
 pub mod Counts
 pub mod Guards
 pub mod Stands
 pub mod Examples
+pub mod Audits

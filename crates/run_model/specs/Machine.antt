@@ -6,6 +6,7 @@ use Rattle.bn_base.specs.declared.settings.RawSettings.{RawSettings}
 use Rattle.rv_meaning.specs.Words.{aligned, bytes_at, with_bytes}
 use Rattle.rv_meaning.specs.Access.{stored_word, amo_result}
 use Rattle.rv_meaning.specs.declared.asks.Ask.{Ask}
+use Rattle.rv_meaning.specs.declared.amo.AmoOp.{AmoOp}
 use Rattle.rv_meaning.specs.declared.asks.Want.{Want}
 use Rattle.rv_meaning.specs.declared.asks.Want.TheVariants.{Load, Store, LoadReserved, StoreConditional, Amo, System, Cut, Faulted}
 use Rattle.rv_meaning.specs.declared.asks.Reply.{Reply}
@@ -120,6 +121,15 @@ answer_call (plans.Answer v) h m = answered (replies.Answer v) (with_reserved (r
 answer_call (plans.EndHart v) h m = answered replies.Over (with_reserved (reserving h None m.reserved) m)
 answer_call (plans.EndRun v) h m = answered replies.Over (with_reserved (reserving h None m.reserved) m)
 
+-- what a store of hart h does, of so many bytes
+abbrev pub answer_store : (a width v h : ℕ) → Machine → Answered
+answer_store a width v h m =
+    answered replies.Stored (with_memory (updated (aligned a) (stored_word a width v (m.memory (aligned a))) m.memory) (others_lose h (aligned a) m.reserved) m)
+
+-- what an AMO of hart h does: the reply is the word before
+abbrev pub answer_amo : ℕ → AmoOp → (v h : ℕ) → Machine → Answered
+answer_amo a op v h m = answered (replies.Word (m.memory a)) (with_memory (updated a (amo_result op (m.memory a) v) m.memory) (others_lose h a m.reserved) m)
+
 -- what an SC of hart h does: it writes where the hart has reserved that word, and ends the reservation (section 8.2)
 abbrev pub answer_sc : Bool → ℕ → ℕ → ℕ → Machine → Answered
 answer_sc true a v h m = answered replies.ScOk (with_memory (updated a v m.memory) (reserving h None (others_lose h a m.reserved)) m)
@@ -134,8 +144,8 @@ abbrev pub answer_access : RawSettings → Machine → ℕ → Ask → Answered
 answer_access c m h ask = elim (ask.want) [
   | Load a width signed rd ↦ answered (replies.Word (m.memory (aligned a))) m
   | LoadReserved a rd ↦ answered (replies.Word (m.memory a)) (with_reserved (reserving h (Some a) m.reserved) m)
-  | Store a width v ↦ answered replies.Stored (with_memory (updated (aligned a) (stored_word a width v (m.memory (aligned a))) m.memory) (others_lose h (aligned a) m.reserved) m)
-  | Amo a op rd v ↦ answered (replies.Word (m.memory a)) (with_memory (updated a (amo_result op (m.memory a) v) m.memory) (others_lose h a m.reserved) m)
+  | Store a width v ↦ answer_store a width v h m
+  | Amo a op rd v ↦ answer_amo a op v h m
   | StoreConditional a rd v ↦ answer_sc (is_reserved (m.reserved h) a) a v h m
   | System number args ↦ answered replies.Over m
   | Cut ↦ answered (cut_reply c ask.state.ic) m

@@ -8,3 +8,4 @@ pub mod Parts
 pub mod EachCache
 pub mod Turning
 pub mod First
+pub mod Tracing

@@ -9,10 +9,11 @@ ghost use Rattle.first_load_bits.specs.Events.{Event};
 ghost use Rattle.first_load_bits.specs.Events.{Touch, Clear};
 ghost use Rattle.first_load_bits.specs.Stands.{Contents, StandsFor};
 ghost use Rattle.run_model.specs.declared.next.Next.TheVariants.{GoesOn, NewInterval};
-ghost use Rattle.run_model.specs.Machine.{Machine, call_of};
+ghost use Rattle.run_model.specs.Machine.{Machine};
 ghost use Rattle.run_model.specs.declared.span.Span.{Span};
 ghost use Rattle.run_model.specs.Turn.{drops, dropped, events_after, loading, span_of, warmth};
 ghost use Rattle.run_model.specs.Stands.Parts.{AreAddresses};
+ghost use Rattle.run_model.specs.Stands.Tracing.{CachesGoOn, touched_by};
 ghost use Rattle.run_model.specs.Stands.EachCache.{AreCaches, cache_of, steps_in, touched_word, touches, where_loading, events_cleared, is_spared, IsDropped, IsSetTo};
 
 use crate::span::Span;
@@ -186,7 +187,7 @@ impl Caches {
         requires steps { steps_in self.old hart < 2 ^ 42 }
         ensures stands { (c : RawSettings) (events : ℕ → List Event) → AreCaches c self.old events → AreCaches c self.new (events_cleared hart events) }
         ensures interval { (c : RawSettings) (call : Option Plan) (span : Option Span) (events : ℕ → List Event) (reason value : ℕ) →
-            AreCaches c self.old (events_after GoesOn hart call span events) → AreCaches c self.new (events_after (NewInterval reason value) hart call span events) }
+            CachesGoOn c (NewInterval reason value) hart call span events self.old self.new }
         ensures count { length self.new ≡ length self.old }
         ensures steps { (k : ℕ) → steps_in self.new k ≡ (if k == hart then steps_in self.old k + 1 else steps_in self.old k) }
     {
@@ -199,5 +200,5 @@ impl Caches {
 pub fn loading_accesses_touch_their_words()
     ensures word { (want : Want) (reply : Reply) (a : ℕ) → loading want ≡ Some a → touched_word None (span_of None want reply) ≡ Some a }
     ensures warmth { (c : RawSettings) (i : Program) (m : Machine) (want : Want) (reply : Reply) (es : List Event) →
-        warmth c (loading want) es ≡ where_loading (loading want) (warmth c (touched_word (call_of i m want) (span_of (call_of i m want) want reply)) es) }
+        warmth c (loading want) es ≡ where_loading (loading want) (warmth c (touched_by i m want reply) es) }
 {}

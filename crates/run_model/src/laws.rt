@@ -1,5 +1,6 @@
 // Laws of turns.
 ghost use Rattle.run_model.specs.Counts.{EachTurnMovesOn, EachTurnFits, OthersStayFit, GuardedAsksFit};
+ghost use Rattle.run_model.specs.Audits.{VerdictsAreUnique};
 ghost use Rattle.run_model.specs.Files.{FormatOneIsVersionOne};
 ghost use Rattle.run_model.specs.Guards.{FormatOneIsUnguarded, RecordsDecideNothing};
 
@@ -46,4 +47,11 @@ pub fn format_1_is_version_1()
 /// do.
 pub fn records_decide_nothing()
     ensures { RecordsDecideNothing }
+{}
+
+/// Bytes have one verdict, which is also told as a function: they agree exactly where they are those of
+/// the file, and else differ first at one place.
+#[tactic(auto, using(crate::proofs::Verdicts::verdicts))]
+pub fn verdicts_are_unique()
+    ensures { VerdictsAreUnique }
 {}

@@ -1,7 +1,10 @@
 //! What a recording is: its runs, rows, intervals, log and file, in definitions that compute.
 #![tactic(auto)]
 
+mod audit_examples;
+mod auditing;
 mod caches;
+mod error;
 mod examples;
 mod first;
 mod guarded_examples;
@@ -17,10 +20,18 @@ mod race;
 mod records;
 mod span;
 mod start;
+mod taking;
 mod trace;
 mod turning;
+mod verdict;
 
+pub use audit_examples::{
+    a_hart_that_is_not_there_has_no_turn, a_list_can_be_too_long_or_too_short,
+    files_differ_at_a_byte_or_an_end, the_lowest_live_hart_is_named,
+};
+pub use auditing::audit;
 pub use caches::{Caches, loading_accesses_touch_their_words};
+pub use error::TurnError;
 pub use examples::{
     a_byte_store_is_logged, a_call_comes_before_the_length, a_conditional_store_succeeds,
     a_fault_is_recorded, a_filled_word_is_logged_again, a_line_put_out_is_logged_again,
@@ -37,7 +48,7 @@ pub use guarded_examples::{
 pub use hart::{Hart, skipped_after};
 pub use laws::{
     each_turn_fits, each_turn_moves_on, format_1_is_unguarded, format_1_is_version_1,
-    guarded_asks_fit, others_stay_fit, records_decide_nothing,
+    guarded_asks_fit, others_stay_fit, records_decide_nothing, verdicts_are_unique,
 };
 pub use log::Log;
 pub use machine::{Machine, Streams};
@@ -47,3 +58,4 @@ pub use span::{Span, loading};
 pub use start::Start;
 pub use trace::Trace;
 pub use turning::Recorded;
+pub use verdict::Verdict;

@@ -4,7 +4,7 @@ ghost use Rattle.bn_base.specs.Programs.{Program};
 ghost use Rattle.bn_base.specs.declared.settings.TheConstants.{HARTS};
 ghost use Rattle.rv_meaning.specs.Orderly.{passes, is_reply_to};
 ghost use Rattle.rv_meaning.specs.Words.{aligned};
-ghost use Rattle.rv_meaning.specs.Access.{stored_word, amo_result};
+ghost use Rattle.rv_meaning.specs.Access.{stored_word};
 ghost use Rattle.rv_meaning.specs.declared.asks.Reply.{Reply};
 ghost use Rattle.rv_meaning.specs.declared.asks.Reply.TheVariants as replies;
 ghost use Rattle.rv_meaning.specs.declared.asks.Want.TheVariants.{System, StoreConditional, Cut};
@@ -13,7 +13,7 @@ ghost use Rattle.race_log.specs.declared.mode.Mode.TheVariants.{Read, Write};
 ghost use Rattle.system_calls.specs.declared.effect.Plan.TheVariants as plans;
 ghost use Rattle.system_calls.specs.Calls.{stream_size, IsWithin};
 ghost use Rattle.bus_memory.specs.Contents.{Contents, updated, has_page};
-ghost use Rattle.run_model.specs.Machine.{Machine as Meant, answered, with_memory, with_reserved, reserving, others_lose, answer, answer_call, answer_access, answer_sc, call_of, cut_reply, is_reserved, word_count};
+ghost use Rattle.run_model.specs.Machine.{Machine as Meant, answered, with_memory, with_reserved, reserving, others_lose, answer, answer_call, answer_access, answer_amo, answer_sc, answer_store, call_of, cut_reply, is_reserved, word_count};
 ghost use Rattle.run_model.specs.Turn.{loading, word_before, span_of, call_span, span};
 ghost use Rattle.run_model.specs.Runs.{start_machine};
 ghost use Rattle.run_model.specs.Stands.Parts.{MachineParts, IsMachine, IsPlanned, IsSameMachine, AreWordsIn, AreWordsReady, AreAddresses, IsSpanReady, has_width, HasCallRoom, HasPlanRoom, HasStreamRoom, HasRoom, IsAnswer, size_of, kernel_in};
@@ -327,8 +327,7 @@ impl Machine {
     fn store(&mut self, hart: HartId, addr: Addr, width: u8, value: u32) -> Reply
         requires word { IsSpanReady self.old.memory (span (aligned addr) 1 Write) }
         requires width { IsTrue (is_aligned addr width) }
-        ensures answer { (input : List ℕ) → IsAnswer input self.old self.new result
-            (λ m. answered replies.Stored (with_memory (updated (aligned addr) (stored_word addr width value (m.memory (aligned addr))) m.memory) (others_lose hart (aligned addr) m.reserved) m)) }
+        ensures answer { (input : List ℕ) → IsAnswer input self.old self.new result (λ m. answer_store addr width value hart m) }
         ensures reply { result ≡ replies.Stored }
         ensures size { size_of self.new ≡ size_of self.old }
     {
@@ -340,8 +339,7 @@ impl Machine {
 
     fn amo(&mut self, hart: HartId, addr: Addr, op: AmoOp, value: u32) -> Reply
         requires { IsSpanReady self.old.memory (span addr 1 Write) }
-        ensures answer { (input : List ℕ) → IsAnswer input self.old self.new result
-            (λ m. answered (replies.Word (m.memory addr)) (with_memory (updated addr (amo_result op (m.memory addr) value) m.memory) (others_lose hart addr m.reserved) m)) }
+        ensures answer { (input : List ℕ) → IsAnswer input self.old self.new result (λ m. answer_amo addr op value hart m) }
         ensures reply { result ≡ replies.Word (slice_index self.old.memory.words (addr / 4)) }
         ensures size { size_of self.new ≡ size_of self.old }
     {

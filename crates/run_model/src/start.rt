@@ -1,8 +1,14 @@
 // What a recording begins with.
 ghost use Rattle.std.specs.Prelude.{◌≡◌, IfOk};
 ghost use Rattle.std.specs.Bool.{Decides};
+ghost use Rattle.std.specs.List.{flat_map};
+ghost use Rattle.log_record.specs.Spelling.{bytes_of};
+ghost use Rattle.log_file.specs.Layout.{spelling};
 
 use bn_base::{Image, Settings};
+use log_file::write_file;
+use log_record::Head;
+use log_ring::Ring;
 use std::alloc::{AllocError, Global};
 
 /// What a recording begins with: the loaded program, the settings, the input, and the SHA-256 digest
@@ -47,5 +53,20 @@ impl Start {
             input: self.input.to_vec(alloc)?,
             digest: self.digest,
         })
+    }
+
+    /// The log file of a recording that began with this, of what a ring keeps of its records. The only
+    /// error is want of memory.
+    pub fn log_file(&self, alloc: Global, ring: &Ring) -> Result<Vec<u8>, AllocError>
+        requires { ring.now.size ≡ self.now.settings.log_size }
+        ensures { IfOk result (λ log. log.items ≡ spelling (record { settings = self.now.settings; digest = self.now.digest }) ring.now.dropped (flat_map bytes_of ring.now.records)) }
+    {
+        let _format = self.settings.format();
+        let (front, back) = ring.pieces();
+        let head = Head {
+            settings: self.settings,
+            digest: self.digest,
+        };
+        write_file(alloc, &head, ring.dropped(), front, back)
     }
 }

@@ -1,5 +1,5 @@
 // What is traced of a run: its harts, their caches, the race log and the log.
-ghost use Rattle.std.specs.Prelude.{◌≡◌, ◌≤◌, ◌<◌, ◌+◌, ◌-◌, ◌*◌, ◌^◌, ◌++◌, ◌==◌, ◌≢◌, ℕ, List, length, IsTrue, true, is_some, Option, OnOk, if◌then◌else◌};
+ghost use Rattle.std.specs.Prelude.{◌≡◌, ◌≤◌, ◌<◌, ◌+◌, ◌-◌, ◌*◌, ◌^◌, ◌==◌, ◌≢◌, ℕ, List, length, IsTrue, true, is_some, Option, OnOk, if◌then◌else◌};
 ghost use Rattle.bn_base.specs.Programs.{Program};
 ghost use Rattle.bn_base.specs.declared.settings.RawSettings.{RawSettings};
 ghost use Rattle.rv_meaning.specs.Execute.{absorbed};
@@ -13,9 +13,10 @@ ghost use Rattle.run_model.specs.declared.hart.Hart.{Hart};
 ghost use Rattle.run_model.specs.declared.next.Next.TheVariants.{GoesOn};
 ghost use Rattle.run_model.specs.declared.span.Span.{Span};
 ghost use Rattle.run_model.specs.Machine.{Machine, call_of};
-ghost use Rattle.run_model.specs.Turn.{span_of, next_of, loading, warmth, point_of, points_after, edge_records, load_record, sc_record, next_records, run_over_records, harts_after, hart_after, events_after, skipped_after};
+ghost use Rattle.run_model.specs.Turn.{span_of, next_of, loading, warmth, point_of, points_after, events_after, skipped_after};
 ghost use Rattle.run_model.specs.Stands.Harts.{AreHarts, hart_in};
 ghost use Rattle.run_model.specs.Stands.Logs.{taken, IsLog, is_marked_next};
+ghost use Rattle.run_model.specs.Stands.Tracing.{CachesGoOn, next_by, harts_by, with_ends, with_access};
 ghost use Rattle.run_model.specs.Stands.EachCache.{AreCaches, steps_in, where_loading, touched_word, touches};
 ghost use Rattle.run_model.specs.Counts.{is_loading};
 ghost use Rattle.run_model.specs.Stands.Parts.{AreAddresses};
@@ -105,8 +106,7 @@ impl Trace {
         ensures shadow { (points : List Point) → Stands points everyone self.old.shadow →
             Stands (points_after (point_of hart ask.now.state.ic turn (span_of call ask.now.want reply)) points) everyone self.new.shadow }
         ensures holds { (points : List Point) (rs : List Record) → Stands points everyone self.old.shadow → IsLog self.old.log rs →
-            IsLog self.new.log (rs ++ edge_records (point_of hart ask.now.state.ic turn (span_of call ask.now.want reply)) points
-            ++ load_record result hart (hart_in self.old.harts.items hart).skipped word ++ sc_record reply hart) }
+            IsLog self.new.log (with_access self.old.harts.items turn hart call ask.now reply result word points rs) }
         ensures harts { self.new.harts ≡ self.old.harts }
         ensures count { length self.new.caches ≡ length self.old.caches }
         ensures steps { (k : ℕ) → steps_in self.new.caches k ≡ (if k == hart then steps_in self.old.caches k + touches (touched_word call (span_of call ask.now.want reply)) else steps_in self.old.caches k) }
@@ -140,7 +140,7 @@ impl Trace {
         requires caches { hart < length self.old.caches }
         requires steps { steps_in self.old.caches hart < 2 ^ 42 }
         ensures caches { (c : RawSettings) (call : Option Plan) (span : Option Span) (events : ℕ → List Event) →
-            AreCaches c self.old.caches (events_after GoesOn hart call span events) → AreCaches c self.new.caches (events_after next hart call span events) }
+            CachesGoOn c next hart call span events self.old.caches self.new.caches }
         ensures count { length self.new.caches ≡ length self.old.caches }
         ensures steps { (k : ℕ) → steps_in self.new.caches k ≡ (if k == hart then steps_in self.old.caches k + clears next else steps_in self.old.caches k) }
         ensures harts { self.new.harts ≡ self.old.harts }
@@ -177,24 +177,15 @@ impl Trace {
         requires marked { IsTrue (is_marked_next (next_of settings.now call (hart_in self.old.harts.items hart) ask.now.want reply (absorbed ask.now reply).ic)) }
         requires room { taken self.old.log.ring + 18 < 2 ^ 56 }
         ensures harts { (f : ℕ → Hart) → AreHarts self.old.harts.items f →
-            let h = hart_in self.old.harts.items hart in
-            let s = absorbed ask.now reply in
-            let next = next_of settings.now call h ask.now.want reply s.ic in
-            AreHarts self.new.harts.items (harts_after next hart (hart_after next s (skipped_after load h.skipped) self.new.log.bytes h) f) }
+            AreHarts self.new.harts.items (harts_by settings.now call self.old.harts.items hart ask.now reply load self.new.log.bytes f) }
         ensures holds { (f : ℕ → Hart) (rs : List Record) → AreHarts self.old.harts.items f → IsLog self.old.log rs →
-            let h = hart_in self.old.harts.items hart in
-            let s = absorbed ask.now reply in
-            let next = next_of settings.now call h ask.now.want reply s.ic in
-            IsLog self.new.log (rs ++ next_records next hart h.number s ++ run_over_records next hart (length self.old.harts.items) f) }
-        ensures caches { (c : RawSettings) (span : Option Span) (events : ℕ → List Event) → AreCaches c self.old.caches (events_after GoesOn hart call span events) →
-            let h = hart_in self.old.harts.items hart in
-            AreCaches c self.new.caches (events_after (next_of settings.now call h ask.now.want reply (absorbed ask.now reply).ic) hart call span events) }
+            IsLog self.new.log (with_ends settings.now call self.old.harts.items hart ask.now reply f rs) }
+        ensures caches { (c : RawSettings) (span : Option Span) (events : ℕ → List Event) →
+            CachesGoOn c (next_by settings.now call self.old.harts.items hart ask.now reply) hart call span events self.old.caches self.new.caches }
         ensures len { length self.new.harts.items ≡ length self.old.harts.items }
         ensures count { length self.new.caches ≡ length self.old.caches }
-        ensures steps { (k : ℕ) →
-            let h = hart_in self.old.harts.items hart in
-            let next = next_of settings.now call h ask.now.want reply (absorbed ask.now reply).ic in
-            steps_in self.new.caches k ≡ (if k == hart then steps_in self.old.caches k + clears next else steps_in self.old.caches k) }
+        ensures steps { (k : ℕ) → steps_in self.new.caches k ≡
+            (if k == hart then steps_in self.old.caches k + clears (next_by settings.now call self.old.harts.items hart ask.now reply) else steps_in self.old.caches k) }
         ensures shadow { self.new.shadow ≡ self.old.shadow }
         ensures took { taken self.new.log.ring ≤ taken self.old.log.ring + 18 }
         ensures size { self.new.log.ring.size ≡ self.old.log.ring.size }

@@ -1,10 +1,10 @@
 // The turns of a plain machine.
-ghost use Rattle.std.specs.Prelude.{◌≡◌, ◌<◌, ◌≤◌, ◌*◌, ◌^◌, ℕ, true, false, length, IsTrue, IfOk, OnOk, OnErr, MatchOption};
+ghost use Rattle.std.specs.Prelude.{◌≡◌, ◌<◌, ◌≤◌, ◌*◌, ◌^◌, ℕ, true, false, length, IsTrue, IfOk, MatchOption};
 ghost use Rattle.rv_meaning.specs.Orderly.{is_cut, passes};
 ghost use Rattle.rv_meaning.specs.declared.asks.Reply.{Reply};
 ghost use Rattle.rv_meaning.specs.declared.asks.Reply.TheVariants as replies;
 ghost use Rattle.run_model.specs.Machine.{Machine as Meant, call_of};
-ghost use Rattle.run_model.specs.Turn.{Run, span_of, is_orderly, is_guarded, bytes_since, serve_call, serve_disorderly, halted, turn, budget};
+ghost use Rattle.run_model.specs.Turn.{Run, span_of, is_orderly, is_guarded, bytes_since, serve_call, serve_disorderly, halted, budget};
 ghost use Rattle.run_model.specs.Stands.Parts.{HasRoom, IsMachine, AreAddresses};
 ghost use Rattle.run_model.specs.Stands.Harts.{hart_in};
 ghost use Rattle.run_model.specs.Stands.Plain.{IsRun, IsRaceReady};
@@ -23,7 +23,7 @@ use crate::start::Start;
 use crate::trace::Trace;
 use bn_base::{HartId, HartState};
 use log_ring::Ring;
-use rv_meaning::{Ask, Reply, Want, quiet_run};
+use rv_meaning::{Ask, Reply, Want};
 use std::alloc::{AllocError, Global};
 use system_calls::Plan;
 
@@ -180,22 +180,6 @@ impl Plain {
             Some(hart) => hart.live,
             None => false,
         }
-    }
-
-    /// A turn of a live hart: its quiet instructions up to its first ask, and the answer to that. The
-    /// only error is want of memory; then no turn was taken.
-    pub fn turn(&mut self, hart: HartId) -> Result<(), AllocError>
-        requires { is_live (parts self.old) hart ≡ true }
-        ensures run { OnOk result ((run : Run) → IsRun (parts self.old) run → IsRun (parts self.new) (turn self.old.start.settings self.old.start.image run hart)) }
-        ensures refused { OnErr result ((run : Run) → IsRun (parts self.old) run → IsRun (parts self.new) run) }
-        ensures start { self.new.start ≡ self.old.start }
-    {
-        let before = &self.trace.harts[hart as usize];
-        let budget = before.budget(&self.start.settings);
-        let ask = quiet_run(&self.start.image, before.state, budget);
-        let call = self.prepare(&ask)?;
-        self.apply(hart, &ask, call);
-        Ok(())
     }
 
     /// A hart between two turns.

@@ -14,7 +14,7 @@ use Rattle.step_debugger.specs.declared.session.Ending.TheVariants.{GoesOn, Quit
 use Rattle.step_debugger.specs.Commands.{command_of}
 use Rattle.step_debugger.specs.Lines.{Reading, Input, input_from, input_of, with_line, ends_in, NextLine}
 use Rattle.step_debugger.specs.Answers.{Session, Answer, says, answer, begin}
-use Rattle.step_debugger.specs.Transcript.{behind, goes_on_by, answers, lines_in, Told, result_by, transcript, EndsThere, Debugs, Debugged}
+use Rattle.step_debugger.specs.Transcript.{behind, goes_on_by, answers, lines_in, Told, result_by, transcript, EndsThere, EndsAll, Debugs, Debugged}
 use Rattle.step_debugger.specs.Goings.{Stops}
 use Rattle.step_debugger.proofs.Sent.{part_longer, part_behind, part_whole, rose_later}
 
@@ -84,6 +84,13 @@ told_of a refused = record { text = a.text; result = result_by a.ends refused }
 joined : (j : Joining) (s : Session) (count : ℕ) (left now_left written now_written : Option (List ℕ)) (t : Stands j s count left now_left written now_written) (more : List ℕ) (input : Input) → input_from count [] more ≡ input
     → input_of (t.gone ++ more) ≡ with_lines t.lines input
 joined j s count left now_left written now_written t more input e = t.read more ∙ ap (with_lines t.lines) e
+
+-- where no LF is among further bytes, the lines before them are all, and the session went on after them
+not_over : (j : Joining) (s : Session) (count : ℕ) (left now_left written now_written : Option (List ℕ)) (t : Stands j s count left now_left written now_written) (more line : List ℕ) → input_from count [] more ≡ ends_in line None
+    → (answers (input_of (t.gone ++ more)).lines (begin j)).ends ≡ GoesOn
+not_over j s count left now_left written now_written t more line e =
+    let is : input_of (t.gone ++ more) ≡ with_lines t.lines (ends_in line None) = joined j s count left now_left written now_written t more (ends_in line None) e in
+    ap (λ (i : Input). (answers i.lines (begin j)).ends) is ∙ ap (λ (a : Answer). a.ends) (t.said [])
 
 -- the transcript begins with what is sent
 told_first : (j : Joining) (s : Session) (count : ℕ) (left now_left written now_written : Option (List ℕ)) (t : Stands j s count left now_left written now_written) (more : List ℕ)
@@ -178,7 +185,7 @@ module _ (j : Joining) (s : Session) (old new : Reading) (left now_left next_lef
 
   -- it is the last line that is gone
   there : (e : Ending) → answered.ends ≡ e → goes_on_by e answered (λ u. answers [] u) ≡ answered → (w : Bool) (n : NextLine old now_left next_left before after (Ok w) new)
-      → EndsThere j (t.gone ++ n.gone) e ⊎ ConsumesAll left next_left (t.gone ++ n.gone)
+      → EndsThere j (t.gone ++ n.gone) e ⊎ EndsAll j left next_left (t.gone ++ n.gone)
   there e on last true n =
       let is : input_of (t.gone ++ n.gone) ≡ with_lines t.lines (with_line new.line (ends_in [] None)) =
       joined j s old.count left now_left written now_written t n.gone (with_line new.line (ends_in [] None)) (ap (input_from old.count []) (sym (append-nil n.gone)) ∙ n.read.2 []) in
@@ -190,7 +197,7 @@ module _ (j : Joining) (s : Session) (old new : Reading) (left now_left next_lef
         before = ap (λ (ls : List (List ℕ)). (answers ls (begin j)).ends) (sym (append-nil t.lines)) ∙ ap (λ (a : Answer). a.ends) (t.said []);
         there = ap (λ (a : Answer). a.ends) (t.said (new.line ∷ [])) ∙ ap (λ (y : Ending). (goes_on_by y answered (λ u. answers [] u)).ends) on ∙ ap (λ (a : Answer). a.ends) last ∙ on;
       })
-  there e on last false n = inr (all_gone left now_left next_left t.gone n.gone t.taken n.read.1)
+  there e on last false n = inr (record { all = all_gone left now_left next_left t.gone n.gone t.taken n.read.1; before = not_over j s old.count left now_left written now_written t n.gone new.line n.read.0 })
 
   pub quits : answered.ends ≡ Quits → Appends now_written next_written answered.text → Debugged j left next_left start after written next_written write_start write_after (Ok (tt {0}))
   quits on h =
@@ -214,5 +221,5 @@ ends j s old new left now_left next_left written now_written next_written start 
     record {
       gone = t.gone ++ n.gone;
       taken = Consumes-trans left now_left next_left t.gone n.gone t.taken n.taken;
-      done = (ap (λ (u : Told). u.result) is, subst (λ (x : List ℕ). Appends written next_written x) (sym (ap (λ (u : Told). u.text) is ∙ ap (λ x. t.text ++ x) (append-nil a.text))) (Appends-trans written now_written next_written t.text a.text t.sent h), inr (all_gone left now_left next_left t.gone n.gone t.taken n.read.1));
+      done = (ap (λ (u : Told). u.result) is, subst (λ (x : List ℕ). Appends written next_written x) (sym (ap (λ (u : Told). u.text) is ∙ ap (λ x. t.text ++ x) (append-nil a.text))) (Appends-trans written now_written next_written t.text a.text t.sent h), inr (record { all = all_gone left now_left next_left t.gone n.gone t.taken n.read.1; before = not_over j s old.count left now_left written now_written t n.gone new.line n.read.0 }));
     }

@@ -59,16 +59,21 @@ pub record EndsThere (j : Joining) (gone : List ℕ) (e : Ending) : Type 0 where
   pub before : (answers front (begin j)).ends ≡ GoesOn
   pub there : (answers (front ++ line ∷ []) (begin j)).ends ≡ e
 
+-- all bytes are gone, and no line of them that ends with LF ended the session: what stands behind the last LF may have
+pub record EndsAll (j : Joining) (left now_left : Option (List ℕ)) (gone : List ℕ) : Type 0 where
+  pub all : ConsumesAll left now_left gone
+  pub before : (answers (input_of gone).lines (begin j)).ends ≡ GoesOn
+
 -- a session ends as its transcript does, and its text is written: at the line that ended it, or at the end of its source, or
 -- since no more lines are read. Or a read failed before, and the whole lines before that are answered; or a write failed, or
 -- memory was wanting, and a front of the text is written
 abbrev pub Debugs : Joining → (gone : List ℕ) → (left now_left : Option (List ℕ)) → (read_before read_now : ℕ) → (written now_written : Option (List ℕ)) → (before now : ℕ) → Result (Unit {0}) DebugError → Type 0
 Debugs j gone left now_left read_before read_now written now_written before now (Ok u) =
     let t : Told = transcript j (input_of gone) in
-    (t.result ≡ Ok (tt {0})) × Appends written now_written t.text × (EndsThere j gone Quits ⊎ ConsumesAll left now_left gone)
+    (t.result ≡ Ok (tt {0})) × Appends written now_written t.text × (EndsThere j gone Quits ⊎ EndsAll j left now_left gone)
 Debugs j gone left now_left read_before read_now written now_written before now (Err (why.Joint e)) =
     let t : Told = transcript j (input_of gone) in
-    (t.result ≡ Err (why.Joint e)) × Appends written now_written t.text × (EndsThere j gone (Refused e) ⊎ ConsumesAll left now_left gone)
+    (t.result ≡ Err (why.Joint e)) × Appends written now_written t.text × (EndsThere j gone (Refused e) ⊎ EndsAll j left now_left gone)
 Debugs j gone left now_left read_before read_now written now_written before now (Err ReadFault) =
     let a : Answer = answers (input_of gone).lines (begin j) in
     (a.ends ≡ GoesOn) × ((input_of gone).refused ≡ None) × Appends written now_written a.text × Rose read_before read_now

@@ -14,5 +14,7 @@ mod sending;
 mod session;
 mod texts;
 
+pub use command::Command;
 pub use debugger::debug;
 pub use error::DebugError;
+pub use session::Ending;

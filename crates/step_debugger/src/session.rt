@@ -20,7 +20,7 @@ use std::alloc::{AllocError, Global};
 
 /// Whether a session goes on after a command.
 #[derive(Debug, Drop)]
-pub(crate) enum Ending {
+pub enum Ending {
     GoesOn,
     /// The command ended it.
     Quits,

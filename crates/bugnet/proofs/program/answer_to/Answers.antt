@@ -1,7 +1,15 @@
-use Rattle.bugnet.proofs.Loads.{record-answers}
+use Rattle.std.proofs.Common.{◌≡◌}
+use Rattle.demo_run.specs.Demonstration.{demo_text}
+use Rattle.bugnet.specs.Told.{Told, printed}
+use Rattle.bugnet.proofs.Loads.{record-answers, gives-any}
 use Rattle.bugnet.proofs.program.answer_to.Goals as goal
 
 pub returns-in-Record-clause-told : goal.returns-in-Record-clause-told
 returns-in-Record-clause-told g c =
     rw c.in-Record.is
-    (record-answers (g.S.Store.files c.args.store.now) c.args.names.now c.in-Record.recording c.manner_of.result c.is_some.result c.record_files.result (rw c.in-Record.is at c.requires) c.manner_of.ensures c.is_some.ensures c.record_files.ensures.told)
+    (record-answers (g.S.Store.files c.args.store.now) c.args.names.now c.in-Record.recording c.manner_of.result c.is_some.result c.record_files.result (rw c.in-Record.is at c.requires.named) c.manner_of.ensures c.is_some.ensures c.record_files.ensures.told)
+
+pub returns-in-Demo-clause-told : goal.returns-in-Demo-clause-told
+returns-in-Demo-clause-told g c =
+    rw c.in-Demo.is
+    (gives-any (g.S.Store.files c.args.store.now) c.args.names.now (λ (what : Told). what ≡ printed (demo_text c.in-Demo.seed)) c.demonstrate.result c.demonstrate.ensures.gives)

@@ -1,4 +1,4 @@
-use Rattle.std.proofs.Common.{Option, None, sym, ap, ◌∙◌, subst, refl, inl, inr, ◌≡◌}
+use Rattle.std.proofs.Common.{Option, None, sym, ap, ◌∙◌, subst, refl, inl, inr, ◌≡◌, arith}
 use Rattle.std.specs.Prelude.{Err}
 use Rattle.command_words.specs.Words.{Line, command_in}
 use Rattle.command_words.specs.declared.error.WordsError.{WordsError}
@@ -9,12 +9,16 @@ use Rattle.bugnet.specs.Outside.{ToldRefusal}
 use Rattle.bugnet.specs.Run.{call, TellsAnswer, ByWords}
 use Rattle.bugnet.specs.declared.refusal.Refusal.TheVariants.{WordsRefused, OutOfMemory}
 use Rattle.bugnet.specs.Asks.{LineSaves}
+use Rattle.bugnet.specs.Debugging.{Debugs}
+use Rattle.bugnet.specs.Laws.{IsNoSession}
+use Rattle.bugnet.proofs.Debugs.{debugs-early, not-read}
 use Rattle.bugnet.proofs.Asks.{line-none, memory-saves}
 use Rattle.bugnet.proofs.Prints.{appends-nothing}
 use Rattle.bugnet.proofs.Tells.{refusal-answers, memory-names, with-any, answers-keep, answers-few}
 use Rattle.bugnet.proofs.Causes.{memory-words}
 use Rattle.bugnet.proofs.Suffices.{prints-run}
 use Rattle.bugnet.proofs.Jointly.{prints-jointly}
+use Rattle.bugnet.proofs.Agrees.{call-audits}
 use Rattle.bugnet.proofs.Complete.{call-done}
 use Rattle.bugnet.specs.Saves.{LeavesRun}
 use Rattle.bugnet.proofs.Leaves.{leaves-none, told-apart}
@@ -163,3 +167,45 @@ returns-in-Err-OutOfMemory-clause-saves g c =
 pub returns-in-Ok-clause-saves : goal.returns-in-Ok-clause-saves
 returns-in-Ok-clause-saves g c =
     subst (λ (l : Option Line). LineSaves l c.obey.result (g.S.Store.saves c.args.store.now) (g.S.Store.saves c.obey.new.store)) (sym c.in-Ok.ensures.taken) c.obey.ensures.saves
+
+pub returns-in-Err-Refused-clause-session : goal.returns-in-Err-Refused-clause-session
+returns-in-Err-Refused-clause-session g c =
+    let k = call (g.S.Store.files) (g.S.Store.counts) (g.O.Sink.written) (g.O.Sink.faults) (g.X.Sink.written) (g.X.Sink.faults) c.args.store.now c.args.out.now c.args.err.now c.args.store.now c.args.out.now c.refuse.new.err in
+    let none : command_in c.args.words.now ≡ None = c.read_words.ensures.refused (c.in-Err-Refused.is ∙ ap (λ (e : WordsError). Err e) c.in-Err-Refused.field-0-is) in
+    subst (λ (l : Option Line). Debugs l c.refuse.result (g.I.Source.left c.args.input.now) (g.I.Source.left c.args.input.now) (g.I.Source.faults c.args.input.now) (g.I.Source.faults c.args.input.now) k) (sym none) tt
+
+pub returns-in-Err-Refused-clause-read : goal.returns-in-Err-Refused-clause-read
+returns-in-Err-Refused-clause-read g c = λ e. absurd (not-read c.none.result WordsRefused c.refuse.result _ _ _ _ (λ f. omega (arith, f)) c.refuse.ensures.told e)
+
+pub returns-in-Err-OutOfMemory-clause-session : goal.returns-in-Err-OutOfMemory-clause-session
+returns-in-Err-OutOfMemory-clause-session g c =
+    let k = call (g.S.Store.files) (g.S.Store.counts) (g.O.Sink.written) (g.O.Sink.faults) (g.X.Sink.written) (g.X.Sink.faults) c.args.store.now c.args.out.now c.args.err.now c.args.store.now c.args.out.now c.refuse-in-Err-OutOfMemory.new.err in
+    let line = command_in c.args.words.now in
+    debugs-early line c.refuse-in-Err-OutOfMemory.result (g.I.Source.left c.args.input.now) (g.I.Source.faults c.args.input.now) k (appends-nothing (g.O.Sink.written c.args.out.now)) refl
+    (memory-names c.none-in-Err-OutOfMemory.result (names_by line) c.refuse-in-Err-OutOfMemory.result k.old.err k.new.err k.old.err_faults k.new.err_faults c.refuse-in-Err-OutOfMemory.ensures.told)
+
+pub returns-in-Err-OutOfMemory-clause-read : goal.returns-in-Err-OutOfMemory-clause-read
+returns-in-Err-OutOfMemory-clause-read g c = λ e. absurd (not-read c.none-in-Err-OutOfMemory.result OutOfMemory c.refuse-in-Err-OutOfMemory.result _ _ _ _ (λ f. omega (arith, f)) c.refuse-in-Err-OutOfMemory.ensures.told e)
+
+pub returns-in-Ok-clause-session : goal.returns-in-Ok-clause-session
+returns-in-Ok-clause-session g c =
+    let k = call (g.S.Store.files) (g.S.Store.counts) (g.O.Sink.written) (g.O.Sink.faults) (g.X.Sink.written) (g.X.Sink.faults) c.args.store.now c.args.out.now c.args.err.now c.obey.new.store c.obey.new.out c.obey.new.err in
+    subst (λ (l : Option Line). Debugs l c.obey.result (g.I.Source.left c.args.input.now) (g.I.Source.left c.obey.new.input) (g.I.Source.faults c.args.input.now) (g.I.Source.faults c.obey.new.input) k) (sym c.in-Ok.ensures.taken) c.obey.ensures.session
+
+pub returns-in-Ok-clause-unread : goal.returns-in-Ok-clause-unread
+returns-in-Ok-clause-unread g c = λ no. c.obey.ensures.unread (subst (λ (l : Option Line). IsNoSession l) c.in-Ok.ensures.taken no)
+
+pub returns-in-Err-Refused-clause-audited : goal.returns-in-Err-Refused-clause-audited
+returns-in-Err-Refused-clause-audited g c =
+    let k = call (g.S.Store.files) (g.S.Store.counts) (g.O.Sink.written) (g.O.Sink.faults) (g.X.Sink.written) (g.X.Sink.faults) c.args.store.now c.args.out.now c.args.err.now c.args.store.now c.args.out.now c.refuse.new.err in
+    call-audits c.audits_agree.ensures (command_in c.args.words.now) c.refuse.result k (returns-in-Err-Refused-clause-told g c)
+
+pub returns-in-Err-OutOfMemory-clause-audited : goal.returns-in-Err-OutOfMemory-clause-audited
+returns-in-Err-OutOfMemory-clause-audited g c =
+    let k = call (g.S.Store.files) (g.S.Store.counts) (g.O.Sink.written) (g.O.Sink.faults) (g.X.Sink.written) (g.X.Sink.faults) c.args.store.now c.args.out.now c.args.err.now c.args.store.now c.args.out.now c.refuse-in-Err-OutOfMemory.new.err in
+    call-audits c.audits_agree.ensures (command_in c.args.words.now) c.refuse-in-Err-OutOfMemory.result k (returns-in-Err-OutOfMemory-clause-told g c)
+
+pub returns-in-Ok-clause-audited : goal.returns-in-Ok-clause-audited
+returns-in-Ok-clause-audited g c =
+    let k = call (g.S.Store.files) (g.S.Store.counts) (g.O.Sink.written) (g.O.Sink.faults) (g.X.Sink.written) (g.X.Sink.faults) c.args.store.now c.args.out.now c.args.err.now c.obey.new.store c.obey.new.out c.obey.new.err in
+    call-audits c.audits_agree.ensures (command_in c.args.words.now) c.obey.result k (returns-in-Ok-clause-told g c)

@@ -4,7 +4,7 @@ use Rattle.clap.specs.Words.{App}
 use Rattle.clap.specs.Simple.{app_of_fields}
 use Rattle.clap.specs.declared.builder.command.Command.{Command}
 use Rattle.clap.specs.declared.builder.command.Command.TheOpen.{Command-F}
-use Rattle.command_words.specs.App.{IsSeenAs, record_app, replay_app, joint_app, log_app, top_app}
+use Rattle.command_words.specs.App.{IsSeenAs, record_app, replay_app, pair_app, log_app, audit_app, demo_app, top_app}
 use Rattle.command_words.proofs.Chain.{more_sub}
 use Rattle.command_words.proofs.definition.bugnet_command.Goals as goal
 
@@ -17,6 +17,9 @@ returns c =
     ) in
     let s1 = more_sub _ record_app c.in_ok-command.ensures c.in_ok-record_command.ensures s0 in
     let s2 = more_sub _ replay_app c.in_ok-command-2.ensures c.in_ok-replay_command.ensures s1 in
-    let s3 = more_sub _ joint_app c.in_ok-command-3.ensures c.in_ok-joint_command.ensures s2 in
-    let s4 = more_sub _ (log_app (codes "list")) c.in_ok-command-4.ensures c.in_ok-log_command.ensures s3 in
-    IfOk-weaker c.subcommand-5.result _ _ (λ r h. more_sub _ (log_app (codes "check")) h c.in_ok-log_command-2.ensures s4) c.subcommand-5.ensures
+    let s3 = more_sub _ (pair_app (codes "joint")) c.in_ok-command-3.ensures c.in_ok-pair_command.ensures s2 in
+    let s4 = more_sub _ (pair_app (codes "debug")) c.in_ok-command-4.ensures c.in_ok-pair_command-2.ensures s3 in
+    let s5 = more_sub _ (log_app (codes "list")) c.in_ok-command-5.ensures c.in_ok-log_command.ensures s4 in
+    let s6 = more_sub _ (log_app (codes "check")) c.in_ok-command-6.ensures c.in_ok-log_command-2.ensures s5 in
+    let s7 = more_sub _ audit_app c.in_ok-command-7.ensures c.in_ok-audit_command.ensures s6 in
+    IfOk-weaker c.subcommand-8.result _ _ (λ r h. more_sub _ demo_app h c.in_ok-demo_command.ensures s7) c.subcommand-8.ensures

@@ -1,65 +1,11 @@
-use Rattle.std.proofs.Common.{◌≡◌, sym, subst, ap, ◌∙◌, arith, true}
-use Rattle.std.specs.Prelude.{Vec, IsTrue}
-use Rattle.std.specs.Global.{Global}
-use Rattle.run_model.specs.declared.hart.Hart.{Hart}
-use Rattle.run_model.specs.declared.start.Start.{Start}
-use Rattle.run_model.specs.Counts.{IsFit}
 use Rattle.run_model.specs.Stands.Harts.{hart_in}
-use Rattle.run_model.specs.Machine.{call_of}
-use Rattle.run_model.specs.Stands.Plain.{IsRun}
-use Rattle.run_model.specs.Turn.{Run, is_orderly, is_guarded, serve_call}
-use Rattle.run_model.specs.Stands.Turning.{parts}
-use Rattle.run_model.proofs.Owns.{hart_at, hart_of_run}
-use Rattle.run_model.proofs.OneTurn.{live_within, ordered_at, small_count, passes_of, turn_is, ask_is}
+use Rattle.run_model.proofs.Owns.{hart_at}
+use Rattle.run_model.proofs.OneTurn.{live_within, ask_is}
 use Rattle.run_model.proofs.plain.Plain.turn.Goals as goal
 
-pub prepare-requires : goal.prepare-requires
-prepare-requires c =
+pub take_asked-requires-clause-asked : goal.take_asked-requires-clause-asked
+take_asked-requires-clause-asked c =
     let p = c.args.self.now in let k = c.args.hart in let hs = p.trace.harts.items in
-    let x = c.index-before.result.now in let h = hart_in hs k in
+    let x = c.index-before.result.now in
     let live = live_within hs k c.requires in
-    let there : x ≡ h = hart_at hs k x live.0 c.index-before.ensures in
-    let fit : IsFit p.start.settings x = subst (λ (y : Hart). IsFit p.start.settings y) (sym there) (p.fits.each k (omega (arith, live.0, p.fits.harts))).fit.fit in
-    let b = c.budget-budget in
-    let o = ordered_at p.start.settings p.start.image x h c.quiet_run-ask.result b.result there b.ensures (c.quiet_run-ask.ensures.orderly (small_count p.start.settings x b.result p.fits.settings.limit_high fit b.ensures)) in
-    passes_of p.start.settings p.start.image h c.quiet_run-ask.result o
-
-pub apply-requires-clause-hart : goal.apply-requires-clause-hart
-apply-requires-clause-hart c =
-    let p = c.args.self.now in
-    let live = live_within p.trace.harts.items c.args.hart c.requires in
-    omega (arith, live.0, p.fits.harts, ap (λ (s : Start). s.settings.harts) c.prepare.ensures.start)
-
-pub apply-requires-clause-live : goal.apply-requires-clause-live
-apply-requires-clause-live c =
-    let live = live_within c.args.self.now.trace.harts.items c.args.hart c.requires in
-    subst (λ (v : Vec Hart Global). (hart_in v.items c.args.hart).live ≡ true) (sym c.prepare.ensures.harts) live.1
-
-pub apply-requires-clause-orderly : goal.apply-requires-clause-orderly
-apply-requires-clause-orderly c =
-    let p = c.args.self.now in let k = c.args.hart in let hs = p.trace.harts.items in
-    let x = c.index-before.result.now in let h = hart_in hs k in
-    let live = live_within hs k c.requires in
-    let there : x ≡ h = hart_at hs k x live.0 c.index-before.ensures in
-    let fit : IsFit p.start.settings x = subst (λ (y : Hart). IsFit p.start.settings y) (sym there) (p.fits.each k (omega (arith, live.0, p.fits.harts))).fit.fit in
-    let b = c.budget-budget in
-    let o = ordered_at p.start.settings p.start.image x h c.quiet_run-ask.result b.result there b.ensures (c.quiet_run-ask.ensures.orderly (small_count p.start.settings x b.result p.fits.settings.limit_high fit b.ensures)) in
-    subst (λ (s : Start). IsTrue (is_orderly s.settings s.image (hart_in c.prepare.new.self.trace.harts.items k) c.quiet_run-ask.result)) (sym c.prepare.ensures.start)
-    (subst (λ (v : Vec Hart Global). IsTrue (is_orderly p.start.settings p.start.image (hart_in v.items k) c.quiet_run-ask.result)) (sym c.prepare.ensures.harts) o)
-
-pub returns-clause-run : goal.returns-clause-run
-returns-clause-run c run is =
-    let p = c.args.self.now in let k = c.args.hart in let hs = p.trace.harts.items in
-    let x = c.index-before.result.now in let h = run.harts k in
-    let live = live_within hs k c.requires in
-    let there : x ≡ h = hart_at hs k x live.0 c.index-before.ensures ∙ hart_of_run hs k run.harts is.trace.harts live.0 in
-    let fit : IsFit p.start.settings x = subst (λ (y : Hart). IsFit p.start.settings y) (sym (hart_at hs k x live.0 c.index-before.ensures)) (p.fits.each k (omega (arith, live.0, p.fits.harts))).fit.fit in
-    let b = c.budget-budget in
-    let ask = c.quiet_run-ask.result in
-    let o = ordered_at p.start.settings p.start.image x h ask b.result there b.ensures (c.quiet_run-ask.ensures.orderly (small_count p.start.settings x b.result p.fits.settings.limit_high fit b.ensures)) in
-    let same = c.prepare.ensures.start in
-    let is_new = c.prepare.ensures.run run is in
-    let call : c.in_ok-call.call ≡ call_of p.start.image run.machine ask.want = c.in_ok-call.ensures.call run.machine is_new.machine ∙ ap (λ (s : Start). call_of s.image run.machine ask.want) same in
-    let asked = ask_is p.start.settings p.start.image x h ask b.result there b.ensures c.quiet_run-ask.ensures.value in
-    subst (λ (r : Run). IsRun (parts c.apply.new.self) r) (turn_is p.start.settings p.start.image run k ask c.in_ok-call.call asked call o)
-    (subst (λ (s : Start). IsRun (parts c.apply.new.self) (serve_call s.settings run k ask (is_guarded s.settings run k ask.want) c.in_ok-call.call).run) same (c.apply.ensures.run run is_new))
+    ask_is p.start.settings p.start.image x (hart_in hs k) c.quiet_run-ask.result c.budget-budget.result (hart_at hs k x live.0 c.index-before.ensures) c.budget-budget.ensures c.quiet_run-ask.ensures.value

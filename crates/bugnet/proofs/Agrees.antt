@@ -1,0 +1,132 @@
+-- What it means that an audit is done.
+use Rattle.std.proofs.Common.{◌≡◌, ℕ, Bool, true, false, List, Option, Some, None, ◌∙◌, ap, subst, sym, refl, inl, inr, ◌⊎◌}
+use Rattle.std.specs.Prelude.{Result, Ok, Err, is_some}
+use Rattle.std.specs.Str.{bytes_eq}
+use Rattle.std.proofs.lemmas.Slice.Eq.{bytes_eq-Decides}
+use Rattle.sha2.specs.Sha256.{sha256}
+use Rattle.bn_base.specs.Programs.{Program}
+use Rattle.bn_outside.specs.Files.{Files}
+use Rattle.elf_loader.specs.Loaded.{image_of}
+use Rattle.elf_loader.specs.declared.error.ElfError.{ElfError}
+use Rattle.log_order.specs.Content.{Content, IsContent}
+use Rattle.log_file.specs.Layout.{file_bytes}
+use Rattle.log_file.specs.declared.error.FileError.{FileError}
+use Rattle.run_model.specs.Files.{file_of}
+use Rattle.run_model.specs.Lists.{list_error}
+use Rattle.run_model.specs.Audits.{IsVerdict, verdict_of, VerdictsAreUnique}
+use Rattle.run_model.specs.declared.error.TurnError.{TurnError}
+use Rattle.run_model.specs.declared.verdict.Verdict.{Verdict}
+use Rattle.run_model.specs.declared.verdict.Verdict.TheVariants.{Agree, Differ}
+use Rattle.bus_core.specs.Bus.{Began}
+use Rattle.hart_worker.specs.Laws.{WholeRunsHaveNoError}
+use Rattle.command_words.specs.Words.{Line, RecordLine, ReplayLine, JointLine, DebugLine, ListLine, CheckLine, AuditLine, DemoLine}
+use Rattle.bugnet.specs.Names.{FileNames}
+use Rattle.bugnet.specs.Told.{Told, refused}
+use Rattle.bugnet.specs.Commands.{WithFile, Reads, IsByLog, by_log}
+use Rattle.bugnet.specs.Pairs.{ByPair, pair_loaded, pair_same, pair_of}
+use Rattle.bugnet.specs.Answers.{names_in, names_by, IsAnswer}
+use Rattle.bugnet.specs.Audits.{verdict_told, turns_told, audited, IsAuditOf, IsAuditWith, IsAuditBy, IsAuditIn, IsAudit, Agrees}
+use Rattle.bugnet.specs.Agreements.{AuditsAgree, AuditsRun}
+use Rattle.bugnet.specs.Outside.{WithFiles}
+use Rattle.bugnet.specs.Run.{Call, Tells, StoppedEarly, SomeTold, TellsAnswer}
+use Rattle.bugnet.specs.Saves.{IsRecorded}
+use Rattle.bugnet.specs.declared.names.Role.TheVariants as role
+use Rattle.bugnet.specs.declared.refusal.Refusal.TheVariants.{ElfRefused, LogRefused, ProgramDiffers, BookRefused, FileDiffers}
+use Rattle.bugnet.proofs.Leaves.{by-file, by-input, refused-apart, free-apart}
+use Rattle.bugnet.proofs.Tells.{with-files, stopped-free, early-free}
+
+pub record AuditLaws : Type 0 where
+  pub verdicts : VerdictsAreUnique
+  pub errors : WholeRunsHaveNoError
+
+-- an answer by a log that was read
+by-log : (names : FileNames) (bytes : List ℕ) (go : Content → Told) (what : Told) → IsByLog names bytes go what → IsRecorded what.status → (d : Content) × IsContent d × (bytes ≡ file_bytes d) × (what ≡ go d)
+by-log names bytes go what h is = by-says names bytes go what h.says h.reads h.is is
+  where
+    by-says : (names : FileNames) (bytes : List ℕ) (go : Content → Told) (what : Told) (says : Result Content FileError) → Reads bytes says → what ≡ by_log names go says → IsRecorded what.status
+        → (d : Content) × IsContent d × (bytes ≡ file_bytes d) × (what ≡ go d)
+    by-says names bytes go what (Ok d) reads e is = (d, reads.0, reads.1, e)
+    by-says names bytes go what (Err x) reads e is = absurd (refused-apart names (LogRefused x) what e is)
+
+-- and by its program
+by-program : (go : ByPair) (names : FileNames) (elf : List ℕ) (d : Content) (what : Told) (same : Bool) (i : Result Program ElfError) → bytes_eq (sha256 elf) d.head.digest ≡ same → image_of elf d.head.settings ≡ i
+    → what ≡ pair_of go names elf d → IsRecorded what.status → (bytes_eq (sha256 elf) d.head.digest ≡ true) × ((p : Program) × (image_of elf d.head.settings ≡ Ok p) × (what ≡ go d p))
+by-program go names elf d what false i s l e is =
+    absurd (refused-apart names (ProgramDiffers d.head.digest (sha256 elf)) what (e ∙ ap (λ (b : Bool). pair_same b go names elf d) s) is)
+by-program go names elf d what true (Err x) s l e is =
+    absurd (refused-apart names (ElfRefused x) what (e ∙ ap (λ (b : Bool). pair_same b go names elf d) s ∙ ap (λ (r : Result Program ElfError). pair_loaded go names d r) l) is)
+by-program go names elf d what true (Ok p) s l e is =
+    (s, (p, l, e ∙ ap (λ (b : Bool). pair_same b go names elf d) s ∙ ap (λ (r : Result Program ElfError). pair_loaded go names d r) l))
+
+-- a whole run, and bytes that agree
+by-turns : (names : FileNames) (what : Told) (o : Option TurnError) (v : Verdict) → what ≡ turns_told o names v → IsRecorded what.status → (o ≡ None) × (v ≡ Agree)
+by-turns names what (Some x) v e is = absurd (refused-apart names (BookRefused x) what e is)
+by-turns names what None (Differ place) e is = absurd (refused-apart names (FileDiffers place) what e is)
+by-turns names what None Agree e is = (refl, refl)
+
+same-file : VerdictsAreUnique → (file log : List ℕ) → verdict_of file log ≡ Agree → log ≡ file
+same-file law file log e = subst (λ (v : Verdict). IsVerdict file log v) e (law.is file log)
+
+agrees : AuditLaws → (log elf book : List ℕ) (input : Option (List ℕ)) (files : Files) (what : Told) → IsAudit files (names_in (AuditLine log elf book input)) (is_some input) what → IsRecorded what.status → Agrees log elf book input files
+unfolding WithFile
+agrees laws log elf book input files what h is =
+    let names = names_in (AuditLine log elf book input) in
+    let has = is_some input in
+    let l = by-file (files log) names role.Log 268500992 (λ log what. IsAuditIn files names has log what) what h is in
+    let e = by-file (files elf) names role.Elf 67108864 (λ elf what. IsAuditBy files names has l.0 elf what) what l.2 is in
+    let b = by-file (files book) names role.Book 1073741824 (λ book what. IsAuditWith files names has l.0 e.0 book what) what e.2 is in
+    let i = by-input input elf log book files (IsAuditOf names l.0 e.0 b.0) what b.2 is in
+    let go = audited names l.0 b.0 i.0 in
+    let d = by-log names l.0 (pair_of go names e.0) what i.2 is in
+    let c = d.0.head.settings in
+    let p = by-program go names e.0 d.0 what (bytes_eq (sha256 e.0) d.0.head.digest) (image_of e.0 c) refl refl d.3 is in
+    let program = p.1.0 in
+    let file = file_of c program d.0.head.digest i.0 b.0 in
+    let t = by-turns names what (list_error c program i.0 b.0) (verdict_of file l.0) p.1.2 is in
+    let began : Began = record { image = program; settings = c; input = i.0; digest = d.0.head.digest } in
+    let ends = (laws.errors began b.0).0 t.0 in
+    let digest : sha256 e.0 ≡ d.0.head.digest = (bytes_eq-Decides (sha256 e.0) d.0.head.digest).0 p.0 in
+    record {
+      settings = c;
+      bytes = e.0;
+      program = program;
+      given = i.0;
+      turns = b.0;
+      elf_there = e.1;
+      elf_small = e.3;
+      book_there = b.1;
+      book_small = b.3;
+      input_there = i.1;
+      input_small = i.3;
+      setting = d.1.settings;
+      loaded = p.1.1;
+      whole = record { legal = ends.0; over = ends.1 };
+      log_there = l.1 ∙ ap (λ (bytes : List ℕ). Some bytes) (same-file laws.verdicts file l.0 t.1 ∙ ap (λ (x : List ℕ). file_of c program x i.0 b.0) (sym digest));
+    }
+
+pub audits-agree : AuditLaws → AuditsAgree
+audits-agree laws log elf book input files what h done = agrees laws log elf book input files what h (inl done)
+
+-- ---- a call
+
+zero-told : (line : Line) (what : Told) (status : ℕ) (k : Call) → Tells (names_in line) what status k → status ≡ 0 → what.status ≡ 0
+zero-told line what status k (inl d) done = sym d.status_is ∙ done
+zero-told line what status k (inr s) done = absurd (free-apart status (stopped-free (names_in line) what status k s) (inl done))
+
+audits-done : AuditsAgree → (line : Option Line) (files : Files) (status : ℕ) (k : Call) → SomeTold (IsAnswer line files) (λ what. Tells (names_by line) what status k) ⊎ StoppedEarly line files status k → AuditsRun line files status
+audits-done law None files status k a = tt
+audits-done law (Some (RecordLine r)) files status k a = tt
+audits-done law (Some (ReplayLine log elf hart interval)) files status k a = tt
+audits-done law (Some (JointLine log elf)) files status k a = tt
+audits-done law (Some (DebugLine log elf)) files status k a = tt
+audits-done law (Some (ListLine log)) files status k a = tt
+audits-done law (Some (CheckLine log)) files status k a = tt
+audits-done law (Some (AuditLine log elf book input)) files status k (inl (what, is, tells)) = λ done.
+    law log elf book input files what is (zero-told (AuditLine log elf book input) what status k tells done)
+audits-done law (Some (AuditLine log elf book input)) files status k (inr early) = λ done. absurd (free-apart status (early-free (Some (AuditLine log elf book input)) files status k early) (inl done))
+audits-done law (Some (DemoLine seed)) files status k a = tt
+
+pub call-audits : AuditsAgree → (line : Option Line) (status : ℕ) (k : Call) → TellsAnswer line status k → WithFiles k.old.files (λ files. AuditsRun line files status)
+call-audits law line status k h =
+    with-files k.old.files (λ files. SomeTold (IsAnswer line files) (λ what. Tells (names_by line) what status k) ⊎ StoppedEarly line files status k) (λ files. AuditsRun line files status)
+    (λ files a. audits-done law line files status k a) h

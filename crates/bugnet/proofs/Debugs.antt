@@ -1,0 +1,511 @@
+-- What a session of the debugger tells, and what it shows.
+use Rattle.std.proofs.Common.{◌≡◌, ◌≢◌, ◌≤◌, ◌⊎◌, ℕ, ◌+◌, Bool, true, false, nat_lt, List, [], ◌∷◌, ◌++◌, length, Option, Some, None, ◌∙◌, ap, subst, sym, refl, arith, inl, inr}
+use Rattle.std.specs.Prelude.{Result, Ok, Err}
+use Rattle.std.specs.Io.KnownBytes.{Appends, Consumes}
+use Rattle.std.proofs.KnownBytes.{Consumes-nil}
+use Rattle.bn_outside.specs.Counts.{Counts, Rose}
+use Rattle.bn_outside.specs.Files.{Files, WhereTold}
+use Rattle.bn_outside.specs.Streams.{AppendsPart, ConsumesAll}
+use Rattle.command_words.specs.Words.{Line, RecordLine, ReplayLine, JointLine, DebugLine, ListLine, CheckLine, AuditLine, DemoLine}
+use Rattle.hart_replay.specs.declared.error.ReplayError.TheVariants as replay
+use Rattle.joint_replay.specs.declared.error.JointError.{JointError}
+use Rattle.joint_replay.specs.declared.error.JointError.TheVariants.{Replay, Stuck}
+use Rattle.joint_replay.specs.declared.error.JointError.TheVariants as joint
+use Rattle.joint_replay.specs.Joining.{Joining}
+use Rattle.joint_laws.specs.Recordings.{Recording, begin, kept}
+use Rattle.step_debugger.specs.Answers.{Answer}
+use Rattle.step_debugger.specs.Answers.{begin as session_begin}
+use Rattle.step_debugger.specs.Lines.{Input, line_limit, input_limit, is_line_feed, is_over, ends_in, with_line, input_from, input_of}
+use Rattle.step_debugger.specs.Transcript.{answers, lines_in, result_by, transcript, EndsThere, EndsAll, Debugs, Debugged}
+use Rattle.step_debugger.specs.Transcript.{Told as Transcript}
+use Rattle.step_debugger.specs.declared.error.DebugError.{DebugError}
+use Rattle.step_debugger.specs.declared.error.DebugError.TheVariants as stop
+use Rattle.step_debugger.specs.declared.session.Ending.{Ending}
+use Rattle.step_debugger.specs.declared.session.Ending.TheVariants as ending
+use Rattle.bugnet.specs.Names.{FileNames}
+use Rattle.bugnet.specs.Refusals.{status_of}
+use Rattle.bugnet.specs.Told.{Told, refused}
+use Rattle.bugnet.specs.Commands.{Either}
+use Rattle.bugnet.specs.Pairs.{ByPair, IsPair}
+use Rattle.bugnet.specs.Joined.{joint_status}
+use Rattle.bugnet.specs.Answers.{names_in, names_by, IsAnswer}
+use Rattle.bugnet.specs.Debugging.{ShowsRun, SessionsShowTheRun, session_of, HasRun, DoneSession, ShowsSession, RecordingsCanBeDebugged, DebugsFiles}
+use Rattle.bugnet.specs.Debugging.{Debugs as DebugsLine}
+use Rattle.bugnet.specs.Laws.{IsNoSession}
+use Rattle.bugnet.specs.Outside.{WithFiles, SendStops, ToldRefusal, Wrote, SameFiles, IsEarly, GivesOf, RefusalCause}
+use Rattle.bugnet.specs.Run.{Call, printing, IsFree, AreKept, SomeTold, Tells, StoppedBy, StoppedEarly, TellsAnswer}
+use Rattle.bugnet.specs.Sessions.{Commands, cut, input_in, NoQuit, EndsWithQuit, AreRead, stop_status, stop_line, session_status, session_line, session_told, debug_with, IsSession, IsDebug, is_begun}
+use Rattle.bugnet.specs.Steps.{ToldStop, DebugsPair, DebugsNamed}
+use Rattle.bugnet.specs.declared.names.Role.{Role}
+use Rattle.bugnet.specs.declared.names.Role.TheVariants as role
+use Rattle.bugnet.specs.declared.pairs.JointReading.{JointReading}
+use Rattle.bugnet.specs.declared.refusal.Refusal.{Refusal}
+use Rattle.bugnet.specs.declared.refusal.Refusal.TheVariants.{TooLong}
+use Rattle.bugnet.specs.declared.refusal.Refusal.TheVariants as why
+use Rattle.bugnet.proofs.Causes.{Causes, caused}
+use Rattle.bugnet.proofs.Complete.{session-done}
+use Rattle.bugnet.proofs.Jointly.{log_of, pair-so, are-pair}
+use Rattle.bugnet.proofs.Leaves.{told-apart}
+use Rattle.bugnet.proofs.Prints.{appends-nothing, part-none, part-whole}
+use Rattle.bugnet.proofs.Sessions.{no-quit, last-quit}
+use Rattle.bugnet.proofs.Single.{Grammar, one-session}
+use Rattle.bugnet.proofs.Suffices.{FileLaws}
+use Rattle.bugnet.proofs.Tells.{with-files, refused-told, stopped-told, stopped-free, early-free, same-files, untouched, with-any}
+
+-- ---- the status by the end of a session
+
+joint-is : (e : JointError) → (joint_status (Some e) ≡ 9) ⊎ ((joint_status (Some e) ≡ 14) ⊎ (joint_status (Some e) ≡ 15))
+joint-is (Replay (replay.NoInterval hart interval)) = inr (inl refl)
+joint-is (Replay (replay.LoadMissing hart ic addr)) = inr (inr refl)
+joint-is (Replay (replay.ScMissing hart ic)) = inr (inr refl)
+joint-is (Replay (replay.RecordsLeft hart left)) = inr (inr refl)
+joint-is (Replay (replay.EndDiffers hart said found)) = inr (inr refl)
+joint-is (Replay replay.OutOfMemory) = inr (inr refl)
+joint-is (Stuck positions) = inr (inr refl)
+joint-is joint.OutOfMemory = inl refl
+
+-- such a status is one of a session that was begun, and none of a read or a write that failed, or of one that is done
+record Ends (status : ℕ) : Type 0 where
+  pub begun : is_begun status ≡ true
+  pub read : status ≢ 12
+  pub write : status ≢ 13
+  pub zero : status ≢ 0
+
+ends-at : (status n : ℕ) → status ≡ n → is_begun n ≡ true → n ≢ 12 → n ≢ 13 → n ≢ 0 → Ends status
+ends-at status n e b r w z = record {
+  begun = subst (λ (m : ℕ). is_begun m ≡ true) (sym e) b;
+  read = λ f. r (sym e ∙ f);
+  write = λ f. w (sym e ∙ f);
+  zero = λ f. z (sym e ∙ f);
+}
+
+at-9 : (status : ℕ) → status ≡ 9 → Ends status
+at-9 status e = ends-at status 9 e refl (λ f. omega (arith, f)) (λ f. omega (arith, f)) (λ f. omega (arith, f))
+
+at-18 : (status : ℕ) → status ≡ 18 → Ends status
+at-18 status e = ends-at status 18 e refl (λ f. omega (arith, f)) (λ f. omega (arith, f)) (λ f. omega (arith, f))
+
+at-joint : (status n : ℕ) → status ≡ n → (n ≡ 9) ⊎ ((n ≡ 14) ⊎ (n ≡ 15)) → Ends status
+at-joint status n e (inl h) = at-9 status (e ∙ h)
+at-joint status n e (inr (inl h)) = ends-at status 14 (e ∙ h) refl (λ f. omega (arith, f)) (λ f. omega (arith, f)) (λ f. omega (arith, f))
+at-joint status n e (inr (inr h)) = ends-at status 15 (e ∙ h) refl (λ f. omega (arith, f)) (λ f. omega (arith, f)) (λ f. omega (arith, f))
+
+-- the status of an end, or of a line for it that found no memory
+abbrev StatusOf : DebugError → ℕ → Type 0
+StatusOf e status = (status ≡ stop_status e) ⊎ (status ≡ 9)
+
+pub status-of : (names : FileNames) (e : DebugError) (status : ℕ) (old new : Option (List ℕ)) (before now : ℕ) → ToldStop names e status old new before now → StatusOf e status
+status-of names e status old new before now (inl h) = inl h.0
+status-of names e status old new before now (inr h) = inr h.0
+
+-- an end that isn't of a read or a write
+abbrev IsOther : DebugError → Type 0
+IsOther stop.ReadFault = ⊥
+IsOther stop.WriteFault = ⊥
+IsOther e = Unit {0}
+
+other-ends : (e : DebugError) (status : ℕ) → IsOther e → StatusOf e status → Ends status
+other-ends stop.ReadFault status o h = absurd o
+other-ends stop.WriteFault status o h = absurd o
+other-ends (stop.LineTooLong n) status o (inl h) = at-18 status h
+other-ends (stop.TooMuch n) status o (inl h) = at-18 status h
+other-ends (stop.Joint e) status o (inl h) = at-joint status (joint_status (Some e)) h (joint-is e)
+other-ends stop.OutOfMemory status o (inl h) = at-9 status h
+other-ends (stop.LineTooLong n) status o (inr h) = at-9 status h
+other-ends (stop.TooMuch n) status o (inr h) = at-9 status h
+other-ends (stop.Joint e) status o (inr h) = at-9 status h
+other-ends stop.OutOfMemory status o (inr h) = at-9 status h
+
+pub stop-begun : (names : FileNames) (e : DebugError) (status : ℕ) (old new : Option (List ℕ)) (before now : ℕ) → ToldStop names e status old new before now → is_begun status ≡ true
+stop-begun names e status old new before now told = by e (status-of names e status old new before now told)
+  where
+    by : (e : DebugError) → StatusOf e status → is_begun status ≡ true
+    by stop.ReadFault (inl h) = subst (λ (m : ℕ). is_begun m ≡ true) (sym h) refl
+    by stop.ReadFault (inr h) = subst (λ (m : ℕ). is_begun m ≡ true) (sym h) refl
+    by stop.WriteFault (inl h) = subst (λ (m : ℕ). is_begun m ≡ true) (sym h) refl
+    by stop.WriteFault (inr h) = subst (λ (m : ℕ). is_begun m ≡ true) (sym h) refl
+    by (stop.LineTooLong n) h = (other-ends (stop.LineTooLong n) status tt h).begun
+    by (stop.TooMuch n) h = (other-ends (stop.TooMuch n) status tt h).begun
+    by (stop.Joint e) h = (other-ends (stop.Joint e) status tt h).begun
+    by stop.OutOfMemory h = (other-ends stop.OutOfMemory status tt h).begun
+
+-- one that was begun isn't refused for its words or its files
+pub begun-not : (status n : ℕ) → is_begun status ≡ true → is_begun n ≡ false → status ≢ n
+begun-not status n b f e = let t : is_begun n ≡ true = subst (λ (m : ℕ). is_begun m ≡ true) e b in different (is_begun n) t f
+  where
+    different : (b : Bool) → b ≡ true → b ≡ false → ⊥
+    different b x y = grind arith
+
+-- ---- what was read
+
+abbrev failed_by : DebugError → Bool
+failed_by stop.ReadFault = true
+failed_by e = false
+
+abbrev pub commands_of : List ℕ → DebugError → Commands
+commands_of bytes e = record { bytes = bytes; failed = failed_by e }
+
+abbrev pub no_commands : Commands
+no_commands = record { bytes = []; failed = false }
+
+unfailed : (bytes : List ℕ) (status : ℕ) (left now_left : Option (List ℕ)) (before now : ℕ) → Consumes left now_left bytes → status ≢ 12 → status ≢ 0 → AreRead (record { bytes = bytes; failed = false }) status left now_left before now
+unfailed bytes status left now_left before now taken read zero = record {
+  taken = taken;
+  failed = λ f. absurd cc;
+  cause = λ e. absurd (read e);
+  done = λ e. absurd (zero e);
+}
+
+-- nothing
+pub none-read : (status : ℕ) (left : Option (List ℕ)) (faults : ℕ) → status ≢ 12 → status ≢ 0 → AreRead no_commands status left left faults faults
+none-read status left faults read zero = unfailed [] status left left faults faults (Consumes-nil left) read zero
+
+-- a session that is done
+pub done-read : (j : Joining) (u : Unit {0}) (left now_left : Option (List ℕ)) (before now : ℕ) (written now_written : Option (List ℕ)) (b n : ℕ) (d : Debugged j left now_left before now written now_written b n (Ok u))
+    → AreRead (record { bytes = d.gone; failed = false }) 0 left now_left before now
+done-read j u left now_left before now written now_written b n d = record {
+  taken = d.taken;
+  failed = λ f. absurd cc;
+  cause = λ e. absurd (omega (arith, e));
+  done = λ e. by d.done.2;
+}
+  where
+    by : EndsThere j d.gone ending.Quits ⊎ EndsAll j left now_left d.gone → EndsWithQuit d.gone ⊎ (ConsumesAll left now_left d.gone × NoQuit (input_of d.gone).lines)
+    by (inl h) = inl (record { front = h.front; line = h.line; lines = h.lines; last = h.last; quit = last-quit h.front h.line (session_begin j) h.before h.there })
+    by (inr h) = inr (h.all, no-quit (input_of d.gone).lines (session_begin j) h.before)
+
+-- one that stopped
+pub stop-read : (j : Joining) (e : DebugError) (status : ℕ) (gone : List ℕ) (left now_left : Option (List ℕ)) (before now : ℕ) (written now_written : Option (List ℕ)) (b n : ℕ)
+    → Consumes left now_left gone → Debugs j gone left now_left before now written now_written b n (Err e) → StatusOf e status → AreRead (commands_of gone e) status left now_left before now
+stop-read j stop.ReadFault status gone left now_left before now written now_written b n taken d h = record {
+  taken = taken;
+  failed = λ f. (d.3, no-quit (input_of gone).lines (session_begin j) d.0);
+  cause = λ f. refl;
+  done = λ f. absurd (never h f);
+}
+  where
+    never : StatusOf stop.ReadFault status → status ≢ 0
+    never (inl x) f = omega (arith, x, f)
+    never (inr x) f = omega (arith, x, f)
+stop-read j stop.WriteFault status gone left now_left before now written now_written b n taken d h = unfailed gone status left now_left before now taken (apart h) (never h)
+  where
+    apart : StatusOf stop.WriteFault status → status ≢ 12
+    apart (inl x) f = omega (arith, x, f)
+    apart (inr x) f = omega (arith, x, f)
+
+    never : StatusOf stop.WriteFault status → status ≢ 0
+    never (inl x) f = omega (arith, x, f)
+    never (inr x) f = omega (arith, x, f)
+stop-read j (stop.LineTooLong m) status gone left now_left before now written now_written b n taken d h =
+    let o = other-ends (stop.LineTooLong m) status tt h in unfailed gone status left now_left before now taken o.read o.zero
+stop-read j (stop.TooMuch m) status gone left now_left before now written now_written b n taken d h =
+    let o = other-ends (stop.TooMuch m) status tt h in unfailed gone status left now_left before now taken o.read o.zero
+stop-read j (stop.Joint x) status gone left now_left before now written now_written b n taken d h =
+    let o = other-ends (stop.Joint x) status tt h in unfailed gone status left now_left before now taken o.read o.zero
+stop-read j stop.OutOfMemory status gone left now_left before now written now_written b n taken d h =
+    let o = other-ends stop.OutOfMemory status tt h in unfailed gone status left now_left before now taken o.read o.zero
+
+-- ---- what is told
+
+told-kept : (names : FileNames) (t : Transcript) (k : Call) → WhereTold k.old.files k.new.files SameFiles → AreKept names (session_told names t) k
+unfolding session_told
+told-kept names t k files = files
+
+-- a session that is done
+pub done-told : (names : FileNames) (t : Transcript) (k : Call) → t.result ≡ Ok (tt {0}) → Appends k.old.out k.new.out t.text → Appends k.old.err k.new.err [] → WhereTold k.old.files k.new.files SameFiles → Tells names (session_told names t) 0 k
+unfolding session_told
+done-told names t k e out err files = inl (record {
+  status_is = sym (ap session_status e);
+  out = out;
+  err = inl (subst (λ (r : Result (Unit {0}) DebugError). Appends k.old.err k.new.err (session_line names r)) (sym e) err);
+  files = files;
+})
+
+-- a part of its text was sent
+part-told : (names : FileNames) (t : Transcript) (r : Refusal) (status : ℕ) (k : Call) → AppendsPart k.old.out k.new.out t.text × SendStops k.old.out_faults k.new.out_faults r → WhereTold k.old.files k.new.files SameFiles
+    → ToldRefusal names r status k.old.err k.new.err k.old.err_faults k.new.err_faults → Tells names (session_told names t) status k
+unfolding session_told
+part-told names t r status k h files told = stopped-told names (session_told names t) r status k h files told
+
+-- all of it was, and how it ended is told
+whole-told : (names : FileNames) (t : Transcript) (e : DebugError) (status : ℕ) (k : Call) → t.result ≡ Err e → Appends k.old.out k.new.out t.text → WhereTold k.old.files k.new.files SameFiles
+    → ToldStop names e status k.old.err k.new.err k.old.err_faults k.new.err_faults → Tells names (session_told names t) status k
+unfolding session_told
+whole-told names t e status k f out files (inl h) = inl (record {
+  status_is = h.0 ∙ sym (ap session_status f);
+  out = out;
+  err = subst (λ (r : Result (Unit {0}) DebugError). Wrote k.old.err k.new.err k.old.err_faults k.new.err_faults (session_line names r)) (sym f) h.1;
+  files = files;
+})
+whole-told names t e status k f out files (inr h) = part-told names t why.OutOfMemory status k (part-whole k.old.out k.new.out t.text out, tt) files (inl h)
+
+-- by why it stopped
+pub stop-told : (names : FileNames) (j : Joining) (e : DebugError) (status : ℕ) (gone : List ℕ) (left now_left : Option (List ℕ)) (before now : ℕ) (k : Call)
+    → Debugs j gone left now_left before now k.old.out k.new.out k.old.out_faults k.new.out_faults (Err e) → WhereTold k.old.files k.new.files SameFiles
+    → ToldStop names e status k.old.err k.new.err k.old.err_faults k.new.err_faults → Tells names (session_told names (transcript j (input_in (commands_of gone e)))) status k
+stop-told names j stop.ReadFault status gone left now_left before now k d files told =
+    whole-told names (transcript j (cut true (input_of gone))) stop.ReadFault status k (ap (λ (x : Ending). result_by x (Some stop.ReadFault)) d.0) d.2 files told
+stop-told names j stop.WriteFault status gone left now_left before now k d files told = part-told names (transcript j (input_of gone)) why.WriteFailed status k (d.0, d.1) files told
+stop-told names j (stop.LineTooLong m) status gone left now_left before now k d files told = whole-told names (transcript j (input_of gone)) (stop.LineTooLong m) status k d.0 d.1 files told
+stop-told names j (stop.TooMuch m) status gone left now_left before now k d files told = whole-told names (transcript j (input_of gone)) (stop.TooMuch m) status k d.0 d.1 files told
+stop-told names j (stop.Joint x) status gone left now_left before now k d files told = whole-told names (transcript j (input_of gone)) (stop.Joint x) status k d.0 d.1 files told
+stop-told names j stop.OutOfMemory status gone left now_left before now k d files told = part-told names (transcript j (input_of gone)) why.OutOfMemory status k (d, tt) files told
+
+-- there was no memory to begin
+pub unbegun-told : (names : FileNames) (j : Joining) (status : ℕ) (k : Call) → k.new.out ≡ k.old.out → WhereTold k.old.files k.new.files SameFiles
+    → ToldRefusal names why.OutOfMemory status k.old.err k.new.err k.old.err_faults k.new.err_faults → Tells names (session_told names (transcript j (input_in no_commands))) status k
+unbegun-told names j status k same files told =
+    let t = transcript j (input_in no_commands) in
+    part-told names t why.OutOfMemory status k (subst (λ (o : Option (List ℕ)). AppendsPart k.old.out o t.text) (sym same) (part-none k.old.out t.text), tt) files told
+
+pub memory-status : (names : FileNames) (status : ℕ) (old new : Option (List ℕ)) (before now : ℕ) → ToldRefusal names why.OutOfMemory status old new before now → status ≡ 9
+memory-status names status old new before now (inl h) = h.0
+memory-status names status old new before now (inr h) = h.0
+
+pub memory-begun : (status : ℕ) → status ≡ 9 → is_begun status ≡ true
+memory-begun status e = (at-9 status e).begun
+
+-- a write is refused only where a count rose
+pub stop-writes : (j : Joining) (names : FileNames) (e : DebugError) (status : ℕ) (gone : List ℕ) (left now_left : Option (List ℕ)) (before now : ℕ) (written now_written : Option (List ℕ)) (b n : ℕ) (old new : Option (List ℕ)) (eb en : ℕ)
+    → Debugs j gone left now_left before now written now_written b n (Err e) → ToldStop names e status old new eb en → status ≡ 13 → Rose b n
+stop-writes j names e status gone left now_left before now written now_written b n old new eb en d told is = by e d (status-of names e status old new eb en told)
+  where
+    by : (e : DebugError) → Debugs j gone left now_left before now written now_written b n (Err e) → StatusOf e status → Rose b n
+    by stop.ReadFault d (inl h) = absurd (omega (arith, h, is))
+    by stop.ReadFault d (inr h) = absurd (omega (arith, h, is))
+    by stop.WriteFault d h = d.1
+    by (stop.LineTooLong m) d h = absurd ((other-ends (stop.LineTooLong m) status tt h).write is)
+    by (stop.TooMuch m) d h = absurd ((other-ends (stop.TooMuch m) status tt h).write is)
+    by (stop.Joint x) d h = absurd ((other-ends (stop.Joint x) status tt h).write is)
+    by stop.OutOfMemory d h = absurd ((other-ends stop.OutOfMemory status tt h).write is)
+
+-- ---- a session over a joint replay
+
+pub pair-done : {O X : Type 0} (names : FileNames) (first j : Joining) (u : Unit {0}) (left now_left : Option (List ℕ)) (before now : ℕ) (out : O → Option (List ℕ)) (out_faults : O → ℕ) (err : X → Option (List ℕ)) (err_faults : X → ℕ)
+    (o : O) (e : X) (p : O) → j ≡ first → Debugged j left now_left before now (out o) (out p) (out_faults o) (out_faults p) (Ok u) → DebugsPair names first 0 left now_left before now out out_faults err err_faults o e p e
+pair-done names first j u left now_left before now out out_faults err err_faults o e p same d = (
+  record { bytes = d.gone; failed = false },
+  done-read j u left now_left before now (out o) (out p) (out_faults o) (out_faults p) d,
+  λ files had.
+      subst (λ (x : Joining). Tells names (session_told names (transcript x (input_of d.gone))) 0 (printing files had out out_faults err err_faults o e p e)) same
+      (done-told names (transcript j (input_of d.gone)) (printing files had out out_faults err err_faults o e p e) d.done.0 d.done.1 (appends-nothing (err e)) (untouched files)),
+)
+
+pub pair-stopped : {O X : Type 0} (names : FileNames) (first j : Joining) (why : DebugError) (status : ℕ) (left now_left : Option (List ℕ)) (before now : ℕ) (out : O → Option (List ℕ)) (out_faults : O → ℕ) (err : X → Option (List ℕ)) (err_faults : X → ℕ)
+    (o : O) (e : X) (p : O) (f : X) → j ≡ first → Debugged j left now_left before now (out o) (out p) (out_faults o) (out_faults p) (Err why) → ToldStop names why status (err e) (err f) (err_faults e) (err_faults f)
+    → DebugsPair names first status left now_left before now out out_faults err err_faults o e p f
+pair-stopped names first j why status left now_left before now out out_faults err err_faults o e p f same d told = (
+  commands_of d.gone why,
+  stop-read j why status d.gone left now_left before now (out o) (out p) (out_faults o) (out_faults p) d.taken d.done (status-of names why status (err e) (err f) (err_faults e) (err_faults f) told),
+  λ files had.
+      subst (λ (x : Joining). Tells names (session_told names (transcript x (input_in (commands_of d.gone why)))) status (printing files had out out_faults err err_faults o e p f)) same
+      (stop-told names j why status d.gone left now_left before now (printing files had out out_faults err err_faults o e p f) d.done (untouched files) told),
+)
+
+pub pair-unbegun : {O X : Type 0} (names : FileNames) (j : Joining) (status : ℕ) (left : Option (List ℕ)) (faults : ℕ) (out : O → Option (List ℕ)) (out_faults : O → ℕ) (err : X → Option (List ℕ)) (err_faults : X → ℕ)
+    (o : O) (e : X) (f : X) → ToldRefusal names why.OutOfMemory status (err e) (err f) (err_faults e) (err_faults f) → DebugsPair names j status left left faults faults out out_faults err err_faults o e o f
+pair-unbegun names j status left faults out out_faults err err_faults o e f told =
+    let nine = memory-status names status (err e) (err f) (err_faults e) (err_faults f) told in (
+      no_commands,
+      none-read status left faults (λ x. omega (arith, x, nine)) (λ x. omega (arith, x, nine)),
+      λ files had.
+          unbegun-told names j status (printing files had out out_faults err err_faults o e o f) refl (untouched files) told,
+    )
+
+-- ---- by names
+
+-- no refusal of another kind is told as that of a read
+pub not-read : (names : FileNames) (r : Refusal) (status : ℕ) (old new : Option (List ℕ)) (before now : ℕ) → status_of r ≢ 12 → ToldRefusal names r status old new before now → status ≢ 12
+not-read names r status old new before now other (inl h) e = other (sym h.0 ∙ e)
+not-read names r status old new before now other (inr h) e = omega (arith, e, h.0)
+
+-- a refusal by the files is none of a read, and nothing is done
+pub record RefusedStatus (before now : Counts) (status : ℕ) : Type 0 where
+  pub words : status ≢ 2
+  pub causes : Causes before now status
+  pub read : status ≢ 12
+  pub zero : status ≢ 0
+
+pub refused-status : (names : FileNames) (r : Refusal) (status : ℕ) (old new : Option (List ℕ)) (before now : ℕ) (first last : Counts) → RefusalCause first last r → ToldRefusal names r status old new before now → RefusedStatus first last status
+refused-status names r status old new before now first last cause told =
+    let c = caused names first last r status old new before now cause told in
+    record { words = c.words; causes = c.causes; read = c.causes.read; zero = λ e. told-apart names r status old new before now told (inl e) }
+
+early-some : (names : FileNames) (c : Commands) (files : Files) (r : Refusal) → IsEarly names (λ files. IsSession c files names) files r → IsEarly names (λ files. IsDebug files names) files r
+early-some names c files r (inl memory) = inl memory
+early-some names c files r (inr h) = inr (h.0, h.1, (c, h.2))
+
+-- the log and the program are refused
+pub named-refused : (names : FileNames) (r : Refusal) (status : ℕ) (k : Call) → Appends k.old.out k.new.out [] → k.new.files ≡ k.old.files
+    → WithFiles k.old.files (λ files. GivesOf {A = JointReading} (λ p. debug_with names no_commands p.log p.image) names (λ files. IsSession no_commands files names) files (Err r))
+    → ToldRefusal names r status k.old.err k.new.err k.old.err_faults k.new.err_faults
+    → WithFiles k.old.files (λ files. SomeTold (IsSession no_commands files names) (λ what. Tells names what status k) ⊎ StoppedBy names (λ files. IsDebug files names) files status k)
+named-refused names r status k out same g told =
+    with-files k.old.files (λ files. IsEarly names (λ files. IsSession no_commands files names) files r ⊎ IsSession no_commands files names (refused names r))
+    (λ files. SomeTold (IsSession no_commands files names) (λ what. Tells names what status k) ⊎ StoppedBy names (λ files. IsDebug files names) files status k) (λ files h. so files h) g
+  where
+    so : (files : Files) → IsEarly names (λ files. IsSession no_commands files names) files r ⊎ IsSession no_commands files names (refused names r)
+        → SomeTold (IsSession no_commands files names) (λ what. Tells names what status k) ⊎ StoppedBy names (λ files. IsDebug files names) files status k
+    so files (inl early) = inr (record { refusal = r; early = early-some names no_commands files r early; out = out; same = same; told = told })
+    so files (inr is) = inl (refused names r, is, refused-told names r status k out (same-files k.old.files k.new.files same) told)
+
+-- a session was made
+pub named-made : (names : FileNames) (c : Commands) (reading : JointReading) (known : Option Files) (status : ℕ) (k : Call) → known ≡ k.old.files
+    → WithFiles known (λ files. IsSession c files names (debug_with names c reading.log reading.image)) → Tells names (debug_with names c reading.log reading.image) status k
+    → WithFiles k.old.files (λ files. SomeTold (IsSession c files names) (λ what. Tells names what status k) ⊎ StoppedBy names (λ files. IsDebug files names) files status k)
+named-made names c reading known status k e is told =
+    let what = debug_with names c reading.log reading.image in
+    with-files k.old.files (λ files. IsSession c files names what) (λ files. SomeTold (IsSession c files names) (λ what. Tells names what status k) ⊎ StoppedBy names (λ files. IsDebug files names) files status k)
+    (λ files h. inl (what, h, told)) (subst (λ (x : Option Files). WithFiles x (λ files. IsSession c files names what)) e is)
+
+-- ---- a recording
+
+-- no bytes are refused as a joint replay is
+fed : (b : Bool) (x y : Input) (e : JointError) → x.refused ≢ Some (stop.Joint e) → y.refused ≢ Some (stop.Joint e) → (elim b as (λ z. Input) [ true ↦ x | false ↦ y ]).refused ≢ Some (stop.Joint e)
+fed true x y e p q = p
+fed false x y e p q = q
+
+own-refusal : (count : ℕ) (line bytes : List ℕ) (e : JointError) → (input_from count line bytes).refused ≢ Some (stop.Joint e)
+own-refusal count line [] e f = absurd cc
+own-refusal count line (byte ∷ bytes) e f =
+    let next : Input = with_line line (input_from (count + 1) [] bytes) in
+    let more : Input = input_from (count + 1) (line ++ byte ∷ []) bytes in
+    let read : Input = elim (is_line_feed byte) as (λ z. Input) [ true ↦ next | false ↦ more ] in
+    let kept : Input = elim (nat_lt count input_limit) as (λ z. Input) [ true ↦ read | false ↦ ends_in line (Some (stop.TooMuch (count + 1))) ] in
+    fed (is_over line byte) (ends_in line (Some (stop.LineTooLong (length line + 1)))) kept e (λ g. absurd cc)
+    (fed (nat_lt count input_limit) read (ends_in line (Some (stop.TooMuch (count + 1)))) e
+    (fed (is_line_feed byte) next more e (own-refusal (count + 1) [] bytes e) (own-refusal (count + 1) (line ++ byte ∷ []) bytes e)) (λ g. absurd cc)) f
+
+cut-refusal : (failed : Bool) (i : Input) (e : JointError) → i.refused ≢ Some (stop.Joint e) → (cut failed i).refused ≢ Some (stop.Joint e)
+cut-refusal true i e h f = absurd cc
+cut-refusal false i e h f = h f
+
+-- so no session over a recording's log ends as one
+by-end : (x : Ending) (o : Option DebugError) (e : JointError) → x ≢ ending.Refused e → o ≢ Some (stop.Joint e) → result_by x o ≢ Err (stop.Joint e)
+by-end ending.GoesOn None e a b f = absurd cc
+by-end ending.GoesOn (Some y) e a b f = b (ap (λ (z : DebugError). Some z) (same y f))
+  where
+    same : (y : DebugError) → ◌≡◌ {A = Result (Unit {0}) DebugError} (Err y) (Err (stop.Joint e)) → y ≡ stop.Joint e
+    same y g = cc
+by-end ending.Quits o e a b f = absurd cc
+by-end (ending.Refused y) o e a b f = a (ap (λ (z : JointError). ending.Refused z) (same y f))
+  where
+    same : (y : JointError) → ◌≡◌ {A = Result (Unit {0}) DebugError} (Err (stop.Joint y)) (Err (stop.Joint e)) → y ≡ e
+    same y g = cc
+
+never-refused : SessionsShowTheRun → (r : Recording) (c : Commands) (files : Files) (log elf : List ℕ) → HasRun log elf files r → (e : JointError) → (session_of r c).result ≢ Err (stop.Joint e)
+never-refused show r c files log elf has e =
+    by-end (answers (lines_in (input_in c)) (session_begin (begin r (kept r)))).ends (input_in c).refused e ((show r has.recording (lines_in (input_in c))).goes_on e)
+    (cut-refusal c.failed (input_of c.bytes) e (own-refusal 0 [] c.bytes e))
+
+shown : (long : Bool) (names : FileNames) (r : Recording) (c : Commands) (what : Told) (status : ℕ) (k : Call) → ((e : JointError) → (session_of r c).result ≢ Err (stop.Joint e)) → ((lines : List (List ℕ)) → ShowsRun r lines)
+    → Either long (what ≡ refused names (TooLong role.Elf)) (what ≡ session_told names (session_of r c)) → Tells names what status k → IsFree status ⊎ Either long (status ≡ 5) (DoneSession r c status k.old.out k.new.out)
+unfolding refused session_told
+shown true names r c what status k never show e (inl done) = inr (done.status_is ∙ ap (λ (t : Told). t.status) e)
+shown true names r c what status k never show e (inr stopped) = inl (stopped-free names what status k stopped)
+shown false names r c what status k never show e (inl done) = inr (record {
+  done = done.status_is ∙ ap (λ (t : Told). t.status) e;
+  text = subst (λ (t : List ℕ). Appends k.old.out k.new.out t) (ap (λ (t : Told). t.out) e) done.out;
+  goes_on = never;
+  shows = show;
+})
+shown false names r c what status k never show e (inr stopped) = inl (stopped-free names what status k stopped)
+
+pub shows-session : Grammar → FileLaws → SessionsShowTheRun → (c : Commands) (log elf : List ℕ) (files : Files) (status : ℕ) (k : Call)
+    → SomeTold (IsSession c files (names_in (DebugLine log elf))) (λ what. Tells (names_in (DebugLine log elf)) what status k) ⊎ StoppedEarly (Some (DebugLine log elf)) files status k
+    → ShowsSession c log elf files status k.old.out k.new.out
+shows-session g laws show c log elf files status k (inr early) r has = inl (early-free (Some (DebugLine log elf)) files status k early)
+shows-session g laws show c log elf files status k (inl a) r has =
+    let names = names_in (DebugLine log elf) in
+    shown (nat_lt 67108864 (length r.elf)) names r c a.0 status k (never-refused show r c files log elf has) (show r has.recording)
+    (pair-so g laws (debug_with names c) names files r a.0 has.recording has.log_there has.program a.1) a.2
+
+-- where the commands are whole it isn't stopped
+whole-ends : (x : Ending) (o : Option DebugError) → ((e : JointError) → x ≢ ending.Refused e) → o ≡ None → result_by x o ≡ Ok (tt {0})
+whole-ends ending.GoesOn None a b = refl
+whole-ends ending.GoesOn (Some y) a b = absurd cc
+whole-ends ending.Quits o a b = refl
+whole-ends (ending.Refused e) o a b = absurd (a e refl)
+
+pub can-be-debugged : SessionsShowTheRun → FileLaws → RecordingsCanBeDebugged
+can-be-debugged show laws c log elf files r has small whole none =
+    let i = input_in c in
+    let same : i.refused ≡ None = ap (λ (b : Bool). (cut b (input_of c.bytes)).refused) whole ∙ none in
+    record {
+      content = log_of r;
+      program = r.program;
+      pair = are-pair laws log elf files r has.recording has.log_there has.program small;
+      goes_on = whole-ends (answers (lines_in i) (session_begin (begin r (kept r)))).ends i.refused (show r has.recording (lines_in i)).goes_on same;
+    }
+
+-- ---- the call
+
+-- all that a session does
+pub debugs-so : Grammar → FileLaws → SessionsShowTheRun → (names : FileNames) (log elf : List ℕ) (status : ℕ) (left now_left : Option (List ℕ)) (before now : ℕ) (k : Call) → names ≡ names_in (DebugLine log elf)
+    → DebugsNamed names status left now_left before now k → DebugsLine (Some (DebugLine log elf)) status left now_left before now k
+debugs-so g laws show names log elf status left now_left before now k e h =
+    let c = h.0 in
+    let own = names_in (DebugLine log elf) in (
+      c,
+      h.1,
+      with-files k.old.files (λ files. SomeTold (IsSession c files own) (λ what. Tells own what status k) ⊎ StoppedBy own (λ files. IsDebug files own) files status k) (λ files. DebugsFiles c log elf files status k)
+          (λ files x. record { tells = x; done = session-done (one-session g) laws c log elf files status k x; shows = shows-session g laws show c log elf files status k x })
+          (subst (λ (n : FileNames). WithFiles k.old.files (λ files. SomeTold (IsSession c files n) (λ what. Tells n what status k) ⊎ StoppedBy n (λ files. IsDebug files n) files status k)) e h.2),
+    )
+
+pub answers-so : (names : FileNames) (log elf : List ℕ) (status : ℕ) (left now_left : Option (List ℕ)) (before now : ℕ) (k : Call) → names ≡ names_in (DebugLine log elf)
+    → DebugsNamed names status left now_left before now k → TellsAnswer (Some (DebugLine log elf)) status k
+answers-so names log elf status left now_left before now k e h =
+    let c = h.0 in
+    let own = names_in (DebugLine log elf) in
+    with-files k.old.files (λ files. SomeTold (IsSession c files own) (λ what. Tells own what status k) ⊎ StoppedBy own (λ files. IsDebug files own) files status k)
+    (λ files. SomeTold (IsAnswer (Some (DebugLine log elf)) files) (λ what. Tells own what status k) ⊎ StoppedEarly (Some (DebugLine log elf)) files status k) (λ files x. so files x)
+    (subst (λ (n : FileNames). WithFiles k.old.files (λ files. SomeTold (IsSession c files n) (λ what. Tells n what status k) ⊎ StoppedBy n (λ files. IsDebug files n) files status k)) e h.2)
+  where
+    so : (files : Files) → SomeTold (IsSession h.0 files (names_in (DebugLine log elf))) (λ what. Tells (names_in (DebugLine log elf)) what status k) ⊎ StoppedEarly (Some (DebugLine log elf)) files status k
+        → SomeTold (IsAnswer (Some (DebugLine log elf)) files) (λ what. Tells (names_in (DebugLine log elf)) what status k) ⊎ StoppedEarly (Some (DebugLine log elf)) files status k
+    so files (inl a) = inl (a.0, (h.0, a.1), a.2)
+    so files (inr early) = inr early
+
+-- of a line that is a session
+pub debugs-any : Grammar → FileLaws → SessionsShowTheRun → (line : Line) (names : FileNames) (status : ℕ) (left now_left : Option (List ℕ)) (before now : ℕ) (k : Call) → (IsNoSession (Some line) → ⊥) → names ≡ names_in line
+    → DebugsNamed names status left now_left before now k → DebugsLine (Some line) status left now_left before now k
+debugs-any g laws show (DebugLine log elf) names status left now_left before now k is e h = debugs-so g laws show names log elf status left now_left before now k e h
+debugs-any g laws show (RecordLine r) names status left now_left before now k is e h = tt
+debugs-any g laws show (ReplayLine log elf hart interval) names status left now_left before now k is e h = tt
+debugs-any g laws show (JointLine log elf) names status left now_left before now k is e h = tt
+debugs-any g laws show (ListLine log) names status left now_left before now k is e h = tt
+debugs-any g laws show (CheckLine log) names status left now_left before now k is e h = tt
+debugs-any g laws show (AuditLine log elf book input) names status left now_left before now k is e h = tt
+debugs-any g laws show (DemoLine seed) names status left now_left before now k is e h = tt
+
+pub answers-any : (line : Line) (names : FileNames) (status : ℕ) (left now_left : Option (List ℕ)) (before now : ℕ) (k : Call) → (IsNoSession (Some line) → ⊥) → names ≡ names_in line
+    → DebugsNamed names status left now_left before now k → TellsAnswer (Some line) status k
+answers-any (DebugLine log elf) names status left now_left before now k is e h = answers-so names log elf status left now_left before now k e h
+answers-any (RecordLine r) names status left now_left before now k is e h = absurd (is tt)
+answers-any (ReplayLine log elf hart interval) names status left now_left before now k is e h = absurd (is tt)
+answers-any (JointLine log elf) names status left now_left before now k is e h = absurd (is tt)
+answers-any (ListLine log) names status left now_left before now k is e h = absurd (is tt)
+answers-any (CheckLine log) names status left now_left before now k is e h = absurd (is tt)
+answers-any (AuditLine log elf book input) names status left now_left before now k is e h = absurd (is tt)
+answers-any (DemoLine seed) names status left now_left before now k is e h = absurd (is tt)
+
+-- there was no memory for the words
+pub debugs-early : (line : Option Line) (status : ℕ) (left : Option (List ℕ)) (faults : ℕ) (k : Call) → Appends k.old.out k.new.out [] → k.new.files ≡ k.old.files
+    → ToldRefusal (names_by line) why.OutOfMemory status k.old.err k.new.err k.old.err_faults k.new.err_faults → DebugsLine line status left left faults faults k
+debugs-early None status left faults k out same told = tt
+debugs-early (Some (RecordLine r)) status left faults k out same told = tt
+debugs-early (Some (ReplayLine log elf hart interval)) status left faults k out same told = tt
+debugs-early (Some (JointLine log elf)) status left faults k out same told = tt
+debugs-early (Some (DebugLine log elf)) status left faults k out same told =
+    let nine = memory-status (names_in (DebugLine log elf)) status k.old.err k.new.err k.old.err_faults k.new.err_faults told in
+    let early : (files : Files) → StoppedEarly (Some (DebugLine log elf)) files status k = λ files. record { refusal = why.OutOfMemory; early = inl refl; out = out; same = same; told = told } in (
+      no_commands,
+      none-read status left faults (λ f. omega (arith, f, nine)) (λ f. omega (arith, f, nine)),
+      with-any k.old.files (λ files. DebugsFiles no_commands log elf files status k) (λ files.
+          record { tells = inr (early files); done = λ h. inl (early-free (Some (DebugLine log elf)) files status k (early files)); shows = λ r has. inl (early-free (Some (DebugLine log elf)) files status k (early files)) }),
+    )
+debugs-early (Some (ListLine log)) status left faults k out same told = tt
+debugs-early (Some (CheckLine log)) status left faults k out same told = tt
+debugs-early (Some (AuditLine log elf book input)) status left faults k out same told = tt
+debugs-early (Some (DemoLine seed)) status left faults k out same told = tt

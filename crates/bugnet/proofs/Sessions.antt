@@ -1,0 +1,347 @@
+-- Where sessions of the debugger come, and which of their lines are `quit`.
+use Rattle.std.proofs.Common.{◌≡◌, ◌≢◌, ℕ, zero, suc, ◌+◌, ◌==◌, nat_lt, Bool, true, false, not, codes, refl, sym, ap, ◌∙◌, subst, arith, List, [], ◌∷◌, ◌++◌, length, slice_get, map, Option, Some, None}
+use Rattle.std.specs.Prelude.{Result, Ok, Err}
+use Rattle.std.specs.List.{filter}
+use Rattle.bn_base.specs.Programs.{Program}
+use Rattle.log_record.specs.declared.record.Record.{Record}
+use Rattle.hart_replay.specs.declared.error.ReplayError.{ReplayError}
+use Rattle.joint_replay.specs.declared.error.JointError.{JointError}
+use Rattle.joint_replay.specs.declared.kinds.Readiness.{Readiness}
+use Rattle.joint_replay.specs.declared.kinds.Readiness.TheVariants as is
+use Rattle.joint_replay.specs.declared.kinds.Next.{Next}
+use Rattle.joint_replay.specs.declared.kinds.Next.TheVariants as next
+use Rattle.joint_replay.specs.Calls.{bare, state_at, IsReached}
+use Rattle.joint_replay.specs.Joining.{Joining, Walk, begun, longer, fresh, readiness, readiness_of, choice, choice_from, next_step, move, steps_left}
+use Rattle.joint_replay.specs.Memory.{word_in}
+use Rattle.joint_replay.specs.Lanes.{Lane, Item, lane_step}
+use Rattle.joint_replay.specs.Orders.{IsBegun, ready_step, walk_on}
+use Rattle.joint_laws.specs.Recordings.{Recording, IsRecorded, IsLogOf, OfBeginnings, begin, kept}
+use Rattle.joint_laws.specs.Laws.{OwnLogsAreLogs, GoesOn, IsNotRefused, ReachedSayTheRun, SaysSoFar}
+use Rattle.step_debugger.specs.Answers.{Moves, Session, Answer, hart_text, address_text, word_text, registers_text, places_from, break_limit, is_set, stop_unless, step_by, step_up_to, go_past, go_by, go_for, go_on, says, moved, unknown, answer}
+use Rattle.step_debugger.specs.Answers.{begin as session_begin}
+use Rattle.step_debugger.specs.Commands.{command_of}
+use Rattle.step_debugger.specs.Transcript.{goes_on_by, answers}
+use Rattle.step_debugger.specs.declared.command.Command.{Command}
+use Rattle.step_debugger.specs.declared.command.Command.TheVariants as to
+use Rattle.step_debugger.specs.declared.session.Ending.{Ending}
+use Rattle.step_debugger.specs.declared.session.Ending.TheVariants as ending
+use Rattle.bugnet.specs.Debugging.{session_after, ShowsRun, SessionsShowTheRun}
+use Rattle.bugnet.specs.Sessions.{NoQuit}
+
+-- ---- the lowest ready hart is ready
+
+record Found (records : List Record) (lanes : List Lane) (k : ℕ) (ls : List Lane) (h : ℕ) : Type 0 where
+  pub place : ℕ
+  pub lane : Lane
+  pub at : slice_get ls place ≡ Some lane
+  pub number : k + place ≡ h
+  pub ready : readiness_of records lanes h lane ≡ is.Ready
+
+found : (records : List Record) (lanes : List Lane) (k : ℕ) (ls : List Lane) (w : Bool) (h : ℕ) → choice_from records lanes k ls w ≡ next.Hart h → Found records lanes k ls h
+found records lanes k [] true h e = absurd cc
+found records lanes k [] false h e = absurd cc
+found records lanes k (l ∷ ls) w h e = by (readiness_of records lanes k l) refl (λ v f. found records lanes (k + 1) ls v h f) e
+  where
+    further : Found records lanes (k + 1) ls h → Found records lanes k (l ∷ ls) h
+    further f = record { place = suc f.place; lane = f.lane; at = f.at; number = omega (arith, f.number); ready = f.ready }
+
+    by : (r : Readiness) → readiness_of records lanes k l ≡ r → ((v : Bool) → choice_from records lanes (k + 1) ls v ≡ next.Hart h → Found records lanes (k + 1) ls h)
+        → elim r as (λ y. Next) [ is.Ready ↦ next.Hart k | is.Waits s ic ↦ choice_from records lanes (k + 1) ls true | is.Done ↦ choice_from records lanes (k + 1) ls w ] ≡ next.Hart h → Found records lanes k (l ∷ ls) h
+    by is.Ready f rest e = let same : k ≡ h = cc in record { place = 0; lane = l; at = refl; number = omega (arith, same); ready = subst (λ n. readiness_of records lanes n l ≡ is.Ready) same f }
+    by (is.Waits s ic) f rest e = further (rest true e)
+    by is.Done f rest e = further (rest w e)
+
+lowest-is-ready : (j : Joining) (h : ℕ) → choice j ≡ next.Hart h → readiness j h ≡ is.Ready
+lowest-is-ready j h e =
+    let f = found j.records j.lanes 0 j.lanes false h e in
+    let same : f.place ≡ h = omega (arith, f.number) in
+    ap (λ (o : Option Lane). elim o as (λ y. Readiness) [ None ↦ is.Done | Some lane ↦ readiness_of j.records j.lanes h lane ]) (ap (slice_get j.lanes) (sym same) ∙ f.at) ∙ f.ready
+
+-- ---- where moves lead
+
+-- what holds of joint replays whose ready harts have a step that isn't refused, after which it holds again, and of which none
+-- has harts that all wait
+record Lasts (P : Joining → Type 0) : Type 0 where
+  pub steps : (j : Joining) → P j → (h : ℕ) → readiness j h ≡ is.Ready → (x : Item × Joining) × (next_step j h ≡ Some (Ok x)) × P x.1
+  pub some : (j : Joining) → P j → choice j ≡ next.NoneReady → ⊥
+
+-- it holds after moves, and they go on
+abbrev MovesOn : (Joining → Type 0) → Moves → Type 0
+MovesOn P m = P m.now × (m.ends ≡ ending.GoesOn)
+
+step-by : (P : Joining → Type 0) → Lasts P → (j : Joining) (h : ℕ) (r : Readiness) (go : Joining → Moves) → P j → readiness j h ≡ r → ((i : Joining) → P i → MovesOn P (go i)) → MovesOn P (step_by j h r (next_step j h) go)
+step-by P g j h is.Ready go p e rest =
+    let s = g.steps j p h e in
+    subst (λ (o : Option (Result (Item × Joining) ReplayError)). MovesOn P (step_by j h is.Ready o go)) (sym s.1) (rest s.0.1 s.2)
+step-by P g j h (is.Waits s ic) go p e rest = (p, refl)
+step-by P g j h is.Done go p e rest = (p, refl)
+
+steps-on : (P : Joining → Type 0) → Lasts P → (h k : ℕ) (j : Joining) → P j → MovesOn P (step_up_to h k j)
+steps-on P g h zero j p = (p, refl)
+steps-on P g h (suc k) j p = step-by P g j h (readiness j h) (λ i. step_up_to h k i) p refl (λ i q. steps-on P g h k i q)
+
+past-by : (P : Joining → Type 0) → Lasts P → (j : Joining) (h : ℕ) (o : Option (ℕ × ℕ)) (go : Joining → Moves) → P j → readiness j h ≡ is.Ready → ((i : Joining) → P i → MovesOn P (go i)) → MovesOn P (go_past j h o (next_step j h) go)
+past-by P g j h (Some at) go p e rest = (p, refl)
+past-by P g j h None go p e rest =
+    let s = g.steps j p h e in
+    subst (λ (o : Option (Result (Item × Joining) ReplayError)). MovesOn P (go_past j h None o go)) (sym s.1) (rest s.0.1 s.2)
+
+go-by : (P : Joining → Type 0) → Lasts P → (first : Bool) (breaks : List ℕ) (j : Joining) (n : Next) (go : Joining → Moves) → P j → choice j ≡ n → ((i : Joining) → P i → MovesOn P (go i)) → MovesOn P (go_by first breaks j n go)
+go-by P g first breaks j next.AllDone go p e rest = (p, refl)
+go-by P g first breaks j next.NoneReady go p e rest = absurd (g.some j p e)
+go-by P g first breaks j (next.Hart h) go p e rest = past-by P g j h (stop_unless first breaks j h) go p (lowest-is-ready j h e) rest
+
+goes-on : (P : Joining → Type 0) → Lasts P → (n : ℕ) (first : Bool) (breaks : List ℕ) (j : Joining) → P j → MovesOn P (go_for n first breaks j)
+goes-on P g zero first breaks j p = (p, refl)
+goes-on P g (suc n) first breaks j p = go-by P g first breaks j (choice j) (λ i. go_for n false breaks i) p refl (λ i q. goes-on P g n false breaks i q)
+
+-- ---- where answers lead
+
+-- it holds after an answer, which isn't a refusal
+abbrev AnswersOn : (Joining → Type 0) → Answer → Type 0
+AnswersOn P a = P a.session.now × ((e : JointError) → a.ends ≢ ending.Refused e)
+
+not-refused : (x : Ending) (e : JointError) → x ≡ ending.GoesOn → x ≢ ending.Refused e
+not-refused x e h f = absurd cc
+
+said-on : (P : Joining → Type 0) (s : Session) (text : List ℕ) → P s.now → AnswersOn P (says s text)
+said-on P s text p = (p, λ e f. absurd cc)
+
+moved-on : (P : Joining → Type 0) (s : Session) (m : Moves) → MovesOn P m → AnswersOn P (moved s m)
+moved-on P s m p = (p.0, λ e f. not-refused m.ends e p.1 f)
+
+either-on : (P : Joining → Type 0) (b : Bool) (x y : Answer) → AnswersOn P x → AnswersOn P y → AnswersOn P (elim b as (λ z. Answer) [ true ↦ x | false ↦ y ])
+either-on P true x y p q = p
+either-on P false x y p q = q
+
+answer-on : (P : Joining → Type 0) → Lasts P → (s : Session) (c : Command) → P s.now → AnswersOn P (answer s c)
+answer-on P g s to.Empty p = said-on P s [] p
+answer-on P g s (to.Hart n) p =
+    either-on P (nat_lt n (length s.now.lanes)) (says (record s { hart = n }) (hart_text n)) (unknown s) (said-on P (record s { hart = n }) (hart_text n) p) (said-on P s (codes "?\n") p)
+answer-on P g s (to.Step k) p = moved-on P s (step_up_to s.hart k s.now) (steps-on P g s.hart k s.now p)
+answer-on P g s to.Go p = moved-on P s (go_on true s.breaks s.now) (goes-on P g (steps_left s.now.lanes + 1) true s.breaks s.now p)
+answer-on P g s (to.Break addr) p =
+    let t : Session = record s { breaks = s.breaks ++ addr ∷ [] } in
+    let text = address_text (codes "break ") addr in
+    let full : Answer = elim (nat_lt (length s.breaks) break_limit) as (λ z. Answer) [ true ↦ says t text | false ↦ says s (codes "full\n") ] in
+    either-on P (is_set s.breaks addr) (says s text) full (said-on P s text p)
+    (either-on P (nat_lt (length s.breaks) break_limit) (says t text) (says s (codes "full\n")) (said-on P t text p) (said-on P s (codes "full\n") p))
+answer-on P g s (to.Unbreak addr) p =
+    let t : Session = record s { breaks = filter (λ b. not (b == addr)) s.breaks } in
+    let text = address_text (codes "unbreak ") addr in
+    either-on P (is_set s.breaks addr) (says t text) (says s (codes "none\n")) (said-on P t text p) (said-on P s (codes "none\n") p)
+answer-on P g s to.Registers p = said-on P s (registers_text (state_at s.now s.hart)) p
+answer-on P g s (to.Word addr) p = said-on P s (word_text addr (word_in s.now.memory addr)) p
+answer-on P g s to.Where p = said-on P s (places_from s.now 0 (length s.now.lanes)) p
+answer-on P g s to.Quit p = (p, λ e f. absurd cc)
+answer-on P g s to.Other p = said-on P s (codes "?\n") p
+
+ends-on : (P : Joining → Type 0) (e : Ending) (a : Answer) (go : Session → Answer) → AnswersOn P a → ((t : Session) → P t.now → AnswersOn P (go t)) → AnswersOn P (goes_on_by e a go)
+ends-on P ending.GoesOn a go p rest = rest a.session p.0
+ends-on P ending.Quits a go p rest = p
+ends-on P (ending.Refused e) a go p rest = p
+
+answers-on : (P : Joining → Type 0) → Lasts P → (lines : List (List ℕ)) (s : Session) → P s.now → AnswersOn P (answers lines s)
+answers-on P g [] s p = said-on P s [] p
+answers-on P g (line ∷ lines) s p =
+    let a = answer s (command_of line) in ends-on P a.ends a (λ t. answers lines t) (answer-on P g s (command_of line) p) (λ t q. answers-on P g lines t q)
+
+-- ---- of a recording
+
+walk-added : (w v : Walk) (order : List ℕ) (h : ℕ) (x : Item × Joining) → walk_on w order ≡ Some v → ready_step v.now h ≡ Some x → walk_on w (order ++ h ∷ []) ≡ Some (longer v h x)
+walk-added w v [] h x e f =
+    ap (λ (a : Walk). walk_on a (h ∷ [])) (same w v e) ∙ ap (λ (o : Option (Item × Joining)). elim o as (λ y. Option Walk) [ None ↦ None | Some y ↦ Some (longer v h y) ]) f
+  where
+    same : (a b : Walk) → ◌≡◌ {A = Option Walk} (Some a) (Some b) → a ≡ b
+    same a b g = cc
+walk-added w v (k ∷ order) h x e f = by (ready_step w.now k) (λ y g. walk-added (longer w k y) v order h x g f) e
+  where
+    by : (o : Option (Item × Joining)) → ((y : Item × Joining) → walk_on (longer w k y) order ≡ Some v → walk_on (longer w k y) (order ++ h ∷ []) ≡ Some (longer v h x))
+        → (elim o as (λ y. Option Walk) [ None ↦ None | Some y ↦ walk_on (longer w k y) order ]) ≡ Some v
+        → (elim o as (λ y. Option Walk) [ None ↦ None | Some y ↦ walk_on (longer w k y) (order ++ h ∷ []) ]) ≡ Some (longer v h x)
+    by None rest g = absurd cc
+    by (Some y) rest g = rest y g
+
+step-there : (j : Joining) (h : ℕ) (x : Item × Joining) → readiness j h ≡ is.Ready → next_step j h ≡ Some (Ok x) → ready_step j h ≡ Some x
+step-there j h x ready there =
+    ap (λ (r : Readiness). elim r as (λ y. Option (Item × Joining)) [
+      | is.Ready ↦ elim (next_step j h) as (λ y. Option (Item × Joining)) [ None ↦ None | Some r ↦ elim r as (λ y. Option (Item × Joining)) [ Err e ↦ None | Ok x ↦ Some x ] ]
+      | is.Waits s ic ↦ None
+      | is.Done ↦ None
+    ]) ready
+    ∙ ap (λ (o : Option (Result (Item × Joining) ReplayError)). elim o as (λ y. Option (Item × Joining)) [ None ↦ None | Some r ↦ elim r as (λ y. Option (Item × Joining)) [ Err e ↦ None | Ok x ↦ Some x ] ]) there
+
+-- a step keeps the program and the records
+abbrev Same : Joining → Option (Result (Item × Joining) ReplayError) → Type 0
+Same j None = Unit {0}
+Same j (Some (Err e)) = Unit {0}
+Same j (Some (Ok x)) = (x.1.program ≡ j.program) × (x.1.records ≡ j.records)
+
+by-move : (j : Joining) (h : ℕ) (o : Option (Result (Item × Lane) ReplayError)) → Same j (move j h o)
+by-move j h None = tt
+by-move j h (Some (Err e)) = tt
+by-move j h (Some (Ok x)) = (refl, refl)
+
+by-lane : (j : Joining) (h : ℕ) (o : Option Lane) → Same j (elim o as (λ x. Option (Result (Item × Joining) ReplayError)) [ None ↦ None | Some lane ↦ move j h (lane_step j.program lane) ])
+by-lane j h None = tt
+by-lane j h (Some lane) = by-move j h (lane_step j.program lane)
+
+by-refused : (j : Joining) (h : ℕ) (o : Option ReplayError) → Same j (elim o as (λ x. Option (Result (Item × Joining) ReplayError)) [
+  | Some e ↦ Some (Err e)
+  | None ↦ elim (slice_get j.lanes h) as (λ x. Option (Result (Item × Joining) ReplayError)) [ None ↦ None | Some lane ↦ move j h (lane_step j.program lane) ]
+])
+by-refused j h (Some e) = tt
+by-refused j h None = by-lane j h (slice_get j.lanes h)
+
+step-same : (j : Joining) (h : ℕ) → Same j (next_step j h)
+step-same j h = by-refused j h j.refused
+
+-- an allowed order led to it
+record Led (r : Recording) (j : Joining) : Type 0 where
+  pub order : List ℕ
+  pub walk : Walk
+  pub begun : IsBegun r.program r.settings.harts (kept r) order walk
+  pub now : walk.now ≡ j
+  pub program : j.program ≡ r.program
+  pub records : j.records ≡ kept r
+
+led-lasts : OfBeginnings GoesOn → OfBeginnings IsNotRefused → (r : Recording) → IsLogOf r (kept r) → Lasts (Led r)
+led-lasts goes steps r log = record { steps = more; some = λ j p none. goes r (kept r) p.order p.walk log p.begun (ap choice p.now ∙ none) }
+  where
+    more : (j : Joining) → Led r j → (h : ℕ) → readiness j h ≡ is.Ready → (x : Item × Joining) × (next_step j h ≡ Some (Ok x)) × Led r x.1
+    more j p h ready =
+        let here : readiness p.walk.now h ≡ is.Ready = ap (λ (i : Joining). readiness i h) p.now ∙ ready in
+        let s = steps r (kept r) p.order p.walk log p.begun h here in
+        let there : next_step j h ≡ Some (Ok s.0) = subst (λ (i : Joining). next_step i h ≡ Some (Ok s.0)) p.now s.1 in
+        let same : Same j (Some (Ok s.0)) = subst (λ (o : Option (Result (Item × Joining) ReplayError)). Same j o) there (step-same j h) in (
+          s.0,
+          there,
+          record {
+            order = p.order ++ h ∷ [];
+            walk = longer p.walk h s.0;
+            begun = record { allowed = walk-added (begun (begin r (kept r))) p.walk p.order h s.0 p.begun.allowed (step-there p.walk.now h s.0 here s.1) };
+            now = refl;
+            program = same.0 ∙ p.program;
+            records = same.1 ∙ p.records;
+          },
+        )
+
+led-first : (r : Recording) → Led r (begin r (kept r))
+led-first r = record { order = []; walk = begun (begin r (kept r)); begun = record { allowed = refl }; now = refl; program = refl; records = refl }
+
+led-reached : (r : Recording) (j : Joining) → Led r j → IsReached r.settings.harts j
+led-reached r j p = record {
+  order = p.order;
+  walk = p.walk;
+  begun = subst (λ (i : Program). IsBegun i r.settings.harts j.records p.order p.walk) (sym p.program) (subst (λ (rs : List Record). IsBegun r.program r.settings.harts rs p.order p.walk) (sym p.records) p.begun);
+  lanes = ap (λ (i : Joining). map bare i.lanes) p.now;
+  memory = ap (λ (i : Joining). i.memory) p.now;
+  whole = λ none. p.now;
+}
+
+pub sessions-show : OwnLogsAreLogs → OfBeginnings GoesOn → OfBeginnings IsNotRefused → ReachedSayTheRun → SessionsShowTheRun
+sessions-show own goes steps reached r is lines =
+    let log : IsLogOf r (kept r) = own r is in
+    let s = answers-on (Led r) (led-lasts goes steps r log) lines (session_begin (begin r (kept r))) (led-first r) in
+    let j = (session_after r lines).session.now in
+    let here = led-reached r j s.0 in
+    record { goes_on = s.1; walk = here.walk; says = reached r j (subst (λ (rs : List Record). IsLogOf r rs) (sym s.0.records) log) s.0.program here }
+
+-- ---- which lines are `quit`
+
+-- moves never quit
+never-by : (j : Joining) (h : ℕ) (r : Readiness) (o : Option (Result (Item × Joining) ReplayError)) (go : Joining → Moves) → ((i : Joining) → (go i).ends ≢ ending.Quits) → (step_by j h r o go).ends ≢ ending.Quits
+never-by j h is.Ready None go rest e = absurd cc
+never-by j h is.Ready (Some (Err x)) go rest e = absurd cc
+never-by j h is.Ready (Some (Ok x)) go rest e = rest x.1 e
+never-by j h (is.Waits s ic) o go rest e = absurd cc
+never-by j h is.Done o go rest e = absurd cc
+
+steps-never : (h k : ℕ) (j : Joining) → (step_up_to h k j).ends ≢ ending.Quits
+steps-never h zero j e = absurd cc
+steps-never h (suc k) j e = never-by j h (readiness j h) (next_step j h) (λ i. step_up_to h k i) (λ i f. steps-never h k i f) e
+
+never-past : (j : Joining) (h : ℕ) (at : Option (ℕ × ℕ)) (o : Option (Result (Item × Joining) ReplayError)) (go : Joining → Moves) → ((i : Joining) → (go i).ends ≢ ending.Quits) → (go_past j h at o go).ends ≢ ending.Quits
+never-past j h (Some at) o go rest e = absurd cc
+never-past j h None None go rest e = absurd cc
+never-past j h None (Some (Err x)) go rest e = absurd cc
+never-past j h None (Some (Ok x)) go rest e = rest x.1 e
+
+never-go : (first : Bool) (breaks : List ℕ) (j : Joining) (n : Next) (go : Joining → Moves) → ((i : Joining) → (go i).ends ≢ ending.Quits) → (go_by first breaks j n go).ends ≢ ending.Quits
+never-go first breaks j next.AllDone go rest e = absurd cc
+never-go first breaks j next.NoneReady go rest e = absurd cc
+never-go first breaks j (next.Hart h) go rest e = never-past j h (stop_unless first breaks j h) (next_step j h) go rest e
+
+goes-never : (n : ℕ) (first : Bool) (breaks : List ℕ) (j : Joining) → (go_for n first breaks j).ends ≢ ending.Quits
+goes-never zero first breaks j e = absurd cc
+goes-never (suc n) first breaks j e = never-go first breaks j (choice j) (λ i. go_for n false breaks i) (λ i f. goes-never n false breaks i f) e
+
+either-never : (b : Bool) (x y : Answer) → x.ends ≢ ending.Quits → y.ends ≢ ending.Quits → (elim b as (λ z. Answer) [ true ↦ x | false ↦ y ]).ends ≢ ending.Quits
+either-never true x y p q = p
+either-never false x y p q = q
+
+said-never : (s : Session) (text : List ℕ) → (says s text).ends ≢ ending.Quits
+said-never s text e = absurd cc
+
+-- only the command `quit` quits
+only-quit : (s : Session) (c : Command) → (answer s c).ends ≡ ending.Quits → c ≡ to.Quit
+only-quit s to.Empty e = absurd (said-never s [] e)
+only-quit s (to.Hart n) e =
+    absurd (either-never (nat_lt n (length s.now.lanes)) (says (record s { hart = n }) (hart_text n)) (unknown s) (said-never (record s { hart = n }) (hart_text n)) (said-never s (codes "?\n")) e)
+only-quit s (to.Step k) e = absurd (steps-never s.hart k s.now e)
+only-quit s to.Go e = absurd (goes-never (steps_left s.now.lanes + 1) true s.breaks s.now e)
+only-quit s (to.Break addr) e =
+    let t : Session = record s { breaks = s.breaks ++ addr ∷ [] } in
+    let text = address_text (codes "break ") addr in
+    let full : Answer = elim (nat_lt (length s.breaks) break_limit) as (λ z. Answer) [ true ↦ says t text | false ↦ says s (codes "full\n") ] in
+    absurd (either-never (is_set s.breaks addr) (says s text) full (said-never s text)
+    (either-never (nat_lt (length s.breaks) break_limit) (says t text) (says s (codes "full\n")) (said-never t text) (said-never s (codes "full\n"))) e)
+only-quit s (to.Unbreak addr) e =
+    let t : Session = record s { breaks = filter (λ b. not (b == addr)) s.breaks } in
+    let text = address_text (codes "unbreak ") addr in
+    absurd (either-never (is_set s.breaks addr) (says t text) (says s (codes "none\n")) (said-never t text) (said-never s (codes "none\n")) e)
+only-quit s to.Registers e = absurd (said-never s (registers_text (state_at s.now s.hart)) e)
+only-quit s (to.Word addr) e = absurd (said-never s (word_text addr (word_in s.now.memory addr)) e)
+only-quit s to.Where e = absurd (said-never s (places_from s.now 0 (length s.now.lanes)) e)
+only-quit s to.Quit e = refl
+only-quit s to.Other e = absurd (said-never s (codes "?\n") e)
+
+quit-ends : (s : Session) (c : Command) → c ≡ to.Quit → (answer s c).ends ≡ ending.Quits
+quit-ends s c e = subst (λ (x : Command). (answer s x).ends ≡ ending.Quits) (sym e) refl
+
+two-ends : (x : Ending) → x ≡ ending.GoesOn → x ≡ ending.Quits → ⊥
+two-ends x e f = absurd cc
+
+going : (s : Session) (c : Command) → (answer s c).ends ≡ ending.GoesOn → c ≢ to.Quit
+going s c e q = two-ends (answer s c).ends e (quit-ends s c q)
+
+no-quit-by : (x : Ending) (a : Answer) (line : List ℕ) (lines : List (List ℕ)) (go : Session → Answer) → a.ends ≡ x → (a.ends ≡ ending.GoesOn → command_of line ≢ to.Quit) → ((go a.session).ends ≡ ending.GoesOn → NoQuit lines)
+    → (goes_on_by x a go).ends ≡ ending.GoesOn → NoQuit (line ∷ lines)
+no-quit-by ending.GoesOn a line lines go f here rest e = (here f, rest e)
+no-quit-by ending.Quits a line lines go f here rest e = absurd (two-ends a.ends e f)
+no-quit-by (ending.Refused x) a line lines go f here rest e = absurd (not-refused a.ends x e f)
+
+-- where a session goes on after lines, none of them is `quit`
+pub no-quit : (lines : List (List ℕ)) (s : Session) → (answers lines s).ends ≡ ending.GoesOn → NoQuit lines
+no-quit [] s e = tt
+no-quit (line ∷ lines) s e =
+    let a = answer s (command_of line) in
+    no-quit-by a.ends a line lines (λ t. answers lines t) refl (λ f. going s (command_of line) f) (λ f. no-quit lines a.session f) e
+
+quits-by : (x : Ending) (a : Answer) (go : Session → Answer) → a.ends ≡ x → ((t : Session) → (go t).ends ≡ ending.GoesOn) → (goes_on_by x a go).ends ≡ ending.Quits → a.ends ≡ ending.Quits
+quits-by ending.GoesOn a go f rest e = absurd (two-ends (go a.session).ends (rest a.session) e)
+quits-by ending.Quits a go f rest e = e
+quits-by (ending.Refused x) a go f rest e = e
+
+later-by : (x : Ending) (a : Answer) (front whole : Session → Answer) {T : Type 0} → a.ends ≡ x → ((front a.session).ends ≡ ending.GoesOn → (whole a.session).ends ≡ ending.Quits → T)
+    → (goes_on_by x a front).ends ≡ ending.GoesOn → (goes_on_by x a whole).ends ≡ ending.Quits → T
+later-by ending.GoesOn a front whole f rest e g = rest e g
+later-by ending.Quits a front whole f rest e g = absurd (two-ends a.ends e f)
+later-by (ending.Refused x) a front whole f rest e g = absurd (not-refused a.ends x e f)
+
+-- the line that ends it is `quit`
+pub last-quit : (front : List (List ℕ)) (line : List ℕ) (s : Session) → (answers front s).ends ≡ ending.GoesOn → (answers (front ++ line ∷ []) s).ends ≡ ending.Quits → command_of line ≡ to.Quit
+last-quit [] line s e f =
+    let a = answer s (command_of line) in only-quit s (command_of line) (quits-by a.ends a (λ t. answers [] t) refl (λ t. refl) f)
+last-quit (l ∷ front) line s e f =
+    let a = answer s (command_of l) in later-by a.ends a (λ t. answers front t) (λ t. answers (front ++ line ∷ []) t) refl (λ g h. last-quit front line a.session g h) e f

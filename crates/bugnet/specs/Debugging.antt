@@ -1,0 +1,91 @@
+-- What a session of the debugger does, and what it shows of a recording.
+use Rattle.std.specs.Prelude.{◌≡◌, ◌≢◌, ◌⊎◌, ◌≤◌, ℕ, false, nat_lt, List, length, Option, Some, None, Err}
+use Rattle.std.specs.Io.KnownBytes.{Appends}
+use Rattle.sha2.specs.Sha256.{sha256}
+use Rattle.bn_outside.specs.Files.{Files}
+use Rattle.command_words.specs.Words.{Line, RecordLine, ReplayLine, JointLine, DebugLine, ListLine, CheckLine, AuditLine, DemoLine}
+use Rattle.joint_replay.specs.declared.error.JointError.{JointError}
+use Rattle.joint_replay.specs.Joining.{Walk}
+use Rattle.run_model.specs.Files.{file_of}
+use Rattle.joint_laws.specs.Recordings.{Recording, IsRecorded, kept, begin}
+use Rattle.joint_laws.specs.Laws.{SaysSoFar}
+use Rattle.step_debugger.specs.Answers.{Answer}
+use Rattle.step_debugger.specs.Answers.{begin as session_begin}
+use Rattle.step_debugger.specs.Lines.{input_of}
+use Rattle.step_debugger.specs.Transcript.{answers, transcript}
+use Rattle.step_debugger.specs.Transcript.{Told as Transcript}
+use Rattle.step_debugger.specs.declared.error.DebugError.TheVariants.{Joint}
+use Rattle.step_debugger.specs.declared.session.Ending.TheVariants.{Refused}
+use Rattle.bugnet.specs.Commands.{Either}
+use Rattle.bugnet.specs.Outside.{WithFiles}
+use Rattle.bugnet.specs.Answers.{names_in}
+use Rattle.bugnet.specs.Run.{Call, IsFree, SomeTold, Tells, StoppedEarly}
+use Rattle.bugnet.specs.Sessions.{Commands, AreRead, input_in, session_status, IsSession, CanDebug}
+
+-- ---- a recording
+
+-- where a session over what a recording's log keeps stands after these lines of commands
+abbrev pub session_after : Recording → List (List ℕ) → Answer
+session_after r lines = answers lines (session_begin (begin r (kept r)))
+
+-- the replay isn't refused by then, and what the session shows is the run's: the order, the rows, the states and the words
+pub record ShowsRun (r : Recording) (lines : List (List ℕ)) : Type 0 where
+  pub goes_on : (e : JointError) → (session_after r lines).ends ≢ Refused e
+  pub walk : Walk
+  pub says : SaysSoFar r (session_after r lines).session.now walk
+
+-- So it is wherever a session comes
+abbrev pub SessionsShowTheRun : Type 0
+SessionsShowTheRun = (r : Recording) → IsRecorded r → (lines : List (List ℕ)) → ShowsRun r lines
+
+-- the transcript of a session over what a recording's log keeps
+abbrev pub session_of : Recording → Commands → Transcript
+session_of r c = transcript (begin r (kept r)) (input_in c)
+
+-- the log file of a recording is there, and its program file
+pub record HasRun (log elf : List ℕ) (files : Files) (r : Recording) : Type 0 where
+  pub program : files elf ≡ Some r.elf
+  pub recording : IsRecorded r
+  pub log_there : files log ≡ Some (file_of r.settings r.program (sha256 r.elf) r.input r.turns)
+
+-- a session with them is done as its commands say: its whole text is there, no replay was refused, and wherever it came it
+-- showed the run
+pub record DoneSession (r : Recording) (c : Commands) (status : ℕ) (out_old out_new : Option (List ℕ)) : Type 0 where
+  pub done : status ≡ session_status (session_of r c).result
+  pub text : Appends out_old out_new (session_of r c).text
+  pub goes_on : (e : JointError) → (session_of r c).result ≢ Err (Joint e)
+  pub shows : (lines : List (List ℕ)) → ShowsRun r lines
+
+-- so it is, unless memory was wanting, the store or a write failed, or the program file is too long
+abbrev pub ShowsSession : Commands → (log elf : List ℕ) → Files → ℕ → Option (List ℕ) → Option (List ℕ) → Type 0
+ShowsSession c log elf files status out_old out_new = (r : Recording) → HasRun log elf files r
+    → IsFree status ⊎ Either (nat_lt 67108864 (length r.elf)) (status ≡ 5) (DoneSession r c status out_old out_new)
+
+-- Where the log file of a recording is there and its program file, which isn't too long, and the commands are read whole and keep
+-- to their limits, there is all that a session needs
+abbrev pub RecordingsCanBeDebugged : Type 0
+RecordingsCanBeDebugged = (c : Commands) (log elf : List ℕ) (files : Files) (r : Recording) → HasRun log elf files r → length r.elf ≤ 67108864
+    → c.failed ≡ false → (input_of c.bytes).refused ≡ None → CanDebug c log elf files
+
+-- ---- the call
+
+-- by the files that are there and these commands it tells what it has to answer, or it was stopped before there was an answer;
+-- where they have all that it needs it is done; and it shows a recording's run
+pub record DebugsFiles (c : Commands) (log elf : List ℕ) (files : Files) (status : ℕ) (k : Call) : Type 0 where
+  pub tells : SomeTold (IsSession c files (names_in (DebugLine log elf))) (λ what. Tells (names_in (DebugLine log elf)) what status k)
+      ⊎ StoppedEarly (Some (DebugLine log elf)) files status k
+  pub done : CanDebug c log elf files → IsFree status ⊎ (status ≡ 0)
+  pub shows : ShowsSession c log elf files status k.old.out k.new.out
+
+-- a session reads commands, and does so by them
+abbrev pub Debugs : Option Line → (status : ℕ) → (left now_left : Option (List ℕ)) → (before now : ℕ) → Call → Type 0
+Debugs None status left now_left before now k = Unit {0}
+Debugs (Some (RecordLine r)) status left now_left before now k = Unit {0}
+Debugs (Some (ReplayLine log elf hart interval)) status left now_left before now k = Unit {0}
+Debugs (Some (JointLine log elf)) status left now_left before now k = Unit {0}
+Debugs (Some (DebugLine log elf)) status left now_left before now k =
+    (c : Commands) × AreRead c status left now_left before now × WithFiles k.old.files (λ files. DebugsFiles c log elf files status k)
+Debugs (Some (ListLine log)) status left now_left before now k = Unit {0}
+Debugs (Some (CheckLine log)) status left now_left before now k = Unit {0}
+Debugs (Some (AuditLine log elf book input)) status left now_left before now k = Unit {0}
+Debugs (Some (DemoLine seed)) status left now_left before now k = Unit {0}

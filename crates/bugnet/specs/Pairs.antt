@@ -1,0 +1,48 @@
+-- What a command answers by a log and the program that it was recorded of.
+use Rattle.std.specs.Prelude.{◌≡◌, ◌≤◌, Bool, true, false, ℕ, List, length, Option, Some, Result, Ok, Err}
+use Rattle.std.specs.Str.{bytes_eq}
+use Rattle.sha2.specs.Sha256.{sha256}
+use Rattle.bn_base.specs.Programs.{Program}
+use Rattle.bn_outside.specs.Files.{Files}
+use Rattle.elf_loader.specs.Loaded.{image_of}
+use Rattle.elf_loader.specs.declared.error.ElfError.{ElfError}
+use Rattle.log_order.specs.Content.{Content, IsContent}
+use Rattle.log_file.specs.Layout.{file_bytes}
+use Rattle.bugnet.specs.Names.{FileNames}
+use Rattle.bugnet.specs.Told.{Told, refused}
+use Rattle.bugnet.specs.Commands.{WithFile, IsByLog}
+use Rattle.bugnet.specs.declared.names.Role.TheVariants as role
+use Rattle.bugnet.specs.declared.refusal.Refusal.TheVariants.{ElfRefused, ProgramDiffers}
+
+-- an answer by what a log says and by a program
+abbrev pub ByPair : Type 0
+ByPair = Content → Program → Told
+
+abbrev pub pair_loaded : ByPair → FileNames → Content → Result Program ElfError → Told
+pair_loaded go names d (Err e) = refused names (ElfRefused e)
+pair_loaded go names d (Ok i) = go d i
+
+abbrev pub pair_same : Bool → ByPair → FileNames → List ℕ → Content → Told
+pair_same true go names elf d = pair_loaded go names d (image_of elf d.head.settings)
+pair_same false go names elf d = refused names (ProgramDiffers d.head.digest (sha256 elf))
+
+-- the same with a program file: its digest is compared with the log's, and it is loaded with the log's settings
+abbrev pub pair_of : ByPair → FileNames → List ℕ → Content → Told
+pair_of go names elf d = pair_same (bytes_eq (sha256 elf) d.head.digest) go names elf d
+
+-- by the files that are there: the log first
+abbrev pub IsPairOf : ByPair → Files → FileNames → List ℕ → Told → Type 0
+IsPairOf go files names log what = WithFile files names role.Elf 67108864 (λ elf what. IsByLog names log (pair_of go names elf) what) what
+
+abbrev pub IsPair : ByPair → Files → FileNames → Told → Type 0
+IsPair go files names what = WithFile files names role.Log 268500992 (λ log what. IsPairOf go files names log what) what
+
+-- a log and its program are there
+pub record ArePair (log elf : List ℕ) (files : Files) (d : Content) (i : Program) : Type 0 where
+  pub bytes : List ℕ
+  pub is : IsContent d
+  pub log_there : files log ≡ Some (file_bytes d)
+  pub elf_there : files elf ≡ Some bytes
+  pub elf_small : length bytes ≤ 67108864
+  pub same : bytes_eq (sha256 bytes) d.head.digest ≡ true
+  pub loaded : image_of bytes d.head.settings ≡ Ok i

@@ -1,0 +1,34 @@
+-- How the command `debug` goes: the end of a session, one with a log and its program, and one by their names.
+use Rattle.std.specs.Prelude.{◌≡◌, ◌⊎◌, ℕ, List, Option}
+use Rattle.bn_outside.specs.Counts.{Counts}
+use Rattle.bn_outside.specs.Files.{Files}
+use Rattle.joint_replay.specs.Joining.{Joining}
+use Rattle.step_debugger.specs.Transcript.{transcript}
+use Rattle.step_debugger.specs.declared.error.DebugError.{DebugError}
+use Rattle.bugnet.specs.Names.{FileNames}
+use Rattle.bugnet.specs.Refusals.{line_of}
+use Rattle.bugnet.specs.Told.{Told}
+use Rattle.bugnet.specs.Outside.{WithFiles, Wrote, IsEarly, ToldRefusal}
+use Rattle.bugnet.specs.Sessions.{Commands, AreRead, input_in, stop_status, stop_line, session_told, IsSession, IsDebug}
+use Rattle.bugnet.specs.Run.{Call, printing, SomeTold, Tells, StoppedBy}
+use Rattle.bugnet.specs.declared.refusal.Refusal.TheVariants as why
+
+-- the end of a session was told, or its line found no memory
+abbrev pub ToldStop : FileNames → DebugError → ℕ → Option (List ℕ) → Option (List ℕ) → ℕ → ℕ → Type 0
+ToldStop names e status old new before now =
+    ((status ≡ stop_status e) × Wrote old new before now (stop_line names e))
+    ⊎ ((status ≡ 9) × Wrote old new before now (line_of names why.OutOfMemory))
+
+-- a session over a joint replay: commands were read, and what they make it tell is told
+abbrev pub DebugsPair : {O X : Type 0} → FileNames → Joining → (status : ℕ) → (left now_left : Option (List ℕ)) → (before now : ℕ)
+    → (O → Option (List ℕ)) → (O → ℕ) → (X → Option (List ℕ)) → (X → ℕ) → O → X → O → X → Type 0
+DebugsPair names j status left now_left before now out out_faults err err_faults o e p f =
+    (c : Commands) × AreRead c status left now_left before now
+    × ((files : Option Files) (had : Counts) → Tells names (session_told names (transcript j (input_in c))) status (printing files had out out_faults err err_faults o e p f))
+
+-- by the names of a log and a program: commands were read, and what they make the command tell is told, or it was stopped
+-- before it had an answer
+abbrev pub DebugsNamed : FileNames → (status : ℕ) → (left now_left : Option (List ℕ)) → (before now : ℕ) → Call → Type 0
+DebugsNamed names status left now_left before now k =
+    (c : Commands) × AreRead c status left now_left before now
+    × WithFiles k.old.files (λ files. SomeTold (IsSession c files names) (λ what. Tells names what status k) ⊎ StoppedBy names (λ files. IsDebug files names) files status k)

@@ -1,0 +1,75 @@
+-- The steps of a joint replay that goes through, and the bytes of known words.
+use Rattle.std.proofs.Common.{◌≡◌, ℕ, ◌*◌, nat_lt, Bool, true, false, List, [], ◌∷◌, ◌++◌, length, length-append, Some, None, ◌∙◌, ap, sym, refl, arith, inl, inr, append_assoc}
+use Rattle.std.specs.Prelude.{Ok, Err}
+use Rattle.std.specs.List.{flat_map}
+use Rattle.std.proofs.lemmas.List.Concat.{flat_map-cons}
+use Rattle.le_numbers.specs.Numbers.{number_bytes}
+use Rattle.joint_replay.specs.declared.error.JointError.{JointError}
+use Rattle.joint_replay.specs.declared.error.JointError.TheVariants.{Replay, Stuck}
+use Rattle.joint_replay.specs.declared.error.JointError.TheVariants as joint
+use Rattle.joint_replay.specs.Memory.{known_from}
+use Rattle.joint_replay.specs.Joining.{Joining, Ran, begun, ran, run_all}
+use Rattle.joint_replay.specs.Runs.{Advances, IsFirst, RunsGoOn, RunsEnd}
+use Rattle.demo_run.specs.Demonstration.{word_bytes}
+
+-- ---- steps
+
+-- the run of a joint replay goes on from where it stands, and isn't stopped
+pub record Walks (whole now : Joining) : Type 0 where
+  pub last : (run_all whole).walk.now ≡ (run_all now).walk.now
+  pub stopped : (run_all now).stopped ≡ None
+
+-- one step more
+pub walks-more : RunsGoOn → (whole now next : Joining) (waiting text : List ℕ) → Advances now (Ok true) next waiting text → Walks whole now → Walks whole next
+walks-more go whole now next waiting text a w =
+    let first : IsFirst now a.taken next = go now a.taken next a.step in
+    record { last = w.last ∙ first.now; stopped = sym first.stopped ∙ w.stopped }
+
+-- no step is left
+pub walks-done : RunsEnd → (whole now next : Joining) (waiting text : List ℕ) → Advances now (Ok false) next waiting text → Walks whole now → (run_all whole).walk.now ≡ next
+walks-done end whole now next waiting text a w =
+    let at : run_all now ≡ ran (begun next) None = end now next None a.0 in
+    w.last ∙ ap (λ (r : Ran). r.walk.now) at
+
+-- it is stopped by want of memory alone
+pub walks-starved : RunsEnd → (whole now next : Joining) (waiting text : List ℕ) (e : JointError) → Advances now (Err e) next waiting text → Walks whole now → e ≡ joint.OutOfMemory
+walks-starved end whole now next waiting text e (same, inl f) w =
+    let at : run_all now ≡ ran (begun next) (Some e) = end now next (Some e) f in
+    let stopped : Some e ≡ None = sym (ap (λ (r : Ran). r.stopped) at) ∙ w.stopped in
+    grind arith
+walks-starved end whole now next waiting text e (same, inr m) w = m.0
+
+-- ---- known words
+
+-- the bytes of some known words are written, and those from an address on are left
+abbrev pub Lists : List (ℕ × ℕ) → ℕ → List ℕ → Type 0
+Lists ms from bytes = bytes ++ flat_map word_bytes (known_from from ms) ≡ flat_map word_bytes ms
+
+all-known : (ms : List (ℕ × ℕ)) → known_from 0 ms ≡ ms
+all-known [] = refl
+all-known (m ∷ ms) = ap (λ (b : Bool). elim b as (λ y. List (ℕ × ℕ)) [ true ↦ known_from 0 ms | false ↦ m ∷ ms ]) (none-below m.0)
+  where
+    none-below : (n : ℕ) → nat_lt n 0 ≡ false
+    none-below n = grind arith
+
+pub lists-none : (ms : List (ℕ × ℕ)) → Lists ms 0 []
+lists-none ms = ap (λ (xs : List (ℕ × ℕ)). flat_map word_bytes xs) (all-known ms)
+
+pub lists-more : (ms : List (ℕ × ℕ)) (from next a w : ℕ) (bytes one two : List ℕ) → known_from from ms ≡ (a, w) ∷ known_from next ms → one ≡ bytes ++ number_bytes 4 a → two ≡ one ++ number_bytes 4 w
+    → Lists ms from bytes → Lists ms next two
+lists-more ms from next a w bytes one two e p q l =
+    let left : List ℕ = flat_map word_bytes (known_from next ms) in
+    ap (λ (t : List ℕ). t ++ left) (q ∙ ap (λ (t : List ℕ). t ++ number_bytes 4 w) p ∙ append_assoc bytes (number_bytes 4 a) (number_bytes 4 w))
+    ∙ append_assoc bytes (word_bytes (a, w)) left
+    ∙ ap (λ (t : List ℕ). bytes ++ t) (sym (flat_map-cons word_bytes (a, w) (known_from next ms)))
+    ∙ ap (λ (xs : List (ℕ × ℕ)). bytes ++ flat_map word_bytes xs) (sym e)
+    ∙ l
+
+-- each word has eight bytes
+eight : (m : ℕ × ℕ) → length (word_bytes m) ≡ 8
+unfolding number_bytes
+eight m = refl
+
+pub eight-each : (ms : List (ℕ × ℕ)) → length (flat_map word_bytes ms) ≡ 8 * length ms
+eight-each [] = refl
+eight-each (m ∷ ms) = ap (λ (t : List ℕ). length t) (flat_map-cons word_bytes m ms) ∙ omega (arith, length-append (word_bytes m) (flat_map word_bytes ms), eight m, eight-each ms)

@@ -1,0 +1,7 @@
+mod Loads
+mod Counts
+mod Joins
+mod Sums
+mod Whole
+mod Written
+mod Shown

@@ -1,0 +1,74 @@
+-- The run of a demonstration, as its closed bus has it.
+use Rattle.std.proofs.Common.{◌≡◌, ℕ, Bool, List, length, ◌∙◌, ap, arith}
+use Rattle.std.specs.Prelude.{Option}
+use Rattle.std.specs.List.{flat_map}
+use Rattle.bn_base.specs.Programs.{Program}
+use Rattle.bn_base.specs.declared.end_mark.EndMark.{EndMark}
+use Rattle.bn_base.specs.declared.settings.RawSettings.{RawSettings}
+use Rattle.bn_outside.specs.declared.turn_row.TurnRow.{TurnRow}
+use Rattle.log_file.specs.Layout.{spelling, file_bytes}
+use Rattle.log_record.specs.Spelling.{bytes_of}
+use Rattle.log_record.specs.declared.record.Record.{Record}
+use Rattle.log_ring.specs.Kept.{kept}
+use Rattle.run_model.specs.Files.{kept_of, dropped_of}
+use Rattle.run_model.specs.Turn.{Run}
+use Rattle.run_model.specs.Runs.{run_of, seeded}
+use Rattle.run_model.specs.declared.start.Start.{Start}
+use Rattle.bus_core.specs.Bus.{began_of, marks}
+use Rattle.bus_core.specs.declared.closed.Closed.{Closed}
+use Rattle.hart_worker.specs.Closed.{IsClosed}
+use Rattle.hart_worker.specs.Lists.{list_run}
+use Rattle.joint_laws.specs.Recordings.{recorded}
+use Rattle.demo_run.specs.Demonstration.{counts_in, demo, demo_settings, demo_program, demo_turns, demo_log, instructions_of}
+use Rattle.demo_run.specs.Starts.{IsStart}
+
+-- the turns that the number chooses
+abbrev pub turns_of : ℕ → Start → List ℕ
+turns_of seed s = seeded s.settings s.image s.input.items seed
+
+list-so : (seed : ℕ) (s : Start) → IsStart seed s → turns_of seed s ≡ demo_turns seed
+unfolding demo_turns
+list-so seed s is =
+    ap (λ (c : RawSettings). seeded c s.image s.input.items seed) is.settings ∙ ap (λ (i : Program). seeded demo_settings i s.input.items seed) is.image
+    ∙ ap (λ (x : List ℕ). seeded demo_settings (demo_program seed) x seed) is.input
+
+run-so : (seed : ℕ) (s : Start) → IsStart seed s → list_run (began_of s) (turns_of seed s) ≡ recorded (demo seed)
+run-so seed s is =
+    ap (λ (b : List ℕ). run_of s.settings s.image s.input.items b) (list-so seed s is)
+    ∙ ap (λ (c : RawSettings). run_of c s.image s.input.items (demo_turns seed)) is.settings
+    ∙ ap (λ (i : Program). run_of demo_settings i s.input.items (demo_turns seed)) is.image
+    ∙ ap (λ (x : List ℕ). run_of demo_settings (demo_program seed) x (demo_turns seed)) is.input
+
+pub turns-so : {B : _} (tells : Bool) (seed : ℕ) (s : Start) (closed : Closed B) (rows : List TurnRow) → IsStart seed s → IsClosed tells (began_of s) (turns_of seed s) closed rows
+    → closed.turns ≡ length (demo_turns seed)
+turns-so tells seed s closed rows is end = end.turns ∙ ap (λ (b : List ℕ). length b) (list-so seed s is)
+
+pub instructions-so : {B : _} (tells : Bool) (seed : ℕ) (s : Start) (closed : Closed B) (rows : List TurnRow) → IsStart seed s → IsClosed tells (began_of s) (turns_of seed s) closed rows
+    → counts_in closed.ends.items ≡ instructions_of (demo seed)
+instructions-so tells seed s closed rows is end =
+    ap (λ (ms : List (Option EndMark)). counts_in ms) end.ends
+    ∙ ap (λ (c : RawSettings). counts_in (marks 0 c.harts (list_run (began_of s) (turns_of seed s)).harts)) is.settings
+    ∙ ap (λ (run : Run). counts_in (marks 0 demo_settings.harts run.harts)) (run-so seed s is)
+
+records-so : {B : _} (tells : Bool) (seed : ℕ) (s : Start) (closed : Closed B) (rows : List TurnRow) → IsStart seed s → IsClosed tells (began_of s) (turns_of seed s) closed rows
+    → closed.ring.records ≡ kept_of demo_settings (recorded (demo seed))
+records-so tells seed s closed rows is end =
+    end.log.latest ∙ ap (λ (n : ℕ). kept n (list_run (began_of s) (turns_of seed s)).stream) end.size
+    ∙ ap (λ (c : RawSettings). kept c.log_size (list_run (began_of s) (turns_of seed s)).stream) is.settings
+    ∙ ap (λ (run : Run). kept demo_settings.log_size run.stream) (run-so seed s is)
+
+dropped-so : {B : _} (tells : Bool) (seed : ℕ) (s : Start) (closed : Closed B) (rows : List TurnRow) → IsStart seed s → IsClosed tells (began_of s) (turns_of seed s) closed rows
+    → closed.ring.dropped ≡ dropped_of demo_settings (recorded (demo seed))
+dropped-so tells seed s closed rows is end =
+    let count : length closed.ring.records ≡ length (kept_of demo_settings (recorded (demo seed))) = ap (λ (rs : List Record). length rs) (records-so tells seed s closed rows is end) in
+    let all : length (list_run (began_of s) (turns_of seed s)).stream ≡ length (recorded (demo seed)).stream = ap (λ (run : Run). length run.stream) (run-so seed s is) in
+    let counted = end.log.counted in
+    omega (arith, counted, count, all)
+
+pub file-so : {B : _} (tells : Bool) (seed : ℕ) (s : Start) (closed : Closed B) (rows : List TurnRow) → IsStart seed s → IsClosed tells (began_of s) (turns_of seed s) closed rows
+    → spelling (record { settings = s.settings; digest = s.digest }) closed.ring.dropped (flat_map bytes_of closed.ring.records) ≡ file_bytes (demo_log seed)
+file-so tells seed s closed rows is end =
+    ap (λ (c : RawSettings). spelling (record { settings = c; digest = s.digest }) closed.ring.dropped (flat_map bytes_of closed.ring.records)) is.settings
+    ∙ ap (λ (d : List ℕ). spelling (record { settings = demo_settings; digest = d }) closed.ring.dropped (flat_map bytes_of closed.ring.records)) is.digest
+    ∙ ap (λ (n : ℕ). spelling (demo_log seed).head n (flat_map bytes_of closed.ring.records)) (dropped-so tells seed s closed rows is end)
+    ∙ ap (λ (rs : List Record). spelling (demo_log seed).head (demo_log seed).dropped (flat_map bytes_of rs)) (records-so tells seed s closed rows is end)

@@ -1,0 +1,8 @@
+use Rattle.std.proofs.Common.{sym, ◌∙◌}
+use Rattle.demo_run.specs.Demonstration.{demo_settings}
+use Rattle.demo_run.proofs.Whole.{never_bad}
+use Rattle.demo_run.proofs.starting.demo_settings.Goals as goal
+
+pub unreachable-requires : goal.unreachable-requires
+unfolding demo_settings
+unreachable-requires c = never_bad c.in-Err.field-0 (sym c.in-Err.is ∙ c.checked.ensures)

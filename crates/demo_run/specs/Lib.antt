@@ -1,0 +1,4 @@
+pub mod Texts
+pub mod Demonstration
+pub mod Starts
+pub mod Laws

@@ -1,0 +1,193 @@
+-- The head of a file that is written is read again, and has no fault.
+use Rattle.std.proofs.Common.{◌≡◌, ℕ, ◌+◌, ◌%◌, ◌^◌, ◌<◌, ◌≤◌, Bool, true, false, ltb, List, [], ◌++◌, length, take, drop, length-append, append_assoc, append-nil, None, refl, sym, ap, ◌∙◌, arith}
+use Rattle.std.specs.Prelude.{◌==◌, IsTrue, if◌then◌else◌}
+use Rattle.std.specs.Int.{is_power_of_two}
+use Rattle.std.proofs.lemmas.Bool.{eqb-true, eq-eqb}
+use Rattle.std.proofs.lemmas.List.{drop-drop, take_at, drop_at}
+use Rattle.std.proofs.lemmas.Slice.Eq.{bytes_eq-Decides}
+use Rattle.sha2.specs.Sha256.{sha256}
+use Rattle.sha2.proofs.Facts256.{length-sha256}
+use Rattle.bn_base.specs.declared.settings.RawSettings.{RawSettings}
+use Rattle.bn_base.specs.Ranges.{IsSetting, is_between, is_small_power, is_memory_size, most_harts, first_bad}
+use Rattle.le_numbers.specs.Numbers.{number_at, number_bytes}
+use Rattle.le_numbers.specs.Laws.{HaveTheirWidth, AreRead}
+use Rattle.log_record.specs.declared.head.Head.{Head}
+use Rattle.log_record.specs.Spelling.{total}
+use Rattle.log_order.specs.Content.{Content, IsContent}
+use Rattle.log_file.specs.Layout.{magic, head_bytes2, file_bytes2}
+use Rattle.log_file.specs.Blocks.{blocks_of, all_sealed}
+use Rattle.log_blocks.specs.Fields.{settings_in, head_in, dropped_in, size_in, kept_digest, head_digest, blocks_in}
+use Rattle.log_blocks.specs.Faults.{head_fault}
+use Rattle.log_blocks.proofs.Layouts.{spelled, head_is_spelled}
+use Rattle.log_blocks.proofs.Sealed.{small}
+
+most : (s : RawSettings) → most_harts s ≤ 16
+most s = by (s.format == 2)
+  where
+    by : (b : Bool) → (if b then 16 else 8) ≤ 16
+    by true = omega arith
+    by false = omega arith
+
+abbrev head_with : List ℕ → RawSettings → Head
+head_with digest s = record { settings = s; digest = digest }
+
+-- what stands at the places of the fields
+pub record Again (bytes : List ℕ) (h : Head) (dropped n : ℕ) (rest : List ℕ) : Type 0 where
+  pub begins : take 8 bytes ≡ magic
+  pub version : number_at 4 8 bytes ≡ 2
+  pub head : head_in bytes ≡ h
+  pub dropped_is : dropped_in bytes ≡ dropped
+  pub n_is : size_in bytes ≡ n
+  pub rest_is : drop 104 bytes ≡ rest
+
+spelled_again : AreRead → (h : Head) (dropped n : ℕ) (rest bytes : List ℕ) → IsSetting h.settings → length h.digest ≡ 32 → dropped < 2 ^ 64 → n < 2 ^ 32 → bytes ≡ spelled h dropped n rest → Again bytes h dropped n rest
+unfolding spelled magic
+spelled_again read h dropped n rest bytes is len small fits e =
+    let s8 = read 4 8 2 bytes _ (omega arith) (ap (drop 8) e) in
+    let s12 = read 4 12 h.settings.harts bytes _ (omega (arith, most h.settings, is.harts_high)) s8.1 in
+    let s16 = read 4 16 h.settings.interval bytes _ (omega (arith, is.interval_high)) s12.1 in
+    let s20 = read 8 20 h.settings.limit bytes _ (omega (arith, is.limit_high)) s16.1 in
+    let s28 = read 4 28 h.settings.log_size bytes _ (omega (arith, is.log_size_high)) s20.1 in
+    let s32 = read 4 32 h.settings.memory bytes _ (omega (arith, is.memory_high)) s28.1 in
+    let s36 = read 4 36 h.settings.sets bytes _ (omega (arith, is.sets_high)) s32.1 in
+    let s40 = read 4 40 h.settings.ways bytes _ (omega (arith, is.ways_high)) s36.1 in
+    let s44 = read 4 44 h.settings.line bytes _ (omega (arith, is.line_high)) s40.1 in
+    let s48 = read 4 48 h.settings.format bytes _ (omega (arith, is.format_high)) s44.1 in
+    let s52 = read 4 52 h.settings.sets2 bytes _ (omega (arith, eqb-true h.settings.sets2 0 is.second_sets)) s48.1 in
+    let s56 = read 4 56 h.settings.ways2 bytes _ (omega (arith, eqb-true h.settings.ways2 0 is.second_ways)) s52.1 in
+    let digest : take 32 (drop 60 bytes) ≡ h.digest = ap (take 32) s56.1 ∙ take_at h.digest _ 32 len in
+    let later = sym (drop-drop 32 60 bytes) ∙ ap (drop 32) s56.1 ∙ drop_at h.digest _ 32 len in
+    let s92 = read 8 92 dropped bytes _ small later in
+    let s100 = read 4 100 n bytes rest fits s92.1 in
+    let fields : head_in bytes ≡ head_with h.digest h.settings = rw (s12.0, s16.0, s20.0, s28.0, s32.0, s36.0, s40.0, s44.0, s48.0, s52.0, s56.0, digest) refl in
+    record { begins = ap (take 8) e; version = s8.0; head = fields; dropped_is = s92.0; n_is = s100.0; rest_is = s100.1 }
+
+abbrev pub head_for : Content → List ℕ
+head_for c = head_bytes2 c.head c.dropped (total c.records)
+
+abbrev pub sealed_for : Content → List ℕ
+sealed_for c = all_sealed (sha256 (head_for c)) (blocks_of c.dropped c.records)
+
+-- the bytes of a log's records are fewer than a field of four bytes counts
+pub small_size : (c : Content) → IsContent c → total c.records < 2 ^ 32
+small_size c is = omega (arith, is.bound, is.settings.log_size_high)
+
+pub content_again : AreRead → (c : Content) → IsContent c → Again (file_bytes2 c) c.head c.dropped (total c.records) (sha256 (head_for c) ++ sealed_for c)
+content_again read c is =
+    spelled_again read c.head c.dropped (total c.records) (sha256 (head_for c) ++ sealed_for c) (file_bytes2 c) is.settings is.digest is.dropped (small_size c is)
+    (append_assoc (head_for c) (sha256 (head_for c)) (sealed_for c) ∙ head_is_spelled c.head c.dropped (total c.records) (sha256 (head_for c) ++ sealed_for c))
+
+module _ (long : HaveTheirWidth) where
+  number_first : (width n : ℕ) (rest : List ℕ) → length (number_bytes width n ++ rest) ≡ width + length rest
+  number_first width n rest = omega (arith, length-append (number_bytes width n) rest, long width n)
+
+  length-spelled : (h : Head) (dropped n : ℕ) (rest : List ℕ) → length (spelled h dropped n rest) ≡ 72 + length h.digest + length rest
+  unfolding spelled magic
+  length-spelled h dropped n rest =
+      let s = h.settings in
+      let t100 = number_bytes 4 n ++ rest in
+      let t92 = number_bytes 8 dropped ++ t100 in
+      let t60 = h.digest ++ t92 in
+      let t56 = number_bytes 4 s.ways2 ++ t60 in
+      let t52 = number_bytes 4 s.sets2 ++ t56 in
+      let t48 = number_bytes 4 s.format ++ t52 in
+      let t44 = number_bytes 4 s.line ++ t48 in
+      let t40 = number_bytes 4 s.ways ++ t44 in
+      let t36 = number_bytes 4 s.sets ++ t40 in
+      let t32 = number_bytes 4 s.memory ++ t36 in
+      let t28 = number_bytes 4 s.log_size ++ t32 in
+      let t20 = number_bytes 8 s.limit ++ t28 in
+      let t16 = number_bytes 4 s.interval ++ t20 in
+      let t12 = number_bytes 4 s.harts ++ t16 in
+      omega (
+        arith,
+        number_first 4 2 t12,
+        number_first 4 s.harts t16,
+        number_first 4 s.interval t20,
+        number_first 8 s.limit t28,
+        number_first 4 s.log_size t32,
+        number_first 4 s.memory t36,
+        number_first 4 s.sets t40,
+        number_first 4 s.ways t44,
+        number_first 4 s.line t48,
+        number_first 4 s.format t52,
+        number_first 4 s.sets2 t56,
+        number_first 4 s.ways2 t60,
+        length-append h.digest t92,
+        number_first 8 dropped t100,
+        number_first 4 n rest,
+      )
+
+  pub head_size : (c : Content) → IsContent c → length (head_for c) ≡ 104
+  head_size c is =
+      omega (arith, ap length (sym (append-nil (head_for c)) ∙ head_is_spelled c.head c.dropped (total c.records) []), length-spelled c.head c.dropped (total c.records) [], is.digest)
+
+  -- what stands behind the head
+  pub record Placed (c : Content) : Type 0 where
+    pub head_is : take 104 (file_bytes2 c) ≡ head_for c
+    pub kept : kept_digest (file_bytes2 c) ≡ sha256 (head_for c)
+    pub blocks : blocks_in (file_bytes2 c) ≡ sealed_for c
+    pub enough : 136 ≤ length (file_bytes2 c)
+
+  pub placed : (c : Content) → IsContent c → Placed c
+  placed c is =
+      let h = head_for c in
+      let d = sha256 h in
+      let e : file_bytes2 c ≡ h ++ (d ++ sealed_for c) = append_assoc h d (sealed_for c) in
+      let behind : drop 104 (file_bytes2 c) ≡ d ++ sealed_for c = ap (drop 104) e ∙ drop_at h (d ++ sealed_for c) 104 (head_size c is) in
+      record {
+        head_is = ap (take 104) e ∙ take_at h (d ++ sealed_for c) 104 (head_size c is);
+        kept = ap (take 32) behind ∙ take_at d (sealed_for c) 32 (length-sha256 h);
+        blocks = sym (drop-drop 32 104 (file_bytes2 c)) ∙ ap (drop 32) behind ∙ drop_at d (sealed_for c) 32 (length-sha256 h);
+        enough = omega (arith, ap length e, length-append h (d ++ sealed_for c), length-append d (sealed_for c), length-sha256 h, head_size c is);
+      }
+
+-- ---- a head that is written has no fault
+
+between : (low high value : ℕ) → low ≤ value → value ≤ high → is_between low high value ≡ true
+between low high value l h = grind arith
+
+power : (high value : ℕ) → 1 ≤ value → value ≤ high → IsTrue (is_power_of_two value) → is_small_power high value ≡ true
+power high value l h p = grind arith
+
+memory : (value : ℕ) → 65536 ≤ value → value ≤ 2 ^ 26 → value % 4096 ≡ 0 → is_memory_size value ≡ true
+memory value l h p = grind arith
+
+none_bad : (s : RawSettings) → IsSetting s → first_bad s ≡ None
+none_bad s is =
+    rw (
+      between 1 (most_harts s) s.harts is.harts_low is.harts_high,
+      between 1 10000000 s.interval is.interval_low is.interval_high,
+      between 1 (2 ^ 40) s.limit is.limit_low is.limit_high,
+      between 16384 (2 ^ 28) s.log_size is.log_size_low is.log_size_high,
+      memory s.memory is.memory_low is.memory_high is.memory_pages,
+      power 1024 s.sets is.sets_low is.sets_high is.sets_power,
+      between 1 16 s.ways is.ways_low is.ways_high,
+      power 16 s.line is.line_low is.line_high is.line_power,
+      between 1 1 s.format is.format_low is.format_high,
+      is.second_sets,
+      is.second_ways,
+    ) refl
+
+lt_not : (a b : ℕ) → b ≤ a → ltb a b ≡ false
+lt_not a b e = grind arith
+
+faultless : (bytes : List ℕ) → 136 ≤ length bytes → take 8 bytes ≡ magic → number_at 4 8 bytes ≡ 2 → first_bad (settings_in bytes) ≡ None → size_in bytes ≤ (settings_in bytes).log_size → kept_digest bytes ≡ head_digest bytes → head_fault bytes ≡ None
+unfolding head_fault
+faultless bytes long begins version ranges within digest =
+    rw (
+      lt_not (length bytes) 124 (omega (arith, long)),
+      (bytes_eq-Decides (take 8 bytes) magic).1 begins,
+      eq-eqb _ _ version,
+      lt_not (length bytes) 136 long,
+      ranges,
+      lt_not (settings_in bytes).log_size (size_in bytes) within,
+      (bytes_eq-Decides (kept_digest bytes) (head_digest bytes)).1 digest,
+    ) refl
+
+pub no_fault_again : AreRead → HaveTheirWidth → (c : Content) → IsContent c → head_fault (file_bytes2 c) ≡ None
+no_fault_again read long c is =
+    let a = content_again read c is in
+    let p = placed long c is in
+    let settings : settings_in (file_bytes2 c) ≡ c.head.settings = ap (λ (h : Head). h.settings) a.head in
+    faultless (file_bytes2 c) p.enough a.begins a.version (ap first_bad settings ∙ none_bad c.head.settings is.settings) (omega (arith, a.n_is, ap (λ (s : RawSettings). s.log_size) settings, is.bound)) (p.kept ∙ sym (ap sha256 p.head_is))

@@ -1,0 +1,50 @@
+use Rattle.std.proofs.Common.{◌≡◌, ◌+◌, ◌-◌, length, arith, ap, ◌∙◌}
+use Rattle.std.proofs.lemmas.List.{length-take-le}
+use Rattle.le_numbers.specs.Numbers.{number_at}
+use Rattle.log_blocks.proofs.Left.{all_left, within}
+use Rattle.log_blocks.proofs.Salvaged.{before_first, before_none}
+use Rattle.log_blocks.proofs.salvaging.dropped_before.Goals as goal
+
+pub returns-then-count-eq0 : goal.returns-then-count-eq0
+returns-then-count-eq0 c = λ pieces l. before_none c.args.bytes.now c.args.walk.now.sizes.items c.args.walk.now.rest c.args.walk.now.size c.args.dropped pieces (omega (arith, c.len-count.ensures, c.args.walk.now.sizes.ok, c.if-count-eq0.true)) l
+
+pub overflow_add-end : goal.overflow_add-end
+overflow_add-end c =
+    let count : c.len-count.result ≡ length c.args.walk.now.sizes.items = omega (arith, c.len-count.ensures, c.args.walk.now.sizes.ok) in
+    omega (
+      arith,
+      within c.args.bytes.now c.args.walk.now.sizes.items c.args.walk.now.rest (c.len-count.result - 1) c.len-count.result c.index.result.now c.requires.0 (omega (arith, c.if-count-eq0.false)) (omega (arith, c.if-count-eq0.false, count)) c.index.ensures
+          (all_left c.args.bytes.now c.args.walk.now.sizes.items c.args.walk.now.rest c.args.walk.now.size c.len-count.result c.requires.0 count c.requires.1),
+    )
+
+pub overflow_add-end-2 : goal.overflow_add-end-2
+overflow_add-end-2 c =
+    let count : c.len-count.result ≡ length c.args.walk.now.sizes.items = omega (arith, c.len-count.ensures, c.args.walk.now.sizes.ok) in
+    omega (
+      arith,
+      within c.args.bytes.now c.args.walk.now.sizes.items c.args.walk.now.rest (c.len-count.result - 1) c.len-count.result c.index.result.now c.requires.0 (omega (arith, c.if-count-eq0.false)) (omega (arith, c.if-count-eq0.false, count)) c.index.ensures
+          (all_left c.args.bytes.now c.args.walk.now.sizes.items c.args.walk.now.rest c.args.walk.now.size c.len-count.result c.requires.0 count c.requires.1),
+    )
+
+pub front-requires : goal.front-requires
+front-requires c =
+    let count : c.len-count.result ≡ length c.args.walk.now.sizes.items = omega (arith, c.len-count.ensures, c.args.walk.now.sizes.ok) in
+    omega (
+      arith,
+      within c.args.bytes.now c.args.walk.now.sizes.items c.args.walk.now.rest (c.len-count.result - 1) c.len-count.result c.index.result.now c.requires.0 (omega (arith, c.if-count-eq0.false)) (omega (arith, c.if-count-eq0.false, count)) c.index.ensures
+          (all_left c.args.bytes.now c.args.walk.now.sizes.items c.args.walk.now.rest c.args.walk.now.size c.len-count.result c.requires.0 count c.requires.1),
+    )
+
+pub read_u64-requires : goal.read_u64-requires
+read_u64-requires c =
+    let count : c.len-count.result ≡ length c.args.walk.now.sizes.items = omega (arith, c.len-count.ensures, c.args.walk.now.sizes.ok) in
+    let end = within c.args.bytes.now c.args.walk.now.sizes.items c.args.walk.now.rest (c.len-count.result - 1) c.len-count.result c.index.result.now c.requires.0 (omega (arith, c.if-count-eq0.false)) (omega (arith, c.if-count-eq0.false, count)) c.index.ensures
+    (all_left c.args.bytes.now c.args.walk.now.sizes.items c.args.walk.now.rest c.args.walk.now.size c.len-count.result c.requires.0 count c.requires.1) in
+    omega (arith, ap length c.front.ensures, length-take-le (c.args.walk.now.rest + c.index.result.now + 48) c.args.bytes.now end)
+
+pub returns : goal.returns
+returns c = λ pieces l.
+    let count : c.len-count.result ≡ length c.args.walk.now.sizes.items = omega (arith, c.len-count.ensures, c.args.walk.now.sizes.ok) in
+    c.read_u64.ensures ∙ ap (number_at 8 (c.args.walk.now.rest + c.index.result.now)) c.front.ensures
+    ∙ before_first c.args.bytes.now c.args.walk.now.sizes.items c.args.walk.now.rest c.args.walk.now.size (c.len-count.result - 1) c.len-count.result c.index.result.now c.args.dropped pieces (omega (arith, c.if-count-eq0.false))
+    (omega (arith, c.if-count-eq0.false, count)) count c.index.ensures l

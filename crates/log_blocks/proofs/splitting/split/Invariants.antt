@@ -1,0 +1,13 @@
+use Rattle.std.proofs.Common.{◌≡◌, ◌++◌, length}
+use Rattle.std.specs.List.{flat_map, AllByRecursion}
+use Rattle.log_record.specs.Spelling.{bytes_of, Fits}
+use Rattle.log_blocks.proofs.splitting.split.Given as goal
+
+abbrev pub invariant-loop-rest : goal.invariant-loop-rest
+invariant-loop-rest l = record {
+  fit : AllByRecursion (Fits l.format) l.records.items;
+  parts : l.bytes ≡ flat_map bytes_of l.records.items ++ l.rest;
+}
+
+abbrev pub decreases-loop-rest : goal.decreases-loop-rest
+decreases-loop-rest l = length l.rest

@@ -1,0 +1,187 @@
+-- Why bytes are no log file of version 2, and what is salvaged of them.
+use Rattle.std.specs.Prelude.{◌≡◌, ◌≢◌, ℕ, ◌+◌, ◌<◌, ◌⊎◌, List, [], ◌∷◌, ◌++◌, length, Some, None, true, false}
+use Rattle.std.specs.List.{flat_map, AllByRecursion}
+use Rattle.log_record.specs.declared.head.Head.{Head}
+use Rattle.log_record.specs.declared.record.Record.{Record}
+use Rattle.log_record.specs.Spelling.{bytes_of, total, Fits}
+use Rattle.log_order.specs.Order.{order_break, broken_by}
+use Rattle.log_order.specs.Content.{Content, IsContent}
+use Rattle.log_file.specs.declared.error.FileError.TheVariants.{Short, BadMagic, BadVersion, BadHead, LengthDiffers, DigestDiffers, BadRecord, BadOrder, OutOfMemory}
+use Rattle.log_file.specs.Blocks.{blocks_of}
+use Rattle.log_file.specs.Layout.{file_bytes, file_bytes2}
+use Rattle.log_file.specs.File as first
+use Rattle.log_blocks.specs.declared.damage.Damage.{Damage}
+use Rattle.log_blocks.specs.declared.damage.Damage.TheVariants.{File, BadBlock}
+use Rattle.log_blocks.specs.declared.damage.SalvageError.{SalvageError}
+use Rattle.log_blocks.specs.declared.damage.SalvageError.TheVariants as salvage
+use Rattle.log_blocks.specs.Fields.{head_in, dropped_in, size_in, head_digest, blocks_in}
+use Rattle.log_blocks.specs.Faults.{is_second, head_fault}
+use Rattle.log_blocks.specs.Pieces.{Piece, gathered, IsWalk}
+use Rattle.log_blocks.specs.Cuts.{first_wrong}
+
+-- up to the place the bytes are those of records, and there none begins though bytes are left
+pub record NoRecord (format : ℕ) (bytes : List ℕ) (place : ℕ) : Type 0 where
+  pub before : List Record
+  pub rest : List ℕ
+  pub fit : AllByRecursion (Fits format) before
+  pub parts : bytes ≡ flat_map bytes_of before ++ rest
+  pub place_is : place ≡ total before
+  pub more : 0 < length rest
+  pub none : (r : Record) (y : List ℕ) → Fits format r → rest ≡ bytes_of r ++ y → ⊥
+
+-- no record begins somewhere in bytes that should be those of records, or memory is wanted
+abbrev pub IsSplitError : ℕ → List ℕ → Damage → Type 0
+IsSplitError format bytes (BadBlock at) = ⊥
+IsSplitError format bytes (File (Short length)) = ⊥
+IsSplitError format bytes (File BadMagic) = ⊥
+IsSplitError format bytes (File (BadVersion found)) = ⊥
+IsSplitError format bytes (File (BadHead field value)) = ⊥
+IsSplitError format bytes (File (LengthDiffers said found)) = ⊥
+IsSplitError format bytes (File (DigestDiffers kept found)) = ⊥
+IsSplitError format bytes (File (BadRecord place)) = NoRecord format bytes place
+IsSplitError format bytes (File (BadOrder place rule)) = ⊥
+IsSplitError format bytes (File OutOfMemory) = Unit {0}
+
+-- the blocks hold records, of which the first place where they are cut otherwise, or counted otherwise, is the end of this block
+pub record CutOtherwise (head : Head) (dropped start : ℕ) (pieces : List Piece) (place : ℕ) : Type 0 where
+  pub records : List Record
+  pub fit : AllByRecursion (Fits head.settings.format) records
+  pub parts : gathered pieces ≡ flat_map bytes_of records
+  pub wrong : first_wrong start (blocks_of dropped records) pieces ≡ Some place
+
+-- the blocks are those of records, which break the order first there
+pub record BreaksOrder (head : Head) (dropped start : ℕ) (pieces : List Piece) (place rule : ℕ) : Type 0 where
+  pub records : List Record
+  pub fit : AllByRecursion (Fits head.settings.format) records
+  pub parts : gathered pieces ≡ flat_map bytes_of records
+  pub blocks : first_wrong start (blocks_of dropped records) pieces ≡ None
+  pub breaks : broken_by head.settings dropped records ≡ Some (order_break place rule)
+
+-- what is wrong with the records of blocks, of which the first begins at a place of the file, or want of memory
+abbrev pub IsRecordsFault : Head → (dropped start : ℕ) → List Piece → Damage → Type 0
+IsRecordsFault head dropped start pieces (BadBlock at) = CutOtherwise head dropped start pieces at
+IsRecordsFault head dropped start pieces (File (Short length)) = ⊥
+IsRecordsFault head dropped start pieces (File BadMagic) = ⊥
+IsRecordsFault head dropped start pieces (File (BadVersion found)) = ⊥
+IsRecordsFault head dropped start pieces (File (BadHead field value)) = ⊥
+IsRecordsFault head dropped start pieces (File (LengthDiffers said found)) = ⊥
+IsRecordsFault head dropped start pieces (File (DigestDiffers kept found)) = ⊥
+IsRecordsFault head dropped start pieces (File (BadRecord place)) = NoRecord head.settings.format (gathered pieces) place
+IsRecordsFault head dropped start pieces (File (BadOrder place rule)) = BreaksOrder head dropped start pieces place rule
+IsRecordsFault head dropped start pieces (File OutOfMemory) = Unit {0}
+
+-- the log is that of these blocks
+pub record HasBlocks (head : Head) (dropped start : ℕ) (pieces : List Piece) (c : Content) : Type 0 where
+  pub content : IsContent c
+  pub head_is : c.head ≡ head
+  pub dropped_is : c.dropped ≡ dropped
+  pub parts : gathered pieces ≡ flat_map bytes_of c.records
+  pub blocks : first_wrong start (blocks_of dropped c.records) pieces ≡ None
+
+-- records of this head, before which so many were given up, break the order
+abbrev pub IsOrderFault : Head → ℕ → List Record → Damage → Type 0
+IsOrderFault head dropped records (BadBlock at) = ⊥
+IsOrderFault head dropped records (File (Short length)) = ⊥
+IsOrderFault head dropped records (File BadMagic) = ⊥
+IsOrderFault head dropped records (File (BadVersion found)) = ⊥
+IsOrderFault head dropped records (File (BadHead field value)) = ⊥
+IsOrderFault head dropped records (File (LengthDiffers said found)) = ⊥
+IsOrderFault head dropped records (File (DigestDiffers kept found)) = ⊥
+IsOrderFault head dropped records (File (BadRecord place)) = ⊥
+IsOrderFault head dropped records (File (BadOrder place rule)) = broken_by head.settings dropped records ≡ Some (order_break place rule)
+IsOrderFault head dropped records (File OutOfMemory) = ⊥
+
+-- the log is what a file of version 2 says whose head has no fault: its blocks are all good, have as many bytes as the head says, and are the log's
+pub record IsRead (bytes : List ℕ) (c : Content) : Type 0 where
+  pub pieces : List Piece
+  pub fault : head_fault bytes ≡ None
+  pub walk : IsWalk (head_digest bytes) (size_in bytes) (blocks_in bytes) [] pieces
+  pub size_is : size_in bytes ≡ length (gathered pieces)
+  pub blocks : HasBlocks (head_in bytes) (dropped_in bytes) 136 pieces c
+
+-- a fault of a file's head
+abbrev pub IsHeadFault : List ℕ → Damage → Type 0
+IsHeadFault bytes (File e) = head_fault bytes ≡ Some e
+IsHeadFault bytes (BadBlock at) = ⊥
+
+-- what is wrong behind a head without a fault, by what the walk back left ahead of the blocks that it kept: a bad block, another number of bytes than the head's, or the records
+abbrev pub IsWalkFault : List ℕ → List ℕ → List Piece → Damage → Type 0
+IsWalkFault bytes rest pieces e =
+    ((0 < length rest) × (e ≡ BadBlock (136 + length rest)))
+    ⊎ ((rest ≡ []) × (size_in bytes ≢ length (gathered pieces)) × (e ≡ File (LengthDiffers (size_in bytes) (length (gathered pieces)))))
+    ⊎ ((rest ≡ []) × (size_in bytes ≡ length (gathered pieces)) × IsRecordsFault (head_in bytes) (dropped_in bytes) 136 pieces e)
+
+pub record IsBlocksFault (bytes : List ℕ) (e : Damage) : Type 0 where
+  pub rest : List ℕ
+  pub pieces : List Piece
+  pub fault : head_fault bytes ≡ None
+  pub walk : IsWalk (head_digest bytes) (size_in bytes) (blocks_in bytes) rest pieces
+  pub wrong : IsWalkFault bytes rest pieces e
+
+-- the first refusal of a file of version 2
+abbrev pub IsSecondRefusal : List ℕ → Damage → Type 0
+IsSecondRefusal bytes e = (e ≡ File OutOfMemory) ⊎ IsHeadFault bytes e ⊎ IsBlocksFault bytes e
+
+-- and of a file of version 1
+abbrev pub IsFirstRefusal : List ℕ → Damage → Type 0
+IsFirstRefusal bytes (File e) = first.IsRefusal bytes e
+IsFirstRefusal bytes (BadBlock at) = ⊥
+
+-- the first refusal, by the version that the bytes name
+abbrev pub IsRefusal : List ℕ → Damage → Type 0
+IsRefusal bytes e = elim (is_second bytes) [ true ↦ IsSecondRefusal bytes e | false ↦ IsFirstRefusal bytes e ]
+
+-- the bytes are the spelling of a log in the version that they name
+abbrev pub IsSpelled : List ℕ → Content → Type 0
+IsSpelled bytes c = elim (is_second bytes) [ true ↦ bytes ≡ file_bytes2 c | false ↦ bytes ≡ file_bytes c ]
+
+-- ---- salvage
+
+-- how many records were given up before some blocks: what the first of them says, or, of none, the head
+abbrev pub dropped_before : ℕ → List Piece → ℕ
+dropped_before dropped [] = dropped
+dropped_before dropped (p ∷ ps) = p.before
+
+-- the log is that of the last good blocks
+pub record IsSalvaged (bytes : List ℕ) (c : Content) : Type 0 where
+  pub rest : List ℕ
+  pub pieces : List Piece
+  pub fault : head_fault bytes ≡ None
+  pub walk : IsWalk (head_digest bytes) (size_in bytes) (blocks_in bytes) rest pieces
+  pub some : pieces ≡ [] → size_in bytes ≡ 0
+  pub blocks : HasBlocks (head_in bytes) (dropped_before (dropped_in bytes) pieces) (136 + length rest) pieces c
+
+-- what is wrong with the records of the last good blocks
+pub record IsSalvageFault (bytes : List ℕ) (e : Damage) : Type 0 where
+  pub rest : List ℕ
+  pub pieces : List Piece
+  pub fault : head_fault bytes ≡ None
+  pub walk : IsWalk (head_digest bytes) (size_in bytes) (blocks_in bytes) rest pieces
+  pub some : pieces ≡ [] → size_in bytes ≡ 0
+  pub wrong : IsRecordsFault (head_in bytes) (dropped_before (dropped_in bytes) pieces) (136 + length rest) pieces e
+
+-- there should be records, and the last block is bad
+pub record NoneIsLeft (bytes : List ℕ) : Type 0 where
+  pub rest : List ℕ
+  pub fault : head_fault bytes ≡ None
+  pub walk : IsWalk (head_digest bytes) (size_in bytes) (blocks_in bytes) rest []
+  pub more : 0 < size_in bytes
+
+-- a damage as a reason why nothing is salvaged
+abbrev pub told : Damage → SalvageError
+told (BadBlock at) = salvage.File (BadBlock at)
+told (File (Short length)) = salvage.File (File (Short length))
+told (File BadMagic) = salvage.File (File BadMagic)
+told (File (BadVersion found)) = salvage.File (File (BadVersion found))
+told (File (BadHead field value)) = salvage.File (File (BadHead field value))
+told (File (LengthDiffers said found)) = salvage.File (File (LengthDiffers said found))
+told (File (DigestDiffers kept found)) = salvage.File (File (DigestDiffers kept found))
+told (File (BadRecord at)) = salvage.File (File (BadRecord at))
+told (File (BadOrder at rule)) = salvage.File (File (BadOrder at rule))
+told (File OutOfMemory) = salvage.OutOfMemory
+
+-- why nothing is salvaged
+abbrev pub IsSalvageRefusal : List ℕ → SalvageError → Type 0
+IsSalvageRefusal bytes (salvage.File e) = (IsHeadFault bytes e ⊎ IsSalvageFault bytes e) × (e ≢ File OutOfMemory)
+IsSalvageRefusal bytes salvage.NothingLeft = NoneIsLeft bytes
+IsSalvageRefusal bytes salvage.OutOfMemory = Unit {0}

@@ -1,0 +1,74 @@
+// What blocks, files and logs have to do with each other.
+ghost use Rattle.log_blocks.specs.Laws.{NameTheirVersion, SayOneThing, AreNotRefused, RefusalsAreUnique, HaveTheirSize};
+ghost use Rattle.log_blocks.specs.Laws.{SalvagedAreUnique, SalvagedAreNotRefused, SalvageRefusalsAreUnique, LastBlocksAreAnEnd, SalvagedAreAnEnd};
+
+use le_numbers::laws::{numbers_have_their_width, written_numbers_are_read};
+use log_record::laws::{no_record_begins_another, tags_tell_sizes};
+
+/// The files of both versions are told apart by the version that they name.
+pub fn files_name_their_version()
+    ensures { NameTheirVersion }
+{
+    written_numbers_are_read();
+    numbers_have_their_width();
+}
+
+/// No file of version 2 says two things.
+pub fn files_say_one_thing()
+    ensures { SayOneThing }
+{
+    written_numbers_are_read();
+    numbers_have_their_width();
+    tags_tell_sizes();
+    no_record_begins_another();
+}
+
+/// Bytes that are a log's in version 2 have no cause for a refusal.
+pub fn logs_are_not_refused()
+    ensures { AreNotRefused }
+{
+    written_numbers_are_read();
+    numbers_have_their_width();
+    tags_tell_sizes();
+    no_record_begins_another();
+}
+
+/// Bytes have at most one first cause for a refusal.
+pub fn refusals_are_unique()
+    ensures { RefusalsAreUnique }
+{
+    no_record_begins_another();
+    log_file::laws::refusals_are_unique();
+}
+
+/// What is salvaged of some bytes is one log, or there is one cause to refuse it.
+pub fn salvage_is_unique()
+    ensures log { SalvagedAreUnique }
+    ensures either { SalvagedAreNotRefused }
+    ensures cause { SalvageRefusalsAreUnique }
+{
+    no_record_begins_another();
+}
+
+/// The file of version 2 of a log has 136 bytes, and 48 a block, more than the records that the log
+/// keeps.
+pub fn files_have_their_size()
+    ensures { HaveTheirSize }
+{
+    numbers_have_their_width();
+}
+
+/// The last blocks of some records hold the last of them, know how many are ahead, and are the
+/// blocks into which they are cut again: what is salvaged of a log is an end of it.
+pub fn last_blocks_are_an_end()
+    ensures { LastBlocksAreAnEnd }
+{}
+
+/// Where the blocks that are salvaged are the last of a log's, what is salvaged has the log's last
+/// records, and counts those ahead of them: it is an end of the log.
+pub fn salvaged_blocks_are_an_end()
+    ensures { SalvagedAreAnEnd }
+{
+    tags_tell_sizes();
+    no_record_begins_another();
+}

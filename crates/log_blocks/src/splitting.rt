@@ -1,0 +1,35 @@
+// The records of a file.
+ghost use Rattle.std.specs.Prelude.{◌≡◌, ◌++◌, List, length, IfOk, IfErr};
+ghost use Rattle.std.specs.List.{flat_map, AllByRecursion};
+ghost use Rattle.log_record.specs.declared.record.Record.{Record};
+ghost use Rattle.log_record.specs.Spelling.{bytes_of, Fits};
+ghost use Rattle.log_blocks.specs.File.{IsSplitError};
+
+use crate::damage::Damage;
+use log_file::FileError;
+use log_record::{Record, read_as};
+use std::alloc::Global;
+
+/// The records of a log of this format whose bytes these are. The error tells the first place where
+/// a record should begin and none does.
+pub(crate) fn split(alloc: Global, format: u8, bytes: &[u8]) -> Result<Vec<Record>, Damage>
+    ensures fit { IfOk result (λ v. AllByRecursion (Fits format) v.items) }
+    ensures parts { IfOk result (λ v. bytes.now ≡ flat_map bytes_of v.items) }
+    ensures refused { IfErr result (λ e. IsSplitError format bytes.now e) }
+{
+    let mut records = Vec::new(alloc);
+    let mut rest = bytes;
+    while !rest.is_empty() {
+        match read_as(format, rest) {
+            None => {
+                let at = (bytes.len() - rest.len()) as u64;
+                return Err(Damage::File(FileError::BadRecord { at }));
+            }
+            Some((entry, size)) => {
+                records.push(entry)?;
+                rest = &rest[size..];
+            }
+        }
+    }
+    Ok(records)
+}

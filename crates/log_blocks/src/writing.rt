@@ -1,0 +1,126 @@
+// Writing a file of version 2.
+ghost use Rattle.std.specs.Prelude.{◌≡◌, ◌<◌, ◌≤◌, ◌++◌, ◌^◌, List, ℕ, length, IfOk, OnOk};
+ghost use Rattle.std.specs.List.{flat_map, AllByRecursion};
+ghost use Rattle.log_record.specs.declared.record.Record.{Record};
+ghost use Rattle.log_record.specs.Spelling.{bytes_of, Fits};
+ghost use Rattle.log_order.specs.Content.{content};
+ghost use Rattle.log_file.specs.Layout.{settings_bytes, head_bytes2, file_bytes2};
+ghost use Rattle.log_file.specs.Blocks.{blocks_of, all_sealed};
+ghost use Rattle.log_blocks.specs.Pieces.{piece, piece_bytes};
+
+use crate::cutting::next_block;
+use crate::head::{HEAD_SIZE, VERSION};
+use crate::sealing::{SEAL_SIZE, seal_of, tail};
+use bn_base::Settings;
+use le_numbers::{push_u32, push_u64};
+use log_file::head::{MAGIC, digest_of};
+use log_record::Head;
+use std::alloc::{AllocError, Global};
+
+// The part of a head that both versions have, in room for so many bytes.
+#[tactic(auto, unfolding(log_file::specs::Layout::magic, log_file::specs::Layout::settings_bytes))]
+fn settings_part(alloc: Global, settings: &Settings, room: usize) -> Result<Vec<u8>, AllocError>
+    ensures { IfOk result (λ v. v.items ≡ settings_bytes 2 settings.now) }
+{
+    let mut out = Vec::with_capacity(alloc, room)?;
+    out.extend_from_slice(MAGIC)?;
+    push_u32(&mut out, VERSION)?;
+    push_u32(&mut out, settings.harts() as u32)?;
+    push_u32(&mut out, settings.interval())?;
+    push_u64(&mut out, settings.limit())?;
+    push_u32(&mut out, settings.log_size())?;
+    push_u32(&mut out, settings.memory())?;
+    push_u32(&mut out, settings.sets())?;
+    push_u32(&mut out, settings.ways())?;
+    push_u32(&mut out, settings.line())?;
+    Ok(out)
+}
+
+// The head before its digest.
+#[tactic(auto, unfolding(log_file::specs::Layout::head_bytes2))]
+fn head_part(
+    alloc: Global,
+    head: &Head,
+    dropped: u64,
+    size: u32,
+    room: usize,
+) -> Result<Vec<u8>, AllocError>
+    ensures { IfOk result (λ v. v.items ≡ head_bytes2 head.now dropped size) }
+{
+    let mut out = settings_part(alloc, &head.settings, room)?;
+    push_u32(&mut out, head.settings.format() as u32)?;
+    push_u32(&mut out, head.settings.second_sets())?;
+    push_u32(&mut out, head.settings.second_ways())?;
+    out.extend_from_slice(&head.digest)?;
+    push_u64(&mut out, dropped)?;
+    push_u32(&mut out, size)?;
+    Ok(out)
+}
+
+// Appends a block: its records' bytes, how many records are before it, how many bytes behind it, and
+// its seal.
+fn push_block(
+    out: &mut Vec<u8>,
+    digest: &[u8; 32],
+    records: &[u8],
+    before: u64,
+    left: u32,
+) -> Result<(), AllocError>
+    requires { length records.now < 2 ^ 32 }
+    ensures { OnOk result (out.new.items ≡ out.old.items ++ piece_bytes digest.now (piece records.now before left)) }
+{
+    let start = out.len();
+    out.extend_from_slice(records)?;
+    push_u64(out, before)?;
+    push_u32(out, left)?;
+    push_u32(out, records.len() as u32)?;
+    let seal = seal_of(digest, tail(out, start));
+    out.extend_from_slice(&seal)
+}
+
+// Appends the blocks of records of which so many were given up or are in blocks before.
+fn push_blocks(
+    out: &mut Vec<u8>,
+    digest: &[u8; 32],
+    dropped: u64,
+    records: &[u8],
+) -> Result<(), AllocError>
+    requires bound { length records.now < 2 ^ 32 }
+    ensures { (format : ℕ) (rs : List Record) → AllByRecursion (Fits format) rs → records.now ≡ flat_map bytes_of rs → OnOk result (out.new.items ≡ out.old.items ++ all_sealed digest.now (blocks_of dropped rs)) }
+{
+    let mut rest = records;
+    let mut before = dropped;
+    while !rest.is_empty() {
+        let (count, size) = next_block(rest);
+        if size == 0 {
+            return Ok(());
+        }
+        let (block, behind) = rest.split_at(size);
+        push_block(out, digest, block, before, behind.len() as u32)?;
+        before = before.wrapping_add(count as u64);
+        rest = behind;
+    }
+    Ok(())
+}
+
+/// The file of version 2 with this head, so many dropped records and these kept ones, at most log-size
+/// bytes: whole records that logs of the head's format have, else it is no log's. They are cut into
+/// blocks from the front, each sealed by a digest. The error comes of want of memory alone.
+pub fn write_file2(
+    alloc: Global,
+    head: &Head,
+    dropped: u64,
+    records: &[u8],
+) -> Result<Vec<u8>, AllocError>
+    requires { length records.now ≤ head.now.settings.log_size }
+    ensures { (rs : List Record) → AllByRecursion (Fits head.now.settings.format) rs → records.now ≡ flat_map bytes_of rs → IfOk result (λ v. v.items ≡ file_bytes2 (content head.now dropped rs)) }
+{
+    let _bound = head.settings.log_size();
+    let size = records.len();
+    let room = HEAD_SIZE + size + SEAL_SIZE * (1 + size / 3950);
+    let mut out = head_part(alloc, head, dropped, size as u32, room)?;
+    let digest = digest_of(&out);
+    out.extend_from_slice(&digest)?;
+    push_blocks(&mut out, &digest, dropped, records)?;
+    Ok(out)
+}

@@ -1,0 +1,357 @@
+-- Each hart's points come by their counts.
+use Rattle.std.proofs.Common.{◌≡◌, ◌≢◌, ◌⊎◌, inl, inr, ℕ, zero, suc, ◌+◌, ◌<◌, ◌≤◌, ◌^◌, ◌==◌, nat_lt, Bool, true, false, not, is_some, ◌&&◌, ◌||◌, refl, sym, ap, ◌∙◌, subst, arith, List, [], ◌∷◌, ◌++◌, length, slice_get, slice_set, Option, Some, None, Result, Ok, Err}
+use Rattle.std.proofs.lemmas.List.{append-nil}
+use Rattle.bn_base.specs.Programs.{Program}
+use Rattle.bn_base.specs.declared.end_mark.EndMark.{EndMark}
+use Rattle.bn_base.specs.declared.fault.Fault.{Fault}
+use Rattle.bn_base.specs.declared.row.Row.{Row}
+use Rattle.bn_base.specs.declared.state.HartState.{HartState}
+use Rattle.hart_replay.specs.declared.error.ReplayError.{ReplayError}
+use Rattle.hart_replay.specs.Replay.{Outcome, Done, Refused}
+use Rattle.hart_replay.specs.Coming.{after_row}
+use Rattle.log_record.specs.declared.record.Record.{Record}
+use Rattle.joint_replay.specs.declared.error.JointError.{JointError}
+use Rattle.joint_replay.specs.declared.error.JointError.TheVariants.{Stuck}
+use Rattle.joint_replay.specs.declared.kinds.Coming.{Coming}
+use Rattle.joint_replay.specs.declared.kinds.Coming.TheVariants.{PassAt, RowAt, EndAt}
+use Rattle.joint_replay.specs.declared.kinds.Readiness.{Readiness}
+use Rattle.joint_replay.specs.declared.kinds.Readiness.TheVariants as is
+use Rattle.joint_replay.specs.declared.kinds.Next.{Next}
+use Rattle.joint_replay.specs.declared.kinds.Next.TheVariants.{Hart, AllDone, NoneReady}
+use Rattle.joint_replay.specs.Lanes.{Course, Lane, Item, Passing, Doing, Ending, row_given, lane_step, course_step, is_within, has_row, coming_of, count_of, point_of}
+use Rattle.joint_replay.specs.Memory.{memory_after}
+use Rattle.joint_replay.specs.Joining.{Joining, Taken, Walk, Ran, longer, ran, fresh, lanes_from, choice, readiness, is_passed, move, next_step, error_of, positions_from, steps_left, run_on, run_for, run_all}
+use Rattle.joint_replay.specs.Orders.{ready_step}
+use Rattle.joint_replay.specs.Counts.{RowsFrom}
+use Rattle.joint_replay.specs.Ways.{GoesOn, AreFrom, IsLane, Passes, PassesIf}
+use Rattle.joint_replay.specs.Sound.{IsSound, SoundIf}
+use Rattle.joint_replay.specs.Firsts.{IsFirstStep, RunsByStep}
+use Rattle.joint_replay.specs.Laws.{StepsPass, StartsAreSound, SoundnessStays}
+use Rattle.race_report.specs.declared.touch.Touch.{Touch}
+use Rattle.race_report.specs.Points.{Accessing, accessing, touch_of, point_in, points_of, or_else, word_with, is_atomic, loaded_touch}
+use Rattle.race_report.specs.Laws.{AreCounted, PointsAreCounted}
+use Rattle.race_report.proofs.Prefixes.{get_front, get_last, length_more}
+
+true_lt : (m n : ℕ) → nat_lt m n ≡ true → m < n
+true_lt m n h = grind arith
+
+false_le : (m n : ℕ) → nat_lt m n ≡ false → n ≤ m
+false_le m n h = grind arith
+
+is_lt : (m n : ℕ) → m < n → nat_lt m n ≡ true
+is_lt m n h = grind arith
+
+same_number : (a b : ℕ) → (a == b) ≡ true → a ≡ b
+same_number a b h = grind arith
+
+some_same : {X : Type 0} (a b : X) → ◌≡◌ {A = Option X} (Some a) (Some b) → a ≡ b
+some_same a b e = cc
+
+-- ---- the row of a point has no fault
+
+no_fault : (before : HartState) (row : Row) (t : Touch) → touch_of before row ≡ Some t → row.fault ≡ None
+no_fault before row t e = by row.fault refl e
+  where
+    by : (o : Option (Fault × ℕ)) → row.fault ≡ o → elim o as (λ y. Option Touch) [ Some f ↦ None | None ↦ or_else (word_with row.store true (is_atomic row)) (loaded_touch before row) ] ≡ Some t → row.fault ≡ None
+    by None f g = f
+    by (Some x) f g = absurd cc
+
+-- ---- the step of a hart that did it
+
+-- it was at that count, which is passed then
+record IsDone (lane next : Lane) (row : Row) : Type 0 where
+  pub was : (k : ℕ) → is_passed (Some lane) k ≡ true → k < row.ic
+  pub over : is_passed (Some next) row.ic ≡ true
+
+no_some : (o : Option (Fault × ℕ)) → o ≡ None → is_some o ≡ true → ⊥
+no_some None e f = cc
+no_some (Some x) e f = cc
+
+-- the course under way once the row is given
+after_count : (i : Program) (c : Course) (row : Row) (rs : List Row) (cs : List Course) → (after_row i c.state row).ic ≡ row.ic + 1 → row.ic < c.mark.ic → is_passed (Some (record { points = []; courses = row_given i c row rs ∷ cs })) row.ic ≡ true
+after_count i c row rs cs e low = by (has_row (row_given i c row rs))
+  where
+    by : (b : Bool) → elim (elim b as (λ y. Option Coming) [ true ↦ Some (RowAt (after_row i c.state row).ic) | false ↦ Some (EndAt c.mark.ic) ]) as (λ y. Bool) [ None ↦ true | Some d ↦ nat_lt row.ic (count_of d) ] ≡ true
+    by true = is_lt row.ic (after_row i c.state row).ic (omega (arith, e))
+    by false = is_lt row.ic c.mark.ic low
+
+-- what comes of the course before it
+before_count : (c : Course) (cs : List Course) (k : ℕ) → c.state.ic < c.mark.ic → is_passed (Some (record { points = []; courses = c ∷ cs })) k ≡ true → k < c.state.ic
+before_count c cs k low e =
+    true_lt k c.state.ic (sym (ap (λ (b : Bool). elim (elim (b || (nat_lt 16 c.mark.reason && not c.faulted)) as (λ y. Option Coming) [ true ↦ Some (RowAt c.state.ic) | false ↦ Some (EndAt c.mark.ic) ]) as (λ y. Bool) [ None ↦ true | Some d ↦ nat_lt k (count_of d) ]) (is_lt c.state.ic c.mark.ic low)) ∙ e)
+
+first_goes : (i : Program) (c : Course) (cs : List Course) → AreFrom i c cs → GoesOn i c
+first_goes i c [] a = a
+first_goes i c (d ∷ ds) a = a.0
+
+same_done : (x y : Item × Lane) → ◌≡◌ {A = Result (Item × Lane) ReplayError} (Ok x) (Ok y) → x ≡ y
+same_done x y e = cc
+
+same_row : (a b : HartState) (r s : Row) → Doing a r ≡ Doing b s → r ≡ s
+same_row a b r s e = cc
+
+no_doing : (n : ℕ) (m : EndMark) (before : HartState) (row : Row) → ◌≡◌ {A = Item} (Ending n m) (Doing before row) → ⊥
+no_doing n m before row e = cc
+
+no_passing : (p : ℕ) (before : HartState) (row : Row) → ◌≡◌ {A = Item} (Passing p) (Doing before row) → ⊥
+no_passing p before row e = cc
+
+no_error : (e : ReplayError) (x : Item × Lane) → ◌≡◌ {A = Result (Item × Lane) ReplayError} (Err e) (Ok x) → ⊥
+no_error e x f = cc
+
+some_item : (x y : Item × Lane) → ◌≡◌ {A = Option (Result (Item × Lane) ReplayError)} (Some (Ok x)) (Some (Ok y)) → x ≡ y
+some_item x y e = cc
+
+course_done : (i : Program) (c : Course) (cs : List Course) (before : HartState) (row : Row) (next : Lane) → row.fault ≡ None → GoesOn i c → course_step i c cs ≡ Ok (Doing before row, next) → IsDone (record { points = []; courses = c ∷ cs }) next row
+course_done i c cs before row next none goes e = by c.left.rows goes.1 e
+  where
+    low : (r : Row) (rs : List Row) (b : Bool) → nat_lt c.state.ic c.mark.ic ≡ b → r.fault ≡ None → r.ic ≡ c.state.ic → (c.state.ic < c.mark.ic → (r.fault ≡ None) × ((after_row i c.state r).ic ≡ c.state.ic + 1))
+        → (c.mark.ic ≤ c.state.ic → (is_some r.fault ≡ true) × (after_row i c.state r ≡ c.state)) → IsDone (record { points = []; courses = c ∷ cs }) (record { points = []; courses = row_given i c r rs ∷ cs }) r
+    low r rs true f plain count within past =
+        let less = true_lt c.state.ic c.mark.ic f in
+        let up = (within less).1 in
+        record {
+          was = λ k g. (let under = before_count c cs k less g in omega (arith, under, count));
+          over = after_count i c r rs cs (omega (arith, up, count)) (omega (arith, less, count));
+        }
+    low r rs false f plain count within past = absurd (no_some r.fault plain (past (false_le c.state.ic c.mark.ic f)).0)
+
+    done : (r : Row) (rs : List Row) → r ≡ row → ◌≡◌ {A = Lane} (record { points = []; courses = row_given i c r rs ∷ cs }) next → r.ic ≡ c.state.ic → (c.state.ic < c.mark.ic → (r.fault ≡ None) × ((after_row i c.state r).ic ≡ c.state.ic + 1))
+        → (c.mark.ic ≤ c.state.ic → (is_some r.fault ≡ true) × (after_row i c.state r ≡ c.state)) → IsDone (record { points = []; courses = c ∷ cs }) next row
+    done r rs same is count within past =
+        subst (λ (l : Lane). IsDone (record { points = []; courses = c ∷ cs }) l row) is (subst (λ (x : Row). IsDone (record { points = []; courses = c ∷ cs }) (record { points = []; courses = row_given i c r rs ∷ cs }) x) same
+        (low r rs (nat_lt c.state.ic c.mark.ic) refl (ap (λ (x : Row). x.fault) same ∙ none) count within past))
+
+    by : (rows : List Row) → RowsFrom i c.mark.ic c.left.outcome c.state rows
+        → elim rows as (λ y. Result (Item × Lane) ReplayError) [
+          | r ∷ rs ↦ Ok (Doing c.state r, record { points = []; courses = row_given i c r rs ∷ cs })
+          | [] ↦ elim c.left.outcome as (λ y. Result (Item × Lane) ReplayError) [ Done ↦ Ok (Ending c.number c.mark, record { points = []; courses = cs }) | Refused e ↦ Err e ]
+        ] ≡ Ok (Doing before row, next) → IsDone (record { points = []; courses = c ∷ cs }) next row
+    by (r ∷ rs) f g =
+        let both = same_done (Doing c.state r, record { points = []; courses = row_given i c r rs ∷ cs }) (Doing before row, next) g in
+        done r rs (same_row c.state before r row (ap (λ (x : Item × Lane). x.0) both)) (ap (λ (x : Item × Lane). x.1) both) f.0 f.1 f.2
+    by [] f g = absurd (over c.left.outcome g)
+      where
+        over : (o : Outcome) → elim o as (λ y. Result (Item × Lane) ReplayError) [ Done ↦ Ok (Ending c.number c.mark, record { points = []; courses = cs }) | Refused e ↦ Err e ] ≡ Ok (Doing before row, next) → ⊥
+        over Done h = no_doing c.number c.mark before row (ap (λ (x : Item × Lane). x.0) (same_done (Ending c.number c.mark, record { points = []; courses = cs }) (Doing before row, next) h))
+        over (Refused e) h = no_error e (Doing before row, next) h
+
+lane_done : (i : Program) (points : List ℕ) (courses : List Course) (before : HartState) (row : Row) (next : Lane) → row.fault ≡ None → IsLane i (record { points = points; courses = courses })
+    → lane_step i (record { points = points; courses = courses }) ≡ Some (Ok (Doing before row, next)) → IsDone (record { points = points; courses = courses }) next row
+lane_done i (p ∷ ps) courses before row next none lane e = absurd (no_passing p before row (ap (λ (x : Item × Lane). x.0) (some_item (Passing p, record { points = ps; courses = courses }) (Doing before row, next) e)))
+lane_done i [] [] before row next none lane e = absurd cc
+lane_done i [] (c ∷ cs) before row next none lane e = course_done i c cs before row next none (first_goes i c cs lane.courses) (some_same (course_step i c cs) (Ok (Doing before row, next)) e)
+
+-- ---- the step of all
+
+record IsLaneStep (j : Joining) (h : ℕ) (x : Item × Joining) : Type 0 where
+  pub lane : Lane
+  pub next : Lane
+  pub at : slice_get j.lanes h ≡ Some lane
+  pub step : lane_step j.program lane ≡ Some (Ok (x.0, next))
+  pub lanes : x.1.lanes ≡ slice_set j.lanes h next
+
+same_moved : (x y : Item × Joining) → ◌≡◌ {A = Option (Result (Item × Joining) ReplayError)} (Some (Ok x)) (Some (Ok y)) → x ≡ y
+same_moved x y e = cc
+
+move_lane : (j : Joining) (h : ℕ) (lane : Lane) (o : Option (Result (Item × Lane) ReplayError)) (x : Item × Joining) → slice_get j.lanes h ≡ Some lane → lane_step j.program lane ≡ o → move j h o ≡ Some (Ok x) → IsLaneStep j h x
+move_lane j h lane None x at e f = absurd cc
+move_lane j h lane (Some (Err g)) x at e f = absurd cc
+move_lane j h lane (Some (Ok y)) x at e f =
+    let same = same_moved (y.0, record j { lanes = slice_set j.lanes h y.1; memory = memory_after y.0 j.memory }) x f in
+    record { lane = lane; next = y.1; at = at; step = e ∙ ap (λ (i : Item). Some (Ok (i, y.1))) (ap (λ (z : Item × Joining). z.0) same); lanes = ap (λ (z : Item × Joining). z.1.lanes) (sym same) }
+
+step_lane : (j : Joining) (h : ℕ) (x : Item × Joining) → next_step j h ≡ Some (Ok x) → IsLaneStep j h x
+step_lane j h x e = by j.refused (slice_get j.lanes h) refl e
+  where
+    by : (r : Option ReplayError) (o : Option Lane) → slice_get j.lanes h ≡ o
+        → elim r as (λ y. Option (Result (Item × Joining) ReplayError)) [ Some g ↦ Some (Err g) | None ↦ elim o as (λ y. Option (Result (Item × Joining) ReplayError)) [ None ↦ None | Some lane ↦ move j h (lane_step j.program lane) ] ] ≡ Some (Ok x) → IsLaneStep j h x
+    by (Some g) o at f = absurd cc
+    by None None at f = absurd cc
+    by None (Some lane) at f = move_lane j h lane (lane_step j.program lane) x at refl f
+
+set_here : (ls : List Lane) (h : ℕ) (new : Lane) (lane : Lane) → slice_get ls h ≡ Some lane → slice_get (slice_set ls h new) h ≡ Some new
+set_here [] h new lane e = absurd cc
+set_here (l ∷ ls) zero new lane e = refl
+set_here (l ∷ ls) (suc h) new lane e = set_here ls h new lane e
+
+set_there : (ls : List Lane) (h k : ℕ) (new : Lane) → (h == k) ≡ false → slice_get (slice_set ls h new) k ≡ slice_get ls k
+set_there [] h k new e = refl
+set_there (l ∷ ls) zero zero new e = absurd cc
+set_there (l ∷ ls) zero (suc k) new e = refl
+set_there (l ∷ ls) (suc h) zero new e = refl
+set_there (l ∷ ls) (suc h) (suc k) new e = set_there ls h k new (less h k e)
+  where
+    less : (a b : ℕ) → (suc a == suc b) ≡ false → (a == b) ≡ false
+    less a b f = grind arith
+
+-- ---- all steps
+
+-- the points so far are counted, and passed
+record IsCounted (harts : ℕ) (now : Joining) (run : List Accessing) : Type 0 where
+  pub sound : IsSound now
+  pub long : length now.lanes ≡ harts
+  pub counted : AreCounted harts run
+  pub passed : (m : ℕ) (p : Accessing) → slice_get run m ≡ Some p → is_passed (slice_get now.lanes p.hart) p.row.ic ≡ true
+
+module _ (law : RunsByStep) (steps : StepsPass) (stays : SoundnessStays) (harts : ℕ) where
+  sound_next : (j : Joining) (h : ℕ) (x : Item × Joining) → IsSound j → choice j ≡ Hart h → next_step j h ≡ Some (Ok x) → IsSound x.1
+  sound_next j h x s lowest e = subst SoundIf ready (stays j h s)
+    where
+      ready : ready_step j h ≡ Some x
+      ready = ap (λ (r : Readiness). elim r as (λ y. Option (Item × Joining)) [
+        | is.Ready ↦ elim (next_step j h) as (λ y. Option (Item × Joining)) [ None ↦ None | Some r ↦ elim r as (λ y. Option (Item × Joining)) [ Err e ↦ None | Ok x ↦ Some x ] ]
+        | is.Waits s ic ↦ None
+        | is.Done ↦ None
+      ]) (law.ready j h lowest)
+          ∙ ap (λ (o : Option (Result (Item × Joining) ReplayError)). elim o as (λ y. Option (Item × Joining)) [ None ↦ None | Some r ↦ elim r as (λ y. Option (Item × Joining)) [ Err e ↦ None | Ok x ↦ Some x ] ]) e
+
+  -- what was passed stays so
+  still : (j : Joining) (h : ℕ) (x : Item × Joining) (s : IsLaneStep j h x) → Passes j.program s.lane x.0 s.next → (k n : ℕ) → is_passed (slice_get j.lanes k) n ≡ true → is_passed (slice_get x.1.lanes k) n ≡ true
+  still j h x s p k n e = by (h == k) refl
+    where
+      by : (b : Bool) → (h == k) ≡ b → is_passed (slice_get x.1.lanes k) n ≡ true
+      by true f =
+          let same = same_number h k f in
+          subst (λ (ls : List Lane). is_passed (slice_get ls k) n ≡ true) (sym s.lanes)
+          (subst (λ (o : Option Lane). is_passed o n ≡ true) (sym (ap (slice_get (slice_set j.lanes h s.next)) (sym same) ∙ set_here j.lanes h s.next s.lane s.at))
+          (p.stays n (subst (λ (o : Option Lane). is_passed o n ≡ true) (ap (slice_get j.lanes) (sym same) ∙ s.at) e)))
+      by false f = subst (λ (o : Option Lane). is_passed o n ≡ true) (sym (ap (λ (ls : List Lane). slice_get ls k) s.lanes ∙ set_there j.lanes h k s.next f)) e
+
+  get_cases : (run : List Accessing) (new p : Accessing) (m : ℕ) → slice_get (run ++ new ∷ []) m ≡ Some p → (slice_get run m ≡ Some p) ⊎ ((m ≡ length run) × (new ≡ p))
+  get_cases [] new p zero e = inr (refl, some_same new p e)
+  get_cases [] new p (suc m) e = absurd cc
+  get_cases (q ∷ qs) new p zero e = inl e
+  get_cases (q ∷ qs) new p (suc m) e = elim (get_cases qs new p m e) [ inl f ↦ inl f | inr f ↦ inr (ap suc f.0, f.1) ]
+
+  within : (run : List Accessing) (m : ℕ) (p : Accessing) → slice_get run m ≡ Some p → m < length run
+  within [] m p e = absurd cc
+  within (q ∷ qs) zero p e = omega arith
+  within (q ∷ qs) (suc m) p e = let low = within qs m p e in omega (arith, low)
+
+  one_more : (j : Joining) (h : ℕ) (x : Item × Joining) (before : HartState) (row : Row) (t : Touch) (run : List Accessing) → choice j ≡ Hart h → (s : IsLaneStep j h x) → Passes j.program s.lane x.0 s.next → IsSound x.1 → length x.1.lanes ≡ harts
+      → x.0 ≡ Doing before row → touch_of before row ≡ Some t → IsCounted harts j run → IsCounted harts x.1 (run ++ record { hart = h; row = row; touch = t } ∷ [])
+  one_more j h x before row t run lowest s p sound long item touch c =
+      let lane : IsLane j.program s.lane = c.sound.lanes h s.lane s.at in
+      let d = lane_done j.program s.lane.points s.lane.courses before row s.next (no_fault before row t touch) lane (s.step ∙ ap (λ (i : Item). Some (Ok (i, s.next))) item) in
+      let new : Accessing = record { hart = h; row = row; touch = t } in
+      record {
+        sound = sound;
+        long = long;
+        counted = record {
+          harts_below = λ m q e. elim (get_cases run new q m e) [
+            | inl f ↦ c.counted.harts_below m q f
+            | inr f ↦ subst (λ (a : Accessing). a.hart < harts) f.1 (subst (λ (k : ℕ). h < k) c.long (law.there j h lowest))
+          ];
+          rise = λ m n a b e f same low. rises d.was m n a b (get_cases run new a m e) (get_cases run new b n f) same low;
+        };
+        passed = λ m q e. elim (get_cases run new q m e) [
+          | inl f ↦ still j h x s p q.hart q.row.ic (c.passed m q f)
+          | inr f ↦ subst (λ (a : Accessing). is_passed (slice_get x.1.lanes a.hart) a.row.ic ≡ true) f.1
+              (subst (λ (o : Option Lane). is_passed o row.ic ≡ true) (sym (ap (λ (ls : List Lane). slice_get ls h) s.lanes ∙ set_here j.lanes h s.next s.lane s.at)) d.over)
+        ];
+      }
+    where
+      point : Accessing
+      point = record { hart = h; row = row; touch = t }
+
+      earlier : ((k : ℕ) → is_passed (Some s.lane) k ≡ true → k < row.ic) → (m : ℕ) (a : Accessing) → slice_get run m ≡ Some a → a.hart ≡ h → a.row.ic < row.ic
+      earlier was m a e same = was a.row.ic (subst (λ (o : Option Lane). is_passed o a.row.ic ≡ true) (ap (slice_get j.lanes) same ∙ s.at) (c.passed m a e))
+
+      rises : ((k : ℕ) → is_passed (Some s.lane) k ≡ true → k < row.ic) → (m n : ℕ) (a b : Accessing) → (slice_get run m ≡ Some a) ⊎ ((m ≡ length run) × (point ≡ a)) → (slice_get run n ≡ Some b) ⊎ ((n ≡ length run) × (point ≡ b)) → a.hart ≡ b.hart → m < n → a.row.ic < b.row.ic
+      rises was m n a b (inl e) (inl f) same low = c.counted.rise m n a b e f same low
+      rises was m n a b (inl e) (inr f) same low = subst (λ (k : ℕ). a.row.ic < k) (ap (λ (p : Accessing). p.row.ic) f.1) (earlier was m a e (same ∙ sym (ap (λ (p : Accessing). p.hart) f.1)))
+      rises was m n a b (inr e) (inl f) same low = let high = within run n b f in let at = e.0 in absurd (omega (arith, at, high, low))
+      rises was m n a b (inr e) (inr f) same low = let at = e.0 in let to = f.0 in absurd (omega (arith, at, to, low))
+
+  none_more : (j : Joining) (h : ℕ) (x : Item × Joining) (run : List Accessing) → (s : IsLaneStep j h x) → Passes j.program s.lane x.0 s.next → IsSound x.1 → length x.1.lanes ≡ harts → IsCounted harts j run → IsCounted harts x.1 (run ++ [])
+  none_more j h x run s p sound long c = subst (λ (r : List Accessing). IsCounted harts x.1 r) (sym (append-nil run)) (record {
+    sound = sound;
+    long = long;
+    counted = c.counted;
+    passed = λ m q e. still j h x s p q.hart q.row.ic (c.passed m q e);
+  })
+
+  step_keeps : (j : Joining) (h : ℕ) (x : Item × Joining) (run : List Accessing) → j.refused ≡ None → choice j ≡ Hart h → next_step j h ≡ Some (Ok x) → IsCounted harts j run → IsCounted harts x.1 (run ++ point_in h x.0)
+  step_keeps j h x run none lowest e c = by x.0 refl
+    where
+      s : IsLaneStep j h x
+      s = step_lane j h x e
+
+      p : Passes j.program s.lane x.0 s.next
+      p = subst (PassesIf j.program s.lane) s.step (steps j.program s.lane (c.sound.lanes h s.lane s.at))
+
+      sound : IsSound x.1
+      sound = sound_next j h x c.sound lowest e
+
+      long : length x.1.lanes ≡ harts
+      long = (law.first j h x none lowest e).harts ∙ c.long
+
+      row_by : (before : HartState) (row : Row) (o : Option Touch) → x.0 ≡ Doing before row → touch_of before row ≡ o → IsCounted harts x.1 (run ++ accessing h row o)
+      row_by before row None f g = none_more j h x run s p sound long c
+      row_by before row (Some t) f g = one_more j h x before row t run lowest s p sound long f g c
+
+      by : (i : Item) → x.0 ≡ i → IsCounted harts x.1 (run ++ point_in h i)
+      by (Passing ic) f = none_more j h x run s p sound long c
+      by (Doing before row) f = row_by before row (touch_of before row) f refl
+      by (Ending n m) f = none_more j h x run s p sound long c
+
+  abbrev walk_of : List Taken → Joining → Walk
+  walk_of ts j = record { taken = ts; now = j }
+
+  abbrev More : ℕ → List Taken → Type 0
+  More n ts = (h : ℕ) (x : Item × Joining) → IsCounted harts x.1 (points_of ts ++ point_in h x.0) → AreCounted harts (points_of (run_for n (walk_of (record { hart = h; item = x.0 } ∷ ts) x.1)).walk.taken)
+
+  counted_run : (n : ℕ) (ts : List Taken) (j : Joining) → IsCounted harts j (points_of ts) → AreCounted harts (points_of (run_for n (walk_of ts j)).walk.taken)
+  counted_run zero ts j c = c.counted
+  counted_run (suc n) ts j c = refusal j.refused refl (λ h x d. counted_run n (record { hart = h; item = x.0 } ∷ ts) x.1 d)
+    where
+      stepped : (h : ℕ) (o : Option (Result (Item × Joining) ReplayError)) → j.refused ≡ None → choice j ≡ Hart h → next_step j h ≡ o → More n ts
+          → AreCounted harts (points_of (elim o as (λ y. Ran) [
+            | None ↦ ran (walk_of ts j) None
+            | Some r ↦ elim r as (λ y. Ran) [ Err e ↦ ran (walk_of ts (record j { refused = Some e })) (Some (error_of e)) | Ok x ↦ run_for n (walk_of (record { hart = h; item = x.0 } ∷ ts) x.1) ]
+          ]).walk.taken)
+      stepped h None none lowest e more = c.counted
+      stepped h (Some (Err g)) none lowest e more = c.counted
+      stepped h (Some (Ok x)) none lowest e more = more h x (step_keeps j h x (points_of ts) none lowest e c)
+
+      chosen : (k : Next) → j.refused ≡ None → choice j ≡ k → More n ts
+          → AreCounted harts (points_of (elim k as (λ y. Ran) [
+            | AllDone ↦ ran (walk_of ts j) None
+            | NoneReady ↦ ran (walk_of ts j) (Some (Stuck (positions_from 0 j.lanes)))
+            | Hart h ↦ elim (next_step j h) as (λ y. Ran) [
+              | None ↦ ran (walk_of ts j) None
+              | Some r ↦ elim r as (λ y. Ran) [ Err e ↦ ran (walk_of ts (record j { refused = Some e })) (Some (error_of e)) | Ok x ↦ run_for n (walk_of (record { hart = h; item = x.0 } ∷ ts) x.1) ]
+            ]
+          ]).walk.taken)
+      chosen AllDone none lowest more = c.counted
+      chosen NoneReady none lowest more = c.counted
+      chosen (Hart h) none lowest more = stepped h (next_step j h) none lowest refl more
+
+      refusal : (o : Option ReplayError) → j.refused ≡ o → More n ts
+          → AreCounted harts (points_of (elim o as (λ y. Ran) [
+            | Some e ↦ ran (walk_of ts j) (Some (error_of e))
+            | None ↦ elim (choice j) as (λ y. Ran) [
+              | AllDone ↦ ran (walk_of ts j) None
+              | NoneReady ↦ ran (walk_of ts j) (Some (Stuck (positions_from 0 j.lanes)))
+              | Hart h ↦ elim (next_step j h) as (λ y. Ran) [
+                | None ↦ ran (walk_of ts j) None
+                | Some r ↦ elim r as (λ y. Ran) [ Err e ↦ ran (walk_of ts (record j { refused = Some e })) (Some (error_of e)) | Ok x ↦ run_for n (walk_of (record { hart = h; item = x.0 } ∷ ts) x.1) ]
+              ]
+            ]
+          ]).walk.taken)
+      refusal (Some e) f more = c.counted
+      refusal None f more = chosen (choice j) f refl more
+
+lanes_long : (i : Program) (records : List Record) (h n : ℕ) → length (lanes_from i records h n) ≡ n
+lanes_long i records h zero = refl
+lanes_long i records h (suc n) = ap suc (lanes_long i records (h + 1) n)
+
+pub points_are_counted : RunsByStep → StepsPass → SoundnessStays → StartsAreSound → PointsAreCounted
+points_are_counted law steps stays starts i s dropped records low order =
+    counted_run law steps stays s.harts (steps_left (fresh i s.harts records).lanes + 1) [] (fresh i s.harts records) (record {
+      sound = starts i s dropped records low order;
+      long = lanes_long i records 0 s.harts;
+      counted = record { harts_below = λ m p e. absurd cc; rise = λ m n p q e f same up. absurd cc };
+      passed = λ m p e. absurd cc;
+    })

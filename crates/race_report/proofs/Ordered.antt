@@ -1,0 +1,50 @@
+-- Counts tell which points are ordered before a point, and the words that two points share.
+use Rattle.std.proofs.Common.{◌≡◌, ◌≢◌, ◌↔◌, ◌⊎◌, inl, inr, ℕ, zero, suc, ◌+◌, ◌<◌, ◌==◌, nat_lt, Bool, true, false, IsTrue, not, cond, ◌&&◌, refl, sym, ap, ◌∙◌, subst, arith, List, [], ◌∷◌, ◌++◌, length, map, filter, slice_get, Option, Some, None}
+use Rattle.std.specs.List.{list_any}
+use Rattle.race_log.specs.Points.{Point, Access}
+use Rattle.race_log.specs.Netzer.{Before}
+use Rattle.race_log.specs.Tests.{before, clashes}
+use Rattle.race_log.specs.ByCount.{IsInOrder, Leads, IsTimesOf, IsUpTo}
+use Rattle.race_report.specs.Races.{shared}
+
+abbrev pub TestsDecide : Type 0
+TestsDecide = (run : List Point) (m n : ℕ) → IsTrue (before run m n) ↔ Before run m n
+
+abbrev pub PlacesStandForCounts : Type 0
+PlacesStandForCounts = (run : List Point) → IsInOrder run → (m n : ℕ) (p q : Point) → slice_get run m ≡ Some p → slice_get run n ≡ Some q → Before run m n ↔ Leads run p.hart p.count q.hart q.count
+
+same_bools : (a b : Bool) → (a ≡ true → b ≡ true) → (b ≡ true → a ≡ true) → a ≡ b
+same_bools true b f g = sym (f refl)
+same_bools false true f g = g refl
+same_bools false false f g = refl
+
+is_lt : (m n : ℕ) → m < n → nat_lt m n ≡ true
+is_lt m n h = grind arith
+
+true_lt : (m n : ℕ) → nat_lt m n ≡ true → m < n
+true_lt m n h = grind arith
+
+pub ordered_is : TestsDecide → PlacesStandForCounts → (run : List Point) (k n : ℕ) (p q : Point) (counts : ℕ → ℕ) → IsInOrder run → slice_get run k ≡ Some p → slice_get run n ≡ Some q → IsTimesOf run q counts
+    → p.hart ≢ q.hart → before run k n ≡ nat_lt p.count (counts p.hart)
+ordered_is tests places run k n p q counts order at_k at_n times apart =
+    same_bools (before run k n) (nat_lt p.count (counts p.hart))
+    (λ e. is_lt p.count (counts p.hart) ((times p.hart p.count).1 (inr ((places run order k n p q at_k at_n).0 ((tests run k n).0 e)))))
+    (λ e. (tests run k n).1 (by ((times p.hart p.count).0 (true_lt p.count (counts p.hart) e))))
+  where
+    by : IsUpTo run p.hart p.count q → Before run k n
+    by (inl same) = absurd (apart same.0)
+    by (inr leads) = (places run order k n p q at_k at_n).1 leads
+
+pub shared_is : (first : List Access) (writes : Bool) (ws : List ℕ)
+    → shared first (map (λ w. record { word = w; writes = writes }) ws) ≡ filter (λ w. list_any (λ y. clashes y (record { word = w; writes = writes })) first) ws
+shared_is first writes [] = refl
+shared_is first writes (w ∷ ws) = by (list_any (λ y. clashes y (record { word = w; writes = writes })) first) (shared_is first writes ws)
+  where
+    access : ℕ → Access
+    access v = record { word = v; writes = writes }
+
+    by : (b : Bool) → shared first (map access ws) ≡ filter (λ v. list_any (λ y. clashes y (record { word = v; writes = writes })) first) ws
+        → map (λ (x : Access). x.word) (cond b (access w ∷ filter (λ x. list_any (λ y. clashes y x) first) (map access ws)) (filter (λ x. list_any (λ y. clashes y x) first) (map access ws)))
+        ≡ cond b (w ∷ filter (λ v. list_any (λ y. clashes y (record { word = v; writes = writes })) first) ws) (filter (λ v. list_any (λ y. clashes y (record { word = v; writes = writes })) first) ws)
+    by true rest = ap (λ (us : List ℕ). w ∷ us) rest
+    by false rest = rest

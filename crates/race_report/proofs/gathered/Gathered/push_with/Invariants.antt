@@ -1,0 +1,9 @@
+use Rattle.std.proofs.Common.{◌≡◌, ◌++◌, ℕ, List, drop}
+use Rattle.race_report.specs.Points.{Accessing}
+use Rattle.race_report.specs.Races.{races_with}
+use Rattle.race_report.specs.Gathering.{IsGathered}
+use Rattle.race_report.proofs.gathered.Gathered.push_with.Given as goal
+
+abbrev pub invariant-loop-k : goal.invariant-loop-k
+invariant-loop-k l = (harts : ℕ) (run : List Accessing) → IsGathered harts run l.self
+    → l.out.items ++ races_with run l.first l.hart (drop l.k l.meetings) ≡ l.fn.out.items ++ races_with run l.first l.hart l.meetings

@@ -1,0 +1,8 @@
+use Rattle.std.proofs.Common.{◌≡◌, ◌++◌, ℕ, List, length}
+use Rattle.race_report.specs.Points.{Accessing}
+use Rattle.race_report.specs.Races.{races_by_second, races_by_place, races_by_first}
+use Rattle.race_report.specs.Gathering.{IsGathered}
+use Rattle.race_report.proofs.gathered.Gathered.races.Given as goal
+
+abbrev pub invariant-loop-hart : goal.invariant-loop-hart
+invariant-loop-hart l = (harts : ℕ) (run : List Accessing) → IsGathered harts run l.self → l.out.items ≡ races_by_first harts run l.hart

@@ -1,0 +1,16 @@
+use Rattle.std.proofs.Common.{◌∙◌, ap, subst, length, arith, List, ◌≡◌, ℕ, None, ◌+◌, ◌++◌, ◌∷◌, [], sym}
+use Rattle.hart_replay.specs.Pages.{Known}
+use Rattle.race_report.specs.Tracks.{head_at}
+use Rattle.race_report.proofs.Prefixes.{length_more}
+use Rattle.race_report.proofs.Tracking.{head_more}
+use Rattle.race_report.proofs.track.Track.new.Goals as goal
+
+pub loop-preserved : goal.loop-preserved
+loop-preserved c =
+    let heads = c.loop.heads.items in
+    let more = length_more heads c.new.result in
+    let is = ap length c.in_ok-push.ensures.items in
+    record {
+      count = omega (arith, is, more, c.loop.invariant.count);
+      none = λ h w. ap (λ (ks : List Known). head_at ks h w) c.in_ok-push.ensures.items ∙ head_more heads c.new.result c.loop.invariant.none c.new.ensures h w;
+    }

@@ -1,0 +1,40 @@
+-- The laws of race reports.
+use Rattle.std.specs.Prelude.{◌≡◌, ◌<◌, ◌^◌, ◌↔◌, ℕ, List, slice_get, Some, None}
+use Rattle.bn_base.specs.Programs.{Program}
+use Rattle.bn_base.specs.declared.settings.RawSettings.{RawSettings}
+use Rattle.log_record.specs.declared.record.Record.{Record}
+use Rattle.log_order.specs.Order.{broken_by}
+use Rattle.race_log.specs.Kept.{In}
+use Rattle.joint_replay.specs.Joining.{fresh, run_all}
+use Rattle.race_report.specs.declared.race.Race.{Race}
+use Rattle.race_report.specs.Points.{Accessing, points_of}
+use Rattle.race_report.specs.Races.{IsRace, race_at, races_of}
+
+-- the tests say what a race is: the two places are one, with that word, exactly where the test gives the word
+abbrev pub TestsSayRaces : Type 0
+TestsSayRaces = (run : List Accessing) (m n word : ℕ) → (race_at run m n ≡ Some word) ↔ IsRace run m n word
+
+-- each point is of a hart of the log, and of two points of a hart the later one has the higher count
+pub record AreCounted (harts : ℕ) (run : List Accessing) : Type 0 where
+  pub harts_below : (m : ℕ) (p : Accessing) → slice_get run m ≡ Some p → p.hart < harts
+  pub rise : (m n : ℕ) (p q : Accessing) → slice_get run m ≡ Some p → slice_get run n ≡ Some q → p.hart ≡ q.hart → m < n → p.row.ic < q.row.ic
+
+-- so it is with the points of the joint replay of each log in order
+abbrev pub PointsAreCounted : Type 0
+PointsAreCounted = (i : Program) (s : RawSettings) (dropped : ℕ) (records : List Record) → s.limit < 2 ^ 64 → broken_by s dropped records ≡ None → AreCounted s.harts (points_of (run_all (fresh i s.harts records)).walk.taken)
+
+-- a race with the rows of its points
+pub record IsRaceOf (run : List Accessing) (r : Race) : Type 0 where
+  pub m : ℕ
+  pub n : ℕ
+  pub word : ℕ
+  pub race : IsRace run m n word
+  pub first : Accessing
+  pub second : Accessing
+  pub first_at : slice_get run m ≡ Some first
+  pub second_at : slice_get run n ≡ Some second
+  pub is : r ≡ record { first = first.row; second = second.row; word = word }
+
+-- the list of all races has exactly the races
+abbrev pub RacesAreListed : Type 0
+RacesAreListed = (harts : ℕ) (run : List Accessing) → AreCounted harts run → (r : Race) → In (races_of harts run) r ↔ IsRaceOf run r

@@ -1,0 +1,10 @@
+pub mod Points
+pub mod Races
+pub mod Reports
+pub mod Tracks
+pub mod Found
+pub mod Kept
+pub mod Gathering
+pub mod Texts
+pub mod Laws
+pub mod Examples

@@ -1,0 +1,23 @@
+-- The text of a race report.
+use Rattle.std.specs.Prelude.{ℕ, List, [], ◌∷◌, ◌++◌, codes, decimal, length}
+use Rattle.std.specs.List.{flat_map}
+use Rattle.bn_base.specs.declared.row.Row.{Row}
+use Rattle.rv_text.specs.Instructions.{hex8}
+use Rattle.rv_text.specs.Rows.{row_text}
+use Rattle.race_report.specs.declared.race.Race.{Race}
+
+-- a point by its hart and count
+unfoldable pub place_text : Row → List ℕ
+place_text r = codes " " ++ decimal r.hart ++ codes " " ++ decimal r.ic
+
+-- the line of a race, and the lines of its rows
+unfoldable pub race_text : Race → List ℕ
+race_text r = codes "race" ++ place_text r.first ++ place_text r.second ++ codes " " ++ hex8 r.word ++ codes "\n" ++ row_text r.first ++ row_text r.second
+
+-- the line of how many there are
+unfoldable pub count_text : ℕ → List ℕ
+count_text n = codes "races " ++ decimal n ++ codes "\n"
+
+-- the text of all races
+abbrev pub races_text : List Race → List ℕ
+races_text races = flat_map race_text races ++ count_text (length races)

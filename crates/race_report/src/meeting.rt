@@ -1,0 +1,9 @@
+// The later places that some place races with.
+use bn_base::Addr;
+
+/// A later place that is a race with some place, and the race's word.
+#[derive(Clone, Copy, Debug, PartialEq, Eq, Drop)]
+pub struct Meeting {
+    pub second: u32,
+    pub word: Addr,
+}

@@ -1,0 +1,151 @@
+//! The race report.
+ghost use Rattle.std.specs.Prelude.{◌≡◌, ◌<◌, length, None};
+ghost use Rattle.std.specs.Option.{option_map};
+ghost use Rattle.joint_replay.specs.declared.kinds.Next.TheVariants.{Hart, NoneReady};
+ghost use Rattle.joint_replay.specs.Joining.{choice};
+ghost use Rattle.joint_replay.specs.Calls.{state_at};
+ghost use Rattle.race_report.specs.Points.{asked_by};
+ghost use Rattle.race_report.specs.Reports.{IsReport, Tells, Stops, Advances, TakesRow, HasState, Gathers, joint_of};
+
+use crate::calls::Asked;
+use crate::error::RaceError;
+use crate::gathered::Gathered;
+use crate::race::Race;
+use bn_base::{HartId, Image, List, Row};
+use joint_replay::laws::runs_go_by_steps;
+use joint_replay::{Joint, JointError, Next, Stepped};
+use log_order::KeptLog;
+use rv_text::Text;
+use std::alloc::Global;
+
+// How an error of the joint replay is told.
+fn told_as(error: JointError) -> RaceError
+    ensures { Tells error result }
+{
+    match error {
+        JointError::OutOfMemory => RaceError::OutOfMemory,
+        JointError::Replay(refusal) => RaceError::Joint(JointError::Replay(refusal)),
+        JointError::Stuck { positions } => RaceError::Joint(JointError::Stuck { positions }),
+    }
+}
+
+// What a hart asks of a system call, where an interval of it is under way.
+fn asked_in(joint: &Joint, hart: HartId) -> Option<Asked>
+    requires { hart < length joint.now.lanes }
+    ensures { result ≡ option_map asked_by (state_at joint.now hart) }
+{
+    match joint.state(hart) {
+        None => None,
+        Some(state) => Some(Asked::by(state)),
+    }
+}
+
+// Takes in a row.
+fn take_row(
+    gathered: &mut Gathered,
+    hart: HartId,
+    asked: Option<Asked>,
+    row: &Row,
+    most: u64,
+) -> Result<(), RaceError>
+    requires { HasState hart most gathered.old }
+    ensures { TakesRow hart most asked row.now gathered.old result gathered.new }
+{
+    match asked {
+        None => Ok(()),
+        Some(asked) => match gathered.take_row(hart, asked, row, most) {
+            Ok(()) => Ok(()),
+            Err(_) => Err(RaceError::OutOfMemory),
+        },
+    }
+}
+
+// Takes the next step of the lowest ready hart, and takes in its row, if it did one.
+fn advance(
+    joint: &mut Joint,
+    gathered: &mut Gathered,
+    hart: HartId,
+    most: u64,
+) -> Result<(), RaceError>
+    requires none { joint.old.refused ≡ None }
+    requires lowest { choice joint.old ≡ Hart hart }
+    requires state { HasState hart most gathered.old }
+    ensures { Advances hart most joint.old gathered.old result joint.new gathered.new }
+{
+    runs_go_by_steps();
+    let asked = asked_in(joint, hart);
+    match joint.step(hart) {
+        Err(error) => Err(told_as(error)),
+        Ok(stepped) => match stepped {
+            Stepped::Passed { .. } => Ok(()),
+            Stepped::Ended { .. } => Ok(()),
+            Stepped::Did(row) => take_row(gathered, hart, asked, &row, most),
+        },
+    }
+}
+
+// Why no hart is ready.
+fn stuck(alloc: Global, joint: &mut Joint) -> RaceError
+    requires none { joint.old.refused ≡ None }
+    requires stuck { choice joint.old ≡ NoneReady }
+    ensures { Stops joint.old result }
+{
+    let mut untold = Text::new(alloc);
+    match joint.run_all(&mut untold) {
+        Ok(()) => RaceError::OutOfMemory,
+        Err(error) => told_as(error),
+    }
+}
+
+// Takes all steps, the lowest ready hart's first, and takes in all rows.
+fn gather(alloc: Global, image: &Image, log: &KeptLog, most: u64) -> Result<Gathered, RaceError>
+    ensures { Gathers log.now.head.settings.harts most (joint_of image.now log.now) result }
+{
+    let mut joint = match Joint::begin(alloc, image, log) {
+        Ok(joint) => joint,
+        Err(_) => return Err(RaceError::OutOfMemory),
+    };
+    let mut gathered = match Gathered::new(alloc, &log.head().settings) {
+        Ok(gathered) => gathered,
+        Err(_) => return Err(RaceError::OutOfMemory),
+    };
+    runs_go_by_steps();
+    'steps: loop {
+        match joint.next() {
+            Next::AllDone => return Ok(gathered),
+            Next::NoneReady => return Err(stuck(alloc, &mut joint)),
+            Next::Hart(hart) => match advance(&mut joint, &mut gathered, hart, most) {
+                Ok(()) => (),
+                Err(error) => return Err(error),
+            },
+        }
+    }
+}
+
+/// The races of a log: all pairs of conflicting points that no chain of program order and
+/// synchronisation orders, each once, by hart and count of the first and then of the second.
+///
+/// Where the joint replay stops, the error is why it does; else where there are more than `max` races,
+/// it is TooMany. It keeps the rows that access words, at most 2^32 - 1 of them; more are taken for want
+/// of memory.
+pub fn report(
+    alloc: Global,
+    image: &Image,
+    log: &KeptLog,
+    max: u64,
+) -> Result<List<Race>, RaceError>
+    ensures { IsReport log.now.head.settings.harts max (joint_of image.now log.now) result }
+{
+    match gather(alloc, image, log, max) {
+        Err(error) => Err(error),
+        Ok(gathered) => {
+            if gathered.count() > max {
+                return Err(RaceError::TooMany { max });
+            }
+            match gathered.races(alloc) {
+                Ok(races) => Ok(List::from_vec(races)),
+                Err(_) => Err(RaceError::OutOfMemory),
+            }
+        }
+    }
+}

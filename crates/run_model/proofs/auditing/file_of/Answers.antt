@@ -1,0 +1,16 @@
+use Rattle.std.proofs.Common.{◌∙◌, sym, ap, subst}
+use Rattle.bn_base.specs.declared.settings.RawSettings.{RawSettings}
+use Rattle.log_ring.specs.Kept.{Held, HoldsLog}
+use Rattle.run_model.specs.Runs.{run_of}
+use Rattle.run_model.proofs.LogFile.{file_is}
+use Rattle.run_model.proofs.auditing.file_of.Goals as goal
+
+pub returns-clause-file : goal.returns-clause-file
+returns-clause-file c =
+    let from = c.args.from.now in let list = c.args.list.now in
+    let run = run_of from.settings from.image from.input.items list in
+    let recorded = c.into_recorded-recorded in
+    let holds = subst (λ (r : Held). HoldsLog r run.stream) (sym recorded.ensures.ring) c.in_ok-whole_run.ensures.run.trace.log.holds in
+    let size = recorded.ensures.size ∙ ap (λ (s : RawSettings). s.log_size) c.in_ok-whole_run.ensures.settings in
+    c.in_ok-file.ensures ∙ file_is from.settings from.digest recorded.result.ring run holds size
+    ∙ sym (c.format_1_is_version_1.ensures from.settings from.image from.digest from.input.items list (sym c.format-format.ensures.value ∙ c.format-format.ensures.one))

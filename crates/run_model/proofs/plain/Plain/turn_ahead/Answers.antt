@@ -1,0 +1,15 @@
+use Rattle.std.proofs.Common.{◌∙◌, ap}
+use Rattle.bn_base.specs.Programs.{Program}
+use Rattle.rv_meaning.specs.Execute.{ask_of}
+use Rattle.run_model.specs.Stands.Harts.{hart_in}
+use Rattle.run_model.proofs.Owns.{hart_at}
+use Rattle.run_model.proofs.OneTurn.{live_within, ask_is}
+use Rattle.run_model.proofs.plain.Plain.turn_ahead.Goals as goal
+
+pub take_asked-requires-clause-asked : goal.take_asked-requires-clause-asked
+take_asked-requires-clause-asked c =
+    let p = c.args.self.now in let k = c.args.hart in let hs = p.trace.harts.items in
+    let x = c.index-before.result.now in
+    let live = live_within hs k c.requires.live in
+    ask_is p.start.settings p.start.image x (hart_in hs k) _ c.budget-budget.result (hart_at hs k x live.0 c.index-before.ensures) c.budget-budget.ensures
+    (c.quiet_run_in_place-want.ensures ∙ ap (λ (i : Program). ask_of i c.budget-budget.result x.state) c.requires.code)

@@ -1,0 +1,116 @@
+//! Whether a log is the file of the run of a list of turns.
+ghost use Rattle.std.specs.Prelude.{◌≡◌, ◌⊎◌, ℕ, None, Some, IfOk, IfErr, OnOk};
+ghost use Rattle.run_model.specs.declared.error.TurnError.TheVariants.{OutOfMemory};
+ghost use Rattle.run_model.specs.Turn.{Run};
+ghost use Rattle.run_model.specs.Runs.{run_from, run_of, live_harts};
+ghost use Rattle.run_model.specs.Lists.{unfinished, error_from, list_error};
+ghost use Rattle.run_model.specs.Files.{file_of};
+ghost use Rattle.run_model.specs.Audits.{IsVerdict};
+ghost use Rattle.run_model.specs.Stands.Plain.{IsRun};
+ghost use Rattle.run_model.specs.Stands.Turning.{parts};
+
+use crate::error::TurnError;
+use crate::laws::format_1_is_version_1;
+use crate::plain::Plain;
+use crate::start::Start;
+use crate::verdict::Verdict;
+use rv_meaning::DecodedImage;
+use std::alloc::{AllocError, Global};
+
+// The turns of a list, up to the first whose hart isn't live then.
+fn follow(code: &DecodedImage, plain: &mut Plain, list: &[u8]) -> Result<(), TurnError>
+    requires code { code.now ≡ plain.old.start.image }
+    ensures run { OnOk result ((run : Run) → IsRun (parts plain.old) run → IsRun (parts plain.new) (run_from plain.old.start.settings plain.old.start.image run list.now)) }
+    ensures legal { OnOk result ((run : Run) → IsRun (parts plain.old) run → let c = plain.old.start.settings in let i = plain.old.start.image in
+        error_from c i run 0 list.now ≡ unfinished (live_harts 0 c.harts (run_from c i run list.now).harts)) }
+    ensures illegal { IfErr result (λ e. (e ≡ OutOfMemory) ⊎ ((run : Run) → IsRun (parts plain.old) run → error_from plain.old.start.settings plain.old.start.image run 0 list.now ≡ Some e)) }
+    ensures start { plain.new.start ≡ plain.old.start }
+{
+    for at in 0..list.len() {
+        let hart = list[at];
+        if !plain.live(hart) {
+            return Err(TurnError::IllegalTurn {
+                at: at as u64,
+                hart,
+            });
+        }
+        plain.turn_ahead(code, hart)?;
+    }
+    Ok(())
+}
+
+// What is wrong where some hart is live: the lowest such hart.
+fn unfinished(plain: &Plain) -> Option<TurnError>
+    ensures { (run : Run) → IsRun (parts plain.now) run → result ≡ unfinished (live_harts 0 plain.now.start.settings.harts run.harts) }
+{
+    for live in 0..plain.start().settings.harts() {
+        if plain.live(live) {
+            return Some(TurnError::NotFinished { live });
+        }
+    }
+    None
+}
+
+// The machine after the turns of a list that leaves no hart live.
+fn whole_run(alloc: Global, from: &Start, list: &[u8]) -> Result<Plain, TurnError>
+    ensures run { IfOk result (λ p. IsRun (parts p) (run_of from.now.settings from.now.image from.now.input.items list.now)) }
+    ensures whole { OnOk result (list_error from.now.settings from.now.image from.now.input.items list.now ≡ None) }
+    ensures refused { IfErr result (λ e. (e ≡ OutOfMemory) ⊎ (list_error from.now.settings from.now.image from.now.input.items list.now ≡ Some e)) }
+    ensures settings { IfOk result (λ p. p.start.settings ≡ from.now.settings) }
+{
+    let code = DecodedImage::new(alloc, &from.image)?;
+    let mut plain = Plain::new(alloc, from)?;
+    follow(&code, &mut plain, list)?;
+    match unfinished(&plain) {
+        Some(error) => Err(error),
+        None => Ok(plain),
+    }
+}
+
+// The log file of the run of a list that leaves no hart live.
+fn file_of(alloc: Global, from: &Start, list: &[u8]) -> Result<Vec<u8>, TurnError>
+    ensures file { IfOk result (λ file. file.items ≡ file_of from.now.settings from.now.image from.now.digest from.now.input.items list.now) }
+    ensures whole { OnOk result (list_error from.now.settings from.now.image from.now.input.items list.now ≡ None) }
+    ensures refused { IfErr result (λ e. (e ≡ OutOfMemory) ⊎ (list_error from.now.settings from.now.image from.now.input.items list.now ≡ Some e)) }
+{
+    format_1_is_version_1();
+    let _format = from.settings.format();
+    let recorded = whole_run(alloc, from, list)?.into_recorded();
+    let file = from.log_file(alloc, &recorded.ring)?;
+    Ok(file)
+}
+
+// Whether a log is this file, or where they differ first.
+fn compare(file: &[u8], log: &[u8]) -> Verdict
+    ensures { IsVerdict file.now log.now result }
+{
+    let least = file.len().min(log.len());
+    for at in 0..least {
+        if file[at] != log[at] {
+            return Verdict::Differ { at_byte: at as u64 };
+        }
+    }
+    if file.len() == log.len() {
+        Verdict::Agree
+    } else {
+        Verdict::Differ {
+            at_byte: least as u64,
+        }
+    }
+}
+
+/// Whether a log is the file of the run of a list of turns, one byte for each turn, the number of its
+/// hart; and where it isn't, the first place where the two differ or one ends. The run is made again, by
+/// code that is decoded ahead.
+///
+/// The list is refused exactly where one of its harts isn't live at its turn, or some hart is live after
+/// the last; the error names the first such turn, or the lowest such hart. Want of memory may come in
+/// place of any answer.
+pub fn audit(alloc: Global, from: &Start, list: &[u8], log: &[u8]) -> Result<Verdict, TurnError>
+    ensures verdict { IfOk result (λ v. IsVerdict (file_of from.now.settings from.now.image from.now.digest from.now.input.items list.now) log.now v) }
+    ensures whole { OnOk result (list_error from.now.settings from.now.image from.now.input.items list.now ≡ None) }
+    ensures refused { IfErr result (λ e. (e ≡ OutOfMemory) ⊎ (list_error from.now.settings from.now.image from.now.input.items list.now ≡ Some e)) }
+{
+    let file = file_of(alloc, from, list)?;
+    Ok(compare(&file, log))
+}

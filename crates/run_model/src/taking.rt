@@ -1,0 +1,56 @@
+// A turn of a plain machine, from a hart's quiet instructions on.
+ghost use Rattle.std.specs.Prelude.{◌≡◌, true, OnOk, OnErr};
+ghost use Rattle.run_model.specs.Turn.{Run, turn, ask_at};
+ghost use Rattle.run_model.specs.Stands.Harts.{hart_in};
+ghost use Rattle.run_model.specs.Stands.Plain.{IsRun};
+ghost use Rattle.run_model.specs.Stands.Turning.{parts, is_live};
+
+use crate::plain::Plain;
+use bn_base::HartId;
+use rv_meaning::{Ask, DecodedImage, each_ask_is_orderly, quiet_run};
+use std::alloc::AllocError;
+
+impl Plain {
+    /// A turn of a live hart: its quiet instructions up to its first ask, and the answer to that. The
+    /// only error is want of memory; then no turn was taken.
+    pub fn turn(&mut self, hart: HartId) -> Result<(), AllocError>
+        requires { is_live (parts self.old) hart ≡ true }
+        ensures run { OnOk result ((run : Run) → IsRun (parts self.old) run → IsRun (parts self.new) (turn self.old.start.settings self.old.start.image run hart)) }
+        ensures refused { OnErr result ((run : Run) → IsRun (parts self.old) run → IsRun (parts self.new) run) }
+        ensures start { self.new.start ≡ self.old.start }
+    {
+        let before = &self.trace.harts[hart as usize];
+        let budget = before.budget(&self.start.settings);
+        let ask = quiet_run(&self.start.image, before.state, budget);
+        self.take_asked(hart, &ask)
+    }
+
+    /// As [`Plain::turn`], and faster: by the program's code decoded ahead.
+    pub fn turn_ahead(&mut self, code: &DecodedImage, hart: HartId) -> Result<(), AllocError>
+        requires live { is_live (parts self.old) hart ≡ true }
+        requires code { code.now ≡ self.old.start.image }
+        ensures run { OnOk result ((run : Run) → IsRun (parts self.old) run → IsRun (parts self.new) (turn self.old.start.settings self.old.start.image run hart)) }
+        ensures refused { OnErr result ((run : Run) → IsRun (parts self.old) run → IsRun (parts self.new) run) }
+        ensures start { self.new.start ≡ self.old.start }
+    {
+        let before = &self.trace.harts[hart as usize];
+        let budget = before.budget(&self.start.settings);
+        let mut state = before.state;
+        let want = code.quiet_run_in_place(&mut state, budget);
+        self.take_asked(hart, &Ask { state, want })
+    }
+
+    // The turn of a live hart that asks this next.
+    fn take_asked(&mut self, hart: HartId, ask: &Ask) -> Result<(), AllocError>
+        requires live { is_live (parts self.old) hart ≡ true }
+        requires asked { ask.now ≡ ask_at self.old.start.settings self.old.start.image (hart_in self.old.trace.harts.items hart) }
+        ensures run { OnOk result ((run : Run) → IsRun (parts self.old) run → IsRun (parts self.new) (turn self.old.start.settings self.old.start.image run hart)) }
+        ensures refused { OnErr result ((run : Run) → IsRun (parts self.old) run → IsRun (parts self.new) run) }
+        ensures start { self.new.start ≡ self.old.start }
+    {
+        each_ask_is_orderly();
+        let call = self.prepare(ask)?;
+        self.apply(hart, ask, call);
+        Ok(())
+    }
+}

@@ -1,0 +1,10 @@
+//! What an audit finds.
+
+/// What an audit finds.
+#[derive(Clone, Copy, Debug, PartialEq, Eq, Drop)]
+pub enum Verdict {
+    /// The bytes are those of the file.
+    Agree,
+    /// The first place, counted from 0, where the bytes differ or where one of the two ends.
+    Differ { at_byte: u64 },
+}

@@ -1,0 +1,5 @@
+use Rattle.slice_back.proofs.Sufficing.{suffices}
+use Rattle.slice_back.proofs.laws.slices_suffice.Goals as goal
+
+pub returns : goal.returns
+returns c = suffices

@@ -1,0 +1,13 @@
+-- What a slice answers.
+use Rattle.std.specs.Prelude.{◌≡◌, ℕ, ◌⊎◌, List, IsSome, Result, Err}
+use Rattle.bn_base.specs.Programs.{Program}
+use Rattle.log_record.specs.declared.record.Record.{Record}
+use Rattle.hart_replay.specs.Replay.{interval_of}
+use Rattle.slice_back.specs.declared.lists.Slice.{Slice}
+use Rattle.slice_back.specs.declared.error.SliceError.{SliceError}
+use Rattle.slice_back.specs.declared.error.SliceError.TheVariants.{OutOfMemory}
+use Rattle.slice_back.specs.Slices.{sliced}
+
+-- it is the definition's; want of memory may come instead, but not where the log doesn't keep the interval
+abbrev pub IsAnswer : Program → List Record → ℕ → ℕ → ℕ → Result Slice SliceError → Type 0
+IsAnswer i records h c ic answer = (answer ≡ sliced i records h c ic) ⊎ ((answer ≡ Err OutOfMemory) × IsSome (interval_of h c records))

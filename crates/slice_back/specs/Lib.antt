@@ -1,0 +1,12 @@
+pub mod Uses
+pub mod Needs
+pub mod FirstLoads
+pub mod Slices
+pub mod Laws
+pub mod Agreeing
+pub mod Answers
+pub mod Sets
+pub mod Passes
+pub mod Tracing
+pub mod Texts
+pub mod Examples

@@ -1,0 +1,17 @@
+//! What the tests of a slice mean. These functions do nothing: their contracts are theorems.
+ghost use Rattle.slice_back.specs.Agreeing.{SliceSuffices};
+ghost use Rattle.slice_back.specs.Laws.{RowsAreLeast, RegistersAreFromBefore, WordsAreTaken};
+
+/// A row is told exactly where it is in the least set that has the given row and, with each row, the
+/// rows that it needs.
+pub fn slices_are_least()
+    ensures rows { RowsAreLeast }
+    ensures registers { RegistersAreFromBefore }
+    ensures words { WordsAreTaken }
+{}
+
+/// A slice is enough: where two intervals of one program agree row by row, and on the registers and
+/// words that the slice of a row says it took, the slices have the same rows.
+pub fn slices_suffice()
+    ensures { SliceSuffices }
+{}

@@ -1,0 +1,23 @@
+//! The backward slice of a row of an interval: the rows that it stands on, and what of it came from
+//! before.
+#![tactic(auto)]
+
+mod back;
+mod error;
+mod examples;
+mod first_loads;
+mod laws;
+mod lists;
+mod live_set;
+mod noted;
+mod slicing;
+mod texts;
+mod trace;
+mod uses;
+
+pub use back::slice;
+pub use error::SliceError;
+pub use laws::{slices_are_least, slices_suffice};
+pub use lists::Slice;
+pub use noted::Noted;
+pub use texts::{write_branch, write_head, write_register, write_word};

@@ -1,0 +1,9 @@
+//! Rows with the first loads that they took.
+use bn_base::Row;
+
+/// A row, and the value of the first load that it took from the log, if it took one.
+#[derive(Clone, Copy, Debug, PartialEq, Eq, Drop)]
+pub struct Noted {
+    pub row: Row,
+    pub first_load: Option<u32>,
+}
