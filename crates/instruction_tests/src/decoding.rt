@@ -44,7 +44,7 @@ fn again(word: u32) -> Option<u32> {
 
 #[test]
 fn words_have_the_assemblers_fields_and_come_back(rt: HostRuntime) {
-    for (word, instr) in [
+    for &(word, instr) in &[
         (0x80000fb7, plain(Name::Lui, 31, 0, 0, -2147483648)),
         (0xff9ff06f, plain(Name::Jal, 0, 0, 0, -8)),
         (0x7e3c0fe3, plain(Name::Beq, 0, 24, 3, 4094)),
@@ -68,7 +68,7 @@ fn words_have_the_assemblers_fields_and_come_back(rt: HostRuntime) {
 fn other_words_are_no_instruction(rt: HostRuntime) {
     // All zeros, all ones, a shift by 32, lr.w with an rs2, ld, sd, fence.i, mret, csrrw, amoadd.d,
     // an unused funct7, an unused funct3.
-    for word in [
+    for &word in &[
         0x00000000, 0xffffffff, 0x02051513, 0x1015252f, 0x00003003, 0x00003023, 0x0000100f,
         0x30200073, 0xc0001073, 0x0000302f, 0x04000033, 0x00002063,
     ] {
@@ -78,7 +78,7 @@ fn other_words_are_no_instruction(rt: HostRuntime) {
 
 #[test]
 fn a_fence_ignores_its_other_bits(rt: HostRuntime) {
-    for word in [0x0ff0000f, 0x8330000f, 0xffff8f8f] {
+    for &word in &[0x0ff0000f, 0x8330000f, 0xffff8f8f] {
         assert_eq!(rt; decode(word), Some(plain(Name::Fence, 0, 0, 0, 0)));
         assert_eq!(rt; again(word), Some(0x0ff0000f));
     }

@@ -28,7 +28,7 @@ fn generated_programs_load_with_their_words(rt: HostRuntime) -> Result<(), Fail>
         (u64::MAX, Kind::Crash, 0x10018, Some(0x0004_2303)),
         (u64::MAX, Kind::Crash, 0x10408, Some(0x0874_0e23)),
     ];
-    for (seed, kind, addr, word) in table {
+    for &(seed, kind, addr, word) in &table {
         let file = guest(rt.alloc(), seed, kind)?;
         let image = load(rt.alloc(), &file, &Settings::default())?;
         assert_eq!(rt; image.code(addr), word, "{seed} {kind:?} {addr:x}");

@@ -49,7 +49,7 @@ fn a_file_that_is_cut_short_is_refused(rt: HostRuntime) {
         (84, ElfError::Truncated { at: 96, length: 84 }),
         (95, ElfError::Truncated { at: 96, length: 95 }),
     ];
-    for (length, error) in table {
+    for &(length, error) in &table {
         assert_eq!(rt;
             refusal(rt.alloc(), &SMALL[..length]),
             Some(error),
@@ -99,7 +99,7 @@ fn a_file_with_one_wrong_field_is_refused(rt: HostRuntime) -> Result<(), Fail> {
         (24, 0x10060, after),
         (76, 6, entry),
     ];
-    for (at, word, error) in table {
+    for &(at, word, error) in &table {
         let file = bent(rt.alloc(), &SMALL, &[(at, word)])?;
         assert_eq!(rt; refusal(rt.alloc(), &file), Some(error), "{at}: {word:x}");
     }
@@ -123,7 +123,7 @@ fn of_two_refusals_the_first_is_given(rt: HostRuntime) -> Result<(), Fail> {
         ((60, 0), (24, 0x10056), OUTSIDE),
         ((72, 0), (24, 0x10056), ElfError::NoSegment),
     ];
-    for (first, second, error) in table {
+    for &(first, second, error) in &table {
         let file = bent(rt.alloc(), &SMALL, &[first, second])?;
         assert_eq!(rt;
             refusal(rt.alloc(), &file),
@@ -142,7 +142,7 @@ fn other_flags_and_types_mean_nothing(rt: HostRuntime) -> Result<(), Fail> {
         ((76, 7), (36, 0xffff_fff6), true),
         ((64, 0), (80, 3), false),
     ];
-    for (first, second, writable) in table {
+    for &(first, second, writable) in &table {
         let file = bent(rt.alloc(), &SMALL, &[first, second])?;
         let image = load(rt.alloc(), &file, &Settings::default())?;
         assert_eq!(rt; image.code(0x10054), Some(0x0050_0513), "{first:?}");
@@ -173,7 +173,7 @@ fn a_program_of_gcc_loads_as_other_programs_read_it(rt: HostRuntime) -> Result<(
         (0x110e0, 0x0000_0504, false, true),
         (0x110e8, 0, false, true),
     ];
-    for (addr, word, is_code, is_writable) in words {
+    for &(addr, word, is_code, is_writable) in &words {
         assert_eq!(rt; image.first(addr), word, "{addr:x}");
         assert_eq!(rt; image.code(addr).is_some(), is_code, "{addr:x}");
         assert_eq!(rt; image.may_store(addr), is_writable, "{addr:x}");
@@ -196,7 +196,7 @@ fn segments_may_stand_side_by_side_but_share_no_word(rt: HostRuntime) -> Result<
         (0xfff5, touch),
         (0xfff4, None),
     ];
-    for (addr, error) in table {
+    for &(addr, error) in &table {
         let file = bent(rt.alloc(), &GREETING, &[(124, addr)])?;
         assert_eq!(rt; refusal(rt.alloc(), &file), error, "{addr:x}");
     }
@@ -237,7 +237,7 @@ fn segments_are_named_by_their_place_in_the_table(rt: HostRuntime) -> Result<(),
         ((52, 1), (56, 0xffff_ffff), None),
         ((124, 0x100dc), (136, 0), None),
     ];
-    for (first, second, error) in table {
+    for &(first, second, error) in &table {
         let file = bent(rt.alloc(), &GREETING, &[first, second])?;
         assert_eq!(rt; refusal(rt.alloc(), &file), error, "{first:?} {second:?}");
     }
@@ -264,7 +264,7 @@ fn errors_say_what_is_wrong(rt: HostRuntime) -> Result<(), Fail> {
             "segments 1 and 2 touch",
         ),
     ];
-    for (error, text) in texts {
+    for &(error, text) in &texts {
         assert_eq!(rt; format!(in rt.alloc(); "{error}")?.as_str(), text);
     }
     Ok(())

@@ -101,14 +101,14 @@ fn flipped_bits_are_named(rt: HostRuntime) {
         (90, differs),
         (91, head(9, 16_777_377)),
     ];
-    for (at, expected) in cases {
+    for &(at, expected) in &cases {
         assert_eq!(rt;
             refusal(rt.alloc(), &flipped(at)),
             Some(expected),
             "at {at}"
         );
     }
-    for at in [16, 28, 40, 48, 80, 92, 252, 284] {
+    for &at in &[16, 28, 40, 48, 80, 92, 252, 284] {
         let found = refusal(rt.alloc(), &flipped(at));
         assert!(rt;
             matches!(found, Some(FileError::DigestDiffers { .. })),

@@ -29,7 +29,7 @@ fn two_segments(alloc: Global) -> Result<Image, AllocError> {
 #[test]
 fn words_past_the_limit_run_too(rt: HostRuntime) -> Result<(), AllocError> {
     let image = three_words(rt.alloc())?;
-    for limit in [0, 1, 2, 3, 4] {
+    for &limit in &[0, 1, 2, 3, 4] {
         let decoded = DecodedImage::with_limit(rt.alloc(), &image, limit)?;
         let mut state = hart(0, 0);
         let want = decoded.quiet_run_in_place(&mut state, 9);
@@ -44,7 +44,7 @@ fn words_past_the_limit_run_too(rt: HostRuntime) -> Result<(), AllocError> {
 fn the_budget_holds_past_the_limit(rt: HostRuntime) -> Result<(), AllocError> {
     let image = three_words(rt.alloc())?;
     let decoded = DecodedImage::with_limit(rt.alloc(), &image, 1)?;
-    for (budget, ic, sum) in [(0, 5, 0), (1, 6, 1), (2, 7, 2)] {
+    for &(budget, ic, sum) in &[(0, 5, 0), (1, 6, 1), (2, 7, 2)] {
         let mut state = hart(0, 0);
         let want = decoded.quiet_run_in_place(&mut state, budget);
         assert_eq!(rt; want, Want::Cut, "{budget}");
@@ -57,7 +57,7 @@ fn the_budget_holds_past_the_limit(rt: HostRuntime) -> Result<(), AllocError> {
 fn a_pc_outside_the_decoded_segment_faults(rt: HostRuntime) -> Result<(), AllocError> {
     let image = three_words(rt.alloc())?;
     let decoded = DecodedImage::new(rt.alloc(), &image)?;
-    for pc in [0, 0xfffc, 0x10001, 0x10002, 0x10007, 0x1000c, 0xffff_fffc] {
+    for &pc in &[0, 0xfffc, 0x10001, 0x10002, 0x10007, 0x1000c, 0xffff_fffc] {
         let mut state = hart(1, 2);
         state.pc = pc;
         let want = decoded.quiet_run_in_place(&mut state, 3);
@@ -72,7 +72,7 @@ fn a_pc_outside_the_decoded_segment_faults(rt: HostRuntime) -> Result<(), AllocE
 fn code_in_a_second_segment_runs(rt: HostRuntime) -> Result<(), AllocError> {
     let image = two_segments(rt.alloc())?;
     let decoded = DecodedImage::new(rt.alloc(), &image)?;
-    for (budget, pc, sum) in [
+    for &(budget, pc, sum) in &[
         (1, 0x11000, 0),
         (2, 0x11004, 1),
         (3, 0x10000, 1),

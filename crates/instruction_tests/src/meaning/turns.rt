@@ -6,7 +6,7 @@ use std::alloc::AllocError;
 
 #[test]
 fn a_word_that_is_no_instruction_faults(rt: HostRuntime) -> Result<(), AllocError> {
-    for (word, kind, value) in [
+    for &(word, kind, value) in &[
         (0, Fault::Illegal, 0),
         (0xffff_ffff, Fault::Illegal, 0xffff_ffff),
         (0x0010_0073, Fault::Breakpoint, 0),
@@ -22,7 +22,7 @@ fn a_word_that_is_no_instruction_faults(rt: HostRuntime) -> Result<(), AllocErro
 fn a_fetch_outside_the_code_faults(rt: HostRuntime) -> Result<(), AllocError> {
     // fence, and then the end of the code
     let image = program(rt.alloc(), 0x0ff0_000f)?;
-    for pc in [0x10000, 0x10002, 0x20000, 0] {
+    for &pc in &[0x10000, 0x10002, 0x20000, 0] {
         let mut state = hart(0, 0);
         state.pc = pc;
         let ask = quiet_run(&image, state, 2);
@@ -37,7 +37,7 @@ fn a_fetch_outside_the_code_faults(rt: HostRuntime) -> Result<(), AllocError> {
 fn a_hart_is_cut_after_its_budget(rt: HostRuntime) -> Result<(), AllocError> {
     // jal zero,.
     let image = program(rt.alloc(), 0x6f)?;
-    for (ic, budget, wanted) in [(5, 0, 5), (5, 4, 9), (u64::MAX - 1, 3, u64::MAX)] {
+    for &(ic, budget, wanted) in &[(5, 0, 5), (5, 4, 9), (u64::MAX - 1, 3, u64::MAX)] {
         let mut before = hart(1, 2);
         before.ic = ic;
         let ask = quiet_run(&image, before, budget);
@@ -70,7 +70,7 @@ fn a_system_call_writes_its_result(rt: HostRuntime) -> Result<(), AllocError> {
 #[test]
 fn over_counts_an_exit_and_no_other_call(rt: HostRuntime) -> Result<(), AllocError> {
     let image = program(rt.alloc(), 0x73)?;
-    for (number, wanted) in [(93, 6), (94, 6), (64, 5), (0, 5)] {
+    for &(number, wanted) in &[(93, 6), (94, 6), (64, 5), (0, 5)] {
         let mut state = hart(1, 2);
         state.x.put(Register::new(17), number);
         let over = absorb(&quiet_run(&image, state, 9), Reply::Over);
@@ -87,7 +87,7 @@ fn over_counts_an_exit_and_no_other_call(rt: HostRuntime) -> Result<(), AllocErr
 fn a_forged_ask_is_not_orderly(rt: HostRuntime) -> Result<(), AllocError> {
     let image = program(rt.alloc(), 0x6f)?;
     let kind = Fault::Breakpoint;
-    for (want, from, budget, wanted) in [
+    for &(want, from, budget, wanted) in &[
         (Want::Cut, 5, 0, true),
         (Want::Cut, 2, 3, true),
         (Want::Cut, 2, 4, false),
