@@ -13,3 +13,6 @@ pub returns-in-Demo-clause-told : goal.returns-in-Demo-clause-told
 returns-in-Demo-clause-told g c =
     rw c.in-Demo.is
     (gives-any (g.S.Store.files c.args.store.now) c.args.names.now (λ (what : Told). what ≡ printed (demo_text c.in-Demo.seed)) c.demonstrate.result c.demonstrate.ensures.gives)
+
+pub returns-in-Demo-clause-cause : goal.returns-in-Demo-clause-cause
+returns-in-Demo-clause-cause g c = rw c.in-Demo.is (c.demonstrate.ensures.own _ _)
