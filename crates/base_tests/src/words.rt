@@ -331,10 +331,12 @@ fn words_that_are_no_command(rt: HostRuntime) -> Result<(), Fail> {
         "check L",
         "bugnet joint L",
         "bugnet joint L E 0",
-        "bugnet debug L E",
-        "bugnet audit L E B",
-        "bugnet audit L E B --input F",
-        "bugnet demo 7",
+        "bugnet debug L",
+        "bugnet debug L E 0",
+        "bugnet audit L E",
+        "bugnet audit L E B F",
+        "bugnet demo",
+        "bugnet demo x",
     ];
     for &line in &lines {
         assert!(rt; is_refused(rt.alloc(), line)?, "{line}");
