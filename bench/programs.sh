@@ -4,8 +4,8 @@
 # them stand qemu-riscv32 on the same program, one instruction at a time too, the demonstration's parts by
 # single commands, and sha256sum on the same log.
 # Then how much memory the list of turns takes; harts in threads beside harts by a seed, by the clock; the
-# joint replay beside single replays of the same intervals; and last how far back a log of 1 MiB reaches in
-# each example. It prints ratios; the times beside them are those of the machine and of the moment.
+# joint replay beside single replays of the same intervals, the race report beside the joint replay and a slice
+# beside a replay; and last how far back a log of 1 MiB reaches in each example. It prints ratios; the times beside them are those of the machine and of the moment.
 #
 # bench/programs.sh [RUNS]: each is run RUNS times (3), and the least processor time counts.
 set -eu
@@ -160,12 +160,12 @@ number() {
     done
 }
 
-# harts COUNT TIMES LOOPS: lets `harts` be so many harts of bench/harts.elf, each with so many loads and
-# stores and so many loops of two instructions before each.
+# harts COUNT TIMES LOOPS [APART]: lets `harts` be so many harts of bench/harts.elf, each with so many loads
+# and stores and so many loops of two instructions before each, on the same words or so many bytes apart.
 harts() {
     local hart
     for hart in $(seq "$1"); do
-        number "$2" "$3"
+        number "$2" "$3" "${4:-0}"
     done >"$work/input"
     harts=(record --harts "$1" --input "$work/input")
 }
@@ -223,6 +223,62 @@ joint() { # HARTS
 for count in 1 2 4 8; do
     joint "$count"
 done
+
+# Ways back in a session, after all steps of four harts, a million instructions together: how long one takes, beside
+# 65,536 of the steps, and what memory a step takes. Each is done so many times, since one is soon done.
+harts 4 $((1000000 / 4 / 18)) 4
+"$zelkuma" "${harts[@]}" --seed 1 --log-size 67108864 "$top/bench/harts.elf" "$work/LOG" "$work/BOOK" 2>/dev/null
+session() { printf '%s\n' "$@" | "$zelkuma" debug "$work/LOG" "$top/bench/harts.elf"; }
+steps=$(($(session go "back 1" | sed -n 's/^at //p') + 1))
+gone=$(seconds 0 session go)
+back() { # TIMES WORD..
+    local n=$1 all=()
+    shift
+    for _ in $(seq "$n"); do
+        all+=("$@")
+    done
+    awk -v what="${*: -1}" -v n="$n" -v steps="$steps" -v g="$gone" -v s="$(seconds 0 session go "${all[@]}")" 'BEGIN {
+        one = (s - g) / n
+        printf "debug, %s after %d steps in %.3f seconds: %.4f seconds, %.2f of 65,536 steps\n", what, steps, g, one, one / (g * 65536 / steps)
+    }'
+}
+back 40 "back 1"
+back 8 "back 100000"
+back 1 "break 10054" rgo
+if [ -x /usr/bin/time ]; then
+    awk -v most="$(peak bash -c 'printf "go\n" | "$0" debug "$1" "$2"' "$zelkuma" "$work/LOG" "$top/bench/harts.elf")" \
+        -v less="$(peak "$zelkuma" joint "$work/LOG" "$top/bench/harts.elf")" -v n="$steps" \
+        'BEGIN { printf "  %.1f bytes of memory a step beyond those of the joint replay\n", (most - less) * 1024 / n }'
+fi
+
+# The race report of four harts, 800,000 instructions together, beside their joint replay: each on words of its
+# own, which has no race, and all on the same words.
+races() { # WHAT APART STATUS
+    local joined reported
+    harts 4 $((800000 / 4 / 18)) 4 "$2"
+    "$zelkuma" "${harts[@]}" --seed 1 --log-size 67108864 "$top/bench/harts.elf" "$work/LOG" "$work/BOOK" 2>/dev/null
+    joined=$(seconds 0 "$zelkuma" joint "$work/LOG" "$top/bench/harts.elf")
+    reported=$(seconds "$3" "$zelkuma" races "$work/LOG" "$top/bench/harts.elf" 1000000)
+    rate "races, $1" "$("$zelkuma" joint "$work/LOG" "$top/bench/harts.elf" | grep -c '^[0-9]')" rows "$reported" \
+        "the joint replay" "$joined"
+}
+races "4 harts on words of their own, none" 1024 0
+races "4 harts on the same words, more than 1,000,000" 0 20
+
+# The slice of the last row of an interval of a million rows, beside the interval's replay with its text, and what
+# memory it takes beyond that of the replay.
+"$zelkuma" "${record[@]}" "$elf" "$work/LOG" "$work/BOOK" 2>/dev/null
+read -r hart interval rows last < <("$zelkuma" list "$work/LOG" | awk '
+    { n = $4 - $3; if (n > most) { most = n; which = $1 " " $2; last = $4 - 1 } }
+    END { print which, most, last }')
+sliced=$(seconds 0 "$zelkuma" slice "$work/LOG" "$elf" "$hart" "$interval" "$last")
+replayed=$(seconds 0 "$zelkuma" replay "$work/LOG" "$elf" "$hart" "$interval")
+rate slice "$rows" rows "$sliced" "the replay with its text" "$replayed"
+if [ -x /usr/bin/time ]; then
+    awk -v most="$(peak "$zelkuma" slice "$work/LOG" "$elf" "$hart" "$interval" "$last")" \
+        -v less="$(peak "$zelkuma" replay "$work/LOG" "$elf" "$hart" "$interval")" -v rows="$rows" \
+        'BEGIN { printf "  %.1f bytes of memory a row beyond those of the replay\n", (most - less) * 1024 / rows }'
+fi
 
 # How many of an example's instructions go into 1 MiB of records, by those of the whole run.
 reach() { # NAME WORD..

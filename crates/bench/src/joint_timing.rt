@@ -6,6 +6,7 @@ ghost use Rattle.joint_replay.specs.Joining.{readiness};
 
 use crate::rate::{rate_of, spent_micros};
 use crate::replay_timing::next_sum;
+use back_step::Trail;
 use bn_base::{HartId, Image, RawSettings, Settings};
 use bn_outside::{LeanBook, MemorySink, MemorySource};
 use elf_loader::load;
@@ -164,10 +165,10 @@ fn time_intervals(rt: &HostRuntime, image: &Image, log: &KeptLog) -> anyhow::Res
 }
 
 // Lets the debugger take all steps by one command.
-fn debug_all(alloc: Global, joint: &mut Joint) -> anyhow::Result<()> {
+fn debug_all(alloc: Global, trail: &mut Trail) -> anyhow::Result<()> {
     let mut input = MemorySource::new(Vec::from_slice(alloc, b"go\n")?, Vec::new(alloc));
     let mut out = MemorySink::new(alloc, Vec::new(alloc));
-    match debug(alloc, joint, &mut input, &mut out) {
+    match debug(alloc, trail, &mut input, &mut out) {
         Ok(()) => Ok(()),
         Err(_) => anyhow::bail!("the debugger failed"),
     }
@@ -175,11 +176,11 @@ fn debug_all(alloc: Global, joint: &mut Joint) -> anyhow::Result<()> {
 
 // Times that command: how many microseconds it took.
 fn time_debugger(rt: &HostRuntime, image: &Image, log: &KeptLog) -> anyhow::Result<u64> {
-    let Ok(mut joint) = Joint::begin(rt.alloc(), image, log) else {
+    let Ok(mut trail) = Trail::begin(rt.alloc(), image, log, 65_536) else {
         anyhow::bail!("not enough memory");
     };
     let before = spent_micros(rt);
-    debug_all(rt.alloc(), &mut joint)?;
+    debug_all(rt.alloc(), &mut trail)?;
     Ok(spent_micros(rt).saturating_sub(before))
 }
 

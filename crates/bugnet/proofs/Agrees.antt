@@ -5,12 +5,14 @@ use Rattle.std.specs.Str.{bytes_eq}
 use Rattle.std.proofs.lemmas.Slice.Eq.{bytes_eq-Decides}
 use Rattle.sha2.specs.Sha256.{sha256}
 use Rattle.bn_base.specs.Programs.{Program}
+use Rattle.bn_base.specs.declared.settings.RawSettings.{RawSettings}
 use Rattle.bn_outside.specs.Files.{Files}
 use Rattle.elf_loader.specs.Loaded.{image_of}
 use Rattle.elf_loader.specs.declared.error.ElfError.{ElfError}
 use Rattle.log_order.specs.Content.{Content, IsContent}
-use Rattle.log_file.specs.Layout.{file_bytes}
-use Rattle.log_file.specs.declared.error.FileError.{FileError}
+use Rattle.log_blocks.specs.Faults.{is_second}
+use Rattle.log_blocks.specs.Readings.{Reads}
+use Rattle.log_blocks.specs.declared.damage.Damage.{Damage}
 use Rattle.run_model.specs.Files.{file_of}
 use Rattle.run_model.specs.Lists.{list_error}
 use Rattle.run_model.specs.Audits.{IsVerdict, verdict_of, VerdictsAreUnique}
@@ -19,13 +21,13 @@ use Rattle.run_model.specs.declared.verdict.Verdict.{Verdict}
 use Rattle.run_model.specs.declared.verdict.Verdict.TheVariants.{Agree, Differ}
 use Rattle.bus_core.specs.Bus.{Began}
 use Rattle.hart_worker.specs.Laws.{WholeRunsHaveNoError}
-use Rattle.command_words.specs.Words.{Line, RecordLine, ReplayLine, JointLine, DebugLine, ListLine, CheckLine, AuditLine, DemoLine}
+use Rattle.command_words.specs.Words.{Line, RecordLine, ReplayLine, JointLine, DebugLine, ListLine, CheckLine, AuditLine, RacesLine, SliceLine, ConvertLine, SalvageLine, DemoLine}
 use Rattle.bugnet.specs.Names.{FileNames}
 use Rattle.bugnet.specs.Told.{Told, refused}
-use Rattle.bugnet.specs.Commands.{WithFile, Reads, IsByLog, by_log}
+use Rattle.bugnet.specs.Commands.{WithFile, IsByLog, by_log}
 use Rattle.bugnet.specs.Pairs.{ByPair, pair_loaded, pair_same, pair_of}
 use Rattle.bugnet.specs.Answers.{names_in, names_by, IsAnswer}
-use Rattle.bugnet.specs.Audits.{verdict_told, turns_told, audited, IsAuditOf, IsAuditWith, IsAuditBy, IsAuditIn, IsAudit, Agrees}
+use Rattle.bugnet.specs.Audits.{version2_of, audit_file, verdict_told, turns_told, audited, IsAuditOf, IsAuditWith, IsAuditBy, IsAuditIn, IsAudit, Agrees}
 use Rattle.bugnet.specs.Agreements.{AuditsAgree, AuditsRun}
 use Rattle.bugnet.specs.Outside.{WithFiles}
 use Rattle.bugnet.specs.Run.{Call, Tells, StoppedEarly, SomeTold, TellsAnswer}
@@ -40,12 +42,12 @@ pub record AuditLaws : Type 0 where
   pub errors : WholeRunsHaveNoError
 
 -- an answer by a log that was read
-by-log : (names : FileNames) (bytes : List ℕ) (go : Content → Told) (what : Told) → IsByLog names bytes go what → IsRecorded what.status → (d : Content) × IsContent d × (bytes ≡ file_bytes d) × (what ≡ go d)
+by-log : (names : FileNames) (bytes : List ℕ) (go : Content → Told) (what : Told) → IsByLog names bytes go what → IsRecorded what.status → (d : Content) × IsContent d × (what ≡ go d)
 by-log names bytes go what h is = by-says names bytes go what h.says h.reads h.is is
   where
-    by-says : (names : FileNames) (bytes : List ℕ) (go : Content → Told) (what : Told) (says : Result Content FileError) → Reads bytes says → what ≡ by_log names go says → IsRecorded what.status
-        → (d : Content) × IsContent d × (bytes ≡ file_bytes d) × (what ≡ go d)
-    by-says names bytes go what (Ok d) reads e is = (d, reads.0, reads.1, e)
+    by-says : (names : FileNames) (bytes : List ℕ) (go : Content → Told) (what : Told) (says : Result Content Damage) → Reads bytes says → what ≡ by_log names go says → IsRecorded what.status
+        → (d : Content) × IsContent d × (what ≡ go d)
+    by-says names bytes go what (Ok d) reads e is = (d, reads.0, e)
     by-says names bytes go what (Err x) reads e is = absurd (refused-apart names (LogRefused x) what e is)
 
 -- and by its program
@@ -67,21 +69,28 @@ by-turns names what None Agree e is = (refl, refl)
 same-file : VerdictsAreUnique → (file log : List ℕ) → verdict_of file log ≡ Agree → log ≡ file
 same-file law file log e = subst (λ (v : Verdict). IsVerdict file log v) e (law.is file log)
 
+-- the file that a log is compared with is the run's own, or that in version 2
+of-version : (second : Bool) (there : Option (List ℕ)) (c : RawSettings) (i : Program) (digest input turns : List ℕ) → there ≡ Some (audit_file second c i digest input turns)
+    → (there ≡ Some (file_of c i digest input turns)) ⊎ (there ≡ Some (version2_of c i digest input turns))
+of-version true there c i digest input turns e = inr e
+of-version false there c i digest input turns e = inl e
+
 agrees : AuditLaws → (log elf book : List ℕ) (input : Option (List ℕ)) (files : Files) (what : Told) → IsAudit files (names_in (AuditLine log elf book input)) (is_some input) what → IsRecorded what.status → Agrees log elf book input files
 unfolding WithFile
 agrees laws log elf book input files what h is =
     let names = names_in (AuditLine log elf book input) in
     let has = is_some input in
-    let l = by-file (files log) names role.Log 268500992 (λ log what. IsAuditIn files names has log what) what h is in
+    let l = by-file (files log) names role.Log 272629760 (λ log what. IsAuditIn files names has log what) what h is in
     let e = by-file (files elf) names role.Elf 67108864 (λ elf what. IsAuditBy files names has l.0 elf what) what l.2 is in
     let b = by-file (files book) names role.Book 1073741824 (λ book what. IsAuditWith files names has l.0 e.0 book what) what e.2 is in
     let i = by-input input elf log book files (IsAuditOf names l.0 e.0 b.0) what b.2 is in
     let go = audited names l.0 b.0 i.0 in
     let d = by-log names l.0 (pair_of go names e.0) what i.2 is in
     let c = d.0.head.settings in
-    let p = by-program go names e.0 d.0 what (bytes_eq (sha256 e.0) d.0.head.digest) (image_of e.0 c) refl refl d.3 is in
+    let p = by-program go names e.0 d.0 what (bytes_eq (sha256 e.0) d.0.head.digest) (image_of e.0 c) refl refl d.2 is in
     let program = p.1.0 in
-    let file = file_of c program d.0.head.digest i.0 b.0 in
+    let second = is_second l.0 in
+    let file = audit_file second c program d.0.head.digest i.0 b.0 in
     let t = by-turns names what (list_error c program i.0 b.0) (verdict_of file l.0) p.1.2 is in
     let began : Began = record { image = program; settings = c; input = i.0; digest = d.0.head.digest } in
     let ends = (laws.errors began b.0).0 t.0 in
@@ -101,7 +110,8 @@ agrees laws log elf book input files what h is =
       setting = d.1.settings;
       loaded = p.1.1;
       whole = record { legal = ends.0; over = ends.1 };
-      log_there = l.1 ∙ ap (λ (bytes : List ℕ). Some bytes) (same-file laws.verdicts file l.0 t.1 ∙ ap (λ (x : List ℕ). file_of c program x i.0 b.0) (sym digest));
+      log_there = of-version second (files log) c program (sha256 e.0) i.0 b.0
+          (l.1 ∙ ap (λ (bytes : List ℕ). Some bytes) (same-file laws.verdicts file l.0 t.1 ∙ ap (λ (x : List ℕ). audit_file second c program x i.0 b.0) (sym digest)));
     }
 
 pub audits-agree : AuditLaws → AuditsAgree
@@ -124,6 +134,10 @@ audits-done law (Some (CheckLine log)) files status k a = tt
 audits-done law (Some (AuditLine log elf book input)) files status k (inl (what, is, tells)) = λ done.
     law log elf book input files what is (zero-told (AuditLine log elf book input) what status k tells done)
 audits-done law (Some (AuditLine log elf book input)) files status k (inr early) = λ done. absurd (free-apart status (early-free (Some (AuditLine log elf book input)) files status k early) (inl done))
+audits-done law (Some (RacesLine log elf most)) files status k a = tt
+audits-done law (Some (SliceLine log elf hart interval ic)) files status k a = tt
+audits-done law (Some (ConvertLine log copy)) files status k a = tt
+audits-done law (Some (SalvageLine log copy)) files status k a = tt
 audits-done law (Some (DemoLine seed)) files status k a = tt
 
 pub call-audits : AuditsAgree → (line : Option Line) (status : ℕ) (k : Call) → TellsAnswer line status k → WithFiles k.old.files (λ files. AuditsRun line files status)

@@ -2,17 +2,17 @@
 use Rattle.std.proofs.Common.{◌≡◌, ◌≢◌, ℕ, Bool, true, false, List, Option, Some, None, ◌∙◌, subst, refl, arith, inl, inr}
 use Rattle.bn_outside.specs.Counts.{Counts}
 use Rattle.bn_outside.specs.Files.{Files}
-use Rattle.command_words.specs.Words.{Line, RecordLine, ReplayLine, JointLine, DebugLine, ListLine, CheckLine, AuditLine, DemoLine}
-use Rattle.bugnet.specs.Asks.{SavedAll, SavesEach, AtMostSaves, AnswerSaves, LineSaves, RecordsRun, is_lean}
-use Rattle.bugnet.specs.Laws.{IsNoRecording}
+use Rattle.command_words.specs.Words.{Line, RecordLine, ReplayLine, JointLine, DebugLine, ListLine, CheckLine, AuditLine, RacesLine, SliceLine, ConvertLine, SalvageLine, DemoLine}
+use Rattle.bugnet.specs.Asks.{SavedAll, SavesEach, AtMostSaves, AnswerSaves, LineSaves, RecordsRun, IsRenewed, is_lean}
+use Rattle.bugnet.specs.Laws.{IsReadOnly}
 use Rattle.bugnet.specs.Names.{FileNames}
 use Rattle.bugnet.specs.Outside.{ToldRefusal, Unsaved, IsPrinted}
 use Rattle.bugnet.specs.Saves.{IsRecorded}
 use Rattle.bugnet.specs.Told.{Saved}
 use Rattle.bugnet.specs.declared.answer.Answer.{Answer}
-use Rattle.bugnet.specs.declared.answer.Answer.TheVariants.{Recorded, Interval, Joined, Listed, Checked, Agreed, Demonstrated}
+use Rattle.bugnet.specs.declared.answer.Answer.TheVariants.{Recorded, Interval, Joined, Listed, Checked, Agreed, Renewed, Shown, Halted}
 use Rattle.bugnet.specs.declared.refusal.Refusal.{Refusal}
-use Rattle.bugnet.specs.declared.refusal.Refusal.TheVariants.{WordsRefused, OutOfRange, SameName, StoreFailed, Missing, TooLong, ElfRefused, LogRefused, ProgramDiffers, OutOfMemory, WriteFailed, ReplayStopped, ReadFailed, LineTooLong, CommandsTooLong, BookRefused, FileDiffers}
+use Rattle.bugnet.specs.declared.refusal.Refusal.TheVariants.{WordsRefused, OutOfRange, SameName, StoreFailed, Missing, TooLong, ElfRefused, LogRefused, ProgramDiffers, OutOfMemory, WriteFailed, ReplayStopped, ReadFailed, LineTooLong, CommandsTooLong, BookRefused, FileDiffers, NothingLeft, TooManyRaces, NoRow}
 use Rattle.bugnet.proofs.Leaves.{told-apart}
 
 -- neither a recording that is done, nor one whose texts a write refused
@@ -43,6 +43,9 @@ unsaved-write saved names old new before now LineTooLong status err_old err_new 
 unsaved-write saved names old new before now CommandsTooLong status err_old err_new m n u (inl h) = absurd u
 unsaved-write saved names old new before now (BookRefused x) status err_old err_new m n u (inl h) = absurd u
 unsaved-write saved names old new before now (FileDiffers place) status err_old err_new m n u (inl h) = absurd u
+unsaved-write saved names old new before now NothingLeft status err_old err_new m n u (inl h) = absurd u
+unsaved-write saved names old new before now (TooManyRaces most) status err_old err_new m n u (inl h) = absurd u
+unsaved-write saved names old new before now (NoRow ic) status err_old err_new m n u (inl h) = absurd u
 unsaved-write saved names old new before now r status err_old err_new m n u (inr h) = no-write status 9 h.0 (λ e. omega (arith, e))
 
 -- nor is that of want of memory
@@ -76,6 +79,10 @@ line-none (Some (DebugLine log elf)) status before after never same = same
 line-none (Some (ListLine log)) status before after never same = same
 line-none (Some (CheckLine log)) status before after never same = same
 line-none (Some (AuditLine log elf book input)) status before after never same = same
+line-none (Some (RacesLine log elf most)) status before after never same = same
+line-none (Some (SliceLine log elf hart interval ic)) status before after never same = same
+line-none (Some (ConvertLine log copy)) status before after never same = record { few = inl same; all = λ is. absurd (never is) }
+line-none (Some (SalvageLine log copy)) status before after never same = record { few = inl same; all = λ is. absurd (never is) }
 line-none (Some (DemoLine seed)) status before after never same = same
 
 printed : (answer : Answer) (status before mid after : ℕ) → IsPrinted answer → mid ≡ before → AnswerSaves answer status mid after → after ≡ before
@@ -85,10 +92,24 @@ printed (Joined r) status before mid after p same saves = saves ∙ same
 printed (Listed d) status before mid after p same saves = saves ∙ same
 printed (Checked d) status before mid after p same saves = saves ∙ same
 printed Agreed status before mid after p same saves = saves ∙ same
-printed (Demonstrated lines) status before mid after p same saves = saves ∙ same
+printed (Renewed n) status before mid after p same saves = absurd p
+printed (Shown text) status before mid after p same saves = saves ∙ same
+printed (Halted error) status before mid after p same saves = saves ∙ same
+
+-- a log that was made of another
+renewed : (answer : Answer) (status before mid after : ℕ) → IsRenewed answer → mid ≡ before → AnswerSaves answer status mid after → SavesEach true status before after
+renewed (Recorded r) status before mid after is same saves = absurd is
+renewed (Interval r) status before mid after is same saves = absurd is
+renewed (Joined r) status before mid after is same saves = absurd is
+renewed (Listed d) status before mid after is same saves = absurd is
+renewed (Checked d) status before mid after is same saves = absurd is
+renewed Agreed status before mid after is same saves = absurd is
+renewed (Renewed n) status before mid after is same saves = subst (λ (m : ℕ). SavesEach true status m after) same saves
+renewed (Shown text) status before mid after is same saves = absurd is
+renewed (Halted error) status before mid after is same saves = absurd is
 
 -- a line whose answer was acted on
-pub line-acts : (line : Line) (answer : Answer) (status before mid after : ℕ) → RecordsRun line answer → (IsNoRecording (Some line) → IsPrinted answer) → mid ≡ before
+pub line-acts : (line : Line) (answer : Answer) (status before mid after : ℕ) → RecordsRun line answer → (IsReadOnly (Some line) → IsPrinted answer) → mid ≡ before
     → AnswerSaves answer status mid after → LineSaves (Some line) status before after
 line-acts (RecordLine r) (Recorded x) status before mid after records prints same saves = subst (λ (lean : Bool). SavesEach lean status before after) records (subst (λ (n : ℕ). SavesEach (is_lean x) status n after) same saves)
 line-acts (RecordLine r) (Interval x) status before mid after records prints same saves = absurd records
@@ -96,11 +117,17 @@ line-acts (RecordLine r) (Joined x) status before mid after records prints same 
 line-acts (RecordLine r) (Listed d) status before mid after records prints same saves = absurd records
 line-acts (RecordLine r) (Checked d) status before mid after records prints same saves = absurd records
 line-acts (RecordLine r) Agreed status before mid after records prints same saves = absurd records
-line-acts (RecordLine r) (Demonstrated lines) status before mid after records prints same saves = absurd records
+line-acts (RecordLine r) (Renewed n) status before mid after records prints same saves = absurd records
+line-acts (RecordLine r) (Shown text) status before mid after records prints same saves = absurd records
+line-acts (RecordLine r) (Halted error) status before mid after records prints same saves = absurd records
 line-acts (ReplayLine log elf hart interval) answer status before mid after records prints same saves = printed answer status before mid after (prints tt) same saves
 line-acts (JointLine log elf) answer status before mid after records prints same saves = printed answer status before mid after (prints tt) same saves
 line-acts (DebugLine log elf) answer status before mid after records prints same saves = printed answer status before mid after (prints tt) same saves
 line-acts (ListLine log) answer status before mid after records prints same saves = printed answer status before mid after (prints tt) same saves
 line-acts (CheckLine log) answer status before mid after records prints same saves = printed answer status before mid after (prints tt) same saves
 line-acts (AuditLine log elf book input) answer status before mid after records prints same saves = printed answer status before mid after (prints tt) same saves
+line-acts (RacesLine log elf most) answer status before mid after records prints same saves = printed answer status before mid after (prints tt) same saves
+line-acts (SliceLine log elf hart interval ic) answer status before mid after records prints same saves = printed answer status before mid after (prints tt) same saves
+line-acts (ConvertLine log copy) answer status before mid after records prints same saves = renewed answer status before mid after records same saves
+line-acts (SalvageLine log copy) answer status before mid after records prints same saves = renewed answer status before mid after records same saves
 line-acts (DemoLine seed) answer status before mid after records prints same saves = printed answer status before mid after (prints tt) same saves

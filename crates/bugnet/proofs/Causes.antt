@@ -10,7 +10,7 @@ use Rattle.bugnet.specs.Refusals.{status_of, replay_status}
 use Rattle.bugnet.specs.Outside.{ToldRefusal, RefusalCause, CauseBy}
 use Rattle.bugnet.specs.Run.{Call, IsByWords}
 use Rattle.bugnet.specs.declared.refusal.Refusal.{Refusal}
-use Rattle.bugnet.specs.declared.refusal.Refusal.TheVariants.{WordsRefused, OutOfRange, SameName, StoreFailed, Missing, TooLong, ElfRefused, LogRefused, ProgramDiffers, OutOfMemory, WriteFailed, ReplayStopped, ReadFailed, LineTooLong, CommandsTooLong, BookRefused, FileDiffers}
+use Rattle.bugnet.specs.declared.refusal.Refusal.TheVariants.{WordsRefused, OutOfRange, SameName, StoreFailed, Missing, TooLong, ElfRefused, LogRefused, ProgramDiffers, OutOfMemory, WriteFailed, ReplayStopped, ReadFailed, LineTooLong, CommandsTooLong, BookRefused, FileDiffers, NothingLeft, TooManyRaces, NoRow}
 
 -- the statuses of the store come where its counts rose, and this isn't that of a write or of a read
 pub record Causes (before now : Counts) (status : ℕ) : Type 0 where
@@ -76,6 +76,9 @@ by-files before now LineTooLong status c h = absurd c
 by-files before now CommandsTooLong status c h = absurd c
 by-files before now (BookRefused x) status c h = high before now status 17 h (omega arith) (λ e. omega (arith, e)) (λ e. omega (arith, e))
 by-files before now (FileDiffers place) status c h = high before now status 16 h (omega arith) (λ e. omega (arith, e)) (λ e. omega (arith, e))
+by-files before now NothingLeft status c h = high before now status 19 h (omega arith) (λ e. omega (arith, e)) (λ e. omega (arith, e))
+by-files before now (TooManyRaces most) status c h = high before now status 20 h (omega arith) (λ e. omega (arith, e)) (λ e. omega (arith, e))
+by-files before now (NoRow ic) status c h = high before now status 21 h (omega arith) (λ e. omega (arith, e)) (λ e. omega (arith, e))
 
 memory : (before now : Counts) (status : ℕ) → status ≡ 9 → Caused before now status
 memory before now status h = high before now status 9 h (omega arith) (λ e. omega (arith, e)) (λ e. omega (arith, e))

@@ -1,5 +1,5 @@
 -- Where a command has an answer, and where it is done.
-use Rattle.std.proofs.Common.{◌≡◌, ◌≤◌, ℕ, Bool, true, false, nat_lt, List, [], length, Option, Some, None, ap, subst, sym, refl, arith, inl, inr, ◌⊎◌, ◌∙◌, ◌≢◌}
+use Rattle.std.proofs.Common.{◌≡◌, ◌≤◌, ℕ, Bool, true, false, nat_lt, List, [], length, Option, Some, None, ap, subst, sym, refl, arith, inl, inr, ◌⊎◌, ◌∙◌}
 use Rattle.std.specs.Prelude.{Result, Ok, Err, IfSome, is_some, unwrap_or}
 use Rattle.sha2.specs.Sha256.{sha256}
 use Rattle.bn_base.specs.Programs.{Program}
@@ -7,23 +7,25 @@ use Rattle.bn_base.specs.Ranges.{first_bad}
 use Rattle.bn_base.specs.declared.settings.BadSetting.{BadSetting}
 use Rattle.bn_base.specs.declared.settings.RawSettings.{RawSettings}
 use Rattle.bn_outside.specs.Files.{Files}
-use Rattle.command_words.specs.Words.{Line, RecordingLine, RecordLine, ReplayLine, JointLine, DebugLine, ListLine, CheckLine, AuditLine, DemoLine}
+use Rattle.command_words.specs.Words.{Line, RecordingLine, RecordLine, ReplayLine, JointLine, DebugLine, ListLine, CheckLine, AuditLine, RacesLine, SliceLine, ConvertLine, SalvageLine, DemoLine}
 use Rattle.elf_loader.specs.Loaded.{image_of}
 use Rattle.elf_loader.specs.declared.error.ElfError.{ElfError}
 use Rattle.log_order.specs.Content.{Content, IsContent}
 use Rattle.le_numbers.specs.Numbers.{AreBytes}
-use Rattle.log_file.specs.File.{IsRefusal}
-use Rattle.log_file.specs.Layout.{file_bytes}
-use Rattle.log_file.specs.Readings.{AreReadOrRefused}
-use Rattle.log_file.specs.declared.error.FileError.TheVariants as file
-use Rattle.log_file.specs.declared.error.FileError.{FileError}
+use Rattle.log_file.specs.Layout.{file_bytes, file_bytes2}
+use Rattle.log_blocks.specs.Faults.{is_second}
+use Rattle.log_blocks.specs.Laws.{NameTheirVersion, AreFew}
+use Rattle.log_blocks.specs.Laws as of_second
+use Rattle.log_blocks.specs.Readings.{Reads, Salvages, AreReadOrRefused, AreSalvagedOrRefused, WholeAreSalvaged}
+use Rattle.log_blocks.specs.declared.damage.Damage.{Damage}
+use Rattle.log_blocks.specs.declared.damage.SalvageError.{SalvageError}
 use Rattle.hart_replay.specs.Replay.{Interval}
 use Rattle.run_model.specs.Files.{file_of, content_of}
 use Rattle.replay_laws.specs.Law.{LogSuffices}
 use Rattle.bugnet.specs.Names.{FileNames, no_names, name_of}
 use Rattle.demo_run.specs.Demonstration.{demo_text}
 use Rattle.bugnet.specs.Told.{Told, refused, printed}
-use Rattle.bugnet.specs.Commands.{is_clash, Either, IsByFile, WithFile, Reads, by_log, IsByLog, list_of, check_of, replay_of, IsReplayOf, IsReplay, IsByInput, IsByProgram, IsByNames, IsBySettings, IsRecord}
+use Rattle.bugnet.specs.Commands.{is_clash, Either, IsByFile, WithFile, by_log, IsByLog, list_of, check_of, replay_of, IsReplayOf, IsReplay, IsByInput, IsByProgram, IsByNames, IsBySettings, IsRecord}
 use Rattle.bugnet.specs.Recordings.{end_status, told_run, recorded, AreTaken, IsRunOf, IsUntold, IsRunBy, IsRun}
 use Rattle.run_model.specs.Turn.{Run}
 use Rattle.run_model.specs.Runs.{start, run_of, is_over, seeded}
@@ -32,7 +34,8 @@ use Rattle.run_laws.specs.Laws.{TurnsAreLawful, TurnsAreOwn, OwnRowsAreTurns}
 use Rattle.file_laws.specs.Given.{IsRecording}
 use Rattle.file_laws.specs.Laws.{LogsAreContents}
 use Rattle.bugnet.specs.Answers.{names_in, names_by, manner_of, IsAnswer}
-use Rattle.bugnet.specs.Audits.{verdict_told, turns_told, audited, IsAuditOf, IsAuditWith, IsAuditBy, IsAuditIn, IsAudit, Agrees}
+use Rattle.bugnet.specs.Renewing.{renewed, by_salvage, IsBySalvage, IsByOrigin}
+use Rattle.bugnet.specs.Audits.{version2_of, audit_file, verdict_told, turns_told, audited, IsAuditOf, IsAuditWith, IsAuditBy, IsAuditIn, IsAudit, Agrees}
 use Rattle.bugnet.specs.Texts.{agree_text}
 use Rattle.run_model.specs.Lists.{list_error}
 use Rattle.run_model.specs.Audits.{verdict_of}
@@ -48,10 +51,19 @@ use Rattle.bugnet.specs.Headline.{Part, ReplaysRun}
 use Rattle.bugnet.specs.Outside.{WithFiles}
 use Rattle.bugnet.specs.Run.{Call, IsFree, Tells, StoppedEarly, SomeTold, TellsAnswer}
 use Rattle.bugnet.specs.Saves.{IsRecorded, input_by, HoldsBytes}
-use Rattle.bugnet.specs.Joined.{joint_status, ran_told, joint_with, CanJoin}
+use Rattle.bugnet.specs.Joined.{joint_status, ran_told, joined, joint_with, CanJoin}
+use Rattle.race_report.specs.Races.{race_count, races_of}
+use Rattle.race_report.specs.Reports.{points_in}
+use Rattle.joint_replay.specs.declared.error.JointError.{JointError}
+use Rattle.joint_replay.specs.Joining.{Ran, run_all}
+use Rattle.slice_back.specs.Texts.{text_of}
+use Rattle.slice_back.specs.declared.error.SliceError.{SliceError}
+use Rattle.slice_back.specs.declared.lists.Slice.{Slice}
+use Rattle.bugnet.specs.Racing.{races_listed, races_unless, races_with, CanRace}
+use Rattle.bugnet.specs.Slicing.{slice_told, slice_with, CanSlice}
 use Rattle.bugnet.specs.Pairs.{ByPair, pair_loaded, pair_same, pair_of, IsPairOf, IsPair, ArePair}
 use Rattle.bugnet.specs.Sessions.{Commands, debug_with, session_status, session_told, IsSession, CanDebug}
-use Rattle.bugnet.specs.Complete.{EachHasAnAnswer, HasProgram, CanRecord, HasLog, CanBeDone, EachCanBeDone, IsDone}
+use Rattle.bugnet.specs.Complete.{EachHasAnAnswer, HasProgram, CanRecord, HasLog, HasContent, HasSecond, CanBeDone, EachCanBeDone, IsDone}
 use Rattle.bugnet.specs.Laws.{OneAnswer, OneSession, AreAlike, SeedsAreWhole}
 use Rattle.bugnet.specs.declared.answer.RunEnd.{RunEnd}
 use Rattle.bugnet.specs.declared.answer.RunEnd.TheVariants as ends
@@ -60,7 +72,7 @@ use Rattle.bugnet.specs.declared.names.Role.{Role}
 use Rattle.bugnet.specs.declared.names.Role.TheVariants as role
 use Rattle.bugnet.specs.declared.refusal.Refusal.TheVariants.{WordsRefused, OutOfRange, SameName, Missing, TooLong, ElfRefused}
 use Rattle.bugnet.proofs.Tested.{in-range}
-use Rattle.bugnet.proofs.Loads.{by-bytes}
+use Rattle.bugnet.proofs.Loads.{by-bytes, fits}
 use Rattle.bugnet.proofs.Suffices.{FileLaws, file-size, by-file, answer, Together}
 use Rattle.bugnet.proofs.Tells.{with-files, stopped-free, early-free}
 
@@ -87,19 +99,23 @@ any-there None P h = tt
 any-there (Some bytes) P h = h bytes
 
 -- what a log says, or why it is refused
-reading : AreReadOrRefused → (bytes : List ℕ) → AreBytes bytes → (says : Result Content FileError) × Reads bytes says
-reading law bytes are = by (law in-range bytes are)
-  where
-    by : ((d : Content) × IsContent d × (bytes ≡ file_bytes d)) ⊎ ((e : FileError) × IsRefusal bytes e × (e ≢ file.OutOfMemory)) → (says : Result Content FileError) × Reads bytes says
-    by (inl h) = (Ok h.0, (h.1, h.2))
-    by (inr h) = (Err h.0, (h.1, h.2))
-
-read-there : AreReadOrRefused → (there : Option (List ℕ)) (P : List ℕ → Type 0) → ((bytes : List ℕ) (says : Result Content FileError) → Reads bytes says → P bytes) → HoldsBytes there → IfSome there P
+read-there : AreReadOrRefused → (there : Option (List ℕ)) (P : List ℕ → Type 0) → ((bytes : List ℕ) (says : Result Content Damage) → Reads bytes says → P bytes) → HoldsBytes there → IfSome there P
 read-there law None P h are = tt
-read-there law (Some bytes) P h are = let r = reading law bytes are in h bytes r.0 r.1
+read-there law (Some bytes) P h are = let r = law in-range bytes are in h bytes r.0 r.1
 
-some-log : (names : FileNames) (bytes : List ℕ) (go : Content → Told) (says : Result Content FileError) → Reads bytes says → Some-told (IsByLog names bytes go)
+salvage-there : AreSalvagedOrRefused → (there : Option (List ℕ)) (P : List ℕ → Type 0) → ((bytes : List ℕ) (says : Result Content SalvageError) → Salvages bytes says → P bytes) → HoldsBytes there → IfSome there P
+salvage-there law None P h are = tt
+salvage-there law (Some bytes) P h are = let r = law in-range bytes are in h bytes r.0 r.1
+
+some-log : (names : FileNames) (bytes : List ℕ) (go : Content → Told) (says : Result Content Damage) → Reads bytes says → Some-told (IsByLog names bytes go)
 some-log names bytes go says reads = (by_log names go says, record { says = says; reads = reads; is = refl })
+
+some-salvage : (names : FileNames) (bytes : List ℕ) (says : Result Content SalvageError) → Salvages bytes says → Some-told (IsBySalvage names bytes)
+some-salvage names bytes says h = (by_salvage names says, record { says = says; salvages = h; is = refl })
+
+some-origin : (same : Bool) (files : Files) (names : FileNames) (Go : List ℕ → Told → Type 0) → IfSome (files names.origin) (λ bytes. Some-told (Go bytes)) → Some-told (IsByOrigin same files names Go)
+some-origin true files names Go go = (refused names SameName, refl)
+some-origin false files names Go go = some-file files names role.Origin 272629760 Go go
 
 -- the laws of rows
 pub record RowLaws : Type 0 where
@@ -176,39 +192,47 @@ some-settings laws None files names c how has ok bytes = some-names laws (is_cla
 
 some-pair : AreReadOrRefused → (go : ByPair) (files : Files) (names : FileNames) → HoldsBytes (files names.log) → Some-told (IsPair go files names)
 some-pair law go files names read =
-    some-file files names role.Log 268500992 (λ log what. IsPairOf go files names log what)
+    some-file files names role.Log 272629760 (λ log what. IsPairOf go files names log what)
     (read-there law (files names.log) _ (λ bytes says reads. some-file files names role.Elf 67108864 (λ elf what. IsByLog names bytes (pair_of go names elf) what)
     (any-there (files names.elf) _ (λ program. some-log names bytes (pair_of go names program) says reads))) read)
 
 some-audit : AreReadOrRefused → (files : Files) (names : FileNames) (has : Bool) → HoldsBytes (files names.log) → Some-told (IsAudit files names has)
 some-audit law files names has read =
-    some-file files names role.Log 268500992 (λ log what. IsAuditIn files names has log what)
+    some-file files names role.Log 272629760 (λ log what. IsAuditIn files names has log what)
     (read-there law (files names.log) _ (λ bytes says reads. some-file files names role.Elf 67108864 (λ elf what. IsAuditBy files names has bytes elf what)
     (any-there (files names.elf) _ (λ elf. some-file files names role.Book 1073741824 (λ book what. IsAuditWith files names has bytes elf book what)
     (any-there (files names.book) _ (λ book. some-input has files names (IsAuditOf names bytes elf book) (λ input. some-log names bytes (pair_of (audited names bytes book input) names elf) says reads)))))) read)
 
-pub some-answer : RowLaws → AreReadOrRefused → EachHasAnAnswer
-some-answer laws law None files read = (refused no_names WordsRefused, refl)
-some-answer laws law (Some (RecordLine r)) files read = some-settings laws (first_bad r.settings) files (names_in (RecordLine r)) r.settings (manner_of r) (is_some r.input) refl read
-some-answer laws law (Some (ReplayLine log elf hart interval)) files read =
+pub some-answer : RowLaws → AreReadOrRefused → AreSalvagedOrRefused → EachHasAnAnswer
+some-answer laws law salvages None files read = (refused no_names WordsRefused, refl)
+some-answer laws law salvages (Some (RecordLine r)) files read = some-settings laws (first_bad r.settings) files (names_in (RecordLine r)) r.settings (manner_of r) (is_some r.input) refl read
+some-answer laws law salvages (Some (ReplayLine log elf hart interval)) files read =
     let names = names_in (ReplayLine log elf hart interval) in
-    some-file files names role.Log 268500992 (λ log what. IsReplayOf files names hart interval log what)
+    some-file files names role.Log 272629760 (λ log what. IsReplayOf files names hart interval log what)
     (read-there law (files log) _ (λ bytes says reads. some-file files names role.Elf 67108864 (λ elf what. IsByLog names bytes (replay_of names hart interval elf) what)
     (any-there (files elf) _ (λ program. some-log names bytes (replay_of names hart interval program) says reads))) read)
-some-answer laws law (Some (JointLine log elf)) files read = let names = names_in (JointLine log elf) in some-pair law (joint_with names) files names read
-some-answer laws law (Some (DebugLine log elf)) files read =
+some-answer laws law salvages (Some (JointLine log elf)) files read = let names = names_in (JointLine log elf) in some-pair law (joint_with names) files names read
+some-answer laws law salvages (Some (DebugLine log elf)) files read =
     let names = names_in (DebugLine log elf) in
     let none : Commands = record { bytes = []; failed = false } in
     let some = some-pair law (debug_with names none) files names read in
     (some.0, (none, some.1))
-some-answer laws law (Some (ListLine log)) files read =
+some-answer laws law salvages (Some (ListLine log)) files read =
     let names = names_in (ListLine log) in
-    some-file files names role.Log 268500992 (λ log what. IsByLog names log list_of what) (read-there law (files log) _ (λ bytes says reads. some-log names bytes list_of says reads) read)
-some-answer laws law (Some (CheckLine log)) files read =
+    some-file files names role.Log 272629760 (λ log what. IsByLog names log list_of what) (read-there law (files log) _ (λ bytes says reads. some-log names bytes list_of says reads) read)
+some-answer laws law salvages (Some (CheckLine log)) files read =
     let names = names_in (CheckLine log) in
-    some-file files names role.Log 268500992 (λ log what. IsByLog names log check_of what) (read-there law (files log) _ (λ bytes says reads. some-log names bytes check_of says reads) read)
-some-answer laws law (Some (AuditLine log elf book input)) files read = some-audit law files (names_in (AuditLine log elf book input)) (is_some input) read
-some-answer laws law (Some (DemoLine seed)) files read = (printed (demo_text seed), refl)
+    some-file files names role.Log 272629760 (λ log what. IsByLog names log check_of what) (read-there law (files log) _ (λ bytes says reads. some-log names bytes check_of says reads) read)
+some-answer laws law salvages (Some (AuditLine log elf book input)) files read = some-audit law files (names_in (AuditLine log elf book input)) (is_some input) read
+some-answer laws law salvages (Some (RacesLine log elf most)) files read = let names = names_in (RacesLine log elf most) in some-pair law (races_with names most) files names read
+some-answer laws law salvages (Some (SliceLine log elf hart interval ic)) files read = let names = names_in (SliceLine log elf hart interval ic) in some-pair law (slice_with names hart interval ic) files names read
+some-answer laws law salvages (Some (ConvertLine log copy)) files read =
+    let names = names_in (ConvertLine log copy) in
+    some-origin (bytes_eq log copy) files names (λ log what. IsByLog names log renewed what) (read-there law (files log) _ (λ bytes says reads. some-log names bytes renewed says reads) read)
+some-answer laws law salvages (Some (SalvageLine log copy)) files read =
+    let names = names_in (SalvageLine log copy) in
+    some-origin (bytes_eq log copy) files names (λ log what. IsBySalvage names log what) (salvage-there salvages (files log) _ (λ bytes says h. some-salvage names bytes says h) read)
+some-answer laws law salvages (Some (DemoLine seed)) files read = (printed (demo_text seed), refl)
 
 -- ---- commands that can be done
 
@@ -242,7 +266,7 @@ unfolding WithFile
 of-file files names r limit bytes Go what e h is = by-file (files (name_of names r)) names r limit bytes Go what e h is
 
 abbrev names_with : Option (List ℕ) → (elf log book : List ℕ) → FileNames
-names_with there elf log book = record { elf = elf; log = log; book = book; input = unwrap_or there [] }
+names_with there elf log book = record { elf = elf; log = log; book = book; input = unwrap_or there []; origin = [] }
 
 with-input : (there : Option (List ℕ)) (elf log book : List ℕ) (files : Files) (Go : List ℕ → Told → Type 0) (input : List ℕ) (what : Told) → input_by there files ≡ Some input → length input ≤ 16777216
     → Go input what → IsByInput (is_some there) files (names_with there elf log book) Go what
@@ -281,14 +305,14 @@ is-record r files h what is =
     of-input r.input r.elf r.log r.book files (IsRun c h.program (sha256 h.elf) (manner_of r)) h.input what h.input_there h.input_small
     (subst (λ (i : Result Program ElfError). IsByProgram i files names c (manner_of r) has (sha256 h.elf) what) h.loaded program)
 
-can-log : FileLaws → (files : Files) (names : FileNames) (go : Content → Told) (h : HasLog (files names.log)) → (what : Told) × WithFile files names role.Log 268500992 (λ log what. IsByLog names log go what) what
+can-log : FileLaws → (files : Files) (names : FileNames) (go : Content → Told) (h : HasLog (files names.log)) → (what : Told) × WithFile files names role.Log 272629760 (λ log what. IsByLog names log go what) what
     × (what ≡ go (content_of h.settings (sha256 h.elf) (run_of h.settings h.program h.input h.turns)))
 can-log laws files names go h =
     let d = content_of h.settings (sha256 h.elf) (run_of h.settings h.program h.input h.turns) in
     let is : IsContent d = laws.contents h.settings h.program h.elf h.input h.turns h.recording in
     let one : h.settings.format ≡ 1 = omega (arith, h.recording.setting.format_low, h.recording.setting.format_high) in
     let there : files names.log ≡ Some (file_bytes d) = h.log ∙ ap (λ (bytes : List ℕ). Some bytes) (laws.version h.settings h.program (sha256 h.elf) h.input h.turns one) in
-    (go d, there-file files names role.Log 268500992 (file_bytes d) (λ log what. IsByLog names log go what) (go d) there (file-size laws d is) (record { says = Ok d; reads = (is, refl); is = refl }), refl)
+    (go d, there-file files names role.Log 272629760 (file_bytes d) (λ log what. IsByLog names log go what) (go d) there (file-size laws d is) (record { says = Ok d; reads = laws.read.first d is; is = refl }), refl)
 
 can-replay : LogSuffices → Together → FileLaws → (line : Option Line) (files : Files) (p : Part) (v : Interval) → ReplaysRun line files p v → length p.elf ≤ 67108864 → (what : Told) × IsAnswer line files what × IsRecorded what.status
 can-replay law stand laws line files p v r small =
@@ -299,9 +323,9 @@ can-replay law stand laws line files p v r small =
     let one : p.settings.format ≡ 1 = omega (arith, r.recording.setting.format_low, r.recording.setting.format_high) in
     let there : files r.log_name ≡ Some (file_bytes d) = r.log ∙ ap (λ (bytes : List ℕ). Some bytes) (laws.version p.settings p.program (sha256 p.elf) p.input p.turns one) in
     let elf : IsReplayOf files names p.hart p.number (file_bytes d) what =
-    there-file files names role.Elf 67108864 p.elf (λ elf what. IsByLog names (file_bytes d) (replay_of names p.hart p.number elf) what) what r.program small (record { says = Ok d; reads = (is, refl); is = refl }) in
+    there-file files names role.Elf 67108864 p.elf (λ elf what. IsByLog names (file_bytes d) (replay_of names p.hart p.number elf) what) what r.program small (record { says = Ok d; reads = laws.read.first d is; is = refl }) in
     let log : IsReplay files names p.hart p.number what =
-    there-file files names role.Log 268500992 (file_bytes d) (λ log what. IsReplayOf files names p.hart p.number log what) what there (file-size laws d is) elf in
+    there-file files names role.Log 272629760 (file_bytes d) (λ log what. IsReplayOf files names p.hart p.number log what) what there (file-size laws d is) elf in
     let done : IsRecorded what.status = inl (ap (λ (t : Told). t.status) (answer law stand names p v line files r)) in
     subst (λ (l : Option Line). (what : Told) × IsAnswer l files what × IsRecorded what.status) (sym r.command) (what, log, done)
 
@@ -319,13 +343,36 @@ can-pair laws go names files d i p =
     let what = go d i in
     let program : IsPairOf go files names (file_bytes d) what =
     there-file files names role.Elf 67108864 p.bytes (λ elf what. IsByLog names (file_bytes d) (pair_of go names elf) what) what p.elf_there p.elf_small
-    (record { says = Ok d; reads = (p.is, refl); is = sym (pair-told go names names.log names.elf files d i p) }) in
-    there-file files names role.Log 268500992 (file_bytes d) (λ log what. IsPairOf go files names log what) what p.log_there (file-size laws d p.is) program
+    (record { says = Ok d; reads = laws.read.first d p.is; is = sym (pair-told go names names.log names.elf files d i p) }) in
+    there-file files names role.Log 272629760 (file_bytes d) (λ log what. IsPairOf go files names log what) what p.log_there (file-size laws d p.is) program
 
 can-join : FileLaws → (log elf : List ℕ) (files : Files) → CanJoin log elf files → (what : Told) × IsAnswer (Some (JointLine log elf)) files what × IsRecorded what.status
 can-join laws log elf files h =
     let names = names_in (JointLine log elf) in
     (joint_with names h.content h.program, can-pair laws (joint_with names) names files h.content h.program h.pair, inl (join-status names log elf files h))
+
+-- races that aren't too many are listed
+race-status : (names : FileNames) (log elf : List ℕ) (most : ℕ) (files : Files) (h : CanRace log elf most files) → (races_with names most h.content h.program).status ≡ 0
+race-status names log elf most files h =
+    let r : Ran = run_all (joined h.content h.program) in
+    let harts = h.content.head.settings.harts in
+    ap (λ (o : Option JointError). (races_unless o names most harts r).status) h.goes_on
+    ∙ ap (λ (b : Bool). (races_listed b names most (races_of harts (points_in r))).status) (fits most (race_count (points_in r)) h.few)
+
+can-race : FileLaws → (log elf : List ℕ) (most : ℕ) (files : Files) → CanRace log elf most files → (what : Told) × IsAnswer (Some (RacesLine log elf most)) files what × IsRecorded what.status
+can-race laws log elf most files h =
+    let names = names_in (RacesLine log elf most) in
+    (races_with names most h.content h.program, can-pair laws (races_with names most) names files h.content h.program h.pair, inl (race-status names log elf most files h))
+
+-- a slice is printed
+can-slice : FileLaws → (log elf : List ℕ) (hart interval ic : ℕ) (files : Files) → CanSlice log elf hart interval ic files
+    → (what : Told) × IsAnswer (Some (SliceLine log elf hart interval ic)) files what × IsRecorded what.status
+can-slice laws log elf hart interval ic files h =
+    let names = names_in (SliceLine log elf hart interval ic) in (
+      slice_with names hart interval ic h.content h.program,
+      can-pair laws (slice_with names hart interval ic) names files h.content h.program h.pair,
+      inl (ap (λ (r : Result Slice SliceError). (slice_told names (text_of hart ic r)).status) h.is),
+    )
 
 -- a session that isn't stopped is done
 session-status : (names : FileNames) (c : Commands) (log elf : List ℕ) (files : Files) (h : CanDebug c log elf files) → (debug_with names c h.content h.program).status ≡ 0
@@ -334,34 +381,104 @@ session-status names c log elf files h = ap session_status h.goes_on
 
 -- the audit of a log that agrees is done
 audit-told : AuditLaws → (names : FileNames) (d : Content) (i : Program) (elf log book input : List ℕ) → bytes_eq (sha256 elf) d.head.digest ≡ true → image_of elf d.head.settings ≡ Ok i → list_error d.head.settings i input book ≡ None
-    → log ≡ file_of d.head.settings i d.head.digest input book → pair_of (audited names log book input) names elf d ≡ printed agree_text
+    → log ≡ audit_file (is_second log) d.head.settings i d.head.digest input book → pair_of (audited names log book input) names elf d ≡ printed agree_text
 audit-told laws names d i elf log book input same loaded none is =
     let go = audited names log book input in
-    let file = file_of d.head.settings i d.head.digest input book in
+    let file = audit_file (is_second log) d.head.settings i d.head.digest input book in
     let agree : verdict_of file log ≡ Agree = laws.verdicts.one file log (verdict_of file log) Agree (laws.verdicts.is file log) is in
     ap (λ (b : Bool). pair_same b go names elf d) same ∙ ap (λ (r : Result Program ElfError). pair_loaded go names d r) loaded
     ∙ ap (λ (o : Option TurnError). turns_told o names (verdict_of file log)) none ∙ ap (λ (v : Verdict). verdict_told names v) agree
 
-can-audit : FileLaws → AuditLaws → (log elf book : List ℕ) (input : Option (List ℕ)) (files : Files) (a : Agrees log elf book input files) → AreBytes a.bytes
-    → (what : Told) × IsAnswer (Some (AuditLine log elf book input)) files what × IsRecorded what.status
-can-audit laws audits log elf book input files a bytes =
+-- the laws of files of version 2
+pub record SecondLaws : Type 0 where
+  pub named : NameTheirVersion
+  pub sizes : of_second.HaveTheirSize
+  pub few : AreFew
+  pub whole : WholeAreSalvaged
+
+-- each is one that a command loads
+second-size : SecondLaws → (d : Content) → IsContent d → length (file_bytes2 d) ≤ 272629760
+second-size laws d is = omega (arith, laws.sizes d is, laws.few d is, is.bound, is.settings.log_size_high)
+
+-- what an audit's log says, in whatever version
+abbrev Audited : (log elf book : List ℕ) → Option (List ℕ) → Files → Type 0
+Audited log elf book input files = (what : Told) × IsAnswer (Some (AuditLine log elf book input)) files what × IsRecorded what.status
+
+abbrev log-in : {log elf book : List ℕ} {input : Option (List ℕ)} {files : Files} → Agrees log elf book input files → Content
+log-in a = content_of a.settings (sha256 a.bytes) (run_of a.settings a.program a.given a.turns)
+
+audited-by : AuditLaws → (log elf book : List ℕ) (input : Option (List ℕ)) (files : Files) (a : Agrees log elf book input files) (bytes : List ℕ) → files log ≡ Some bytes → length bytes ≤ 272629760
+    → Reads bytes (Ok (log-in a)) → bytes ≡ audit_file (is_second bytes) a.settings a.program (sha256 a.bytes) a.given a.turns → Audited log elf book input files
+audited-by audits log elf book input files a bytes there small reads is =
     let names = names_in (AuditLine log elf book input) in
     let has = is_some input in
     let digest = sha256 a.bytes in
-    let d = content_of a.settings digest (run_of a.settings a.program a.given a.turns) in
-    let is : IsContent d = laws.contents a.settings a.program a.bytes a.given a.turns (record { setting = a.setting; bytes = bytes; loaded = a.loaded; legal = a.whole.legal; over = a.whole.over }) in
-    let one : a.settings.format ≡ 1 = omega (arith, a.setting.format_low, a.setting.format_high) in
-    let same : file_of a.settings a.program digest a.given a.turns ≡ file_bytes d = laws.version a.settings a.program digest a.given a.turns one in
-    let there : files log ≡ Some (file_bytes d) = a.log_there ∙ ap (λ (bytes : List ℕ). Some bytes) same in
+    let d = log-in a in
     let began : Began = record { image = a.program; settings = a.settings; input = a.given; digest = digest } in
-    let what = pair_of (audited names (file_bytes d) a.turns a.given) names a.bytes d in
-    let told = audit-told audits names d a.program a.bytes (file_bytes d) a.turns a.given ((bytes_eq-Decides digest digest).1 refl) a.loaded ((audits.errors began a.turns).1 (a.whole.legal, a.whole.over)) (sym same) in
-    let read : IsAuditOf names (file_bytes d) a.bytes a.turns a.given what = record { says = Ok d; reads = (is, refl); is = refl } in
-    let given : IsAuditWith files names has (file_bytes d) a.bytes a.turns what = with-input input elf log book files (IsAuditOf names (file_bytes d) a.bytes a.turns) a.given what a.input_there a.input_small read in
-    let turns : IsAuditBy files names has (file_bytes d) a.bytes what = there-file files names role.Book 1073741824 a.turns (λ book what. IsAuditWith files names has (file_bytes d) a.bytes book what) what a.book_there a.book_small given in
-    let program : IsAuditIn files names has (file_bytes d) what = there-file files names role.Elf 67108864 a.bytes (λ elf what. IsAuditBy files names has (file_bytes d) elf what) what a.elf_there a.elf_small turns in
-    let whole : IsAudit files names has what = there-file files names role.Log 268500992 (file_bytes d) (λ log what. IsAuditIn files names has log what) what there (file-size laws d is) program in
+    let what = pair_of (audited names bytes a.turns a.given) names a.bytes d in
+    let told = audit-told audits names d a.program a.bytes bytes a.turns a.given ((bytes_eq-Decides digest digest).1 refl) a.loaded ((audits.errors began a.turns).1 (a.whole.legal, a.whole.over)) is in
+    let read : IsAuditOf names bytes a.bytes a.turns a.given what = record { says = Ok d; reads = reads; is = refl } in
+    let given : IsAuditWith files names has bytes a.bytes a.turns what = with-input input elf log book files (IsAuditOf names bytes a.bytes a.turns) a.given what a.input_there a.input_small read in
+    let turns : IsAuditBy files names has bytes a.bytes what = there-file files names role.Book 1073741824 a.turns (λ book what. IsAuditWith files names has bytes a.bytes book what) what a.book_there a.book_small given in
+    let program : IsAuditIn files names has bytes what = there-file files names role.Elf 67108864 a.bytes (λ elf what. IsAuditBy files names has bytes elf what) what a.elf_there a.elf_small turns in
+    let whole : IsAudit files names has what = there-file files names role.Log 272629760 bytes (λ log what. IsAuditIn files names has log what) what there small program in
     (what, whole, inl (ap (λ (t : Told). t.status) told))
+
+can-audit : FileLaws → SecondLaws → AuditLaws → (log elf book : List ℕ) (input : Option (List ℕ)) (files : Files) (a : Agrees log elf book input files) → AreBytes a.bytes → Audited log elf book input files
+can-audit laws seconds audits log elf book input files a bytes = by a.log_there
+  where
+    digest : List ℕ
+    digest = sha256 a.bytes
+
+    is : IsContent (log-in a)
+    is = laws.contents a.settings a.program a.bytes a.given a.turns (record { setting = a.setting; bytes = bytes; loaded = a.loaded; legal = a.whole.legal; over = a.whole.over })
+
+    same : file_of a.settings a.program digest a.given a.turns ≡ file_bytes (log-in a)
+    same = laws.version a.settings a.program digest a.given a.turns (omega (arith, a.setting.format_low, a.setting.format_high))
+
+    in-version : (second : Bool) (b : Bool) → b ≡ second → audit_file second a.settings a.program digest a.given a.turns ≡ audit_file b a.settings a.program digest a.given a.turns
+    in-version second b e = ap (λ (x : Bool). audit_file x a.settings a.program digest a.given a.turns) (sym e)
+
+    by : (files log ≡ Some (file_of a.settings a.program digest a.given a.turns)) ⊎ (files log ≡ Some (version2_of a.settings a.program digest a.given a.turns)) → Audited log elf book input files
+    by (inl there) = audited-by audits log elf book input files a (file_bytes (log-in a)) (there ∙ ap (λ (x : List ℕ). Some x) same) (file-size laws (log-in a) is) (laws.read.first (log-in a) is)
+        (sym same ∙ in-version false (is_second (file_bytes (log-in a))) (seconds.named (log-in a) is).1)
+    by (inr there) = audited-by audits log elf book input files a (file_bytes2 (log-in a)) there (second-size seconds (log-in a) is) (laws.read.second (log-in a) is)
+        (in-version true (is_second (file_bytes2 (log-in a))) (seconds.named (log-in a) is).0)
+
+-- ---- a log that is made of another
+
+of-origin : (files : Files) (names : FileNames) (bytes : List ℕ) (Go : List ℕ → Told → Type 0) (what : Told) → bytes_eq names.origin names.log ≡ false → files names.origin ≡ Some bytes → length bytes ≤ 272629760 → Go bytes what
+    → IsByOrigin (bytes_eq names.origin names.log) files names Go what
+of-origin files names bytes Go what apart there small go =
+    subst (λ (b : Bool). IsByOrigin b files names Go what) (sym apart) (there-file files names role.Origin 272629760 bytes Go what there small go)
+
+can-convert : FileLaws → SecondLaws → (log copy : List ℕ) (files : Files) → bytes_eq log copy ≡ false → HasContent (files log) → (what : Told) × IsAnswer (Some (ConvertLine log copy)) files what × IsRecorded what.status
+can-convert laws seconds log copy files apart h = by h.log
+  where
+    names : FileNames
+    names = names_in (ConvertLine log copy)
+
+    by : (files log ≡ Some (file_bytes h.content)) ⊎ (files log ≡ Some (file_bytes2 h.content)) → (what : Told) × IsAnswer (Some (ConvertLine log copy)) files what × IsRecorded what.status
+    by (inl there) = (
+      renewed h.content,
+      of-origin files names (file_bytes h.content) (λ log what. IsByLog names log renewed what) (renewed h.content) apart there (file-size laws h.content h.is) (record { says = Ok h.content; reads = laws.read.first h.content h.is; is = refl }),
+      inl refl,
+    )
+    by (inr there) = (
+      renewed h.content,
+      of-origin files names (file_bytes2 h.content) (λ log what. IsByLog names log renewed what) (renewed h.content) apart there (second-size seconds h.content h.is)
+          (record { says = Ok h.content; reads = laws.read.second h.content h.is; is = refl }),
+      inl refl,
+    )
+
+can-salvage : SecondLaws → (log copy : List ℕ) (files : Files) → bytes_eq log copy ≡ false → HasSecond (files log) → (what : Told) × IsAnswer (Some (SalvageLine log copy)) files what × IsRecorded what.status
+can-salvage seconds log copy files apart h =
+    let names = names_in (SalvageLine log copy) in (
+      renewed h.content,
+      of-origin files names (file_bytes2 h.content) (λ log what. IsBySalvage names log what) (renewed h.content) apart h.log (second-size seconds h.content h.is)
+          (record { says = Ok h.content; salvages = seconds.whole h.content h.is; is = refl }),
+      inl refl,
+    )
 
 -- a line of which one answer is done, and that has no other
 only-done : OneAnswer → (line : Line) (files : Files) (what : Told) → ((a b : Told) → AreAlike (Some line) a b) → IsAnswer (Some line) files what → IsRecorded what.status → CanBeDone line files
@@ -370,8 +487,8 @@ only-done one line files what alike is done = record {
   done = λ told other. subst (λ (t : Told). IsRecorded t.status) (one (Some line) files what told is other (alike what told)) done;
 }
 
-pub can-be-done : RowLaws → OneAnswer → LogSuffices → Together → FileLaws → AuditLaws → EachCanBeDone
-can-be-done rows one law stand laws audits (RecordLine r) files h =
+pub can-be-done : RowLaws → OneAnswer → LogSuffices → Together → FileLaws → SecondLaws → AuditLaws → EachCanBeDone
+can-be-done rows one law stand laws seconds audits (RecordLine r) files h =
     let how = manner_of r in
     record {
       answer = λ bytes.
@@ -379,23 +496,35 @@ can-be-done rows one law stand laws audits (RecordLine r) files h =
           (run.0, can-record r files h run.0 run.1);
       done = λ told is. run-recorded how.lean how.seed r.settings h.program (sha256 h.elf) how h.input told (is-record r files h told is);
     }
-can-be-done rows one law stand laws audits (ReplayLine log elf hart interval) files h =
+can-be-done rows one law stand laws seconds audits (ReplayLine log elf hart interval) files h =
     let l = can-replay law stand laws (Some (ReplayLine log elf hart interval)) files h.0 h.1 h.2 h.3 in
     only-done one (ReplayLine log elf hart interval) files l.0 (λ a b. tt) l.1 l.2
-can-be-done rows one law stand laws audits (JointLine log elf) files h =
+can-be-done rows one law stand laws seconds audits (JointLine log elf) files h =
     let l = can-join laws log elf files h in
     only-done one (JointLine log elf) files l.0 (λ a b. tt) l.1 l.2
-can-be-done rows one law stand laws audits (DebugLine log elf) files h = absurd h
-can-be-done rows one law stand laws audits (ListLine log) files h =
+can-be-done rows one law stand laws seconds audits (DebugLine log elf) files h = absurd h
+can-be-done rows one law stand laws seconds audits (ListLine log) files h =
     let l = can-log laws files (names_in (ListLine log)) list_of h in
     only-done one (ListLine log) files l.0 (λ a b. tt) l.1 (inl (ap (λ (t : Told). t.status) l.2))
-can-be-done rows one law stand laws audits (CheckLine log) files h =
+can-be-done rows one law stand laws seconds audits (CheckLine log) files h =
     let l = can-log laws files (names_in (CheckLine log)) check_of h in
     only-done one (CheckLine log) files l.0 (λ a b. tt) l.1 (inl (ap (λ (t : Told). t.status) l.2))
-can-be-done rows one law stand laws audits (AuditLine log elf book input) files h =
-    let l = can-audit laws audits log elf book input files h.0 h.1 in
+can-be-done rows one law stand laws seconds audits (AuditLine log elf book input) files h =
+    let l = can-audit laws seconds audits log elf book input files h.0 h.1 in
     only-done one (AuditLine log elf book input) files l.0 (λ a b. tt) l.1 l.2
-can-be-done rows one law stand laws audits (DemoLine seed) files h = only-done one (DemoLine seed) files (printed (demo_text seed)) (λ a b. tt) refl (inl refl)
+can-be-done rows one law stand laws seconds audits (RacesLine log elf most) files h =
+    let l = can-race laws log elf most files h in
+    only-done one (RacesLine log elf most) files l.0 (λ a b. tt) l.1 l.2
+can-be-done rows one law stand laws seconds audits (SliceLine log elf hart interval ic) files h =
+    let l = can-slice laws log elf hart interval ic files h in
+    only-done one (SliceLine log elf hart interval ic) files l.0 (λ a b. tt) l.1 l.2
+can-be-done rows one law stand laws seconds audits (ConvertLine log copy) files h =
+    let l = can-convert laws seconds log copy files h.0 h.1 in
+    only-done one (ConvertLine log copy) files l.0 (λ a b. tt) l.1 l.2
+can-be-done rows one law stand laws seconds audits (SalvageLine log copy) files h =
+    let l = can-salvage seconds log copy files h.0 h.1 in
+    only-done one (SalvageLine log copy) files l.0 (λ a b. tt) l.1 l.2
+can-be-done rows one law stand laws seconds audits (DemoLine seed) files h = only-done one (DemoLine seed) files (printed (demo_text seed)) (λ a b. tt) refl (inl refl)
 
 -- ---- a session
 

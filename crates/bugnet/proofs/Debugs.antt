@@ -6,7 +6,7 @@ use Rattle.std.proofs.KnownBytes.{Consumes-nil}
 use Rattle.bn_outside.specs.Counts.{Counts, Rose}
 use Rattle.bn_outside.specs.Files.{Files, WhereTold}
 use Rattle.bn_outside.specs.Streams.{AppendsPart, ConsumesAll}
-use Rattle.command_words.specs.Words.{Line, RecordLine, ReplayLine, JointLine, DebugLine, ListLine, CheckLine, AuditLine, DemoLine}
+use Rattle.command_words.specs.Words.{Line, RecordLine, ReplayLine, JointLine, DebugLine, ListLine, CheckLine, AuditLine, RacesLine, SliceLine, ConvertLine, SalvageLine, DemoLine}
 use Rattle.hart_replay.specs.declared.error.ReplayError.TheVariants as replay
 use Rattle.joint_replay.specs.declared.error.JointError.{JointError}
 use Rattle.joint_replay.specs.declared.error.JointError.TheVariants.{Replay, Stuck}
@@ -14,9 +14,11 @@ use Rattle.joint_replay.specs.declared.error.JointError.TheVariants as joint
 use Rattle.joint_replay.specs.Joining.{Joining}
 use Rattle.joint_laws.specs.Recordings.{Recording, begin, kept}
 use Rattle.step_debugger.specs.Answers.{Answer}
+use Rattle.back_step.specs.Traces.{Trace, at_start}
+use Rattle.step_debugger.specs.Answers.{begin_at}
 use Rattle.step_debugger.specs.Answers.{begin as session_begin}
 use Rattle.step_debugger.specs.Lines.{Input, line_limit, input_limit, is_line_feed, is_over, ends_in, with_line, input_from, input_of}
-use Rattle.step_debugger.specs.Transcript.{answers, lines_in, result_by, transcript, EndsThere, EndsAll, Debugs, Debugged}
+use Rattle.step_debugger.specs.Transcript.{answers, lines_in, result_by, transcript, transcript_from, EndsThere, EndsAll, Debugs, Debugged}
 use Rattle.step_debugger.specs.Transcript.{Told as Transcript}
 use Rattle.step_debugger.specs.declared.error.DebugError.{DebugError}
 use Rattle.step_debugger.specs.declared.error.DebugError.TheVariants as stop
@@ -161,7 +163,7 @@ pub none-read : (status : ℕ) (left : Option (List ℕ)) (faults : ℕ) → sta
 none-read status left faults read zero = unfailed [] status left left faults faults (Consumes-nil left) read zero
 
 -- a session that is done
-pub done-read : (j : Joining) (u : Unit {0}) (left now_left : Option (List ℕ)) (before now : ℕ) (written now_written : Option (List ℕ)) (b n : ℕ) (d : Debugged j left now_left before now written now_written b n (Ok u))
+pub done-read : (j : Trace) (u : Unit {0}) (left now_left : Option (List ℕ)) (before now : ℕ) (written now_written : Option (List ℕ)) (b n : ℕ) (d : Debugged j left now_left before now written now_written b n (Ok u))
     → AreRead (record { bytes = d.gone; failed = false }) 0 left now_left before now
 done-read j u left now_left before now written now_written b n d = record {
   taken = d.taken;
@@ -171,15 +173,15 @@ done-read j u left now_left before now written now_written b n d = record {
 }
   where
     by : EndsThere j d.gone ending.Quits ⊎ EndsAll j left now_left d.gone → EndsWithQuit d.gone ⊎ (ConsumesAll left now_left d.gone × NoQuit (input_of d.gone).lines)
-    by (inl h) = inl (record { front = h.front; line = h.line; lines = h.lines; last = h.last; quit = last-quit h.front h.line (session_begin j) h.before h.there })
-    by (inr h) = inr (h.all, no-quit (input_of d.gone).lines (session_begin j) h.before)
+    by (inl h) = inl (record { front = h.front; line = h.line; lines = h.lines; last = h.last; quit = last-quit h.front h.line (begin_at j) h.before h.there })
+    by (inr h) = inr (h.all, no-quit (input_of d.gone).lines (begin_at j) h.before)
 
 -- one that stopped
-pub stop-read : (j : Joining) (e : DebugError) (status : ℕ) (gone : List ℕ) (left now_left : Option (List ℕ)) (before now : ℕ) (written now_written : Option (List ℕ)) (b n : ℕ)
+pub stop-read : (j : Trace) (e : DebugError) (status : ℕ) (gone : List ℕ) (left now_left : Option (List ℕ)) (before now : ℕ) (written now_written : Option (List ℕ)) (b n : ℕ)
     → Consumes left now_left gone → Debugs j gone left now_left before now written now_written b n (Err e) → StatusOf e status → AreRead (commands_of gone e) status left now_left before now
 stop-read j stop.ReadFault status gone left now_left before now written now_written b n taken d h = record {
   taken = taken;
-  failed = λ f. (d.3, no-quit (input_of gone).lines (session_begin j) d.0);
+  failed = λ f. (d.3, no-quit (input_of gone).lines (begin_at j) d.0);
   cause = λ f. refl;
   done = λ f. absurd (never h f);
 }
@@ -240,16 +242,16 @@ whole-told names t e status k f out files (inl h) = inl (record {
 whole-told names t e status k f out files (inr h) = part-told names t why.OutOfMemory status k (part-whole k.old.out k.new.out t.text out, tt) files (inl h)
 
 -- by why it stopped
-pub stop-told : (names : FileNames) (j : Joining) (e : DebugError) (status : ℕ) (gone : List ℕ) (left now_left : Option (List ℕ)) (before now : ℕ) (k : Call)
+pub stop-told : (names : FileNames) (j : Trace) (e : DebugError) (status : ℕ) (gone : List ℕ) (left now_left : Option (List ℕ)) (before now : ℕ) (k : Call)
     → Debugs j gone left now_left before now k.old.out k.new.out k.old.out_faults k.new.out_faults (Err e) → WhereTold k.old.files k.new.files SameFiles
-    → ToldStop names e status k.old.err k.new.err k.old.err_faults k.new.err_faults → Tells names (session_told names (transcript j (input_in (commands_of gone e)))) status k
+    → ToldStop names e status k.old.err k.new.err k.old.err_faults k.new.err_faults → Tells names (session_told names (transcript_from j (input_in (commands_of gone e)))) status k
 stop-told names j stop.ReadFault status gone left now_left before now k d files told =
-    whole-told names (transcript j (cut true (input_of gone))) stop.ReadFault status k (ap (λ (x : Ending). result_by x (Some stop.ReadFault)) d.0) d.2 files told
-stop-told names j stop.WriteFault status gone left now_left before now k d files told = part-told names (transcript j (input_of gone)) why.WriteFailed status k (d.0, d.1) files told
-stop-told names j (stop.LineTooLong m) status gone left now_left before now k d files told = whole-told names (transcript j (input_of gone)) (stop.LineTooLong m) status k d.0 d.1 files told
-stop-told names j (stop.TooMuch m) status gone left now_left before now k d files told = whole-told names (transcript j (input_of gone)) (stop.TooMuch m) status k d.0 d.1 files told
-stop-told names j (stop.Joint x) status gone left now_left before now k d files told = whole-told names (transcript j (input_of gone)) (stop.Joint x) status k d.0 d.1 files told
-stop-told names j stop.OutOfMemory status gone left now_left before now k d files told = part-told names (transcript j (input_of gone)) why.OutOfMemory status k (d, tt) files told
+    whole-told names (transcript_from j (cut true (input_of gone))) stop.ReadFault status k (ap (λ (x : Ending). result_by x (Some stop.ReadFault)) d.0) d.2 files told
+stop-told names j stop.WriteFault status gone left now_left before now k d files told = part-told names (transcript_from j (input_of gone)) why.WriteFailed status k (d.0, d.1) files told
+stop-told names j (stop.LineTooLong m) status gone left now_left before now k d files told = whole-told names (transcript_from j (input_of gone)) (stop.LineTooLong m) status k d.0 d.1 files told
+stop-told names j (stop.TooMuch m) status gone left now_left before now k d files told = whole-told names (transcript_from j (input_of gone)) (stop.TooMuch m) status k d.0 d.1 files told
+stop-told names j (stop.Joint x) status gone left now_left before now k d files told = whole-told names (transcript_from j (input_of gone)) (stop.Joint x) status k d.0 d.1 files told
+stop-told names j stop.OutOfMemory status gone left now_left before now k d files told = part-told names (transcript_from j (input_of gone)) why.OutOfMemory status k (d, tt) files told
 
 -- there was no memory to begin
 pub unbegun-told : (names : FileNames) (j : Joining) (status : ℕ) (k : Call) → k.new.out ≡ k.old.out → WhereTold k.old.files k.new.files SameFiles
@@ -266,7 +268,7 @@ pub memory-begun : (status : ℕ) → status ≡ 9 → is_begun status ≡ true
 memory-begun status e = (at-9 status e).begun
 
 -- a write is refused only where a count rose
-pub stop-writes : (j : Joining) (names : FileNames) (e : DebugError) (status : ℕ) (gone : List ℕ) (left now_left : Option (List ℕ)) (before now : ℕ) (written now_written : Option (List ℕ)) (b n : ℕ) (old new : Option (List ℕ)) (eb en : ℕ)
+pub stop-writes : (j : Trace) (names : FileNames) (e : DebugError) (status : ℕ) (gone : List ℕ) (left now_left : Option (List ℕ)) (before now : ℕ) (written now_written : Option (List ℕ)) (b n : ℕ) (old new : Option (List ℕ)) (eb en : ℕ)
     → Debugs j gone left now_left before now written now_written b n (Err e) → ToldStop names e status old new eb en → status ≡ 13 → Rose b n
 stop-writes j names e status gone left now_left before now written now_written b n old new eb en d told is = by e d (status-of names e status old new eb en told)
   where
@@ -281,24 +283,24 @@ stop-writes j names e status gone left now_left before now written now_written b
 
 -- ---- a session over a joint replay
 
-pub pair-done : {O X : Type 0} (names : FileNames) (first j : Joining) (u : Unit {0}) (left now_left : Option (List ℕ)) (before now : ℕ) (out : O → Option (List ℕ)) (out_faults : O → ℕ) (err : X → Option (List ℕ)) (err_faults : X → ℕ)
-    (o : O) (e : X) (p : O) → j ≡ first → Debugged j left now_left before now (out o) (out p) (out_faults o) (out_faults p) (Ok u) → DebugsPair names first 0 left now_left before now out out_faults err err_faults o e p e
+pub pair-done : {O X : Type 0} (names : FileNames) (first : Joining) (j : Trace) (u : Unit {0}) (left now_left : Option (List ℕ)) (before now : ℕ) (out : O → Option (List ℕ)) (out_faults : O → ℕ) (err : X → Option (List ℕ)) (err_faults : X → ℕ)
+    (o : O) (e : X) (p : O) → j ≡ at_start first → Debugged j left now_left before now (out o) (out p) (out_faults o) (out_faults p) (Ok u) → DebugsPair names first 0 left now_left before now out out_faults err err_faults o e p e
 pair-done names first j u left now_left before now out out_faults err err_faults o e p same d = (
   record { bytes = d.gone; failed = false },
   done-read j u left now_left before now (out o) (out p) (out_faults o) (out_faults p) d,
   λ files had.
-      subst (λ (x : Joining). Tells names (session_told names (transcript x (input_of d.gone))) 0 (printing files had out out_faults err err_faults o e p e)) same
-      (done-told names (transcript j (input_of d.gone)) (printing files had out out_faults err err_faults o e p e) d.done.0 d.done.1 (appends-nothing (err e)) (untouched files)),
+      subst (λ (x : Trace). Tells names (session_told names (transcript_from x (input_of d.gone))) 0 (printing files had out out_faults err err_faults o e p e)) same
+      (done-told names (transcript_from j (input_of d.gone)) (printing files had out out_faults err err_faults o e p e) d.done.0 d.done.1 (appends-nothing (err e)) (untouched files)),
 )
 
-pub pair-stopped : {O X : Type 0} (names : FileNames) (first j : Joining) (why : DebugError) (status : ℕ) (left now_left : Option (List ℕ)) (before now : ℕ) (out : O → Option (List ℕ)) (out_faults : O → ℕ) (err : X → Option (List ℕ)) (err_faults : X → ℕ)
-    (o : O) (e : X) (p : O) (f : X) → j ≡ first → Debugged j left now_left before now (out o) (out p) (out_faults o) (out_faults p) (Err why) → ToldStop names why status (err e) (err f) (err_faults e) (err_faults f)
+pub pair-stopped : {O X : Type 0} (names : FileNames) (first : Joining) (j : Trace) (why : DebugError) (status : ℕ) (left now_left : Option (List ℕ)) (before now : ℕ) (out : O → Option (List ℕ)) (out_faults : O → ℕ) (err : X → Option (List ℕ)) (err_faults : X → ℕ)
+    (o : O) (e : X) (p : O) (f : X) → j ≡ at_start first → Debugged j left now_left before now (out o) (out p) (out_faults o) (out_faults p) (Err why) → ToldStop names why status (err e) (err f) (err_faults e) (err_faults f)
     → DebugsPair names first status left now_left before now out out_faults err err_faults o e p f
 pair-stopped names first j why status left now_left before now out out_faults err err_faults o e p f same d told = (
   commands_of d.gone why,
   stop-read j why status d.gone left now_left before now (out o) (out p) (out_faults o) (out_faults p) d.taken d.done (status-of names why status (err e) (err f) (err_faults e) (err_faults f) told),
   λ files had.
-      subst (λ (x : Joining). Tells names (session_told names (transcript x (input_in (commands_of d.gone why)))) status (printing files had out out_faults err err_faults o e p f)) same
+      subst (λ (x : Trace). Tells names (session_told names (transcript_from x (input_in (commands_of d.gone why)))) status (printing files had out out_faults err err_faults o e p f)) same
       (stop-told names j why status d.gone left now_left before now (printing files had out out_faults err err_faults o e p f) d.done (untouched files) told),
 )
 
@@ -477,6 +479,10 @@ debugs-any g laws show (JointLine log elf) names status left now_left before now
 debugs-any g laws show (ListLine log) names status left now_left before now k is e h = tt
 debugs-any g laws show (CheckLine log) names status left now_left before now k is e h = tt
 debugs-any g laws show (AuditLine log elf book input) names status left now_left before now k is e h = tt
+debugs-any g laws show (RacesLine log elf most) names status left now_left before now k is e h = tt
+debugs-any g laws show (SliceLine log elf hart interval ic) names status left now_left before now k is e h = tt
+debugs-any g laws show (ConvertLine log copy) names status left now_left before now k is e h = tt
+debugs-any g laws show (SalvageLine log copy) names status left now_left before now k is e h = tt
 debugs-any g laws show (DemoLine seed) names status left now_left before now k is e h = tt
 
 pub answers-any : (line : Line) (names : FileNames) (status : ℕ) (left now_left : Option (List ℕ)) (before now : ℕ) (k : Call) → (IsNoSession (Some line) → ⊥) → names ≡ names_in line
@@ -488,6 +494,10 @@ answers-any (JointLine log elf) names status left now_left before now k is e h =
 answers-any (ListLine log) names status left now_left before now k is e h = absurd (is tt)
 answers-any (CheckLine log) names status left now_left before now k is e h = absurd (is tt)
 answers-any (AuditLine log elf book input) names status left now_left before now k is e h = absurd (is tt)
+answers-any (RacesLine log elf most) names status left now_left before now k is e h = absurd (is tt)
+answers-any (SliceLine log elf hart interval ic) names status left now_left before now k is e h = absurd (is tt)
+answers-any (ConvertLine log copy) names status left now_left before now k is e h = absurd (is tt)
+answers-any (SalvageLine log copy) names status left now_left before now k is e h = absurd (is tt)
 answers-any (DemoLine seed) names status left now_left before now k is e h = absurd (is tt)
 
 -- there was no memory for the words
@@ -508,4 +518,8 @@ debugs-early (Some (DebugLine log elf)) status left faults k out same told =
 debugs-early (Some (ListLine log)) status left faults k out same told = tt
 debugs-early (Some (CheckLine log)) status left faults k out same told = tt
 debugs-early (Some (AuditLine log elf book input)) status left faults k out same told = tt
+debugs-early (Some (RacesLine log elf most)) status left faults k out same told = tt
+debugs-early (Some (SliceLine log elf hart interval ic)) status left faults k out same told = tt
+debugs-early (Some (ConvertLine log copy)) status left faults k out same told = tt
+debugs-early (Some (SalvageLine log copy)) status left faults k out same told = tt
 debugs-early (Some (DemoLine seed)) status left faults k out same told = tt

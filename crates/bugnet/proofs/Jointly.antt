@@ -46,7 +46,7 @@ file-bytes laws r is =
     laws.version r.settings r.program (sha256 r.elf) r.input r.turns one
 
 -- its joint replay says the run
-says-run : JointFilesSayTheRun → FileLaws → (r : Recording) → IsRecorded r → SaysRun r
+pub says-run : JointFilesSayTheRun → FileLaws → (r : Recording) → IsRecorded r → SaysRun r
 says-run law laws r is = law r (log_of r) is (record { content = is-content laws r is; bytes = sym (file-bytes laws r is) })
 
 -- ---- the answer
@@ -75,10 +75,10 @@ pair-so g laws go names files r what recorded log_is elf_is is =
     let there : files names.log ≡ Some log = log_is ∙ ap (λ (bytes : List ℕ). Some bytes) (file-bytes laws r recorded) in
     let content : IsContent d = is-content laws r recorded in
     let first : IsPairOf go files names log what =
-    by-file (files names.log) names role.Log 268500992 log (λ log what. IsPairOf go files names log what) what there (file-size laws d content) is in
+    by-file (files names.log) names role.Log 272629760 log (λ log what. IsPairOf go files names log what) what there (file-size laws d content) is in
     let second = by-size (files names.elf) names role.Elf 67108864 r.elf (λ elf what. IsByLog names log (pair_of go names elf) what) what elf_is first in
     then-so (nat_lt 67108864 (length r.elf)) _ _ _ (λ (by : IsByLog names log (pair_of go names r.elf) what).
-    by-content g names log d (pair_of go names r.elf) what content refl by ∙ pair-told go names r recorded) second
+    by-content g names log d (pair_of go names r.elf) what (laws.read.first d content) by ∙ pair-told go names r recorded) second
 
 -- the log of a recording and its program are there
 pub are-pair : FileLaws → (log elf : List ℕ) (files : Files) (r : Recording) → IsRecorded r → files log ≡ Some (file_of r.settings r.program (sha256 r.elf) r.input r.turns) → files elf ≡ Some r.elf

@@ -10,7 +10,7 @@ use Rattle.bn_base.specs.Ranges.{first_bad}
 use Rattle.bn_base.specs.declared.settings.BadSetting.{BadSetting}
 use Rattle.bn_base.specs.declared.settings.RawSettings.{RawSettings}
 use Rattle.bn_outside.specs.Files.{Files, WhereTold}
-use Rattle.command_words.specs.Words.{Line, RecordingLine, RecordLine, ReplayLine, JointLine, DebugLine, ListLine, CheckLine, AuditLine, DemoLine}
+use Rattle.command_words.specs.Words.{Line, RecordingLine, RecordLine, ReplayLine, JointLine, DebugLine, ListLine, CheckLine, AuditLine, RacesLine, SliceLine, ConvertLine, SalvageLine, DemoLine}
 use Rattle.elf_loader.specs.Loaded.{image_of}
 use Rattle.elf_loader.specs.declared.error.ElfError.{ElfError}
 use Rattle.le_numbers.specs.Numbers.{AreBytes}
@@ -42,7 +42,7 @@ use Rattle.bugnet.specs.Laws.{SeedsAreWhole, FilesKeepToTheirSize}
 use Rattle.bugnet.specs.declared.names.Role.{Role}
 use Rattle.bugnet.specs.declared.names.Role.TheVariants as role
 use Rattle.bugnet.specs.declared.refusal.Refusal.{Refusal}
-use Rattle.bugnet.specs.declared.refusal.Refusal.TheVariants.{WordsRefused, OutOfRange, SameName, StoreFailed, Missing, TooLong, ElfRefused, LogRefused, ProgramDiffers, OutOfMemory, WriteFailed, ReplayStopped, ReadFailed, LineTooLong, CommandsTooLong, BookRefused, FileDiffers}
+use Rattle.bugnet.specs.declared.refusal.Refusal.TheVariants.{WordsRefused, OutOfRange, SameName, StoreFailed, Missing, TooLong, ElfRefused, LogRefused, ProgramDiffers, OutOfMemory, WriteFailed, ReplayStopped, ReadFailed, LineTooLong, CommandsTooLong, BookRefused, FileDiffers, NothingLeft, TooManyRaces, NoRow}
 use Rattle.bugnet.proofs.Tested.{in-range}
 use Rattle.bugnet.proofs.Tells.{with-files, stopped-free, early-free}
 
@@ -82,6 +82,9 @@ refusals-apart LineTooLong = apart 18 18 refl (λ e. omega (arith, e)) (λ e. om
 refusals-apart CommandsTooLong = apart 18 18 refl (λ e. omega (arith, e)) (λ e. omega (arith, e)) (λ e. omega (arith, e))
 refusals-apart (BookRefused e) = apart 17 17 refl (λ e. omega (arith, e)) (λ e. omega (arith, e)) (λ e. omega (arith, e))
 refusals-apart (FileDiffers place) = apart 16 16 refl (λ e. omega (arith, e)) (λ e. omega (arith, e)) (λ e. omega (arith, e))
+refusals-apart NothingLeft = apart 19 19 refl (λ e. omega (arith, e)) (λ e. omega (arith, e)) (λ e. omega (arith, e))
+refusals-apart (TooManyRaces most) = apart 20 20 refl (λ e. omega (arith, e)) (λ e. omega (arith, e)) (λ e. omega (arith, e))
+refusals-apart (NoRow ic) = apart 21 21 refl (λ e. omega (arith, e)) (λ e. omega (arith, e)) (λ e. omega (arith, e))
 
 -- the status of a refusal that was told
 pub told-apart : (names : FileNames) (r : Refusal) (status : ℕ) (err_old err_new : Option (List ℕ)) (before now : ℕ) → ToldRefusal names r status err_old err_new before now → IsRecorded status → ⊥
@@ -102,6 +105,10 @@ leaves-none (Some (DebugLine log elf)) status old new never = tt
 leaves-none (Some (ListLine log)) status old new never = tt
 leaves-none (Some (CheckLine log)) status old new never = tt
 leaves-none (Some (AuditLine log elf book input)) status old new never = tt
+leaves-none (Some (RacesLine log elf most)) status old new never = tt
+leaves-none (Some (SliceLine log elf hart interval ic)) status old new never = tt
+leaves-none (Some (ConvertLine log copy)) status old new never = tt
+leaves-none (Some (SalvageLine log copy)) status old new never = tt
 leaves-none (Some (DemoLine seed)) status old new never = tt
 
 -- ---- what is recorded
@@ -135,12 +142,12 @@ by-file (Some bytes) names role limit Go what h is =
     go false e x = (x, within limit (length bytes) e)
 
 pub by-input : (there : Option (List ℕ)) (elf log book : List ℕ) (files : Files) (Go : List ℕ → Told → Type 0) (what : Told)
-    → IsByInput (is_some there) files (record { elf = elf; log = log; book = book; input = unwrap_or there [] }) Go what → IsRecorded what.status
+    → IsByInput (is_some there) files (record { elf = elf; log = log; book = book; input = unwrap_or there []; origin = [] }) Go what → IsRecorded what.status
     → (input : List ℕ) × (input_by there files ≡ Some input) × Go input what × (length input ≤ 16777216)
 unfolding WithFile
 by-input None elf log book files Go what h is = ([], refl, h, omega arith)
 by-input (Some name) elf log book files Go what h is =
-    let f = by-file (files name) (record { elf = elf; log = log; book = book; input = name }) role.Input 16777216 Go what h is in
+    let f = by-file (files name) (record { elf = elf; log = log; book = book; input = name; origin = [] }) role.Input 16777216 Go what h is in
     (f.0, f.1, f.2, f.3)
 
 by-program : (i : Result Program ElfError) (files : Files) (r : RecordingLine) (digest : List ℕ) (what : Told)
@@ -339,4 +346,8 @@ call-leaves whole sizes contents lengths (DebugLine log elf) status k bytes h = 
 call-leaves whole sizes contents lengths (ListLine log) status k bytes h = tt
 call-leaves whole sizes contents lengths (CheckLine log) status k bytes h = tt
 call-leaves whole sizes contents lengths (AuditLine log elf book input) status k bytes h = tt
+call-leaves whole sizes contents lengths (RacesLine log elf most) status k bytes h = tt
+call-leaves whole sizes contents lengths (SliceLine log elf hart interval ic) status k bytes h = tt
+call-leaves whole sizes contents lengths (ConvertLine log copy) status k bytes h = tt
+call-leaves whole sizes contents lengths (SalvageLine log copy) status k bytes h = tt
 call-leaves whole sizes contents lengths (DemoLine seed) status k bytes h = tt

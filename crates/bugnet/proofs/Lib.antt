@@ -11,6 +11,9 @@ mod Shows
 mod Single
 mod Suffices
 mod Jointly
+mod Races
+mod Slices
+mod Traces
 mod Sums
 mod Recorded
 mod Tested
@@ -20,3 +23,4 @@ mod Complete
 mod Joins
 mod Sessions
 mod Debugs
+mod Renewals

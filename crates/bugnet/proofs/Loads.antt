@@ -4,6 +4,7 @@ use Rattle.std.specs.Prelude.{Result, Ok, Err, IsSomeAnd, codes, is_some, option
 use Rattle.std.specs.Str.{bytes_eq}
 use Rattle.std.proofs.lemmas.Slice.Eq.{bytes_eq-Decides}
 use Rattle.std.proofs.lemmas.Bool.Decides.{nat_tests}
+use Rattle.bn_outside.specs.Counts.{Counts}
 use Rattle.bn_outside.specs.Files.{Files}
 use Rattle.bn_base.specs.Programs.{Program}
 use Rattle.bn_base.specs.Ranges.{checked_by, first_bad}
@@ -12,16 +13,20 @@ use Rattle.bn_base.specs.declared.settings.RawSettings.{RawSettings}
 use Rattle.elf_loader.specs.Loaded.{image_of}
 use Rattle.elf_loader.specs.declared.error.ElfError.{ElfError}
 use Rattle.log_order.specs.Content.{Content}
+use Rattle.log_file.specs.declared.error.FileError.TheVariants as file
+use Rattle.log_blocks.specs.File.{IsRefusal}
+use Rattle.log_blocks.specs.declared.damage.Damage.{Damage}
+use Rattle.log_blocks.specs.declared.damage.Damage.TheVariants.{File, BadBlock}
 use Rattle.command_words.specs.Words.{RecordLine, seen_recording}
 use Rattle.command_words.specs.declared.commands.Recording.{Recording}
 use Rattle.bugnet.specs.Names.{FileNames, name_of}
-use Rattle.bugnet.specs.Refusals.{line_of, said_of}
+use Rattle.bugnet.specs.Refusals.{line_of, said_of, log_refusal}
 use Rattle.bugnet.specs.Told.{Told, refused}
 use Rattle.bugnet.specs.Commands.{Either, IsByFile, WithFile, IsByLog, IsByInput, IsByProgram, IsBySettings, IsRecord}
 use Rattle.bugnet.specs.Recordings.{IsRun}
 use Rattle.bugnet.specs.declared.manner.Manner.{Manner}
 use Rattle.bugnet.specs.Answers.{names_in, manner_of, IsAnswer}
-use Rattle.bugnet.specs.Outside.{WithFiles, FetchTells, LogTells, ProgramTells, Gives, unless, without, GivesTo, GivesOf, GivesBy, told_of}
+use Rattle.bugnet.specs.Outside.{WithFiles, FetchTells, LogTells, ProgramTells, Gives, unless, without, GivesTo, GivesOf, GivesBy, RefusalCause, told_of}
 use Rattle.bugnet.specs.declared.names.Role.{Role}
 use Rattle.bugnet.specs.declared.names.Role.TheVariants.{Input}
 use Rattle.bugnet.specs.declared.answer.Answer.{Answer}
@@ -41,7 +46,7 @@ pub of_false : (b : Bool) (A B : Type 0) → b ≡ false → Either b A B → B
 of_false false A B e b = b
 of_false true A B e b = grind arith
 
-passes : (limit n : ℕ) → limit < n → nat_lt limit n ≡ true
+pub passes : (limit n : ℕ) → limit < n → nat_lt limit n ≡ true
 passes limit n h = grind (arith, nat_tests)
 
 pub fits : (limit n : ℕ) → n ≤ limit → nat_lt limit n ≡ false
@@ -154,7 +159,36 @@ gives-any known names Is result h = made-any Answer (told_of names) known names 
 -- a log that is refused ends the command
 pub made-refused : (A : Type 0) (tells : A → Told) (names : FileNames) (bytes : List ℕ) (go : Content → Told) (r : Refusal) → LogTells bytes (Err r) → GivesTo tells names (IsByLog names bytes go) (Err r)
 made-refused A tells names bytes go r (inl e) = inl e
-made-refused A tells names bytes go r (inr h) = inr (record { says = Err h.0; reads = (h.2, h.3); is = ap (λ (x : Refusal). refused names x) h.1 })
+made-refused A tells names bytes go r (inr h) = inr (record { says = Err h.0; reads = h.2; is = ap (λ (x : Refusal). refused names x) h.1 })
+
+-- the refusal of a log by its damage
+pub refused-log : (bytes : List ℕ) (e : Damage) (r : Refusal) → r ≡ log_refusal e → IsRefusal bytes e → LogTells bytes (Err r)
+refused-log bytes (BadBlock at) r is h = inr (BadBlock at, is, (h, λ e. absurd cc))
+refused-log bytes (File (file.Short length)) r is h = inr (File (file.Short length), is, (h, λ e. absurd cc))
+refused-log bytes (File file.BadMagic) r is h = inr (File file.BadMagic, is, (h, λ e. absurd cc))
+refused-log bytes (File (file.BadVersion found)) r is h = inr (File (file.BadVersion found), is, (h, λ e. absurd cc))
+refused-log bytes (File (file.BadHead field value)) r is h = inr (File (file.BadHead field value), is, (h, λ e. absurd cc))
+refused-log bytes (File (file.LengthDiffers said found)) r is h = inr (File (file.LengthDiffers said found), is, (h, λ e. absurd cc))
+refused-log bytes (File (file.DigestDiffers kept found)) r is h = inr (File (file.DigestDiffers kept found), is, (h, λ e. absurd cc))
+refused-log bytes (File (file.BadRecord at)) r is h = inr (File (file.BadRecord at), is, (h, λ e. absurd cc))
+refused-log bytes (File (file.BadOrder at rule)) r is h = inr (File (file.BadOrder at rule), is, (h, λ e. absurd cc))
+refused-log bytes (File file.OutOfMemory) r is h = inl is
+
+own-refusal : (before now : Counts) (e : Damage) → RefusalCause before now (log_refusal e)
+own-refusal before now (BadBlock at) = tt
+own-refusal before now (File (file.Short length)) = tt
+own-refusal before now (File file.BadMagic) = tt
+own-refusal before now (File (file.BadVersion found)) = tt
+own-refusal before now (File (file.BadHead field value)) = tt
+own-refusal before now (File (file.LengthDiffers said found)) = tt
+own-refusal before now (File (file.DigestDiffers kept found)) = tt
+own-refusal before now (File (file.BadRecord at)) = tt
+own-refusal before now (File (file.BadOrder at rule)) = tt
+own-refusal before now (File file.OutOfMemory) = tt
+
+-- it comes of no store
+pub own-log : (e : Damage) (r : Refusal) (before now : Counts) → r ≡ log_refusal e → RefusalCause before now r
+own-log e r before now is = subst (λ (x : Refusal). RefusalCause before now x) (sym is) (own-refusal before now e)
 
 -- what a log says goes on
 pub made-read : (A : Type 0) (tells : A → Told) (names : FileNames) (bytes : List ℕ) (d : Content) (go : Content → Told) (result : Result A Refusal)

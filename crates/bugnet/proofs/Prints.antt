@@ -8,7 +8,7 @@ use Rattle.bn_outside.specs.Counts.{Rose}
 use Rattle.bn_outside.specs.Streams.{AppendsPart}
 use Rattle.bugnet.specs.Outside.{Sent, SendStops, Gathered, Wrote}
 use Rattle.bugnet.specs.declared.refusal.Refusal.{Refusal}
-use Rattle.bugnet.specs.declared.refusal.Refusal.TheVariants.{WordsRefused, OutOfRange, SameName, StoreFailed, Missing, TooLong, ElfRefused, LogRefused, ProgramDiffers, OutOfMemory, WriteFailed, ReplayStopped, ReadFailed, LineTooLong, CommandsTooLong, BookRefused, FileDiffers}
+use Rattle.bugnet.specs.declared.refusal.Refusal.TheVariants.{WordsRefused, OutOfRange, SameName, StoreFailed, Missing, TooLong, ElfRefused, LogRefused, ProgramDiffers, OutOfMemory, WriteFailed, ReplayStopped, ReadFailed, LineTooLong, CommandsTooLong, BookRefused, FileDiffers, NothingLeft, TooManyRaces, NoRow}
 
 pub appends-nothing : (known : Option (List ℕ)) → Appends known known []
 appends-nothing None = tt
@@ -70,6 +70,9 @@ stops-later a b c LineTooLong h s = absurd s
 stops-later a b c CommandsTooLong h s = absurd s
 stops-later a b c (BookRefused x) h s = absurd s
 stops-later a b c (FileDiffers place) h s = absurd s
+stops-later a b c NothingLeft h s = absurd s
+stops-later a b c (TooManyRaces most) h s = absurd s
+stops-later a b c (NoRow ic) h s = absurd s
 
 -- what `send_all` did
 pub wrote : {A E : Type 0} (old new : Option (List ℕ)) (before now : ℕ) (line : List ℕ) (result : Result A E)

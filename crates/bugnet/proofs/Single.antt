@@ -1,5 +1,5 @@
 -- No command has two answers.
-use Rattle.std.proofs.Common.{◌≡◌, ◌≢◌, ℕ, Bool, true, false, List, [], length, nat_lt, Option, Some, None, ◌∙◌, ap, subst, sym, refl, arith}
+use Rattle.std.proofs.Common.{◌≡◌, ℕ, Bool, true, false, List, [], length, nat_lt, bytes_eq, Option, Some, None, ◌∙◌, ap, subst, sym, refl, arith}
 use Rattle.std.specs.Prelude.{Result, Ok, Err}
 use Rattle.sha2.specs.Sha256.{sha256}
 use Rattle.bn_base.specs.Programs.{Program}
@@ -7,22 +7,24 @@ use Rattle.bn_base.specs.Ranges.{first_bad}
 use Rattle.bn_base.specs.declared.settings.BadSetting.{BadSetting}
 use Rattle.bn_base.specs.declared.settings.RawSettings.{RawSettings}
 use Rattle.bn_outside.specs.Files.{Files}
-use Rattle.command_words.specs.Words.{Line, RecordLine, ReplayLine, JointLine, DebugLine, ListLine, CheckLine, AuditLine, DemoLine}
+use Rattle.command_words.specs.Words.{Line, RecordLine, ReplayLine, JointLine, DebugLine, ListLine, CheckLine, AuditLine, RacesLine, SliceLine, ConvertLine, SalvageLine, DemoLine}
 use Rattle.elf_loader.specs.Loaded.{image_of}
 use Rattle.elf_loader.specs.declared.error.ElfError.{ElfError}
 use Rattle.log_order.specs.Content.{Content}
-use Rattle.log_file.specs.File.{IsRefusal}
-use Rattle.log_file.specs.Laws.{SayOneThing, AreNotRefused}
-use Rattle.log_file.specs.declared.error.FileError.{FileError}
-use Rattle.log_file.specs.declared.error.FileError.TheVariants as file
+use Rattle.log_blocks.specs.Readings.{ReadingsAreUnique, SalvagesAreUnique}
+use Rattle.log_blocks.specs.declared.damage.Damage.{Damage}
+use Rattle.log_blocks.specs.declared.damage.SalvageError.{SalvageError}
 use Rattle.bugnet.specs.Names.{FileNames, name_of}
 use Rattle.bugnet.specs.Told.{Told}
-use Rattle.bugnet.specs.Commands.{is_clash, Either, IsByFile, WithFile, Reads, by_log, IsByLog, list_of, check_of, replay_of, IsReplayOf, IsReplay, IsByInput, IsByProgram, IsByNames, IsBySettings}
+use Rattle.bugnet.specs.Commands.{is_clash, Either, IsByFile, WithFile, by_log, IsByLog, list_of, check_of, replay_of, IsReplayOf, IsReplay, IsByInput, IsByProgram, IsByNames, IsBySettings}
 use Rattle.bugnet.specs.Joined.{joint_with}
+use Rattle.bugnet.specs.Racing.{races_with}
+use Rattle.bugnet.specs.Slicing.{slice_with}
 use Rattle.bugnet.specs.Pairs.{ByPair, pair_of, IsPairOf, IsPair}
 use Rattle.bugnet.specs.Sessions.{debug_with}
 use Rattle.bugnet.specs.Answers.{names_in, manner_of, IsAnswer}
 use Rattle.bugnet.specs.Audits.{audited, IsAuditOf, IsAuditWith, IsAuditBy, IsAuditIn, IsAudit}
+use Rattle.bugnet.specs.Renewing.{renewed, by_salvage, IsBySalvage, IsByOrigin, IsConvert, IsSalvage}
 use Rattle.bugnet.specs.Laws.{OneAnswer, OneSession, AreAlike, AreOfOneList, book_of}
 use Rattle.bugnet.specs.Recordings.{AreTaken, IsRunOf, IsRunBy, IsRun, told_run, recorded}
 use Rattle.run_model.specs.Runs.{seeded}
@@ -30,31 +32,16 @@ use Rattle.bugnet.specs.declared.manner.Manner.{Manner}
 use Rattle.bugnet.specs.declared.names.Role.{Role}
 use Rattle.bugnet.specs.declared.names.Role.TheVariants as role
 
--- bytes have one first cause for a refusal
-abbrev pub OneRefusal : Type 0
-OneRefusal = (bytes : List ℕ) (e f : FileError) → IsRefusal bytes e → IsRefusal bytes f → e ≢ file.OutOfMemory → f ≢ file.OutOfMemory → e ≡ f
-
-pub record Grammar : Type 0 where
-  pub one_thing : SayOneThing
-  pub taken : AreNotRefused
-  pub one_refusal : OneRefusal
-
-not-both : Grammar → (bytes : List ℕ) (d : Content) (e : FileError) → Reads bytes (Ok d) → Reads bytes (Err e) → ⊥
-not-both g bytes d e p q = q.1 (g.taken d p.0 e (subst (λ (b : List ℕ). IsRefusal b e) p.1 q.0))
-
 -- bytes are read in one way
-pub one-reading : Grammar → (bytes : List ℕ) (r s : Result Content FileError) → Reads bytes r → Reads bytes s → r ≡ s
-one-reading g bytes (Ok c) (Ok d) p q = ap (λ (x : Content). Ok x) (g.one_thing c d p.0 q.0 (sym p.1 ∙ q.1))
-one-reading g bytes (Ok c) (Err e) p q = absurd (not-both g bytes c e p q)
-one-reading g bytes (Err e) (Ok d) p q = absurd (not-both g bytes d e q p)
-one-reading g bytes (Err e) (Err f) p q = ap (λ (x : FileError). Err x) (g.one_refusal bytes e f p.0 q.0 p.1 q.1)
+pub record Grammar : Type 0 where
+  pub one_reading : ReadingsAreUnique
 
 -- so an answer by them is one
 abbrev One : (Told → Type 0) → Type 0
 One Is = (a b : Told) → Is a → Is b → a ≡ b
 
 one-log : Grammar → (names : FileNames) (bytes : List ℕ) (go : Content → Told) → One (IsByLog names bytes go)
-one-log g names bytes go a b p q = p.is ∙ ap (λ (r : Result Content FileError). by_log names go r) (one-reading g bytes p.says q.says p.reads q.reads) ∙ sym q.is
+one-log g names bytes go a b p q = p.is ∙ ap (λ (r : Result Content Damage). by_log names go r) (g.one_reading bytes p.says q.says p.reads q.reads) ∙ sym q.is
 
 one-told : (x : Told) → One (λ what. what ≡ x)
 one-told x a b p q = p ∙ sym q
@@ -73,12 +60,12 @@ one-file files names r limit Go one a b p q = one-by (files (name_of names r)) n
 
 one-replay : Grammar → (files : Files) (names : FileNames) (hart interval : ℕ) → One (IsReplay files names hart interval)
 one-replay g files names hart interval =
-    one-file files names role.Log 268500992 (λ log what. IsReplayOf files names hart interval log what)
+    one-file files names role.Log 272629760 (λ log what. IsReplayOf files names hart interval log what)
     (λ log. one-file files names role.Elf 67108864 (λ elf what. IsByLog names log (replay_of names hart interval elf) what) (λ elf. one-log g names log (replay_of names hart interval elf)))
 
 one-pair : Grammar → (go : ByPair) (files : Files) (names : FileNames) → One (IsPair go files names)
 one-pair g go files names =
-    one-file files names role.Log 268500992 (λ log what. IsPairOf go files names log what)
+    one-file files names role.Log 272629760 (λ log what. IsPairOf go files names log what)
     (λ log. one-file files names role.Elf 67108864 (λ elf what. IsByLog names log (pair_of go names elf) what) (λ elf. one-log g names log (pair_of go names elf)))
 
 -- ---- recordings: one answer for each list of turns
@@ -154,28 +141,47 @@ one-settings None files names c how has_input a b alike p q = one-names (is_clas
 
 one-audit : Grammar → (files : Files) (names : FileNames) (has_input : Bool) → One (IsAudit files names has_input)
 one-audit g files names has_input =
-    one-file files names role.Log 268500992 (λ log what. IsAuditIn files names has_input log what)
+    one-file files names role.Log 272629760 (λ log what. IsAuditIn files names has_input log what)
     (λ log. one-file files names role.Elf 67108864 (λ elf what. IsAuditBy files names has_input log elf what)
     (λ elf. one-file files names role.Book 1073741824 (λ book what. IsAuditWith files names has_input log elf book what)
     (λ book a b p q. one-input has_input files names (IsAuditOf names log elf book) a b (λ input x y. one-log g names log (pair_of (audited names log book input) names elf) a b x y) p q)))
 
-one-line : Grammar → (line : Line) (files : Files) (a b : Told) → IsAnswer (Some line) files a → IsAnswer (Some line) files b → AreAlike (Some line) a b → a ≡ b
-one-line g (RecordLine r) files a b p q alike = one-settings (first_bad r.settings) files (names_in (RecordLine r)) r.settings (manner_of r) _ a b alike p q
-one-line g (ReplayLine log elf hart interval) files a b p q alike = one-replay g files (names_in (ReplayLine log elf hart interval)) hart interval a b p q
-one-line g (JointLine log elf) files a b p q alike = let names = names_in (JointLine log elf) in one-pair g (joint_with names) files names a b p q
-one-line g (DebugLine log elf) files a b p q alike = absurd alike
-one-line g (ListLine log) files a b p q alike =
-    let names = names_in (ListLine log) in
-    one-file files names role.Log 268500992 (λ log what. IsByLog names log list_of what) (λ log. one-log g names log list_of) a b p q
-one-line g (CheckLine log) files a b p q alike =
-    let names = names_in (CheckLine log) in
-    one-file files names role.Log 268500992 (λ log what. IsByLog names log check_of what) (λ log. one-log g names log check_of) a b p q
-one-line g (AuditLine log elf book input) files a b p q alike = one-audit g files (names_in (AuditLine log elf book input)) _ a b p q
-one-line g (DemoLine seed) files a b p q alike = p ∙ sym q
+-- ---- a log that is made of another
 
-pub one-answer : Grammar → OneAnswer
-one-answer g None files a b p q alike = p ∙ sym q
-one-answer g (Some line) files a b p q alike = one-line g line files a b p q alike
+one-origin : (same : Bool) (files : Files) (names : FileNames) (Go : List ℕ → Told → Type 0) → ((bytes : List ℕ) → One (Go bytes)) → One (IsByOrigin same files names Go)
+one-origin true files names Go one a b p q = p ∙ sym q
+one-origin false files names Go one a b p q = one-file files names role.Origin 272629760 Go one a b p q
+
+one-convert : Grammar → (files : Files) (names : FileNames) → One (IsConvert files names)
+one-convert g files names = one-origin (bytes_eq names.origin names.log) files names (λ log what. IsByLog names log renewed what) (λ log. one-log g names log renewed)
+
+one-salvaged : SalvagesAreUnique → (names : FileNames) (bytes : List ℕ) → One (IsBySalvage names bytes)
+one-salvaged law names bytes a b p q = p.is ∙ ap (λ (r : Result Content SalvageError). by_salvage names r) (law bytes p.says q.says p.salvages q.salvages) ∙ sym q.is
+
+one-salvage : SalvagesAreUnique → (files : Files) (names : FileNames) → One (IsSalvage files names)
+one-salvage law files names = one-origin (bytes_eq names.origin names.log) files names (λ log what. IsBySalvage names log what) (λ log. one-salvaged law names log)
+
+one-line : Grammar → SalvagesAreUnique → (line : Line) (files : Files) (a b : Told) → IsAnswer (Some line) files a → IsAnswer (Some line) files b → AreAlike (Some line) a b → a ≡ b
+one-line g law (RecordLine r) files a b p q alike = one-settings (first_bad r.settings) files (names_in (RecordLine r)) r.settings (manner_of r) _ a b alike p q
+one-line g law (ReplayLine log elf hart interval) files a b p q alike = one-replay g files (names_in (ReplayLine log elf hart interval)) hart interval a b p q
+one-line g law (JointLine log elf) files a b p q alike = let names = names_in (JointLine log elf) in one-pair g (joint_with names) files names a b p q
+one-line g law (DebugLine log elf) files a b p q alike = absurd alike
+one-line g law (ListLine log) files a b p q alike =
+    let names = names_in (ListLine log) in
+    one-file files names role.Log 272629760 (λ log what. IsByLog names log list_of what) (λ log. one-log g names log list_of) a b p q
+one-line g law (CheckLine log) files a b p q alike =
+    let names = names_in (CheckLine log) in
+    one-file files names role.Log 272629760 (λ log what. IsByLog names log check_of what) (λ log. one-log g names log check_of) a b p q
+one-line g law (AuditLine log elf book input) files a b p q alike = one-audit g files (names_in (AuditLine log elf book input)) _ a b p q
+one-line g law (RacesLine log elf most) files a b p q alike = let names = names_in (RacesLine log elf most) in one-pair g (races_with names most) files names a b p q
+one-line g law (SliceLine log elf hart interval ic) files a b p q alike = let names = names_in (SliceLine log elf hart interval ic) in one-pair g (slice_with names hart interval ic) files names a b p q
+one-line g law (ConvertLine log copy) files a b p q alike = one-convert g files (names_in (ConvertLine log copy)) a b p q
+one-line g law (SalvageLine log copy) files a b p q alike = one-salvage law files (names_in (SalvageLine log copy)) a b p q
+one-line g law (DemoLine seed) files a b p q alike = p ∙ sym q
+
+pub one-answer : Grammar → SalvagesAreUnique → OneAnswer
+one-answer g law None files a b p q alike = p ∙ sym q
+one-answer g law (Some line) files a b p q alike = one-line g law line files a b p q alike
 
 pub one-session : Grammar → OneSession
 one-session g c files names a b p q = one-pair g (debug_with names c) files names a b p q

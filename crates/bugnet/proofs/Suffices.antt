@@ -13,7 +13,8 @@ use Rattle.elf_loader.specs.declared.error.ElfError.{ElfError}
 use Rattle.log_order.specs.Content.{Content, IsContent}
 use Rattle.log_file.specs.Laws.{HaveTheirSize}
 use Rattle.log_file.specs.Layout.{file_bytes}
-use Rattle.log_file.specs.declared.error.FileError.{FileError}
+use Rattle.log_blocks.specs.Readings.{Reads, FilesAreRead}
+use Rattle.log_blocks.specs.declared.damage.Damage.{Damage}
 use Rattle.hart_replay.specs.Replay.{Done, Replayed, Interval, replayed}
 use Rattle.run_model.specs.Files.{kept_of, content_of, FormatOneIsVersionOne}
 use Rattle.run_model.specs.Rows.{rows_in}
@@ -32,7 +33,7 @@ use Rattle.bugnet.specs.declared.names.Role.{Role}
 use Rattle.bugnet.specs.declared.names.Role.TheVariants as role
 use Rattle.bugnet.specs.declared.refusal.Refusal.TheVariants.{TooLong}
 use Rattle.bugnet.proofs.Loads.{fits, of_false}
-use Rattle.bugnet.proofs.Single.{Grammar, one-reading}
+use Rattle.bugnet.proofs.Single.{Grammar}
 use Rattle.bugnet.proofs.Tells.{with-files, stopped-free, early-free}
 
 -- ---- the log file
@@ -42,9 +43,10 @@ pub record FileLaws : Type 0 where
   pub contents : LogsAreContents
   pub version : FormatOneIsVersionOne
   pub sizes : HaveTheirSize
+  pub read : FilesAreRead
 
 -- each is one that a command loads
-pub file-size : FileLaws → (d : Content) → IsContent d → length (file_bytes d) ≤ 268500992
+pub file-size : FileLaws → (d : Content) → IsContent d → length (file_bytes d) ≤ 272629760
 file-size laws d is = omega (arith, laws.sizes d is, is.bound, is.settings.log_size_high)
 
 -- ---- the answer
@@ -77,12 +79,11 @@ unfolding ended
 answer law stand names p v line files r =
     let run = run_of p.settings p.program p.input p.turns in
     let d = content_of p.settings (sha256 p.elf) run in
-    let one : p.settings.format ≡ 1 = omega (arith, r.recording.setting.format_low, r.recording.setting.format_high) in
     let small : p.settings.limit < 2 ^ 63 = omega (arith, r.recording.setting.limit_high) in
     let rows : replayed p.program d.records p.hart p.number ≡ record { rows = rows_in p.settings p.program (start p.settings p.program p.input) p.turns p.hart p.number; outcome = Done } =
-    law p.settings p.program p.input p.turns p.hart p.number one small (record { legal = r.recording.legal; over = r.recording.over }) v r.kept in
+    law p.settings p.program p.input p.turns p.hart p.number small (record { legal = r.recording.legal; over = r.recording.over }) v r.kept in
     let together : rows_in p.settings p.program (start p.settings p.program p.input) p.turns p.hart p.number ≡ interval_rows p v =
-    stand.0 p.settings p.program p.input p.turns p.hart p.number one small (record { legal = r.recording.legal; over = r.recording.over }) (kept_of p.settings run) (stand.1 p.settings run) v r.kept in
+    stand.0 p.settings p.program p.input p.turns p.hart p.number small (record { legal = r.recording.legal; over = r.recording.over }) (kept_of p.settings run) (stand.1 p.settings run) v r.kept in
     ap (λ (b : Bool). replay_same b names p.hart p.number p.elf d) (same (sha256 p.elf))
     ∙ ap (λ (i : Result Program ElfError). replay_loaded names p.hart p.number d i) r.recording.loaded
     ∙ ap (λ (o : Option Interval). replay_found names p.hart p.number d p.program o) r.kept
@@ -90,8 +91,8 @@ answer law stand names p v line files r =
     ∙ ap (λ (rs : List Row). interval_told names p.hart p.number v (record { rows = rs; outcome = Done })) together
 
 -- an answer by a log that says this
-pub by-content : Grammar → (names : FileNames) (bytes : List ℕ) (d : Content) (go : Content → Told) (what : Told) → IsContent d → bytes ≡ file_bytes d → IsByLog names bytes go what → what ≡ go d
-by-content g names bytes d go what is e by = by.is ∙ ap (λ (r : Result Content FileError). by_log names go r) (one-reading g bytes by.says (Ok d) by.reads (is, e))
+pub by-content : Grammar → (names : FileNames) (bytes : List ℕ) (d : Content) (go : Content → Told) (what : Told) → Reads bytes (Ok d) → IsByLog names bytes go what → what ≡ go d
+by-content g names bytes d go what reads by = by.is ∙ ap (λ (r : Result Content Damage). by_log names go r) (g.one_reading bytes by.says (Ok d) by.reads reads)
 
 replays : Grammar → LogSuffices → Together → FileLaws → (files : Files) (p : Part) (v : Interval) (line : Option Line) (r : ReplaysRun line files p v) (what : Told)
     → IsReplay files (names_in (ReplayLine r.log_name r.elf_name p.hart p.number)) p.hart p.number what → IsReplayed (Some (ReplayLine r.log_name r.elf_name p.hart p.number)) p v what
@@ -104,10 +105,10 @@ replays g law stand laws files p v line r what is =
     let there : files r.log_name ≡ Some log = r.log ∙ ap (λ (bytes : List ℕ). Some bytes) (laws.version p.settings p.program (sha256 p.elf) p.input p.turns one) in
     let content : IsContent d = laws.contents p.settings p.program p.elf p.input p.turns r.recording in
     let first : IsReplayOf files names p.hart p.number log what =
-    by-file (files r.log_name) names role.Log 268500992 log (λ log what. IsReplayOf files names p.hart p.number log what) what there (file-size laws d content) is in
+    by-file (files r.log_name) names role.Log 272629760 log (λ log what. IsReplayOf files names p.hart p.number log what) what there (file-size laws d content) is in
     let second = by-size (files r.elf_name) names role.Elf 67108864 p.elf (λ elf what. IsByLog names log (replay_of names p.hart p.number elf) what) what r.program first in
     then-so (nat_lt 67108864 (length p.elf)) _ _ _ (λ (by : IsByLog names log (replay_of names p.hart p.number p.elf) what).
-    by-content g names log d (replay_of names p.hart p.number p.elf) what content refl by ∙ answer law stand names p v line files r) second
+    by-content g names log d (replay_of names p.hart p.number p.elf) what (laws.read.first d content) by ∙ answer law stand names p v line files r) second
 
 pub headline : Grammar → LogSuffices → Together → FileLaws → Headline
 headline g law stand laws line files p v r what is =

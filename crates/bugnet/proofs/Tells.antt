@@ -18,7 +18,7 @@ use Rattle.bugnet.specs.declared.names.Role.TheVariants as role
 use Rattle.bugnet.specs.declared.answer.Answer.{Answer}
 use Rattle.bugnet.specs.declared.answer.Recording.{Recording}
 use Rattle.bugnet.specs.declared.refusal.Refusal.{Refusal}
-use Rattle.bugnet.specs.declared.refusal.Refusal.TheVariants.{WordsRefused, OutOfRange, SameName, StoreFailed, Missing, TooLong, ElfRefused, LogRefused, ProgramDiffers, OutOfMemory, WriteFailed, ReplayStopped, ReadFailed, LineTooLong, CommandsTooLong, BookRefused, FileDiffers}
+use Rattle.bugnet.specs.declared.refusal.Refusal.TheVariants.{WordsRefused, OutOfRange, SameName, StoreFailed, Missing, TooLong, ElfRefused, LogRefused, ProgramDiffers, OutOfMemory, WriteFailed, ReplayStopped, ReadFailed, LineTooLong, CommandsTooLong, BookRefused, FileDiffers, NothingLeft, TooManyRaces, NoRow}
 use Rattle.bugnet.proofs.Prints.{part-whole, rose-later}
 
 -- ---- a refusal
@@ -69,6 +69,9 @@ free-status names LineTooLong status err_old err_new before now o (inl h) = absu
 free-status names CommandsTooLong status err_old err_new before now o (inl h) = absurd o
 free-status names (BookRefused x) status err_old err_new before now o (inl h) = absurd o
 free-status names (FileDiffers place) status err_old err_new before now o (inl h) = absurd o
+free-status names NothingLeft status err_old err_new before now o (inl h) = absurd o
+free-status names (TooManyRaces most) status err_old err_new before now o (inl h) = absurd o
+free-status names (NoRow ic) status err_old err_new before now o (inl h) = absurd o
 
 sends-free : (r : Refusal) (before now : ℕ) → SendStops before now r → FreeRefusal r
 sends-free WordsRefused before now s = absurd s
@@ -88,6 +91,9 @@ sends-free LineTooLong before now s = absurd s
 sends-free CommandsTooLong before now s = absurd s
 sends-free (BookRefused x) before now s = absurd s
 sends-free (FileDiffers place) before now s = absurd s
+sends-free NothingLeft before now s = absurd s
+sends-free (TooManyRaces most) before now s = absurd s
+sends-free (NoRow ic) before now s = absurd s
 
 -- ---- saves
 
@@ -115,6 +121,9 @@ broken saved names old new before now LineTooLong u = absurd u
 broken saved names old new before now CommandsTooLong u = absurd u
 broken saved names old new before now (BookRefused x) u = absurd u
 broken saved names old new before now (FileDiffers place) u = absurd u
+broken saved names old new before now NothingLeft u = absurd u
+broken saved names old new before now (TooManyRaces most) u = absurd u
+broken saved names old new before now (NoRow ic) u = absurd u
 
 memory-or-store : (names : FileNames) (r : Refusal) (role : Role) (status : ℕ) (err_old err_new : Option (List ℕ)) (before now : ℕ)
     → (r ≡ StoreFailed role) ⊎ (r ≡ OutOfMemory) → ToldRefusal names r status err_old err_new before now → IsUnsaved status
@@ -150,6 +159,7 @@ broke-few role.Elf saved log book x y b = absurd b
 broke-few role.Log saved log book x y b = inl b
 broke-few role.Book saved log book x y b = inr b
 broke-few role.Input saved log book x y b = absurd b
+broke-few role.Origin saved log book x y b = absurd b
 
 unsaved-few : (saved : Option Saved) (names : FileNames) (old new : Option Files) (before now : Counts) (r : Refusal) → Unsaved saved names old new before now r
     → WhereTold old new (MayChange saved names.log names.book)
@@ -405,6 +415,9 @@ unsaved-from (Some saved) names old new before mid now LineTooLong n u = absurd 
 unsaved-from (Some saved) names old new before mid now CommandsTooLong n u = absurd u
 unsaved-from (Some saved) names old new before mid now (BookRefused x) n u = absurd u
 unsaved-from (Some saved) names old new before mid now (FileDiffers place) n u = absurd u
+unsaved-from (Some saved) names old new before mid now NothingLeft n u = absurd u
+unsaved-from (Some saved) names old new before mid now (TooManyRaces most) n u = absurd u
+unsaved-from (Some saved) names old new before mid now (NoRow ic) n u = absurd u
 
 pub tells-from : (names : FileNames) (what : Told) (status : ℕ) (files : Option Files) (counts : Counts) (k : Call) → k.old.files ≡ files → NoneFell counts k.old.counts
     → Tells names what status k → Tells names what status (from files counts k)

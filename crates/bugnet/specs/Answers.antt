@@ -1,29 +1,37 @@
 -- What the program answers to its words.
 use Rattle.std.specs.Prelude.{◌≡◌, [], Bool, true, false, Option, Some, None, is_some, unwrap_or}
+use Rattle.std.specs.Str.{bytes_eq}
 use Rattle.bn_base.specs.Ranges.{first_bad}
 use Rattle.bn_base.specs.declared.settings.BadSetting.{BadSetting}
 use Rattle.bn_outside.specs.Files.{Files}
-use Rattle.command_words.specs.Words.{Line, RecordingLine, RecordLine, ReplayLine, JointLine, DebugLine, ListLine, CheckLine, AuditLine, DemoLine}
+use Rattle.command_words.specs.Words.{Line, RecordingLine, RecordLine, ReplayLine, JointLine, DebugLine, ListLine, CheckLine, AuditLine, RacesLine, SliceLine, ConvertLine, SalvageLine, DemoLine}
 use Rattle.bugnet.specs.Names.{FileNames, no_names}
 use Rattle.demo_run.specs.Demonstration.{demo_text}
 use Rattle.bugnet.specs.Told.{Told, refused, printed}
 use Rattle.bugnet.specs.Commands.{is_clash, IsRecord, IsReplay, IsList, IsCheck}
 use Rattle.bugnet.specs.declared.manner.Manner.{Manner}
 use Rattle.bugnet.specs.Joined.{IsJoint}
+use Rattle.bugnet.specs.Racing.{IsRaces}
+use Rattle.bugnet.specs.Slicing.{IsSlice}
 use Rattle.bugnet.specs.Sessions.{IsDebug}
 use Rattle.bugnet.specs.Audits.{IsAudit}
+use Rattle.bugnet.specs.Renewing.{IsConvert, IsSalvage}
 use Rattle.bugnet.specs.declared.refusal.Refusal.{Refusal}
 use Rattle.bugnet.specs.declared.refusal.Refusal.TheVariants.{WordsRefused, OutOfRange, SameName}
 
 -- the names of the files of a line
 abbrev pub names_in : Line → FileNames
-names_in (RecordLine r) = record { elf = r.elf; log = r.log; book = r.book; input = unwrap_or r.input [] }
-names_in (ReplayLine log elf hart interval) = record { elf = elf; log = log; book = []; input = [] }
-names_in (JointLine log elf) = record { elf = elf; log = log; book = []; input = [] }
-names_in (DebugLine log elf) = record { elf = elf; log = log; book = []; input = [] }
-names_in (ListLine log) = record { elf = []; log = log; book = []; input = [] }
-names_in (CheckLine log) = record { elf = []; log = log; book = []; input = [] }
-names_in (AuditLine log elf book input) = record { elf = elf; log = log; book = book; input = unwrap_or input [] }
+names_in (RecordLine r) = record { elf = r.elf; log = r.log; book = r.book; input = unwrap_or r.input []; origin = [] }
+names_in (ReplayLine log elf hart interval) = record { elf = elf; log = log; book = []; input = []; origin = [] }
+names_in (JointLine log elf) = record { elf = elf; log = log; book = []; input = []; origin = [] }
+names_in (DebugLine log elf) = record { elf = elf; log = log; book = []; input = []; origin = [] }
+names_in (ListLine log) = record { elf = []; log = log; book = []; input = []; origin = [] }
+names_in (CheckLine log) = record { elf = []; log = log; book = []; input = []; origin = [] }
+names_in (AuditLine log elf book input) = record { elf = elf; log = log; book = book; input = unwrap_or input []; origin = [] }
+names_in (RacesLine log elf most) = record { elf = elf; log = log; book = []; input = []; origin = [] }
+names_in (SliceLine log elf hart interval ic) = record { elf = elf; log = log; book = []; input = []; origin = [] }
+names_in (ConvertLine log copy) = record { elf = []; log = copy; book = []; input = []; origin = log }
+names_in (SalvageLine log copy) = record { elf = []; log = copy; book = []; input = []; origin = log }
 names_in (DemoLine seed) = no_names
 
 abbrev pub names_by : Option Line → FileNames
@@ -34,7 +42,8 @@ names_by (Some line) = names_in line
 abbrev pub manner_of : RecordingLine → Manner
 manner_of r = record { seed = r.seed; lean = r.lean }
 
--- what the words alone refuse, in the order of the tests: a setting, and then LOG and BOOK under one name, where both are saved
+-- what the words alone refuse, in the order of the tests: a setting, and then LOG and BOOK under one name, where both are saved; or
+-- LOG and NEW under one name
 abbrev pub name_refusal : Bool → Option Refusal
 name_refusal true = Some SameName
 name_refusal false = None
@@ -51,6 +60,10 @@ refusal_in (DebugLine log elf) = None
 refusal_in (ListLine log) = None
 refusal_in (CheckLine log) = None
 refusal_in (AuditLine log elf book input) = None
+refusal_in (RacesLine log elf most) = None
+refusal_in (SliceLine log elf hart interval ic) = None
+refusal_in (ConvertLine log copy) = name_refusal (bytes_eq log copy)
+refusal_in (SalvageLine log copy) = name_refusal (bytes_eq log copy)
 refusal_in (DemoLine seed) = None
 
 abbrev pub refusal_by : Option Line → Option Refusal
@@ -67,4 +80,8 @@ IsAnswer (Some (DebugLine log elf)) files what = IsDebug files (names_in (DebugL
 IsAnswer (Some (ListLine log)) files what = IsList files (names_in (ListLine log)) what
 IsAnswer (Some (CheckLine log)) files what = IsCheck files (names_in (CheckLine log)) what
 IsAnswer (Some (AuditLine log elf book input)) files what = IsAudit files (names_in (AuditLine log elf book input)) (is_some input) what
+IsAnswer (Some (RacesLine log elf most)) files what = IsRaces files (names_in (RacesLine log elf most)) most what
+IsAnswer (Some (SliceLine log elf hart interval ic)) files what = IsSlice files (names_in (SliceLine log elf hart interval ic)) hart interval ic what
+IsAnswer (Some (ConvertLine log copy)) files what = IsConvert files (names_in (ConvertLine log copy)) what
+IsAnswer (Some (SalvageLine log copy)) files what = IsSalvage files (names_in (SalvageLine log copy)) what
 IsAnswer (Some (DemoLine seed)) files what = what ≡ printed (demo_text seed)

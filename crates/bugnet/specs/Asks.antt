@@ -1,13 +1,13 @@
 -- How often a command asks its store to save.
 use Rattle.std.specs.Prelude.{◌≡◌, ◌⊎◌, ℕ, Bool, true, false, not, Option, Some, None, is_some}
 use Rattle.bn_outside.specs.Counts.{counted}
-use Rattle.command_words.specs.Words.{Line, RecordLine, ReplayLine, JointLine, DebugLine, ListLine, CheckLine, AuditLine, DemoLine}
+use Rattle.command_words.specs.Words.{Line, RecordLine, ReplayLine, JointLine, DebugLine, ListLine, CheckLine, AuditLine, RacesLine, SliceLine, ConvertLine, SalvageLine, DemoLine}
 use Rattle.bugnet.specs.Saves.{IsRecorded}
 use Rattle.bugnet.specs.declared.answer.Answer.{Answer}
 use Rattle.bugnet.specs.declared.answer.Recording.{Recording}
-use Rattle.bugnet.specs.declared.answer.Answer.TheVariants.{Recorded, Interval, Joined, Listed, Checked, Agreed, Demonstrated}
+use Rattle.bugnet.specs.declared.answer.Answer.TheVariants.{Recorded, Interval, Joined, Listed, Checked, Agreed, Renewed, Shown, Halted}
 
--- a recording saves two files; a lean one saves one
+-- a recording saves two files; a lean one saves one, as does what makes a log of another
 abbrev pub saves_after : (lean : Bool) → ℕ → ℕ
 saves_after true before = counted before
 saves_after false before = counted (counted before)
@@ -30,7 +30,7 @@ pub record SavesEach (lean : Bool) (status before after : ℕ) : Type 0 where
 abbrev pub is_lean : Recording → Bool
 is_lean r = not (is_some r.book)
 
--- what an answer saves: a recording its files, all else none
+-- what an answer saves: a recording its files, a log that is made of another one file, all else none
 abbrev pub AnswerSaves : Answer → (status before after : ℕ) → Type 0
 AnswerSaves (Recorded r) status before after = SavesEach (is_lean r) status before after
 AnswerSaves (Interval r) status before after = after ≡ before
@@ -38,7 +38,9 @@ AnswerSaves (Joined r) status before after = after ≡ before
 AnswerSaves (Listed d) status before after = after ≡ before
 AnswerSaves (Checked d) status before after = after ≡ before
 AnswerSaves Agreed status before after = after ≡ before
-AnswerSaves (Demonstrated lines) status before after = after ≡ before
+AnswerSaves (Renewed n) status before after = SavesEach true status before after
+AnswerSaves (Shown text) status before after = after ≡ before
+AnswerSaves (Halted error) status before after = after ≡ before
 
 -- what a command saves
 abbrev pub LineSaves : Option Line → (status before after : ℕ) → Type 0
@@ -50,6 +52,10 @@ LineSaves (Some (DebugLine log elf)) status before after = after ≡ before
 LineSaves (Some (ListLine log)) status before after = after ≡ before
 LineSaves (Some (CheckLine log)) status before after = after ≡ before
 LineSaves (Some (AuditLine log elf book input)) status before after = after ≡ before
+LineSaves (Some (RacesLine log elf most)) status before after = after ≡ before
+LineSaves (Some (SliceLine log elf hart interval ic)) status before after = after ≡ before
+LineSaves (Some (ConvertLine log copy)) status before after = SavesEach true status before after
+LineSaves (Some (SalvageLine log copy)) status before after = SavesEach true status before after
 LineSaves (Some (DemoLine seed)) status before after = after ≡ before
 
 -- an answer that is a recording, lean or not
@@ -60,9 +66,23 @@ IsRecordedRun lean (Joined r) = ⊥
 IsRecordedRun lean (Listed d) = ⊥
 IsRecordedRun lean (Checked d) = ⊥
 IsRecordedRun lean Agreed = ⊥
-IsRecordedRun lean (Demonstrated lines) = ⊥
+IsRecordedRun lean (Renewed n) = ⊥
+IsRecordedRun lean (Shown text) = ⊥
+IsRecordedRun lean (Halted error) = ⊥
 
--- the answer to a line that records is a recording
+-- an answer that is a log made of another
+abbrev pub IsRenewed : Answer → Type 0
+IsRenewed (Recorded r) = ⊥
+IsRenewed (Interval r) = ⊥
+IsRenewed (Joined r) = ⊥
+IsRenewed (Listed d) = ⊥
+IsRenewed (Checked d) = ⊥
+IsRenewed Agreed = ⊥
+IsRenewed (Renewed n) = Unit {0}
+IsRenewed (Shown text) = ⊥
+IsRenewed (Halted error) = ⊥
+
+-- the answer to a line that records is a recording, and that to one that makes a log of another is such a log
 abbrev pub RecordsRun : Line → Answer → Type 0
 RecordsRun (RecordLine r) answer = IsRecordedRun r.lean answer
 RecordsRun (ReplayLine log elf hart interval) answer = Unit {0}
@@ -71,4 +91,8 @@ RecordsRun (DebugLine log elf) answer = Unit {0}
 RecordsRun (ListLine log) answer = Unit {0}
 RecordsRun (CheckLine log) answer = Unit {0}
 RecordsRun (AuditLine log elf book input) answer = Unit {0}
+RecordsRun (RacesLine log elf most) answer = Unit {0}
+RecordsRun (SliceLine log elf hart interval ic) answer = Unit {0}
+RecordsRun (ConvertLine log copy) answer = IsRenewed answer
+RecordsRun (SalvageLine log copy) answer = IsRenewed answer
 RecordsRun (DemoLine seed) answer = Unit {0}

@@ -1,7 +1,7 @@
 -- What a command answers, by its line and the files that are there. An answer is given by what it has to be: a log file is
--- read by the grammar of its bytes, which is a relation. But for a recording without a seed no command has two answers
+-- read by the grammar of its bytes, which is a relation, in the version that they name. But for a recording without a seed no command has two answers
 -- (`one_answer`).
-use Rattle.std.specs.Prelude.{◌≡◌, ◌≢◌, ℕ, nat_lt, Bool, true, false, List, [], ◌++◌, length, Option, Some, None, Result, Ok, Err}
+use Rattle.std.specs.Prelude.{◌≡◌, ℕ, nat_lt, Bool, true, false, List, [], ◌++◌, length, Option, Some, None, Result, Ok, Err}
 use Rattle.std.specs.Str.{bytes_eq}
 use Rattle.sha2.specs.Sha256.{sha256}
 use Rattle.bn_base.specs.Programs.{Program}
@@ -12,11 +12,9 @@ use Rattle.bn_base.specs.declared.settings.RawSettings.{RawSettings}
 use Rattle.bn_outside.specs.Files.{Files}
 use Rattle.elf_loader.specs.Loaded.{image_of}
 use Rattle.elf_loader.specs.declared.error.ElfError.{ElfError}
-use Rattle.log_order.specs.Content.{Content, IsContent}
-use Rattle.log_file.specs.Layout.{file_bytes}
-use Rattle.log_file.specs.File.{IsRefusal}
-use Rattle.log_file.specs.declared.error.FileError.{FileError}
-use Rattle.log_file.specs.declared.error.FileError.TheVariants as file
+use Rattle.log_order.specs.Content.{Content}
+use Rattle.log_blocks.specs.Readings.{Reads}
+use Rattle.log_blocks.specs.declared.damage.Damage.{Damage}
 use Rattle.hart_replay.specs.Replay.{Outcome, Done, Refused, Replayed, Interval, interval_of, replayed}
 use Rattle.hart_replay.specs.declared.error.ReplayError.TheVariants.{NoInterval}
 use Rattle.rv_text.specs.Marks.{end_text}
@@ -47,18 +45,13 @@ WithFile files names r limit Go what = IsByFile (files (name_of names r)) names 
 
 -- ---- logs
 
--- what the bytes of a log say, or why they are refused
-abbrev pub Reads : List ℕ → Result Content FileError → Type 0
-Reads bytes (Ok d) = IsContent d × (bytes ≡ file_bytes d)
-Reads bytes (Err e) = IsRefusal bytes e × (e ≢ file.OutOfMemory)
-
-abbrev pub by_log : FileNames → (Content → Told) → Result Content FileError → Told
+abbrev pub by_log : FileNames → (Content → Told) → Result Content Damage → Told
 by_log names go (Ok d) = go d
 by_log names go (Err e) = refused names (LogRefused e)
 
 -- an answer by what a log says
 pub record IsByLog (names : FileNames) (bytes : List ℕ) (go : Content → Told) (what : Told) : Type 0 where
-  pub says : Result Content FileError
+  pub says : Result Content Damage
   pub reads : Reads bytes says
   pub is : what ≡ by_log names go says
 
@@ -101,17 +94,17 @@ replay_of names hart interval elf d = replay_same (bytes_eq (sha256 elf) d.head.
 -- ---- the commands
 
 abbrev pub IsList : Files → FileNames → Told → Type 0
-IsList files names what = WithFile files names role.Log 268500992 (λ log what. IsByLog names log list_of what) what
+IsList files names what = WithFile files names role.Log 272629760 (λ log what. IsByLog names log list_of what) what
 
 abbrev pub IsCheck : Files → FileNames → Told → Type 0
-IsCheck files names what = WithFile files names role.Log 268500992 (λ log what. IsByLog names log check_of what) what
+IsCheck files names what = WithFile files names role.Log 272629760 (λ log what. IsByLog names log check_of what) what
 
 abbrev pub IsReplayOf : Files → FileNames → (hart interval : ℕ) → List ℕ → Told → Type 0
 IsReplayOf files names hart interval log what =
     WithFile files names role.Elf 67108864 (λ elf what. IsByLog names log (replay_of names hart interval elf) what) what
 
 abbrev pub IsReplay : Files → FileNames → (hart interval : ℕ) → Told → Type 0
-IsReplay files names hart interval what = WithFile files names role.Log 268500992 (λ log what. IsReplayOf files names hart interval log what) what
+IsReplay files names hart interval what = WithFile files names role.Log 272629760 (λ log what. IsReplayOf files names hart interval log what) what
 
 -- a recording's input is that of a file, or empty
 abbrev pub IsByInput : Bool → Files → FileNames → (List ℕ → Told → Type 0) → Told → Type 0

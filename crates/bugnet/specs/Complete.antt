@@ -5,7 +5,10 @@ use Rattle.bn_base.specs.Programs.{Program}
 use Rattle.bn_base.specs.Ranges.{first_bad}
 use Rattle.bn_base.specs.declared.settings.RawSettings.{RawSettings}
 use Rattle.bn_outside.specs.Files.{Files}
-use Rattle.command_words.specs.Words.{Line, RecordingLine, RecordLine, ReplayLine, JointLine, DebugLine, ListLine, CheckLine, AuditLine, DemoLine}
+use Rattle.command_words.specs.Words.{Line, RecordingLine, RecordLine, ReplayLine, JointLine, DebugLine, ListLine, CheckLine, AuditLine, RacesLine, SliceLine, ConvertLine, SalvageLine, DemoLine}
+use Rattle.std.specs.Str.{bytes_eq}
+use Rattle.log_order.specs.Content.{Content, IsContent}
+use Rattle.log_file.specs.Layout.{file_bytes, file_bytes2}
 use Rattle.elf_loader.specs.Loaded.{image_of}
 use Rattle.hart_replay.specs.Replay.{Interval}
 use Rattle.run_model.specs.Files.{file_of}
@@ -15,6 +18,8 @@ use Rattle.bugnet.specs.Commands.{is_clash}
 use Rattle.le_numbers.specs.Numbers.{AreBytes}
 use Rattle.bugnet.specs.Audits.{Agrees}
 use Rattle.bugnet.specs.Joined.{CanJoin}
+use Rattle.bugnet.specs.Racing.{CanRace}
+use Rattle.bugnet.specs.Slicing.{CanSlice}
 use Rattle.bugnet.specs.Answers.{IsAnswer}
 use Rattle.bugnet.specs.Headline.{Part, ReplaysRun}
 use Rattle.bugnet.specs.Run.{IsFree}
@@ -38,6 +43,10 @@ HasBytes (Some (DebugLine log elf)) files = HoldsBytes (files log)
 HasBytes (Some (ListLine log)) files = HoldsBytes (files log)
 HasBytes (Some (CheckLine log)) files = HoldsBytes (files log)
 HasBytes (Some (AuditLine log elf book input)) files = HoldsBytes (files log)
+HasBytes (Some (RacesLine log elf most)) files = HoldsBytes (files log)
+HasBytes (Some (SliceLine log elf hart interval ic)) files = HoldsBytes (files log)
+HasBytes (Some (ConvertLine log copy)) files = HoldsBytes (files log)
+HasBytes (Some (SalvageLine log copy)) files = HoldsBytes (files log)
 HasBytes (Some (DemoLine seed)) files = Unit {0}
 
 -- then there is an answer
@@ -70,6 +79,18 @@ pub record HasLog (there : Option (List ℕ)) : Type 0 where
   pub recording : IsRecording settings program elf input turns
   pub log : there ≡ Some (file_of settings program (sha256 elf) input turns)
 
+-- the file of a log is there, in either version
+pub record HasContent (there : Option (List ℕ)) : Type 0 where
+  pub content : Content
+  pub is : IsContent content
+  pub log : (there ≡ Some (file_bytes content)) ⊎ (there ≡ Some (file_bytes2 content))
+
+-- in version 2
+pub record HasSecond (there : Option (List ℕ)) : Type 0 where
+  pub content : Content
+  pub is : IsContent content
+  pub log : there ≡ Some (file_bytes2 content)
+
 -- what a line needs. What a session of the debugger needs is said by itself, since it goes by its commands
 abbrev pub CanDo : Line → Files → Type 0
 CanDo (RecordLine r) files = CanRecord r files
@@ -79,6 +100,10 @@ CanDo (DebugLine log elf) files = ⊥
 CanDo (ListLine log) files = HasLog (files log)
 CanDo (CheckLine log) files = HasLog (files log)
 CanDo (AuditLine log elf book input) files = (a : Agrees log elf book input files) × AreBytes a.bytes
+CanDo (RacesLine log elf most) files = CanRace log elf most files
+CanDo (SliceLine log elf hart interval ic) files = CanSlice log elf hart interval ic files
+CanDo (ConvertLine log copy) files = (bytes_eq log copy ≡ false) × HasContent (files log)
+CanDo (SalvageLine log copy) files = (bytes_eq log copy ≡ false) × HasSecond (files log)
 CanDo (DemoLine seed) files = Unit {0}
 
 -- what a line that can be done needs for an answer: a program file that is bytes
@@ -90,6 +115,10 @@ HasElfBytes (DebugLine log elf) files = Unit {0}
 HasElfBytes (ListLine log) files = Unit {0}
 HasElfBytes (CheckLine log) files = Unit {0}
 HasElfBytes (AuditLine log elf book input) files = Unit {0}
+HasElfBytes (RacesLine log elf most) files = Unit {0}
+HasElfBytes (SliceLine log elf hart interval ic) files = Unit {0}
+HasElfBytes (ConvertLine log copy) files = Unit {0}
+HasElfBytes (SalvageLine log copy) files = Unit {0}
 HasElfBytes (DemoLine seed) files = Unit {0}
 
 -- there is an answer, and each answer is that of a command that is done

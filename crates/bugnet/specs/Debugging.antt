@@ -3,7 +3,7 @@ use Rattle.std.specs.Prelude.{◌≡◌, ◌≢◌, ◌⊎◌, ◌≤◌, ℕ, f
 use Rattle.std.specs.Io.KnownBytes.{Appends}
 use Rattle.sha2.specs.Sha256.{sha256}
 use Rattle.bn_outside.specs.Files.{Files}
-use Rattle.command_words.specs.Words.{Line, RecordLine, ReplayLine, JointLine, DebugLine, ListLine, CheckLine, AuditLine, DemoLine}
+use Rattle.command_words.specs.Words.{Line, RecordLine, ReplayLine, JointLine, DebugLine, ListLine, CheckLine, AuditLine, RacesLine, SliceLine, ConvertLine, SalvageLine, DemoLine}
 use Rattle.joint_replay.specs.declared.error.JointError.{JointError}
 use Rattle.joint_replay.specs.Joining.{Walk}
 use Rattle.run_model.specs.Files.{file_of}
@@ -32,7 +32,7 @@ session_after r lines = answers lines (session_begin (begin r (kept r)))
 pub record ShowsRun (r : Recording) (lines : List (List ℕ)) : Type 0 where
   pub goes_on : (e : JointError) → (session_after r lines).ends ≢ Refused e
   pub walk : Walk
-  pub says : SaysSoFar r (session_after r lines).session.now walk
+  pub says : SaysSoFar r (session_after r lines).session.trace.now walk
 
 -- So it is wherever a session comes
 abbrev pub SessionsShowTheRun : Type 0
@@ -88,4 +88,8 @@ Debugs (Some (DebugLine log elf)) status left now_left before now k =
 Debugs (Some (ListLine log)) status left now_left before now k = Unit {0}
 Debugs (Some (CheckLine log)) status left now_left before now k = Unit {0}
 Debugs (Some (AuditLine log elf book input)) status left now_left before now k = Unit {0}
+Debugs (Some (RacesLine log elf most)) status left now_left before now k = Unit {0}
+Debugs (Some (SliceLine log elf hart interval ic)) status left now_left before now k = Unit {0}
+Debugs (Some (ConvertLine log copy)) status left now_left before now k = Unit {0}
+Debugs (Some (SalvageLine log copy)) status left now_left before now k = Unit {0}
 Debugs (Some (DemoLine seed)) status left now_left before now k = Unit {0}

@@ -7,6 +7,8 @@ pub mod Recordings
 pub mod Commands
 pub mod Pairs
 pub mod Joined
+pub mod Racing
+pub mod Slicing
 pub mod Sessions
 pub mod Outside
 pub mod Reading
@@ -15,6 +17,7 @@ pub mod Printed
 pub mod Keeping
 pub mod Logs
 pub mod Audits
+pub mod Renewing
 pub mod Answers
 pub mod Run
 pub mod Saves
@@ -23,6 +26,7 @@ pub mod Headline
 pub mod Jointly
 pub mod Steps
 pub mod Debugging
+pub mod Traced
 pub mod Complete
 pub mod Asks
 pub mod Agreements

@@ -1,5 +1,5 @@
 -- What the parts of a command do to the outside.
-use Rattle.std.specs.Prelude.{◌≡◌, ◌≢◌, ◌≤◌, ◌<◌, ◌⊎◌, ◌++◌, ℕ, List, length, Option, Some, None, Result, Ok, Err, IsSomeAnd, option_map, Bool, true, false}
+use Rattle.std.specs.Prelude.{◌≡◌, ◌≢◌, ◌≤◌, ◌<◌, ◌⊎◌, ◌++◌, ℕ, List, [], length, Option, Some, None, Result, Ok, Err, IsSomeAnd, option_map, Bool, true, false}
 use Rattle.std.specs.Io.KnownBytes.{Appends}
 use Rattle.std.specs.Str.{bytes_eq}
 use Rattle.std.specs.declared.vec.Vec.{Vec}
@@ -11,11 +11,9 @@ use Rattle.bn_base.specs.Programs.{Program}
 use Rattle.bn_base.specs.declared.settings.RawSettings.{RawSettings}
 use Rattle.elf_loader.specs.Loaded.{image_of}
 use Rattle.elf_loader.specs.declared.error.ElfError.{ElfError}
-use Rattle.log_order.specs.Content.{Content, IsContent}
-use Rattle.log_file.specs.Layout.{file_bytes}
-use Rattle.log_file.specs.File.{IsRefusal}
-use Rattle.log_file.specs.declared.error.FileError.{FileError}
-use Rattle.log_file.specs.declared.error.FileError.TheVariants as file
+use Rattle.log_order.specs.Content.{Content}
+use Rattle.log_blocks.specs.Readings.{Reads}
+use Rattle.log_blocks.specs.declared.damage.Damage.{Damage}
 use Rattle.bugnet.specs.Names.{FileNames, name_of}
 use Rattle.bugnet.specs.Refusals.{status_of, line_of}
 use Rattle.bugnet.specs.Told.{Told, Saved, refused, printed}
@@ -23,6 +21,7 @@ use Rattle.bugnet.specs.Texts.{check_line, agree_text}
 use Rattle.bugnet.specs.Recordings.{end_status}
 use Rattle.bugnet.specs.Commands.{list_of, replay_with}
 use Rattle.bugnet.specs.Joined.{joint_with}
+use Rattle.bugnet.specs.Racing.{halted}
 use Rattle.bugnet.specs.declared.names.Role.{Role}
 use Rattle.bugnet.specs.declared.names.Role.TheVariants as role
 use Rattle.bugnet.specs.declared.refusal.Refusal.{Refusal}
@@ -30,7 +29,8 @@ use Rattle.bugnet.specs.declared.refusal.Refusal.TheVariants as why
 use Rattle.bugnet.specs.declared.answer.Answer.{Answer}
 use Rattle.bugnet.specs.declared.answer.Reading.{Reading}
 use Rattle.bugnet.specs.declared.answer.Recording.{Recording}
-use Rattle.bugnet.specs.declared.answer.Answer.TheVariants.{Recorded, Interval, Joined, Listed, Checked, Agreed, Demonstrated}
+use Rattle.bugnet.specs.declared.answer.NewLog.{NewLog}
+use Rattle.bugnet.specs.declared.answer.Answer.TheVariants.{Recorded, Interval, Joined, Listed, Checked, Agreed, Renewed, Shown, Halted}
 
 -- ---- what is loaded
 
@@ -48,8 +48,8 @@ FetchTells role limit there (Err refusal) =
 
 -- a log that was read, or why it is refused
 abbrev pub LogTells : List ℕ → Result Content Refusal → Type 0
-LogTells bytes (Ok d) = IsContent d × (bytes ≡ file_bytes d)
-LogTells bytes (Err refusal) = (refusal ≡ why.OutOfMemory) ⊎ ((e : FileError) × (refusal ≡ why.LogRefused e) × IsRefusal bytes e × (e ≢ file.OutOfMemory))
+LogTells bytes (Ok d) = Reads bytes (Ok d)
+LogTells bytes (Err refusal) = (refusal ≡ why.OutOfMemory) ⊎ ((e : Damage) × (refusal ≡ why.LogRefused e) × Reads bytes (Err e))
 
 -- a program that was loaded, or why it is refused
 abbrev pub ProgramTells : List ℕ → RawSettings → Result Program Refusal → Type 0
@@ -71,6 +71,14 @@ told_of_recording r = record { status = end_status r.end; out = r.out.items; err
 abbrev pub told_of_reading : FileNames → Reading → Told
 told_of_reading names r = replay_with names r.hart r.interval r.log r.image
 
+-- a log file alone is saved
+abbrev pub saved_new : List ℕ → Saved
+saved_new file = record { log = file; book = None }
+
+-- and then the line of its log is told
+abbrev pub told_of_new : NewLog → Told
+told_of_new n = record { status = 0; out = check_line n.counts; err = []; saved = Some (saved_new n.file.items) }
+
 -- what an answer tells
 abbrev pub told_of : FileNames → Answer → Told
 told_of names (Recorded r) = told_of_recording r
@@ -79,7 +87,9 @@ told_of names (Joined r) = joint_with names r.log r.image
 told_of names (Listed d) = list_of d
 told_of names (Checked n) = printed (check_line n)
 told_of names Agreed = printed agree_text
-told_of names (Demonstrated lines) = printed lines
+told_of names (Renewed n) = told_of_new n
+told_of names (Shown text) = printed text
+told_of names (Halted error) = halted names error
 
 -- an answer that saves nothing
 abbrev pub IsPrinted : Answer → Type 0
@@ -89,7 +99,9 @@ IsPrinted (Joined r) = Unit {0}
 IsPrinted (Listed d) = Unit {0}
 IsPrinted (Checked n) = Unit {0}
 IsPrinted Agreed = Unit {0}
-IsPrinted (Demonstrated lines) = Unit {0}
+IsPrinted (Renewed n) = ⊥
+IsPrinted (Shown text) = Unit {0}
+IsPrinted (Halted error) = Unit {0}
 
 -- what was made of loaded bytes, by what it tells, is what the command has to answer, or memory was wanting
 abbrev pub GivesTo : {A : Type 0} → (A → Told) → FileNames → (Told → Type 0) → Result A Refusal → Type 0
@@ -219,6 +231,7 @@ SaveBroke role.Elf saved log book old new = ⊥
 SaveBroke role.Log saved log book old new = SameElsewhere log old new
 SaveBroke role.Book saved log book old new = IsSomeAnd saved.book (λ list. LogAlone saved.log log book old new)
 SaveBroke role.Input saved log book old new = ⊥
+SaveBroke role.Origin saved log book old new = ⊥
 
 -- what a command may have done to the files, whatever happened: nothing where nothing was to be saved; else the save of the
 -- log may have been refused, or that of the book, where there is one, or none

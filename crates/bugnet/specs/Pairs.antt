@@ -35,7 +35,7 @@ abbrev pub IsPairOf : ByPair → Files → FileNames → List ℕ → Told → T
 IsPairOf go files names log what = WithFile files names role.Elf 67108864 (λ elf what. IsByLog names log (pair_of go names elf) what) what
 
 abbrev pub IsPair : ByPair → Files → FileNames → Told → Type 0
-IsPair go files names what = WithFile files names role.Log 268500992 (λ log what. IsPairOf go files names log what) what
+IsPair go files names what = WithFile files names role.Log 272629760 (λ log what. IsPairOf go files names log what) what
 
 -- a log and its program are there
 pub record ArePair (log elf : List ℕ) (files : Files) (d : Content) (i : Program) : Type 0 where

@@ -1,5 +1,5 @@
 -- What a replay prints on out.
-use Rattle.std.specs.Prelude.{List, [], ◌++◌, ℕ, Result, Ok, Err}
+use Rattle.std.specs.Prelude.{◌≡◌, List, [], ◌++◌, ℕ, Result, Ok, Err}
 use Rattle.bn_base.specs.declared.end_mark.EndMark.{EndMark}
 use Rattle.hart_replay.specs.Replay.{Outcome, Done, Refused, Replayed, Interval}
 use Rattle.hart_replay.specs.declared.error.ReplayError.{ReplayError}
@@ -15,6 +15,10 @@ use Rattle.bugnet.specs.declared.refusal.Refusal.TheVariants as why
 abbrev pub outcome_of : Ending → Outcome
 outcome_of ending.Done = Done
 outcome_of (ending.Stopped error) = Refused error
+
+-- the ending is that of the outcome
+abbrev pub EndsAs : Outcome → Ending → Type 0
+EndsAs outcome ending = outcome_of ending ≡ outcome
 
 -- the end that an error of a replay makes; want of memory is none
 abbrev pub ending_of : ReplayError → Result Ending Refusal

@@ -9,6 +9,8 @@ use Rattle.elf_loader.specs.declared.error.ElfError.{ElfError}
 use Rattle.elf_loader.specs.declared.error.ElfError.TheVariants as elf
 use Rattle.log_file.specs.declared.error.FileError.{FileError}
 use Rattle.log_file.specs.declared.error.FileError.TheVariants as file
+use Rattle.log_blocks.specs.declared.damage.Damage.{Damage}
+use Rattle.log_blocks.specs.declared.damage.Damage.TheVariants.{File, BadBlock}
 use Rattle.hart_replay.specs.declared.error.ReplayError.{ReplayError}
 use Rattle.hart_replay.specs.declared.error.ReplayError.TheVariants as replay
 use Rattle.run_model.specs.declared.error.TurnError.{TurnError}
@@ -16,7 +18,7 @@ use Rattle.run_model.specs.declared.error.TurnError.TheVariants as turns
 use Rattle.bugnet.specs.Names.{FileNames, name_of}
 use Rattle.bugnet.specs.Marks.{counted}
 use Rattle.bugnet.specs.declared.refusal.Refusal.{Refusal}
-use Rattle.bugnet.specs.declared.refusal.Refusal.TheVariants.{WordsRefused, OutOfRange, SameName, StoreFailed, Missing, TooLong, ElfRefused, LogRefused, ProgramDiffers, OutOfMemory, WriteFailed, ReplayStopped, ReadFailed, LineTooLong, CommandsTooLong, BookRefused, FileDiffers}
+use Rattle.bugnet.specs.declared.refusal.Refusal.TheVariants.{WordsRefused, OutOfRange, SameName, StoreFailed, Missing, TooLong, ElfRefused, LogRefused, ProgramDiffers, OutOfMemory, WriteFailed, ReplayStopped, ReadFailed, LineTooLong, CommandsTooLong, BookRefused, FileDiffers, NothingLeft, TooManyRaces, NoRow}
 
 -- ---- the status
 
@@ -42,6 +44,22 @@ status_of LineTooLong = 18
 status_of CommandsTooLong = 18
 status_of (BookRefused error) = 17
 status_of (FileDiffers place) = 16
+status_of NothingLeft = 19
+status_of (TooManyRaces most) = 20
+status_of (NoRow ic) = 21
+
+-- the refusal of a log file by its damage; want of memory is its own
+abbrev pub log_refusal : Damage → Refusal
+log_refusal (BadBlock at) = LogRefused (BadBlock at)
+log_refusal (File (file.Short length)) = LogRefused (File (file.Short length))
+log_refusal (File file.BadMagic) = LogRefused (File file.BadMagic)
+log_refusal (File (file.BadVersion found)) = LogRefused (File (file.BadVersion found))
+log_refusal (File (file.BadHead field value)) = LogRefused (File (file.BadHead field value))
+log_refusal (File (file.LengthDiffers said found)) = LogRefused (File (file.LengthDiffers said found))
+log_refusal (File (file.DigestDiffers kept found)) = LogRefused (File (file.DigestDiffers kept found))
+log_refusal (File (file.BadRecord at)) = LogRefused (File (file.BadRecord at))
+log_refusal (File (file.BadOrder at rule)) = LogRefused (File (file.BadOrder at rule))
+log_refusal (File file.OutOfMemory) = OutOfMemory
 
 -- ---- the line
 
@@ -72,17 +90,21 @@ elf_said elf.NoSegment = codes "elf: NoSegment"
 elf_said (elf.EntryOutside entry) = codes "elf: EntryOutside " ++ hex8 entry
 elf_said elf.OutOfMemory = codes "out of memory"
 
--- why a log is refused
-unfoldable pub log_said : FileError → List ℕ
-log_said (file.Short length) = counted (codes "log: Short ") length
-log_said file.BadMagic = codes "log: BadMagic"
-log_said (file.BadVersion found) = counted (codes "log: BadVersion ") found
-log_said (file.BadHead field value) = pair_text (codes "log: BadHead ") field value
-log_said (file.LengthDiffers said found) = pair_text (codes "log: LengthDiffers ") said found
-log_said (file.DigestDiffers kept found) = digests_text (codes "log: DigestDiffers ") kept found
-log_said (file.BadRecord at) = counted (codes "log: BadRecord ") at
-log_said (file.BadOrder at rule) = pair_text (codes "log: BadOrder ") at rule
-log_said file.OutOfMemory = codes "out of memory"
+-- why a log is refused, for what a file of either version can be, or for a block
+unfoldable pub file_said : FileError → List ℕ
+file_said (file.Short length) = counted (codes "log: Short ") length
+file_said file.BadMagic = codes "log: BadMagic"
+file_said (file.BadVersion found) = counted (codes "log: BadVersion ") found
+file_said (file.BadHead field value) = pair_text (codes "log: BadHead ") field value
+file_said (file.LengthDiffers said found) = pair_text (codes "log: LengthDiffers ") said found
+file_said (file.DigestDiffers kept found) = digests_text (codes "log: DigestDiffers ") kept found
+file_said (file.BadRecord at) = counted (codes "log: BadRecord ") at
+file_said (file.BadOrder at rule) = pair_text (codes "log: BadOrder ") at rule
+file_said file.OutOfMemory = codes "out of memory"
+
+unfoldable pub log_said : Damage → List ℕ
+log_said (File error) = file_said error
+log_said (BadBlock at) = counted (codes "log: BadBlock ") at
 
 -- why a replay stopped
 unfoldable pub replay_said : ReplayError → List ℕ
@@ -118,6 +140,9 @@ said_of names LineTooLong = codes "line too long"
 said_of names CommandsTooLong = codes "commands too long"
 said_of names (BookRefused error) = book_said error
 said_of names (FileDiffers place) = counted (codes "differs at ") place
+said_of names NothingLeft = codes "nothing left"
+said_of names (TooManyRaces most) = counted (codes "races: more than ") most
+said_of names (NoRow ic) = counted (codes "no row ") ic
 
 -- the whole line
 unfoldable pub line_of : FileNames → Refusal → List ℕ

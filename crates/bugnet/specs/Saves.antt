@@ -7,7 +7,7 @@ use Rattle.bn_outside.specs.Files.{Files, WhereTold, SameElsewhere}
 use Rattle.elf_loader.specs.Loaded.{image_of}
 use Rattle.log_order.specs.Content.{Content, IsContent}
 use Rattle.log_file.specs.Layout.{file_bytes}
-use Rattle.command_words.specs.Words.{Line, RecordingLine, RecordLine, ReplayLine, JointLine, DebugLine, ListLine, CheckLine, AuditLine, DemoLine}
+use Rattle.command_words.specs.Words.{Line, RecordingLine, RecordLine, ReplayLine, JointLine, DebugLine, ListLine, CheckLine, AuditLine, RacesLine, SliceLine, ConvertLine, SalvageLine, DemoLine}
 use Rattle.le_numbers.specs.Numbers.{AreBytes}
 use Rattle.log_record.specs.Spelling.{total}
 use Rattle.run_model.specs.Files.{kept_of, file_of}
@@ -87,6 +87,10 @@ LeavesRun (Some (DebugLine log elf)) status old new = Unit {0}
 LeavesRun (Some (ListLine log)) status old new = Unit {0}
 LeavesRun (Some (CheckLine log)) status old new = Unit {0}
 LeavesRun (Some (AuditLine log elf book input)) status old new = Unit {0}
+LeavesRun (Some (RacesLine log elf most)) status old new = Unit {0}
+LeavesRun (Some (SliceLine log elf hart interval ic)) status old new = Unit {0}
+LeavesRun (Some (ConvertLine log copy)) status old new = Unit {0}
+LeavesRun (Some (SalvageLine log copy)) status old new = Unit {0}
 LeavesRun (Some (DemoLine seed)) status old new = Unit {0}
 
 -- what is there is bytes
@@ -102,4 +106,8 @@ HasElf (DebugLine log elf) known = Unit {0}
 HasElf (ListLine log) known = Unit {0}
 HasElf (CheckLine log) known = Unit {0}
 HasElf (AuditLine log elf book input) known = Unit {0}
+HasElf (RacesLine log elf most) known = Unit {0}
+HasElf (SliceLine log elf hart interval ic) known = Unit {0}
+HasElf (ConvertLine log copy) known = Unit {0}
+HasElf (SalvageLine log copy) known = Unit {0}
 HasElf (DemoLine seed) known = Unit {0}

@@ -13,12 +13,14 @@ ghost use Rattle.bugnet.specs.declared.refusal.Refusal.TheVariants.{OutOfMemory}
 
 use crate::answer::{Answer, Reading, Recording};
 use crate::auditing::print_agreement;
-use crate::demonstrating::print_lines;
-use crate::joining::print_joint;
+use crate::joining::{print_joint, stop};
 use crate::logs::interval_mark;
 use crate::names::{Names, Role};
-use crate::printing::{Ending, refuse, send_bytes, send_check, send_interval, send_list};
+use crate::printing::{
+    Ending, print_text, refuse, send_bytes, send_check, send_interval, send_list,
+};
 use crate::refusal::Refusal;
+use crate::renewing::keep_new;
 use bn_base::EndMark;
 use bn_outside::{SaveError, Sink, Store};
 use hart_replay::{ReplayError, Replayer};
@@ -224,7 +226,9 @@ pub fn act<S: Store, O: Sink, X: Sink>(
         Answer::Listed(log) => print_list(alloc, names, log, out, err),
         Answer::Checked(log) => print_check(alloc, names, log, out, err),
         Answer::Agreed => print_agreement(alloc, names, out, err),
-        Answer::Demonstrated(lines) => print_lines(alloc, names, lines, out, err),
+        Answer::Renewed(new) => keep_new(alloc, names, new, store, out, err),
+        Answer::Shown(text) => print_text(alloc, names, text, out, err),
+        Answer::Halted(error) => stop(alloc, names, error, err),
         Answer::Recorded(recording) => keep(alloc, names, recording, store, out, err),
     }
 }

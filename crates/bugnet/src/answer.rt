@@ -10,7 +10,9 @@ use crate::pairs::JointReading;
 use crate::refusal::Refusal;
 use bn_base::{Image, Settings};
 use elf_loader::{ElfError, load};
-use log_file::{FileError, LogCounts, count_file, read_file};
+use joint_replay::JointError;
+use log_blocks::{count_file, read_file};
+use log_file::LogCounts;
 use log_order::KeptLog;
 use rv_text::Text;
 use sha2::{Digest, Sha256};
@@ -72,6 +74,13 @@ pub struct Reading {
     pub interval: u64,
 }
 
+/// A log file of version 2 that is to be saved, and what its log has.
+#[derive(Drop)]
+pub struct NewLog {
+    pub file: Vec<u8>,
+    pub counts: LogCounts,
+}
+
 /// What a command answers that isn't refused.
 #[derive(Drop)]
 pub enum Answer {
@@ -87,8 +96,13 @@ pub enum Answer {
     Checked(LogCounts),
     /// A log is the file of the run of a list of turns.
     Agreed,
+    /// A log that was made of another is saved, and what it has is counted.
+    Renewed(NewLog),
     /// The lines of a demonstration.
-    Demonstrated(Text),
+    /// A text that is made already.
+    Shown(Text),
+    /// The joint replay of a log stopped.
+    Halted(JointError),
 }
 
 /// The SHA-256 digest (FIPS 180-4).
@@ -98,15 +112,14 @@ pub fn digest_of(bytes: &[u8]) -> [u8; 32]
     Sha256::digest(bytes)
 }
 
-/// What a log file says.
+/// What a log file of either version says.
 pub fn read_log(alloc: Global, bytes: &[u8]) -> Result<KeptLog, Refusal>
     ensures says { LogTells bytes.now result }
     ensures own { IsOwn result }
 {
     match read_file(alloc, bytes) {
         Ok(log) => Ok(log),
-        Err(FileError::OutOfMemory) => Err(Refusal::OutOfMemory),
-        Err(error) => Err(Refusal::LogRefused(error)),
+        Err(damage) => Err(Refusal::of_damage(damage)),
     }
 }
 
@@ -123,14 +136,14 @@ pub fn list_of(alloc: Global, names: &Names, log: &[u8]) -> Result<Answer, Refus
 }
 
 /// The counts of a log.
-pub fn check_of(names: &Names, log: &[u8]) -> Result<Answer, Refusal>
+pub fn check_of(alloc: Global, names: &Names, log: &[u8]) -> Result<Answer, Refusal>
     ensures gives { Gives names.now (IsByLog names.now log.now check_of) result }
     ensures own { IsOwn result }
     ensures prints { IfOk result IsPrinted }
 {
-    match count_file(log) {
+    match count_file(alloc, log) {
         Ok(counts) => Ok(Answer::Checked(counts)),
-        Err(error) => Err(Refusal::LogRefused(error)),
+        Err(damage) => Err(Refusal::of_damage(damage)),
     }
 }
 

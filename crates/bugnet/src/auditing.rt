@@ -14,8 +14,9 @@ use crate::names::{Names, Role};
 use crate::pairs::{JointReading, pair_of};
 use crate::printing::{refuse, send};
 use crate::refusal::Refusal;
+use crate::versions::audit_either;
 use bn_outside::{Sink, Store};
-use run_model::{Start, TurnError, Verdict, audit, verdicts_are_unique};
+use run_model::{Start, TurnError, Verdict, verdicts_are_unique};
 use rv_text::Text;
 use std::alloc::Global;
 
@@ -67,7 +68,7 @@ fn audit_reading(
 {
     verdicts_are_unique();
     let start = start_of(reading, input);
-    match audit(alloc, &start, book, log) {
+    match audit_either(alloc, &start, book, log) {
         Ok(verdict) => answer_by(names, verdict),
         Err(TurnError::OutOfMemory) => Err(Refusal::OutOfMemory),
         Err(error) => Err(Refusal::BookRefused(error)),
@@ -163,7 +164,8 @@ fn audit_in<S: Store>(
 }
 
 /// Loads a log, the program, a list of turns and the input, which is empty where the command has none,
-/// and audits the log: whether it is the file of the run of these turns, with the settings that it says.
+/// and audits the log: whether it is the file of the run of these turns, with the settings that it says,
+/// in the log's own version.
 pub fn audit_files<S: Store>(
     alloc: Global,
     names: &Names,

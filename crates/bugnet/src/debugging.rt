@@ -11,10 +11,13 @@ use crate::names::Names;
 use crate::pairs::{JointReading, load_pair};
 use crate::printing::refuse;
 use crate::refusal::Refusal;
+use back_step::Trail;
 use bn_outside::{Sink, Source, Store};
-use joint_replay::Joint;
 use std::alloc::Global;
 use step_debugger::{DebugError, debug};
+
+// After how many steps a session keeps a copy of its joint replay, to go back to.
+const COPY_EVERY: u64 = 65_536;
 
 // Tells on err why a session stopped, and answers the status.
 fn end<X: Sink>(alloc: Global, names: &Names, error: &DebugError, err: &mut X) -> u8
@@ -48,9 +51,9 @@ fn debug_pair<I: Source, O: Sink, X: Sink>(
     ensures out_later { O.faults out.old ≤ O.faults out.new }
     ensures err_later { X.faults err.old ≤ X.faults err.new }
 {
-    match Joint::begin(alloc, &reading.image, &reading.log) {
+    match Trail::begin(alloc, &reading.image, &reading.log, COPY_EVERY) {
         Err(_) => refuse(alloc, names, &Refusal::OutOfMemory, err),
-        Ok(mut joint) => match debug(alloc, &mut joint, input, out) {
+        Ok(mut trail) => match debug(alloc, &mut trail, input, out) {
             Ok(()) => 0,
             Err(error) => end(alloc, names, &error, err),
         },

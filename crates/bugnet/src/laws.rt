@@ -5,6 +5,7 @@ ghost use Rattle.bugnet.specs.Agreements.{AuditsAgree};
 ghost use Rattle.bugnet.specs.Complete.{EachHasAnAnswer, EachCanBeDone};
 ghost use Rattle.bugnet.specs.Headline.{Headline, RecordingsAreReplayed};
 ghost use Rattle.bugnet.specs.Jointly.{JointHeadline, RecordingsCanBeJoined, RecordingsAreJoined};
+ghost use Rattle.bugnet.specs.Traced.{RacesAreTold, SlicesAreTold};
 
 use file_laws::logs_are_contents;
 use hart_worker::{seeded_lists_end, whole_runs_have_no_error};
@@ -12,10 +13,12 @@ use joint_laws::{
     beginnings_go_on, files_say_the_run_jointly, own_logs_are_logs,
     reached_joint_replays_say_the_run, steps_are_not_refused,
 };
-use log_file::laws::{
-    files_have_their_size, files_say_one_thing, logs_are_not_refused, refusals_are_unique,
+use log_blocks::laws::{blocks_are_few, files_name_their_version};
+use log_blocks::readings::{
+    files_are_read, files_are_read_or_refused, files_are_salvaged_or_refused, readings_are_unique,
+    salvages_are_unique, whole_files_are_salvaged,
 };
-use log_file::readings::files_are_read_or_refused;
+use log_file::laws::files_have_their_size;
 use replay_laws::{the_log_suffices, the_rows_of_an_interval_stand_together};
 use run_laws::{kept_records_are_an_end, own_rows_are_turns, turns_are_lawful, turns_are_own};
 use run_model::{format_1_is_version_1, verdicts_are_unique};
@@ -25,18 +28,15 @@ use run_model::{format_1_is_version_1, verdicts_are_unique};
 pub fn one_answer()
     ensures { OneAnswer }
 {
-    files_say_one_thing();
-    logs_are_not_refused();
-    refusals_are_unique();
+    readings_are_unique();
+    salvages_are_unique();
 }
 
 /// A session of the debugger has one answer for the commands that are read.
 pub fn one_session()
     ensures { OneSession }
 {
-    files_say_one_thing();
-    logs_are_not_refused();
-    refusals_are_unique();
+    readings_are_unique();
 }
 
 /// Wherever a session over the log of a recording comes by its commands, its replay isn't refused, and
@@ -60,6 +60,7 @@ pub fn recordings_can_be_debugged()
     logs_are_contents();
     format_1_is_version_1();
     files_have_their_size();
+    files_are_read();
 }
 
 /// The answer to the replay of an interval from the log file of a run is the text of the run's own
@@ -69,15 +70,14 @@ pub fn recordings_can_be_debugged()
 pub fn headline()
     ensures { Headline }
 {
-    files_say_one_thing();
-    logs_are_not_refused();
-    refusals_are_unique();
+    readings_are_unique();
     the_log_suffices();
     the_rows_of_an_interval_stand_together();
     kept_records_are_an_end();
     logs_are_contents();
     format_1_is_version_1();
     files_have_their_size();
+    files_are_read();
 }
 
 /// The answer to the joint replay of the log file of a run is the text of one that says the run: it
@@ -88,13 +88,12 @@ pub fn headline()
 pub fn joint_headline()
     ensures { JointHeadline }
 {
-    files_say_one_thing();
-    logs_are_not_refused();
-    refusals_are_unique();
+    readings_are_unique();
     files_say_the_run_jointly();
     logs_are_contents();
     format_1_is_version_1();
     files_have_their_size();
+    files_are_read();
 }
 
 /// Words and files have an answer, where what the files hold is bytes.
@@ -107,6 +106,7 @@ pub fn each_has_an_answer()
     turns_are_own();
     own_rows_are_turns();
     files_are_read_or_refused();
+    files_are_salvaged_or_refused();
 }
 
 /// Where the settings are in range, LOG and BOOK are two names, the files are there, within their
@@ -128,9 +128,15 @@ pub fn each_can_be_done()
     logs_are_contents();
     format_1_is_version_1();
     files_have_their_size();
+    files_are_read();
+    files_name_their_version();
+    log_blocks::laws::files_have_their_size();
+    blocks_are_few();
+    whole_files_are_salvaged();
 }
 
-/// Where an audit is done, the log is the file of the run of the book's turns, with settings in range, the
+/// Where an audit is done, the log is the file of the run of the book's turns, in its own version or in
+/// version 2, with settings in range, the
 /// program and the input, and these turns are legal and finished.
 pub fn audits_agree()
     ensures { AuditsAgree }
@@ -156,6 +162,7 @@ pub fn recordings_can_be_joined()
     logs_are_contents();
     format_1_is_version_1();
     files_have_their_size();
+    files_are_read();
 }
 
 /// Of the files that a recording leaves, the joint replay of the log is printed, and says the recorded
@@ -164,6 +171,33 @@ pub fn recordings_are_joined()
     ensures { RecordingsAreJoined }
 {
     joint_headline();
+}
+
+/// Of the log file of a recording with its program file `races` tells the races of the joint replay that
+/// says the run, or that there are more than asked for: never that a replay stopped.
+pub fn races_are_told()
+    ensures { RacesAreTold }
+{
+    readings_are_unique();
+    files_are_read();
+    files_say_the_run_jointly();
+    logs_are_contents();
+    format_1_is_version_1();
+    files_have_their_size();
+}
+
+/// Of the log file of a recording with its program file `slice` tells the slice of a row of the run's own,
+/// that the interval has no row of that count, or that the log doesn't keep the interval: never that a
+/// replay stopped.
+pub fn slices_are_told()
+    ensures { SlicesAreTold }
+{
+    readings_are_unique();
+    files_are_read();
+    the_log_suffices();
+    logs_are_contents();
+    format_1_is_version_1();
+    files_have_their_size();
 }
 
 /// The list of turns that a seed chooses is legal and finished, where the settings were tested.

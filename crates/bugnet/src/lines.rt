@@ -3,7 +3,7 @@ ghost use Rattle.std.specs.Prelude.{◌≡◌, ◌++◌, OnOk, codes, decimal};
 ghost use Rattle.rv_text.specs.Instructions.{hex8};
 ghost use Rattle.bn_base.specs.Ranges.{setting_name};
 ghost use Rattle.rv_text.specs.Marks.{mark_text};
-ghost use Rattle.bugnet.specs.Refusals.{digest_text, pair_text, digests_text, elf_said, log_said, replay_said, book_said, said_of, line_of};
+ghost use Rattle.bugnet.specs.Refusals.{digest_text, pair_text, digests_text, elf_said, file_said, log_said, replay_said, book_said, said_of, line_of};
 ghost use Rattle.bugnet.specs.Marks.{counted};
 
 use crate::names::Names;
@@ -12,6 +12,7 @@ use crate::texts::push_counted;
 use bn_base::{BadSetting, EndMark, HartId};
 use elf_loader::ElfError;
 use hart_replay::ReplayError;
+use log_blocks::Damage;
 use log_file::FileError;
 use run_model::TurnError;
 use rv_text::{Text, write_mark};
@@ -94,9 +95,9 @@ fn push_elf(text: &mut Text, error: &ElfError) -> Result<(), AllocError>
     }
 }
 
-#[tactic(auto, unfolding(crate::specs::Refusals::log_said))]
-fn push_log(alloc: Global, text: &mut Text, error: &FileError) -> Result<(), AllocError>
-    ensures { OnOk result (text.new ≡ text.old ++ log_said error.now) }
+#[tactic(auto, unfolding(crate::specs::Refusals::file_said))]
+fn push_file(alloc: Global, text: &mut Text, error: &FileError) -> Result<(), AllocError>
+    ensures { OnOk result (text.new ≡ text.old ++ file_said error.now) }
 {
     match error {
         FileError::Short { length } => push_counted(text, "log: Short ", *length),
@@ -112,6 +113,16 @@ fn push_log(alloc: Global, text: &mut Text, error: &FileError) -> Result<(), All
         FileError::BadRecord { at } => push_counted(text, "log: BadRecord ", *at),
         FileError::BadOrder { at, rule } => push_pair(text, "log: BadOrder ", *at, *rule),
         FileError::OutOfMemory => text.push_str("out of memory"),
+    }
+}
+
+#[tactic(auto, unfolding(crate::specs::Refusals::log_said))]
+fn push_log(alloc: Global, text: &mut Text, damage: &Damage) -> Result<(), AllocError>
+    ensures { OnOk result (text.new ≡ text.old ++ log_said damage.now) }
+{
+    match damage {
+        Damage::File(error) => push_file(alloc, text, error),
+        Damage::BadBlock { at } => push_counted(text, "log: BadBlock ", *at),
     }
 }
 
@@ -218,6 +229,9 @@ impl Refusal {
             Refusal::CommandsTooLong => text.push_str("commands too long"),
             Refusal::BookRefused(error) => push_book(text, error),
             Refusal::FileDiffers { at_byte } => push_counted(text, "differs at ", *at_byte),
+            Refusal::NothingLeft => text.push_str("nothing left"),
+            Refusal::TooManyRaces { most } => push_counted(text, "races: more than ", *most),
+            Refusal::NoRow { ic } => push_counted(text, "no row ", *ic),
         }
     }
 

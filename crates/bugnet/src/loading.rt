@@ -15,7 +15,7 @@ use std::alloc::Global;
 pub const ELF_LIMIT: usize = 67_108_864;
 
 /// The most bytes of a log file.
-pub const LOG_LIMIT: usize = 268_500_992;
+pub const LOG_LIMIT: usize = 272_629_760;
 
 /// The most bytes of an input.
 pub const INPUT_LIMIT: usize = 16_777_216;
@@ -68,7 +68,7 @@ pub fn check_files<S: Store>(alloc: Global, names: &Names, store: &mut S) -> Res
     ensures prints { IfOk result IsPrinted }
 {
     match fetch(alloc, names, store, Role::Log, LOG_LIMIT) {
-        Ok(log) => check_of(names, &log),
+        Ok(log) => check_of(alloc, names, &log),
         Err(refusal) => Err(refusal),
     }
 }

@@ -9,12 +9,14 @@ use std::marker::Model;
 pub enum Role {
     /// The program.
     Elf,
-    /// The log of a recording.
+    /// The log that a command reads or saves.
     Log,
     /// The list of a recording's turns.
     Book,
     /// What the program reads as its input.
     Input,
+    /// The log that is read, where another is saved that is made of it.
+    Origin,
 }
 
 /// The name of the file in each role; empty where the command has none.
@@ -24,6 +26,7 @@ pub struct Names<'a> {
     pub log: &'a str,
     pub book: &'a str,
     pub input: &'a str,
+    pub origin: &'a str,
 }
 
 impl<'a> Model for Names<'a> {
@@ -31,7 +34,7 @@ impl<'a> Model for Names<'a> {
 
     ghost Value = { FileNames };
 
-    ghost view = { λ n. record { elf = n.elf.now; log = n.log.now; book = n.book.now; input = n.input.now } };
+    ghost view = { λ n. record { elf = n.elf.now; log = n.log.now; book = n.book.now; input = n.input.now; origin = n.origin.now } };
 }
 
 impl<'a> Names<'a> {
@@ -44,18 +47,46 @@ impl<'a> Names<'a> {
             log: "",
             book: "",
             input: "",
+            origin: "",
+        }
+    }
+
+    /// The names of a log and a program.
+    pub fn of_pair(log: &'a str, elf: &'a str) -> Names<'a>
+        ensures { result ≡ record { elf = elf.now; log = log.now; book = []; input = []; origin = [] } }
+    {
+        Names {
+            elf,
+            log,
+            book: "",
+            input: "",
+            origin: "",
         }
     }
 
     /// The name of a log.
     pub fn of_log(log: &'a str) -> Names<'a>
-        ensures { result ≡ record { elf = []; log = log.now; book = []; input = [] } }
+        ensures { result ≡ record { elf = []; log = log.now; book = []; input = []; origin = [] } }
     {
         Names {
             elf: "",
             log,
             book: "",
             input: "",
+            origin: "",
+        }
+    }
+
+    /// The names of a log that is made of another.
+    pub fn of_new(origin: &'a str, log: &'a str) -> Names<'a>
+        ensures { result ≡ record { elf = []; log = log.now; book = []; input = []; origin = origin.now } }
+    {
+        Names {
+            elf: "",
+            log,
+            book: "",
+            input: "",
+            origin,
         }
     }
 
@@ -68,6 +99,7 @@ impl<'a> Names<'a> {
             Role::Log => self.log,
             Role::Book => self.book,
             Role::Input => self.input,
+            Role::Origin => self.origin,
         }
     }
 }

@@ -1,12 +1,15 @@
 // What a command prints.
-ghost use Rattle.std.specs.Prelude.{◌≡◌, ◌≤◌, ◌++◌, ℕ, drop, IfErr, OnErr};
-ghost use Rattle.bn_outside.specs.Counts.{Rose};
+ghost use Rattle.std.specs.Prelude.{◌≡◌, ◌≢◌, ◌≤◌, ◌⊎◌, ◌++◌, ℕ, Option, drop, IfErr, OnErr};
+ghost use Rattle.bn_outside.specs.Counts.{Counts, Rose};
+ghost use Rattle.bn_outside.specs.Files.{Files};
 ghost use Rattle.bn_outside.specs.Streams.{AppendsShort};
 ghost use Rattle.rv_text.specs.Rows.{row_text};
 ghost use Rattle.bugnet.specs.Refusals.{line_of, status_of};
 ghost use Rattle.bugnet.specs.Texts.{rows_text, begin_text, interval_text, list_text, check_line, record_text};
-ghost use Rattle.bugnet.specs.Printed.{outcome_of, ending_of, end_of_interval, rest_text, text_from};
+ghost use Rattle.bugnet.specs.Printed.{EndsAs, outcome_of, ending_of, end_of_interval, rest_text, text_from};
 ghost use Rattle.bugnet.specs.Outside.{Wrote, Sent, Gathered, ToldRefusal};
+ghost use Rattle.bugnet.specs.Run.{printing, Tells};
+ghost use Rattle.bugnet.specs.Told.{printed};
 ghost use Rattle.bugnet.specs.declared.refusal.Refusal.TheVariants.{WriteFailed};
 
 use crate::logs::next_mark;
@@ -73,6 +76,30 @@ pub fn refuse<X: Sink>(alloc: Global, names: &Names, refusal: &Refusal, err: &mu
     }
 }
 
+/// Prints a text that is made already.
+pub fn print_text<O: Sink, X: Sink>(
+    alloc: Global,
+    names: &Names,
+    text: &Text,
+    out: &mut O,
+    err: &mut X,
+) -> u8
+    ensures told { (files : Option Files) (had : Counts) → Tells names.now (printed text.now) result (printing files had O.written O.faults X.written X.faults out.old err.old out.new err.new) }
+    ensures out_later { O.faults out.old ≤ O.faults out.new }
+    ensures err_later { X.faults err.old ≤ X.faults err.new }
+    ensures write { result ≡ 13 → Rose (O.faults out.old) (O.faults out.new) ⊎ Rose (X.faults err.old) (X.faults err.new) }
+    ensures words { result ≢ 2 }
+    ensures read { result ≢ 12 }
+    ensures failed { result ≢ 3 }
+    ensures missing { result ≢ 4 }
+    ensures long { result ≢ 5 }
+{
+    match send(out, text) {
+        Ok(()) => 0,
+        Err(refusal) => refuse(alloc, names, &refusal, err),
+    }
+}
+
 // ---- the replay of an interval
 
 /// Sends what waits, where it is a block or more.
@@ -135,7 +162,7 @@ fn send_rows<O: Sink>(
     out: &mut O,
 ) -> Result<Ending, Refusal>
     ensures sent { let r = replayer.old.left in
-        Sent (O.written out.old) (O.written out.new) (O.faults out.old) (O.faults out.new) (rows_text r.rows) (λ ending. outcome_of ending ≡ r.outcome) result }
+        Sent (O.written out.old) (O.written out.new) (O.faults out.old) (O.faults out.new) (rows_text r.rows) (EndsAs r.outcome) result }
     ensures later { O.faults out.old ≤ O.faults out.new }
 {
     let mut text = Text::new(alloc);
@@ -205,7 +232,7 @@ fn send_rest<O: Sink>(
     out: &mut O,
 ) -> Result<Ending, Refusal>
     ensures sent { let r = replayer.old.left in
-        Sent (O.written out.old) (O.written out.new) (O.faults out.old) (O.faults out.new) (rest_text hart interval mark.now r) (λ ending. outcome_of ending ≡ r.outcome) result }
+        Sent (O.written out.old) (O.written out.new) (O.faults out.old) (O.faults out.new) (rest_text hart interval mark.now r) (EndsAs r.outcome) result }
     ensures later { O.faults out.old ≤ O.faults out.new }
 {
     match send_rows(alloc, replayer, out) {
@@ -227,7 +254,7 @@ pub fn send_interval<O: Sink>(
     out: &mut O,
 ) -> Result<Ending, Refusal>
     ensures sent { let r = replayer.old.left in
-        Sent (O.written out.old) (O.written out.new) (O.faults out.old) (O.faults out.new) (text_from hart interval replayer.old.state.ic mark.now r) (λ ending. outcome_of ending ≡ r.outcome) result }
+        Sent (O.written out.old) (O.written out.new) (O.faults out.old) (O.faults out.new) (text_from hart interval replayer.old.state.ic mark.now r) (EndsAs r.outcome) result }
     ensures later { O.faults out.old ≤ O.faults out.new }
 {
     match send_begin(alloc, hart, interval, replayer.state().ic, out) {

@@ -4,7 +4,7 @@ ghost use Rattle.bn_outside.specs.Counts.{Rose, NoneFell};
 ghost use Rattle.command_words.specs.Words.{command_in, seen, seen_recording};
 ghost use Rattle.bugnet.specs.Answers.{names_in, manner_of, refusal_in, IsAnswer};
 ghost use Rattle.bugnet.specs.Asks.{LineSaves, RecordsRun};
-ghost use Rattle.bugnet.specs.Laws.{IsNoRecording, IsNoSession};
+ghost use Rattle.bugnet.specs.Laws.{IsReadOnly, IsNoSession};
 ghost use Rattle.bugnet.specs.Sessions.{is_begun};
 ghost use Rattle.bugnet.specs.Debugging.{Debugs};
 ghost use Rattle.bugnet.specs.Agreements.{AuditsRun};
@@ -30,13 +30,15 @@ use crate::manner::Manner;
 use crate::names::Names;
 use crate::preparing::record_files;
 use crate::printing::refuse;
+use crate::racing::race_files;
 use crate::refusal::Refusal;
+use crate::renewing::{convert_files, salvage_files};
+use crate::slicing::slice_files;
 use bn_outside::{Gate, Sink, Source, Store};
 use command_words::{Command, Recording, WordsError, read_words};
 use file_laws::logs_are_contents;
-use log_file::laws::{
-    files_have_their_size, files_say_one_thing, logs_are_not_refused, refusals_are_unique,
-};
+use log_blocks::readings::{files_are_read, readings_are_unique};
+use log_file::laws::files_have_their_size;
 use run_model::format_1_is_version_1;
 use std::alloc::Global;
 use std::sync::Wait;
@@ -52,25 +54,11 @@ fn names_of<'a>(command: &Command<'a>) -> Names<'a>
             log: recording.log,
             book: recording.book,
             input: recording.input.unwrap_or(""),
+            origin: "",
         },
-        Command::Replay { log, elf, .. } => Names {
-            elf,
-            log,
-            book: "",
-            input: "",
-        },
-        Command::Joint { log, elf } => Names {
-            elf,
-            log,
-            book: "",
-            input: "",
-        },
-        Command::Debug { log, elf } => Names {
-            elf,
-            log,
-            book: "",
-            input: "",
-        },
+        Command::Replay { log, elf, .. } => Names::of_pair(log, elf),
+        Command::Joint { log, elf } => Names::of_pair(log, elf),
+        Command::Debug { log, elf } => Names::of_pair(log, elf),
         Command::List { log } => Names::of_log(log),
         Command::Check { log } => Names::of_log(log),
         Command::Audit {
@@ -83,7 +71,12 @@ fn names_of<'a>(command: &Command<'a>) -> Names<'a>
             log,
             book,
             input: input.unwrap_or(""),
+            origin: "",
         },
+        Command::Races { log, elf, .. } => Names::of_pair(log, elf),
+        Command::Slice { log, elf, .. } => Names::of_pair(log, elf),
+        Command::Convert { log, new } => Names::of_new(log, new),
+        Command::Salvage { log, new } => Names::of_new(log, new),
         Command::Demo { .. } => Names::none(),
     }
 }
@@ -113,7 +106,7 @@ fn answer_to<S: Store, G: Gate, R: Threads + Wait + Sync>(
     ensures same { S.files store.new ≡ S.files store.old }
     ensures later { NoneFell (S.counts store.old) (S.counts store.new) }
     ensures cause { CauseBy (refusal_in (seen command.now)) (S.counts store.old) (S.counts store.new) result }
-    ensures prints { IsNoRecording (Some (seen command.now)) → IfOk result IsPrinted }
+    ensures prints { IsReadOnly (Some (seen command.now)) → IfOk result IsPrinted }
     ensures records { IfOk result (RecordsRun (seen command.now)) }
     ensures asks { S.saves store.new ≡ S.saves store.old }
     ensures bytes { IfOk result (λ _. HasElf (seen command.now) (S.files store.old)) }
@@ -137,6 +130,15 @@ fn answer_to<S: Store, G: Gate, R: Threads + Wait + Sync>(
         Command::List { .. } => list_files(alloc, names, store),
         Command::Check { .. } => check_files(alloc, names, store),
         Command::Audit { input, .. } => audit_files(alloc, names, input.is_some(), store),
+        Command::Races { max, .. } => race_files(alloc, names, store, *max),
+        Command::Slice {
+            hart,
+            interval,
+            ic,
+            ..
+        } => slice_files(alloc, names, store, *hart, *interval, *ic),
+        Command::Convert { .. } => convert_files(alloc, names, store),
+        Command::Salvage { .. } => salvage_files(alloc, names, store),
         Command::Demo { seed } => demonstrate(alloc, names, *seed),
     }
 }
@@ -160,7 +162,7 @@ fn perform<S: Store, O: Sink, X: Sink, G: Gate, R: Threads + Wait + Sync>(
     ensures out_later { O.faults out.old ≤ O.faults out.new }
     ensures err_later { X.faults err.old ≤ X.faults err.new }
     ensures recorded { LeavesRun (Some (seen command.now)) result (S.files store.old) (S.files store.new) }
-    ensures still { IsNoRecording (Some (seen command.now)) → S.files store.new ≡ S.files store.old }
+    ensures still { IsReadOnly (Some (seen command.now)) → S.files store.new ≡ S.files store.old }
     ensures saves { LineSaves (Some (seen command.now)) result (S.saves store.old) (S.saves store.new) }
     ensures failed { result ≡ 3 → Rose (S.counts store.old).faults (S.counts store.new).faults }
     ensures missing { result ≡ 4 → Rose (S.counts store.old).misses (S.counts store.new).misses }
@@ -195,7 +197,7 @@ fn obey<S: Store, I: Source, O: Sink, X: Sink, G: Gate, R: Threads + Wait + Sync
     ensures out_later { O.faults out.old ≤ O.faults out.new }
     ensures err_later { X.faults err.old ≤ X.faults err.new }
     ensures recorded { LeavesRun (Some (seen command.now)) result (S.files store.old) (S.files store.new) }
-    ensures still { IsNoRecording (Some (seen command.now)) → S.files store.new ≡ S.files store.old }
+    ensures still { IsReadOnly (Some (seen command.now)) → S.files store.new ≡ S.files store.old }
     ensures saves { LineSaves (Some (seen command.now)) result (S.saves store.old) (S.saves store.new) }
     ensures session { Debugs (Some (seen command.now)) result (I.left input.old) (I.left input.new) (I.faults input.old) (I.faults input.new)
         (call S.files S.counts O.written O.faults X.written X.faults store.old out.old err.old store.new out.new err.new) }
@@ -208,13 +210,12 @@ fn obey<S: Store, I: Source, O: Sink, X: Sink, G: Gate, R: Threads + Wait + Sync
     ensures long { result ≡ 5 → Rose (S.counts store.old).longs (S.counts store.new).longs }
     ensures write { result ≡ 13 → Rose (O.faults out.old) (O.faults out.new) ⊎ Rose (X.faults err.old) (X.faults err.new) }
 {
-    files_say_one_thing();
-    logs_are_not_refused();
-    refusals_are_unique();
+    readings_are_unique();
     sessions_show_the_run();
     logs_are_contents();
     format_1_is_version_1();
     files_have_their_size();
+    files_are_read();
     let names = names_of(command);
     match command {
         Command::Debug { .. } => debug_files(alloc, &names, store, input, out, err),
@@ -234,6 +235,10 @@ fn obey<S: Store, I: Source, O: Sink, X: Sink, G: Gate, R: Threads + Wait + Sync
 /// | `list LOG` | prints a line for each interval that the log keeps, in the order of their Headers |
 /// | `check LOG` | prints what the log has |
 /// | `audit LOG ELF BOOK [--input FILE]` | runs the program again by the turns of BOOK, with the settings of the log, and says whether LOG is the file of that run |
+/// | `convert LOG NEW` | saves what LOG says as a file of version 2, and prints what it has |
+/// | `salvage LOG NEW` | saves the undamaged end of LOG, of version 2, and prints what it has |
+/// | `races LOG ELF MAX` | lists the pairs of conflicting accesses that no synchronisation orders in what the log keeps, each with both instructions, where there are at most MAX |
+/// | `slice LOG ELF HART INTERVAL IC` | prints the instructions of one interval that the one of this count stands on, and what these take from before |
 /// | `demo SEED` | records a generated program, reads its log back, replays all that it keeps, and prints what was counted |
 ///
 /// A recording does this, in order: it tests the settings, and that LOG and BOOK are two names, loads
@@ -249,7 +254,7 @@ fn obey<S: Store, I: Source, O: Sink, X: Sink, G: Gate, R: Threads + Wait + Sync
 /// |---|---|
 /// | 0 | done |
 /// | 10, 11 | a recording is done, and the run ended in a fault; in no fault, and a hart met the limit |
-/// | 2 | the words are no command, a setting is out of range, or LOG and BOOK are one name and not lean |
+/// | 2 | the words are no command, a setting is out of range, or LOG and BOOK are one name and not lean, or LOG and NEW are |
 /// | 3, 4, 5 | the store failed at a name, has nothing under it, or more bytes than such a file may have |
 /// | 6 | the loader refuses ELF |
 /// | 7 | LOG is no log file |
@@ -262,6 +267,9 @@ fn obey<S: Store, I: Source, O: Sink, X: Sink, G: Gate, R: Threads + Wait + Sync
 /// | 16 | the audited LOG isn't the file of the run |
 /// | 17 | BOOK isn't a whole run: a hart isn't live at its turn, or is live after the last |
 /// | 18 | a line of commands has more than 256 bytes, or they have more than 2^24 |
+/// | 19 | of a log that should have records the last block is bad: nothing is left to be salvaged |
+/// | 20 | there are more races than MAX |
+/// | 21 | the interval has no instruction of this count |
 ///
 /// For each status but 0, 10 and 11 a line on err says more.
 pub fn run<S: Store, I: Source, O: Sink, X: Sink, G: Gate, R: Threads + Wait + Sync>(
@@ -292,15 +300,15 @@ pub fn run<S: Store, I: Source, O: Sink, X: Sink, G: Gate, R: Threads + Wait + S
     // wanting, or the store or a write failed.
     ensures done { WithFiles (S.files store.old) (λ files. IsDone (command_in words.now) files result) }
 
-    // What was to be saved is saved, LOG before BOOK. Whatever happens, only a recording changes files,
-    // and of these only LOG and BOOK: where nothing was to be saved, as at a replay, all stay as they
-    // were, and until LOG is saved BOOK does.
+    // What was to be saved is saved, LOG before BOOK. Whatever happens, only a recording, `convert` and
+    // `salvage` change files, and of these only LOG and BOOK, or NEW: where nothing was to be saved, as
+    // at a replay, all stay as they were, and until LOG is saved BOOK does.
     ensures kept { Keeps (command_in words.now) result (S.files store.old) (S.files store.new) }
     ensures others { ChangesFew (command_in words.now) (S.files store.old) (S.files store.new) }
-    ensures still { IsNoRecording (command_in words.now) → S.files store.new ≡ S.files store.old }
+    ensures still { IsReadOnly (command_in words.now) → S.files store.new ≡ S.files store.old }
 
-    // A recording that is done has saved twice, and so each of its two files once, a lean one once; a
-    // refused one at most so often, and no other command saves.
+    // A recording that is done has saved twice, and so each of its two files once, a lean one once, as
+    // have `convert` and `salvage`; a refused one at most so often, and no other command saves.
     ensures saves { LineSaves (command_in words.now) result (S.saves store.old) (S.saves store.new) }
 
     // A recording leaves under BOOK its turns, legal and finished, where there is a seed those that it
@@ -318,8 +326,8 @@ pub fn run<S: Store, I: Source, O: Sink, X: Sink, G: Gate, R: Threads + Wait + S
     ensures first { (is_begun result ≡ true) ⊎ (input.new ≡ input.old) }
     ensures unread { IsNoSession (command_in words.now) → input.new ≡ input.old }
 
-    // Where an audit is done, LOG is the file of the run of BOOK's turns, which are legal and finished, with
-    // settings in range, the program and the input.
+    // Where an audit is done, LOG is the file of the run of BOOK's turns, or that file in version 2; they are
+    // legal and finished, with settings in range, the program and the input.
     ensures audited { WithFiles (S.files store.old) (λ files. AuditsRun (command_in words.now) files result) }
 
     // A refusal by the outside comes only where its count rose, and no count falls.

@@ -1,12 +1,13 @@
 // Why a command is refused.
 ghost use Rattle.std.specs.Prelude.{◌≡◌};
-ghost use Rattle.bugnet.specs.Refusals.{status_of, replay_status};
+ghost use Rattle.bugnet.specs.Refusals.{status_of, replay_status, log_refusal};
 ghost use Rattle.bugnet.specs.declared.refusal.Refusal.TheVariants.{OutOfMemory};
 
 use crate::names::Role;
-use bn_base::BadSetting;
+use bn_base::{BadSetting, Ic};
 use elf_loader::ElfError;
 use hart_replay::ReplayError;
+use log_blocks::Damage;
 use log_file::FileError;
 use run_model::TurnError;
 use std::alloc::AllocError;
@@ -18,7 +19,7 @@ pub enum Refusal {
     WordsRefused,
     /// A setting is out of range.
     OutOfRange(BadSetting),
-    /// LOG and BOOK are one name.
+    /// LOG and BOOK are one name, or LOG and NEW.
     SameName,
     /// The store failed at the file's name.
     StoreFailed(Role),
@@ -29,7 +30,7 @@ pub enum Refusal {
     /// The loader refuses the program file.
     ElfRefused(ElfError),
     /// The bytes are no log file.
-    LogRefused(FileError),
+    LogRefused(Damage),
     /// The log was recorded of a program file with another digest.
     ProgramDiffers { kept: [u8; 32], found: [u8; 32] },
     /// There was no memory.
@@ -48,6 +49,12 @@ pub enum Refusal {
     BookRefused(TurnError),
     /// The log isn't the file of the run: they differ first at this byte.
     FileDiffers { at_byte: u64 },
+    /// No block of the log is left that could be salvaged.
+    NothingLeft,
+    /// There are more races than were asked for.
+    TooManyRaces { most: u64 },
+    /// The interval has no row of this count.
+    NoRow { ic: Ic },
 }
 
 impl From<AllocError> for Refusal {
@@ -72,6 +79,16 @@ fn replay_status(error: &ReplayError) -> u8
 }
 
 impl Refusal {
+    /// The refusal of a log file by its damage.
+    pub fn of_damage(damage: Damage) -> Refusal
+        ensures { result ≡ log_refusal damage }
+    {
+        match damage {
+            Damage::File(FileError::OutOfMemory) => Refusal::OutOfMemory,
+            _ => Refusal::LogRefused(damage),
+        }
+    }
+
     /// The status that the program ends with.
     pub fn status(&self) -> u8
         ensures { result ≡ status_of self.now }
@@ -92,6 +109,9 @@ impl Refusal {
             Refusal::CommandsTooLong => 18,
             Refusal::BookRefused(_) => 17,
             Refusal::FileDiffers { .. } => 16,
+            Refusal::NothingLeft => 19,
+            Refusal::TooManyRaces { .. } => 20,
+            Refusal::NoRow { .. } => 21,
         }
     }
 }

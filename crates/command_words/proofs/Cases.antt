@@ -2,7 +2,7 @@
 use Rattle.std.proofs.Common.{◌≡◌, [], ◌∷◌, codes, Some, None, true, refl}
 use Rattle.clap.proofs.OnLiterals.{clap_on_literals}
 use Rattle.bn_base.specs.Ranges.{default_settings}
-use Rattle.command_words.specs.Words.{RecordLine, ReplayLine, JointLine, DebugLine, ListLine, CheckLine, AuditLine, DemoLine, line_of}
+use Rattle.command_words.specs.Words.{RecordLine, ReplayLine, JointLine, DebugLine, ListLine, CheckLine, AuditLine, RacesLine, SliceLine, ConvertLine, SalvageLine, DemoLine, line_of}
 use Rattle.command_words.specs.Examples.{said, plain}
 
 pub before : said (codes "record" ∷ codes "--seed" ∷ codes "5" ∷ codes "E" ∷ codes "L" ∷ codes "B" ∷ []) ≡ Some (RecordLine plain)
@@ -48,6 +48,30 @@ audit = refl
 pub audit_input : said (codes "audit" ∷ codes "L" ∷ codes "--input=F" ∷ codes "E" ∷ codes "B" ∷ []) ≡ Some (AuditLine (codes "L") (codes "E") (codes "B") (Some (codes "F")))
 unfolding line_of clap_on_literals
 audit_input = refl
+
+pub races : said (codes "races" ∷ codes "L" ∷ codes "E" ∷ codes "1000000" ∷ []) ≡ Some (RacesLine (codes "L") (codes "E") 1000000)
+unfolding line_of clap_on_literals
+races = refl
+
+pub too_many_races : said (codes "races" ∷ codes "L" ∷ codes "E" ∷ codes "1000001" ∷ []) ≡ None
+unfolding line_of clap_on_literals
+too_many_races = refl
+
+pub no_races : said (codes "races" ∷ codes "L" ∷ codes "E" ∷ codes "0" ∷ []) ≡ None
+unfolding line_of clap_on_literals
+no_races = refl
+
+pub slice : said (codes "slice" ∷ codes "L" ∷ codes "E" ∷ codes "3" ∷ codes "70" ∷ codes "9" ∷ []) ≡ Some (SliceLine (codes "L") (codes "E") 3 70 9)
+unfolding line_of clap_on_literals
+slice = refl
+
+pub convert : said (codes "convert" ∷ codes "L" ∷ codes "N" ∷ []) ≡ Some (ConvertLine (codes "L") (codes "N"))
+unfolding line_of clap_on_literals
+convert = refl
+
+pub salvage : said (codes "salvage" ∷ codes "L" ∷ codes "N" ∷ []) ≡ Some (SalvageLine (codes "L") (codes "N"))
+unfolding line_of clap_on_literals
+salvage = refl
 
 pub demo : said (codes "demo" ∷ codes "7" ∷ []) ≡ Some (DemoLine 7)
 unfolding line_of clap_on_literals

@@ -31,6 +31,10 @@ word id = record (new_rule id) { action = Some Set; required = true }
 abbrev pub number_word : Text → Rule
 number_word id = record (word id) { parser = Some (value_parser.Unsigned 0 18446744073709551615) }
 
+-- the most races that are listed, which has to be there
+abbrev pub most_word : Text → Rule
+most_word id = record (word id) { parser = Some (value_parser.Unsigned 1 1000000) }
+
 abbrev pub with_rules : App → List Rule → App
 with_rules a [] = a
 with_rules a (r ∷ rs) = with_rules (with_rule a r) rs
@@ -66,6 +70,18 @@ abbrev pub audit_app : App
 audit_app = with_rules (new_app (codes "audit"))
     (text_option (codes "input") ∷ word (codes "log") ∷ word (codes "elf") ∷ word (codes "book") ∷ [])
 
+-- `races LOG ELF MAX`
+abbrev pub races_app : App
+races_app = with_rule (pair_app (codes "races")) (most_word (codes "max"))
+
+-- `slice LOG ELF HART INTERVAL IC`
+abbrev pub slice_app : App
+slice_app = with_rules (pair_app (codes "slice")) (number_word (codes "hart") ∷ number_word (codes "interval") ∷ number_word (codes "ic") ∷ [])
+
+-- `NAME LOG NEW`
+abbrev pub new_log_app : Text → App
+new_log_app name = with_rule (log_app name) (word (codes "new"))
+
 -- `demo SEED`
 abbrev pub demo_app : App
 demo_app = with_rules (new_app (codes "demo")) (number_word (codes "seed") ∷ [])
@@ -84,7 +100,8 @@ with_subcommands a (s ∷ ss) = with_subcommands (with_subcommand a s) ss
 abbrev pub bugnet_app : App
 bugnet_app = with_subcommands top_app
     (record_app.top ∷ replay_app.top ∷ (pair_app (codes "joint")).top ∷ (pair_app (codes "debug")).top
-    ∷ (log_app (codes "list")).top ∷ (log_app (codes "check")).top ∷ audit_app.top ∷ demo_app.top ∷ [])
+    ∷ (log_app (codes "list")).top ∷ (log_app (codes "check")).top ∷ audit_app.top
+    ∷ races_app.top ∷ slice_app.top ∷ (new_log_app (codes "convert")).top ∷ (new_log_app (codes "salvage")).top ∷ demo_app.top ∷ [])
 
 -- the command is seen as this, and has nothing global
 abbrev pub IsSeenAs : App → Command → Type 0

@@ -39,6 +39,14 @@ pub data Line : Type 0 where
   CheckLine : List ℕ → Line
   -- log, elf, book, input
   AuditLine : List ℕ → List ℕ → List ℕ → Option (List ℕ) → Line
+  -- log, elf, most
+  RacesLine : List ℕ → List ℕ → ℕ → Line
+  -- log, elf, hart, interval, count
+  SliceLine : List ℕ → List ℕ → ℕ → ℕ → ℕ → Line
+  -- log, new
+  ConvertLine : List ℕ → List ℕ → Line
+  -- log, new
+  SalvageLine : List ℕ → List ℕ → Line
   -- seed
   DemoLine : ℕ → Line
 
@@ -63,6 +71,10 @@ seen (command.Debug log elf) = DebugLine log.now elf.now
 seen (command.List log) = ListLine log.now
 seen (command.Check log) = CheckLine log.now
 seen (command.Audit log elf book input) = AuditLine log.now elf.now book.now (option_map (λ s. s.now) input)
+seen (command.Races log elf max) = RacesLine log.now elf.now max
+seen (command.Slice log elf hart interval ic) = SliceLine log.now elf.now hart interval ic
+seen (command.Convert log new) = ConvertLine log.now new.now
+seen (command.Salvage log new) = SalvageLine log.now new.now
 seen (command.Demo seed) = DemoLine seed
 
 -- ---- what was found for the arguments of a subcommand
@@ -162,6 +174,34 @@ audit_in rows =
     and_then (first_of (codes "book") rows) (λ book.
     Some (AuditLine log elf book (first_of (codes "input") rows)))))
 
+abbrev pub races_in : List Row → Option Line
+races_in rows =
+    and_then (first_of (codes "log") rows) (λ log.
+    and_then (first_of (codes "elf") rows) (λ elf.
+    and_then (number_at (codes "max") rows) (λ max.
+    Some (RacesLine log elf max))))
+
+abbrev pub slice_in : List Row → Option Line
+slice_in rows =
+    and_then (first_of (codes "log") rows) (λ log.
+    and_then (first_of (codes "elf") rows) (λ elf.
+    and_then (number_at (codes "hart") rows) (λ hart.
+    and_then (number_at (codes "interval") rows) (λ interval.
+    and_then (number_at (codes "ic") rows) (λ ic.
+    Some (SliceLine log elf hart interval ic))))))
+
+abbrev pub convert_in : List Row → Option Line
+convert_in rows =
+    and_then (first_of (codes "log") rows) (λ log.
+    and_then (first_of (codes "new") rows) (λ new.
+    Some (ConvertLine log new)))
+
+abbrev pub salvage_in : List Row → Option Line
+salvage_in rows =
+    and_then (first_of (codes "log") rows) (λ log.
+    and_then (first_of (codes "new") rows) (λ new.
+    Some (SalvageLine log new)))
+
 abbrev pub demo_in : List Row → Option Line
 demo_in rows = option_map DemoLine (number_at (codes "seed") rows)
 
@@ -174,8 +214,12 @@ named name rows = if bytes_eq name (codes "record") then record_in rows
     else (if bytes_eq name (codes "list") then list_in rows
     else (if bytes_eq name (codes "check") then check_in rows
     else (if bytes_eq name (codes "audit") then audit_in rows
+    else (if bytes_eq name (codes "races") then races_in rows
+    else (if bytes_eq name (codes "slice") then slice_in rows
+    else (if bytes_eq name (codes "convert") then convert_in rows
+    else (if bytes_eq name (codes "salvage") then salvage_in rows
     else (if bytes_eq name (codes "demo") then demo_in rows
-    else None)))))))
+    else None)))))))))))
 
 abbrev pub line_in : Option (Text × List Row) → Option Line
 line_in None = None

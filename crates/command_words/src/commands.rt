@@ -60,6 +60,32 @@ pub enum Command<'a> {
         book: &'a str,
         input: Option<&'a str>,
     },
+    /// List the races in what a log keeps, at most so many, with the program's file.
+    Races {
+        log: &'a str,
+        elf: &'a str,
+        max: u64,
+    },
+    /// List the rows of an interval that the row of a count stands on, with the program's file. The
+    /// numbers are as they were given: the log may have no such hart or interval, or the interval no
+    /// such row.
+    Slice {
+        log: &'a str,
+        elf: &'a str,
+        hart: u64,
+        interval: u64,
+        ic: u64,
+    },
+    /// Save what a log says as a file of version 2.
+    Convert {
+        log: &'a str,
+        new: &'a str,
+    },
+    /// Save what is undamaged at the end of a log of version 2.
+    Salvage {
+        log: &'a str,
+        new: &'a str,
+    },
     /// Record, read back and replay the program that is generated from a number.
     Demo {
         seed: u64,

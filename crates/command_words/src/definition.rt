@@ -2,8 +2,8 @@
 ghost use Rattle.std.specs.Prelude.{◌≡◌, IfOk, codes};
 ghost use Rattle.clap.specs.Words.{app_of, rule_of};
 ghost use Rattle.clap.specs.declared.builder.command.Command.TheViews.{out-Command};
-ghost use Rattle.command_words.specs.App.{IsRule, IsSeenAs, number_option, flag, text_option, word, number_word};
-ghost use Rattle.command_words.specs.App.{settings_app, record_app, replay_app, pair_app, log_app, audit_app, demo_app, bugnet_app};
+ghost use Rattle.command_words.specs.App.{IsRule, IsSeenAs, number_option, flag, text_option, word, number_word, most_word};
+ghost use Rattle.command_words.specs.App.{settings_app, record_app, replay_app, pair_app, log_app, audit_app, races_app, slice_app, new_log_app, demo_app, bugnet_app};
 
 use clap::builder::ValueParser;
 use clap::{Arg, ArgAction, Command};
@@ -45,6 +45,13 @@ fn number_word<'a>(alloc: Global, id: &'a str) -> Arg<'a>
     ensures { IsRule (number_word id.entry.now) result }
 {
     word(alloc, id).value_parser(ValueParser::Unsigned(0, u64::MAX))
+}
+
+// the most races that are listed, from 1 to 1,000,000, which has to be there
+fn most_word<'a>(alloc: Global, id: &'a str) -> Arg<'a>
+    ensures { IsRule (most_word id.entry.now) result }
+{
+    word(alloc, id).value_parser(ValueParser::Unsigned(1, 1_000_000))
 }
 
 // `record` with the options of its settings alone
@@ -113,6 +120,32 @@ fn audit_command<'a>(alloc: Global) -> Result<Command<'a>, AllocError>
     command.arg(word(alloc, "book"))
 }
 
+// `races LOG ELF MAX`
+fn races_command<'a>(alloc: Global) -> Result<Command<'a>, AllocError>
+    ensures { IfOk result (IsSeenAs races_app) }
+{
+    let command = pair_command(alloc, "races")?;
+    command.arg(most_word(alloc, "max"))
+}
+
+// `slice LOG ELF HART INTERVAL IC`
+fn slice_command<'a>(alloc: Global) -> Result<Command<'a>, AllocError>
+    ensures { IfOk result (IsSeenAs slice_app) }
+{
+    let command = pair_command(alloc, "slice")?;
+    let command = command.arg(number_word(alloc, "hart"))?;
+    let command = command.arg(number_word(alloc, "interval"))?;
+    command.arg(number_word(alloc, "ic"))
+}
+
+// `NAME LOG NEW`
+fn new_log_command<'a>(alloc: Global, name: &'a str) -> Result<Command<'a>, AllocError>
+    ensures { IfOk result (IsSeenAs (new_log_app name.entry.now)) }
+{
+    let command = log_command(alloc, name)?;
+    command.arg(word(alloc, "new"))
+}
+
 // `demo SEED`
 fn demo_command<'a>(alloc: Global) -> Result<Command<'a>, AllocError>
     ensures { IfOk result (IsSeenAs demo_app) }
@@ -132,5 +165,9 @@ pub fn bugnet_command<'a>(alloc: Global) -> Result<Command<'a>, AllocError>
     let command = command.subcommand(log_command(alloc, "list")?)?;
     let command = command.subcommand(log_command(alloc, "check")?)?;
     let command = command.subcommand(audit_command(alloc)?)?;
+    let command = command.subcommand(races_command(alloc)?)?;
+    let command = command.subcommand(slice_command(alloc)?)?;
+    let command = command.subcommand(new_log_command(alloc, "convert")?)?;
+    let command = command.subcommand(new_log_command(alloc, "salvage")?)?;
     command.subcommand(demo_command(alloc)?)
 }

@@ -1,7 +1,7 @@
 // Lines whose meaning is worked out, so that the definition is seen at work.
 ghost use Rattle.std.specs.Prelude.{◌≡◌, ◌∷◌, [], Some, None, true, codes};
 ghost use Rattle.bn_base.specs.Ranges.{default_settings};
-ghost use Rattle.command_words.specs.Words.{RecordLine, ReplayLine, JointLine, DebugLine, ListLine, CheckLine, AuditLine, DemoLine, line_of};
+ghost use Rattle.command_words.specs.Words.{RecordLine, ReplayLine, JointLine, DebugLine, ListLine, CheckLine, AuditLine, RacesLine, SliceLine, ConvertLine, SalvageLine, DemoLine, line_of};
 ghost use Rattle.command_words.specs.Examples.{said, plain};
 
 /// Options stand before, between and after names, with `=` or in two words. Settings that aren't
@@ -17,7 +17,7 @@ pub fn options_stand_anywhere()
 {}
 
 /// The other commands, each with its names and numbers in order.
-#[tactic(auto, using(crate::proofs::Cases::replay, crate::proofs::Cases::joint, crate::proofs::Cases::debug, crate::proofs::Cases::list, crate::proofs::Cases::check, crate::proofs::Cases::audit, crate::proofs::Cases::audit_input, crate::proofs::Cases::demo))]
+#[tactic(auto, using(crate::proofs::Cases::replay, crate::proofs::Cases::joint, crate::proofs::Cases::debug, crate::proofs::Cases::list, crate::proofs::Cases::check, crate::proofs::Cases::audit, crate::proofs::Cases::audit_input, crate::proofs::Cases::races, crate::proofs::Cases::slice, crate::proofs::Cases::convert, crate::proofs::Cases::salvage, crate::proofs::Cases::demo))]
 pub fn each_command_is_taken()
     ensures replay { said (codes "replay" ∷ codes "L" ∷ codes "E" ∷ codes "3" ∷ codes "70" ∷ []) ≡ Some (ReplayLine (codes "L") (codes "E") 3 70) }
     ensures joint { said (codes "joint" ∷ codes "L" ∷ codes "E" ∷ []) ≡ Some (JointLine (codes "L") (codes "E")) }
@@ -26,16 +26,23 @@ pub fn each_command_is_taken()
     ensures debug { said (codes "debug" ∷ codes "L" ∷ codes "E" ∷ []) ≡ Some (DebugLine (codes "L") (codes "E")) }
     ensures audit { said (codes "audit" ∷ codes "L" ∷ codes "E" ∷ codes "B" ∷ []) ≡ Some (AuditLine (codes "L") (codes "E") (codes "B") None) }
     ensures input { said (codes "audit" ∷ codes "L" ∷ codes "--input=F" ∷ codes "E" ∷ codes "B" ∷ []) ≡ Some (AuditLine (codes "L") (codes "E") (codes "B") (Some (codes "F"))) }
+    ensures races { said (codes "races" ∷ codes "L" ∷ codes "E" ∷ codes "1000000" ∷ []) ≡ Some (RacesLine (codes "L") (codes "E") 1000000) }
+    ensures slice { said (codes "slice" ∷ codes "L" ∷ codes "E" ∷ codes "3" ∷ codes "70" ∷ codes "9" ∷ []) ≡ Some (SliceLine (codes "L") (codes "E") 3 70 9) }
+    ensures convert { said (codes "convert" ∷ codes "L" ∷ codes "N" ∷ []) ≡ Some (ConvertLine (codes "L") (codes "N")) }
+    ensures salvage { said (codes "salvage" ∷ codes "L" ∷ codes "N" ∷ []) ≡ Some (SalvageLine (codes "L") (codes "N")) }
     ensures demo { said (codes "demo" ∷ codes "7" ∷ []) ≡ Some (DemoLine 7) }
 {}
 
-/// Numbers are decimal, may have a plus sign and leading zeros, and end below 2^64.
-#[tactic(auto, using(crate::proofs::Cases::signed, crate::proofs::Cases::zeros, crate::proofs::Cases::greatest, crate::proofs::Cases::too_great, crate::proofs::Cases::no_number))]
+/// Numbers are decimal, may have a plus sign and leading zeros, and end below 2^64. The most races that are listed are from 1
+/// to 1,000,000.
+#[tactic(auto, using(crate::proofs::Cases::signed, crate::proofs::Cases::zeros, crate::proofs::Cases::greatest, crate::proofs::Cases::too_great, crate::proofs::Cases::no_number, crate::proofs::Cases::too_many_races, crate::proofs::Cases::no_races))]
 pub fn numbers_are_decimal()
     ensures signed { said (codes "replay" ∷ codes "L" ∷ codes "E" ∷ codes "0" ∷ codes "+5" ∷ []) ≡ Some (ReplayLine (codes "L") (codes "E") 0 5) }
     ensures zeros { said (codes "replay" ∷ codes "L" ∷ codes "E" ∷ codes "0" ∷ codes "007" ∷ []) ≡ Some (ReplayLine (codes "L") (codes "E") 0 7) }
     ensures greatest { said (codes "replay" ∷ codes "L" ∷ codes "E" ∷ codes "0" ∷ codes "18446744073709551615" ∷ []) ≡ Some (ReplayLine (codes "L") (codes "E") 0 18446744073709551615) }
     ensures too_great { said (codes "replay" ∷ codes "L" ∷ codes "E" ∷ codes "0" ∷ codes "18446744073709551616" ∷ []) ≡ None }
+    ensures too_many_races { said (codes "races" ∷ codes "L" ∷ codes "E" ∷ codes "1000001" ∷ []) ≡ None }
+    ensures no_races { said (codes "races" ∷ codes "L" ∷ codes "E" ∷ codes "0" ∷ []) ≡ None }
     ensures no_number { said (codes "replay" ∷ codes "L" ∷ codes "E" ∷ codes "0" ∷ codes "x" ∷ []) ≡ None }
 {}
 

@@ -2,7 +2,7 @@
 ghost use Rattle.std.specs.Prelude.{◌≡◌, option_map, codes};
 ghost use Rattle.clap.specs.Words.{first_of, found_of, rows_of};
 ghost use Rattle.bn_base.specs.Ranges.{default_settings};
-ghost use Rattle.command_words.specs.Words.{seen, seen_recording, number_of, number_or, number_if, number_at, flag_in, settings_in, recording_in, record_in, replay_in, joint_in, debug_in, list_in, check_in, audit_in, demo_in, named};
+ghost use Rattle.command_words.specs.Words.{seen, seen_recording, number_of, number_or, number_if, number_at, flag_in, settings_in, recording_in, record_in, replay_in, joint_in, debug_in, list_in, check_in, audit_in, races_in, slice_in, convert_in, salvage_in, demo_in, named};
 
 use crate::commands::{Command, Recording};
 use bn_base::RawSettings;
@@ -173,6 +173,48 @@ fn audit_in<'a>(matches: &ArgMatches<'a>) -> Option<Command<'a>>
     })
 }
 
+fn races_in<'a>(matches: &ArgMatches<'a>) -> Option<Command<'a>>
+    ensures { option_map seen result ≡ races_in (rows_of (found_of matches.now)) }
+{
+    let log = text_at(matches, "log")?;
+    let elf = text_at(matches, "elf")?;
+    let max = number_at(matches, "max")?;
+    Some(Command::Races { log, elf, max })
+}
+
+fn slice_in<'a>(matches: &ArgMatches<'a>) -> Option<Command<'a>>
+    ensures { option_map seen result ≡ slice_in (rows_of (found_of matches.now)) }
+{
+    let log = text_at(matches, "log")?;
+    let elf = text_at(matches, "elf")?;
+    let hart = number_at(matches, "hart")?;
+    let number = number_at(matches, "interval")?;
+    let ic = number_at(matches, "ic")?;
+    Some(Command::Slice {
+        log,
+        elf,
+        hart,
+        interval: number,
+        ic,
+    })
+}
+
+fn convert_in<'a>(matches: &ArgMatches<'a>) -> Option<Command<'a>>
+    ensures { option_map seen result ≡ convert_in (rows_of (found_of matches.now)) }
+{
+    let log = text_at(matches, "log")?;
+    let new = text_at(matches, "new")?;
+    Some(Command::Convert { log, new })
+}
+
+fn salvage_in<'a>(matches: &ArgMatches<'a>) -> Option<Command<'a>>
+    ensures { option_map seen result ≡ salvage_in (rows_of (found_of matches.now)) }
+{
+    let log = text_at(matches, "log")?;
+    let new = text_at(matches, "new")?;
+    Some(Command::Salvage { log, new })
+}
+
 fn demo_in<'a>(matches: &ArgMatches<'a>) -> Option<Command<'a>>
     ensures { option_map seen result ≡ demo_in (rows_of (found_of matches.now)) }
 {
@@ -198,6 +240,14 @@ pub fn named<'a>(name: &str, matches: &ArgMatches<'a>) -> Option<Command<'a>>
         check_in(matches)
     } else if name == "audit" {
         audit_in(matches)
+    } else if name == "races" {
+        races_in(matches)
+    } else if name == "slice" {
+        slice_in(matches)
+    } else if name == "convert" {
+        convert_in(matches)
+    } else if name == "salvage" {
+        salvage_in(matches)
     } else if name == "demo" {
         demo_in(matches)
     } else {

@@ -34,11 +34,15 @@ fn matched<'a>(matches: &ArgMatches<'a>) -> Option<Command<'a>>
 /// list LOG
 /// check LOG
 /// audit LOG ELF BOOK [--input FILE]
+/// races LOG ELF MAX
+/// slice LOG ELF HART INTERVAL IC
+/// convert LOG NEW
+/// salvage LOG NEW
 /// demo SEED
 /// ```
 ///
-/// Each number is in decimal digits, below 2^64, maybe with a `+` and leading zeros. An option that
-/// is given twice is refused. Whether settings are in their ranges, and names differ, isn't tested.
+/// Each number is in decimal digits, below 2^64, maybe with a `+` and leading zeros; MAX is from 1 to
+/// 1,000,000. An option that is given twice is refused. Whether settings are in their ranges, and names differ, isn't tested.
 pub fn read_words<'a>(alloc: Global, words: &'a [String]) -> Result<Command<'a>, WordsError>
     ensures taken { IfOk result (λ c. command_in words.now ≡ Some (seen c)) }
     ensures refused { result ≡ Err WordsError.Refused → command_in words.now ≡ None }

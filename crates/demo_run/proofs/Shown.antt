@@ -23,7 +23,7 @@ use Rattle.demo_run.specs.Demonstration.{demo, demo_settings, demo_program, demo
 use Rattle.demo_run.specs.Laws.{DemonstrationsAreRecordings}
 use Rattle.demo_run.specs.Starts.{AllComeToEnd, GoesThrough}
 use Rattle.demo_run.proofs.Joins.{eight-each}
-use Rattle.demo_run.proofs.Whole.{one_format, low_limit}
+use Rattle.demo_run.proofs.Whole.{low_limit}
 
 -- what the log says is what a log can say
 pub says : DemonstrationsAreRecordings → LogsAreContents → (seed : ℕ) → IsContent (demo_log seed)
@@ -53,9 +53,9 @@ all-come are suffices together own seed h n v found =
     let rows : List Row = run.rows_in demo_settings (demo_program seed) begun (demo_turns seed) h n in
     let all : List Row = drop v.start.ic (rows_of demo_settings (demo_program seed) begun (demo_turns seed) h) in
     let gives : replayed (demo_program seed) (kept (demo seed)) h n ≡ record { rows = rows; outcome = Done } =
-    suffices demo_settings (demo_program seed) [] (demo_turns seed) h n one_format low_limit whole v found in
+    suffices demo_settings (demo_program seed) [] (demo_turns seed) h n low_limit whole v found in
     let stand : rows ≡ take (end_of v - v.start.ic) all =
-    together demo_settings (demo_program seed) [] (demo_turns seed) h n one_format low_limit whole (kept (demo seed)) (own (demo seed) r).end v found in
+    together demo_settings (demo_program seed) [] (demo_turns seed) h n low_limit whole (kept (demo seed)) (own (demo seed) r).end v found in
     let count : length (replayed (demo_program seed) (kept (demo seed)) h n).rows ≡ length (take (end_of v - v.start.ic) all) =
     ap (λ (x : Replayed). length x.rows) gives ∙ ap (λ (xs : List Row). length xs) stand in
     record {

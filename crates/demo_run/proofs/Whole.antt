@@ -48,10 +48,6 @@ setting = record {
   second_ways = refl;
 }
 
-pub one_format : demo_settings.format ≡ 1
-unfolding demo_settings
-one_format = refl
-
 pub low_limit : demo_settings.limit < 2 ^ 63
 unfolding demo_settings
 low_limit = omega arith

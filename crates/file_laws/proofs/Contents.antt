@@ -24,7 +24,7 @@ use Rattle.run_model.specs.declared.hart.Hart.{Hart}
 use Rattle.run_model.specs.declared.next.Next.{Next}
 use Rattle.run_model.specs.declared.span.Span.{Span}
 use Rattle.run_model.specs.Machine.{Answered, answer, call_of}
-use Rattle.run_model.specs.Turn.{Run, Served, turn, ask_at, after_ask, span_of, next_of, loading, warmth, word_before, budget, point_of, edge_records, load_record, sc_record, next_records, run_over_records, harts_after, is_orderly}
+use Rattle.run_model.specs.Turn.{Run, Served, turn, ask_at, is_guarded, begun_anew, guarded_run, guard_records, after_ask, span_of, next_of, loading, warmth, word_before, budget, point_of, edge_records, load_record, sc_record, next_records, run_over_records, harts_after, is_orderly}
 use Rattle.run_model.specs.Runs.{start, start_state, first_headers, run_from, legal_from, is_live, most_turns}
 use Rattle.run_model.specs.Counts.{IsFit, MovesOn}
 use Rattle.run_model.specs.Files.{kept_of, dropped_of, content_of}
@@ -32,9 +32,10 @@ use Rattle.file_laws.specs.Recorded.{counts_of}
 use Rattle.file_laws.proofs.Asks.{StepsKeepWords, asks_well}
 use Rattle.file_laws.proofs.Machines.{HoldsMachine, IsWordState, EndIsWord, answer_well, state_after, end_word, code_words, first_words, heap_word}
 use Rattle.file_laws.proofs.Nexts.{EndsAs, next_ends}
-use Rattle.file_laws.proofs.Few.{EdgesFall, few_edges}
-use Rattle.file_laws.proofs.Fields.{header_fits, edge_records_fit, load_fits, conditional_fits, next_fits, over_fits, load_few, conditional_few, next_few, over_few}
-use Rattle.file_laws.proofs.Turns.{Laws, Recording, all_both, own_hart, own_is, other_is, own_state, other_state, turn_within, format_is_1, served, turn_kept}
+use Rattle.run_laws.specs.Laws.{EdgesAreFew}
+use Rattle.file_laws.proofs.Few.{few_edges}
+use Rattle.file_laws.proofs.Fields.{header_fits, edge_records_fit, load_fits, conditional_fits, next_fits, over_fits, fits_any, guard_fits, load_few, conditional_few, next_few, over_few}
+use Rattle.file_laws.proofs.Turns.{Laws, Recording, Underway, all_both, own_hart, own_is, other_is, own_state, other_state, turn_within, asking, guard_is, uncut, anew_is, anew_other, asking_kept, asks, served, turn_kept}
 use Rattle.file_laws.proofs.Rows.{SuffixIsKept, both, below_of, last_part}
 
 abbrev pub AsksAreOrderly : Type 0
@@ -45,14 +46,14 @@ pub record AllLaws : Type 0 where
   pub turns : Laws
   pub asks : AsksAreOrderly
   pub keep : StepsKeepWords
-  pub fall : EdgesFall
+  pub few : EdgesAreFew
 
--- what holds of a run of the harts' own asks: its numbers are words, and the records fit their fields and are few
-pub record Worded (c : RawSettings) (run : Run) : Type 0 where
+-- what holds of a run of the harts' own asks: its numbers are words, and the records fit their fields and are few, but for so many
+pub record Worded (c : RawSettings) (spare : ℕ) (run : Run) : Type 0 where
   pub states : (k : ℕ) → k < c.harts → IsWordState (run.harts k).state
   pub machine : HoldsMachine run.machine
-  pub fits : AllByRecursion (Fits 1) run.stream
-  pub few : length run.stream ≤ 16 + 40 * run.turns
+  pub fits : AllByRecursion (Fits c.format) run.stream
+  pub few : length run.stream ≤ 16 + spare + 40 * run.turns
 
 -- there are at most 16 harts
 by_format : (b : Bool) → (if b then 16 else 8) ≤ 16
@@ -91,12 +92,12 @@ states_on c run k ask next s bytes states w j within = elim (eqb_tells j k) [
 pub five_parts : (a e l s n o : List Record) → length (a ++ (e ++ (l ++ (s ++ (n ++ o))))) ≡ length a + (length e + (length l + (length s + (length n + length o))))
 five_parts a e l s n o = omega (arith, length-append a (e ++ (l ++ (s ++ (n ++ o)))), length-append e (l ++ (s ++ (n ++ o))), length-append l (s ++ (n ++ o)), length-append s (n ++ o), length-append n o)
 
-worded_after : AllLaws → (c : RawSettings) (run : Run) (k : ℕ) (ask : Ask) (call : Option Plan) (answered : Answered) (span : Option Span) (next : Next) (s : HartState) → IsSetting c → Recording c run → Worded c run → k < c.harts
+worded_after : AllLaws → (c : RawSettings) (run : Run) (k : ℕ) (ask : Ask) (call : Option Plan) (answered : Answered) (span : Option Span) (next : Next) (s : HartState) → IsSetting c → Underway c run → Worded c 2 run → k < c.harts
     → MovesOn c (run.harts k) ask.state.ic s.ic next span (loading ask.want) → EndsAs c (run.harts k) s.ic next → IsWordState s → HoldsMachine answered.machine → EndIsWord next
-    → Worded c (after_ask c run k ask call answered span next s)
+    → Worded c 0 (after_ask c run k ask call answered span next s)
 worded_after laws c run k ask call answered span next s setting known w there on so state machine value =
     let h = run.harts k in
-    let fit = (known.fit k).fit in
+    let fit = known.fit k in
     let within = turn_within c h ask.state.ic s.ic next span (loading ask.want) fit on in
     let point = point_of k ask.state.ic run.turns span in
     let load = warmth c (loading ask.want) (run.events k) in
@@ -112,18 +113,19 @@ worded_after laws c run k ask call answered span next s setting known w there on
     let low : s.ic < 2 ^ 64 = omega (arith, within.limit, setting.limit_high) in
     let number : h.number + 1 < 2 ^ 64 = omega (arith, fit.number, fit.limit, within.low, within.limit, setting.limit_high) in
     let skipped : h.skipped < 2 ^ 32 = omega (arith, fit.skipped, fit.interval, setting.interval_high) in
-    let limits : (j : ℕ) → counts_of run j ≤ c.limit = λ j. (known.fit j).fit.limit in
-    let counts : (j : ℕ) → (run.harts j).state.ic < 2 ^ 64 = λ j. omega (arith, (known.fit j).fit.limit, setting.limit_high) in
+    let limits : (j : ℕ) → counts_of run j ≤ c.limit = λ j. (known.fit j).limit in
+    let counts : (j : ℕ) → (run.harts j).state.ic < 2 ^ 64 = λ j. omega (arith, (known.fit j).limit, setting.limit_high) in
     let edges_fit = edge_records_fit laws.turns.listed point run.points c.harts c.limit (counts_of run) known.points limits (λ p e. own_point span k ask.state.ic run.turns p e small asked) (omega (arith, harts)) (omega (arith, setting.limit_high)) in
     record {
       states = states_on c run k ask next s (after_ask c run k ask call answered span next s).bytes w.states state;
       machine = machine;
-      fits = all_both (Fits 1) run.stream (es ++ (ls ++ (cs ++ (ns ++ os)))) w.fits
+      fits = all_both (Fits c.format) run.stream (es ++ (ls ++ (cs ++ (ns ++ os)))) w.fits
+          (fits_any c.format (es ++ (ls ++ (cs ++ (ns ++ os))))
           (all_both (Fits 1) es (ls ++ (cs ++ (ns ++ os))) edges_fit
           (all_both (Fits 1) ls (cs ++ (ns ++ os)) (load_fits load k h.skipped word small skipped (word_loaded (loading ask.want) run.machine.memory w.machine.memory))
           (all_both (Fits 1) cs (ns ++ os) (conditional_fits answered.reply k small)
-          (all_both (Fits 1) ns os (next_fits next c h k h.number s small number low state so value on.marked) (over_fits next k c.harts run.harts (omega (arith, harts)) counts)))));
-      few = (let edges : length es ≤ c.harts = few_edges laws.turns.listed laws.fall point run.points c.harts c.limit (counts_of run) known.points limits in
+          (all_both (Fits 1) ns os (next_fits next c h k h.number s small number low state so value on.marked) (over_fits next k c.harts run.harts (omega (arith, harts)) counts))))));
+      few = (let edges : length es ≤ c.harts = few_edges laws.few point run.points c.harts (counts_of run) known.points in
           omega (arith, five_parts run.stream es ls cs ns os, w.few, edges, load_few load k h.skipped word, conditional_few answered.reply k, next_few next k h.number s, over_few next k c.harts run.harts, harts));
     }
 
@@ -136,32 +138,62 @@ ordered asks c i h small fit = asks i (budget c h) h.state (omega (arith, small,
 passed : (i : Program) (from b : ℕ) (ask : Ask) → orderly i from b ask ≡ true → passes i ask.want ≡ true
 passed i from b ask e = (both (is_counted from b ask.want ask.state.ic) (passes i ask.want) e).1
 
-turn_worded : AllLaws → (c : RawSettings) (i : Program) (run : Run) (k : ℕ) → IsSetting c → IsImage i → Recording c run → Worded c run → k < c.harts → (run.harts k).live ≡ true → is_orderly c i (run.harts k) (ask_at c i (run.harts k)) ≡ true → Worded c (turn c i run k)
-turn_worded laws c i run k setting image known w there live o =
+-- once the guard has begun an interval
+anew_worded : (c : RawSettings) (run : Run) (k : ℕ) (s : HartState) → IsSetting c → Recording c run → Worded c 0 run → k < c.harts → c.format ≡ 2 → s.ic < 2 ^ 64 → IsWordState s → Worded c 2 (begun_anew run k s)
+anew_worded c run k s setting known w there two low state =
+    let harts = few_harts c setting in
     let h = run.harts k in
-    let ask = ask_at c i h in
+    let fit = (known.fit k).fit in
+    let number : h.number + 1 < 2 ^ 64 = omega (arith, fit.number, fit.limit, fit.skipped, setting.limit_high) in
+    record {
+      states = λ j within. elim (eqb_tells j k) [
+        | inl p ↦ subst IsWordState (sym (ap (λ (x : Hart). x.state) (anew_is run k j s p.0))) state
+        | inr p ↦ subst IsWordState (sym (ap (λ (x : Hart). x.state) (anew_other run k j s p.0))) (w.states j within)
+      ];
+      machine = w.machine;
+      fits = all_both (Fits c.format) run.stream (guard_records run k s) w.fits
+          (subst (λ (format : ℕ). AllByRecursion (Fits format) (guard_records run k s)) (sym two) (guard_fits k h.number s (omega (arith, there, harts)) number low state));
+      few = omega (arith, length-append run.stream (guard_records run k s), w.few);
+    }
+
+asking_worded : (g : Bool) (c : RawSettings) (run : Run) (k : ℕ) (s : HartState) → IsSetting c → Recording c run → Worded c 0 run → k < c.harts → (g ≡ true → c.format ≡ 2) → s.ic < 2 ^ 64 → IsWordState s → Worded c 2 (guarded_run g run k s)
+asking_worded true c run k s setting known w there two low state = anew_worded c run k s setting known w there (two refl) low state
+asking_worded false c run k s setting known w there two low state = record { states = w.states; machine = w.machine; fits = w.fits; few = omega (arith, w.few) }
+
+turn_worded : AllLaws → (c : RawSettings) (i : Program) (run : Run) (k : ℕ) → IsSetting c → IsImage i → Recording c run → Worded c 0 run → k < c.harts → (run.harts k).live ≡ true → is_orderly c i (run.harts k) (ask_at c i (run.harts k)) ≡ true → Worded c 0 (turn c i run k)
+turn_worded laws c i run k setting image known w there live o =
+    let own = run.harts k in
+    let ask = ask_at c i own in
+    let g = is_guarded c run k ask.want in
+    let at : Run = asking c run k ask in
+    let h = at.harts k in
     let call : Option Plan = call_of i run.machine ask.want in
     let answered : Answered = answer c call run.machine k ask in
     let s : HartState = absorbed ask answered.reply in
     let next : Next = next_of c call h ask.want answered.reply s.ic in
     let state = w.states k there in
-    let asks = asks_well laws.keep i (code_words i image.words) (budget c h) h.state state.registers state.formed in
-    let answers = answer_well c i run.machine k ask asks (passed i h.state.ic (budget c h) ask o) w.machine in
-    let on = laws.turns.moves c i run.machine h k ask (omega (arith, setting.limit_high)) (known.fit k).fit live o in
+    let well = asks_well laws.keep i (code_words i image.words) (budget c own) own.state state.registers state.formed in
+    let answers = answer_well c i run.machine k ask well (passed i own.state.ic (budget c own) ask o) w.machine in
+    let now = asking_kept g laws.turns c i run k ask setting known there live o (uncut c run k ask.want) in
+    let a = asks g laws.turns c i run k ask setting known live o (uncut c run k ask.want) in
+    let on = laws.turns.moves c i run.machine h k ask (omega (arith, setting.limit_high)) (now.fit k) a.live a.orderly in
     let so = next_ends call c h ask.want answered.reply s.ic setting.interval_low in
-    subst (λ (x : Served). Worded c x.run) (sym (served laws.turns c i run k ask setting o))
-    (worded_after laws c run k ask call answered (span_of call ask.want answered.reply) next s setting known w there on so (state_after ask answered.reply answers.reply asks) answers.machine
-    (end_word ask.want c i run.machine h answered.reply s.ic asks.want w.machine answers.reply))
+    let within = turn_within c h ask.state.ic s.ic next _ (loading ask.want) (now.fit k) on in
+    let low : ask.state.ic < 2 ^ 64 = omega (arith, on.low, within.limit, setting.limit_high) in
+    let begun = asking_worded g c run k ask.state setting known w there (λ e. (guard_is c run k ask.want e).0) low (record { registers = well.registers; formed = well.formed }) in
+    subst (λ (x : Served). Worded c 0 x.run) (sym (served c i run k ask o))
+    (worded_after laws c at k ask call answered (span_of call ask.want answered.reply) next s setting now begun there on so (state_after ask answered.reply answers.reply well) answers.machine
+    (end_word ask.want c i run.machine h answered.reply s.ic well.want w.machine answers.reply))
 
 one_turn : Laws → (c : RawSettings) (i : Program) (run : Run) (k : ℕ) → IsSetting c → is_orderly c i (run.harts k) (ask_at c i (run.harts k)) ≡ true → (turn c i run k).turns ≡ run.turns + 1
-one_turn laws c i run k setting o = ap (λ (x : Served). x.run.turns) (served laws c i run k (ask_at c i (run.harts k)) setting o)
+one_turn laws c i run k setting o = ap (λ (x : Served). x.run.turns) (served c i run k (ask_at c i (run.harts k)) o)
 
 -- ---- the turns of a legal list
 
 -- a run after the turns of a list
 pub record After (c : RawSettings) (turns : ℕ) (run : Run) : Type 0 where
   pub known : Recording c run
-  pub words : Worded c run
+  pub words : Worded c 0 run
   pub count : run.turns ≡ turns
 
 live_by : (b : Bool) (x : Bool) → elim b as (λ z. Bool) [ true ↦ x | false ↦ false ] ≡ true → (b ≡ true) × (x ≡ true)
@@ -215,11 +247,11 @@ pub headers_count : (c : RawSettings) (i : Program) (k m : ℕ) → length (firs
 headers_count c i k zero = refl
 headers_count c i k (suc m) = ap suc (headers_count c i (k + 1) m)
 
-pub start_worded : (c : RawSettings) (i : Program) (input : List ℕ) → IsSetting c → IsImage i → Worded c (start c i input)
+pub start_worded : (c : RawSettings) (i : Program) (input : List ℕ) → IsSetting c → IsImage i → Worded c 0 (start c i input)
 start_worded c i input setting image = record {
   states = λ k there. start_words c i k setting image (omega (arith, there, few_harts c setting));
   machine = record { memory = first_words i image.words; brk = heap_word i image.program };
-  fits = headers_fit c i 0 c.harts setting image (omega (arith, few_harts c setting));
+  fits = fits_any c.format (first_headers c i 0 c.harts) (headers_fit c i 0 c.harts setting image (omega (arith, few_harts c setting)));
   few = omega (arith, headers_count c i 0 c.harts, few_harts c setting);
 }
 
@@ -239,7 +271,7 @@ is_content suffix bound c digest n run setting size a few order =
       settings = setting;
       digest = size;
       dropped = omega (arith, a.words.few, a.count, few, turns_bound c.harts c.limit (few_harts c setting) setting.limit_high);
-      fit = subst (λ (format : ℕ). AllByRecursion (Fits format) (kept_of c run)) (sym (format_is_1 c setting)) (last_part (Fits 1) part.0 (kept_of c run) (subst (AllByRecursion (Fits 1)) part.1 a.words.fits));
+      fit = last_part (Fits c.format) part.0 (kept_of c run) (subst (AllByRecursion (Fits c.format)) part.1 a.words.fits);
       bound = bound c.log_size run.stream;
       order = order;
     }

@@ -1,4 +1,4 @@
--- The records of a turn fit their fields, with format 1, and are few.
+-- The records of a turn fit their fields, and are few.
 use Rattle.std.proofs.Common.{◌≡◌, ℕ, zero, suc, ◌+◌, ◌<◌, ◌≤◌, ◌^◌, Bool, true, false, not, ◌&&◌, ◌||◌, Option, Some, None, List, [], ◌∷◌, length, slice_index, refl, sym, ◌∙◌, ap, arith}
 use Rattle.std.specs.Prelude.{◌==◌}
 use Rattle.std.specs.List.{AllByRecursion}
@@ -11,13 +11,14 @@ use Rattle.first_load_bits.specs.declared.warm.Warm.{Warm}
 use Rattle.first_load_bits.specs.declared.warm.Warm.TheVariants as answers
 use Rattle.race_log.specs.Points.{Point}
 use Rattle.log_record.specs.declared.record.Record.{Record}
-use Rattle.log_record.specs.declared.record.Record.TheVariants.{End}
-use Rattle.log_record.specs.Spelling.{Fits, AreRegisters, has_value, is_mark}
+use Rattle.bn_base.specs.declared.end_mark.EndMark.{EndMark}
+use Rattle.log_record.specs.declared.record.Record.TheVariants.{Header, FirstLoad, ScOk, ScFailed, Edge, End}
+use Rattle.log_record.specs.Spelling.{Fits, AreRegisters, has_value, is_mark, is_marked}
 use Rattle.run_model.specs.declared.hart.Hart.{Hart}
 use Rattle.run_model.specs.declared.next.Next.{Next}
 use Rattle.run_model.specs.declared.next.Next.TheVariants.{GoesOn, NewInterval, HartOver, RunOver}
 use Rattle.run_model.specs.Stands.Logs.{is_marked_next}
-use Rattle.run_model.specs.Turn.{edges_from, edge_records, load_record, sc_record, next_records, stopped_records, run_over_records, header, mark}
+use Rattle.run_model.specs.Turn.{edges_from, edge_records, load_record, sc_record, next_records, stopped_records, run_over_records, by_guard, header, mark}
 use Rattle.file_laws.proofs.Views.{AreSources}
 use Rattle.file_laws.proofs.Sources.{ListedEdges, ArePoints, sources_are}
 use Rattle.file_laws.proofs.Nexts.{EndsAs}
@@ -88,6 +89,33 @@ over_fits (RunOver reason value) k n harts within low = stops_fit k 0 n harts (o
 over_fits GoesOn k n harts within low = tt
 over_fits (NewInterval reason value) k n harts within low = tt
 over_fits (HartOver reason value) k n harts within low = tt
+
+-- ---- of any format
+
+any_by : (value other guard zero_value : Bool) → (value || ((other || false) && zero_value)) ≡ true → (value || ((other || guard) && zero_value)) ≡ true
+any_by true other guard zero_value e = refl
+any_by false true guard zero_value e = e
+any_by false false guard zero_value e = cc
+
+-- a log of any format has the marks of format 1
+mark_any : (format : ℕ) (m : EndMark) → is_mark 1 m ≡ true → is_mark format m ≡ true
+mark_any format m e = any_by (has_value m.reason) (m.reason == 1 || m.reason == 5 || m.reason == 7 || m.reason == 18) ((format == 2) && (m.reason == 6)) (m.value == 0) e
+
+pub marked_any : (format : ℕ) (r : Record) → is_marked 1 r ≡ true → is_marked format r ≡ true
+marked_any format (Header h n ic pc x) e = refl
+marked_any format (FirstLoad h skip value) e = refl
+marked_any format (ScOk h) e = refl
+marked_any format (ScFailed h) e = refl
+marked_any format (Edge h ic s j) e = refl
+marked_any format (End h m) e = mark_any format m e
+
+pub fits_any : (format : ℕ) (rs : List Record) → AllByRecursion (Fits 1) rs → AllByRecursion (Fits format) rs
+fits_any format [] a = tt
+fits_any format (r ∷ rs) a = (record { fields = a.0.fields; mark = marked_any format r a.0.mark }, fits_any format rs a.1)
+
+-- the guard's records are of format 2
+pub guard_fits : (k number : ℕ) (s : HartState) → k < 256 → number + 1 < 2 ^ 64 → s.ic < 2 ^ 64 → IsWordState s → AllByRecursion (Fits 2) (next_records by_guard k number s)
+guard_fits k number s small few low w = (record { fields = (small, low, omega arith, omega arith); mark = refl }, fits_any 2 (header k (number + 1) s ∷ []) (header_fits k (number + 1) s small few low w, tt))
 
 -- ---- how many
 

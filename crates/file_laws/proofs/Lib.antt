@@ -13,3 +13,4 @@ pub mod Fields
 pub mod Contents
 pub mod OfRows
 pub mod Worked
+pub mod Retained

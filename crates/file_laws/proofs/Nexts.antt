@@ -34,18 +34,38 @@ pub record EndsSo (c : RawSettings) (h : Hart) (ic reason : ℕ) (on : Bool) : T
   pub full : reason ≡ 1 → h.begun + c.interval ≤ ic
   pub limit : reason ≡ 7 → c.limit ≤ ic
   pub kind : goes_on reason ≡ on
+
+abbrev pub EndsOn : RawSettings → Hart → ℕ → Next → Type 0
+EndsOn c h ic GoesOn = Unit {0}
+EndsOn c h ic (NewInterval reason value) = EndsSo c h ic reason true
+EndsOn c h ic (HartOver reason value) = EndsSo c h ic reason false
+EndsOn c h ic (RunOver reason value) = EndsSo c h ic reason false
+
+-- and not by the guard
+pub record EndsPlain (c : RawSettings) (h : Hart) (ic reason : ℕ) (on : Bool) : Type 0 where
+  pub so : EndsSo c h ic reason on
   pub unguarded : (reason == 6) ≡ false
   pub small : reason < 256
 
 abbrev pub EndsAs : RawSettings → Hart → ℕ → Next → Type 0
 EndsAs c h ic GoesOn = Unit {0}
-EndsAs c h ic (NewInterval reason value) = EndsSo c h ic reason true
-EndsAs c h ic (HartOver reason value) = EndsSo c h ic reason false
-EndsAs c h ic (RunOver reason value) = EndsSo c h ic reason false
+EndsAs c h ic (NewInterval reason value) = EndsPlain c h ic reason true
+EndsAs c h ic (HartOver reason value) = EndsPlain c h ic reason false
+EndsAs c h ic (RunOver reason value) = EndsPlain c h ic reason false
+
+pub ends_on : (next : Next) (c : RawSettings) (h : Hart) (ic : ℕ) → EndsAs c h ic next → EndsOn c h ic next
+ends_on GoesOn c h ic e = tt
+ends_on (NewInterval reason value) c h ic e = e.so
+ends_on (HartOver reason value) c h ic e = e.so
+ends_on (RunOver reason value) c h ic e = e.so
 
 -- an end for a reason that neither a full interval, nor the limit, nor the guard gives
-plain_end : (c : RawSettings) (h : Hart) (ic reason : ℕ) (on : Bool) → (reason ≡ 1 → ⊥) → (reason ≡ 7 → ⊥) → goes_on reason ≡ on → (reason == 6) ≡ false → reason < 256 → EndsSo c h ic reason on
-plain_end c h ic reason on f g e u small = record { full = λ p. absurd (f p); limit = λ p. absurd (g p); kind = e; unguarded = u; small = small }
+plain_end : (c : RawSettings) (h : Hart) (ic reason : ℕ) (on : Bool) → (reason ≡ 1 → ⊥) → (reason ≡ 7 → ⊥) → goes_on reason ≡ on → (reason == 6) ≡ false → reason < 256 → EndsPlain c h ic reason on
+plain_end c h ic reason on f g e u small = record { so = record { full = λ p. absurd (f p); limit = λ p. absurd (g p); kind = e }; unguarded = u; small = small }
+
+-- the guard's end
+pub guard_ends : (c : RawSettings) (h : Hart) (ic : ℕ) → EndsSo c h ic 6 true
+guard_ends c h ic = record { full = λ p. absurd cc; limit = λ p. absurd cc; kind = refl }
 
 le_of : (a b : ℕ) → nat_le a b ≡ true → a ≤ b
 le_of a b e = grind arith
@@ -55,11 +75,11 @@ full_at b n ic some e = omega (arith, some, le_of n (ic - b) e)
 
 count_ends : (c : RawSettings) (h : Hart) (ic : ℕ) (end full : Bool) → nat_le c.limit ic ≡ end → nat_le c.interval (ic - h.begun) ≡ full → 1 ≤ c.interval
     → EndsAs c h ic (elim end as (λ x. Next) [ true ↦ HartOver 7 0 | false ↦ elim full as (λ x. Next) [ true ↦ NewInterval 1 0 | false ↦ GoesOn ] ])
-count_ends c h ic true full e f some = record { full = λ p. absurd cc; limit = λ p. le_of c.limit ic e; kind = refl; unguarded = refl; small = omega arith }
-count_ends c h ic false true e f some = record { full = λ p. full_at h.begun c.interval ic some f; limit = λ p. absurd cc; kind = refl; unguarded = refl; small = omega arith }
+count_ends c h ic true full e f some = record { so = record { full = λ p. absurd cc; limit = λ p. le_of c.limit ic e; kind = refl }; unguarded = refl; small = omega arith }
+count_ends c h ic false true e f some = record { so = record { full = λ p. full_at h.begun c.interval ic some f; limit = λ p. absurd cc; kind = refl }; unguarded = refl; small = omega arith }
 count_ends c h ic false false e f some = tt
 
-fault_ends : (kind : Fault) (c : RawSettings) (h : Hart) (ic : ℕ) → EndsSo c h ic (16 + fault_number kind) false
+fault_ends : (kind : Fault) (c : RawSettings) (h : Hart) (ic : ℕ) → EndsPlain c h ic (16 + fault_number kind) false
 fault_ends Illegal c h ic = plain_end c h ic 17 false (λ p. cc) (λ p. cc) refl refl (omega arith)
 fault_ends Breakpoint c h ic = plain_end c h ic 18 false (λ p. cc) (λ p. cc) refl refl (omega arith)
 fault_ends FetchOutside c h ic = plain_end c h ic 19 false (λ p. cc) (λ p. cc) refl refl (omega arith)
@@ -119,7 +139,7 @@ said t n stream vs k rs P Q f a = record { views = a.views; keeps = a.keeps; siz
 
 -- what comes after a turn leaves the view of the hart after it
 pub took_next : (next : Next) → OrderLaws → (c : RawSettings) (n : ℕ) (stream : List Record) (vs : Views) (k : ℕ) (h : Hart) (s : HartState) (skipped bytes : ℕ) → Keeps (terms_of c) n 0 stream vs → h.live ≡ true → (is_on next ≡ true → h.number < 2 ^ 41)
-    → IsOpen (h.number + 1) h.begun s.ic (slice_get vs k) → IsWithin c h s.ic → EndsAs c h s.ic next
+    → IsOpen (h.number + 1) h.begun s.ic (slice_get vs k) → IsWithin c h s.ic → EndsOn c h s.ic next
     → Took (terms_of c) n stream vs k (next_records next k h.number s) (IsView (hart_after next s skipped bytes h))
 took_next GoesOn laws c n stream vs k h s skipped bytes kp live small v within so =
     took_none (terms_of c) n stream vs k (IsView (hart_after GoesOn s skipped bytes h)) kp (open_view (hart_after GoesOn s skipped bytes h) (slice_get vs k) live v)

@@ -55,7 +55,7 @@ apart_of : (i j : ℕ) → i ≢ j → (i == j) ≡ false
 apart_of i j h = grind arith
 
 other_end : (c : RawSettings) (h : Hart) → EndsSo c h h.state.ic 5 false
-other_end c h = record { full = λ p. absurd cc; limit = λ p. absurd cc; kind = refl; unguarded = refl; small = omega arith }
+other_end c h = record { full = λ p. absurd cc; limit = λ p. absurd cc; kind = refl }
 
 within_fit : (c : RawSettings) (h : Hart) → IsFit c h → IsWithin c h h.state.ic
 within_fit c h fit = record { low = omega (arith, fit.skipped); high = fit.interval; limit = fit.limit }

@@ -2,3 +2,4 @@ pub mod Given
 pub mod Recorded
 pub mod Laws
 pub mod Examples
+pub mod Retained

@@ -4,6 +4,7 @@
 #![tactic(auto)]
 
 ghost use Rattle.file_laws.specs.Laws.{KeptRecordsKeepTheRules, RingsKeepTheRules, FinishedLogsAreInOrder, LogsAreContents, StreamsAreInOrder, FilesAreRead, FilesSayTheRun, FilesSuffice, LogsOfRowsAreContents, FilesOfRowsAreRead};
+ghost use Rattle.file_laws.specs.Retained.{FaultsAreReplayed};
 
 mod examples;
 
@@ -18,10 +19,9 @@ use log_order::laws::{
 use log_ring::laws::{a_suffix_is_kept, kept_records_fit};
 use race_log::listed_edges_are_all;
 use replay_laws::the_log_suffices;
-use run_laws::runs_end;
+use run_laws::{edges_are_few, faults_are_kept, runs_end};
 use run_model::{
-    each_turn_fits, each_turn_moves_on, format_1_is_unguarded, format_1_is_version_1,
-    others_stay_fit,
+    each_turn_fits, each_turn_moves_on, format_1_is_version_1, guarded_asks_fit, others_stay_fit,
 };
 use rv_meaning::{each_ask_is_orderly, registers_stay_words};
 
@@ -34,7 +34,7 @@ pub fn kept_records_keep_their_rules()
     each_turn_moves_on();
     each_turn_fits();
     others_stay_fit();
-    format_1_is_unguarded();
+    guarded_asks_fit();
     listed_edges_are_all();
     a_suffix_is_kept();
     no_records_are_kept();
@@ -63,7 +63,7 @@ pub fn finished_logs_are_in_order()
     each_turn_moves_on();
     each_turn_fits();
     others_stay_fit();
-    format_1_is_unguarded();
+    guarded_asks_fit();
     listed_edges_are_all();
     a_suffix_is_kept();
     no_records_are_kept();
@@ -88,8 +88,9 @@ pub fn logs_are_contents()
     each_turn_moves_on();
     each_turn_fits();
     others_stay_fit();
-    format_1_is_unguarded();
+    guarded_asks_fit();
     runs_end();
+    edges_are_few();
     listed_edges_are_all();
     a_suffix_is_kept();
     kept_records_fit();
@@ -115,7 +116,8 @@ pub fn streams_are_in_order()
     each_turn_moves_on();
     each_turn_fits();
     others_stay_fit();
-    format_1_is_unguarded();
+    guarded_asks_fit();
+    edges_are_few();
     listed_edges_are_all();
     no_records_are_kept();
     one_more_is_kept();
@@ -162,7 +164,8 @@ pub fn logs_of_rows_are_contents()
     each_turn_moves_on();
     each_turn_fits();
     others_stay_fit();
-    format_1_is_unguarded();
+    guarded_asks_fit();
+    edges_are_few();
     listed_edges_are_all();
     a_suffix_is_kept();
     kept_records_fit();
@@ -183,4 +186,13 @@ pub fn files_of_rows_are_read()
 {
     logs_of_rows_are_contents();
     logs_are_not_refused();
+}
+
+/// With format 2 the guard makes it sure that a crash can be replayed: where the run ends in a fault, the
+/// log keeps the fault's interval, and its replay is done, with exactly that interval's rows of the run.
+pub fn faults_are_replayed()
+    ensures { FaultsAreReplayed }
+{
+    faults_are_kept();
+    the_log_suffices();
 }

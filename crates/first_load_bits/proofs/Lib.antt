@@ -1,5 +1,6 @@
 pub mod Apart
 pub mod Below
+pub mod Dropped
 pub mod Bits
 pub mod Both
 pub mod Inside

@@ -106,8 +106,8 @@ impl Cache {
         })
     }
 
-    // The number of the line that has the byte at an address.
-    fn line_of(&self, addr: Addr) -> u32
+    /// The number of the line that has the byte at an address.
+    pub fn line_of(&self, addr: Addr) -> u32
         ensures { result ≡ line_of self.now.geometry addr }
     {
         addr >> (self.word_bits + 2)

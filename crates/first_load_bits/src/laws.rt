@@ -4,6 +4,7 @@ ghost use Rattle.first_load_bits.specs.Events.{Geometry, Event, Touch, Drop, Cle
 ghost use Rattle.first_load_bits.specs.History.{IsListed, IsHeld, IsWarm};
 ghost use Rattle.first_load_bits.specs.Warm.{later_lines, second_history, listed, held, warm};
 ghost use Rattle.first_load_bits.specs.Lines.{levels, lines, lines_below, in_front, is_set};
+ghost use Rattle.first_load_bits.specs.Stands.{Contents, StandsFor};
 ghost use Rattle.first_load_bits.specs.Worked.{answers, smallest, small, with_second};
 
 /// The tests that compute say what the history says: which lines are listed, which are held, and which words are warm.
@@ -31,6 +32,13 @@ pub fn only_a_touch_warms()
     ensures touch { (g : Geometry) (a b : ℕ) (es : List Event) → word_of b ≢ word_of a → IsTrue (warm g a (Touch b ∷ es)) → IsTrue (warm g a es) }
     ensures drop { (g : Geometry) (a b : ℕ) (es : List Event) → IsTrue (warm g a (Drop b ∷ es)) → (line_of g b ≢ line_of g a) × IsTrue (warm g a es) }
     ensures clear { (g : Geometry) (a : ℕ) (es : List Event) → ¬ IsTrue (warm g a (Clear ∷ es)) }
+{}
+
+/// A second drop of a line right behind the first changes nothing. So whoever drops several words one after another need
+/// drop each line once.
+pub fn a_second_drop_changes_nothing()
+    ensures { (c : Contents) (a b : ℕ) (es : List Event) → line_of c.geometry a ≡ line_of c.geometry b →
+        StandsFor c (Drop b ∷ es) → StandsFor c (Drop a ∷ Drop b ∷ es) }
 {}
 
 /// Small histories, with the answers of their touches and the lists that they lead to.

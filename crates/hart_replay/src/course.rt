@@ -22,6 +22,7 @@ use rv_meaning::{
     AmoOp, Reply, Want, absorb_in_place, each_instruction_is_counted_or_asks, quiet_run_in_place,
     stored_word,
 };
+use std::alloc::AllocError;
 
 /// Where the replay of an interval stands: the hart's state, what of the log is still to be met,
 /// the words that the rows so far tell, and whether the last instruction was the system call that
@@ -470,5 +471,22 @@ impl<'a> Course<'a> {
         } else {
             (None, self.left_over())
         }
+    }
+
+    /// A course that stands where this one does.
+    pub(crate) fn copy(&self) -> Result<Course<'a>, AllocError>
+        ensures words { IfOk result (λ c. c.words.pages ≡ self.now.words.pages) }
+        ensures rest { IfOk result (λ c. c ≡ record self.now { words = c.words }) }
+    {
+        Ok(Course {
+            image: self.image,
+            hart: self.hart,
+            mark: self.mark,
+            state: self.state,
+            loads: self.loads.copy(),
+            conditionals: self.conditionals.copy(),
+            words: self.words.copy()?,
+            called: self.called,
+        })
     }
 }

@@ -2,6 +2,7 @@
 ghost use Rattle.std.specs.Prelude.{◌≡◌, ◌<◌, ◌==◌, ℕ, length, Some, None, if◌then◌else◌};
 ghost use Rattle.hart_replay.specs.Pages.{word_in, marked, cleared};
 
+use std::alloc::AllocError;
 use std::marker::Model;
 
 /// How many words a page has.
@@ -79,5 +80,23 @@ impl Page {
         ensures { (k : ℕ) → k < 64 → word_in self.new k ≡ (if k == place then None else word_in self.old k) }
     {
         self.clear(place);
+    }
+
+    /// A page with the same words known.
+    pub(crate) fn copy(&self) -> Page
+        ensures { result ≡ self.now }
+    {
+        Page {
+            known: self.known,
+            words: self.words,
+        }
+    }
+}
+
+impl Clone for Page {
+    ghost is_clone = { λ p q. q ≡ p };
+
+    fn clone(&self) -> Result<Page, AllocError> {
+        Ok(self.copy())
     }
 }

@@ -81,6 +81,19 @@ impl<'a> Loads<'a> {
             Some(_) => 1 + count_loads(self.hart, self.records, self.at),
         }
     }
+
+    /// The same ones.
+    pub(crate) fn copy(&self) -> Loads<'a>
+        ensures { result ≡ self.now }
+    {
+        Loads {
+            hart: self.hart,
+            records: self.records,
+            at: self.at,
+            next: self.next,
+            skipped: self.skipped,
+        }
+    }
 }
 
 /// The store-conditionals of a hart's interval that are still to be met.
@@ -134,5 +147,16 @@ impl<'a> Conditionals<'a> {
     {
         let _length = self.records.len();
         count_conditionals(self.hart, self.records, self.at)
+    }
+
+    /// The same ones.
+    pub(crate) fn copy(&self) -> Conditionals<'a>
+        ensures { result ≡ self.now }
+    {
+        Conditionals {
+            hart: self.hart,
+            records: self.records,
+            at: self.at,
+        }
     }
 }

@@ -12,7 +12,7 @@ use crate::scan::next_mark;
 use crate::words::Words;
 use bn_base::{EndMark, HartState, Image, Row};
 use log_order::KeptLog;
-use std::alloc::Global;
+use std::alloc::{AllocError, Global};
 use std::marker::Model;
 
 /// The replay of one checkpoint interval (BugNet, ISCA 2005), from its log and the program alone.
@@ -135,5 +135,16 @@ impl<'a> Replayer<'a> {
         ensures { result.now ≡ self.now.state }
     {
         &self.course.state
+    }
+
+    /// A replayer that stands where this one does: an equal value. It takes memory in proportion to
+    /// the pages that the interval touched so far, and fails only where that is wanting.
+    pub fn copy(&self) -> Result<Replayer<'a>, AllocError>
+        ensures { IfOk result (λ r. r ≡ self.now) }
+    {
+        Ok(Replayer {
+            course: self.course.copy()?,
+            over: self.over,
+        })
     }
 }

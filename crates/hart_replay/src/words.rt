@@ -1,5 +1,5 @@
 //! The words that a replay knows.
-ghost use Rattle.std.specs.Prelude.{◌≡◌, ◌≤◌, ◌<◌, ◌+◌, ◌/◌, ◌==◌, ℕ, Some, None, if◌then◌else◌, OnOk, IsOk};
+ghost use Rattle.std.specs.Prelude.{◌≡◌, ◌≤◌, ◌<◌, ◌+◌, ◌/◌, ◌==◌, ℕ, Some, None, if◌then◌else◌, OnOk, IfOk, IsOk};
 ghost use Rattle.hart_replay.specs.Pages.{word_at};
 
 use crate::page::{PAGE_WORDS, Page};
@@ -84,5 +84,14 @@ impl Words {
             Some(page) => page.forget(number % PAGE_WORDS),
             None => (),
         }
+    }
+
+    /// The same known words. It takes memory in proportion to their pages.
+    pub fn copy(&self) -> Result<Words, AllocError>
+        ensures { IfOk result (λ w. w.pages ≡ self.now.pages) }
+    {
+        Ok(Words {
+            pages: self.pages.clone()?,
+        })
     }
 }

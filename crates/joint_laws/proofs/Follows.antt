@@ -122,10 +122,8 @@ module _ (r : Recording) (records : List Record) where
     is_replayed : (h n : ℕ) (v : Interval) → interval_of h n records ≡ Some v → replayed r.program records h n ≡ record { rows = interval_rows r h n; outcome = Done }
     is_replayed h n v e =
         let setting = log.recording.setting in
-        let low = setting.format_low in
-        let high = setting.format_high in
         let limit = setting.limit_high in
-        suffice r.settings r.program r.input r.turns h n (omega (arith, low, high)) (omega (arith, limit)) whole records log.end v e
+        suffice r.settings r.program r.input r.turns h n (omega (arith, limit)) whole records log.end v e
 
     first_courses : (h : ℕ) (ns : List ℕ) → AllByRecursion (λ n. is_some (interval_of h n records) ≡ true) ns
         → AreOf h (courses_of r.program records h ns) × (rows_left (courses_of r.program records h ns) ≡ flat_map (interval_rows r h) ns)

@@ -131,8 +131,6 @@ module _ (r : Recording) (records : List Record) (order : List ℕ) (w : Walk) (
   writer_step a n y q t own at writes at_step hart row_at none kept =
       let setting = log.recording.setting in
       let legal = log.recording.legal in
-      let low = setting.format_low in
-      let high = setting.format_high in
       let limit = setting.limit_high in
       let x = writers r.settings r.program r.input r.turns n q a setting codes legal at writes in
       let d : IsDoing r t.hart t.item = of_row r records t.hart q.count t.item (item_of r records w.taken y t f.taken at_step) row_at in
@@ -140,7 +138,7 @@ module _ (r : Recording) (records : List Record) (order : List ℕ) (w : Walk) (
       subst (λ h. RunHasRow r.settings r.program r.input r.turns h d.before d.row) hart (turn_rows r.settings r.program r.input r.turns t.hart d.before d.row setting legal d.of_run) in
       let count : d.row.ic ≡ q.count = (subst (IsRowAt q.count) d.is row_at).0 in
       let same = same_row r.program _ _ d.before x.before d.row x.row
-      (counted r.settings r.program r.input r.turns q.hart (omega (arith, low, high)) (omega (arith, limit)) (record { legal = legal; over = log.recording.over })) mine x.has (count ∙ x.count) in
+      (counted r.settings r.program r.input r.turns q.hart (omega (arith, limit)) (record { legal = legal; over = log.recording.over })) mine x.has (count ∙ x.count) in
       elim x.writes [
         | inl stored ↦ not_some _ (sym none ∙ (ap (told_by a) d.is ∙ (ap (λ (z : Row). word_told z a) same.1 ∙ store_tells x.row.store (at_address a x.row.load None) a _ stored)))
         | inr fill ↦ false≢true (sym kept ∙ (ap (forgets a) d.is ∙ (fills d.before d.row a own).0 (subst (λ (s : HartState). Fills s d.row a) (sym same.0) (subst (λ (z : Row). Fills x.before z a) (sym same.1) fill))))

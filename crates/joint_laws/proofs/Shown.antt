@@ -11,7 +11,7 @@ use Rattle.run_model.specs.Rows.{rows_of, turn_rows}
 use Rattle.run_model.specs.Runs.{start, run_of, run_from, legal_from, is_live}
 use Rattle.run_model.specs.Turn.{Run, turn}
 use Rattle.replay_laws.specs.Law.{BeginsIn, IntervalsBegin}
-use Rattle.row_laws.specs.Laws.{RowsTellRuns}
+use Rattle.row_laws.specs.Laws.{BeginningsTellStates, RowsTellRuns}
 use Rattle.row_laws.specs.States.{state_after}
 use Rattle.joint_replay.specs.Lanes.{Course, Lane, state_of}
 use Rattle.joint_laws.specs.Recordings.{Recording, IsLogOf, OfBeginnings, first_state}
@@ -45,28 +45,29 @@ rows_append c i h (k ∷ ks) b run = by (k == h) (rows_append c i h ks b (turn c
 
 -- ---- an interval under way
 
-module _ (begins : IntervalsBegin) (tell : RowsTellRuns) (r : Recording) (records : List Record) (log : IsLogOf r records) (h : ℕ) where
+module _ (begins : IntervalsBegin) (begun : BeginningsTellStates) (tell : RowsTellRuns) (r : Recording) (records : List Record) (log : IsLogOf r records) (h : ℕ) where
   of_course : (c : Course) → IsOf r records h c → IsStateOfRun r h c.state
   of_course c o =
       let setting = log.recording.setting in
-      let low = setting.format_low in
-      let high = setting.format_high in
       let limit = setting.limit_high in
       let x : BeginsIn r.settings r.program r.input r.turns h c.number o.interval =
-      begins r.settings r.program r.input r.turns h c.number (omega (arith, low, high)) (omega (arith, limit)) (record { legal = log.recording.legal; over = log.recording.over }) records log.end o.interval o.found in
+      begins r.settings r.program r.input r.turns h c.number (omega (arith, limit)) (record { legal = log.recording.legal; over = log.recording.over }) records log.end o.interval o.found in
       let first : Run = start r.settings r.program r.input in
       let before : List Row = rows_of r.settings r.program first x.past h in
       let legal : legal_from r.settings r.program first x.past ≡ true =
       legal_front r.settings r.program first x.past x.left (ap (legal_from r.settings r.program first) (sym x.turns) ∙ log.recording.legal) in
       let to : state_after r.program (first_state r h) before ≡ ((run_of r.settings r.program r.input x.past).harts h).state = (tell r.settings r.program r.input [] x.past h setting legal).1 in
+      let there : state_after r.program (first_state r h) (before ++ x.before) ≡ o.interval.start =
+      after_append r.program (first_state r h) before x.before
+      ∙ (ap (λ (s : HartState). state_after r.program s x.before) to ∙ begun r.settings r.program r.input r.turns h c.number o.interval x) in
       record {
-        front = before ++ o.past;
+        front = (before ++ x.before) ++ o.past;
         back = c.left.rows ++ x.more;
         rows = ap (λ ks. rows_of r.settings r.program first ks h) x.turns
             ∙ (rows_append r.settings r.program h x.past x.left first
-            ∙ (ap (λ rows. before ++ rows) (x.rows ∙ (ap (λ rows. rows ++ x.more) o.rows ∙ append_assoc o.past c.left.rows x.more))
-            ∙ sym (append_assoc before o.past (c.left.rows ++ x.more))));
-        state = o.state ∙ (ap (λ (s : HartState). state_after r.program s o.past) (x.state ∙ sym to) ∙ sym (after_append r.program (first_state r h) before o.past));
+            ∙ (ap (λ rows. before ++ rows) (x.rows ∙ ap (λ rows. x.before ++ rows) (ap (λ rows. rows ++ x.more) o.rows ∙ append_assoc o.past c.left.rows x.more))
+            ∙ (sym (append_assoc before x.before (o.past ++ (c.left.rows ++ x.more))) ∙ sym (append_assoc (before ++ x.before) o.past (c.left.rows ++ x.more)))));
+        state = o.state ∙ (ap (λ (s : HartState). state_after r.program s o.past) (sym there) ∙ sym (after_append r.program (first_state r h) (before ++ x.before) o.past));
       }
 
   of_lane : (s : HartState) (points : List ℕ) (courses : List Course) → AreOf r records h courses → state_of (record { points = points; courses = courses }) ≡ Some s → IsStateOfRun r h s
@@ -78,7 +79,7 @@ module _ (begins : IntervalsBegin) (tell : RowsTellRuns) (r : Recording) (record
   of_hart s None all e = absurd (not_some s e)
   of_hart s (Some lane) all e = of_lane s lane.points lane.courses (all lane refl) e
 
-pub has_shown_states : IntervalsBegin → RowsTellRuns → OfBeginnings IsFollowed → OfBeginnings HasShownStates
-has_shown_states begins tell follow r records order w log b h s e =
+pub has_shown_states : IntervalsBegin → BeginningsTellStates → RowsTellRuns → OfBeginnings IsFollowed → OfBeginnings HasShownStates
+has_shown_states begins begun tell follow r records order w log b h s e =
     let f : IsFollowed r records w = follow r records order w log b in
-    of_hart begins tell r records log h s (slice_get w.now.lanes h) (λ lane at. f.courses h lane at) e
+    of_hart begins begun tell r records log h s (slice_get w.now.lanes h) (λ lane at. f.courses h lane at) e

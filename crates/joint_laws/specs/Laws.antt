@@ -93,6 +93,10 @@ WordsAscend low (m ∷ ms) = (low ≤ m.0) × WordsAscend (m.0 + 1) ms
 abbrev pub HasWordsOnce : Recording → List Record → Walk → Type 0
 HasWordsOnce r records w = WordsAscend 0 w.now.memory × ((m : ℕ × ℕ) → Contains w.now.memory m → word_in w.now.memory m.0 ≡ Some m.1)
 
+-- What was done is of a retained interval
+abbrev pub DoesRetained : Recording → List Record → Walk → Type 0
+DoesRetained r records w = (x h k : ℕ) → Did w.taken x h k → IsToDo (begin r records) h k
+
 -- ---- whole orders
 
 -- Race order: in a whole allowed order each instruction of a retained interval was done, once; and two such points that access

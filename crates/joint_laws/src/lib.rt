@@ -3,7 +3,7 @@
 #![tactic(auto)]
 
 ghost use Rattle.joint_laws.specs.Recordings.{OfBeginnings, OfWholeOrders};
-ghost use Rattle.joint_laws.specs.Laws.{OwnLogsAreLogs, BeginsSound, KeepsOrder, StandsInOrder, GoesOn, IsNotRefused, HasFirstRows, HasRows, HasStates, HasShownStates, HasMemory, HasWordsOnce};
+ghost use Rattle.joint_laws.specs.Laws.{OwnLogsAreLogs, BeginsSound, KeepsOrder, StandsInOrder, GoesOn, IsNotRefused, HasFirstRows, HasRows, HasStates, HasShownStates, HasMemory, HasWordsOnce, DoesRetained};
 ghost use Rattle.joint_laws.specs.Laws.{RunsToTheEnd, JointReplaysSayTheRun, JointFilesSayTheRun, ReachedSayTheRun};
 ghost use Rattle.joint_laws.specs.Chains.{ChainsLead};
 ghost use Rattle.joint_laws.specs.Filled.{FillsAreFilled};
@@ -26,7 +26,7 @@ use race_laws::{
 };
 use replay_laws::{ends_suffice, intervals_begin_in_the_run, the_rows_of_a_hart_are_counted};
 use row_laws::{
-    interval_rows_are_of_turns, parts_have_code_words, rows_tell_runs,
+    beginnings_tell_states, interval_rows_are_of_turns, parts_have_code_words, rows_tell_runs,
     rows_that_tell_have_no_fault, run_rows_tell_words, run_writers_have_rows, turn_rows_are_rows,
 };
 use run_laws::kept_records_are_an_end;
@@ -78,6 +78,15 @@ pub fn the_race_order_is_kept()
     chains_lead();
 }
 
+/// Each instruction that was done is of a retained interval.
+pub fn what_was_done_is_retained()
+    ensures { OfBeginnings DoesRetained }
+{
+    steps_pass_their_points();
+    soundness_stays();
+    joint_replays_begin_sound();
+}
+
 /// No beginning of an allowed order gets stuck: it is whole, or some hart is ready.
 pub fn beginnings_go_on()
     ensures { OfBeginnings GoesOn }
@@ -123,6 +132,7 @@ pub fn the_states_are_recorded()
     ends_suffice();
     interval_rows_are_of_turns();
     intervals_begin_in_the_run();
+    beginnings_tell_states();
     rows_tell_runs();
 }
 

@@ -261,6 +261,32 @@ impl<'a> Joint<'a> {
             Next::AllDone
         }
     }
+
+    /// A joint replay that stands where this one does: an equal value, of the same program and log. It
+    /// takes memory in proportion to what this one holds, and fails only where that is wanting.
+    pub fn copy(&self) -> Result<Joint<'a>, AllocError>
+        ensures { IfOk result (λ j. j ≡ self.now) }
+    {
+        Ok(Joint {
+            image: self.image,
+            log: self.log,
+            harts: self.harts,
+            lanes: copy_lanes(&self.lanes)?,
+            memory: self.memory.copy()?,
+            refused: self.refused,
+        })
+    }
+}
+
+// The same harts.
+fn copy_lanes<'a>(lanes: &Vec<Lane<'a>>) -> Result<Vec<Lane<'a>>, AllocError>
+    ensures { IfOk result (λ copies. copies.items ≡ lanes.now.items) }
+{
+    let mut copies = Vec::new(*lanes.allocator());
+    for hart in 0..lanes.len() {
+        copies.push(lanes[hart].copy()?)?;
+    }
+    Ok(copies)
 }
 
 // All harts before their first steps.

@@ -109,6 +109,17 @@ impl<'a> Course<'a> {
             Err(error) => Err(error),
         }
     }
+
+    // The same interval, at the same place of its replay.
+    fn copy(&self) -> Result<Course<'a>, AllocError>
+        ensures { IfOk result (λ c. c ≡ self.now) }
+    {
+        Ok(Course {
+            number: self.number,
+            replayer: self.replayer.copy()?,
+            faulted: self.faulted,
+        })
+    }
 }
 
 /// A hart in a joint replay: its ordering points that are left, the interval that is under way, and
@@ -241,6 +252,42 @@ impl<'a> Lane<'a> {
                 },
             },
         }
+    }
+
+    /// A hart that stands where this one does.
+    pub(crate) fn copy(&self) -> Result<Lane<'a>, AllocError>
+        ensures { IfOk result (λ l. l ≡ self.now) }
+    {
+        Ok(Lane {
+            alloc: self.alloc,
+            image: self.image,
+            log: self.log,
+            hart: self.hart,
+            sources: self.sources.copy()?,
+            points: copy_points(&self.points)?,
+            course: copy_course(&self.course)?,
+            later: Vec::from_slice(self.alloc, &self.later)?,
+        })
+    }
+}
+
+// The same ordering points.
+fn copy_points(points: &BTreeSet<Ic>) -> Result<BTreeSet<Ic>, AllocError>
+    ensures { IfOk result (λ copy. copy.keys ≡ points.now.keys) }
+{
+    points.clone()
+}
+
+// The same interval under way, if one is.
+fn copy_course<'a>(course: &Option<Course<'a>>) -> Result<Option<Course<'a>>, AllocError>
+    ensures { IfOk result (λ copy. copy ≡ course.now) }
+{
+    match course {
+        None => Ok(None),
+        Some(course) => match course.copy() {
+            Ok(copy) => Ok(Some(copy)),
+            Err(error) => Err(error),
+        },
     }
 }
 

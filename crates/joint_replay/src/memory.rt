@@ -1,5 +1,5 @@
 //! The memory of a joint replay.
-ghost use Rattle.std.specs.Prelude.{◌≡◌, ◌≤◌, ◌<◌, ◌+◌, ◌*◌, ◌/◌, ◌^◌, ◌⊎◌, [], ◌∷◌, Some, OnOk, MatchOption};
+ghost use Rattle.std.specs.Prelude.{◌≡◌, ◌≤◌, ◌<◌, ◌+◌, ◌*◌, ◌/◌, ◌^◌, ◌⊎◌, [], ◌∷◌, Some, OnOk, IfOk, MatchOption};
 ghost use Rattle.std.specs.Option.{option_map};
 ghost use Rattle.rv_meaning.specs.Words.{aligned};
 ghost use Rattle.joint_replay.specs.Memory.{forget, put_word, word_in, known_from, put_access};
@@ -118,6 +118,16 @@ impl Memory {
         }
         self.keep(row.load);
         self.keep(row.store);
+    }
+
+    /// The same known words.
+    pub(crate) fn copy(&self) -> Result<Memory, AllocError>
+        ensures { IfOk result (λ m. m.words ≡ self.now.words) }
+    {
+        Ok(Memory {
+            words: self.words.copy()?,
+            end: self.end,
+        })
     }
 }
 

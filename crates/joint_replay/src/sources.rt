@@ -109,4 +109,15 @@ impl<'a> Sources<'a> {
         let start = self.edges.partition_point(|source| source.target < ic);
         &self.edges[start..]
     }
+
+    /// The same ones.
+    pub(crate) fn copy(&self) -> Result<Sources<'a>, AllocError>
+        ensures { IfOk result (λ s. s ≡ self.now) }
+    {
+        Ok(Sources {
+            log: self.log,
+            hart: self.hart,
+            edges: Vec::from_slice(*self.edges.allocator(), &self.edges)?,
+        })
+    }
 }

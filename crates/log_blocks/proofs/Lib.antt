@@ -16,3 +16,8 @@ pub mod Versions
 pub mod Uniques
 pub mod Kept
 pub mod Ends
+pub mod Parted
+pub mod Decided
+pub mod Counted
+pub mod Says
+pub mod Few

@@ -27,8 +27,9 @@ use Rattle.log_blocks.specs.Fields.{head_in, dropped_in, size_in, head_digest, b
 use Rattle.log_blocks.specs.Faults.{head_fault}
 use Rattle.log_blocks.specs.Pieces.{Piece, piece_of, pieces_bytes, gathered, IsWalk}
 use Rattle.log_blocks.specs.Cuts.{first_wrong}
-use Rattle.log_blocks.specs.File.{IsRecordsFault, IsWalkFault, IsHeadFault}
+use Rattle.log_blocks.specs.File.{IsRecordsFault, IsWalkFault, IsHeadFault, dropped_before}
 use Rattle.log_blocks.specs.Laws.{pieces_of, SayOneThing, AreNotRefused, HaveTheirSize}
+use Rattle.log_blocks.specs.Readings.{WholeAreSalvaged}
 use Rattle.log_blocks.proofs.Firsts.{some_bytes}
 use Rattle.log_blocks.proofs.Pushed.{total_cut, total_first}
 use Rattle.log_blocks.proofs.Sealed.{parts_bytes, parts_cut, Full, TagsTell, small, full_first}
@@ -242,3 +243,27 @@ file_size long c is =
       sealed_size long (sha256 h) (blocks_of c.dropped c.records),
       ap length (gathered_for c),
     )
+
+-- ---- of such a file all is salvaged
+
+first_before : (dropped number : ℕ) (parts : List (List Record)) → dropped ≡ number → number < 2 ^ 64 → dropped_before dropped (pieces_of (numbered number parts)) ≡ number
+first_before dropped number [] is small = is
+first_before dropped number (rs ∷ rest) is small = omega (arith, small)
+
+pub whole_salvaged : AreRead → HaveTheirWidth → TagsTell → WholeAreSalvaged
+whole_salvaged read long tell c is =
+    let a = content_again read c is in
+    record {
+      rest = [];
+      pieces = pieces_for c;
+      fault = no_fault_again read long c is;
+      walk = walked_for read long tell c is;
+      some = λ none. a.n_is ∙ ap length (sym (gathered_for c) ∙ ap gathered none);
+      blocks = record {
+        content = is;
+        head_is = sym a.head;
+        dropped_is = sym (first_before (dropped_in (file_bytes2 c)) c.dropped (parts_for c) a.dropped_is is.dropped);
+        parts = gathered_for c;
+        blocks = ap (λ (k : ℕ). first_wrong 136 (blocks_of k c.records) (pieces_for c)) (first_before (dropped_in (file_bytes2 c)) c.dropped (parts_for c) a.dropped_is is.dropped) ∙ all_right 136 c.dropped (parts_for c);
+      };
+    }

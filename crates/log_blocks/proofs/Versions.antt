@@ -72,7 +72,7 @@ read_second_only name same taken bytes (Err y) ic f x d id e =
     let second : is_second bytes ≡ true = ap is_second e ∙ (name d id).0 in
     taken d id y (subst (λ (b : List ℕ). IsSecondRefusal b y) e (spelled_second (is_second bytes) (IsSecondRefusal bytes y) (IsFirstRefusal bytes y) second x))
 
-first_refused : of_first.AreNotRefused → (bytes : List ℕ) (e : Damage) (d : Content) → IsContent d → bytes ≡ file_bytes d → IsFirstRefusal bytes e → e ≡ File OutOfMemory
+pub first_refused : of_first.AreNotRefused → (bytes : List ℕ) (e : Damage) (d : Content) → IsContent d → bytes ≡ file_bytes d → IsFirstRefusal bytes e → e ≡ File OutOfMemory
 first_refused taken bytes (File f) d id e x = ap (λ (g : FileError). File g) (taken d id f (subst (λ (b : List ℕ). IsFirstRefusal b (File f)) e x))
 first_refused taken bytes (BadBlock at) d id e x = absurd x
 

@@ -74,3 +74,7 @@ SalvageRefusalsAreUnique = (bytes : List ℕ) (e f : SalvageError) → IsSalvage
 -- a file of version 2 has 136 bytes and 48 a block beside those of its records
 abbrev pub HaveTheirSize : Type 0
 HaveTheirSize = (c : Content) → IsContent c → length (file_bytes2 c) ≡ total c.records + 136 + 48 * length (blocks_of c.dropped c.records)
+
+-- each block but the last has at least 3,951 bytes of records, since it has no room for one more
+abbrev pub AreFew : Type 0
+AreFew = (c : Content) → IsContent c → 3951 * length (blocks_of c.dropped c.records) ≤ total c.records + 3951

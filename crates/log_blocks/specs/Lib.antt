@@ -5,3 +5,5 @@ pub mod Cuts
 pub mod Walks
 pub mod File
 pub mod Laws
+pub mod Readings
+pub mod Counts

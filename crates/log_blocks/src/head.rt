@@ -81,7 +81,7 @@ fn later_fault(bytes: &[u8], settings: &Settings) -> Option<FileError>
 
 /// Tells whether bytes begin a file of version 2.
 #[tactic(auto, unfolding(log_file::specs::Layout::magic))]
-pub(crate) fn is_second(bytes: &[u8]) -> bool
+pub fn is_second(bytes: &[u8]) -> bool
     ensures { result ≡ is_second bytes.now }
 {
     bytes.len() >= LEAST_SIZE && same(front(bytes, 8), MAGIC) && read_u32(bytes, 8) == VERSION

@@ -1,5 +1,5 @@
 // What blocks, files and logs have to do with each other.
-ghost use Rattle.log_blocks.specs.Laws.{NameTheirVersion, SayOneThing, AreNotRefused, RefusalsAreUnique, HaveTheirSize};
+ghost use Rattle.log_blocks.specs.Laws.{NameTheirVersion, SayOneThing, AreNotRefused, RefusalsAreUnique, HaveTheirSize, AreFew};
 ghost use Rattle.log_blocks.specs.Laws.{SalvagedAreUnique, SalvagedAreNotRefused, SalvageRefusalsAreUnique, LastBlocksAreAnEnd, SalvagedAreAnEnd};
 
 use le_numbers::laws::{numbers_have_their_width, written_numbers_are_read};
@@ -71,4 +71,12 @@ pub fn salvaged_blocks_are_an_end()
 {
     tags_tell_sizes();
     no_record_begins_another();
+}
+
+/// Each block but the last has at least 3,951 bytes of records: so a file of version 2 isn't much longer
+/// than its records.
+pub fn blocks_are_few()
+    ensures { AreFew }
+{
+    tags_tell_sizes();
 }

@@ -1,19 +1,23 @@
 // The log file, version 2: records in sealed blocks, written, read back, and salvaged.
 #![tactic(auto)]
 
+pub mod counting;
 pub mod cutting;
 pub mod damage;
 pub mod gathering;
 pub mod head;
 pub mod laws;
 pub mod reading;
+pub mod readings;
 pub mod salvaging;
 pub mod sealing;
 pub mod splitting;
 pub mod walking;
 pub mod writing;
 
+pub use counting::{count_file, counts_of};
 pub use damage::{Damage, SalvageError};
+pub use head::is_second;
 pub use reading::read_file;
 pub use salvaging::salvage;
-pub use writing::write_file2;
+pub use writing::{write_file2, write_log2};

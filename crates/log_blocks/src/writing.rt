@@ -14,7 +14,9 @@ use crate::sealing::{SEAL_SIZE, seal_of, tail};
 use bn_base::Settings;
 use le_numbers::{push_u32, push_u64};
 use log_file::head::{MAGIC, digest_of};
-use log_record::Head;
+use log_order::KeptLog;
+use log_record::laws::records_fit_later_versions;
+use log_record::{Head, Record, write};
 use std::alloc::{AllocError, Global};
 
 // The part of a head that both versions have, in room for so many bytes.
@@ -104,8 +106,8 @@ fn push_blocks(
 }
 
 /// The file of version 2 with this head, so many dropped records and these kept ones, at most log-size
-/// bytes: whole records that logs of the head's format have, else it is no log's. They are cut into
-/// blocks from the front, each sealed by a digest. The error comes of want of memory alone.
+/// bytes: whole records, else it is no log's. They are cut into blocks from the front, each sealed by a
+/// digest. The error comes of want of memory alone.
 pub fn write_file2(
     alloc: Global,
     head: &Head,
@@ -113,7 +115,7 @@ pub fn write_file2(
     records: &[u8],
 ) -> Result<Vec<u8>, AllocError>
     requires { length records.now ≤ head.now.settings.log_size }
-    ensures { (rs : List Record) → AllByRecursion (Fits head.now.settings.format) rs → records.now ≡ flat_map bytes_of rs → IfOk result (λ v. v.items ≡ file_bytes2 (content head.now dropped rs)) }
+    ensures { (format : ℕ) (rs : List Record) → AllByRecursion (Fits format) rs → records.now ≡ flat_map bytes_of rs → IfOk result (λ v. v.items ≡ file_bytes2 (content head.now dropped rs)) }
 {
     let _bound = head.settings.log_size();
     let size = records.len();
@@ -123,4 +125,27 @@ pub fn write_file2(
     out.extend_from_slice(&digest)?;
     push_blocks(&mut out, &digest, dropped, records)?;
     Ok(out)
+}
+
+// Appends the bytes of records.
+fn push_records(out: &mut Vec<u8>, records: &[Record]) -> Result<(), AllocError>
+    requires { AllByRecursion (Fits 2) records.now }
+    ensures { OnOk result (out.new.items ≡ out.old.items ++ flat_map bytes_of records.now) }
+{
+    for place in 0..records.len() {
+        let bytes = write(&records[place]);
+        out.extend_from_slice(bytes.as_slice())?;
+    }
+    Ok(())
+}
+
+/// The file of version 2 of what a log says, whatever the version that it was read of. The error comes
+/// of want of memory alone.
+pub fn write_log2(alloc: Global, log: &KeptLog) -> Result<Vec<u8>, AllocError>
+    ensures { IfOk result (λ v. v.items ≡ file_bytes2 log.now) }
+{
+    records_fit_later_versions();
+    let mut records = Vec::new(alloc);
+    push_records(&mut records, log.records())?;
+    write_file2(alloc, log.head(), log.dropped(), &records)
 }

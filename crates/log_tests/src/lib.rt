@@ -9,6 +9,8 @@ mod files;
 #[cfg(test)]
 mod first_log;
 #[cfg(test)]
+mod going_back;
+#[cfg(test)]
 mod order;
 #[cfg(test)]
 mod races;

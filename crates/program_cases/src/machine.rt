@@ -12,6 +12,8 @@ pub struct Machine {
     pub store: MemoryStore,
     /// The writes of the next call's out that fail.
     pub failing: Vec<u64>,
+    /// The writes of the next call's err that fail.
+    pub failing_err: Vec<u64>,
     /// What the next call can read.
     pub keys: Vec<u8>,
     /// The reads of the next call that fail.
@@ -29,6 +31,7 @@ impl Machine {
             alloc,
             store: MemoryStore::new(alloc, failing),
             failing: Vec::new(alloc),
+            failing_err: Vec::new(alloc),
             keys: Vec::new(alloc),
             failing_keys: Vec::new(alloc),
             left: None,
@@ -68,10 +71,12 @@ impl Machine {
         }
         let failing = self.failing.to_vec(self.alloc)?;
         self.failing.clear();
+        let failing_err = self.failing_err.to_vec(self.alloc)?;
+        self.failing_err.clear();
         let mut input = self.source()?;
         let some = !input.left().is_empty();
         self.out = MemorySink::new(self.alloc, failing);
-        self.err = MemorySink::new(self.alloc, Vec::new(self.alloc));
+        self.err = MemorySink::new(self.alloc, failing_err);
         let status = run(
             rt,
             self.alloc,

@@ -13,7 +13,7 @@
 //! | `cut NAME LENGTH` | the first bytes of the file alone |
 //! | `zeros NAME LENGTH` | a file of so many bytes 0 |
 //! | `failing-store CALL ..` | a store of no file, whose calls of these numbers fail |
-//! | `failing-out CALL ..` | the next call's out fails at its writes of these numbers |
+//! | `failing-out CALL ..`, `failing-err CALL ..` | the next call's out or err fails at its writes of these numbers |
 //! | `type TEXT` | the next call can read this line, behind what it could before |
 //! | `keys HEX`, `keys HEX COUNT` | the same of these bytes, or of a byte so many times |
 //! | `failing-keys CALL ..` | the next call's reads of these numbers fail |

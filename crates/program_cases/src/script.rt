@@ -178,6 +178,23 @@ impl Case {
         }
     }
 
+    // Does what a line says of calls that fail; false where it says nothing of them.
+    fn failing_step(&mut self, verb: &str, words: &[&str]) -> anyhow::Result<bool> {
+        let calls = words.get(1..).unwrap_or(&[]);
+        if verb == "failing-store" {
+            self.machine = Machine::new(self.alloc, numbers(self.alloc, calls)?);
+        } else if verb == "failing-out" {
+            self.machine.failing = numbers(self.alloc, calls)?;
+        } else if verb == "failing-err" {
+            self.machine.failing_err = numbers(self.alloc, calls)?;
+        } else if verb == "failing-keys" {
+            self.machine.failing_keys = numbers(self.alloc, calls)?;
+        } else {
+            return Ok(false);
+        }
+        Ok(true)
+    }
+
     // Does what a line about files and calls of the program says.
     fn call_step<R: Print + Threads + Wait + Sync>(
         &mut self,
@@ -187,15 +204,7 @@ impl Case {
     ) -> anyhow::Result<()> {
         let verb = words.first().copied().unwrap_or("");
         let name = words.get(1).copied().unwrap_or("");
-        if verb == "failing-store" {
-            let calls = numbers(self.alloc, words.get(1..).unwrap_or(&[]))?;
-            self.machine = Machine::new(self.alloc, calls);
-        } else if verb == "failing-out" {
-            self.machine.failing = numbers(self.alloc, words.get(1..).unwrap_or(&[]))?;
-        } else if verb == "failing-keys" {
-            let calls = numbers(self.alloc, words.get(1..).unwrap_or(&[]))?;
-            self.machine.failing_keys = calls;
-        } else if verb == "type" || verb == "keys" {
+        if verb == "type" || verb == "keys" {
             let keys = typed(self.alloc, line, words)?;
             self.machine.keys.extend_from_slice(&keys)?;
         } else if verb == "run" || verb == "run-meet" || verb == "run-listed" {
@@ -229,6 +238,9 @@ impl Case {
             return Ok(());
         }
         if verb == "" || self.runs.step(rt, verb, words.get(1..).unwrap_or(&[]))? {
+            return Ok(());
+        }
+        if self.failing_step(verb, &words)? {
             return Ok(());
         }
         self.call_step(rt, line, &words)

@@ -15,3 +15,5 @@ pub mod Orders
 pub mod Agreeing
 pub mod Counted
 pub mod Listed
+pub mod Ascending
+pub mod Alike

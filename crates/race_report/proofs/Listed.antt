@@ -8,7 +8,7 @@ use Rattle.race_report.specs.Points.{Accessing}
 use Rattle.race_report.specs.Races.{IsRace, race_at, meeting_at, meetings_below, meetings_of, row_if, row_of, race_by, race_if, races_with, races_by_second, is_at, races_by_place, races_by_first, races_of}
 use Rattle.race_report.specs.Laws.{TestsSayRaces, AreCounted, IsRaceOf, RacesAreListed}
 
-same_number : (a b : ℕ) → (a == b) ≡ true → a ≡ b
+pub same_number : (a b : ℕ) → (a == b) ≡ true → a ≡ b
 same_number a b h = grind arith
 
 same_is : (n : ℕ) → (n == n) ≡ true
@@ -16,7 +16,7 @@ same_is n = grind arith
 
 -- ---- lists
 
-in_cases : {X : Type 0} (xs ys : List X) (x : X) → In (xs ++ ys) x → In xs x ⊎ In ys x
+pub in_cases : {X : Type 0} (xs ys : List X) (x : X) → In (xs ++ ys) x → In xs x ⊎ In ys x
 in_cases [] ys x i = inr i
 in_cases (z ∷ zs) ys x (inl e) = inl (inl e)
 in_cases (z ∷ zs) ys x (inr i) = elim (in_cases zs ys x i) [ inl j ↦ inl (inr j) | inr j ↦ inr j ]
@@ -33,7 +33,7 @@ in_right (z ∷ zs) ys x i = inr (in_right zs ys x i)
 module _ (harts : ℕ) (run : List Accessing) where
   -- ---- what is in the list
 
-  in_meetings : (m n : ℕ) (x : Meeting) → In (meetings_below run m n) x → (race_at run m x.second ≡ Some x.word) × (x.second < n)
+  pub in_meetings : (m n : ℕ) (x : Meeting) → In (meetings_below run m n) x → (race_at run m x.second ≡ Some x.word) × (x.second < n)
   unfolding meetings_below
   in_meetings m zero x i = absurd i
   in_meetings m (suc n) x i = by (in_cases (meetings_below run m n) (meeting_at n (race_at run m n)) x i) (in_meetings m n x)
@@ -47,7 +47,7 @@ module _ (harts : ℕ) (run : List Accessing) where
       by (inl j) rest = let r = rest j in let low = r.1 in (r.0, omega (arith, low))
       by (inr j) rest = here (race_at run m n) refl j
 
-  in_with : (m g : ℕ) (xs : List Meeting) (r : Race) → In (races_with run m g xs) r → (x : Meeting) × In xs x × In (race_if run m g x) r
+  pub in_with : (m g : ℕ) (xs : List Meeting) (r : Race) → In (races_with run m g xs) r → (x : Meeting) × In xs x × In (race_if run m g x) r
   in_with m g [] r i = absurd i
   in_with m g (x ∷ xs) r i = by (in_cases (race_if run m g x) (races_with run m g xs) r i) (in_with m g xs r)
     where

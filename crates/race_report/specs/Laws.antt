@@ -1,14 +1,16 @@
 -- The laws of race reports.
-use Rattle.std.specs.Prelude.{◌≡◌, ◌<◌, ◌^◌, ◌↔◌, ℕ, List, slice_get, Some, None}
+use Rattle.std.specs.Prelude.{◌≡◌, ◌<◌, ◌^◌, ◌↔◌, ◌⊎◌, ℕ, List, [], ◌∷◌, slice_get, Some, None}
 use Rattle.bn_base.specs.Programs.{Program}
+use Rattle.bn_base.specs.declared.row.Row.{Row}
 use Rattle.bn_base.specs.declared.settings.RawSettings.{RawSettings}
 use Rattle.log_record.specs.declared.record.Record.{Record}
 use Rattle.log_order.specs.Order.{broken_by}
 use Rattle.race_log.specs.Kept.{In}
+use Rattle.race_log.specs.Points.{IsConflict}
 use Rattle.joint_replay.specs.Joining.{fresh, run_all}
 use Rattle.race_report.specs.declared.race.Race.{Race}
 use Rattle.race_report.specs.Points.{Accessing, points_of}
-use Rattle.race_report.specs.Races.{IsRace, race_at, races_of}
+use Rattle.race_report.specs.Races.{IsRace, race_at, races_of, whole_point}
 
 -- the tests say what a race is: the two places are one, with that word, exactly where the test gives the word
 abbrev pub TestsSayRaces : Type 0
@@ -38,3 +40,40 @@ pub record IsRaceOf (run : List Accessing) (r : Race) : Type 0 where
 -- the list of all races has exactly the races
 abbrev pub RacesAreListed : Type 0
 RacesAreListed = (harts : ℕ) (run : List Accessing) → AreCounted harts run → (r : Race) → In (races_of harts run) r ↔ IsRaceOf run r
+
+-- ---- the order of the list
+
+-- the row of each point is its hart's
+abbrev pub HaveOwnRows : List Accessing → Type 0
+HaveOwnRows run = (m : ℕ) (p : Accessing) → slice_get run m ≡ Some p → p.row.hart ≡ p.hart
+
+-- by hart and then by count
+abbrev pub IsRowBefore : Row → Row → Type 0
+IsRowBefore r s = (r.hart < s.hart) ⊎ ((r.hart ≡ s.hart) × (r.ic < s.ic))
+
+-- by the first row, and where these agree by the second
+abbrev pub IsRaceBefore : Race → Race → Type 0
+IsRaceBefore x y = IsRowBefore x.first y.first ⊎ ((x.first.hart ≡ y.first.hart) × (x.first.ic ≡ y.first.ic) × IsRowBefore x.second y.second)
+
+-- each race comes before all that stand behind it; so none stands there twice
+abbrev pub Ascend : List Race → Type 0
+Ascend [] = Unit {0}
+Ascend (x ∷ xs) = ((y : Race) → In xs y → IsRaceBefore x y) × Ascend xs
+
+-- so it is with the list of all races
+abbrev pub RacesAscend : Type 0
+RacesAscend = (harts : ℕ) (run : List Accessing) → AreCounted harts run → HaveOwnRows run → Ascend (races_of harts run)
+
+-- ---- other orders of the same points
+
+-- two lists have the same points, and two that conflict stand in the other list as they do in this one
+pub record AreAlike (run other : List Accessing) : Type 0 where
+  pub there : (m : ℕ) (p : Accessing) → slice_get run m ≡ Some p → (j : ℕ) × (slice_get other j ≡ Some p)
+  pub back : (j : ℕ) (p : Accessing) → slice_get other j ≡ Some p → (m : ℕ) × (slice_get run m ≡ Some p)
+  pub order : (m n j k : ℕ) (p q : Accessing) → slice_get run m ≡ Some p → slice_get run n ≡ Some q → slice_get other j ≡ Some p → slice_get other k ≡ Some q
+      → IsConflict (whole_point m p) (whole_point n q) → m < n → j < k
+
+-- such lists have the same races: they go by the order of conflicting points alone
+abbrev pub RacesGoByConflicts : Type 0
+RacesGoByConflicts = (harts : ℕ) (run other : List Accessing) → AreCounted harts run → AreCounted harts other → HaveOwnRows run → AreAlike run other
+    → races_of harts run ≡ races_of harts other

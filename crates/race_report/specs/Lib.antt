@@ -1,10 +1,12 @@
 pub mod Points
+pub mod Touched
 pub mod Races
 pub mod Reports
 pub mod Tracks
 pub mod Found
 pub mod Kept
 pub mod Gathering
+pub mod Meets
 pub mod Texts
 pub mod Laws
 pub mod Examples

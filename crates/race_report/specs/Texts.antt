@@ -1,10 +1,14 @@
 -- The text of a race report.
-use Rattle.std.specs.Prelude.{ℕ, List, [], ◌∷◌, ◌++◌, codes, decimal, length}
+use Rattle.std.specs.Prelude.{◌≡◌, ◌≤◌, ℕ, List, [], ◌∷◌, ◌++◌, codes, decimal, length, None, Result, Ok, Err}
 use Rattle.std.specs.List.{flat_map}
 use Rattle.bn_base.specs.declared.row.Row.{Row}
 use Rattle.rv_text.specs.Instructions.{hex8}
 use Rattle.rv_text.specs.Rows.{row_text}
+use Rattle.joint_replay.specs.Joining.{Ran}
+use Rattle.race_report.specs.declared.error.RaceError.{RaceError}
 use Rattle.race_report.specs.declared.race.Race.{Race}
+use Rattle.race_report.specs.Races.{race_count, races_of}
+use Rattle.race_report.specs.Reports.{points_in, IsReport}
 
 -- a point by its hart and count
 unfoldable pub place_text : Row → List ℕ
@@ -21,3 +25,8 @@ count_text n = codes "races " ++ decimal n ++ codes "\n"
 -- the text of all races
 abbrev pub races_text : List Race → List ℕ
 races_text races = flat_map race_text races ++ count_text (length races)
+
+-- the text of the report of a joint replay of so many harts, which lists at most so many; or why there is none
+abbrev pub IsReportText : ℕ → ℕ → Ran → Result (List ℕ) RaceError → Type 0
+IsReportText harts most r (Ok text) = (r.stopped ≡ None) × (race_count (points_in r) ≤ most) × (text ≡ races_text (races_of harts (points_in r)))
+IsReportText harts most r (Err e) = IsReport harts most r (Err e)

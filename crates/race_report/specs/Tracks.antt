@@ -41,6 +41,11 @@ AreBelow count entries = (k : ℕ) (e : Entry) → slice_get entries k ≡ Some 
 abbrev pub noted_one : (h w g n word : ℕ) → List ℕ → List ℕ
 noted_one h w g n word ps = cond (g == h && (word / 4 == w / 4)) (n ∷ ps) ps
 
+-- an access of a word by a hart was added: to the places of that hart and word alone
+abbrev pub NotedOne : (hart place word : ℕ) → (old_heads : List Known) → (old_entries : List Entry) → (heads : List Known) → (entries : List Entry) → Type 0
+NotedOne hart place word old_heads old_entries heads entries =
+    (h w : ℕ) (ps : List ℕ) → IsTrackedIn old_heads old_entries h w ps → IsTrackedIn heads entries h w (noted_one h w hart place word ps)
+
 -- so with those of several words
 abbrev pub noted : (h w g n : ℕ) → List ℕ → List ℕ → List ℕ
 noted h w g n [] ps = ps

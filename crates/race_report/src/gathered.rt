@@ -1,9 +1,9 @@
 //! The points of a joint replay so far, and their races.
 ghost use Rattle.std.specs.Prelude.{◌≡◌, ◌<◌, ◌≤◌, ◌++◌, ◌∷◌, [], ℕ, List, length, OnOk, IfOk};
-ghost use Rattle.bn_base.specs.declared.state.HartState.{HartState};
-ghost use Rattle.race_report.specs.Points.{Accessing, IsTouch, asked_by, touch_of, accessing};
+ghost use Rattle.race_report.specs.Points.{Accessing, IsTouch};
 ghost use Rattle.race_report.specs.Found.{total};
 ghost use Rattle.race_report.specs.Gathering.{IsGathered, IsState, point_by};
+ghost use Rattle.race_report.specs.Meets.{TookRow};
 
 use crate::calls::Asked;
 use crate::found::Found;
@@ -100,7 +100,7 @@ impl Gathered {
         most: u64,
     ) -> Result<(), AllocError>
         requires there { (harts : ℕ) × (run : List Accessing) × (hart < harts) × IsState harts most run self.old }
-        ensures { OnOk result ((harts : ℕ) (run : List Accessing) (before : HartState) → hart < harts → asked ≡ asked_by before → IsState harts most run self.old → IsState harts most (run ++ accessing hart row.now (touch_of before row.now)) self.new) }
+        ensures { OnOk result (TookRow hart asked row.now most self.old self.new) }
     {
         if self.found.count() > most {
             return Ok(());

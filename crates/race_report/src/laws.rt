@@ -1,5 +1,5 @@
 //! Laws of race reports. These functions do nothing: their contracts are theorems.
-ghost use Rattle.race_report.specs.Laws.{TestsSayRaces, PointsAreCounted, RacesAreListed};
+ghost use Rattle.race_report.specs.Laws.{TestsSayRaces, PointsAreCounted, RacesAreListed, RacesAscend, RacesGoByConflicts};
 
 use joint_replay::laws::{
     runs_go_by_steps, soundness_stays, starts_are_sound, steps_pass_their_points,
@@ -29,4 +29,19 @@ pub fn races_are_listed()
     ensures { RacesAreListed }
 {
     tests_say_races();
+}
+
+/// The list of all races ascends by hart and count of the first and then of the second; so each race is in
+/// it once.
+#[tactic(auto, using(crate::proofs::Ascending::races_ascend))]
+pub fn races_ascend()
+    ensures { RacesAscend }
+{}
+
+/// Two orders of the same points in which conflicting points stand alike have the same list of races.
+pub fn races_go_by_conflicts()
+    ensures { RacesGoByConflicts }
+{
+    races_are_listed();
+    races_ascend();
 }

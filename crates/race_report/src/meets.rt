@@ -4,8 +4,9 @@ ghost use Rattle.bn_base.specs.declared.settings.TheConstants.{HARTS};
 ghost use Rattle.vector_time.specs.Times.{count_of};
 ghost use Rattle.race_report.specs.Points.{words_from};
 ghost use Rattle.race_report.specs.Tracks.{AreBelow, noted};
-ghost use Rattle.race_report.specs.Found.{met_all, met_harts, met_words, uncovered};
+ghost use Rattle.race_report.specs.Found.{met_all, uncovered};
 ghost use Rattle.race_report.specs.Kept.{IsTracked, lists_of};
+ghost use Rattle.race_report.specs.Meets.{MetWord, MetWords};
 
 use crate::found::Found;
 use crate::touch::Touch;
@@ -64,7 +65,7 @@ fn meet_word(
     requires few { harts ≤ HARTS }
     requires below { AreBelow (length (lists_of found.old)) track.now.entries.items }
     ensures same { length (lists_of found.new) ≡ length (lists_of found.old) }
-    ensures met { OnOk result ((places : ℕ → List ℕ) → ((g : ℕ) → IsTracked track.now g word (places g)) → lists_of found.new ≡ met_harts point.now.place word point.now.hart (count_of point.now.known) places harts (lists_of found.old)) }
+    ensures met { OnOk result (MetWord track.now harts word point.now found.old found.new) }
 {
     for other in 0..harts {
         if other != point.hart {
@@ -87,7 +88,7 @@ pub(crate) fn meet_words(
     requires aligned { touch.first % 4 ≡ 0 }
     requires below { AreBelow (length (lists_of found.old)) track.now.entries.items }
     ensures same { length (lists_of found.new) ≡ length (lists_of found.old) }
-    ensures met { OnOk result ((places : ℕ → ℕ → List ℕ) → ((g w : ℕ) → w % 4 ≡ 0 → IsTracked track.now g w (places g w)) → lists_of found.new ≡ met_words point.now.place point.now.hart (count_of point.now.known) places harts (words_from touch.first touch.count) (lists_of found.old)) }
+    ensures met { OnOk result (MetWords track.now harts touch point.now found.old found.new) }
 {
     let mut word = touch.first;
     for _ in 0..touch.count {
@@ -134,8 +135,8 @@ pub(crate) fn meet_point(
     requires all_below { AreBelow (length (lists_of found.old)) all.now.entries.items }
     requires written_below { AreBelow (length (lists_of found.old)) written.now.entries.items }
     ensures same { length (lists_of found.new) ≡ length (lists_of found.old) }
-    ensures wrote { OnOk result (touch.writes ≡ true → (places : ℕ → ℕ → List ℕ) → ((g w : ℕ) → w % 4 ≡ 0 → IsTracked all.now g w (places g w)) → lists_of found.new ≡ met_words point.now.place point.now.hart (count_of point.now.known) places harts (words_from touch.first touch.count) (lists_of found.old)) }
-    ensures read { OnOk result (touch.writes ≡ false → (places : ℕ → ℕ → List ℕ) → ((g w : ℕ) → w % 4 ≡ 0 → IsTracked written.now g w (places g w)) → lists_of found.new ≡ met_words point.now.place point.now.hart (count_of point.now.known) places harts (words_from touch.first touch.count) (lists_of found.old)) }
+    ensures wrote { OnOk result (touch.writes ≡ true → MetWords all.now harts touch point.now found.old found.new) }
+    ensures read { OnOk result (touch.writes ≡ false → MetWords written.now harts touch point.now found.old found.new) }
 {
     if touch.writes {
         meet_words(all, found, harts, touch, point)

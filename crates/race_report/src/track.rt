@@ -1,6 +1,6 @@
 //! The accesses of each word by each hart, the latest first.
 ghost use Rattle.std.specs.Prelude.{◌≡◌, ◌<◌, ◌/◌, ◌==◌, ◌&&◌, ◌++◌, ◌∷◌, ℕ, List, [], cond, length, slice_get, Some, IfOk, OnOk, OnErr, IfSome};
-ghost use Rattle.race_report.specs.Tracks.{IsTrackedIn, AreBelow, AreLinked, head_at, room_at, noted_one};
+ghost use Rattle.race_report.specs.Tracks.{IsTrackedIn, AreBelow, AreLinked, head_at, room_at, NotedOne};
 
 use bn_base::{Addr, HartId};
 use hart_replay::Words;
@@ -87,7 +87,7 @@ impl Track {
         requires { hart < length self.old.heads.items }
         ensures harts { length self.new.heads.items ≡ length self.old.heads.items }
         ensures below { (count : ℕ) → place < count → AreBelow count self.old.entries.items → AreBelow count self.new.entries.items }
-        ensures noted { OnOk result ((h w : ℕ) (ps : List ℕ) → IsTrackedIn self.old.heads.items self.old.entries.items h w ps → IsTrackedIn self.new.heads.items self.new.entries.items h w (noted_one h w hart place word ps)) }
+        ensures noted { OnOk result (NotedOne hart place word self.old.heads.items self.old.entries.items self.new.heads.items self.new.entries.items) }
     {
         self.make_room(hart)?;
         let previous = self.latest(hart, word);

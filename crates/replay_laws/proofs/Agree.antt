@@ -7,6 +7,7 @@ use Rattle.bn_base.specs.Programs.{Program}
 use Rattle.bn_base.specs.declared.settings.RawSettings.{RawSettings}
 use Rattle.bn_base.specs.declared.state.HartState.{HartState}
 use Rattle.rv_meaning.specs.Words.{aligned}
+use Rattle.rv_meaning.specs.declared.asks.Ask.{Ask}
 use Rattle.rv_meaning.specs.declared.asks.Want.{Want}
 use Rattle.rv_meaning.specs.declared.asks.Want.TheVariants.{Load, Store, LoadReserved, StoreConditional, Amo, System, Cut, Faulted}
 use Rattle.system_calls.specs.declared.effect.Plan.{Plan}
@@ -22,7 +23,7 @@ use Rattle.run_model.specs.declared.span.Span.{Span}
 use Rattle.run_model.specs.declared.next.Next.{Next}
 use Rattle.run_model.specs.Machine.{Machine, answer_call, answer_sc, call_of, filled, put_byte, word_count, is_reserved, sent, planned}
 use Rattle.run_model.specs.Turn.{Run, ask_at, drops, dropped, other_events, own_events, events_after, cleared, call_span, sc_span}
-use Rattle.replay_laws.proofs.Asked.{memory_after, span_to, next_at, served_turn}
+use Rattle.replay_laws.proofs.Asked.{memory_after, span_to, next_to, served_ask, served_turn}
 
 pub not_equal : (a b : ℕ) → a ≢ b → (a == b) ≡ false
 not_equal a b h = elim (eqb_tells a b) [ inl p ↦ absurd (h p.1) | inr p ↦ p.0 ]
@@ -144,12 +145,18 @@ other_history : (n : Next) (h k : ℕ) (call : Option Plan) (o : Option Span) (e
     → events_after n k call o events h ≡ other_events o (events h)
 other_history n h k call o events e = ap (λ x. elim x as (λ y. List Event) [ true ↦ cleared n (own_events call o (events k)) | false ↦ other_events o (events h) ]) e
 
-pub agrees_other : (c : RawSettings) (i : Program) (run : Run) (k h : ℕ) (known : ℕ → Option ℕ) → (h == k) ≡ false → Agrees c run h known
-    → Agrees c (served_turn c i run k) h known
-agrees_other c i run k h known e a b own warm_now =
-    let w : Want = (ask_at c i (run.harts k)).want in
-    let s : HartState = (ask_at c i (run.harts k)).state in
+-- another hart's ask without a guard keeps the agreement
+pub agrees_past : (c : RawSettings) (i : Program) (run : Run) (k h : ℕ) (ask : Ask) (known : ℕ → Option ℕ) → (h == k) ≡ false → Agrees c run h known
+    → Agrees c (served_ask c i run k ask) h known
+agrees_past c i run k h ask known e a b own warm_now =
+    let w : Want = ask.want in
+    let s : HartState = ask.state in
     let o : Option Span = span_to c i run.machine k w s in
     let p : Spared o b × (warm (geometry_of c) b (run.events h) ≡ true) =
-    warm_other (geometry_of c) o b (run.events h) (sym (ap (warm (geometry_of c) b) (other_history (next_at c i run k) h k (call_of i run.machine w) o run.events e)) ∙ warm_now) in
+    warm_other (geometry_of c) o b (run.events h)
+    (sym (ap (warm (geometry_of c) b) (other_history (next_to c i run.machine k (run.harts k) w s) h k (call_of i run.machine w) o run.events e)) ∙ warm_now) in
     a b own p.1 ∙ ap Some (sym (spared w c i run.machine k s b p.0))
+
+pub agrees_other : (c : RawSettings) (i : Program) (run : Run) (k h : ℕ) (known : ℕ → Option ℕ) → (h == k) ≡ false → Agrees c run h known
+    → Agrees c (served_turn c i run k) h known
+agrees_other c i run k h known e a = agrees_past c i run k h (ask_at c i (run.harts k)) known e a

@@ -49,6 +49,10 @@ touched_to c i m k w s = touched (call_of i m w) (span_to c i m k w s)
 abbrev pub next_at : RawSettings → Program → Run → ℕ → Next
 next_at c i run k = next_to c i run.machine k (run.harts k) (ask_at c i (run.harts k)).want (ask_at c i (run.harts k)).state
 
--- the run after it, where the ask is orderly
+-- the run after an ask without a guard
+abbrev pub served_ask : RawSettings → Program → Run → ℕ → Ask → Run
+served_ask c i run k ask = (serve_call c run k ask false (call_of i run.machine ask.want)).run
+
+-- the run after its turn, where the ask is orderly and isn't guarded
 abbrev pub served_turn : RawSettings → Program → Run → ℕ → Run
-served_turn c i run k = (serve_call c run k (ask_at c i (run.harts k)) false (call_of i run.machine (ask_at c i (run.harts k)).want)).run
+served_turn c i run k = served_ask c i run k (ask_at c i (run.harts k))

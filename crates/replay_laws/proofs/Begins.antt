@@ -1,5 +1,5 @@
 -- Where an interval whose Header is kept begins in the run.
-use Rattle.std.proofs.Common.{◌≡◌, ℕ, zero, suc, ◌+◌, ◌<◌, ◌≤◌, Bool, true, false, ◌&&◌, List, [], ◌∷◌, ◌++◌, drop, length, length-append, Option, Some, None, refl, sym, ◌∙◌, ap, arith, subst, inl, inr}
+use Rattle.std.proofs.Common.{◌≡◌, ℕ, zero, suc, ◌+◌, ◌<◌, ◌≤◌, Bool, true, false, ◌&&◌, List, [], ◌∷◌, ◌++◌, take, drop, length, length-append, Option, Some, None, refl, sym, ◌∙◌, ap, arith, subst, inl, inr}
 use Rattle.std.specs.Prelude.{◌==◌, ◌≢◌, nat_lt, if◌then◌else◌}
 use Rattle.std.proofs.lemmas.Bool.{false≢true, eq-eqb}
 use Rattle.std.proofs.lemmas.Bool.Decides.{eqb_tells}
@@ -22,13 +22,12 @@ use Rattle.run_model.specs.declared.span.Span.{Span}
 use Rattle.run_model.specs.Turn.{Run, next_records, events_after, own_events, other_events, header}
 use Rattle.run_model.specs.Machine.{call_of}
 use Rattle.run_model.specs.Runs.{start, start_state, first_headers}
-use Rattle.run_model.specs.Rows.{reply_at, turn_rows}
 use Rattle.replay_laws.proofs.Agree.{not_equal}
-use Rattle.replay_laws.proofs.Asked.{next_at, served_turn, span_to}
+use Rattle.replay_laws.proofs.Asked.{served_turn, span_to}
 use Rattle.replay_laws.proofs.Coming.{IsServed, equal_flip}
-use Rattle.replay_laws.proofs.Counts.{Fit, want_at, asked_at, next_state, warmth_at, word_at, point_at, added, served_records, log_from, own_harts, other_harts, own_fit, begun_fit}
+use Rattle.replay_laws.proofs.Counts.{Fit, Move, Moves, moved_run, want_at, asked_at, next_by, state_by, warmth_by, word_at, reply_by, point_by, added, served_records, log_from, own_harts, other_harts, own_fit, begun_fit}
 use Rattle.replay_laws.proofs.Found.{Passes, FoundOr, pass_all, find_at, turn_passes, turn_finds, next_passes, headers_log, interval_skip}
-use Rattle.replay_laws.proofs.Lengths.{extra, turn_count}
+use Rattle.replay_laws.proofs.Lengths.{extra, rows_by, move_count}
 use Rattle.replay_laws.proofs.ServedRows.{served_rows, served_all, all_skip, all_own, number_up, over_live, dead_of, rows_skip, and_false, false_and}
 use Rattle.replay_laws.proofs.Small.{new_small}
 use Rattle.replay_laws.proofs.Turns.{turn_records, puts_append}
@@ -55,16 +54,16 @@ interval_none h n (suc m) = refl
 abbrev Cleared : RawSettings → List Event → Type 0
 Cleared c es = (b : ℕ) → warm (geometry_of c) b es ≡ false
 
--- the run after the turns of a list
-abbrev pub served_from : RawSettings → Program → Run → List ℕ → Run
+-- the run after a list of moves
+abbrev pub served_from : RawSettings → Program → Run → List Move → Run
 served_from c i run [] = run
-served_from c i run (k ∷ ks) = served_from c i (served_turn c i run k) ks
+served_from c i run (Moves guard k ∷ ks) = served_from c i (moved_run c i guard run k) ks
 
--- Interval v of h, with number n, begins later in the run: at that run, which the past turns lead to, with those turns left.
+-- Interval v of h, with number n, begins later in the run: at that run, which so many moves lead to, with those moves left.
 -- Before it are the front rows.
-pub record Begins (c : RawSettings) (i : Program) (run : Run) (ks : List ℕ) (h n : ℕ) (v : Interval) : Type 0 where
+pub record Begins (c : RawSettings) (i : Program) (run : Run) (ks : List Move) (h n : ℕ) (v : Interval) : Type 0 where
   pub later : Run
-  pub turns : List ℕ
+  pub turns : List Move
   pub legal : IsServed c i later turns
   pub fit : Fit c (later.harts h)
   pub fresh : (later.harts h).skipped ≡ 0
@@ -75,12 +74,12 @@ pub record Begins (c : RawSettings) (i : Program) (run : Run) (ks : List ℕ) (h
   pub front : List Row
   pub all : served_all c i run ks h ≡ front ++ served_all c i later turns h
   pub count : (run.harts h).state.ic + length front ≡ (later.harts h).state.ic
-  pub past : List ℕ
-  pub list : ks ≡ past ++ turns
-  pub reached : later ≡ served_from c i run past
+  pub place : ℕ
+  pub list : turns ≡ drop place ks
+  pub reached : later ≡ served_from c i run (take place ks)
 
 -- it begins at once
-begins_here : (c : RawSettings) (i : Program) (h n : ℕ) (ks : List ℕ) (run : Run) (v : Interval) → IsServed c i run ks → Fit c (run.harts h) → (run.harts h).skipped ≡ 0
+begins_here : (c : RawSettings) (i : Program) (h n : ℕ) (ks : List Move) (run : Run) (v : Interval) → IsServed c i run ks → Fit c (run.harts h) → (run.harts h).skipped ≡ 0
     → Cleared c (run.events h) → (run.harts h).number ≡ n → v ≡ interval_from (run.harts h).state (log_from c i run ks h) → Begins c i run ks h n v
 begins_here c i h n ks run v l f s w e is = record {
   later = run;
@@ -95,15 +94,15 @@ begins_here c i h n ks run v l f s w e is = record {
   front = [];
   all = refl;
   count = omega arith;
-  past = [];
+  place = 0;
   list = refl;
   reached = refl;
 }
 
--- it begins after a turn of another hart, which leaves h
-begins_past : (c : RawSettings) (i : Program) (h n k : ℕ) (ks : List ℕ) (run : Run) (v : Interval) → (k == h) ≡ false → (served_turn c i run k).harts h ≡ run.harts h
-    → Begins c i (served_turn c i run k) ks h n v → Begins c i run (k ∷ ks) h n v
-begins_past c i h n k ks run v p is b = record {
+-- it begins after a move of another hart, which leaves h
+begins_past : (c : RawSettings) (i : Program) (guard : Bool) (h n k : ℕ) (ks : List Move) (run : Run) (v : Interval) → (k == h) ≡ false → (moved_run c i guard run k).harts h ≡ run.harts h
+    → Begins c i (moved_run c i guard run k) ks h n v → Begins c i run (Moves guard k ∷ ks) h n v
+begins_past c i guard h n k ks run v p is b = record {
   later = b.later;
   turns = b.turns;
   legal = b.legal;
@@ -112,24 +111,24 @@ begins_past c i h n k ks run v p is b = record {
   cleared = b.cleared;
   number = b.number;
   is = b.is;
-  rows = rows_skip c i run ks h k n (false_and (k == h) ((run.harts h).number == n) p) ∙ b.rows;
+  rows = rows_skip c i guard run ks h k n (false_and (k == h) ((run.harts h).number == n) p) ∙ b.rows;
   front = b.front;
-  all = all_skip c i run ks h k p ∙ b.all;
+  all = all_skip c i guard run ks h k p ∙ b.all;
   count = ap (λ (x : Hart). x.state.ic + length b.front) (sym is) ∙ b.count;
-  past = k ∷ b.past;
-  list = ap (λ x. k ∷ x) b.list;
+  place = suc b.place;
+  list = b.list;
   reached = b.reached;
 }
 
--- it begins after an own turn of h, which goes on
-begins_after : (c : RawSettings) (i : Program) (h n : ℕ) (ks : List ℕ) (run : Run) (v : Interval) → Sound c i → Fit c (run.harts h) → (run.harts h).number < n
-    → ((served_turn c i run h).harts h).state ≡ next_state c i run h → extra (next_at c i run h) ≡ 0 → Begins c i (served_turn c i run h) ks h n v → Begins c i run (h ∷ ks) h n v
-begins_after c i h n ks run v z f q is none b =
-    let rows : List Row = turn_rows c i run h in
+-- it begins after an own move of h, which goes on
+begins_after : (c : RawSettings) (i : Program) (guard : Bool) (h n : ℕ) (ks : List Move) (run : Run) (v : Interval) → Sound c i → Fit c (run.harts h) → (run.harts h).number < n
+    → ((moved_run c i guard run h).harts h).state ≡ state_by c i guard run h → extra (next_by c i guard run h) ≡ 0 → Begins c i (moved_run c i guard run h) ks h n v → Begins c i run (Moves guard h ∷ ks) h n v
+begins_after c i guard h n ks run v z f q is none b =
+    let rows : List Row = rows_by c i guard run h in
     let whole : length (rows ++ b.front) ≡ length rows + length b.front = length-append rows b.front in
-    let turn : (run.harts h).state.ic + length rows ≡ (next_state c i run h).ic + extra (next_at c i run h) = turn_count c i run h z f in
-    let next : ((served_turn c i run h).harts h).state.ic ≡ (next_state c i run h).ic = ap (λ (x : HartState). x.ic) is in
-    let rest : ((served_turn c i run h).harts h).state.ic + length b.front ≡ (b.later.harts h).state.ic = b.count in
+    let turn : (run.harts h).state.ic + length rows ≡ (state_by c i guard run h).ic + extra (next_by c i guard run h) = move_count c i guard run h z f in
+    let next : ((moved_run c i guard run h).harts h).state.ic ≡ (state_by c i guard run h).ic = ap (λ (x : HartState). x.ic) is in
+    let rest : ((moved_run c i guard run h).harts h).state.ic + length b.front ≡ (b.later.harts h).state.ic = b.count in
     record {
       later = b.later;
       turns = b.turns;
@@ -139,16 +138,16 @@ begins_after c i h n ks run v z f q is none b =
       cleared = b.cleared;
       number = b.number;
       is = b.is;
-      rows = rows_skip c i run ks h h n (and_false (h == h) ((run.harts h).number == n) (not_equal (run.harts h).number n (λ u. absurd (omega arith)))) ∙ b.rows;
+      rows = rows_skip c i guard run ks h h n (and_false (h == h) ((run.harts h).number == n) (not_equal (run.harts h).number n (λ u. absurd (omega arith)))) ∙ b.rows;
       front = rows ++ b.front;
-      all = all_own c i run ks h ∙ (ap (λ x. rows ++ x) b.all ∙ sym (append_assoc rows b.front (served_all c i b.later b.turns h)));
+      all = all_own c i guard run ks h ∙ (ap (λ x. rows ++ x) b.all ∙ sym (append_assoc rows b.front (served_all c i b.later b.turns h)));
       count = omega (arith, whole, turn, next, rest, none);
-      past = h ∷ b.past;
-      list = ap (λ x. h ∷ x) b.list;
+      place = suc b.place;
+      list = b.list;
       reached = b.reached;
     }
 
--- ---- the Headers of a turn
+-- ---- the Headers of a move
 
 no_head : (run : Run) (h n k : ℕ) → (k ≡ h → ((run.harts h).number + 1 == n) ≡ false) → (k == h && ((run.harts k).number + 1 == n)) ≡ false
 no_head run h n k f = elim (eqb_tells k h) [
@@ -156,59 +155,61 @@ no_head run h n k f = elim (eqb_tells k h) [
   | inr p ↦ false_and (k == h) ((run.harts k).number + 1 == n) p.0
 ]
 
-added_passes : (c : RawSettings) (i : Program) (run : Run) (h n k : ℕ) → Passes h n (next_records (next_at c i run k) k (run.harts k).number (next_state c i run k))
-    → Passes h n (added c i run k)
-added_passes c i run h n k p =
-    turn_passes h n k (point_at c i run k) run.points (warmth_at c i run k) (run.harts k).skipped (word_at c i run k) (reply_at c i run k) (next_at c i run k)
-    (run.harts k).number (next_state c i run k) c.harts run.harts p
+added_passes : (c : RawSettings) (i : Program) (guard : Bool) (run : Run) (h n k : ℕ) → Passes h n (next_records (next_by c i guard run k) k (run.harts k).number (state_by c i guard run k))
+    → Passes h n (added c i guard run k)
+added_passes c i guard run h n k p =
+    turn_passes h n k (point_by c i guard run k) run.points (warmth_by c i guard run k) (run.harts k).skipped (word_at c i run k) (reply_by c i guard run k) (next_by c i guard run k)
+    (run.harts k).number (state_by c i guard run k) c.harts run.harts p
 
 -- a later Header is none of an earlier number
-late : (c : RawSettings) (i : Program) (h n : ℕ) (ks : List ℕ) (run : Run) (m : ℕ) → n ≤ (run.harts h).number
+late : (c : RawSettings) (i : Program) (h n : ℕ) (ks : List Move) (run : Run) (m : ℕ) → n ≤ (run.harts h).number
     → interval_of h n (drop m (served_records c i run ks)) ≡ None
 late c i h n [] run m b = interval_none h n m
-late c i h n (k ∷ ks) run m b =
-    let p : Passes h n (added c i run k) =
-    added_passes c i run h n k
-    (next_passes (next_at c i run k) h n k (run.harts k).number (next_state c i run k) (no_head run h n k (λ q. not_equal ((run.harts h).number + 1) n (λ z. absurd (omega arith))))) in
-    let d = pass_all h n (added c i run k) (served_records c i (served_turn c i run k) ks) m p in
-    let up = number_up c i run h k in
-    d.1 ∙ late c i h n ks (served_turn c i run k) d.0 (omega (arith, up))
+late c i h n (Moves guard k ∷ ks) run m b =
+    let p : Passes h n (added c i guard run k) =
+    added_passes c i guard run h n k
+    (next_passes (next_by c i guard run k) h n k (run.harts k).number (state_by c i guard run k) (no_head run h n k (λ q. not_equal ((run.harts h).number + 1) n (λ z. absurd (omega arith))))) in
+    let d = pass_all h n (added c i guard run k) (served_records c i (moved_run c i guard run k) ks) m p in
+    let up = number_up c i guard run h k in
+    d.1 ∙ late c i h n ks (moved_run c i guard run k) d.0 (omega (arith, up))
 
 -- and none comes where the hart is over
-dead_late : (c : RawSettings) (i : Program) (h n : ℕ) (ks : List ℕ) (run : Run) (m : ℕ) → (run.harts h).live ≡ false → IsServed c i run ks
+dead_late : (c : RawSettings) (i : Program) (h n : ℕ) (ks : List Move) (run : Run) (m : ℕ) → (run.harts h).live ≡ false → IsServed c i run ks
     → interval_of h n (drop m (served_records c i run ks)) ≡ None
 dead_late c i h n [] run m e l = interval_none h n m
-dead_late c i h n (k ∷ ks) run m e l = elim (eqb_tells k h) [
+dead_late c i h n (Moves guard k ∷ ks) run m e l = elim (eqb_tells k h) [
   | inl p ↦ absurd (false≢true (sym e ∙ (ap (λ x. (run.harts x).live) (sym p.1) ∙ l.1)))
-  | inr p ↦ (let d = pass_all h n (added c i run k) (served_records c i (served_turn c i run k) ks) m
-      (added_passes c i run h n k (next_passes (next_at c i run k) h n k (run.harts k).number (next_state c i run k) (false_and (k == h) ((run.harts k).number + 1 == n) p.0))) in
-      d.1 ∙ dead_late c i h n ks (served_turn c i run k) d.0
-      (ap (λ (x : Hart). x.live) (other_harts c i run h k (next_at c i run k) refl (equal_flip k h p.1)) ∙ dead_of (next_at c i run k) (run.harts h) e) l.2)
+  | inr p ↦ (let d = pass_all h n (added c i guard run k) (served_records c i (moved_run c i guard run k) ks) m
+      (added_passes c i guard run h n k (next_passes (next_by c i guard run k) h n k (run.harts k).number (state_by c i guard run k) (false_and (k == h) ((run.harts k).number + 1 == n) p.0))) in
+      d.1 ∙ dead_late c i h n ks (moved_run c i guard run k) d.0
+      (ap (λ (x : Hart). x.live) (other_harts c i guard run h k (next_by c i guard run k) refl (equal_flip k h p.1)) ∙ dead_of (next_by c i guard run k) (run.harts h) e) l.2)
 ]
 
 -- ---- an interval that is still to begin
 
 -- wherever a suffix of the records to come has the interval, it begins later
-abbrev Gives : RawSettings → Program → ℕ → ℕ → List ℕ → Run → Type 0
+abbrev Gives : RawSettings → Program → ℕ → ℕ → List Move → Run → Type 0
 Gives c i h n ks run = (m : ℕ) (v : Interval) → interval_of h n (drop m (served_records c i run ks)) ≡ Some v → Begins c i run ks h n v
 
--- a turn that doesn't begin the interval
-gives_later : (c : RawSettings) (i : Program) (h n k : ℕ) (ks : List ℕ) (run : Run) → Passes h n (next_records (next_at c i run k) k (run.harts k).number (next_state c i run k))
-    → ((v : Interval) → Begins c i (served_turn c i run k) ks h n v → Begins c i run (k ∷ ks) h n v) → Gives c i h n ks (served_turn c i run k) → Gives c i h n (k ∷ ks) run
-gives_later c i h n k ks run p step rest m v e =
-    let d = pass_all h n (added c i run k) (served_records c i (served_turn c i run k) ks) m (added_passes c i run h n k p) in
+-- a move that doesn't begin the interval
+gives_later : (c : RawSettings) (i : Program) (guard : Bool) (h n k : ℕ) (ks : List Move) (run : Run) → Passes h n (next_records (next_by c i guard run k) k (run.harts k).number (state_by c i guard run k))
+    → ((v : Interval) → Begins c i (moved_run c i guard run k) ks h n v → Begins c i run (Moves guard k ∷ ks) h n v) → Gives c i h n ks (moved_run c i guard run k) → Gives c i h n (Moves guard k ∷ ks) run
+gives_later c i guard h n k ks run p step rest m v e =
+    let d = pass_all h n (added c i guard run k) (served_records c i (moved_run c i guard run k) ks) m (added_passes c i guard run h n k p) in
     step v (rest d.0 v (sym d.1 ∙ e))
 
--- a turn after which the hart is over
-gives_none : (c : RawSettings) (i : Program) (h n k : ℕ) (ks : List ℕ) (run : Run) → Passes h n (next_records (next_at c i run k) k (run.harts k).number (next_state c i run k))
-    → ((served_turn c i run k).harts h).live ≡ false → IsServed c i (served_turn c i run k) ks → Gives c i h n (k ∷ ks) run
-gives_none c i h n k ks run p dead l m v e =
-    let d = pass_all h n (added c i run k) (served_records c i (served_turn c i run k) ks) m (added_passes c i run h n k p) in
-    absurd (false≢true (ap there (sym (dead_late c i h n ks (served_turn c i run k) d.0 dead l) ∙ (sym d.1 ∙ e))))
+-- a move after which the hart is over
+gives_none : (c : RawSettings) (i : Program) (guard : Bool) (h n k : ℕ) (ks : List Move) (run : Run) → Passes h n (next_records (next_by c i guard run k) k (run.harts k).number (state_by c i guard run k))
+    → ((moved_run c i guard run k).harts h).live ≡ false → IsServed c i (moved_run c i guard run k) ks → Gives c i h n (Moves guard k ∷ ks) run
+gives_none c i guard h n k ks run p dead l m v e =
+    let d = pass_all h n (added c i guard run k) (served_records c i (moved_run c i guard run k) ks) m (added_passes c i guard run h n k p) in
+    absurd (false≢true (ap there (sym (dead_late c i h n ks (moved_run c i guard run k) d.0 dead l) ∙ (sym d.1 ∙ e))))
 
--- a turn that begins an interval clears the hart's cache
-begun_clear : (c : RawSettings) (i : Program) (run : Run) (h r x : ℕ) → next_at c i run h ≡ NewInterval r x → Cleared c ((served_turn c i run h).events h)
-begun_clear c i run h r x e b = ap (λ (es : List Event). warm (geometry_of c) b es) begun
+-- a move that begins an interval clears the hart's cache
+begun_clear : (c : RawSettings) (i : Program) (guard : Bool) (run : Run) (h r x : ℕ) → next_by c i guard run h ≡ NewInterval r x → Cleared c ((moved_run c i guard run h).events h)
+begun_clear c i true run h r x e b =
+    ap (λ (es : List Event). warm (geometry_of c) b es) (ap (λ y. elim y as (λ z. List Event) [ true ↦ Clear ∷ run.events h | false ↦ run.events h ]) (eq-eqb h h refl))
+begun_clear c i false run h r x e b = ap (λ (es : List Event). warm (geometry_of c) b es) begun
   where
     call : Option Plan
     call = call_of i run.machine (want_at c i run h)
@@ -221,89 +222,95 @@ begun_clear c i run h r x e b = ap (λ (es : List Event). warm (geometry_of c) b
         ap (λ (n : Next). events_after n h call words run.events h) e
         ∙ ap (λ y. elim y as (λ z. List Event) [ true ↦ Clear ∷ own_events call words (run.events h) | false ↦ other_events words (run.events h) ]) (eq-eqb h h refl)
 
--- a turn that begins it
-gives_now : (c : RawSettings) (i : Program) (h n : ℕ) (ks : List ℕ) (run : Run) (y x : ℕ) → Sound c i → IsServed c i (served_turn c i run h) ks → Fit c (run.harts h)
-    → next_at c i run h ≡ NewInterval y x → nat_lt 16 y ≡ false → (run.harts h).number + 1 ≡ n → Gives c i h n (h ∷ ks) run
-gives_now c i h n ks run y x z l f e small q m v found =
-    let is = own_harts c i run h (NewInterval y x) e in
-    let r : Run = served_turn c i run h in
-    let s : HartState = next_state c i run h in
+-- a move that begins it
+gives_now : (c : RawSettings) (i : Program) (guard : Bool) (h n : ℕ) (ks : List Move) (run : Run) (y x : ℕ) → Sound c i → IsServed c i (moved_run c i guard run h) ks → Fit c (run.harts h)
+    → next_by c i guard run h ≡ NewInterval y x → nat_lt 16 y ≡ false → (run.harts h).number + 1 ≡ n → Gives c i h n (Moves guard h ∷ ks) run
+gives_now c i guard h n ks run y x z l f e small q m v found =
+    let is = own_harts c i guard run h (NewInterval y x) e in
+    let r : Run = moved_run c i guard run h in
+    let s : HartState = state_by c i guard run h in
     let more : List Record = served_records c i r ks in
     let begun : List Record =
-    turn_records h (point_at c i run h) run.points (warmth_at c i run h) (run.harts h).skipped (word_at c i run h) (reply_at c i run h) (NewInterval y x) (run.harts h).number s c.harts run.harts in
-    let is_added : added c i run h ≡ begun =
-    ap (λ w. turn_records h (point_at c i run h) run.points (warmth_at c i run h) (run.harts h).skipped (word_at c i run h) (reply_at c i run h) w (run.harts h).number s c.harts run.harts) e in
+    turn_records h (point_by c i guard run h) run.points (warmth_by c i guard run h) (run.harts h).skipped (word_at c i run h) (reply_by c i guard run h) (NewInterval y x) (run.harts h).number s c.harts run.harts in
+    let is_added : added c i guard run h ≡ begun =
+    ap (λ w. turn_records h (point_by c i guard run h) run.points (warmth_by c i guard run h) (run.harts h).skipped (word_at c i run h) (reply_by c i guard run h) w (run.harts h).number s c.harts run.harts) e in
     let number : (r.harts h).number ≡ n = ap (λ (w : Hart). w.number) is ∙ q in
     let state : (r.harts h).state ≡ s = ap (λ (w : Hart). w.state) is in
-    let same : interval_of h n (drop m (added c i run h ++ more)) ≡ interval_of h n (drop m (begun ++ more)) = ap (λ w. interval_of h n (drop m (w ++ more))) is_added in
-    let none : extra (next_at c i run h) ≡ 0 = ap extra e ∙ ap (λ (b : Bool). if b then 1 else 0) small in
-    elim (turn_finds h n (point_at c i run h) run.points (warmth_at c i run h) (run.harts h).skipped (word_at c i run h) (reply_at c i run h) y x
+    let same : interval_of h n (drop m (added c i guard run h ++ more)) ≡ interval_of h n (drop m (begun ++ more)) = ap (λ w. interval_of h n (drop m (w ++ more))) is_added in
+    let none : extra (next_by c i guard run h) ≡ 0 = ap extra e ∙ ap (λ (b : Bool). if b then 1 else 0) small in
+    elim (turn_finds h n (point_by c i guard run h) run.points (warmth_by c i guard run h) (run.harts h).skipped (word_at c i run h) (reply_by c i guard run h) y x
     (run.harts h).number s c.harts run.harts more m q) [
-      | inl w ↦ begins_after c i h n ks run v z f (omega (arith, q)) state none
-          (begins_here c i h n ks r v l (begun_fit c i run h y x z e f) (ap (λ (w : Hart). w.skipped) is) (begun_clear c i run h y x e) number
+      | inl w ↦ begins_after c i guard h n ks run v z f (omega (arith, q)) state none
+          (begins_here c i h n ks r v l (begun_fit c i guard run h y x z e f) (ap (λ (w : Hart). w.skipped) is) (begun_clear c i guard run h y x e) number
           (some_same v _ (sym found ∙ (same ∙ w)) ∙ ap (λ u. interval_from u (puts h more nothing)) (sym state)))
       | inr w ↦ absurd (false≢true (ap there (sym (same ∙ (w.1 ∙ late c i h n ks r w.0 (omega (arith, number)))) ∙ found)))
     ]
 
--- h's own turn before it
-gives_own : (x : Next) (c : RawSettings) (i : Program) (h n : ℕ) (ks : List ℕ) (run : Run) → Sound c i → IsServed c i (served_turn c i run h) ks → Fit c (run.harts h)
-    → next_at c i run h ≡ x → (run.harts h).number < n → (((served_turn c i run h).harts h).number < n → Fit c ((served_turn c i run h).harts h) → Gives c i h n ks (served_turn c i run h))
-    → Gives c i h n (h ∷ ks) run
-gives_own GoesOn c i h n ks run z l f e q rest =
-    let is = own_harts c i run h GoesOn e in
-    gives_later c i h n h ks run (subst (λ (w : Next). Passes h n (next_records w h (run.harts h).number (next_state c i run h))) (sym e) tt)
-    (λ v b. begins_after c i h n ks run v z f q (ap (λ (w : Hart). w.state) is) (ap extra e) b) (rest (subst (λ (w : Hart). w.number < n) (sym is) q) (own_fit c i run h z e f))
-gives_own (HartOver y x) c i h n ks run z l f e q rest =
-    gives_none c i h n h ks run (subst (λ (w : Next). Passes h n (next_records w h (run.harts h).number (next_state c i run h))) (sym e) (refl, tt))
-    (ap (λ (w : Hart). w.live) (own_harts c i run h (HartOver y x) e)) l
-gives_own (RunOver y x) c i h n ks run z l f e q rest =
-    gives_none c i h n h ks run (subst (λ (w : Next). Passes h n (next_records w h (run.harts h).number (next_state c i run h))) (sym e) (refl, tt))
-    (ap (λ (w : Hart). w.live) (own_harts c i run h (RunOver y x) e)) l
-gives_own (NewInterval y x) c i h n ks run z l f e q rest =
-    let is = own_harts c i run h (NewInterval y x) e in
-    let small : nat_lt 16 y ≡ false = new_small c i run h y x e in
+-- h's own move before it
+gives_own : (x : Next) (c : RawSettings) (i : Program) (guard : Bool) (h n : ℕ) (ks : List Move) (run : Run) → Sound c i → IsServed c i (moved_run c i guard run h) ks → Fit c (run.harts h)
+    → next_by c i guard run h ≡ x → (run.harts h).number < n → (((moved_run c i guard run h).harts h).number < n → Fit c ((moved_run c i guard run h).harts h) → Gives c i h n ks (moved_run c i guard run h))
+    → Gives c i h n (Moves guard h ∷ ks) run
+gives_own GoesOn c i guard h n ks run z l f e q rest =
+    let is = own_harts c i guard run h GoesOn e in
+    gives_later c i guard h n h ks run (subst (λ (w : Next). Passes h n (next_records w h (run.harts h).number (state_by c i guard run h))) (sym e) tt)
+    (λ v b. begins_after c i guard h n ks run v z f q (ap (λ (w : Hart). w.state) is) (ap extra e) b) (rest (subst (λ (w : Hart). w.number < n) (sym is) q) (own_fit c i guard run h z e f))
+gives_own (HartOver y x) c i guard h n ks run z l f e q rest =
+    gives_none c i guard h n h ks run (subst (λ (w : Next). Passes h n (next_records w h (run.harts h).number (state_by c i guard run h))) (sym e) (refl, tt))
+    (ap (λ (w : Hart). w.live) (own_harts c i guard run h (HartOver y x) e)) l
+gives_own (RunOver y x) c i guard h n ks run z l f e q rest =
+    gives_none c i guard h n h ks run (subst (λ (w : Next). Passes h n (next_records w h (run.harts h).number (state_by c i guard run h))) (sym e) (refl, tt))
+    (ap (λ (w : Hart). w.live) (own_harts c i guard run h (RunOver y x) e)) l
+gives_own (NewInterval y x) c i guard h n ks run z l f e q rest =
+    let is = own_harts c i guard run h (NewInterval y x) e in
+    let small : nat_lt 16 y ≡ false = new_small c i guard run h y x e in
     elim (eqb_tells ((run.harts h).number + 1) n) [
-      | inl p ↦ gives_now c i h n ks run y x z l f e small p.1
-      | inr p ↦ gives_later c i h n h ks run
-          (next_passes (next_at c i run h) h n h (run.harts h).number (next_state c i run h) (and_false (h == h) ((run.harts h).number + 1 == n) p.0))
-          (λ v b. begins_after c i h n ks run v z f q (ap (λ (w : Hart). w.state) is) (ap extra e ∙ ap (λ (b : Bool). if b then 1 else 0) small) b)
-          (rest (subst (λ (w : Hart). w.number < n) (sym is) (let u : (run.harts h).number + 1 ≢ n = p.1 in omega (arith, u, q))) (begun_fit c i run h y x z e f))
+      | inl p ↦ gives_now c i guard h n ks run y x z l f e small p.1
+      | inr p ↦ gives_later c i guard h n h ks run
+          (next_passes (next_by c i guard run h) h n h (run.harts h).number (state_by c i guard run h) (and_false (h == h) ((run.harts h).number + 1 == n) p.0))
+          (λ v b. begins_after c i guard h n ks run v z f q (ap (λ (w : Hart). w.state) is) (ap extra e ∙ ap (λ (b : Bool). if b then 1 else 0) small) b)
+          (rest (subst (λ (w : Hart). w.number < n) (sym is) (let u : (run.harts h).number + 1 ≢ n = p.1 in omega (arith, u, q))) (begun_fit c i guard run h y x z e f))
     ]
 
--- another hart's turn before it
-gives_other : (x : Next) (c : RawSettings) (i : Program) (h n k : ℕ) (ks : List ℕ) (run : Run) → IsServed c i (served_turn c i run k) ks → Fit c (run.harts h)
+-- another hart's move before it
+gives_other : (x : Next) (c : RawSettings) (i : Program) (guard : Bool) (h n k : ℕ) (ks : List Move) (run : Run) → IsServed c i (moved_run c i guard run k) ks → Fit c (run.harts h)
     → (k == h) ≡ false
-    → (h == k) ≡ false → next_at c i run k ≡ x → (run.harts h).number < n
-    → (((served_turn c i run k).harts h).number < n → Fit c ((served_turn c i run k).harts h) → Gives c i h n ks (served_turn c i run k)) → Gives c i h n (k ∷ ks) run
-gives_other x c i h n k ks run l f p p2 e q rest = by_next x e
+    → (h == k) ≡ false → next_by c i guard run k ≡ x → (run.harts h).number < n
+    → (((moved_run c i guard run k).harts h).number < n → Fit c ((moved_run c i guard run k).harts h) → Gives c i h n ks (moved_run c i guard run k)) → Gives c i h n (Moves guard k ∷ ks) run
+gives_other x c i guard h n k ks run l f p p2 e q rest = by_next x e
   where
-    passing : Passes h n (next_records (next_at c i run k) k (run.harts k).number (next_state c i run k))
-    passing = next_passes (next_at c i run k) h n k (run.harts k).number (next_state c i run k) (false_and (k == h) ((run.harts k).number + 1 == n) p)
+    passing : Passes h n (next_records (next_by c i guard run k) k (run.harts k).number (state_by c i guard run k))
+    passing = next_passes (next_by c i guard run k) h n k (run.harts k).number (state_by c i guard run k) (false_and (k == h) ((run.harts k).number + 1 == n) p)
 
-    left : (served_turn c i run k).harts h ≡ run.harts h → Gives c i h n (k ∷ ks) run
+    left : (moved_run c i guard run k).harts h ≡ run.harts h → Gives c i h n (Moves guard k ∷ ks) run
     left is =
-        gives_later c i h n k ks run passing (λ v b. begins_past c i h n k ks run v p is b) (rest (subst (λ (w : Hart). w.number < n) (sym is) q) (subst (λ (w : Hart). Fit c w) (sym is) f))
+        gives_later c i guard h n k ks run passing (λ v b. begins_past c i guard h n k ks run v p is b) (rest (subst (λ (w : Hart). w.number < n) (sym is) q) (subst (λ (w : Hart). Fit c w) (sym is) f))
 
-    by_next : (y : Next) → next_at c i run k ≡ y → Gives c i h n (k ∷ ks) run
-    by_next GoesOn d = left (other_harts c i run h k GoesOn d p2)
-    by_next (NewInterval r y) d = left (other_harts c i run h k (NewInterval r y) d p2)
-    by_next (HartOver r y) d = left (other_harts c i run h k (HartOver r y) d p2)
-    by_next (RunOver r y) d = gives_none c i h n k ks run passing (ap (λ (w : Hart). w.live) (other_harts c i run h k (RunOver r y) d p2) ∙ over_live r y (run.harts h)) l
+    by_next : (y : Next) → next_by c i guard run k ≡ y → Gives c i h n (Moves guard k ∷ ks) run
+    by_next GoesOn d = left (other_harts c i guard run h k GoesOn d p2)
+    by_next (NewInterval r y) d = left (other_harts c i guard run h k (NewInterval r y) d p2)
+    by_next (HartOver r y) d = left (other_harts c i guard run h k (HartOver r y) d p2)
+    by_next (RunOver r y) d = gives_none c i guard h n k ks run passing (ap (λ (w : Hart). w.live) (other_harts c i guard run h k (RunOver r y) d p2) ∙ over_live r y (run.harts h)) l
 
-gives : (c : RawSettings) (i : Program) (h n : ℕ) → Sound c i → (ks : List ℕ) (run : Run) → IsServed c i run ks → (run.harts h).number < n → Fit c (run.harts h)
+gives : (c : RawSettings) (i : Program) (h n : ℕ) → Sound c i → (ks : List Move) (run : Run) → IsServed c i run ks → (run.harts h).number < n → Fit c (run.harts h)
     → Gives c i h n ks run
 gives c i h n z [] run l q f = λ m v e. absurd (false≢true (ap there (sym (interval_none h n m) ∙ e)))
-gives c i h n z (k ∷ ks) run l q f = elim (eqb_tells k h) [
-  | inl p ↦ subst (λ (j : ℕ). IsServed c i (served_turn c i run j) ks → Gives c i h n (j ∷ ks) run) (sym p.1)
-      (λ d. gives_own (next_at c i run h) c i h n ks run z d f refl q (λ u y. gives c i h n z ks (served_turn c i run h) d u y)) l.2
-  | inr p ↦ gives_other (next_at c i run k) c i h n k ks run l.2 f p.0 (equal_flip k h p.1) refl q (λ u y. gives c i h n z ks (served_turn c i run k) l.2 u y)
+gives c i h n z (Moves guard k ∷ ks) run l q f = elim (eqb_tells k h) [
+  | inl p ↦ subst (λ (j : ℕ). IsServed c i (moved_run c i guard run j) ks → Gives c i h n (Moves guard j ∷ ks) run) (sym p.1)
+      (λ d. gives_own (next_by c i guard run h) c i guard h n ks run z d f refl q (λ u y. gives c i h n z ks (moved_run c i guard run h) d u y)) l.2
+  | inr p ↦ gives_other (next_by c i guard run k) c i guard h n k ks run l.2 f p.0 (equal_flip k h p.1) refl q (λ u y. gives c i h n z ks (moved_run c i guard run k) l.2 u y)
 ]
 
 -- ---- from the start
 
-pub stream_is : (c : RawSettings) (i : Program) (ks : List ℕ) (run : Run) → (served_from c i run ks).stream ≡ run.stream ++ served_records c i run ks
+moved_stream : (c : RawSettings) (i : Program) (guard : Bool) (run : Run) (k : ℕ) → (moved_run c i guard run k).stream ≡ run.stream ++ added c i guard run k
+moved_stream c i true run k = refl
+moved_stream c i false run k = refl
+
+pub stream_is : (c : RawSettings) (i : Program) (ks : List Move) (run : Run) → (served_from c i run ks).stream ≡ run.stream ++ served_records c i run ks
 stream_is c i [] run = sym (append-nil run.stream)
-stream_is c i (k ∷ ks) run = stream_is c i ks (served_turn c i run k) ∙ append_assoc run.stream (added c i run k) (served_records c i (served_turn c i run k) ks)
+stream_is c i (Moves guard k ∷ ks) run =
+    stream_is c i ks (moved_run c i guard run k)
+    ∙ (ap (λ rs. rs ++ served_records c i (moved_run c i guard run k) ks) (moved_stream c i guard run k) ∙ append_assoc run.stream (added c i guard run k) (served_records c i (moved_run c i guard run k) ks))
 
 headers_pass : (c : RawSettings) (i : Program) (h n k count : ℕ) → ((j : ℕ) → k ≤ j → (j == h && (0 == n)) ≡ false) → Passes h n (first_headers c i k count)
 headers_pass c i h n k zero f = tt
@@ -347,16 +354,16 @@ headers_absent c i h n k zero b = tt
 headers_absent c i h n k (suc count) b =
     (false_and (k == h) (0 == n) (not_equal k h (λ q. absurd (omega arith))), headers_absent c i h n (k + 1) count (omega arith))
 
-absent : (c : RawSettings) (i : Program) (h n : ℕ) (ks : List ℕ) (run : Run) (m : ℕ) → c.harts ≤ h → IsServed c i run ks → interval_of h n (drop m (served_records c i run ks)) ≡ None
+absent : (c : RawSettings) (i : Program) (h n : ℕ) (ks : List Move) (run : Run) (m : ℕ) → c.harts ≤ h → IsServed c i run ks → interval_of h n (drop m (served_records c i run ks)) ≡ None
 absent c i h n [] run m b l = interval_none h n m
-absent c i h n (k ∷ ks) run m b l =
+absent c i h n (Moves guard k ∷ ks) run m b l =
     let other : (k == h) ≡ false = not_equal k h (let g = l.0 in λ q. absurd (omega arith)) in
-    let p = next_passes (next_at c i run k) h n k (run.harts k).number (next_state c i run k) (false_and (k == h) ((run.harts k).number + 1 == n) other) in
-    let d = pass_all h n (added c i run k) (served_records c i (served_turn c i run k) ks) m (added_passes c i run h n k p) in
-    d.1 ∙ absent c i h n ks (served_turn c i run k) d.0 b l.2
+    let p = next_passes (next_by c i guard run k) h n k (run.harts k).number (state_by c i guard run k) (false_and (k == h) ((run.harts k).number + 1 == n) other) in
+    let d = pass_all h n (added c i guard run k) (served_records c i (moved_run c i guard run k) ks) m (added_passes c i guard run h n k p) in
+    d.1 ∙ absent c i h n ks (moved_run c i guard run k) d.0 b l.2
 
 -- no suffix of the stream has an interval of it
-pub suffix_absent : (c : RawSettings) (i : Program) (input b : List ℕ) (h n : ℕ) → c.harts ≤ h → IsServed c i (start c i input) b → (m : ℕ)
+pub suffix_absent : (c : RawSettings) (i : Program) (input : List ℕ) (b : List Move) (h n : ℕ) → c.harts ≤ h → IsServed c i (start c i input) b → (m : ℕ)
     → interval_of h n (drop m (served_from c i (start c i input) b).stream) ≡ None
 suffix_absent c i input b h n above l m =
     let more : List Record = served_records c i (start c i input) b in
@@ -364,7 +371,7 @@ suffix_absent c i input b h n above l m =
     ap (λ rs. interval_of h n (drop m rs)) (stream_is c i b (start c i input)) ∙ (d.1 ∙ absent c i h n b (start c i input) d.0 above l)
 
 -- the interval that a suffix of the stream has begins in the run
-pub suffix_begins : (c : RawSettings) (i : Program) (input b : List ℕ) (h n : ℕ) → Sound c i → h < c.harts → IsServed c i (start c i input) b → (m : ℕ) (v : Interval)
+pub suffix_begins : (c : RawSettings) (i : Program) (input : List ℕ) (b : List Move) (h n : ℕ) → Sound c i → h < c.harts → IsServed c i (start c i input) b → (m : ℕ) (v : Interval)
     → interval_of h n (drop m (served_from c i (start c i input) b).stream) ≡ Some v → Begins c i (start c i input) b h n v
 suffix_begins c i input b h n z g l m v e = from_headers n (ap (λ rs. interval_of h n (drop m rs)) (sym (stream_is c i b (start c i input))) ∙ e)
   where

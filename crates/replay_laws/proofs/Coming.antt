@@ -15,21 +15,19 @@ use Rattle.run_model.specs.declared.hart.Hart.{Hart}
 use Rattle.run_model.specs.declared.next.Next.{Next}
 use Rattle.run_model.specs.declared.next.Next.TheVariants.{GoesOn, NewInterval, HartOver, RunOver}
 use Rattle.run_model.specs.Turn.{Run, load_record, skipped_after, sc_record, hart_after}
-use Rattle.run_model.specs.Rows.{reply_at}
 use Rattle.run_model.specs.Runs.{any_live}
-use Rattle.replay_laws.proofs.Asked.{next_at, served_turn}
-use Rattle.replay_laws.proofs.Counts.{Fit, next_state, skip_next, warmth_at, word_at, log_from, own_turn_log, other_turn_log, own_bounds, own_harts, other_harts, own_fit}
+use Rattle.replay_laws.proofs.Counts.{Fit, Move, Moves, moved_run, next_by, state_by, skip_by, warmth_by, reply_by, word_at, log_from, own_turn_log, other_turn_log, own_bounds, own_harts, other_harts, own_fit}
 use Rattle.replay_laws.proofs.Places.{Ahead}
 use Rattle.replay_laws.proofs.Step.{put_load, with_sc}
 use Rattle.replay_laws.proofs.Turns.{end_log}
 use Rattle.replay_laws.proofs.Way.{Sound}
 
--- a list of turns that is legal and finished
-abbrev pub IsServed : RawSettings → Program → Run → List ℕ → Type 0
+-- a list of moves that is legal and finished
+abbrev pub IsServed : RawSettings → Program → Run → List Move → Type 0
 IsServed c i run [] = any_live c.harts run.harts ≡ false
-IsServed c i run (k ∷ ks) = (k < c.harts) × ((run.harts k).live ≡ true) × IsServed c i (served_turn c i run k) ks
+IsServed c i run (Moves guard k ∷ ks) = (k < c.harts) × ((run.harts k).live ≡ true) × IsServed c i (moved_run c i guard run k) ks
 
--- ---- what a turn's own records leave
+-- ---- what a move's own records leave
 
 ahead_less : (s : ℕ) (ls : List (ℕ × ℕ)) → Ahead (s + 1) ls → Ahead s ls
 ahead_less s [] a = tt
@@ -61,14 +59,14 @@ sc_keeps (replies.Answer x) h l = (refl, refl)
 sc_keeps replies.Went h l = (refl, refl)
 sc_keeps replies.Over h l = (refl, refl)
 
--- the End to come, where h's turn is next
-pub own_mark : (c : RawSettings) (i : Program) (run : Run) (ks : List ℕ) (h : ℕ)
-    → (log_from c i run (h ∷ ks) h).mark ≡ (end_log (next_at c i run h) (next_state c i run h) (log_from c i (served_turn c i run h) ks h)).mark
-own_mark c i run ks h =
-    let en : Logged = end_log (next_at c i run h) (next_state c i run h) (log_from c i (served_turn c i run h) ks h) in
-    ap (λ (y : Logged). y.mark) (own_turn_log c i run ks h)
-    ∙ (load_mark (warmth_at c i run h) h (run.harts h).skipped (word_at c i run h) (puts h (sc_record (reply_at c i run h) h) en)
-    ∙ (sc_keeps (reply_at c i run h) h en).1)
+-- the End to come, where h's move is next
+pub own_mark : (c : RawSettings) (i : Program) (guard : Bool) (run : Run) (ks : List Move) (h : ℕ)
+    → (log_from c i run (Moves guard h ∷ ks) h).mark ≡ (end_log (next_by c i guard run h) (state_by c i guard run h) (log_from c i (moved_run c i guard run h) ks h)).mark
+own_mark c i guard run ks h =
+    let en : Logged = end_log (next_by c i guard run h) (state_by c i guard run h) (log_from c i (moved_run c i guard run h) ks h) in
+    ap (λ (y : Logged). y.mark) (own_turn_log c i guard run ks h)
+    ∙ (load_mark (warmth_by c i guard run h) h (run.harts h).skipped (word_at c i run h) (puts h (sc_record (reply_by c i guard run h) h) en)
+    ∙ (sc_keeps (reply_by c i guard run h) h en).1)
 
 -- ---- what is to come
 
@@ -76,23 +74,23 @@ own_mark c i run ks h =
 abbrev pub Coming : Hart → Logged → Type 0
 Coming t l = Ahead t.skipped l.loads × (t.state.ic ≤ l.mark.ic)
 
-own_coming : (c : RawSettings) (i : Program) (run : Run) (ks : List ℕ) (h : ℕ) (n : Next) → next_at c i run h ≡ n
-    → Ahead (skip_next c i run h) (end_log n (next_state c i run h) (log_from c i (served_turn c i run h) ks h)).loads
-    → (run.harts h).state.ic ≤ (end_log n (next_state c i run h) (log_from c i (served_turn c i run h) ks h)).mark.ic → Coming (run.harts h) (log_from c i run (h ∷ ks) h)
-own_coming c i run ks h n e a b =
+own_coming : (c : RawSettings) (i : Program) (guard : Bool) (run : Run) (ks : List Move) (h : ℕ) (n : Next) → next_by c i guard run h ≡ n
+    → Ahead (skip_by c i guard run h) (end_log n (state_by c i guard run h) (log_from c i (moved_run c i guard run h) ks h)).loads
+    → (run.harts h).state.ic ≤ (end_log n (state_by c i guard run h) (log_from c i (moved_run c i guard run h) ks h)).mark.ic → Coming (run.harts h) (log_from c i run (Moves guard h ∷ ks) h)
+own_coming c i guard run ks h n e a b =
     let t : Hart = run.harts h in
-    let o : Option Warm = warmth_at c i run h in
+    let o : Option Warm = warmth_by c i guard run h in
     let x : ℕ = word_at c i run h in
-    let r : Reply = reply_at c i run h in
-    let en : Logged = end_log n (next_state c i run h) (log_from c i (served_turn c i run h) ks h) in
+    let r : Reply = reply_by c i guard run h in
+    let en : Logged = end_log n (state_by c i guard run h) (log_from c i (moved_run c i guard run h) ks h) in
     let sc : Logged = puts h (sc_record r h) en in
     let k = sc_keeps r h en in
-    let first : Ahead t.skipped (puts h (load_record o h t.skipped x) sc).loads = load_first o h t.skipped x sc (subst (Ahead (skip_next c i run h)) (sym k.0) a) in
+    let first : Ahead t.skipped (puts h (load_record o h t.skipped x) sc).loads = load_first o h t.skipped x sc (subst (Ahead (skip_by c i guard run h)) (sym k.0) a) in
     let mark : (puts h (load_record o h t.skipped x) sc).mark ≡ en.mark = load_mark o h t.skipped x sc ∙ k.1 in
     let last : t.state.ic ≤ (puts h (load_record o h t.skipped x) sc).mark.ic = subst (λ (y : EndMark). t.state.ic ≤ y.ic) (sym mark) b in
-    let whole : log_from c i run (h ∷ ks) h ≡ puts h (load_record o h t.skipped x) sc =
-    own_turn_log c i run ks h
-    ∙ ap (λ y. puts h (load_record o h t.skipped x) (puts h (sc_record r h) (end_log y (next_state c i run h) (log_from c i (served_turn c i run h) ks h)))) e in
+    let whole : log_from c i run (Moves guard h ∷ ks) h ≡ puts h (load_record o h t.skipped x) sc =
+    own_turn_log c i guard run ks h
+    ∙ ap (λ y. puts h (load_record o h t.skipped x) (puts h (sc_record r h) (end_log y (state_by c i guard run h) (log_from c i (moved_run c i guard run h) ks h)))) e in
     subst (λ (y : Logged). Coming t y) (sym whole) (first, last)
 
 -- where no hart is live, h isn't
@@ -110,41 +108,41 @@ no_live (suc n) h harts b e f = elim (eqb_tells n h) [
 pub equal_flip : (k h : ℕ) → k ≢ h → (h == k) ≡ false
 equal_flip k h p = elim (eqb_tells h k) [ inl q ↦ absurd (p (sym q.1)) | inr q ↦ q.0 ]
 
-coming_own : (n : Next) (c : RawSettings) (i : Program) (h : ℕ) (ks : List ℕ) (run : Run) → Sound c i → Fit c (run.harts h) → next_at c i run h ≡ n
-    → (Fit c ((served_turn c i run h).harts h) → Coming ((served_turn c i run h).harts h) (log_from c i (served_turn c i run h) ks h)) → Coming (run.harts h) (log_from c i run (h ∷ ks) h)
-coming_own GoesOn c i h ks run z f e rest =
-    let r : Coming (hart_after GoesOn (next_state c i run h) (skip_next c i run h) (served_turn c i run h).bytes (run.harts h)) (log_from c i (served_turn c i run h) ks h) =
-    subst (λ (x : Hart). Coming x (log_from c i (served_turn c i run h) ks h)) (own_harts c i run h GoesOn e) (rest (own_fit c i run h z e f)) in
-    own_coming c i run ks h GoesOn e r.0 (omega (arith, r.1, (own_bounds c i run h z f).0))
-coming_own (NewInterval y x) c i h ks run z f e rest = own_coming c i run ks h (NewInterval y x) e tt (own_bounds c i run h z f).0
-coming_own (HartOver y x) c i h ks run z f e rest = own_coming c i run ks h (HartOver y x) e tt (own_bounds c i run h z f).0
-coming_own (RunOver y x) c i h ks run z f e rest = own_coming c i run ks h (RunOver y x) e tt (own_bounds c i run h z f).0
+coming_own : (n : Next) (c : RawSettings) (i : Program) (guard : Bool) (h : ℕ) (ks : List Move) (run : Run) → Sound c i → Fit c (run.harts h) → next_by c i guard run h ≡ n
+    → (Fit c ((moved_run c i guard run h).harts h) → Coming ((moved_run c i guard run h).harts h) (log_from c i (moved_run c i guard run h) ks h)) → Coming (run.harts h) (log_from c i run (Moves guard h ∷ ks) h)
+coming_own GoesOn c i guard h ks run z f e rest =
+    let r : Coming (hart_after GoesOn (state_by c i guard run h) (skip_by c i guard run h) (moved_run c i guard run h).bytes (run.harts h)) (log_from c i (moved_run c i guard run h) ks h) =
+    subst (λ (x : Hart). Coming x (log_from c i (moved_run c i guard run h) ks h)) (own_harts c i guard run h GoesOn e) (rest (own_fit c i guard run h z e f)) in
+    own_coming c i guard run ks h GoesOn e r.0 (omega (arith, r.1, (own_bounds c i guard run h z f).0))
+coming_own (NewInterval y x) c i guard h ks run z f e rest = own_coming c i guard run ks h (NewInterval y x) e tt (own_bounds c i guard run h z f).0
+coming_own (HartOver y x) c i guard h ks run z f e rest = own_coming c i guard run ks h (HartOver y x) e tt (own_bounds c i guard run h z f).0
+coming_own (RunOver y x) c i guard h ks run z f e rest = own_coming c i guard run ks h (RunOver y x) e tt (own_bounds c i guard run h z f).0
 
--- another's turn leaves the hart, and what is to come
-coming_past : (c : RawSettings) (i : Program) (h k : ℕ) (ks : List ℕ) (run : Run) → Fit c (run.harts h) → (served_turn c i run k).harts h ≡ run.harts h
-    → log_from c i run (k ∷ ks) h ≡ log_from c i (served_turn c i run k) ks h
-    → (Fit c ((served_turn c i run k).harts h) → Coming ((served_turn c i run k).harts h) (log_from c i (served_turn c i run k) ks h)) → Coming (run.harts h) (log_from c i run (k ∷ ks) h)
-coming_past c i h k ks run f is log rest =
+-- another's move leaves the hart, and what is to come
+coming_past : (c : RawSettings) (i : Program) (guard : Bool) (h k : ℕ) (ks : List Move) (run : Run) → Fit c (run.harts h) → (moved_run c i guard run k).harts h ≡ run.harts h
+    → log_from c i run (Moves guard k ∷ ks) h ≡ log_from c i (moved_run c i guard run k) ks h
+    → (Fit c ((moved_run c i guard run k).harts h) → Coming ((moved_run c i guard run k).harts h) (log_from c i (moved_run c i guard run k) ks h)) → Coming (run.harts h) (log_from c i run (Moves guard k ∷ ks) h)
+coming_past c i guard h k ks run f is log rest =
     let r = rest (subst (λ (x : Hart). Fit c x) (sym is) f) in
-    subst (λ (x : Logged). Coming (run.harts h) x) (sym log) (subst (λ (x : Hart). Coming x (log_from c i (served_turn c i run k) ks h)) is r)
+    subst (λ (x : Logged). Coming (run.harts h) x) (sym log) (subst (λ (x : Hart). Coming x (log_from c i (moved_run c i guard run k) ks h)) is r)
 
-coming_other : (n : Next) (c : RawSettings) (i : Program) (h k : ℕ) (ks : List ℕ) (run : Run) → (k == h) ≡ false → (h == k) ≡ false → h < c.harts → Fit c (run.harts h)
-    → next_at c i run k ≡ n → (Fit c ((served_turn c i run k).harts h) → Coming ((served_turn c i run k).harts h) (log_from c i (served_turn c i run k) ks h))
-    → Coming (run.harts h) (log_from c i run (k ∷ ks) h)
-coming_other (RunOver y x) c i h k ks run p q b f e rest =
-    subst (λ (z : Logged). Coming (run.harts h) z) (sym (other_turn_log c i run ks h k (RunOver y x) e p q f.live b)) (tt, omega arith)
-coming_other GoesOn c i h k ks run p q b f e rest =
-    coming_past c i h k ks run f (other_harts c i run h k GoesOn e q) (other_turn_log c i run ks h k GoesOn e p q f.live b) rest
-coming_other (NewInterval y x) c i h k ks run p q b f e rest =
-    coming_past c i h k ks run f (other_harts c i run h k (NewInterval y x) e q) (other_turn_log c i run ks h k (NewInterval y x) e p q f.live b) rest
-coming_other (HartOver y x) c i h k ks run p q b f e rest =
-    coming_past c i h k ks run f (other_harts c i run h k (HartOver y x) e q) (other_turn_log c i run ks h k (HartOver y x) e p q f.live b) rest
+coming_other : (n : Next) (c : RawSettings) (i : Program) (guard : Bool) (h k : ℕ) (ks : List Move) (run : Run) → (k == h) ≡ false → (h == k) ≡ false → h < c.harts → Fit c (run.harts h)
+    → next_by c i guard run k ≡ n → (Fit c ((moved_run c i guard run k).harts h) → Coming ((moved_run c i guard run k).harts h) (log_from c i (moved_run c i guard run k) ks h))
+    → Coming (run.harts h) (log_from c i run (Moves guard k ∷ ks) h)
+coming_other (RunOver y x) c i guard h k ks run p q b f e rest =
+    subst (λ (z : Logged). Coming (run.harts h) z) (sym (other_turn_log c i guard run ks h k (RunOver y x) e p q f.live b)) (tt, omega arith)
+coming_other GoesOn c i guard h k ks run p q b f e rest =
+    coming_past c i guard h k ks run f (other_harts c i guard run h k GoesOn e q) (other_turn_log c i guard run ks h k GoesOn e p q f.live b) rest
+coming_other (NewInterval y x) c i guard h k ks run p q b f e rest =
+    coming_past c i guard h k ks run f (other_harts c i guard run h k (NewInterval y x) e q) (other_turn_log c i guard run ks h k (NewInterval y x) e p q f.live b) rest
+coming_other (HartOver y x) c i guard h k ks run p q b f e rest =
+    coming_past c i guard h k ks run f (other_harts c i guard run h k (HartOver y x) e q) (other_turn_log c i guard run ks h k (HartOver y x) e p q f.live b) rest
 
-pub coming : (c : RawSettings) (i : Program) (h : ℕ) (ks : List ℕ) (run : Run) → Sound c i → h < c.harts → IsServed c i run ks → Fit c (run.harts h)
+pub coming : (c : RawSettings) (i : Program) (h : ℕ) (ks : List Move) (run : Run) → Sound c i → h < c.harts → IsServed c i run ks → Fit c (run.harts h)
     → Coming (run.harts h) (log_from c i run ks h)
 coming c i h [] run z g e f = absurd (false≢true (no_live c.harts h run.harts g f.live e))
-coming c i h (k ∷ ks) run z g e f = elim (eqb_tells k h) [
-  | inl p ↦ subst (λ (j : ℕ). IsServed c i (served_turn c i run j) ks → Coming (run.harts h) (log_from c i run (j ∷ ks) h)) (sym p.1)
-      (λ d. coming_own (next_at c i run h) c i h ks run z f refl (λ y. coming c i h ks (served_turn c i run h) z g d y)) e.2
-  | inr p ↦ coming_other (next_at c i run k) c i h k ks run p.0 (equal_flip k h p.1) g f refl (λ y. coming c i h ks (served_turn c i run k) z g e.2 y)
+coming c i h (Moves guard k ∷ ks) run z g e f = elim (eqb_tells k h) [
+  | inl p ↦ subst (λ (j : ℕ). IsServed c i (moved_run c i guard run j) ks → Coming (run.harts h) (log_from c i run (Moves guard j ∷ ks) h)) (sym p.1)
+      (λ d. coming_own (next_by c i guard run h) c i guard h ks run z f refl (λ y. coming c i h ks (moved_run c i guard run h) z g d y)) e.2
+  | inr p ↦ coming_other (next_by c i guard run k) c i guard h k ks run p.0 (equal_flip k h p.1) g f refl (λ y. coming c i h ks (moved_run c i guard run k) z g e.2 y)
 ]

@@ -20,11 +20,11 @@ use Rattle.run_model.specs.declared.next.Next.{Next}
 use Rattle.run_model.specs.declared.next.Next.TheVariants.{GoesOn, NewInterval, HartOver, RunOver}
 use Rattle.run_model.specs.Machine.{Machine, answer_call, planned}
 use Rattle.run_model.specs.Turn.{Run, ask_at, budget, after_call, counted}
-use Rattle.run_model.specs.Rows.{quiet_rows, want_rows, turn_rows}
+use Rattle.run_model.specs.Rows.{quiet_rows, want_rows, quiet_part, turn_rows}
 use Rattle.replay_laws.specs.Law.{rows_at_end}
 use Rattle.replay_laws.proofs.Asked.{asking, reply_to, state_after, next_to, next_at}
 use Rattle.replay_laws.proofs.Calls.{plan_counts}
-use Rattle.replay_laws.proofs.Counts.{Fit, want_at, asked_at, next_state, memory_counts, cut_state, own_came}
+use Rattle.replay_laws.proofs.Counts.{Fit, want_at, asked_at, next_state, next_by, state_by, memory_counts, cut_state, own_came}
 use Rattle.replay_laws.proofs.Ends.{above}
 use Rattle.replay_laws.proofs.Way.{Sound, Came}
 
@@ -105,7 +105,7 @@ came_short c i t a z f (inl p) = inl p.0
 came_short c i t a z f (inr p) = inr (let w = f.within in let b = z.limit in omega (arith, p.1, w, b))
 
 -- a turn has a row for each count, and one more where it ends by a fault
-pub turn_count : (c : RawSettings) (i : Program) (run : Run) (h : ℕ) → Sound c i → Fit c (run.harts h)
+turn_count : (c : RawSettings) (i : Program) (run : Run) (h : ℕ) → Sound c i → Fit c (run.harts h)
     → (run.harts h).state.ic + length (turn_rows c i run h) ≡ (next_state c i run h).ic + extra (next_at c i run h)
 turn_count c i run h z f =
     let t : Hart = run.harts h in
@@ -118,3 +118,17 @@ turn_count c i run h z f =
     let row : s.ic + length last ≡ (next_state c i run h).ic + extra (next_at c i run h) =
     ask_count z.exits w c i run.machine h t s (came_short c i t (ask_at c i t) z f (own_came c i t h z f).0) in
     omega (arith, both, first, row)
+
+-- the rows of a move: a guard ends an interval with those of the quiet instructions
+abbrev pub rows_by : RawSettings → Program → Bool → Run → ℕ → List Row
+rows_by c i true run h = quiet_part c i run h
+rows_by c i false run h = turn_rows c i run h
+
+-- so it is of a move
+pub move_count : (c : RawSettings) (i : Program) (guard : Bool) (run : Run) (h : ℕ) → Sound c i → Fit c (run.harts h)
+    → (run.harts h).state.ic + length (rows_by c i guard run h) ≡ (state_by c i guard run h).ic + extra (next_by c i guard run h)
+move_count c i true run h z f =
+    let t : Hart = run.harts h in
+    let first : t.state.ic + length (quiet_part c i run h) ≡ (asked_at c i run h).ic = quiet_count c i h (budget c t) t.state z (let g = f.within in let b = z.limit in omega (arith, g, b)) in
+    first ∙ omega arith
+move_count c i false run h z f = turn_count c i run h z f

@@ -23,4 +23,4 @@ pub mod Worked
 pub mod Warmth
 pub mod Differing
 pub mod Splits
-pub mod FormatOne
+pub mod Guarded

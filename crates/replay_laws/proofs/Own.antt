@@ -8,6 +8,7 @@ use Rattle.bn_base.specs.declared.settings.RawSettings.{RawSettings}
 use Rattle.bn_base.specs.declared.state.HartState.{HartState}
 use Rattle.rv_meaning.specs.Words.{aligned}
 use Rattle.rv_meaning.specs.Orderly.{passes}
+use Rattle.rv_meaning.specs.declared.asks.Ask.{Ask}
 use Rattle.rv_meaning.specs.declared.asks.Want.{Want}
 use Rattle.rv_meaning.specs.declared.asks.Want.TheVariants.{Load, Store, LoadReserved, StoreConditional, Amo, System, Cut, Faulted}
 use Rattle.system_calls.specs.declared.effect.Plan.{Plan}
@@ -22,7 +23,7 @@ use Rattle.run_model.specs.declared.next.Next.TheVariants.{GoesOn}
 use Rattle.run_model.specs.Machine.{Machine, answer_sc, call_of, is_reserved}
 use Rattle.run_model.specs.Turn.{Run, ask_at, own_events, other_events, events_after, sc_span}
 use Rattle.replay_laws.proofs.Agree.{Agrees, Spared, Unwritten, Outside, warm_touch, warm_dropped, not_equal, spared}
-use Rattle.replay_laws.proofs.Asked.{span_to, next_at, served_turn, touched_to}
+use Rattle.replay_laws.proofs.Asked.{span_to, next_to, next_at, served_ask, served_turn, touched_to}
 use Rattle.replay_laws.specs.Known.{touched, learned}
 
 -- b isn't the touched word
@@ -89,19 +90,24 @@ learned_at (Some a) m known b f = elim (eqb_tells b a) [
   | inr p ↦ ap (λ x. cond x (Some (m a)) (known b)) p.0 ∙ f p.1
 ]
 
--- a hart's own turn that goes on keeps the agreement, with what its row lets it know
+-- a hart's own ask that goes on keeps the agreement, with what its row lets it know
+pub agrees_asked : (c : RawSettings) (i : Program) (run : Run) (k : ℕ) (ask : Ask) (known : ℕ → Option ℕ) → passes i ask.want ≡ true → next_to c i run.machine k (run.harts k) ask.want ask.state ≡ GoesOn
+    → Agrees c run k known → Agrees c (served_ask c i run k ask) k (learned (touched_to c i run.machine k ask.want ask.state) (served_ask c i run k ask).machine.memory known)
+agrees_asked c i run k ask known fine n a b own warm_now =
+    let w : Want = ask.want in
+    let s : HartState = ask.state in
+    let o : Option Span = span_to c i run.machine k w s in
+    let call : Option Plan = call_of i run.machine w in
+    let here : warm (geometry_of c) b (own_events call o (run.events k)) ≡ true =
+    sym (ap (warm (geometry_of c) b) (own_history (next_to c i run.machine k (run.harts k) w s) k call o run.events n)) ∙ warm_now in
+    learned_at (touched call o) (served_ask c i run k ask).machine.memory known b (λ p.
+    let q : Spared o b × (warm (geometry_of c) b (run.events k) ≡ true) =
+    own_spared call o (geometry_of c) b (run.events k) (one_word w c i run.machine k s fine) own p here in
+    a b own q.1 ∙ ap Some (sym (spared w c i run.machine k s b q.0)))
+
+-- so does its turn without a guard
 pub agrees_own : (c : RawSettings) (i : Program) (run : Run) (k : ℕ) (known : ℕ → Option ℕ) → passes i (ask_at c i (run.harts k)).want ≡ true → next_at c i run k ≡ GoesOn
     → Agrees c run k known
     → Agrees c (served_turn c i run k) k
     (learned (touched_to c i run.machine k (ask_at c i (run.harts k)).want (ask_at c i (run.harts k)).state) (served_turn c i run k).machine.memory known)
-agrees_own c i run k known fine n a b own warm_now =
-    let w : Want = (ask_at c i (run.harts k)).want in
-    let s : HartState = (ask_at c i (run.harts k)).state in
-    let o : Option Span = span_to c i run.machine k w s in
-    let call : Option Plan = call_of i run.machine w in
-    let here : warm (geometry_of c) b (own_events call o (run.events k)) ≡ true =
-    sym (ap (warm (geometry_of c) b) (own_history (next_at c i run k) k call o run.events n)) ∙ warm_now in
-    learned_at (touched call o) (served_turn c i run k).machine.memory known b (λ p.
-    let q : Spared o b × (warm (geometry_of c) b (run.events k) ≡ true) =
-    own_spared call o (geometry_of c) b (run.events k) (one_word w c i run.machine k s fine) own p here in
-    a b own q.1 ∙ ap Some (sym (spared w c i run.machine k s b q.0)))
+agrees_own c i run k known fine n a = agrees_asked c i run k (ask_at c i (run.harts k)) known fine n a

@@ -1,4 +1,4 @@
--- The rows of an interval over a list of turns whose asks are orderly: where there are none any more.
+-- The rows of an interval over a list of moves whose asks are orderly: where there are none any more.
 use Rattle.std.proofs.Common.{◌≡◌, ℕ, ◌<◌, ◌≤◌, Bool, true, false, ◌&&◌, List, [], ◌∷◌, ◌++◌, refl, sym, ◌∙◌, ap, arith, subst, inl, inr}
 use Rattle.std.specs.Prelude.{◌==◌, Some}
 use Rattle.std.proofs.lemmas.Bool.{false≢true, eq-eqb}
@@ -10,11 +10,10 @@ use Rattle.run_model.specs.declared.hart.Hart.{Hart}
 use Rattle.run_model.specs.declared.next.Next.{Next}
 use Rattle.run_model.specs.declared.next.Next.TheVariants.{GoesOn, NewInterval, HartOver, RunOver}
 use Rattle.run_model.specs.Turn.{Run, other_after}
-use Rattle.run_model.specs.Rows.{turn_rows}
 use Rattle.replay_laws.proofs.Agree.{not_equal}
-use Rattle.replay_laws.proofs.Asked.{next_at, served_turn}
 use Rattle.replay_laws.proofs.Coming.{IsServed, equal_flip}
-use Rattle.replay_laws.proofs.Counts.{own_harts, other_harts}
+use Rattle.replay_laws.proofs.Counts.{Move, Moves, moved_run, next_by, own_harts, other_harts}
+use Rattle.replay_laws.proofs.Lengths.{rows_by}
 
 pub and_false : (a b : Bool) → b ≡ false → (a && b) ≡ false
 and_false true b e = e
@@ -24,23 +23,23 @@ pub false_and : (a b : Bool) → a ≡ false → (a && b) ≡ false
 false_and true b e = absurd (false≢true (sym e))
 false_and false b e = refl
 
--- a turn's rows before more, where it is one of the interval
+-- a move's rows before more, where it is one of the interval
 abbrev pub rows_if : Bool → List Row → List Row → List Row
 rows_if x now more = elim x [ true ↦ now ++ more | false ↦ more ]
 
 -- the rows of hart h in its interval n
-abbrev pub served_rows : RawSettings → Program → Run → List ℕ → ℕ → ℕ → List Row
+abbrev pub served_rows : RawSettings → Program → Run → List Move → ℕ → ℕ → List Row
 served_rows c i run [] h n = []
-served_rows c i run (k ∷ ks) h n = rows_if (k == h && ((run.harts h).number == n)) (turn_rows c i run h) (served_rows c i (served_turn c i run k) ks h n)
+served_rows c i run (Moves guard k ∷ ks) h n = rows_if (k == h && ((run.harts h).number == n)) (rows_by c i guard run h) (served_rows c i (moved_run c i guard run k) ks h n)
 
-pub rows_skip : (c : RawSettings) (i : Program) (run : Run) (ks : List ℕ) (h k n : ℕ) → (k == h && ((run.harts h).number == n)) ≡ false
-    → served_rows c i run (k ∷ ks) h n ≡ served_rows c i (served_turn c i run k) ks h n
-rows_skip c i run ks h k n e = ap (λ x. rows_if x (turn_rows c i run h) (served_rows c i (served_turn c i run k) ks h n)) e
+pub rows_skip : (c : RawSettings) (i : Program) (guard : Bool) (run : Run) (ks : List Move) (h k n : ℕ) → (k == h && ((run.harts h).number == n)) ≡ false
+    → served_rows c i run (Moves guard k ∷ ks) h n ≡ served_rows c i (moved_run c i guard run k) ks h n
+rows_skip c i guard run ks h k n e = ap (λ x. rows_if x (rows_by c i guard run h) (served_rows c i (moved_run c i guard run k) ks h n)) e
 
-pub rows_own : (c : RawSettings) (i : Program) (run : Run) (ks : List ℕ) (h : ℕ)
-    → served_rows c i run (h ∷ ks) h (run.harts h).number ≡ turn_rows c i run h ++ served_rows c i (served_turn c i run h) ks h (run.harts h).number
-rows_own c i run ks h =
-    ap (λ x. rows_if x (turn_rows c i run h) (served_rows c i (served_turn c i run h) ks h (run.harts h).number))
+pub rows_own : (c : RawSettings) (i : Program) (guard : Bool) (run : Run) (ks : List Move) (h : ℕ)
+    → served_rows c i run (Moves guard h ∷ ks) h (run.harts h).number ≡ rows_by c i guard run h ++ served_rows c i (moved_run c i guard run h) ks h (run.harts h).number
+rows_own c i guard run ks h =
+    ap (λ x. rows_if x (rows_by c i guard run h) (served_rows c i (moved_run c i guard run h) ks h (run.harts h).number))
     (both (h == h) ((run.harts h).number == (run.harts h).number) (eq-eqb h h refl) (eq-eqb (run.harts h).number (run.harts h).number refl))
   where
     both : (a b : Bool) → a ≡ true → b ≡ true → (a && b) ≡ true
@@ -48,25 +47,25 @@ rows_own c i run ks h =
     both false b e f = e
 
 -- all rows of hart h
-abbrev pub served_all : RawSettings → Program → Run → List ℕ → ℕ → List Row
+abbrev pub served_all : RawSettings → Program → Run → List Move → ℕ → List Row
 served_all c i run [] h = []
-served_all c i run (k ∷ ks) h = rows_if (k == h) (turn_rows c i run h) (served_all c i (served_turn c i run k) ks h)
+served_all c i run (Moves guard k ∷ ks) h = rows_if (k == h) (rows_by c i guard run h) (served_all c i (moved_run c i guard run k) ks h)
 
-pub all_skip : (c : RawSettings) (i : Program) (run : Run) (ks : List ℕ) (h k : ℕ) → (k == h) ≡ false
-    → served_all c i run (k ∷ ks) h ≡ served_all c i (served_turn c i run k) ks h
-all_skip c i run ks h k e = ap (λ x. rows_if x (turn_rows c i run h) (served_all c i (served_turn c i run k) ks h)) e
+pub all_skip : (c : RawSettings) (i : Program) (guard : Bool) (run : Run) (ks : List Move) (h k : ℕ) → (k == h) ≡ false
+    → served_all c i run (Moves guard k ∷ ks) h ≡ served_all c i (moved_run c i guard run k) ks h
+all_skip c i guard run ks h k e = ap (λ x. rows_if x (rows_by c i guard run h) (served_all c i (moved_run c i guard run k) ks h)) e
 
-pub all_own : (c : RawSettings) (i : Program) (run : Run) (ks : List ℕ) (h : ℕ)
-    → served_all c i run (h ∷ ks) h ≡ turn_rows c i run h ++ served_all c i (served_turn c i run h) ks h
-all_own c i run ks h = ap (λ x. rows_if x (turn_rows c i run h) (served_all c i (served_turn c i run h) ks h)) (eq-eqb h h refl)
+pub all_own : (c : RawSettings) (i : Program) (guard : Bool) (run : Run) (ks : List Move) (h : ℕ)
+    → served_all c i run (Moves guard h ∷ ks) h ≡ rows_by c i guard run h ++ served_all c i (moved_run c i guard run h) ks h
+all_own c i guard run ks h = ap (λ x. rows_if x (rows_by c i guard run h) (served_all c i (moved_run c i guard run h) ks h)) (eq-eqb h h refl)
 
 -- ---- the number of a hart's interval never falls
 
-number_own : (n : Next) (c : RawSettings) (i : Program) (run : Run) (h : ℕ) → next_at c i run h ≡ n → (run.harts h).number ≤ ((served_turn c i run h).harts h).number
-number_own GoesOn c i run h e = subst (λ (x : Hart). (run.harts h).number ≤ x.number) (sym (own_harts c i run h GoesOn e)) (omega arith)
-number_own (NewInterval r x) c i run h e = subst (λ (y : Hart). (run.harts h).number ≤ y.number) (sym (own_harts c i run h (NewInterval r x) e)) (omega arith)
-number_own (HartOver r x) c i run h e = subst (λ (y : Hart). (run.harts h).number ≤ y.number) (sym (own_harts c i run h (HartOver r x) e)) (omega arith)
-number_own (RunOver r x) c i run h e = subst (λ (y : Hart). (run.harts h).number ≤ y.number) (sym (own_harts c i run h (RunOver r x) e)) (omega arith)
+number_own : (n : Next) (c : RawSettings) (i : Program) (guard : Bool) (run : Run) (h : ℕ) → next_by c i guard run h ≡ n → (run.harts h).number ≤ ((moved_run c i guard run h).harts h).number
+number_own GoesOn c i guard run h e = subst (λ (x : Hart). (run.harts h).number ≤ x.number) (sym (own_harts c i guard run h GoesOn e)) (omega arith)
+number_own (NewInterval r x) c i guard run h e = subst (λ (y : Hart). (run.harts h).number ≤ y.number) (sym (own_harts c i guard run h (NewInterval r x) e)) (omega arith)
+number_own (HartOver r x) c i guard run h e = subst (λ (y : Hart). (run.harts h).number ≤ y.number) (sym (own_harts c i guard run h (HartOver r x) e)) (omega arith)
+number_own (RunOver r x) c i guard run h e = subst (λ (y : Hart). (run.harts h).number ≤ y.number) (sym (own_harts c i guard run h (RunOver r x) e)) (omega arith)
 
 -- a hart that the run's end stops
 abbrev stopped_if : Bool → Hart → Hart
@@ -86,21 +85,21 @@ number_of (NewInterval r x) t = refl
 number_of (HartOver r x) t = refl
 number_of (RunOver r x) t = stopped_number t.live t
 
-pub number_up : (c : RawSettings) (i : Program) (run : Run) (h k : ℕ) → (run.harts h).number ≤ ((served_turn c i run k).harts h).number
-number_up c i run h k = elim (eqb_tells k h) [
-  | inl p ↦ subst (λ (j : ℕ). (run.harts h).number ≤ ((served_turn c i run j).harts h).number) (sym p.1) (number_own (next_at c i run h) c i run h refl)
-  | inr p ↦ (let e : ((served_turn c i run k).harts h).number ≡ (run.harts h).number = ap (λ (x : Hart). x.number)
-      (other_harts c i run h k (next_at c i run k) refl (equal_flip k h p.1)) ∙ number_of (next_at c i run k) (run.harts h) in omega (arith, e))
+pub number_up : (c : RawSettings) (i : Program) (guard : Bool) (run : Run) (h k : ℕ) → (run.harts h).number ≤ ((moved_run c i guard run k).harts h).number
+number_up c i guard run h k = elim (eqb_tells k h) [
+  | inl p ↦ subst (λ (j : ℕ). (run.harts h).number ≤ ((moved_run c i guard run j).harts h).number) (sym p.1) (number_own (next_by c i guard run h) c i guard run h refl)
+  | inr p ↦ (let e : ((moved_run c i guard run k).harts h).number ≡ (run.harts h).number = ap (λ (x : Hart). x.number)
+      (other_harts c i guard run h k (next_by c i guard run k) refl (equal_flip k h p.1)) ∙ number_of (next_by c i guard run k) (run.harts h) in omega (arith, e))
 ]
 
 -- ---- no rows after an interval's end
 
-pub gone_rows : (c : RawSettings) (i : Program) (h n : ℕ) (ks : List ℕ) (run : Run) → n < (run.harts h).number → served_rows c i run ks h n ≡ []
+pub gone_rows : (c : RawSettings) (i : Program) (h n : ℕ) (ks : List Move) (run : Run) → n < (run.harts h).number → served_rows c i run ks h n ≡ []
 gone_rows c i h n [] run b = refl
-gone_rows c i h n (k ∷ ks) run b =
-    let up = number_up c i run h k in
-    rows_skip c i run ks h k n (and_false (k == h) ((run.harts h).number == n) (not_equal (run.harts h).number n (λ q. absurd (omega arith)))) ∙ gone_rows c i h n ks
-    (served_turn c i run k) (omega (arith, up))
+gone_rows c i h n (Moves guard k ∷ ks) run b =
+    let up = number_up c i guard run h k in
+    rows_skip c i guard run ks h k n (and_false (k == h) ((run.harts h).number == n) (not_equal (run.harts h).number n (λ q. absurd (omega arith)))) ∙ gone_rows c i h n ks
+    (moved_run c i guard run k) (omega (arith, up))
 
 pub over_live : (r x : ℕ) (t : Hart) → (other_after (RunOver r x) t).live ≡ false
 over_live r x t = stopped_live t.live t refl
@@ -111,10 +110,10 @@ dead_of (NewInterval r x) t e = e
 dead_of (HartOver r x) t e = e
 dead_of (RunOver r x) t e = over_live r x t
 
-pub dead_rows : (c : RawSettings) (i : Program) (h n : ℕ) (ks : List ℕ) (run : Run) → (run.harts h).live ≡ false → IsServed c i run ks → served_rows c i run ks h n ≡ []
+pub dead_rows : (c : RawSettings) (i : Program) (h n : ℕ) (ks : List Move) (run : Run) → (run.harts h).live ≡ false → IsServed c i run ks → served_rows c i run ks h n ≡ []
 dead_rows c i h n [] run e l = refl
-dead_rows c i h n (k ∷ ks) run e l = elim (eqb_tells k h) [
+dead_rows c i h n (Moves guard k ∷ ks) run e l = elim (eqb_tells k h) [
   | inl p ↦ absurd (false≢true (sym e ∙ (ap (λ x. (run.harts x).live) (sym p.1) ∙ l.1)))
-  | inr p ↦ rows_skip c i run ks h k n (false_and (k == h) ((run.harts h).number == n) p.0) ∙ dead_rows c i h n ks (served_turn c i run k)
-      (ap (λ (x : Hart). x.live) (other_harts c i run h k (next_at c i run k) refl (equal_flip k h p.1)) ∙ dead_of (next_at c i run k) (run.harts h) e) l.2
+  | inr p ↦ rows_skip c i guard run ks h k n (false_and (k == h) ((run.harts h).number == n) p.0) ∙ dead_rows c i h n ks (moved_run c i guard run k)
+      (ap (λ (x : Hart). x.live) (other_harts c i guard run h k (next_by c i guard run k) refl (equal_flip k h p.1)) ∙ dead_of (next_by c i guard run k) (run.harts h) e) l.2
 ]

@@ -12,8 +12,8 @@ use Rattle.run_model.specs.declared.next.Next.{Next}
 use Rattle.run_model.specs.declared.next.Next.TheVariants.{GoesOn, NewInterval, HartOver, RunOver}
 use Rattle.run_model.specs.Machine.{Machine, answer_call, planned}
 use Rattle.run_model.specs.Turn.{Run, after_call, counted}
-use Rattle.replay_laws.proofs.Asked.{next_at, next_to}
-use Rattle.replay_laws.proofs.Counts.{want_at, asked_at}
+use Rattle.replay_laws.proofs.Asked.{next_to}
+use Rattle.replay_laws.proofs.Counts.{want_at, asked_at, next_by}
 
 -- what comes next is no new interval, or one for such a reason
 abbrev Small : Next → Type 0
@@ -48,5 +48,9 @@ want_small (System n args) c i run k = call_small (planned i run.machine n args)
 want_small Cut c i run k = counted_small c (run.harts k) _
 want_small (Faulted f y) c i run k = tt
 
-pub new_small : (c : RawSettings) (i : Program) (run : Run) (k r x : ℕ) → next_at c i run k ≡ NewInterval r x → nat_lt 16 r ≡ false
-new_small c i run k r x e = subst Small e (want_small (want_at c i run k) c i run k)
+by_small : (c : RawSettings) (i : Program) (guard : Bool) (run : Run) (k : ℕ) → Small (next_by c i guard run k)
+by_small c i true run k = refl
+by_small c i false run k = want_small (want_at c i run k) c i run k
+
+pub new_small : (c : RawSettings) (i : Program) (guard : Bool) (run : Run) (k r x : ℕ) → next_by c i guard run k ≡ NewInterval r x → nat_lt 16 r ≡ false
+new_small c i guard run k r x e = subst Small e (by_small c i guard run k)

@@ -22,7 +22,7 @@ asks_by : (x : Step) (i : Program) (n : ℕ) (s : HartState) → step i s ≡ x
 asks_by (Quiet t) i n s e more cut = more t cut
 asks_by (Asks w) i n s e more cut = e
 
-asks : (i : Program) (n : ℕ) (s : HartState) → is_cut (ask_of i n s).want ≡ false → step i (ask_of i n s).state ≡ Asks (ask_of i n s).want
+pub asks : (i : Program) (n : ℕ) (s : HartState) → is_cut (ask_of i n s).want ≡ false → step i (ask_of i n s).state ≡ Asks (ask_of i n s).want
 asks i zero s cut = cc
 asks i (suc n) s cut = asks_by (step i s) i n s refl (asks i n) cut
 
@@ -44,10 +44,10 @@ not_cut : (b : Bool) → not b ≡ true → b ≡ false
 not_cut true e = cc
 not_cut false e = refl
 
-uncut : (c : RawSettings) (run : Run) (k : ℕ) (want : Want) → is_guarded c run k want ≡ true → is_cut want ≡ false
+pub uncut : (c : RawSettings) (run : Run) (k : ℕ) (want : Want) → is_guarded c run k want ≡ true → is_cut want ≡ false
 uncut c run k want e = not_cut (is_cut want) (both (not (is_cut want)) _ (both (c.format == 2) _ e).1).0
 
-begun_own : (run : Run) (k : ℕ) (s : HartState) → (begun_anew run k s).harts k ≡ anew s (run.bytes + total (guard_records run k s)) (run.harts k)
+pub begun_own : (run : Run) (k : ℕ) (s : HartState) → (begun_anew run k s).harts k ≡ anew s (run.bytes + total (guard_records run k s)) (run.harts k)
 begun_own run k s = ap (λ (b : Bool). elim b as (λ x. Hart) [ true ↦ anew s (run.bytes + total (guard_records run k s)) (run.harts k) | false ↦ run.harts k ]) (eqb_same k)
 
 asks_again : (c : RawSettings) (i : Program) (run : Run) (k : ℕ) → let ask = ask_at c i (run.harts k) in is_cut ask.want ≡ false → 0 < c.interval → ask.state.ic < c.limit
@@ -59,7 +59,7 @@ asks_again c i run k cut some below =
     ap (ask_at c i) (begun_own run k ask.state)
     ∙ again i (budget c (anew ask.state bytes h)) ask.state ask.want (some_more c h ask.state bytes some below) (asks i (budget c h) h.state cut)
 
-served : (g : Bool) (c : RawSettings) (i : Program) (run : Run) (k : ℕ) → is_orderly c i (run.harts k) (ask_at c i (run.harts k)) ≡ true → is_guarded c run k (ask_at c i (run.harts k)).want ≡ g
+pub served : (g : Bool) (c : RawSettings) (i : Program) (run : Run) (k : ℕ) → is_orderly c i (run.harts k) (ask_at c i (run.harts k)) ≡ true → is_guarded c run k (ask_at c i (run.harts k)).want ≡ g
     → turn c i run k ≡ (serve_call c run k (ask_at c i (run.harts k)) g (call_of i run.machine (ask_at c i (run.harts k)).want)).run
 unfolding serve
 served g c i run k o e =

@@ -15,16 +15,13 @@ use Rattle.hart_rows.specs.Rows.{row_of, known}
 use Rattle.hart_replay.specs.Replay.{Interval, Position, Replayed, Next, steps, finish, ask_step, onto}
 use Rattle.hart_replay.specs.Replay.{On, Stop}
 use Rattle.run_model.specs.Rows.{quiet_rows}
-use Rattle.run_model.specs.Guards.{FormatOneIsUnguarded}
 
--- what is known of the program's steps, of the settings, and of guards
+-- what is known of the program's steps and of the settings
 pub record Sound (c : RawSettings) (i : Program) : Type 0 where
   pub counts : (s t : HartState) → step i s ≡ Quiet t → t.ic ≡ count_up s.ic
   pub passing : (s : HartState) (w : Want) → step i s ≡ Asks w → (is_cut w ≡ false) × (passes i w ≡ true)
   pub orderly : (n : ℕ) (s : HartState) → s.ic + n < 2 ^ 64 → orderly i s.ic n (ask_of i n s) ≡ true
   pub limit : c.limit < 2 ^ 63
-  pub format : c.format ≡ 1
-  pub guards : FormatOneIsUnguarded
   pub exits : ExitsAloneEnd
 
 -- p with another state, rows and flag

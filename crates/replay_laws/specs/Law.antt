@@ -1,13 +1,15 @@
 -- What the last records of a run, as those that its log keeps, say of it.
-use Rattle.std.specs.Prelude.{ℕ, ◌≡◌, ◌+◌, ◌-◌, ◌<◌, ◌^◌, nat_lt, true, List, ◌++◌, length, map, take, drop, Some, if◌then◌else◌}
+use Rattle.std.specs.Prelude.{ℕ, ◌≡◌, ◌⊎◌, ◌+◌, ◌-◌, ◌<◌, ◌^◌, nat_lt, true, List, [], ◌∷◌, ◌++◌, length, map, take, drop, Some, if◌then◌else◌}
 use Rattle.std.specs.List.{range_with_len}
 use Rattle.bn_base.specs.Programs.{Program}
 use Rattle.bn_base.specs.declared.row.Row.{Row}
 use Rattle.bn_base.specs.declared.settings.RawSettings.{RawSettings}
+use Rattle.bn_base.specs.declared.state.HartState.{HartState}
 use Rattle.log_record.specs.declared.record.Record.{Record}
 use Rattle.run_model.specs.Files.{kept_of, IsEndOf}
-use Rattle.run_model.specs.Rows.{rows_of, rows_in}
+use Rattle.run_model.specs.Rows.{rows_of, rows_in, quiet_part}
 use Rattle.run_model.specs.Runs.{start, run_of, legal_from, is_over}
+use Rattle.run_model.specs.Turn.{Run, ask_at, is_guarded}
 use Rattle.hart_replay.specs.Replay.{Interval, interval_of, replayed}
 use Rattle.hart_replay.specs.Replay.{Done}
 
@@ -19,13 +21,13 @@ pub record IsWhole (c : RawSettings) (i : Program) (input b : List ℕ) : Type 0
 -- Log sufficiency: for every list of turns that is legal and finished, every end of its stream, and every interval of a hart
 -- whose Header stands there, the replay of that interval is done, and its rows are the recorded run's of that interval
 abbrev pub EndsSuffice : Type 0
-EndsSuffice = (c : RawSettings) (i : Program) (input b : List ℕ) (h n : ℕ) → c.format ≡ 1 → c.limit < 2 ^ 63 → IsWhole c i input b → (rs : List Record) → IsEndOf (run_of c i input b).stream rs
+EndsSuffice = (c : RawSettings) (i : Program) (input b : List ℕ) (h n : ℕ) → c.limit < 2 ^ 63 → IsWhole c i input b → (rs : List Record) → IsEndOf (run_of c i input b).stream rs
     → (v : Interval) → interval_of h n rs ≡ Some v
     → replayed i rs h n ≡ record { rows = rows_in c i (start c i input) b h n; outcome = Done }
 
 -- so it is of what the log keeps
 abbrev pub LogSuffices : Type 0
-LogSuffices = (c : RawSettings) (i : Program) (input b : List ℕ) (h n : ℕ) → c.format ≡ 1 → c.limit < 2 ^ 63 → IsWhole c i input b
+LogSuffices = (c : RawSettings) (i : Program) (input b : List ℕ) (h n : ℕ) → c.limit < 2 ^ 63 → IsWhole c i input b
     → (v : Interval) → interval_of h n (kept_of c (run_of c i input b)) ≡ Some v
     → replayed i (kept_of c (run_of c i input b)) h n ≡ record { rows = rows_in c i (start c i input) b h n; outcome = Done }
 
@@ -40,26 +42,41 @@ end_of v = v.mark.ic + rows_at_end v.mark.reason
 -- These rows are those of the hart from the Header's count to the End's, with the fault's row: a hart's row number k, from
 -- 0, is that of its count k
 abbrev pub RowsStandTogether : Type 0
-RowsStandTogether = (c : RawSettings) (i : Program) (input b : List ℕ) (h n : ℕ) → c.format ≡ 1 → c.limit < 2 ^ 63 → IsWhole c i input b
+RowsStandTogether = (c : RawSettings) (i : Program) (input b : List ℕ) (h n : ℕ) → c.limit < 2 ^ 63 → IsWhole c i input b
     → (rs : List Record) → IsEndOf (run_of c i input b).stream rs → (v : Interval) → interval_of h n rs ≡ Some v
     → rows_in c i (start c i input) b h n ≡ take (end_of v - v.start.ic) (drop v.start.ic (rows_of c i (start c i input) b h))
 
--- where an interval begins in a list of turns: those before it lead its hart to the Header's state, and from there on the
--- interval's rows are the hart's first ones
+-- hart h is in state s before its next turn, so that no row of the turn comes before
+pub record IsBeforeTurn (run : Run) (h : ℕ) (s : HartState) (before : List Row) : Type 0 where
+  pub state : s ≡ (run.harts h).state
+  pub none : before ≡ []
+
+-- hart h's turn is the next one, its ask is guarded, and s is the state in which it asks, behind the rows of its quiet
+-- instructions
+pub record IsAtGuard (c : RawSettings) (i : Program) (run : Run) (left : List ℕ) (h : ℕ) (s : HartState) (before : List Row) : Type 0 where
+  pub later : List ℕ
+  pub turn : left ≡ h ∷ later
+  pub guarded : is_guarded c run h (ask_at c i (run.harts h)).want ≡ true
+  pub state : s ≡ (ask_at c i (run.harts h)).state
+  pub quiet : before ≡ quiet_part c i run h
+
+-- where an interval begins in a list of turns: behind some of them, which lead its hart to the Header's state, or in the next
+-- one, where its ask is guarded; from there on the interval's rows are the hart's first ones
 pub record BeginsIn (c : RawSettings) (i : Program) (input b : List ℕ) (h n : ℕ) (v : Interval) : Type 0 where
   pub past : List ℕ
   pub left : List ℕ
   pub turns : b ≡ past ++ left
-  pub state : v.start ≡ ((run_of c i input past).harts h).state
+  pub before : List Row
+  pub begins : IsBeforeTurn (run_of c i input past) h v.start before ⊎ IsAtGuard c i (run_of c i input past) left h v.start before
   pub more : List Row
-  pub rows : rows_of c i (run_of c i input past) left h ≡ rows_in c i (start c i input) b h n ++ more
+  pub rows : rows_of c i (run_of c i input past) left h ≡ before ++ (rows_in c i (start c i input) b h n ++ more)
 
 -- An interval whose Header stands in an end of the records begins in the run, in the Header's state
 abbrev pub IntervalsBegin : Type 0
-IntervalsBegin = (c : RawSettings) (i : Program) (input b : List ℕ) (h n : ℕ) → c.format ≡ 1 → c.limit < 2 ^ 63 → IsWhole c i input b
+IntervalsBegin = (c : RawSettings) (i : Program) (input b : List ℕ) (h n : ℕ) → c.limit < 2 ^ 63 → IsWhole c i input b
     → (rs : List Record) → IsEndOf (run_of c i input b).stream rs → (v : Interval) → interval_of h n rs ≡ Some v → BeginsIn c i input b h n v
 
 -- A hart's rows have its counts, one after another from 0
 abbrev pub RowsAreCounted : Type 0
-RowsAreCounted = (c : RawSettings) (i : Program) (input b : List ℕ) (h : ℕ) → c.format ≡ 1 → c.limit < 2 ^ 63 → IsWhole c i input b
+RowsAreCounted = (c : RawSettings) (i : Program) (input b : List ℕ) (h : ℕ) → c.limit < 2 ^ 63 → IsWhole c i input b
     → map (λ r. r.ic) (rows_of c i (start c i input) b h) ≡ range_with_len 0 (length (rows_of c i (start c i input) b h))

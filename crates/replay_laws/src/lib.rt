@@ -14,20 +14,18 @@ pub use examples::{
     a_late_fault_is_replayed, the_last_interval_is_replayed,
 };
 use log_ring::laws::a_suffix_is_kept;
-use run_model::format_1_is_unguarded;
 use rv_meaning::{each_ask_is_orderly, each_instruction_is_counted_or_asks};
 use system_calls::exits_alone_end;
 
 /// Log sufficiency: for every program, input, cache and interval length, every list of turns that
 /// is legal and finished, every end of its records, and every interval of a hart whose Header stands
 /// there, the replay of that interval from that end is done, and gives exactly that interval's rows of
-/// the recorded run (for one hart the claim of BugNet, ISCA 2005). It is claimed of format 1.
+/// the recorded run (for one hart the claim of BugNet, ISCA 2005).
 pub fn ends_suffice()
     ensures { EndsSuffice }
 {
     each_instruction_is_counted_or_asks();
     each_ask_is_orderly();
-    format_1_is_unguarded();
     exits_alone_end();
 }
 
@@ -46,18 +44,17 @@ pub fn the_rows_of_an_interval_stand_together()
 {
     each_instruction_is_counted_or_asks();
     each_ask_is_orderly();
-    format_1_is_unguarded();
     exits_alone_end();
 }
 
 /// An interval whose Header stands in an end of the records begins in the run: some of its turns lead the
-/// hart to the Header's state, and from there on the interval's rows are the hart's first ones.
+/// hart to the Header's state, or to that turn of its own in which a guarded ask has this state, and from
+/// there on the interval's rows are the hart's first ones.
 pub fn intervals_begin_in_the_run()
     ensures { IntervalsBegin }
 {
     each_instruction_is_counted_or_asks();
     each_ask_is_orderly();
-    format_1_is_unguarded();
     exits_alone_end();
 }
 
@@ -67,17 +64,15 @@ pub fn the_rows_of_a_hart_are_counted()
 {
     each_instruction_is_counted_or_asks();
     each_ask_is_orderly();
-    format_1_is_unguarded();
     exits_alone_end();
 }
 
 /// What a hart knows of the words that are warm to it stays true, through its own turns up to the
 /// interval's end and through those of the other harts: the reason why first loads suffice.
+#[tactic(auto, using(crate::proofs::Warmth::warm_words))]
 pub fn warm_words_stay_known()
     ensures { WarmWordsStayKnown }
-{
-    format_1_is_unguarded();
-}
+{}
 
 /// Where the replay of an interval ends otherwise than its End says, the outcome has the End's own mark
 /// and another that differs from it. So it is for every log and every program.

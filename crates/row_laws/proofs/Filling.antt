@@ -61,7 +61,7 @@ is_quiet : Step → Bool
 is_quiet (Quiet t) = true
 is_quiet (Asks w) = false
 
-not_both : (i : Program) (s t : HartState) (w : Want) → step i s ≡ Quiet t → step i s ≡ Asks w → ⊥
+pub not_both : (i : Program) (s t : HartState) (w : Want) → step i s ≡ Quiet t → step i s ≡ Asks w → ⊥
 unfolding is_quiet
 not_both i s t w e f = false≢true (ap is_quiet (sym f ∙ e))
 
@@ -94,7 +94,7 @@ fill_of c i m h a1 a2 n turns s r rows is low high =
     }
 
 -- it came as such a read
-want_reads : (w : Want) (c : RawSettings) (i : Program) (m : Machine) (h : ℕ) (s : HartState) (r : Row) (v : Want) → asked_rows c i m h w s ≡ r ∷ [] → step i s ≡ Asks v
+pub want_reads : (w : Want) (c : RawSettings) (i : Program) (m : Machine) (h : ℕ) (s : HartState) (r : Row) (v : Want) → asked_rows c i m h w s ≡ r ∷ [] → step i s ≡ Asks v
     → (w ≡ Cut) ⊎ (step i s ≡ Asks w) → w ≡ v
 want_reads w c i m h s r v rows e (inl cut) = absurd (no_row r (subst (λ (x : Want). asked_rows c i m h x s ≡ r ∷ []) cut rows))
 want_reads w c i m h s r v rows e (inr asks) = asks_is w v (sym asks ∙ e)

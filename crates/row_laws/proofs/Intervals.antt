@@ -1,28 +1,46 @@
 -- The rows of an interval whose Header is kept.
-use Rattle.std.proofs.Common.{◌≡◌, ◌++◌, [], ◌∷◌, sym, ◌∙◌, ap, subst, arith}
+use Rattle.std.proofs.Common.{◌≡◌, ℕ, List, ◌++◌, [], ◌∷◌, sym, ◌∙◌, ap, subst, arith, inl, inr}
+use Rattle.std.specs.Prelude.{◌⊎◌}
 use Rattle.std.proofs.lemmas.List.{append_assoc}
+use Rattle.bn_base.specs.Programs.{Program}
+use Rattle.bn_base.specs.declared.row.Row.{Row}
+use Rattle.bn_base.specs.declared.settings.RawSettings.{RawSettings}
 use Rattle.bn_base.specs.declared.state.HartState.{HartState}
 use Rattle.run_model.specs.Rows.{rows_of}
 use Rattle.run_model.specs.Runs.{start, run_of}
-use Rattle.run_model.specs.Turn.{Run}
-use Rattle.replay_laws.specs.Law.{IntervalsBegin}
+use Rattle.run_model.specs.Turn.{Run, budget}
+use Rattle.replay_laws.specs.Law.{IntervalsBegin, IsBeforeTurn, IsAtGuard}
 use Rattle.row_laws.specs.States.{state_after, HasRow, TurnHasRow}
-use Rattle.row_laws.specs.Laws.{IntervalRowsAreOfTurns}
+use Rattle.row_laws.specs.Laws.{IntervalRowsAreOfTurns, BeginningsTellStates}
+use Rattle.row_laws.proofs.Along.{quiet_states, after_append}
 use Rattle.row_laws.proofs.Lists.{Known, AreMoves, all_move, both_move, run_append}
 use Rattle.row_laws.proofs.Places.{Found, found}
 
+-- the rows before an interval's beginning lead to its Header's state
+begun_by : (c : RawSettings) (i : Program) (run : Run) (left : List ℕ) (h : ℕ) (s : HartState) (before : List Row) → IsBeforeTurn run h s before ⊎ IsAtGuard c i run left h s before
+    → state_after i (run.harts h).state before ≡ s
+begun_by c i run left h s before (inl x) = ap (state_after i (run.harts h).state) x.none ∙ sym x.state
+begun_by c i run left h s before (inr x) =
+    ap (state_after i (run.harts h).state) x.quiet ∙ ((quiet_states h i (budget c (run.harts h)) (run.harts h).state).1 ∙ sym x.state)
+
+pub beginnings : BeginningsTellStates
+beginnings c i input b h n v x = begun_by c i (run_of c i input x.past) x.left h v.start x.before x.begins
+
 pub interval_rows : Known → IntervalsBegin → IntervalRowsAreOfTurns
 interval_rows known begins c i input b h n setting whole rs end v kept before r has =
-    let format : c.format ≡ 1 = (let low = setting.format_low in let high = setting.format_high in omega (arith, low, high)) in
-    let x = begins c i input b h n format (let high = setting.limit_high in omega (arith, high)) whole rs end v kept in
+    let x = begins c i input b h n (let high = setting.limit_high in omega (arith, high)) whole rs end v kept in
     let run : Run = run_of c i input x.past in
     let all : AreMoves c i (start c i input) b = all_move known c i input [] b setting whole.legal in
     let o = both_move c i x.past x.left (start c i input) (subst (AreMoves c i (start c i input)) x.turns all) in
     let here : HasRow i (run.harts h).state (rows_of c i run x.left h) before r = record {
-      front = has.front;
+      front = x.before ++ has.front;
       back = has.back ++ x.more;
-      rows_are = x.rows ∙ (ap (λ rows. rows ++ x.more) has.rows_are ∙ append_assoc has.front (r ∷ has.back) x.more);
-      state = has.state ∙ ap (λ (u : HartState). state_after i u has.front) x.state;
+      rows_are = x.rows
+          ∙ (ap (λ rows. x.before ++ rows) (ap (λ rows. rows ++ x.more) has.rows_are ∙ append_assoc has.front (r ∷ has.back) x.more)
+          ∙ sym (append_assoc x.before has.front (r ∷ (has.back ++ x.more))));
+      state = has.state
+          ∙ (ap (λ (u : HartState). state_after i u has.front) (sym (beginnings c i input b h n v x))
+          ∙ sym (after_append i (run.harts h).state x.before has.front));
     } in
     let f : Found c i run x.left h before r = found c i h before r x.left run o.1 here in
     record {

@@ -9,6 +9,7 @@ pub mod Ecalls
 pub mod Plans
 pub mod Writers
 pub mod Filling
+pub mod Sending
 pub mod Places
 pub mod Codes
 pub mod Intervals

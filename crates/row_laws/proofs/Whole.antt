@@ -10,23 +10,26 @@ use Rattle.bn_base.specs.declared.settings.RawSettings.{RawSettings}
 use Rattle.bn_base.specs.declared.state.HartState.{HartState}
 use Rattle.race_log.specs.Kept.{access_point}
 use Rattle.race_log.specs.Points.{Point}
-use Rattle.race_log.specs.declared.mode.Mode.TheVariants.{Write}
+use Rattle.race_log.specs.declared.mode.Mode.TheVariants.{Read, Write}
 use Rattle.rv_meaning.specs.Words.{aligned}
 use Rattle.run_model.specs.Machine.{word_count}
+use Rattle.system_calls.specs.declared.effect.Plan.TheVariants as plans
 use Rattle.run_model.specs.Rows.{rows_of, turn_rows}
 use Rattle.run_model.specs.Runs.{start, run_of, run_from, legal_from}
 use Rattle.run_model.specs.Turn.{Run, turn, points_after}
+use Rattle.row_laws.specs.Calls.{AddsCall}
 use Rattle.row_laws.specs.Fills.{IsFill}
-use Rattle.row_laws.specs.Laws.{TurnRowsAreRows, RunRowsTellWords, RunWritersHaveRows, RunFillRowsFill}
+use Rattle.row_laws.specs.Laws.{TurnRowsAreRows, RunRowsTellWords, RunWritersHaveRows, RunFillRowsFill, RunCallsAccess}
 use Rattle.row_laws.specs.States.{state_after}
 use Rattle.row_laws.specs.Words.{word_point, Adds, memory_after}
 use Rattle.row_laws.proofs.Along.{after_append}
 use Rattle.row_laws.proofs.Filling.{fill_rows_fill}
+use Rattle.row_laws.proofs.Sending.{send_rows_send, call_inside}
 use Rattle.row_laws.proofs.Lists.{Known, AreMoves, all_move, both_move, run_append, rows_by, along}
 use Rattle.row_laws.proofs.Places.{points_are_of_turns}
 use Rattle.row_laws.proofs.Telling.{rows_tell_words}
 use Rattle.row_laws.proofs.Writers.{writers_have_rows}
-use Rattle.row_laws.proofs.Asked.{point_at, turn_served}
+use Rattle.row_laws.proofs.Asked.{point_at, turn_served, want_at}
 use Rattle.row_laws.proofs.Points.{DecidesWrites, old_at, get_new}
 
 -- ---- rows
@@ -157,3 +160,31 @@ run_fill_rows_fill decides known c i input b h before r n setting legal is f =
       is = refl;
       writes = x.writes;
     }
+
+pub run_calls_access : DecidesWrites → Known → RunCallsAccess
+run_calls_access decides known = record {
+  fills = λ c i input b h before r n setting legal is f.
+      (let run : Run = run_of c i input is.front in
+      let o = moves_at known c i input b is.front h is.back setting legal is.turns in
+      let address : ℕ = slice_index before.x 11 in
+      let x : IsFill c i run h address n r.ic = fill_rows_fill decides c i run h before r n o.1.0.asks is.has f in
+      record {
+        place = length run.points;
+        point = access_point h r.ic run.turns (aligned address) (word_count address n) Write;
+        at = added_at known c i input b is.front h is.back (access_point h r.ic run.turns (aligned address) (word_count address n) Write) setting legal is.turns x.adds;
+        is = refl;
+        within = call_inside i run.machine (want_at c i run h) (plans.Fill address n) x.planned f.low;
+      });
+  sends = λ c i input b h before r n setting legal is f.
+      (let run : Run = run_of c i input is.front in
+      let o = moves_at known c i input b is.front h is.back setting legal is.turns in
+      let address : ℕ = slice_index before.x 11 in
+      let x : AddsCall c i run h address n r.ic Read = send_rows_send c i run h before r n o.1.0.asks is.has f in
+      record {
+        place = length run.points;
+        point = access_point h r.ic run.turns (aligned address) (word_count address n) Read;
+        at = added_at known c i input b is.front h is.back (access_point h r.ic run.turns (aligned address) (word_count address n) Read) setting legal is.turns x.adds;
+        is = refl;
+        within = x.within;
+      });
+}

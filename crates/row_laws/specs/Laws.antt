@@ -9,16 +9,18 @@ use Rattle.bn_base.specs.declared.settings.RawSettings.{RawSettings}
 use Rattle.bn_base.specs.declared.state.HartState.{HartState}
 use Rattle.log_record.specs.declared.record.Record.{Record}
 use Rattle.race_log.specs.Points.{Point, Writes}
+use Rattle.race_log.specs.declared.mode.Mode.TheVariants.{Read, Write}
 use Rattle.hart_replay.specs.Coming.{after_row}
 use Rattle.hart_replay.specs.Replay.{Interval, interval_of}
 use Rattle.run_model.specs.Files.{IsEndOf}
 use Rattle.run_model.specs.Rows.{rows_of, rows_in, turn_rows}
 use Rattle.run_model.specs.Runs.{start, run_of, legal_from}
 use Rattle.run_model.specs.Turn.{Run, turn}
-use Rattle.replay_laws.specs.Law.{IsWhole}
+use Rattle.replay_laws.specs.Law.{IsWhole, BeginsIn}
 use Rattle.row_laws.specs.States.{state_after, AreRowsFrom, HasRow, TurnHasRow, RunHasRow, IsRowOfTurn, AsksOrderly}
 use Rattle.row_laws.specs.Words.{word_told, word_point, Adds, IsPointOfTurn, HasWord}
 use Rattle.row_laws.specs.Fills.{HasCodeWords, IsFillRow, IsFill, HasFill, HasWriter, HasWriterRow}
+use Rattle.row_laws.specs.Calls.{IsSendRow, AddsCall, HasCall}
 
 -- ---- states
 
@@ -48,6 +50,11 @@ RowsAreOfTurns = (c : RawSettings) (i : Program) (input b : List ℕ) (h : ℕ) 
 abbrev pub TurnRowsAreRows : Type 0
 TurnRowsAreRows = (c : RawSettings) (i : Program) (input b : List ℕ) (h : ℕ) (before : HartState) (r : Row) → IsSetting c → legal_from c i (start c i input) b ≡ true
     → IsRowOfTurn c i input b h before r → RunHasRow c i input b h before r
+
+-- Where an interval begins in the run, the rows of its hart before it lead to the Header's state
+abbrev pub BeginningsTellStates : Type 0
+BeginningsTellStates = (c : RawSettings) (i : Program) (input b : List ℕ) (h n : ℕ) (v : Interval) (x : BeginsIn c i input b h n v)
+    → state_after i ((run_of c i input x.past).harts h).state x.before ≡ v.start
 
 -- So it is of the rows of an interval whose Header stands in an end of the records, from the Header's state on: the state that a
 -- replay of the interval has before each row is the run's
@@ -107,3 +114,17 @@ FillRowsFill = (c : RawSettings) (i : Program) (run : Run) (h : ℕ) (before : H
 abbrev pub RunFillRowsFill : Type 0
 RunFillRowsFill = (c : RawSettings) (i : Program) (input b : List ℕ) (h : ℕ) (before : HartState) (r : Row) (n : ℕ) → IsSetting c → legal_from c i (start c i input) b ≡ true
     → IsRowOfTurn c i input b h before r → IsFillRow before r n → HasFill c i input b h r (slice_index before.x 11) n
+
+-- ---- the words of calls
+
+-- The row of a write call that takes bytes is a point that reads their words
+abbrev pub SendRowsSend : Type 0
+SendRowsSend = (c : RawSettings) (i : Program) (run : Run) (h : ℕ) (before : HartState) (r : Row) (n : ℕ) → AsksOrderly c i run h
+    → TurnHasRow c i run h before r → IsSendRow before r n → AddsCall c i run h (slice_index before.x 11) n r.ic Read
+
+-- Over a run the row of a call that fills or takes bytes is the point that accesses their words
+pub record RunCallsAccess : Type 0 where
+  pub fills : (c : RawSettings) (i : Program) (input b : List ℕ) (h : ℕ) (before : HartState) (r : Row) (n : ℕ) → IsSetting c → legal_from c i (start c i input) b ≡ true
+      → IsRowOfTurn c i input b h before r → IsFillRow before r n → HasCall c i input b h r (slice_index before.x 11) n Write
+  pub sends : (c : RawSettings) (i : Program) (input b : List ℕ) (h : ℕ) (before : HartState) (r : Row) (n : ℕ) → IsSetting c → legal_from c i (start c i input) b ≡ true
+      → IsRowOfTurn c i input b h before r → IsSendRow before r n → HasCall c i input b h r (slice_index before.x 11) n Read

@@ -2,8 +2,8 @@
 //! memory and its points. These functions do nothing: their contracts are theorems.
 #![tactic(auto)]
 
-ghost use Rattle.row_laws.specs.Laws.{RowsTellStates, RowsTellRegisters, RowsTellRuns, RowsAreOfTurns, TurnRowsAreRows, IntervalRowsAreOfTurns};
-ghost use Rattle.row_laws.specs.Laws.{RowsTellWords, RunRowsTellWords, RowsThatTellHaveNoFault, PointsAreOfTurns, WritersHaveRows, RunWritersHaveRows, PartsHaveCodeWords, FillRowsFill, RunFillRowsFill};
+ghost use Rattle.row_laws.specs.Laws.{RowsTellStates, RowsTellRegisters, RowsTellRuns, RowsAreOfTurns, TurnRowsAreRows, BeginningsTellStates, IntervalRowsAreOfTurns};
+ghost use Rattle.row_laws.specs.Laws.{RowsTellWords, RunRowsTellWords, RowsThatTellHaveNoFault, PointsAreOfTurns, WritersHaveRows, RunWritersHaveRows, PartsHaveCodeWords, FillRowsFill, RunFillRowsFill, SendRowsSend, RunCallsAccess};
 
 mod examples;
 
@@ -48,6 +48,12 @@ pub fn turn_rows_are_rows()
     own_asks_are_orderly();
     turns_move_their_hart();
 }
+
+/// Where an interval begins in the run, be it at a guarded ask, the rows of its hart before it lead to the
+/// Header's state.
+pub fn beginnings_tell_states()
+    ensures { BeginningsTellStates }
+{}
 
 /// Each row of an interval whose Header stands in an end of the records is that of a turn, and the state
 /// before it, reckoned from the Header's, is the run's. With log sufficiency this says that the states
@@ -123,6 +129,22 @@ pub fn fill_rows_fill()
 /// The run has the point of such a row, which writes each word with one of the bytes.
 pub fn run_fill_rows_fill()
     ensures { RunFillRowsFill }
+{
+    own_asks_are_orderly();
+    turns_move_their_hart();
+    tests_decide();
+}
+
+/// The row of a write call that takes bytes is a point that reads the words in which they lie, all of them
+/// below the memory's size.
+pub fn send_rows_send()
+    ensures { SendRowsSend }
+{}
+
+/// The run has the point of each row of a call that fills or takes bytes: it accesses just the words in which
+/// they lie, and these are below the memory's size.
+pub fn run_calls_access()
+    ensures { RunCallsAccess }
 {
     own_asks_are_orderly();
     turns_move_their_hart();

@@ -11,7 +11,7 @@ use Rattle.run_model.specs.Runs.{start, run_from, legal_from, is_live}
 use Rattle.run_model.specs.Counts.{IsRested}
 use Rattle.run_laws.specs.History.{after_rows, are_orderly, IsLawful, IsOwn, Place, place_of, place_after, row_at, rows_from, rows_by}
 use Rattle.run_laws.specs.Laws.{harts_of, AreOwn, AreTurns, OwnRowsGrow, ListsGoOn, AreJoined, TurnsAreLawful, TurnsAreOwn}
-use Rattle.run_laws.proofs.Turns.{Laws, legal_first, ordered, both, eqb_same, below_of, differ, turn_left, own_place, other_place, other_is, next_at}
+use Rattle.run_laws.proofs.Turns.{Laws, ranged, legal_first, ordered, both, eqb_same, below_of, differ, turn_left, own_place, other_place, other_is, next_at}
 
 -- ---- one hart's rows of a list that begins with one
 
@@ -63,7 +63,7 @@ are_turns laws c i run (x ∷ rows) setting fit lawful own =
     let o = ordered laws.asks c i (run.harts k) (omega (arith, setting.limit_high)) (fit k).fit in
     let is = row_is c i run x asks lawful.1 lawful.2 in
     let next : (serve c i run k x.ask).run ≡ turn c i run k = ap (λ (a : Ask). (serve c i run k a).run) asks in
-    let rest = are_turns laws c i (turn c i run k) rows setting (turn_left laws c i run k setting fit there.1).fit (subst (λ (r : Run). IsLawful c i r rows) next lawful.3) (rest_own c i run x rows o is own) in record {
+    let rest = are_turns laws c i (turn c i run k) rows setting (turn_left laws c i run k (ranged c setting) fit there.1).fit (subst (λ (r : Run). IsLawful c i r rows) next lawful.3) (rest_own c i run x rows o is own) in record {
       legal = live_then (is_live c run k) (legal_from c i (turn c i run k) (harts_of rows)) lawful.0 rest.legal;
       rows_are = λ j. is j ∷ rest.rows_are j;
       run_is = ap (λ (r : Run). after_rows c i r rows) next ∙ rest.run_is;
@@ -82,7 +82,7 @@ own_grow c i h p (x ∷ rows) r own same asks =
 
 -- ---- lists that go on
 
-run_append : (c : RawSettings) (i : Program) (run : Run) (b more : List ℕ) → run_from c i run (b ++ more) ≡ run_from c i (run_from c i run b) more
+pub run_append : (c : RawSettings) (i : Program) (run : Run) (b more : List ℕ) → run_from c i run (b ++ more) ≡ run_from c i (run_from c i run b) more
 run_append c i run [] more = refl
 run_append c i run (k ∷ ks) more = run_append c i (turn c i run k) ks more
 

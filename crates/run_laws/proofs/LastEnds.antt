@@ -75,7 +75,7 @@ headers_none c i h k (suc m) = ap (λ (x : Option EndMark). option_or x None) (h
 -- ---- what comes after a turn
 
 -- the End of the hart whose turn it was
-own_end : (h k : ℕ) (m : EndMark) → (h == k) ≡ true → end_of h (End k m) ≡ Some m
+pub own_end : (h k : ℕ) (m : EndMark) → (h == k) ≡ true → end_of h (End k m) ≡ Some m
 own_end h k m e = ap (λ (b : Bool). elim b as (λ x. Option EndMark) [ true ↦ Some m | false ↦ None ]) e
 
 other_end : (h k : ℕ) (m : EndMark) → (h == k) ≡ false → end_of h (End k m) ≡ None
@@ -119,7 +119,7 @@ stop_apart true live e = cc
 other_of : (h j k : ℕ) → (h == k) ≡ true → (j == k) ≡ false → (h == j) ≡ false
 other_of h j k e f = grind arith
 
-stops_own : (h k j n : ℕ) (harts : ℕ → Hart) → (h == k) ≡ true → last_end h (stopped_records k j n harts) ≡ None
+pub stops_own : (h k j n : ℕ) (harts : ℕ → Hart) → (h == k) ≡ true → last_end h (stopped_records k j n harts) ≡ None
 stops_own h k j zero harts e = refl
 stops_own h k j (suc n) harts e = none_by (not (j == k) && (harts j).live) h j (harts j).state.ic (stopped_records k (j + 1) n harts) (stops_own h k (j + 1) n harts e) (λ p. other_of h j k e (stop_apart (j == k) (harts j).live p))
 

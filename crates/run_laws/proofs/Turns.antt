@@ -47,6 +47,14 @@ lawful c i run (k ∷ ks) e =
 
 -- ---- orderly
 
+-- the ranges of settings that are used here
+pub record IsRanged (c : RawSettings) : Type 0 where
+  pub interval_low : 1 ≤ c.interval
+  pub limit_high : c.limit ≤ 2 ^ 40
+
+pub ranged : (c : RawSettings) → IsSetting c → IsRanged c
+ranged c setting = record { interval_low = setting.interval_low; limit_high = setting.limit_high }
+
 -- the law of orderly asks
 abbrev pub AsksAreOrderly : Type 0
 AsksAreOrderly = (i : Program) (b : ℕ) (s : HartState) → s.ic + b < 2 ^ 64 → IsTrue (orderly i s.ic b (ask_of i b s))
@@ -62,7 +70,7 @@ both true b e = (refl, e)
 both false b e = cc
 
 -- the turn of an orderly ask
-served : (c : RawSettings) (i : Program) (run : Run) (k : ℕ) (ask : Ask) → is_orderly c i (run.harts k) ask ≡ true → serve c i run k ask ≡ serve_orderly c i run k ask
+pub served : (c : RawSettings) (i : Program) (run : Run) (k : ℕ) (ask : Ask) → is_orderly c i (run.harts k) ask ≡ true → serve c i run k ask ≡ serve_orderly c i run k ask
 unfolding serve
 served c i run k ask o = ap (λ (b : Bool). served_if b c i run k ask) o
 
@@ -80,23 +88,23 @@ eqb_same k = grind arith
 -- ---- the hart that asks
 
 -- whether the next ask of hart k is guarded, and the run in which it is answered
-abbrev guarded_at : RawSettings → Program → Run → ℕ → Bool
+abbrev pub guarded_at : RawSettings → Program → Run → ℕ → Bool
 guarded_at c i run k = is_guarded c run k (ask_at c i (run.harts k)).want
 
-abbrev asked_at : RawSettings → Program → Run → ℕ → Run
+abbrev pub asked_at : RawSettings → Program → Run → ℕ → Run
 asked_at c i run k = asked_run c run k (ask_at c i (run.harts k))
 
 -- hart k there: it begins anew, or is as it was
-hart_if : Bool → HartState → ℕ → Hart → Hart
+pub hart_if : Bool → HartState → ℕ → Hart → Hart
 hart_if true s bytes h = anew s bytes h
 hart_if false s bytes h = h
 
-asking_own : (g : Bool) (run : Run) (k : ℕ) (s : HartState) → (guarded_run g run k s).harts k ≡ hart_if g s (run.bytes + total (guard_records run k s)) (run.harts k)
+pub asking_own : (g : Bool) (run : Run) (k : ℕ) (s : HartState) → (guarded_run g run k s).harts k ≡ hart_if g s (run.bytes + total (guard_records run k s)) (run.harts k)
 unfolding hart_if
 asking_own true run k s = ap (λ (b : Bool). elim b as (λ x. Hart) [ true ↦ anew s (run.bytes + total (guard_records run k s)) (run.harts k) | false ↦ run.harts k ]) (eqb_same k)
 asking_own false run k s = refl
 
-asking_other : (g : Bool) (run : Run) (k j : ℕ) (s : HartState) → (j == k) ≡ false → (guarded_run g run k s).harts j ≡ run.harts j
+pub asking_other : (g : Bool) (run : Run) (k j : ℕ) (s : HartState) → (j == k) ≡ false → (guarded_run g run k s).harts j ≡ run.harts j
 asking_other true run k j s e = ap (λ (b : Bool). elim b as (λ x. Hart) [ true ↦ anew s (run.bytes + total (guard_records run k s)) (run.harts k) | false ↦ run.harts j ]) e
 asking_other false run k j s e = refl
 
@@ -114,11 +122,11 @@ uncut c run k want e = not_cut (is_cut want) (both (not (is_cut want)) _ (both (
     not_cut false e = refl
 
 -- what is known of the hart that asks
-record IsAsking (c : RawSettings) (i : Program) (old h : Hart) (ask : Ask) : Type 0 where
-  fit : IsFit c h
-  live : h.live ≡ true
-  orderly : is_orderly c i h ask ≡ true
-  left : turns_left c h ≤ turns_left c old
+pub record IsAsking (c : RawSettings) (i : Program) (old h : Hart) (ask : Ask) : Type 0 where
+  pub fit : IsFit c h
+  pub live : h.live ≡ true
+  pub orderly : is_orderly c i h ask ≡ true
+  pub left : turns_left c h ≤ turns_left c old
 
 asking_if : (g : Bool) → Laws → (c : RawSettings) (i : Program) (h : Hart) (bytes : ℕ) (ask : Ask) → 1 ≤ c.interval → IsRested c h → h.live ≡ true → is_orderly c i h ask ≡ true → (g ≡ true → is_cut ask.want ≡ false)
     → IsAsking c i h (hart_if g ask.state bytes h) ask
@@ -131,10 +139,10 @@ asking_if false laws c i h bytes ask some rested live o cut = record { fit = res
 -- ---- the harts after a turn
 
 -- what comes after the turn of hart k, and its state
-abbrev reply_of : RawSettings → Program → Run → ℕ → Reply
+abbrev pub reply_of : RawSettings → Program → Run → ℕ → Reply
 reply_of c i run k = let ask = ask_at c i (run.harts k) in (answer c (call_of i run.machine ask.want) run.machine k ask).reply
 
-abbrev state_of : RawSettings → Program → Run → ℕ → HartState
+abbrev pub state_of : RawSettings → Program → Run → ℕ → HartState
 state_of c i run k = absorbed (ask_at c i (run.harts k)) (reply_of c i run k)
 
 abbrev pub next_at : RawSettings → Program → Run → ℕ → Next
@@ -167,7 +175,7 @@ pub record Left (c : RawSettings) (old new : Run) (k : ℕ) : Type 0 where
   pub less : turns_left c (new.harts k) < turns_left c (old.harts k)
   pub others : (j : ℕ) → turns_left c (new.harts j) ≤ turns_left c (old.harts j)
 
-asking : Laws → (c : RawSettings) (i : Program) (run : Run) (k : ℕ) → IsSetting c → IsRested c (run.harts k) → (run.harts k).live ≡ true → IsAsking c i (run.harts k) ((asked_at c i run k).harts k) (ask_at c i (run.harts k))
+pub asking : Laws → (c : RawSettings) (i : Program) (run : Run) (k : ℕ) → IsRanged c → IsRested c (run.harts k) → (run.harts k).live ≡ true → IsAsking c i (run.harts k) ((asked_at c i run k).harts k) (ask_at c i (run.harts k))
 asking laws c i run k setting fit live =
     let h = run.harts k in
     let ask = ask_at c i h in
@@ -176,7 +184,7 @@ asking laws c i run k setting fit live =
     subst (λ (x : Hart). IsAsking c i h x ask) (sym (asking_own g run k ask.state))
     (asking_if g laws c i h (run.bytes + total (guard_records run k ask.state)) ask setting.interval_low fit live o (uncut c run k ask.want))
 
-pub turn_left : Laws → (c : RawSettings) (i : Program) (run : Run) (k : ℕ) → IsSetting c → ((j : ℕ) → IsRested c (run.harts j)) → (run.harts k).live ≡ true → Left c run (turn c i run k) k
+pub turn_left : Laws → (c : RawSettings) (i : Program) (run : Run) (k : ℕ) → IsRanged c → ((j : ℕ) → IsRested c (run.harts j)) → (run.harts k).live ≡ true → Left c run (turn c i run k) k
 turn_left laws c i run k setting fit live =
     let h = run.harts k in
     let at = (asked_at c i run k).harts k in
@@ -224,7 +232,7 @@ few_turns laws c i run [] setting fit e = omega arith
 few_turns laws c i run (k ∷ ks) setting fit e =
     let first = legal_first c i run k ks e in
     let live = both (nat_lt k c.harts) (run.harts k).live first.0 in
-    let left = turn_left laws c i run k setting fit live.1 in
+    let left = turn_left laws c i run k (ranged c setting) fit live.1 in
     let rest = few_turns laws c i (turn c i run k) ks setting left.fit first.1 in
     omega (arith, rest, one_less c c.harts k run.harts (turn c i run k).harts (below_of k c.harts live.0) left.others left.less)
 
@@ -310,7 +318,7 @@ own laws c i run [] h setting fit e = tt
 own laws c i run (k ∷ ks) h setting fit e =
     let first = legal_first c i run k ks e in
     let live = both (nat_lt k c.harts) (run.harts k).live first.0 in
-    let left = turn_left laws c i run k setting fit live.1 in
+    let left = turn_left laws c i run k (ranged c setting) fit live.1 in
     let o = ordered laws.asks c i (run.harts k) (omega (arith, setting.limit_high)) (fit k).fit in
     let rest = own laws c i (turn c i run k) ks h setting left.fit first.1 in
     let rows = rows_by h (rows_from c i (turn c i run k) ks) in
@@ -334,7 +342,7 @@ fit_run laws c i run [] setting fit e j = fit j
 fit_run laws c i run (k ∷ ks) setting fit e j =
     let first = legal_first c i run k ks e in
     let live = both (nat_lt k c.harts) (run.harts k).live first.0 in
-    fit_run laws c i (turn c i run k) ks setting (turn_left laws c i run k setting fit live.1).fit first.1 j
+    fit_run laws c i (turn c i run k) ks setting (turn_left laws c i run k (ranged c setting) fit live.1).fit first.1 j
 
 pub orderly_after : Laws → (c : RawSettings) (i : Program) (run : Run) (b : List ℕ) (k : ℕ) → IsSetting c → ((j : ℕ) → IsRested c (run.harts j)) → legal_from c i run b ≡ true
     → is_orderly c i ((run_from c i run b).harts k) (ask_at c i ((run_from c i run b).harts k)) ≡ true

@@ -1,5 +1,5 @@
 -- What holds of the turns of a legal list.
-use Rattle.std.specs.Prelude.{◌≡◌, ◌≤◌, ◌<◌, ◌==◌, ℕ, true, false, List, [], ◌∷◌, ◌++◌, length, map, IsTrue, Some}
+use Rattle.std.specs.Prelude.{◌≡◌, ◌≤◌, ◌<◌, ◌==◌, ℕ, true, false, List, [], ◌∷◌, ◌++◌, length, map, IsTrue, Some, slice_get}
 use Rattle.rv_meaning.specs.Execute.{absorbed}
 use Rattle.rv_meaning.specs.Orderly.{is_reply_to}
 use Rattle.rv_meaning.specs.declared.asks.Ask.{Ask}
@@ -10,6 +10,9 @@ use Rattle.bn_base.specs.Programs.{Program}
 use Rattle.bn_base.specs.Ranges.{IsSetting}
 use Rattle.bn_base.specs.declared.settings.RawSettings.{RawSettings}
 use Rattle.bn_base.specs.declared.end_mark.EndMark.{EndMark}
+use Rattle.race_log.specs.Points.{Point}
+use Rattle.race_log.specs.Kept.{after}
+use Rattle.race_log.specs.Tests.{sources_into}
 use Rattle.log_record.specs.declared.record.Record.{Record}
 use Rattle.run_model.specs.Files.{kept_of, IsEndOf}
 use Rattle.run_model.specs.Runs.{start, start_hart, start_state, run_from, run_of, legal_from, most_turns}
@@ -119,3 +122,13 @@ LastEndsAreMarks = (c : RawSettings) (i : Program) (input : List ℕ) (rows : Li
 abbrev pub KeptEndsAreMarks : Type 0
 KeptEndsAreMarks = (c : RawSettings) (i : Program) (input : List ℕ) (rows : List TurnRow) (rs : List Record) (h : ℕ) (m : EndMark) → h < c.harts
     → let run = after_rows c i (start c i input) rows in IsEndOf run.stream rs → last_end h rs ≡ Some m → (run.harts h).mark ≡ Some m
+
+-- ---- Edges
+
+-- the points' harts are among n
+abbrev pub ArePointsOf : ℕ → List Point → Type 0
+ArePointsOf n points = (m : ℕ) (q : Point) → slice_get points m ≡ Some q → q.hart < n
+
+-- Edges into one more point come from at most one instruction of each hart
+abbrev pub EdgesAreFew : Type 0
+EdgesAreFew = (points : List Point) (p : Point) (n : ℕ) → ArePointsOf n points → length (sources_into (after points p) (length points)) ≤ n

@@ -2,7 +2,8 @@
 //! nothing: their contracts are theorems over the definitions of `run_model`.
 #![tactic(auto)]
 
-ghost use Rattle.run_laws.specs.Laws.{TurnsAreLawful, TurnsAreOwn, RunsEnd, OwnAsksAreOrderly, TurnsMoveTheirHart, KeptIsAnEnd, OwnRowsGoOn, OwnRowsAreTurns, OwnRowsGrow, ListsGoOn, OwnRowsAreJoined, RepliesFit, LastEndsAreMarks, KeptEndsAreMarks};
+ghost use Rattle.run_laws.specs.Laws.{TurnsAreLawful, TurnsAreOwn, RunsEnd, OwnAsksAreOrderly, TurnsMoveTheirHart, KeptIsAnEnd, OwnRowsGoOn, OwnRowsAreTurns, OwnRowsGrow, ListsGoOn, OwnRowsAreJoined, RepliesFit, LastEndsAreMarks, KeptEndsAreMarks, EdgesAreFew};
+ghost use Rattle.run_laws.specs.Retained.{HeadersAreKept, FaultsAreKept};
 
 mod examples;
 
@@ -11,6 +12,7 @@ pub use examples::{
     the_latest_end_is_the_last,
 };
 use log_ring::laws::a_suffix_is_kept;
+use race_log::listed_edges_are_all;
 use run_model::{each_turn_fits, each_turn_moves_on, guarded_asks_fit, others_stay_fit};
 use rv_meaning::each_ask_is_orderly;
 
@@ -127,3 +129,37 @@ pub fn last_ends_are_marks()
 pub fn kept_ends_are_marks()
     ensures { KeptEndsAreMarks }
 {}
+
+/// An instruction has at most one Edge from each hart.
+pub fn edges_are_few()
+    ensures { EdgesAreFew }
+{
+    listed_edges_are_all();
+}
+
+/// With format 2 a hart's present Header is kept right after each of its turns that leaves it live: where
+/// half of the log has no room for what stands behind the Header, the hart begins anew at its ask, and what
+/// one turn adds has room in the other half.
+pub fn headers_are_kept()
+    ensures { HeadersAreKept }
+{
+    each_ask_is_orderly();
+    each_turn_moves_on();
+    guarded_asks_fit();
+    each_turn_fits();
+    others_stay_fit();
+    edges_are_few();
+}
+
+/// With format 2, where a hart's turn ends the run by a fault, the fault's interval is retained: its Header
+/// is kept, and behind it the End with the fault.
+pub fn faults_are_kept()
+    ensures { FaultsAreKept }
+{
+    each_ask_is_orderly();
+    each_turn_moves_on();
+    guarded_asks_fit();
+    each_turn_fits();
+    others_stay_fit();
+    edges_are_few();
+}

@@ -24,3 +24,4 @@ pub mod Followed
 pub mod LogFile
 pub mod AuditsWorked
 pub mod Verdicts
+pub mod Dropping

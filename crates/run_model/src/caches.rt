@@ -18,6 +18,7 @@ ghost use Rattle.run_model.specs.Stands.EachCache.{AreCaches, cache_of, steps_in
 
 use crate::span::Span;
 use bn_base::{Addr, HartId, Settings};
+use first_load_bits::laws::a_second_drop_changes_nothing;
 use first_load_bits::{Cache, Warm};
 use race_log::Mode;
 use std::alloc::{AllocError, Global};
@@ -40,7 +41,21 @@ impl Model for Caches {
     ghost view = { λ c. c.of.items };
 }
 
-// Drops the lines of so many words from the first on.
+// Drops the line of a word after those of the words from the first up to it, unless it is the line of the one before.
+fn drop_word(cache: &mut Cache, first: Addr, place: u32)
+    requires { first + 4 * place < 2 ^ 32 }
+    ensures stands { (es : List Event) → StandsFor cache.old (drops first place es) → StandsFor cache.new (drops first (place + 1) es) }
+    ensures geometry { cache.new.geometry ≡ cache.old.geometry }
+    ensures steps { cache.new.steps ≡ cache.old.steps }
+{
+    a_second_drop_changes_nothing();
+    let addr = first + 4 * place;
+    if place == 0 || cache.line_of(addr) != cache.line_of(addr - 4) {
+        cache.drop_line(addr);
+    }
+}
+
+// Drops the lines of so many words from the first on, each line once.
 fn drop_words(cache: &mut Cache, first: Addr, count: u32)
     requires { first + 4 * count ≤ 2 ^ 32 }
     ensures stands { (es : List Event) → StandsFor cache.old es → StandsFor cache.new (drops first count es) }
@@ -48,7 +63,7 @@ fn drop_words(cache: &mut Cache, first: Addr, count: u32)
     ensures steps { cache.new.steps ≡ cache.old.steps }
 {
     for place in 0..count {
-        cache.drop_line(first + 4 * place);
+        drop_word(cache, first, place);
     }
 }
 

@@ -1,3 +1,4 @@
+mod Told
 mod Worked
 mod Loads
 mod Traces
@@ -18,3 +19,4 @@ mod TwinSteps
 mod RowsOn
 mod Matching
 mod Sufficing
+mod Rising

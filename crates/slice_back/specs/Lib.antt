@@ -10,3 +10,4 @@ pub mod Passes
 pub mod Tracing
 pub mod Texts
 pub mod Examples
+pub mod Ascending

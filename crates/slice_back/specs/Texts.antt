@@ -1,11 +1,17 @@
 -- The text of a slice.
-use Rattle.std.specs.Prelude.{ℕ, List, ◌++◌, codes, decimal}
+use Rattle.std.specs.Prelude.{◌≡◌, ◌⊎◌, ℕ, List, ◌++◌, IsSome, Result, Ok, Err, codes, decimal}
 use Rattle.std.specs.List.{flat_map}
+use Rattle.bn_base.specs.Programs.{Program}
 use Rattle.bn_base.specs.declared.row.Row.{Row}
+use Rattle.log_record.specs.declared.record.Record.{Record}
+use Rattle.hart_replay.specs.Replay.{interval_of}
 use Rattle.rv_text.specs.Names.{register_name}
 use Rattle.rv_text.specs.Instructions.{hex8}
 use Rattle.rv_text.specs.Rows.{row_text}
+use Rattle.slice_back.specs.declared.error.SliceError.{SliceError}
+use Rattle.slice_back.specs.declared.error.SliceError.TheVariants.{OutOfMemory}
 use Rattle.slice_back.specs.declared.lists.Slice.{Slice}
+use Rattle.slice_back.specs.Slices.{sliced}
 
 -- the first line: the hart, and the count of the row
 unfoldable pub head_text : ℕ → ℕ → List ℕ
@@ -26,3 +32,12 @@ branch_line r = codes "branch " ++ row_text r
 -- all lines
 abbrev pub slice_text : ℕ → ℕ → Slice → List ℕ
 slice_text hart ic s = head_text hart ic ++ flat_map row_text s.rows ++ flat_map register_line s.regs ++ flat_map word_line s.words ++ flat_map branch_line s.branches
+
+-- those of a slice, or why there is none
+abbrev pub text_of : ℕ → ℕ → Result Slice SliceError → Result (List ℕ) SliceError
+text_of hart ic (Ok s) = Ok (slice_text hart ic s)
+text_of hart ic (Err e) = Err e
+
+-- so is the answer; want of memory may come instead, but not where the log doesn't keep the interval
+abbrev pub IsTextAnswer : Program → List Record → ℕ → ℕ → ℕ → Result (List ℕ) SliceError → Type 0
+IsTextAnswer i records h c ic answer = (answer ≡ text_of h ic (sliced i records h c ic)) ⊎ ((answer ≡ Err OutOfMemory) × IsSome (interval_of h c records))

@@ -1,6 +1,9 @@
 //! What the tests of a slice mean. These functions do nothing: their contracts are theorems.
 ghost use Rattle.slice_back.specs.Agreeing.{SliceSuffices};
+ghost use Rattle.slice_back.specs.Ascending.{SlicesAscend};
 ghost use Rattle.slice_back.specs.Laws.{RowsAreLeast, RegistersAreFromBefore, WordsAreTaken};
+
+use rv_meaning::each_instruction_is_counted_or_asks;
 
 /// A row is told exactly where it is in the least set that has the given row and, with each row, the
 /// rows that it needs.
@@ -15,3 +18,11 @@ pub fn slices_are_least()
 pub fn slices_suffice()
     ensures { SliceSuffices }
 {}
+
+/// The lists of a slice ascend: its rows, words and branches by their counts, its registers by their
+/// numbers. So nothing is told twice.
+pub fn slices_ascend()
+    ensures { SlicesAscend }
+{
+    each_instruction_is_counted_or_asks();
+}

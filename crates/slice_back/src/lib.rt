@@ -11,13 +11,15 @@ mod lists;
 mod live_set;
 mod noted;
 mod slicing;
+mod telling;
 mod texts;
 mod trace;
 mod uses;
 
 pub use back::slice;
 pub use error::SliceError;
-pub use laws::{slices_are_least, slices_suffice};
+pub use laws::{slices_are_least, slices_ascend, slices_suffice};
 pub use lists::Slice;
 pub use noted::Noted;
+pub use telling::slice_text;
 pub use texts::{write_branch, write_head, write_register, write_word};

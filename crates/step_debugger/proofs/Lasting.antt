@@ -5,7 +5,7 @@ use Rattle.std.specs.Io.KnownBytes.{Appends, Consumes}
 use Rattle.std.proofs.KnownBytes.{Appends-nil, Appends-trans, Consumes-nil, Consumes-trans}
 use Rattle.std.proofs.lemmas.List.{append-nil}
 use Rattle.bn_outside.specs.Streams.{AppendsPart, ConsumesAll}
-use Rattle.joint_replay.specs.Joining.{Joining}
+use Rattle.back_step.specs.Traces.{Trace}
 use Rattle.joint_replay.specs.declared.error.JointError.{JointError}
 use Rattle.step_debugger.specs.declared.error.DebugError.{DebugError}
 use Rattle.step_debugger.specs.declared.error.DebugError.TheVariants.{ReadFault, WriteFault, LineTooLong, TooMuch, Joint, OutOfMemory}
@@ -13,8 +13,8 @@ use Rattle.step_debugger.specs.declared.session.Ending.{Ending}
 use Rattle.step_debugger.specs.declared.session.Ending.TheVariants.{GoesOn, Quits, Refused}
 use Rattle.step_debugger.specs.Commands.{command_of}
 use Rattle.step_debugger.specs.Lines.{Reading, Input, input_from, input_of, with_line, ends_in, NextLine}
-use Rattle.step_debugger.specs.Answers.{Session, Answer, says, answer, begin}
-use Rattle.step_debugger.specs.Transcript.{behind, goes_on_by, answers, lines_in, Told, result_by, transcript, EndsThere, EndsAll, Debugs, Debugged}
+use Rattle.step_debugger.specs.Answers.{Session, Answer, says, answer, begin_at}
+use Rattle.step_debugger.specs.Transcript.{behind, goes_on_by, answers, lines_in, Told, result_by, transcript_from, EndsThere, EndsAll, Debugs, Debugged}
 use Rattle.step_debugger.specs.Goings.{Stops}
 use Rattle.step_debugger.proofs.Sent.{part_longer, part_behind, part_whole, rose_later}
 
@@ -37,16 +37,16 @@ lines_before lines input = by input.refused
 -- ---- where a session stands
 
 -- so many bytes are gone, these lines of them are answered, and this text is sent
-pub record Stands (j : Joining) (s : Session) (count : ℕ) (left now_left written now_written : Option (List ℕ)) : Type 0 where
+pub record Stands (j : Trace) (s : Session) (count : ℕ) (left now_left written now_written : Option (List ℕ)) : Type 0 where
   pub gone : List ℕ
   pub lines : List (List ℕ)
   pub text : List ℕ
   pub taken : Consumes left now_left gone
   pub read : (more : List ℕ) → input_of (gone ++ more) ≡ with_lines lines (input_from count [] more)
-  pub said : (rest : List (List ℕ)) → answers (lines ++ rest) (begin j) ≡ behind text (answers rest s)
+  pub said : (rest : List (List ℕ)) → answers (lines ++ rest) (begin_at j) ≡ behind text (answers rest s)
   pub sent : Appends written now_written text
 
-pub at_begin : (j : Joining) (s : Session) (count : ℕ) (left written : Option (List ℕ)) → s ≡ begin j → count ≡ 0 → Stands j s count left left written written
+pub at_begin : (j : Trace) (s : Session) (count : ℕ) (left written : Option (List ℕ)) → s ≡ begin_at j → count ≡ 0 → Stands j s count left left written written
 at_begin j s count left written e z = record {
   gone = [];
   lines = [];
@@ -57,7 +57,7 @@ at_begin j s count left written e z = record {
   sent = Appends-nil written;
 }
 
-module _ (j : Joining) (s : Session) (old new : Reading) (left now_left next_left written now_written : Option (List ℕ)) (before after : ℕ) where
+module _ (j : Trace) (s : Session) (old new : Reading) (left now_left next_left written now_written : Option (List ℕ)) (before after : ℕ) where
   -- one line is answered, and the session goes on
   pub one_more : (next_written : Option (List ℕ)) → Stands j s old.count left now_left written now_written → NextLine old now_left next_left before after (Ok true) new → (answer s (command_of new.line)).ends ≡ GoesOn
       → Appends now_written next_written (answer s (command_of new.line)).text → Stands j (answer s (command_of new.line)).session new.count left next_left written next_written
@@ -69,7 +69,7 @@ module _ (j : Joining) (s : Session) (old new : Reading) (left now_left next_lef
         text = t.text ++ a.text;
         taken = Consumes-trans left now_left next_left t.gone n.gone t.taken n.taken;
         read = λ more. ap input_of (append_assoc t.gone n.gone more) ∙ t.read (n.gone ++ more) ∙ ap (with_lines t.lines) (n.read.2 more) ∙ one_line_more t.lines new.line (input_from new.count [] more);
-        said = λ rest. ap (λ (ls : List (List ℕ)). answers ls (begin j)) (append_assoc t.lines (new.line ∷ []) rest) ∙ t.said (new.line ∷ rest)
+        said = λ rest. ap (λ (ls : List (List ℕ)). answers ls (begin_at j)) (append_assoc t.lines (new.line ∷ []) rest) ∙ t.said (new.line ∷ rest)
             ∙ ap (λ (e : Ending). behind t.text (goes_on_by e a (λ u. answers rest u))) on
             ∙ ap (λ (x : List ℕ). record { text = x; session = (answers rest a.session).session; ends = (answers rest a.session).ends }) (sym (append_assoc t.text a.text (answers rest a.session).text));
         sent = Appends-trans written now_written next_written t.text a.text t.sent h;
@@ -81,23 +81,23 @@ abbrev told_of : Answer → Option DebugError → Told
 told_of a refused = record { text = a.text; result = result_by a.ends refused }
 
 -- what further bytes hold, which are gone too
-joined : (j : Joining) (s : Session) (count : ℕ) (left now_left written now_written : Option (List ℕ)) (t : Stands j s count left now_left written now_written) (more : List ℕ) (input : Input) → input_from count [] more ≡ input
+joined : (j : Trace) (s : Session) (count : ℕ) (left now_left written now_written : Option (List ℕ)) (t : Stands j s count left now_left written now_written) (more : List ℕ) (input : Input) → input_from count [] more ≡ input
     → input_of (t.gone ++ more) ≡ with_lines t.lines input
 joined j s count left now_left written now_written t more input e = t.read more ∙ ap (with_lines t.lines) e
 
 -- where no LF is among further bytes, the lines before them are all, and the session went on after them
-not_over : (j : Joining) (s : Session) (count : ℕ) (left now_left written now_written : Option (List ℕ)) (t : Stands j s count left now_left written now_written) (more line : List ℕ) → input_from count [] more ≡ ends_in line None
-    → (answers (input_of (t.gone ++ more)).lines (begin j)).ends ≡ GoesOn
+not_over : (j : Trace) (s : Session) (count : ℕ) (left now_left written now_written : Option (List ℕ)) (t : Stands j s count left now_left written now_written) (more line : List ℕ) → input_from count [] more ≡ ends_in line None
+    → (answers (input_of (t.gone ++ more)).lines (begin_at j)).ends ≡ GoesOn
 not_over j s count left now_left written now_written t more line e =
     let is : input_of (t.gone ++ more) ≡ with_lines t.lines (ends_in line None) = joined j s count left now_left written now_written t more (ends_in line None) e in
-    ap (λ (i : Input). (answers i.lines (begin j)).ends) is ∙ ap (λ (a : Answer). a.ends) (t.said [])
+    ap (λ (i : Input). (answers i.lines (begin_at j)).ends) is ∙ ap (λ (a : Answer). a.ends) (t.said [])
 
 -- the transcript begins with what is sent
-told_first : (j : Joining) (s : Session) (count : ℕ) (left now_left written now_written : Option (List ℕ)) (t : Stands j s count left now_left written now_written) (more : List ℕ)
-    → transcript j (input_of (t.gone ++ more)) ≡ told_of (behind t.text (answers (lines_in (input_from count [] more)) s)) (input_from count [] more).refused
+told_first : (j : Trace) (s : Session) (count : ℕ) (left now_left written now_written : Option (List ℕ)) (t : Stands j s count left now_left written now_written) (more : List ℕ)
+    → transcript_from j (input_of (t.gone ++ more)) ≡ told_of (behind t.text (answers (lines_in (input_from count [] more)) s)) (input_from count [] more).refused
 told_first j s count left now_left written now_written t more =
     let i = input_from count [] more in
-    ap (transcript j) (t.read more) ∙ ap (λ (ls : List (List ℕ)). told_of (answers ls (begin j)) i.refused) (lines_before t.lines i) ∙ ap (λ (a : Answer). told_of a i.refused) (t.said (lines_in i))
+    ap (transcript_from j) (t.read more) ∙ ap (λ (ls : List (List ℕ)). told_of (answers ls (begin_at j)) i.refused) (lines_before t.lines i) ∙ ap (λ (a : Answer). told_of a i.refused) (t.said (lines_in i))
 
 -- the answer of a line stands first in those of more
 first_text : (e : Ending) (a : Answer) (go : Session → Answer) → (rest : List ℕ) × ((goes_on_by e a go).text ≡ a.text ++ rest)
@@ -112,9 +112,9 @@ all_gone (Some z) None c x y p q = absurd p
 all_gone (Some z) (Some w) c x y p q = (ap (λ u. x ++ u) q.0 ∙ sym p, q.1)
 
 -- no line is left to read
-module _ (j : Joining) (s : Session) (old new : Reading) (left now_left next_left written now_written : Option (List ℕ)) (start before after write_before write_after : ℕ) (t : Stands j s old.count left now_left written now_written) (fell : start ≤ before) where
+module _ (j : Trace) (s : Session) (old new : Reading) (left now_left next_left written now_written : Option (List ℕ)) (start before after write_before write_after : ℕ) (t : Stands j s old.count left now_left written now_written) (fell : start ≤ before) where
   stopped : (e : DebugError) (n : NextLine old now_left next_left before after (Err e) new) → input_from old.count [] n.gone ≡ ends_in new.line (Some e)
-      → ((transcript j (input_of (t.gone ++ n.gone))).result ≡ Err e) × Appends written now_written (transcript j (input_of (t.gone ++ n.gone))).text
+      → ((transcript_from j (input_of (t.gone ++ n.gone))).result ≡ Err e) × Appends written now_written (transcript_from j (input_of (t.gone ++ n.gone))).text
   stopped e n f =
       let is = told_first j s old.count left now_left written now_written t n.gone ∙ ap (λ (i : Input). told_of (behind t.text (answers (lines_in i) s)) i.refused) f in
       (ap (λ (u : Told). u.result) is, subst (λ (x : List ℕ). Appends written now_written x) (sym (ap (λ (u : Told). u.text) is ∙ append-nil t.text)) t.sent)
@@ -125,7 +125,7 @@ module _ (j : Joining) (s : Session) (old new : Reading) (left now_left next_lef
       by : (e : DebugError) (n : NextLine old now_left next_left before after (Err e) new) → Debugs j (t.gone ++ n.gone) left next_left start after written now_written write_before write_after (Err e)
       by ReadFault n =
           let is : input_of (t.gone ++ n.gone) ≡ with_lines t.lines (ends_in new.line None) = joined j s old.count left now_left written now_written t n.gone (ends_in new.line None) n.read.0 in
-          let said : answers (input_of (t.gone ++ n.gone)).lines (begin j) ≡ behind t.text (says s []) = ap (λ (i : Input). answers i.lines (begin j)) is ∙ t.said [] in
+          let said : answers (input_of (t.gone ++ n.gone)).lines (begin_at j) ≡ behind t.text (says s []) = ap (λ (i : Input). answers i.lines (begin_at j)) is ∙ t.said [] in
           (ap (λ (a : Answer). a.ends) said, ap (λ (i : Input). i.refused) is, subst (λ (x : List ℕ). Appends written now_written x) (sym (ap (λ (a : Answer). a.text) said ∙ append-nil t.text)) t.sent, rose_later start before after fell n.read.1)
       by WriteFault n = absurd n.read
       by (LineTooLong k) n = stopped (LineTooLong k) n (ap (input_from old.count []) (sym (append-nil n.gone)) ∙ n.read [])
@@ -136,7 +136,7 @@ module _ (j : Joining) (s : Session) (old new : Reading) (left now_left next_lef
           subst (λ (x : List ℕ). AppendsPart written now_written x) (sym (ap (λ (u : Told). u.text) is)) (part_longer written now_written t.text _ (part_whole written now_written t.text t.sent))
 
 -- a line is read
-module _ (j : Joining) (s : Session) (old new : Reading) (left now_left next_left written now_written next_written : Option (List ℕ)) (start before after write_start write_before write_after : ℕ) (whole : Bool)
+module _ (j : Trace) (s : Session) (old new : Reading) (left now_left next_left written now_written next_written : Option (List ℕ)) (start before after write_start write_before write_after : ℕ) (whole : Bool)
     (t : Stands j s old.count left now_left written now_written) (n : NextLine old now_left next_left before after (Ok whole) new) where
   abbrev answered : Answer
   answered = answer s (command_of new.line)
@@ -148,7 +148,7 @@ module _ (j : Joining) (s : Session) (old new : Reading) (left now_left next_lef
   taken_all = Consumes-trans left now_left next_left t.gone n.gone t.taken n.taken
 
   -- what the bytes hold: this line, perhaps an empty one behind it, and no refusal
-  heard : (w : Bool) (n : NextLine old now_left next_left before after (Ok w) new) → (lines : List (List ℕ)) × (transcript j (input_of (t.gone ++ n.gone)) ≡ told_of (behind t.text (goes_on_by answered.ends answered (λ u. answers lines u))) None)
+  heard : (w : Bool) (n : NextLine old now_left next_left before after (Ok w) new) → (lines : List (List ℕ)) × (transcript_from j (input_of (t.gone ++ n.gone)) ≡ told_of (behind t.text (goes_on_by answered.ends answered (λ u. answers lines u))) None)
   heard true n =
       let is : input_from old.count [] n.gone ≡ with_line new.line (ends_in [] None) = ap (input_from old.count []) (sym (append-nil n.gone)) ∙ n.read.2 [] in
       ([] ∷ [], told_first j s old.count left now_left written now_written t n.gone ∙ ap (λ (i : Input). told_of (behind t.text (answers (lines_in i) s)) i.refused) is)
@@ -160,7 +160,7 @@ module _ (j : Joining) (s : Session) (old new : Reading) (left now_left next_lef
       → Debugged j left next_left start after written next_written write_start write_after (Err e)
   not_sent e fell h = record { gone = all; taken = taken_all; done = by e h }
     where
-      part : AppendsPart now_written next_written answered.text → AppendsPart written next_written (transcript j (input_of all)).text
+      part : AppendsPart now_written next_written answered.text → AppendsPart written next_written (transcript_from j (input_of all)).text
       part p =
           let x = heard whole n in
           let f = first_text answered.ends answered (λ u. answers x.0 u) in
@@ -177,10 +177,10 @@ module _ (j : Joining) (s : Session) (old new : Reading) (left now_left next_lef
 
   -- the command ends the session
   sent_to_end : (e : Ending) → answered.ends ≡ e → Appends now_written next_written answered.text → goes_on_by e answered (λ u. answers (heard whole n).0 u) ≡ answered
-      → (transcript j (input_of all) ≡ told_of (behind t.text answered) None) × Appends written next_written (transcript j (input_of all)).text
+      → (transcript_from j (input_of all) ≡ told_of (behind t.text answered) None) × Appends written next_written (transcript_from j (input_of all)).text
   sent_to_end e on h last =
       let x = heard whole n in
-      let is : transcript j (input_of all) ≡ told_of (behind t.text answered) None = x.1 ∙ ap (λ (a : Answer). told_of (behind t.text a) None) (ap (λ (y : Ending). goes_on_by y answered (λ u. answers x.0 u)) on ∙ last) in
+      let is : transcript_from j (input_of all) ≡ told_of (behind t.text answered) None = x.1 ∙ ap (λ (a : Answer). told_of (behind t.text a) None) (ap (λ (y : Ending). goes_on_by y answered (λ u. answers x.0 u)) on ∙ last) in
       (is, subst (λ (x : List ℕ). Appends written next_written x) (sym (ap (λ (u : Told). u.text) is)) (Appends-trans written now_written next_written t.text answered.text t.sent h))
 
   -- it is the last line that is gone
@@ -194,7 +194,7 @@ module _ (j : Joining) (s : Session) (old new : Reading) (left now_left next_lef
         line = new.line;
         lines = ap (λ (i : Input). i.lines) is;
         last = ap (λ (i : Input). i.last) is;
-        before = ap (λ (ls : List (List ℕ)). (answers ls (begin j)).ends) (sym (append-nil t.lines)) ∙ ap (λ (a : Answer). a.ends) (t.said []);
+        before = ap (λ (ls : List (List ℕ)). (answers ls (begin_at j)).ends) (sym (append-nil t.lines)) ∙ ap (λ (a : Answer). a.ends) (t.said []);
         there = ap (λ (a : Answer). a.ends) (t.said (new.line ∷ [])) ∙ ap (λ (y : Ending). (goes_on_by y answered (λ u. answers [] u)).ends) on ∙ ap (λ (a : Answer). a.ends) last ∙ on;
       })
   there e on last false n = inr (record { all = all_gone left now_left next_left t.gone n.gone t.taken n.read.1; before = not_over j s old.count left now_left written now_written t n.gone new.line n.read.0 })
@@ -210,12 +210,12 @@ module _ (j : Joining) (s : Session) (old new : Reading) (left now_left next_lef
       record { gone = all; taken = taken_all; done = (ap (λ (u : Told). u.result) x.0 ∙ ap (λ (e : Ending). result_by e None) on, x.1, there (Refused e) on refl whole n) }
 
 -- the last line, behind which there is none
-pub ends : (j : Joining) (s : Session) (old new : Reading) (left now_left next_left written now_written next_written : Option (List ℕ)) (start before after write_start write_after : ℕ)
+pub ends : (j : Trace) (s : Session) (old new : Reading) (left now_left next_left written now_written next_written : Option (List ℕ)) (start before after write_start write_after : ℕ)
     → Stands j s old.count left now_left written now_written → NextLine old now_left next_left before after (Ok false) new → (answer s (command_of new.line)).ends ≡ GoesOn → Appends now_written next_written (answer s (command_of new.line)).text
     → Debugged j left next_left start after written next_written write_start write_after (Ok (tt {0}))
 ends j s old new left now_left next_left written now_written next_written start before after write_start write_after t n on h =
     let a : Answer = answer s (command_of new.line) in
-    let is : transcript j (input_of (t.gone ++ n.gone)) ≡ told_of (behind t.text (behind a.text (says a.session []))) None =
+    let is : transcript_from j (input_of (t.gone ++ n.gone)) ≡ told_of (behind t.text (behind a.text (says a.session []))) None =
     told_first j s old.count left now_left written now_written t n.gone ∙ ap (λ (i : Input). told_of (behind t.text (answers (lines_in i) s)) i.refused) n.read.0
     ∙ ap (λ (y : Ending). told_of (behind t.text (goes_on_by y a (λ u. answers [] u))) None) on in
     record {

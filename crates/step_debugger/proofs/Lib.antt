@@ -6,3 +6,4 @@ pub mod Sent
 pub mod Saying
 pub mod Lasting
 pub mod Worked
+pub mod WaysBack

@@ -7,7 +7,8 @@ use Rattle.std.proofs.lemmas.List.{append-nil, take_all, take-append-le}
 use Rattle.std.proofs.lemmas.Bool.{cases_lt}
 use Rattle.bn_outside.specs.Counts.{Rose}
 use Rattle.bn_outside.specs.Streams.{AppendsPart}
-use Rattle.joint_replay.specs.Joining.{Joining, readiness, choice, next_step, steps_left}
+use Rattle.joint_replay.specs.Joining.{Joining, readiness, choice, steps_left}
+use Rattle.back_step.specs.Traces.{Trace, trace_step}
 use Rattle.step_debugger.specs.declared.error.DebugError.{DebugError}
 use Rattle.step_debugger.specs.declared.error.DebugError.TheVariants.{ReadFault, WriteFault, LineTooLong, TooMuch, Joint, OutOfMemory}
 use Rattle.step_debugger.specs.declared.session.Ending.{Ending}
@@ -68,16 +69,16 @@ pub record SoFar (first : List ℕ) (whole rest : Moves) (waiting : List ℕ) (o
   pub ends : whole.ends ≡ rest.ends
   pub later : before ≤ after
 
-pub none_yet : (first : List ℕ) (h count : ℕ) (j : Joining) (known : Option (List ℕ)) (faults : ℕ) → SoFar first (step_up_to h count j) (step_up_to h (count - 0) j) first known known faults faults
+pub none_yet : (first : List ℕ) (h count : ℕ) (j : Trace) (known : Option (List ℕ)) (faults : ℕ) → SoFar first (step_up_to h count j) (step_up_to h (count - 0) j) first known known faults faults
 none_yet first h count j known faults =
     let e : count - 0 ≡ count = omega arith in
     subst (λ n. SoFar first (step_up_to h count j) (step_up_to h n j) first known known faults faults) (sym e) (record { sent = []; appended = Appends-nil known; text = refl; moved = refl; ends = refl; later = omega arith })
 
 -- one step is left at least
-one_left : (h count k : ℕ) (j : Joining) → k < count → step_up_to h (count - k) j ≡ step_by j h (readiness j h) (next_step j h) (λ i. step_up_to h (count - (k + 1)) i)
+one_left : (h count k : ℕ) (j : Trace) → k < count → step_up_to h (count - k) j ≡ step_by j h (readiness j.now h) (trace_step j h) (λ i. step_up_to h (count - (k + 1)) i)
 one_left h count k j low = let e : count - k ≡ suc (count - (k + 1)) = omega (arith, low) in ap (λ n. step_up_to h n j) e
 
-module _ (first : List ℕ) (whole : Moves) (h count k : ℕ) (j new : Joining) (waiting text : List ℕ) (old now : Option (List ℕ)) (before after : ℕ) where
+module _ (first : List ℕ) (whole : Moves) (h count k : ℕ) (j new : Trace) (waiting text : List ℕ) (old now : Option (List ℕ)) (before after : ℕ) where
   -- it is done and told
   told : SoFar first whole (step_up_to h (count - k) j) waiting old now before after → k < count → StepsOnce j h (Ok None) new waiting text
       → SoFar first whole (step_up_to h (count - (k + 1)) new) text old now before after
@@ -129,7 +130,7 @@ module _ (first : List ℕ) (whole : Moves) (h count k : ℕ) (j new : Joining) 
       (subst (λ (x : List ℕ). AppendsPart old now x) (sym s.text) (part_longer old now s.sent (waiting ++ (step_up_to h (count - k) j).text) (part_whole old now s.sent s.appended)), starved before after e none)
 
 -- all steps are done
-pub all_told : (first : List ℕ) (whole : Moves) (h count k : ℕ) (j : Joining) (waiting : List ℕ) (old now : Option (List ℕ)) (before after : ℕ) (ending : Ending) → SoFar first whole (step_up_to h (count - k) j) waiting old now before after → count ≤ k
+pub all_told : (first : List ℕ) (whole : Moves) (h count k : ℕ) (j : Trace) (waiting : List ℕ) (old now : Option (List ℕ)) (before after : ℕ) (ending : Ending) → SoFar first whole (step_up_to h (count - k) j) waiting old now before after → count ≤ k
     → ending ≡ (step_up_to h 0 j).ends → Gathers (first ++ whole.text) (λ (x : Ending). (j ≡ whole.now) × (x ≡ whole.ends)) old now before after waiting (Ok ending)
 all_told first whole h count k j waiting old now before after ending s high e =
     let none : count - k ≡ 0 = omega (arith, high) in
@@ -138,16 +139,16 @@ all_told first whole h count k j waiting old now before after ending s high e =
 
 -- ---- steps of a go
 
-go_opened : (first : Bool) (breaks : List ℕ) (j : Joining) → go_on first breaks j ≡ go_by first breaks j (choice j) (λ i. go_for (steps_left j.lanes) false breaks i)
-go_opened first breaks j = let one : steps_left j.lanes + 1 ≡ suc (steps_left j.lanes) = omega arith in ap (λ n. go_for n first breaks j) one
+go_opened : (first : Bool) (breaks : List ℕ) (j : Trace) → go_on first breaks j ≡ go_by first breaks j (choice j.now) (λ i. go_for (steps_left j.now.lanes) false breaks i)
+go_opened first breaks j = let one : steps_left j.now.lanes + 1 ≡ suc (steps_left j.now.lanes) = omega arith in ap (λ n. go_for n first breaks j) one
 
-pub goes_further : (first : Bool) (breaks : List ℕ) (j new : Joining) (text now_text : List ℕ) → GoesOnce first breaks j (Ok None) new text now_text → go_on first breaks j ≡ go_on false breaks new
-goes_further first breaks j new text now_text t = go_opened first breaks j ∙ t.2 (λ i. go_for (steps_left j.lanes) false breaks i) ∙ ap (λ n. go_for n false breaks new) (sym t.1)
+pub goes_further : (first : Bool) (breaks : List ℕ) (j new : Trace) (text now_text : List ℕ) → GoesOnce first breaks j (Ok None) new text now_text → go_on first breaks j ≡ go_on false breaks new
+goes_further first breaks j new text now_text t = go_opened first breaks j ∙ t.2 (λ i. go_for (steps_left j.now.lanes) false breaks i) ∙ ap (λ n. go_for n false breaks new) (sym t.1)
 
-pub goes_no_further : (first : Bool) (breaks : List ℕ) (start j new : Joining) (text now_text : List ℕ) (ending : Ending) → go_on first breaks j ≡ go_on true breaks start → GoesOnce first breaks j (Ok (Some ending)) new text now_text
+pub goes_no_further : (first : Bool) (breaks : List ℕ) (start j new : Trace) (text now_text : List ℕ) (ending : Ending) → go_on first breaks j ≡ go_on true breaks start → GoesOnce first breaks j (Ok (Some ending)) new text now_text
     → Goes breaks start (Ok ending) new text now_text
 goes_no_further first breaks start j new text now_text ending s t =
-    let is : go_on true breaks start ≡ ended t.0 new ending = sym s ∙ (go_opened first breaks j ∙ t.2 (λ i. go_for (steps_left j.lanes) false breaks i)) in
+    let is : go_on true breaks start ≡ ended t.0 new ending = sym s ∙ (go_opened first breaks j ∙ t.2 (λ i. go_for (steps_left j.now.lanes) false breaks i)) in
     (t.1 ∙ ap (λ (m : Moves). text ++ m.text) (sym is), ap (λ (m : Moves). m.now) (sym is), ap (λ (m : Moves). m.ends) (sym is))
 
 -- ---- where harts are

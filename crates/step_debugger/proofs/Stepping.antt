@@ -1,5 +1,5 @@
 -- The lowest ready hart, and what its step leaves to do.
-use Rattle.std.proofs.Common.{◌≡◌, ℕ, zero, suc, ◌+◌, ◌<◌, Bool, true, false, refl, sym, ap, ap₂, ◌∙◌, subst, arith, List, [], ◌∷◌, length, slice_get, slice_set, Option, Some, None}
+use Rattle.std.proofs.Common.{◌≡◌, ℕ, zero, suc, ◌+◌, ◌<◌, Bool, true, false, refl, sym, ap, ap₂, ◌∙◌, subst, arith, List, [], ◌∷◌, ◌++◌, length, slice_get, slice_set, Option, Some, None}
 use Rattle.std.specs.Prelude.{Result, Ok, Err}
 use Rattle.bn_base.specs.Programs.{Program}
 use Rattle.bn_base.specs.declared.row.Row.{Row}
@@ -14,7 +14,8 @@ use Rattle.joint_replay.specs.declared.kinds.Stepped.{Stepped}
 use Rattle.joint_replay.specs.Lanes.{Course, Lane, Item, Doing, Ending, row_given, courses_steps, lane_step, lane_steps}
 use Rattle.joint_replay.specs.Memory.{memory_after}
 use Rattle.joint_replay.specs.Joining.{Joining, choice, choice_from, readiness, readiness_of, next_step, move, steps_left}
-use Rattle.joint_replay.specs.Calls.{Steps}
+use Rattle.back_step.specs.Traces.{entry_of, Trace, Trailed, with_entry, trace_step}
+use Rattle.back_step.specs.Trails.{TrailSteps}
 use Rattle.step_debugger.specs.Answers.{go_by, go_past, stop_unless}
 use Rattle.step_debugger.specs.Goings.{GoesOnce}
 
@@ -114,11 +115,25 @@ step_fewer j h x e = by j.refused (slice_get j.lanes h) refl e
 
 -- ---- a step of a go
 
-pub went : (first : Bool) (breaks : List ℕ) (old new : Joining) (h : ℕ) (stepped : Stepped) (text : List ℕ) → choice old ≡ next.Hart h → None ≡ stop_unless first breaks old h → Steps old h (Ok stepped) new
-    → GoesOnce first breaks old (Ok None) new text text
+-- with its entry
+same_trace : (x y : Item × Trace) → ◌≡◌ {A = Option (Result (Item × Trace) ReplayError)} (Some (Ok x)) (Some (Ok y)) → x ≡ y
+same_trace x y e = cc
+
+trace_fewer : (t : Trace) (h : ℕ) (y : Item × Trace) → trace_step t h ≡ Some (Ok y) → steps_left y.1.now.lanes + 1 ≡ steps_left t.now.lanes
+trace_fewer t h y e = by (next_step t.now h) refl e
+  where
+    by : (o : Option (Result (Item × Joining) ReplayError)) → next_step t.now h ≡ o → elim o as (λ z. Option (Result (Item × Trace) ReplayError)) [ None ↦ None | Some r ↦ Some (with_entry t h r) ] ≡ Some (Ok y)
+        → steps_left y.1.now.lanes + 1 ≡ steps_left t.now.lanes
+    by None f e = absurd cc
+    by (Some (Err g)) f e = absurd cc
+    by (Some (Ok x)) f e =
+        subst (λ (z : Item × Trace). steps_left z.1.now.lanes + 1 ≡ steps_left t.now.lanes) (same_trace (x.0, record { start = t.start; entries = t.entries ++ entry_of h x.0 ∷ []; now = x.1 }) y e) (step_fewer t.now h x f)
+
+pub went : (first : Bool) (breaks : List ℕ) (old new : Trailed) (h : ℕ) (stepped : Stepped) (text : List ℕ) → choice old.trace.now ≡ next.Hart h → None ≡ stop_unless first breaks old.trace.now h → TrailSteps old h (Ok stepped) new
+    → GoesOnce first breaks old.trace (Ok None) new.trace text text
 went first breaks old new h stepped text c s t = (
   refl,
-  step_fewer old h (t.0, new) t.1,
+  trace_fewer old.trace h (t.0, new.trace) t.1,
   λ go.
-      ap (λ (n : Next). go_by first breaks old n go) c ∙ ap₂ (λ (at : Option (ℕ × ℕ)) (step : Option (Result (Item × Joining) ReplayError)). go_past old h at step go) (sym s) t.1,
+      ap (λ (n : Next). go_by first breaks old.trace n go) c ∙ ap₂ (λ (at : Option (ℕ × ℕ)) (step : Option (Result (Item × Trace) ReplayError)). go_past old.trace h at step go) (sym s) t.1,
 )

@@ -11,9 +11,9 @@ use Rattle.joint_replay.specs.Texts.{pass_text}
 use Rattle.step_debugger.specs.declared.command.Command.TheVariants.{Other}
 use Rattle.step_debugger.specs.declared.error.DebugError.TheVariants.{LineTooLong, TooMuch}
 use Rattle.step_debugger.specs.Lines.{ends_in, with_line}
-use Rattle.step_debugger.specs.Answers.{point_text, hart_text, waits_text, stop_text, address_text, word_text, register_text, two_text, four_text, half_text, place_text, hart_done_text}
+use Rattle.step_debugger.specs.Answers.{point_text, hart_text, waits_text, stop_text, at_text, address_text, word_text, register_text, two_text, four_text, half_text, place_text, hart_done_text}
 use Rattle.step_debugger.specs.Examples.{commands_of, command_lines, their_commands, other_lines, refusal_of, long_line, last_bytes}
-use Rattle.step_debugger.specs.Examples.{leaving_session, leaving_told, breaking_session, breaking_told, relay_session, relay_told, crossed_session, crossed_told}
+use Rattle.step_debugger.specs.Examples.{leaving_session, leaving_told, returning_session, returning_told, starting_session, starting_told, breaking_session, breaking_told, relay_session, relay_told, crossed_session, crossed_told}
 
 pub commands_read : commands_of command_lines ≡ their_commands
 commands_read = refl
@@ -36,6 +36,14 @@ one_too_many_is = refl
 pub leaving_is : leaving_session ≡ leaving_told
 unfolding digits encode_with reason_word register_name mnemonic ordering hex8 first_operand register_operand number_operand offset_operand memory_operand target_operand upper_operand instruction_text rows.point_text rows.word_text rows.register_text rows.access_text rows.fault_text rows.row_text mark_text end_text pass_text point_text hart_text waits_text stop_text address_text word_text register_text two_text four_text half_text place_text hart_done_text
 leaving_is = refl
+
+pub returning_is : returning_session ≡ returning_told
+unfolding digits encode_with reason_word register_name mnemonic ordering hex8 first_operand register_operand number_operand offset_operand memory_operand target_operand upper_operand instruction_text rows.point_text rows.word_text rows.register_text rows.access_text rows.fault_text rows.row_text mark_text end_text pass_text point_text hart_text waits_text stop_text at_text address_text word_text register_text two_text four_text half_text place_text hart_done_text
+returning_is = refl
+
+pub starting_is : starting_session ≡ starting_told
+unfolding digits encode_with reason_word register_name mnemonic ordering hex8 first_operand register_operand number_operand offset_operand memory_operand target_operand upper_operand instruction_text rows.point_text rows.word_text rows.register_text rows.access_text rows.fault_text rows.row_text mark_text end_text pass_text point_text hart_text waits_text stop_text at_text address_text word_text register_text two_text four_text half_text place_text hart_done_text
+starting_is = refl
 
 pub breaking_is : breaking_session ≡ breaking_told
 unfolding digits encode_with reason_word register_name mnemonic ordering hex8 first_operand register_operand number_operand offset_operand memory_operand target_operand upper_operand instruction_text rows.point_text rows.word_text rows.register_text rows.access_text rows.fault_text rows.row_text mark_text end_text pass_text point_text hart_text waits_text stop_text address_text word_text register_text two_text four_text half_text place_text hart_done_text

@@ -1,5 +1,5 @@
 -- What each command does, and what it prints.
-use Rattle.std.specs.Prelude.{ℕ, zero, suc, ◌+◌, ◌==◌, nat_lt, Bool, true, false, not, List, [], ◌∷◌, ◌++◌, length, slice_index, codes, decimal, Option, Some, None, Result, Ok, Err}
+use Rattle.std.specs.Prelude.{ℕ, zero, suc, ◌+◌, ◌-◌, ◌==◌, nat_lt, Bool, true, false, not, List, [], ◌∷◌, ◌++◌, length, slice_get, slice_index, codes, decimal, Option, Some, None, Result, Ok, Err}
 use Rattle.std.specs.List.{list_any, filter}
 use Rattle.bn_base.specs.declared.state.HartState.{HartState}
 use Rattle.rv_text.specs.Instructions.{hex8}
@@ -12,12 +12,15 @@ use Rattle.joint_replay.specs.declared.kinds.Readiness.TheVariants as is
 use Rattle.joint_replay.specs.declared.kinds.Next.{Next}
 use Rattle.joint_replay.specs.declared.kinds.Next.TheVariants as next
 use Rattle.joint_replay.specs.Lanes.{Item, count_of}
-use Rattle.joint_replay.specs.Joining.{Joining, readiness, coming, choice, next_step, error_of, positions_from, steps_left}
+use Rattle.joint_replay.specs.Joining.{Joining, readiness, coming, choice, error_of, positions_from, steps_left}
 use Rattle.joint_replay.specs.Memory.{word_in}
 use Rattle.joint_replay.specs.Calls.{state_at}
 use Rattle.joint_replay.specs.Texts.{item_text}
+use Rattle.back_step.specs.declared.entry.Entry.{Entry}
+use Rattle.back_step.specs.Traces.{Trace, at_start, trace_step, refusing, cut}
 use Rattle.step_debugger.specs.declared.command.Command.{Command}
 use Rattle.step_debugger.specs.declared.command.Command.TheVariants as to
+use Rattle.step_debugger.specs.declared.stop.Stop.{Stop}
 use Rattle.step_debugger.specs.declared.session.Ending.{Ending}
 use Rattle.step_debugger.specs.declared.session.Ending.TheVariants.{GoesOn, Quits, Refused}
 
@@ -94,34 +97,34 @@ places_from j h (suc n) = hart_place j h ++ places_from j (h + 1) n
 
 -- ---- steps
 
--- steps of a joint replay: what they print, where it stands then, and how they end
+-- steps of a joint replay: what they print, where it stands then and how it came there, and how they end
 pub record Moves : Type 0 where
   pub text : List ℕ
-  pub now : Joining
+  pub now : Trace
   pub ends : Ending
 
-abbrev pub stays : Joining → List ℕ → Moves
-stays j text = record { text = text; now = j; ends = GoesOn }
+abbrev pub stays : Trace → List ℕ → Moves
+stays t text = record { text = text; now = t; ends = GoesOn }
 
-abbrev pub refuses : Joining → ReplayError → Moves
-refuses j e = record { text = []; now = record j { refused = Some e }; ends = Refused (error_of e) }
+abbrev pub refuses : Trace → ReplayError → Moves
+refuses t e = record { text = []; now = refusing t e; ends = Refused (error_of e) }
 
 -- moves that print this first
 abbrev pub after : List ℕ → Moves → Moves
 after text m = record m { text = text ++ m.text }
 
 -- one more step of a hart, which is told, and how it goes on; where it isn't ready, what it waits for
-abbrev pub step_by : Joining → ℕ → Readiness → Option (Result (Item × Joining) ReplayError) → (Joining → Moves) → Moves
-step_by j h is.Ready None go = stays j []
-step_by j h is.Ready (Some (Err e)) go = refuses j e
-step_by j h is.Ready (Some (Ok x)) go = after (item_text h x.0) (go x.1)
-step_by j h (is.Waits s ic) step go = stays j (waits_text s ic)
-step_by j h is.Done step go = stays j (codes "done\n")
+abbrev pub step_by : Trace → ℕ → Readiness → Option (Result (Item × Trace) ReplayError) → (Trace → Moves) → Moves
+step_by t h is.Ready None go = stays t []
+step_by t h is.Ready (Some (Err e)) go = refuses t e
+step_by t h is.Ready (Some (Ok x)) go = after (item_text h x.0) (go x.1)
+step_by t h (is.Waits s ic) step go = stays t (waits_text s ic)
+step_by t h is.Done step go = stays t (codes "done\n")
 
 -- a hart steps up to so many times
-abbrev pub step_up_to : ℕ → ℕ → Joining → Moves
-step_up_to h zero j = stays j []
-step_up_to h (suc k) j = step_by j h (readiness j h) (next_step j h) (λ i. step_up_to h k i)
+abbrev pub step_up_to : ℕ → ℕ → Trace → Moves
+step_up_to h zero t = stays t []
+step_up_to h (suc k) t = step_by t h (readiness t.now h) (trace_step t h) (λ u. step_up_to h k u)
 
 -- ---- breakpoints
 
@@ -149,37 +152,76 @@ stop_unless true breaks j h = None
 stop_unless false breaks j h = stop_at breaks j h
 
 -- one more step, which isn't told, and how it goes on; but before it the stop at a breakpoint
-abbrev pub go_past : Joining → ℕ → Option (ℕ × ℕ) → Option (Result (Item × Joining) ReplayError) → (Joining → Moves) → Moves
-go_past j h (Some at) step go = stays j (stop_text h at.0 at.1)
-go_past j h None None go = stays j []
-go_past j h None (Some (Err e)) go = refuses j e
-go_past j h None (Some (Ok x)) go = go x.1
+abbrev pub go_past : Trace → ℕ → Option (ℕ × ℕ) → Option (Result (Item × Trace) ReplayError) → (Trace → Moves) → Moves
+go_past t h (Some at) step go = stays t (stop_text h at.0 at.1)
+go_past t h None None go = stays t []
+go_past t h None (Some (Err e)) go = refuses t e
+go_past t h None (Some (Ok x)) go = go x.1
 
 -- the lowest ready hart steps
-abbrev pub go_by : Bool → List ℕ → Joining → Next → (Joining → Moves) → Moves
-go_by first breaks j next.AllDone go = stays j (codes "done\n")
-go_by first breaks j next.NoneReady go = record { text = []; now = j; ends = Refused (Stuck (positions_from 0 j.lanes)) }
-go_by first breaks j (next.Hart h) go = go_past j h (stop_unless first breaks j h) (next_step j h) go
+abbrev pub go_by : Bool → List ℕ → Trace → Next → (Trace → Moves) → Moves
+go_by first breaks t next.AllDone go = stays t (codes "done\n")
+go_by first breaks t next.NoneReady go = record { text = []; now = t; ends = Refused (Stuck (positions_from 0 t.now.lanes)) }
+go_by first breaks t (next.Hart h) go = go_past t h (stop_unless first breaks t.now h) (trace_step t h) go
 
 -- at most n steps
-abbrev pub go_for : ℕ → Bool → List ℕ → Joining → Moves
-go_for zero first breaks j = stays j []
-go_for (suc n) first breaks j = go_by first breaks j (choice j) (λ i. go_for n false breaks i)
+abbrev pub go_for : ℕ → Bool → List ℕ → Trace → Moves
+go_for zero first breaks t = stays t []
+go_for (suc n) first breaks t = go_by first breaks t (choice t.now) (λ u. go_for n false breaks u)
 
 -- steps until all harts are done, none is ready, one is refused, or a row is at a breakpoint
-abbrev pub go_on : Bool → List ℕ → Joining → Moves
-go_on first breaks j = go_for (steps_left j.lanes + 1) first breaks j
+abbrev pub go_on : Bool → List ℕ → Trace → Moves
+go_on first breaks t = go_for (steps_left t.now.lanes + 1) first breaks t
+
+-- ---- ways back
+
+unfoldable pub at_text : ℕ → List ℕ
+at_text position = codes "at " ++ decimal position ++ codes "\n"
+
+-- goes to a position, and prints this
+abbrev pub goes_back : Trace → ℕ → List ℕ → Moves
+goes_back t to text = stays (cut t to) text
+
+-- so many steps back, but not behind the first
+abbrev pub back_by : ℕ → Trace → Moves
+back_by k t = goes_back t (length t.entries - k) (at_text (length t.entries - k))
+
+-- a step from a position, as the stop before it is told
+abbrev pub stop_of : ℕ → Entry → ℕ → Stop
+stop_of position e pc = record { position = position; hart = e.hart; ic = e.ic; pc = pc }
+
+-- the stop before a step, where its row is at a breakpoint
+abbrev pub stop_before : List ℕ → ℕ → Option Entry → Option Stop
+stop_before breaks position None = None
+stop_before breaks position (Some e) = elim e.pc [ None ↦ None | Some pc ↦ elim (is_set breaks pc) [ true ↦ Some (stop_of position e pc) | false ↦ None ] ]
+
+-- the latest stop below a position
+abbrev pub stop_below : List ℕ → List Entry → ℕ → Option Stop
+stop_below breaks entries zero = None
+stop_below breaks entries (suc n) = elim (stop_before breaks n (slice_get entries n)) [ Some stop ↦ Some stop | None ↦ stop_below breaks entries n ]
+
+-- to the latest stop, or to the start
+abbrev pub back_to : Trace → Option Stop → Moves
+back_to t None = goes_back t 0 (codes "start\n")
+back_to t (Some stop) = goes_back t stop.position (stop_text stop.hart stop.ic stop.pc)
+
+abbrev pub back_to_stop : List ℕ → Trace → Moves
+back_to_stop breaks t = back_to t (stop_below breaks t.entries (length t.entries))
 
 -- ---- a session
 
--- where a session stands: its joint replay, the chosen hart, and the breakpoints
+-- where a session stands: its joint replay, with the way that it came; the chosen hart; and the breakpoints
 pub record Session : Type 0 where
-  pub now : Joining
+  pub trace : Trace
   pub hart : ℕ
   pub breaks : List ℕ
 
+-- before the first command
+abbrev pub begin_at : Trace → Session
+begin_at t = record { trace = t; hart = 0; breaks = [] }
+
 abbrev pub begin : Joining → Session
-begin j = record { now = j; hart = 0; breaks = [] }
+begin j = begin_at (at_start j)
 
 -- what a command prints, where the session stands after it, and whether it ends then
 pub record Answer : Type 0 where
@@ -191,13 +233,13 @@ abbrev pub says : Session → List ℕ → Answer
 says s text = record { text = text; session = s; ends = GoesOn }
 
 abbrev pub moved : Session → Moves → Answer
-moved s m = record { text = m.text; session = record s { now = m.now }; ends = m.ends }
+moved s m = record { text = m.text; session = record s { trace = m.now }; ends = m.ends }
 
 abbrev pub unknown : Session → Answer
 unknown s = says s (codes "?\n")
 
 abbrev pub choose : Session → ℕ → Answer
-choose s n = elim (nat_lt n (length s.now.lanes)) [ true ↦ says (record s { hart = n }) (hart_text n) | false ↦ unknown s ]
+choose s n = elim (nat_lt n (length s.trace.now.lanes)) [ true ↦ says (record s { hart = n }) (hart_text n) | false ↦ unknown s ]
 
 abbrev pub add_break : Session → ℕ → Answer
 add_break s addr = elim (is_set s.breaks addr) [
@@ -217,12 +259,14 @@ take_break s addr = elim (is_set s.breaks addr) [
 abbrev pub answer : Session → Command → Answer
 answer s to.Empty = says s []
 answer s (to.Hart n) = choose s n
-answer s (to.Step k) = moved s (step_up_to s.hart k s.now)
-answer s to.Go = moved s (go_on true s.breaks s.now)
+answer s (to.Step k) = moved s (step_up_to s.hart k s.trace)
+answer s (to.Back k) = moved s (back_by k s.trace)
+answer s to.ReverseGo = moved s (back_to_stop s.breaks s.trace)
+answer s to.Go = moved s (go_on true s.breaks s.trace)
 answer s (to.Break addr) = add_break s addr
 answer s (to.Unbreak addr) = take_break s addr
-answer s to.Registers = says s (registers_text (state_at s.now s.hart))
-answer s (to.Word addr) = says s (word_text addr (word_in s.now.memory addr))
-answer s to.Where = says s (places_from s.now 0 (length s.now.lanes))
+answer s to.Registers = says s (registers_text (state_at s.trace.now s.hart))
+answer s (to.Word addr) = says s (word_text addr (word_in s.trace.now.memory addr))
+answer s to.Where = says s (places_from s.trace.now 0 (length s.trace.now.lanes))
 answer s to.Quit = record { text = []; session = s; ends = Quits }
 answer s to.Other = unknown s

@@ -2,7 +2,7 @@
 use Rattle.std.specs.Prelude.{ℕ, ◌%◌, ◌==◌, nat_le, nat_lt, true, false, ◌&&◌, List, [], length, take, drop, codes, Option, Some, None}
 use Rattle.std.specs.Str.{bytes_eq}
 use Rattle.step_debugger.specs.declared.command.Command.{Command}
-use Rattle.step_debugger.specs.declared.command.Command.TheVariants.{Empty, Hart, Step, Go, Break, Unbreak, Registers, Word, Where, Quit, Other}
+use Rattle.step_debugger.specs.declared.command.Command.TheVariants.{Empty, Hart, Step, Go, Back, ReverseGo, Break, Unbreak, Registers, Word, Where, Quit, Other}
 use Rattle.step_debugger.specs.Numbers.{number_of}
 
 -- what stands behind a word at the front of a line
@@ -28,6 +28,11 @@ abbrev pub step_of : Option ℕ → Command
 step_of None = Other
 step_of (Some k) = elim (nat_lt 0 k && nat_le k 1000000) [ true ↦ Step k | false ↦ Other ]
 
+-- one to a million steps back
+abbrev pub back_of : Option ℕ → Command
+back_of None = Other
+back_of (Some k) = elim (nat_lt 0 k && nat_le k 1000000) [ true ↦ Back k | false ↦ Other ]
+
 abbrev pub break_of : Option ℕ → Command
 break_of None = Other
 break_of (Some a) = Break a
@@ -51,7 +56,10 @@ numbered line = elim (behind (codes "hart ") line) [
       | Some text ↦ break_of (address_in text)
       | None ↦ elim (behind (codes "unbreak ") line) [
         | Some text ↦ unbreak_of (address_in text)
-        | None ↦ elim (behind (codes "word ") line) [ Some text ↦ word_of (address_in text) | None ↦ Other ]
+        | None ↦ elim (behind (codes "word ") line) [
+          | Some text ↦ word_of (address_in text)
+          | None ↦ elim (behind (codes "back ") line) [ Some text ↦ back_of (decimal_in text) | None ↦ Other ]
+        ]
       ]
     ]
   ]
@@ -71,7 +79,13 @@ command_of line = elim (bytes_eq line []) [
         | true ↦ Registers
         | false ↦ elim (bytes_eq line (codes "where")) [
           | true ↦ Where
-          | false ↦ elim (bytes_eq line (codes "quit")) [ true ↦ Quit | false ↦ numbered line ]
+          | false ↦ elim (bytes_eq line (codes "quit")) [
+            | true ↦ Quit
+            | false ↦ elim (bytes_eq line (codes "back")) [
+              | true ↦ Back 1
+              | false ↦ elim (bytes_eq line (codes "rgo")) [ true ↦ ReverseGo | false ↦ numbered line ]
+            ]
+          ]
         ]
       ]
     ]

@@ -7,7 +7,7 @@ use Rattle.joint_replay.specs.Examples.{code, end, crossed, relay}
 use Rattle.step_debugger.specs.declared.error.DebugError.{DebugError}
 use Rattle.step_debugger.specs.declared.error.DebugError.TheVariants.{Joint}
 use Rattle.step_debugger.specs.declared.command.Command.{Command}
-use Rattle.step_debugger.specs.declared.command.Command.TheVariants.{Empty, Hart, Step, Go, Break, Unbreak, Registers, Word, Where, Quit}
+use Rattle.step_debugger.specs.declared.command.Command.TheVariants.{Empty, Hart, Step, Go, Back, ReverseGo, Break, Unbreak, Registers, Word, Where, Quit}
 use Rattle.step_debugger.specs.Commands.{command_of}
 use Rattle.step_debugger.specs.Lines.{Input, input_of, input_from}
 use Rattle.step_debugger.specs.Transcript.{Told, transcript}
@@ -19,17 +19,17 @@ commands_of lines = map command_of lines
 -- each command
 abbrev pub command_lines : List (List ℕ)
 command_lines = codes "hart 1" ∷ codes "step" ∷ codes "step 20" ∷ codes "step 1000000" ∷ codes "step 0000001" ∷ codes "go" ∷ codes "break 1005c"
-    ∷ codes "break 0x0001005C" ∷ codes "unbreak 1" ∷ codes "regs" ∷ codes "word FFFFFFFC" ∷ codes "where" ∷ codes "quit" ∷ [] ∷ []
+    ∷ codes "break 0x0001005C" ∷ codes "unbreak 1" ∷ codes "regs" ∷ codes "word FFFFFFFC" ∷ codes "where" ∷ codes "quit" ∷ [] ∷ codes "back" ∷ codes "back 1000000" ∷ codes "back 0000020" ∷ codes "rgo" ∷ []
 
 abbrev pub their_commands : List Command
 their_commands = Hart 1 ∷ Step 1 ∷ Step 20 ∷ Step 1000000 ∷ Step 1 ∷ Go ∷ Break 0x1005c
-    ∷ Break 0x1005c ∷ Unbreak 1 ∷ Registers ∷ Word 0xfffffffc ∷ Where ∷ Quit ∷ Empty ∷ []
+    ∷ Break 0x1005c ∷ Unbreak 1 ∷ Registers ∷ Word 0xfffffffc ∷ Where ∷ Quit ∷ Empty ∷ Back 1 ∷ Back 1000000 ∷ Back 20 ∷ ReverseGo ∷ []
 
 -- lines that are no command: numbers that are too great, too long, negative, signed or missing; addresses with nine digits, with
 -- `0X`, without a digit, with another sign; words that aren't parted by one space, in another case, or followed by a CR or a tab
 abbrev pub other_lines : List (List ℕ)
 other_lines = codes "step 0" ∷ codes "step 1000001" ∷ codes "step 00000001" ∷ codes "step -1" ∷ codes "step +1" ∷ codes "step " ∷ codes "step  1" ∷ codes "step 1 "
-    ∷ codes "step a" ∷ codes "hart" ∷ codes "hart 12345678" ∷ codes "hart -0" ∷ codes "break" ∷ codes "break 123456789" ∷ codes "break 0x123456789"
+    ∷ codes "step a" ∷ codes "back 0" ∷ codes "back 1000001" ∷ codes "back  1" ∷ codes "back -1" ∷ codes "Back" ∷ codes "rgo 1" ∷ codes "rgo " ∷ codes "hart" ∷ codes "hart 12345678" ∷ codes "hart -0" ∷ codes "break" ∷ codes "break 123456789" ∷ codes "break 0x123456789"
     ∷ codes "break 0X10054" ∷ codes "break 0x" ∷ codes "break 1g" ∷ codes "unbreak -4" ∷ codes "word 20001" ∷ codes "word 0x20002" ∷ codes "Go" ∷ codes " go" ∷ codes "go "
     ∷ (codes "go" ++ 13 ∷ []) ∷ (codes "step" ++ 9 ∷ codes "1") ∷ (0 ∷ []) ∷ codes "?" ∷ []
 
@@ -58,6 +58,34 @@ leaving_told = record {
 
 abbrev pub leaving_session : Told
 leaving_session = session leaving (codes "step\nbreak 1005c\ngo\nword 20000\nwhere\ngo\nquit\n")
+
+-- all its steps, and ways back: by two, and from breakpoint to breakpoint
+abbrev pub returning_told : Told
+returning_told = record {
+  text = codes "0 0 00010054 00500513 addi a0,zero,5 | a0=00000005\n"
+      ++ codes "0 1 00010058 05d00893 addi a7,zero,93 | a7=0000005d\n"
+      ++ codes "0 2 0001005c 00000073 ecall\n"
+      ++ codes "at 1\n"
+      ++ codes "0 1 00010058 ready\n"
+      ++ codes "0 1 00010058 05d00893 addi a7,zero,93 | a7=0000005d\n"
+      ++ codes "break 00010054\n"
+      ++ codes "stop 0 0 00010054\n"
+      ++ codes "start\n";
+  result = Ok (tt {0});
+}
+
+abbrev pub returning_session : Told
+returning_session = session leaving (codes "step 3\nback 2\nwhere\nstep\nbreak 10054\nrgo\nrgo\nquit\n")
+
+-- from the start there is no way back, and a great number leads there
+abbrev pub starting_told : Told
+starting_told = record {
+  text = codes "at 0\n" ++ codes "start\n" ++ codes "0 0 00010054 00500513 addi a0,zero,5 | a0=00000005\n" ++ codes "at 0\n" ++ codes "0 0 00010054 ready\n";
+  result = Ok (tt {0});
+}
+
+abbrev pub starting_session : Told
+starting_session = session leaving (codes "back\nrgo\nstep\nback 1000000\nwhere\nquit\n")
 
 -- breakpoints that are set, and that aren't; a go from a breakpoint goes on; an end without `quit`, and without LF
 abbrev pub breaking_told : Told

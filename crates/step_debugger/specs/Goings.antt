@@ -5,7 +5,8 @@ use Rattle.bn_outside.specs.Counts.{Rose}
 use Rattle.bn_outside.specs.Streams.{AppendsPart}
 use Rattle.joint_replay.specs.declared.error.JointError.{JointError}
 use Rattle.joint_replay.specs.declared.error.JointError.TheVariants as joint
-use Rattle.joint_replay.specs.Joining.{Joining, readiness, choice, next_step, steps_left}
+use Rattle.joint_replay.specs.Joining.{readiness, choice, steps_left}
+use Rattle.back_step.specs.Traces.{Trace, trace_step}
 use Rattle.step_debugger.specs.declared.error.DebugError.{DebugError}
 use Rattle.step_debugger.specs.declared.error.DebugError.TheVariants.{WriteFault, OutOfMemory}
 use Rattle.step_debugger.specs.declared.session.Ending.{Ending}
@@ -27,19 +28,19 @@ done_by (Ok u) = Ok GoesOn
 done_by (Err e) = Err OutOfMemory
 
 -- moves that end there
-abbrev pub ended : List ℕ → Joining → Ending → Moves
+abbrev pub ended : List ℕ → Trace → Ending → Moves
 ended text now ending = record { text = text; now = now; ends = ending }
 
 -- one step of a hart is done and told, whatever follows; or the steps end there; or memory is wanting
-abbrev pub StepsOnce : Joining → ℕ → Result (Option Ending) DebugError → Joining → (text now_text : List ℕ) → Type 0
-StepsOnce old h (Ok None) new text now_text = (piece : List ℕ) × (now_text ≡ text ++ piece) × ((go : Joining → Moves) → step_by old h (readiness old h) (next_step old h) go ≡ after piece (go new))
-StepsOnce old h (Ok (Some ending)) new text now_text = (piece : List ℕ) × (now_text ≡ text ++ piece) × ((go : Joining → Moves) → step_by old h (readiness old h) (next_step old h) go ≡ ended piece new ending)
+abbrev pub StepsOnce : Trace → ℕ → Result (Option Ending) DebugError → Trace → (text now_text : List ℕ) → Type 0
+StepsOnce old h (Ok None) new text now_text = (piece : List ℕ) × (now_text ≡ text ++ piece) × ((go : Trace → Moves) → step_by old h (readiness old.now h) (trace_step old h) go ≡ after piece (go new))
+StepsOnce old h (Ok (Some ending)) new text now_text = (piece : List ℕ) × (now_text ≡ text ++ piece) × ((go : Trace → Moves) → step_by old h (readiness old.now h) (trace_step old h) go ≡ ended piece new ending)
 StepsOnce old h (Err e) new text now_text = e ≡ OutOfMemory
 
 -- one step of the lowest ready hart is done, whatever follows; or the steps end there; or memory is wanting
-abbrev pub GoesOnce : Bool → List ℕ → Joining → Result (Option Ending) DebugError → Joining → (text now_text : List ℕ) → Type 0
-GoesOnce first breaks old (Ok None) new text now_text = (now_text ≡ text) × (steps_left new.lanes + 1 ≡ steps_left old.lanes) × ((go : Joining → Moves) → go_by first breaks old (choice old) go ≡ go new)
-GoesOnce first breaks old (Ok (Some ending)) new text now_text = (piece : List ℕ) × (now_text ≡ text ++ piece) × ((go : Joining → Moves) → go_by first breaks old (choice old) go ≡ ended piece new ending)
+abbrev pub GoesOnce : Bool → List ℕ → Trace → Result (Option Ending) DebugError → Trace → (text now_text : List ℕ) → Type 0
+GoesOnce first breaks old (Ok None) new text now_text = (now_text ≡ text) × (steps_left new.now.lanes + 1 ≡ steps_left old.now.lanes) × ((go : Trace → Moves) → go_by first breaks old (choice old.now) go ≡ go new)
+GoesOnce first breaks old (Ok (Some ending)) new text now_text = (piece : List ℕ) × (now_text ≡ text ++ piece) × ((go : Trace → Moves) → go_by first breaks old (choice old.now) go ≡ ended piece new ending)
 GoesOnce first breaks old (Err e) new text now_text = e ≡ OutOfMemory
 
 -- ---- what is sent
@@ -62,23 +63,27 @@ Gathers text P written now_written before now waiting (Err e) = AppendsPart writ
 
 -- ---- a session, by its parts
 
-abbrev pub session_of : Joining → Desk → Session
-session_of j d = record { now = j; hart = d.hart; breaks = d.breaks.items }
+abbrev pub session_of : Trace → Desk → Session
+session_of t d = record { trace = t; hart = d.hart; breaks = d.breaks.items }
 
 -- a command that isn't a step is told
-pub record Says (a : Answer) (j : Joining) (d : Desk) (text now_text : List ℕ) : Type 0 where
+pub record Says (a : Answer) (t : Trace) (d : Desk) (text now_text : List ℕ) : Type 0 where
   pub told : now_text ≡ text ++ a.text
-  pub session : session_of j d ≡ a.session
+  pub session : session_of t d ≡ a.session
+
+-- moves were made and told, or memory was wanting
+abbrev pub MovesBy : Moves → Result Ending DebugError → Trace → (text now_text : List ℕ) → Type 0
+MovesBy m (Ok ending) new text now_text = (now_text ≡ text ++ m.text) × (new ≡ m.now) × (ending ≡ m.ends)
+MovesBy m (Err e) new text now_text = e ≡ OutOfMemory
 
 -- all harts stepped up to a breakpoint, or memory was wanting
-abbrev pub Goes : List ℕ → Joining → Result Ending DebugError → Joining → (text now_text : List ℕ) → Type 0
-Goes breaks old (Ok ending) new text now_text = let m : Moves = go_on true breaks old in (now_text ≡ text ++ m.text) × (new ≡ m.now) × (ending ≡ m.ends)
-Goes breaks old (Err e) new text now_text = e ≡ OutOfMemory
+abbrev pub Goes : List ℕ → Trace → Result Ending DebugError → Trace → (text now_text : List ℕ) → Type 0
+Goes breaks old result new text now_text = MovesBy (go_on true breaks old) result new text now_text
 
 -- ---- commands
 
 -- what a hart's steps print is put behind a text
-abbrev pub TellsSteps : ℕ → ℕ → (old new : Joining) → (text now_text : List ℕ) → (written now_written : Option (List ℕ)) → (before now : ℕ) → Result Ending DebugError → Type 0
+abbrev pub TellsSteps : ℕ → ℕ → (old new : Trace) → (text now_text : List ℕ) → (written now_written : Option (List ℕ)) → (before now : ℕ) → Result Ending DebugError → Type 0
 TellsSteps h count old new text now_text written now_written before now result =
     let m : Moves = step_up_to h count old in Gathers (text ++ m.text) (λ ending. (new ≡ m.now) × (ending ≡ m.ends)) written now_written before now now_text result
 

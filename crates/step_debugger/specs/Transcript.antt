@@ -4,6 +4,7 @@ use Rattle.std.specs.Io.KnownBytes.{Appends, Consumes}
 use Rattle.bn_outside.specs.Counts.{Rose}
 use Rattle.bn_outside.specs.Streams.{AppendsPart, ConsumesAll}
 use Rattle.joint_replay.specs.Joining.{Joining}
+use Rattle.back_step.specs.Traces.{Trace, at_start}
 use Rattle.step_debugger.specs.declared.error.DebugError.{DebugError}
 use Rattle.step_debugger.specs.declared.error.DebugError.TheVariants.{ReadFault, WriteFault, LineTooLong, TooMuch, OutOfMemory}
 use Rattle.step_debugger.specs.declared.error.DebugError.TheVariants as why
@@ -11,7 +12,7 @@ use Rattle.step_debugger.specs.declared.session.Ending.{Ending}
 use Rattle.step_debugger.specs.declared.session.Ending.TheVariants.{GoesOn, Quits, Refused}
 use Rattle.step_debugger.specs.Commands.{command_of}
 use Rattle.step_debugger.specs.Lines.{Input, input_of}
-use Rattle.step_debugger.specs.Answers.{Session, Answer, begin, says, answer}
+use Rattle.step_debugger.specs.Answers.{Session, Answer, begin_at, says, answer}
 
 -- the answer behind another
 abbrev pub behind : List ℕ → Answer → Answer
@@ -44,49 +45,53 @@ result_by GoesOn (Some e) = Err e
 result_by Quits refused = Ok (tt {0})
 result_by (Refused e) refused = Err (why.Joint e)
 
--- a session with the joint replay from where that stands, and these commands
+-- a session from where a joint replay stands, with the way that it came, and these commands
+abbrev pub transcript_from : Trace → Input → Told
+transcript_from t input = let a : Answer = answers (lines_in input) (begin_at t) in record { text = a.text; result = result_by a.ends input.refused }
+
+-- one with a joint replay that begins there
 abbrev pub transcript : Joining → Input → Told
-transcript j input = let a : Answer = answers (lines_in input) (begin j) in record { text = a.text; result = result_by a.ends input.refused }
+transcript j input = transcript_from (at_start j) input
 
 -- ---- what a session does
 
 -- the bytes end with the line that ended the session: none of those behind it is gone
-pub record EndsThere (j : Joining) (gone : List ℕ) (e : Ending) : Type 0 where
+pub record EndsThere (t : Trace) (gone : List ℕ) (e : Ending) : Type 0 where
   pub front : List (List ℕ)
   pub line : List ℕ
   pub lines : (input_of gone).lines ≡ front ++ line ∷ []
   pub last : (input_of gone).last ≡ []
-  pub before : (answers front (begin j)).ends ≡ GoesOn
-  pub there : (answers (front ++ line ∷ []) (begin j)).ends ≡ e
+  pub before : (answers front (begin_at t)).ends ≡ GoesOn
+  pub there : (answers (front ++ line ∷ []) (begin_at t)).ends ≡ e
 
 -- all bytes are gone, and no line of them that ends with LF ended the session: what stands behind the last LF may have
-pub record EndsAll (j : Joining) (left now_left : Option (List ℕ)) (gone : List ℕ) : Type 0 where
+pub record EndsAll (t : Trace) (left now_left : Option (List ℕ)) (gone : List ℕ) : Type 0 where
   pub all : ConsumesAll left now_left gone
-  pub before : (answers (input_of gone).lines (begin j)).ends ≡ GoesOn
+  pub before : (answers (input_of gone).lines (begin_at t)).ends ≡ GoesOn
 
 -- a session ends as its transcript does, and its text is written: at the line that ended it, or at the end of its source, or
 -- since no more lines are read. Or a read failed before, and the whole lines before that are answered; or a write failed, or
 -- memory was wanting, and a front of the text is written
-abbrev pub Debugs : Joining → (gone : List ℕ) → (left now_left : Option (List ℕ)) → (read_before read_now : ℕ) → (written now_written : Option (List ℕ)) → (before now : ℕ) → Result (Unit {0}) DebugError → Type 0
-Debugs j gone left now_left read_before read_now written now_written before now (Ok u) =
-    let t : Told = transcript j (input_of gone) in
-    (t.result ≡ Ok (tt {0})) × Appends written now_written t.text × (EndsThere j gone Quits ⊎ EndsAll j left now_left gone)
-Debugs j gone left now_left read_before read_now written now_written before now (Err (why.Joint e)) =
-    let t : Told = transcript j (input_of gone) in
-    (t.result ≡ Err (why.Joint e)) × Appends written now_written t.text × (EndsThere j gone (Refused e) ⊎ EndsAll j left now_left gone)
-Debugs j gone left now_left read_before read_now written now_written before now (Err ReadFault) =
-    let a : Answer = answers (input_of gone).lines (begin j) in
+abbrev pub Debugs : Trace → (gone : List ℕ) → (left now_left : Option (List ℕ)) → (read_before read_now : ℕ) → (written now_written : Option (List ℕ)) → (before now : ℕ) → Result (Unit {0}) DebugError → Type 0
+Debugs t gone left now_left read_before read_now written now_written before now (Ok u) =
+    let told : Told = transcript_from t (input_of gone) in
+    (told.result ≡ Ok (tt {0})) × Appends written now_written told.text × (EndsThere t gone Quits ⊎ EndsAll t left now_left gone)
+Debugs t gone left now_left read_before read_now written now_written before now (Err (why.Joint e)) =
+    let told : Told = transcript_from t (input_of gone) in
+    (told.result ≡ Err (why.Joint e)) × Appends written now_written told.text × (EndsThere t gone (Refused e) ⊎ EndsAll t left now_left gone)
+Debugs t gone left now_left read_before read_now written now_written before now (Err ReadFault) =
+    let a : Answer = answers (input_of gone).lines (begin_at t) in
     (a.ends ≡ GoesOn) × ((input_of gone).refused ≡ None) × Appends written now_written a.text × Rose read_before read_now
-Debugs j gone left now_left read_before read_now written now_written before now (Err WriteFault) =
-    AppendsPart written now_written (transcript j (input_of gone)).text × Rose before now
-Debugs j gone left now_left read_before read_now written now_written before now (Err OutOfMemory) =
-    AppendsPart written now_written (transcript j (input_of gone)).text
-Debugs j gone left now_left read_before read_now written now_written before now (Err e) =
-    let t : Told = transcript j (input_of gone) in
-    (t.result ≡ Err e) × Appends written now_written t.text
+Debugs t gone left now_left read_before read_now written now_written before now (Err WriteFault) =
+    AppendsPart written now_written (transcript_from t (input_of gone)).text × Rose before now
+Debugs t gone left now_left read_before read_now written now_written before now (Err OutOfMemory) =
+    AppendsPart written now_written (transcript_from t (input_of gone)).text
+Debugs t gone left now_left read_before read_now written now_written before now (Err e) =
+    let told : Told = transcript_from t (input_of gone) in
+    (told.result ≡ Err e) × Appends written now_written told.text
 
 -- bytes of the source are gone, and they are the commands
-pub record Debugged (j : Joining) (left now_left : Option (List ℕ)) (read_before read_now : ℕ) (written now_written : Option (List ℕ)) (before now : ℕ) (result : Result (Unit {0}) DebugError) : Type 0 where
+pub record Debugged (t : Trace) (left now_left : Option (List ℕ)) (read_before read_now : ℕ) (written now_written : Option (List ℕ)) (before now : ℕ) (result : Result (Unit {0}) DebugError) : Type 0 where
   pub gone : List ℕ
   pub taken : Consumes left now_left gone
-  pub done : Debugs j gone left now_left read_before read_now written now_written before now result
+  pub done : Debugs t gone left now_left read_before read_now written now_written before now result

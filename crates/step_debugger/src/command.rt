@@ -12,6 +12,10 @@ pub enum Command {
     Step(u32),
     /// All harts step, up to a breakpoint.
     Go,
+    /// So many steps back.
+    Back(u32),
+    /// Back to the latest step that was at a breakpoint.
+    ReverseGo,
     /// A breakpoint is added.
     Break(Addr),
     /// A breakpoint is taken out.

@@ -6,12 +6,12 @@ use crate::desk::Desk;
 use crate::error::DebugError;
 use crate::lines::LineReader;
 use crate::session::{Ending, answer};
+use back_step::Trail;
 use bn_outside::{Sink, Source};
-use joint_replay::Joint;
 use rv_text::Text;
 use std::alloc::Global;
 
-/// Reads commands from `input`, a line each, does them on the joint replay, and writes their answers
+/// Reads commands from `input`, a line each, does them on a joint replay with its trail, and writes their answers
 /// to `out`, each as soon as its command is done.
 ///
 /// It is `Ok` after the command `quit`, of which nothing behind is read, and at the end of the input.
@@ -20,11 +20,11 @@ use std::alloc::Global;
 /// that stand.
 pub fn debug<I: Source, O: Sink>(
     alloc: Global,
-    joint: &mut Joint,
+    trail: &mut Trail,
     input: &mut I,
     out: &mut O,
 ) -> Result<(), DebugError>
-    ensures told { Debugged joint.old (I.left input.old) (I.left input.new) (I.faults input.old) (I.faults input.new)
+    ensures told { Debugged trail.old.trace (I.left input.old) (I.left input.new) (I.faults input.old) (I.faults input.new)
         (O.written out.old) (O.written out.new) (O.faults out.old) (O.faults out.new) result }
     ensures read { I.faults input.old ≤ I.faults input.new }
     ensures later { O.faults out.old ≤ O.faults out.new }
@@ -39,7 +39,7 @@ pub fn debug<I: Source, O: Sink>(
         match reader.next(input) {
             Err(error) => return Err(error),
             Ok(whole) => {
-                match answer(alloc, joint, &mut desk, reader.line(), &mut text, out) {
+                match answer(alloc, trail, &mut desk, reader.line(), &mut text, out) {
                     Err(error) => return Err(error),
                     Ok(ending) => match ending {
                         Ending::GoesOn => {

@@ -5,7 +5,7 @@ ghost use Rattle.step_debugger.specs.declared.command.Command.TheVariants.{Other
 ghost use Rattle.step_debugger.specs.declared.error.DebugError.TheVariants.{LineTooLong, TooMuch};
 ghost use Rattle.step_debugger.specs.Lines.{ends_in, with_line};
 ghost use Rattle.step_debugger.specs.Examples.{commands_of, command_lines, their_commands, other_lines, refusal_of, long_line, last_bytes};
-ghost use Rattle.step_debugger.specs.Examples.{leaving_session, leaving_told, breaking_session, breaking_told, relay_session, relay_told, crossed_session, crossed_told};
+ghost use Rattle.step_debugger.specs.Examples.{leaving_session, leaving_told, returning_session, returning_told, starting_session, starting_told, breaking_session, breaking_told, relay_session, relay_told, crossed_session, crossed_told};
 
 /// Each command.
 #[tactic(auto, using(crate::proofs::Worked::commands_read))]
@@ -23,6 +23,13 @@ pub fn other_lines_are_none()
 #[tactic(auto, using(crate::proofs::Worked::leaving_is))]
 pub fn a_session_is_told()
     ensures { leaving_session ≡ leaving_told }
+{}
+
+/// Steps, and ways back to a position, to a breakpoint and to the start.
+#[tactic(auto, using(crate::proofs::Worked::returning_is, crate::proofs::Worked::starting_is))]
+pub fn ways_back_are_told()
+    ensures back { returning_session ≡ returning_told }
+    ensures start { starting_session ≡ starting_told }
 {}
 
 /// Breakpoints are added once, and taken out once; the first step of a go passes them.

@@ -10,11 +10,14 @@ mod lines;
 mod moves;
 mod numbers;
 mod parse;
+mod returns;
 mod sending;
 mod session;
+mod stop;
 mod texts;
 
 pub use command::Command;
 pub use debugger::debug;
 pub use error::DebugError;
 pub use session::Ending;
+pub use stop::Stop;

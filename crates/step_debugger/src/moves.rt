@@ -10,6 +10,7 @@ ghost use Rattle.step_debugger.specs.Goings.{refused_by, StepsOnce, GoesOnce};
 use crate::error::DebugError;
 use crate::session::Ending;
 use crate::texts::{push_stop, push_waits};
+use back_step::Trail;
 use bn_base::{Addr, HartId, HartState, Ic, List};
 use joint_replay::{Coming, Joint, JointError, Next, Readiness, write_step};
 use rv_text::Text;
@@ -59,11 +60,11 @@ fn refused_by(error: JointError) -> Result<Ending, DebugError>
 }
 
 // Takes a step of a hart that is ready, and tells it.
-fn step_told(joint: &mut Joint, hart: HartId, text: &mut Text) -> Result<Option<Ending>, DebugError>
-    requires { readiness joint.old hart ≡ Ready }
-    ensures { StepsOnce joint.old hart result joint.new text.old text.new }
+fn step_told(trail: &mut Trail, hart: HartId, text: &mut Text) -> Result<Option<Ending>, DebugError>
+    requires { readiness trail.old.trace.now hart ≡ Ready }
+    ensures { StepsOnce trail.old.trace hart result trail.new.trace text.old text.new }
 {
-    match joint.step(hart) {
+    match trail.step(hart) {
         Ok(stepped) => match write_step(&stepped, text) {
             Ok(()) => Ok(None),
             Err(_) => Err(DebugError::OutOfMemory),
@@ -78,14 +79,14 @@ fn step_told(joint: &mut Joint, hart: HartId, text: &mut Text) -> Result<Option<
 /// One more step of a hart: it is told. Where it isn't ready the steps end there, and it is told what
 /// it waits for.
 pub(crate) fn step_once(
-    joint: &mut Joint,
+    trail: &mut Trail,
     hart: HartId,
     text: &mut Text,
 ) -> Result<Option<Ending>, DebugError>
-    ensures { StepsOnce joint.old hart result joint.new text.old text.new }
+    ensures { StepsOnce trail.old.trace hart result trail.new.trace text.old text.new }
 {
-    match ready(joint, hart) {
-        Readiness::Ready => step_told(joint, hart, text),
+    match ready(trail.joint(), hart) {
+        Readiness::Ready => step_told(trail, hart, text),
         Readiness::Waits { hart: source, ic } => match push_waits(text, source, ic) {
             Ok(()) => Ok(Some(Ending::GoesOn)),
             Err(_) => Err(DebugError::OutOfMemory),
@@ -157,21 +158,21 @@ fn positions(alloc: Global, joint: &Joint) -> Result<List<(HartId, Ic)>, AllocEr
 
 // One more step of the lowest ready hart, or the stop before it.
 fn go_past(
-    joint: &mut Joint,
+    trail: &mut Trail,
     hart: HartId,
     first: bool,
     breaks: &[Addr],
     text: &mut Text,
 ) -> Result<Option<Ending>, DebugError>
-    requires { choice joint.old ≡ Hart hart }
-    ensures { GoesOnce first breaks.now joint.old result joint.new text.old text.new }
+    requires { choice trail.old.trace.now ≡ Hart hart }
+    ensures { GoesOnce first breaks.now trail.old.trace result trail.new.trace text.old text.new }
 {
-    match stop_unless(first, breaks, joint, hart) {
+    match stop_unless(first, breaks, trail.joint(), hart) {
         Some(at) => match push_stop(text, hart, at.0, at.1) {
             Ok(()) => Ok(Some(Ending::GoesOn)),
             Err(_) => Err(DebugError::OutOfMemory),
         },
-        None => match joint.step(hart) {
+        None => match trail.step(hart) {
             Ok(_) => Ok(None),
             Err(error) => match refused_by(error) {
                 Ok(ending) => Ok(Some(ending)),
@@ -184,22 +185,22 @@ fn go_past(
 /// One more step of the lowest ready hart, which isn't told; or how the steps end.
 pub(crate) fn go_once(
     alloc: Global,
-    joint: &mut Joint,
+    trail: &mut Trail,
     first: bool,
     breaks: &[Addr],
     text: &mut Text,
 ) -> Result<Option<Ending>, DebugError>
-    ensures { GoesOnce first breaks.now joint.old result joint.new text.old text.new }
+    ensures { GoesOnce first breaks.now trail.old.trace result trail.new.trace text.old text.new }
 {
-    match joint.next() {
+    match trail.joint().next() {
         Next::AllDone => match text.push_str("done\n") {
             Ok(()) => Ok(Some(Ending::GoesOn)),
             Err(_) => Err(DebugError::OutOfMemory),
         },
-        Next::NoneReady => match positions(alloc, joint) {
+        Next::NoneReady => match positions(alloc, trail.joint()) {
             Ok(positions) => Ok(Some(Ending::Refused(JointError::Stuck { positions }))),
             Err(_) => Err(DebugError::OutOfMemory),
         },
-        Next::Hart(hart) => go_past(joint, hart, first, breaks, text),
+        Next::Hart(hart) => go_past(trail, hart, first, breaks, text),
     }
 }

@@ -1,7 +1,7 @@
 //! Which line is which command.
 ghost use Rattle.std.specs.Prelude.{◌≡◌, Some, None, MatchOption};
 ghost use Rattle.std.specs.Str.{bytes_eq};
-ghost use Rattle.step_debugger.specs.Commands.{behind, decimal_in, address_in, hart_of, step_of, break_of, unbreak_of, word_of, numbered, command_of};
+ghost use Rattle.step_debugger.specs.Commands.{behind, decimal_in, address_in, hart_of, step_of, back_of, break_of, unbreak_of, word_of, numbered, command_of};
 
 use crate::command::Command;
 use crate::numbers::number_of;
@@ -59,6 +59,21 @@ fn step_of(number: Option<u32>) -> Command
     }
 }
 
+fn back_of(number: Option<u32>) -> Command
+    ensures { result ≡ back_of number }
+{
+    match number {
+        None => Command::Other,
+        Some(count) => {
+            if 0 < count && count <= 1_000_000 {
+                Command::Back(count)
+            } else {
+                Command::Other
+            }
+        }
+    }
+}
+
 fn break_of(number: Option<Addr>) -> Command
     ensures { result ≡ break_of number }
 {
@@ -106,7 +121,10 @@ fn numbered(line: &[u8]) -> Command
                     Some(text) => unbreak_of(address_in(text)),
                     None => match behind(b"word ", line) {
                         Some(text) => word_of(address_in(text)),
-                        None => Command::Other,
+                        None => match behind(b"back ", line) {
+                            Some(text) => back_of(decimal_in(text)),
+                            None => Command::Other,
+                        },
                     },
                 },
             },
@@ -130,6 +148,10 @@ pub(crate) fn command_of(line: &[u8]) -> Command
         Command::Where
     } else if is_same(line, b"quit") {
         Command::Quit
+    } else if is_same(line, b"back") {
+        Command::Back(1)
+    } else if is_same(line, b"rgo") {
+        Command::ReverseGo
     } else {
         numbered(line)
     }

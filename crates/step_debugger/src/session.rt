@@ -10,8 +10,10 @@ use crate::desk::Desk;
 use crate::error::DebugError;
 use crate::moves::{go_once, pc_at, ready, state, step_once};
 use crate::parse::command_of;
+use crate::returns::{back, back_to_stop};
 use crate::sending::{send, send_block};
 use crate::texts::{push_address, push_half, push_hart, push_hart_done, push_place, push_word};
+use back_step::Trail;
 use bn_base::{Addr, HartId};
 use bn_outside::Sink;
 use joint_replay::{Joint, JointError};
@@ -31,10 +33,10 @@ pub enum Ending {
 // ---- the chosen hart and the breakpoints
 
 // Chooses a hart.
-fn choose(joint: &Joint, desk: &mut Desk, number: u32, text: &mut Text) -> Result<(), AllocError>
-    ensures { OnOk result (Says (choose (session_of joint.now desk.old) number) joint.now desk.new text.old text.new) }
+fn choose(trail: &Trail, desk: &mut Desk, number: u32, text: &mut Text) -> Result<(), AllocError>
+    ensures { OnOk result (Says (choose (session_of trail.now.trace desk.old) number) trail.now.trace desk.new text.old text.new) }
 {
-    if number < u32::from(joint.harts()) {
+    if number < u32::from(trail.joint().harts()) {
         desk.hart = number as u8;
         push_hart(text, desk.hart)
     } else {
@@ -50,8 +52,8 @@ fn is_set(desk: &Desk, addr: Addr) -> bool
 }
 
 // Adds a breakpoint.
-fn add_break(joint: &Joint, desk: &mut Desk, addr: Addr, text: &mut Text) -> Result<(), AllocError>
-    ensures { OnOk result (Says (add_break (session_of joint.now desk.old) addr) joint.now desk.new text.old text.new) }
+fn add_break(trail: &Trail, desk: &mut Desk, addr: Addr, text: &mut Text) -> Result<(), AllocError>
+    ensures { OnOk result (Says (add_break (session_of trail.now.trace desk.old) addr) trail.now.trace desk.new text.old text.new) }
 {
     if is_set(desk, addr) {
         push_address(text, "break ", addr)
@@ -71,8 +73,8 @@ fn take_out(breaks: &mut Vec<Addr>, addr: Addr)
 }
 
 // Takes out a breakpoint.
-fn take_break(joint: &Joint, desk: &mut Desk, addr: Addr, text: &mut Text) -> Result<(), AllocError>
-    ensures { OnOk result (Says (take_break (session_of joint.now desk.old) addr) joint.now desk.new text.old text.new) }
+fn take_break(trail: &Trail, desk: &mut Desk, addr: Addr, text: &mut Text) -> Result<(), AllocError>
+    ensures { OnOk result (Says (take_break (session_of trail.now.trace desk.old) addr) trail.now.trace desk.new text.old text.new) }
 {
     if is_set(desk, addr) {
         take_out(&mut desk.breaks, addr);
@@ -128,17 +130,17 @@ fn push_places(joint: &Joint, text: &mut Text) -> Result<(), AllocError>
 
 // A hart steps up to so many times.
 fn step_up_to<O: Sink>(
-    joint: &mut Joint,
+    trail: &mut Trail,
     hart: HartId,
     count: u32,
     text: &mut Text,
     out: &mut O,
 ) -> Result<Ending, DebugError>
-    ensures sent { TellsSteps hart count joint.old joint.new text.old text.new (O.written out.old) (O.written out.new) (O.faults out.old) (O.faults out.new) result }
+    ensures sent { TellsSteps hart count trail.old.trace trail.new.trace text.old text.new (O.written out.old) (O.written out.new) (O.faults out.old) (O.faults out.new) result }
     ensures later { O.faults out.old ≤ O.faults out.new }
 {
     for done in 0..count {
-        match step_once(joint, hart, text) {
+        match step_once(trail, hart, text) {
             Err(error) => return Err(error),
             Ok(Some(ending)) => return Ok(ending),
             Ok(None) => match send_block(text, out) {
@@ -153,15 +155,15 @@ fn step_up_to<O: Sink>(
 // All harts step, the lowest ready one first, up to a breakpoint.
 fn go(
     alloc: Global,
-    joint: &mut Joint,
+    trail: &mut Trail,
     breaks: &[Addr],
     text: &mut Text,
 ) -> Result<Ending, DebugError>
-    ensures { Goes breaks.now joint.old result joint.new text.old text.new }
+    ensures { Goes breaks.now trail.old.trace result trail.new.trace text.old text.new }
 {
     let mut first = true;
     'steps: loop {
-        match go_once(alloc, joint, first, breaks, text) {
+        match go_once(alloc, trail, first, breaks, text) {
             Err(error) => return Err(error),
             Ok(Some(ending)) => return Ok(ending),
             Ok(None) => first = false,
@@ -184,26 +186,28 @@ fn done(written: Result<(), AllocError>) -> Result<Ending, DebugError>
 // Does a command. Its answer is put behind what waits of the text.
 fn perform<O: Sink>(
     alloc: Global,
-    joint: &mut Joint,
+    trail: &mut Trail,
     desk: &mut Desk,
     command: Command,
     text: &mut Text,
     out: &mut O,
 ) -> Result<Ending, DebugError>
-    ensures sent { Performs command (session_of joint.old desk.old) (session_of joint.new desk.new) text.old text.new
+    ensures sent { Performs command (session_of trail.old.trace desk.old) (session_of trail.new.trace desk.new) text.old text.new
         (O.written out.old) (O.written out.new) (O.faults out.old) (O.faults out.new) result }
     ensures later { O.faults out.old ≤ O.faults out.new }
 {
     match command {
         Command::Empty => Ok(Ending::GoesOn),
-        Command::Hart(number) => done(choose(joint, desk, number, text)),
-        Command::Step(count) => step_up_to(joint, desk.hart, count, text, out),
-        Command::Go => go(alloc, joint, &desk.breaks, text),
-        Command::Break(addr) => done(add_break(joint, desk, addr, text)),
-        Command::Unbreak(addr) => done(take_break(joint, desk, addr, text)),
-        Command::Registers => done(push_registers(joint, desk.hart, text)),
-        Command::Word(addr) => done(push_word(text, addr, joint.word(addr))),
-        Command::Where => done(push_places(joint, text)),
+        Command::Hart(number) => done(choose(trail, desk, number, text)),
+        Command::Step(count) => step_up_to(trail, desk.hart, count, text, out),
+        Command::Go => go(alloc, trail, &desk.breaks, text),
+        Command::Back(count) => back(trail, count, text),
+        Command::ReverseGo => back_to_stop(trail, &desk.breaks, text),
+        Command::Break(addr) => done(add_break(trail, desk, addr, text)),
+        Command::Unbreak(addr) => done(take_break(trail, desk, addr, text)),
+        Command::Registers => done(push_registers(trail.joint(), desk.hart, text)),
+        Command::Word(addr) => done(push_word(text, addr, trail.joint().word(addr))),
+        Command::Where => done(push_places(trail.joint(), text)),
         Command::Quit => Ok(Ending::Quits),
         Command::Other => done(text.push_str("?\n")),
     }
@@ -212,18 +216,18 @@ fn perform<O: Sink>(
 /// Does the command that a line is, and sends its answer.
 pub(crate) fn answer<O: Sink>(
     alloc: Global,
-    joint: &mut Joint,
+    trail: &mut Trail,
     desk: &mut Desk,
     line: &[u8],
     text: &mut Text,
     out: &mut O,
 ) -> Result<Ending, DebugError>
-    ensures sent { IsAnswered line.now (session_of joint.old desk.old) (session_of joint.new desk.new)
+    ensures sent { IsAnswered line.now (session_of trail.old.trace desk.old) (session_of trail.new.trace desk.new)
         (O.written out.old) (O.written out.new) (O.faults out.old) (O.faults out.new) result }
     ensures later { O.faults out.old ≤ O.faults out.new }
 {
     text.clear();
-    match perform(alloc, joint, desk, command_of(line), text, out) {
+    match perform(alloc, trail, desk, command_of(line), text, out) {
         Err(error) => Err(error),
         Ok(ending) => match send(text, out) {
             Ok(()) => Ok(ending),

@@ -1,6 +1,6 @@
 //! The lines that the debugger prints.
 ghost use Rattle.std.specs.Prelude.{◌≡◌, ◌<◌, ◌++◌, OnOk};
-ghost use Rattle.step_debugger.specs.Answers.{point_text, hart_text, waits_text, stop_text, address_text, word_text, register_text, two_text, four_text, half_text, pc_text, readiness_text, place_text, hart_done_text};
+ghost use Rattle.step_debugger.specs.Answers.{point_text, hart_text, waits_text, stop_text, at_text, address_text, word_text, register_text, two_text, four_text, half_text, pc_text, readiness_text, place_text, hart_done_text};
 
 use bn_base::{Addr, HartId, Ic, Register, Registers};
 use joint_replay::Readiness;
@@ -45,6 +45,16 @@ pub(crate) fn push_stop(text: &mut Text, hart: HartId, ic: Ic, pc: Addr) -> Resu
     push_point(text, hart, ic)?;
     text.push_str(" ")?;
     text.push_hex8(pc)?;
+    text.push_str("\n")
+}
+
+/// The line of a position that was gone back to.
+#[tactic(auto, unfolding(crate::specs::Answers::at_text))]
+pub(crate) fn push_position(text: &mut Text, position: u64) -> Result<(), AllocError>
+    ensures { OnOk result (text.new ≡ text.old ++ at_text position) }
+{
+    text.push_str("at ")?;
+    text.push_decimal(position)?;
     text.push_str("\n")
 }
 

@@ -10,4 +10,4 @@ returns c s i elf input b r d known e h n v found =
     let same = c.files_say_the_run.ensures s i elf input b r d known e in
     let kept : interval_of h n (kept_of s (run_of s i input b)) ≡ Some v = sym (ap (λ (x : Content). interval_of h n x.records) same) ∙ found in
     ap (λ (x : Content). replayed i x.records h n) same
-    ∙ c.the_log_suffices.ensures s i input b h n (omega (arith, r.setting.format_low, r.setting.format_high)) (omega (arith, r.setting.limit_high)) (record { legal = r.legal; over = r.over }) v kept
+    ∙ c.the_log_suffices.ensures s i input b h n (omega (arith, r.setting.limit_high)) (record { legal = r.legal; over = r.over }) v kept

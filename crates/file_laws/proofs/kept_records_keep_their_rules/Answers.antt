@@ -8,6 +8,6 @@ use Rattle.file_laws.proofs.kept_records_keep_their_rules.Goals as goal
 pub returns : goal.returns
 returns c s i input rows setting lawful =
     let order : OrderLaws = record { more = c.one_more_is_kept.ensures; header = c.an_awaited_header_follows.ensures; other = c.loads_and_conditionals_follow.ensures; edge = c.an_edge_follows.ensures; ends = c.an_end_follows.ensures } in
-    let laws : Laws = record { order = order; listed = c.listed_edges_are_all.ensures.all; moves = c.each_turn_moves_on.ensures; fits = c.each_turn_fits.ensures; others = c.others_stay_fit.ensures; guards = c.format_1_is_unguarded.ensures } in
+    let laws : Laws = record { order = order; listed = c.listed_edges_are_all.ensures.all; moves = c.each_turn_moves_on.ensures; fits = c.each_turn_fits.ensures; others = c.others_stay_fit.ensures; guarded = c.guarded_asks_fit.ensures } in
     kept_rules c.a_suffix_is_kept.ensures c.the_first_are_given_up.ensures c.kept_records_keep_the_rules.ensures s _
     (rows_kept laws s i (start s i input) rows setting (started order c.no_records_are_kept.ensures s i input setting) lawful)

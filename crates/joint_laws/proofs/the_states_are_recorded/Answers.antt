@@ -8,5 +8,5 @@ returns-clause-done c = has_states (λ r records order w log b. followed r recor
 
 pub returns-clause-shown : goal.returns-clause-shown
 returns-clause-shown c =
-    has_shown_states c.intervals_begin_in_the_run.ensures c.rows_tell_runs.ensures
+    has_shown_states c.intervals_begin_in_the_run.ensures c.beginnings_tell_states.ensures c.rows_tell_runs.ensures
     (λ r records order w log b. followed r records c.ends_suffice.ensures c.interval_rows_are_of_turns.ensures log order w b)

@@ -4,5 +4,5 @@ use Rattle.replay_laws.proofs.the_rows_of_an_interval_stand_together.Goals as go
 pub returns : goal.returns
 returns c =
     let instructions = c.each_instruction_is_counted_or_asks.ensures in
-    let known : Known = record { counts = instructions.counted; passing = instructions.asks; orderly = c.each_ask_is_orderly.ensures.orderly; guards = c.format_1_is_unguarded.ensures; exits = c.exits_alone_end.ensures } in
+    let known : Known = record { counts = instructions.counted; passing = instructions.asks; orderly = c.each_ask_is_orderly.ensures.orderly; exits = c.exits_alone_end.ensures } in
     togetherness known

@@ -12,10 +12,10 @@ pub returns-in-Ok-clause-told : goal.returns-in-Ok-clause-told
 returns-in-Ok-clause-told g c = λ go.
     let known = g.S.Store.files c.args.store.now in
     let names = c.args.names.now in
-    made-loaded JointReading (by_reading go) known names Log 268500992 c.in-Ok.log c.pair_with.result (λ files log what. IsPairOf go files names log what) c.in-Ok.ensures.told
+    made-loaded JointReading (by_reading go) known names Log 272629760 c.in-Ok.log c.pair_with.result (λ files log what. IsPairOf go files names log what) c.in-Ok.ensures.told
     (subst (λ (k : Option Files). WithFiles k (λ files. GivesOf (by_reading go) names (λ f. IsPairOf go f names c.in-Ok.log.items) files c.pair_with.result)) c.in-Ok.ensures.same
     (rw c.deref.ensures.value at (c.pair_with.ensures.told go)))
 
 pub returns-in-Err-clause-told : goal.returns-in-Err-clause-told
 returns-in-Err-clause-told g c = λ go.
-    made-stopped JointReading (by_reading go) (g.S.Store.files c.args.store.now) c.args.names.now Log 268500992 c.in-Err.refusal (λ files log what. IsPairOf go files c.args.names.now log what) c.in-Err.ensures.told
+    made-stopped JointReading (by_reading go) (g.S.Store.files c.args.store.now) c.args.names.now Log 272629760 c.in-Err.refusal (λ files log what. IsPairOf go files c.args.names.now log what) c.in-Err.ensures.told

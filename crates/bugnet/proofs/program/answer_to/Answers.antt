@@ -1,7 +1,10 @@
-use Rattle.std.proofs.Common.{◌≡◌}
+use Rattle.std.proofs.Common.{◌≡◌, ap, inr}
 use Rattle.demo_run.specs.Demonstration.{demo_text}
-use Rattle.bugnet.specs.Told.{Told, printed}
+use Rattle.bugnet.specs.Names.{FileNames}
+use Rattle.bugnet.specs.Told.{Told, refused, printed}
+use Rattle.bugnet.specs.declared.refusal.Refusal.TheVariants.{WordsRefused}
 use Rattle.bugnet.proofs.Loads.{record-answers, gives-any}
+use Rattle.bugnet.proofs.Tells.{with-any}
 use Rattle.bugnet.proofs.program.answer_to.Goals as goal
 
 pub returns-in-Record-clause-told : goal.returns-in-Record-clause-told

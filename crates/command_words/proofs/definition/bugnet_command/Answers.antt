@@ -4,7 +4,7 @@ use Rattle.clap.specs.Words.{App}
 use Rattle.clap.specs.Simple.{app_of_fields}
 use Rattle.clap.specs.declared.builder.command.Command.{Command}
 use Rattle.clap.specs.declared.builder.command.Command.TheOpen.{Command-F}
-use Rattle.command_words.specs.App.{IsSeenAs, record_app, replay_app, pair_app, log_app, audit_app, demo_app, top_app}
+use Rattle.command_words.specs.App.{IsSeenAs, record_app, replay_app, pair_app, log_app, audit_app, races_app, slice_app, new_log_app, demo_app, top_app}
 use Rattle.command_words.proofs.Chain.{more_sub}
 use Rattle.command_words.proofs.definition.bugnet_command.Goals as goal
 
@@ -22,4 +22,8 @@ returns c =
     let s5 = more_sub _ (log_app (codes "list")) c.in_ok-command-5.ensures c.in_ok-log_command.ensures s4 in
     let s6 = more_sub _ (log_app (codes "check")) c.in_ok-command-6.ensures c.in_ok-log_command-2.ensures s5 in
     let s7 = more_sub _ audit_app c.in_ok-command-7.ensures c.in_ok-audit_command.ensures s6 in
-    IfOk-weaker c.subcommand-8.result _ _ (λ r h. more_sub _ demo_app h c.in_ok-demo_command.ensures s7) c.subcommand-8.ensures
+    let s8 = more_sub _ races_app c.in_ok-command-8.ensures c.in_ok-races_command.ensures s7 in
+    let s9 = more_sub _ slice_app c.in_ok-command-9.ensures c.in_ok-slice_command.ensures s8 in
+    let s10 = more_sub _ (new_log_app (codes "convert")) c.in_ok-command-10.ensures c.in_ok-new_log_command.ensures s9 in
+    let s11 = more_sub _ (new_log_app (codes "salvage")) c.in_ok-command-11.ensures c.in_ok-new_log_command-2.ensures s10 in
+    IfOk-weaker c.subcommand-12.result _ _ (λ r h. more_sub _ demo_app h c.in_ok-demo_command.ensures s11) c.subcommand-12.ensures

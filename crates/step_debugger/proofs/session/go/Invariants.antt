@@ -6,9 +6,9 @@ use Rattle.step_debugger.proofs.session.go.Given as goal
 abbrev pub invariant-steps : goal.invariant-steps
 invariant-steps l = record {
   same : l.text ≡ l.fn.text;
-  rest : go_on l.first l.breaks l.joint ≡ go_on true l.breaks l.fn.joint;
+  rest : go_on l.first l.breaks l.trail.trace ≡ go_on true l.breaks l.fn.trail.trace;
 }
 
 -- the steps that are left
 abbrev pub decreases-steps : goal.decreases-steps
-decreases-steps l = steps_left l.joint.lanes
+decreases-steps l = steps_left l.trail.trace.now.lanes

@@ -4,4 +4,4 @@ use Rattle.step_debugger.proofs.Sent.{SoFar}
 use Rattle.step_debugger.proofs.session.step_up_to.Given as goal
 
 abbrev pub invariant-loop-done : goal.invariant-loop-done
-invariant-loop-done g l = SoFar l.fn.text (step_up_to l.hart l.count l.fn.joint) (step_up_to l.hart (l.count - l.done) l.joint) l.text (g.O.Sink.written l.fn.out) (g.O.Sink.written l.out) (g.O.Sink.faults l.fn.out) (g.O.Sink.faults l.out)
+invariant-loop-done g l = SoFar l.fn.text (step_up_to l.hart l.count l.fn.trail.trace) (step_up_to l.hart (l.count - l.done) l.trail.trace) l.text (g.O.Sink.written l.fn.out) (g.O.Sink.written l.out) (g.O.Sink.faults l.fn.out) (g.O.Sink.faults l.out)

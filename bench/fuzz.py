@@ -1,0 +1,437 @@
+#!/usr/bin/env python3
+"""Gives the program logs and program files that nobody recorded, and looks at how each is answered.
+
+bench/fuzz.py [COUNT [SEED [PROCESSES [SECONDS]]]], at most so many seconds by the clock
+
+First come all fronts and all flipped bits of a small log, with its digest and with one made anew, and of a small
+program file with a log made for it. Then COUNT files (10,000) made from recordings of examples/: bits flipped,
+bytes cut out or put in, records left out, doubled, exchanged, put in or changed in a field, fronts and ends of two
+logs put together, settings changed, with the digest made anew or not; and program files with bytes changed, under
+logs that say their digest.
+
+A log is given to `check`; one that it takes also to `list`, `replay`, `joint`, `debug` and, with a drawn list of
+turns, to `audit`, and one that it refuses also to one of these. A program file is given to `replay`, `joint`, `debug` and `record`. Each call has to
+end by itself, with a status that its command has, one line on err that fits the status, within SECONDS of
+processor time and BYTES of memory; and `check` has to say what bench/verdict.py says.
+
+It prints how many calls of each command had which status, the longest and the largest, and ends with 1 where a
+call was answered otherwise; such a file is kept, and its name and words are printed.
+"""
+
+import collections
+import multiprocessing
+import os
+import random
+import re
+import signal
+import struct
+import sys
+import time
+
+import forge
+import verdict
+
+TOP = os.path.dirname(os.path.dirname(os.path.realpath(__file__)))
+PROGRAM = os.environ.get("ZELKUMA_PROGRAM", f"{TOP}/crates/bugnet_main/out/bugnet_main")
+SECONDS, BYTES, PATIENCE = 1.0, 64 << 20, 30
+KEPT = "/tmp/fuzz-kept"
+LOADING = {0, 6, 7, 8}
+STATUSES = {
+    "check": {0, 7},
+    "list": {0, 7},
+    "replay": LOADING | {14, 15},
+    "joint": LOADING | {15},
+    "debug": LOADING | {15, 18},
+    "audit": LOADING | {16, 17},
+    "record": {0, 6, 10, 11},
+}
+DIGEST, N = "[0-9a-f]{64}", r"\d+"
+MARK = rf"{N} \w+ [0-9a-f]{{8}}"
+LINES = {
+    6: rf"elf: (NotElf|NotRv32|NotStatic|NeedsCompressed|NeedsE|NoSegment|(TooMany|Outside) {N}|"
+    rf"(Truncated|SegmentsTouch) {N} {N}|EntryOutside [0-9a-f]{{8}})",
+    7: rf"log: (BadMagic|(Short|BadVersion|BadRecord) {N}|(BadHead|LengthDiffers|BadOrder) {N} {N}|"
+    rf"DigestDiffers {DIGEST} {DIGEST})",
+    8: f"program differs: {DIGEST} {DIGEST}",
+    14: f"no interval {N} {N}",
+    15: rf"replay: (LoadMissing {N} {N} [0-9a-f]{{8}}|ScMissing {N} {N}|RecordsLeft {N} {N}|"
+    rf"EndDiffers {N} {MARK} {MARK}|Stuck( {N}:{N})+)",
+    16: f"differs at {N}",
+    17: f"book: (turn {N} hart {N}|unfinished {N})",
+    18: "(line|commands) too long",
+}
+LINES = {status: re.compile(f"bugnet: {line}\n") for status, line in LINES.items()}
+NUMBERS = (0, 1, 2, 3, 7, 8, 9, 255, 2**16, 2**31, 2**32 - 1, 2**40, 2**41, 2**41 + 1, 2**63, 2**64 - 1)
+# The fields of a record by its tag: place and size.
+FIELDS = {
+    1: ((1, 1), (2, 8), (10, 8), (18, 4), (22, 4), (58, 4), (62, 4)),
+    2: ((1, 1), (2, 4), (6, 4)),
+    3: ((1, 1),),
+    4: ((1, 1),),
+    5: ((1, 1), (2, 8), (10, 1), (11, 8)),
+    6: ((1, 1), (2, 8), (10, 1), (11, 4)),
+}
+HEAD_FIELDS = ((12, 4), (16, 4), (20, 8), (28, 4), (32, 4), (36, 4), (40, 4), (44, 4), (80, 8), (8, 4))
+
+
+# ---- one call of the program
+
+
+class Calls:
+    """Calls of the program in a folder of their own, and what came of them."""
+
+    def __init__(self, folder):
+        self.folder = folder
+        self.statuses = collections.Counter()
+        self.kinds = collections.Counter()
+        self.longest, self.largest = (0.0, ""), (0, "")
+        self.wrong = []
+        os.makedirs(folder, exist_ok=True)
+
+    def path(self, name):
+        return f"{self.folder}/{name}"
+
+    def write(self, name, data):
+        with open(self.path(name), "wb") as file:
+            file.write(data)
+
+    def spawn(self, words, out):
+        """Runs the program, and returns how it ended, and what it took; None where it didn't end."""
+        create = os.O_WRONLY | os.O_CREAT | os.O_TRUNC
+        files = [
+            (os.POSIX_SPAWN_OPEN, 0, self.path("keys"), os.O_RDONLY, 0),
+            (os.POSIX_SPAWN_OPEN, 1, out, create, 0o600),
+            (os.POSIX_SPAWN_OPEN, 2, self.path("err"), create, 0o600),
+        ]
+        pid = os.posix_spawn(PROGRAM, ["bugnet", *words], {}, file_actions=files)
+        signal.signal(signal.SIGALRM, lambda *_: os.kill(pid, signal.SIGKILL))
+        signal.setitimer(signal.ITIMER_REAL, PATIENCE)
+        _, ended, used = os.wait4(pid, 0)
+        signal.setitimer(signal.ITIMER_REAL, 0)
+        return ended, used
+
+    def run(self, *words, out="/dev/null"):
+        """Runs a command, looks at how it ended, and returns its status and its line on err."""
+        ended, used = self.spawn(words, out)
+        with open(self.path("err"), encoding="utf-8") as file:
+            line = file.read()
+        seconds, size = used.ru_utime + used.ru_stime, used.ru_maxrss << 10
+        self.longest = max(self.longest, (seconds, " ".join(words)))
+        self.largest = max(self.largest, (size, " ".join(words)))
+        if not os.WIFEXITED(ended):
+            self.tell(words, f"ended by signal {os.WTERMSIG(ended)}")
+            return None, line
+        status = os.WEXITSTATUS(ended)
+        self.statuses[words[0], status] += 1
+        self.look(words, status, line)
+        if seconds > SECONDS or size > BYTES:
+            self.tell(words, f"took {seconds:.2f} seconds and {size} bytes")
+        return status, line
+
+    def look(self, words, status, line):
+        """Tells a status that the command doesn't have, and a line that doesn't fit it."""
+        if words[0] == "record" and status in (0, 10, 11):
+            return
+        if status == 0:
+            good = line == ""
+        else:
+            good = status in LINES and LINES[status].fullmatch(line)
+            self.kinds[status, " ".join(line.split(" ")[1:3]).rstrip()] += 1
+        if status not in STATUSES[words[0]] or not good:
+            self.tell(words, f"status {status}: {line!r}")
+
+    def tell(self, words, what):
+        os.makedirs(KEPT, exist_ok=True)
+        place = f"{KEPT}/{os.getpid()}-{len(self.wrong)}"
+        for name in ("LOG", "ELF", "BOOK", "keys"):
+            if os.path.exists(self.path(name)):
+                os.system(f"cp {self.path(name)} {place}-{name}")
+        self.wrong.append(f"{place}: {' '.join(words)}: {what}")
+
+    def numbers(self):
+        return self.statuses, self.kinds, self.longest, self.largest, self.wrong
+
+
+# ---- what is made of recordings
+
+
+def recordings(folder):
+    """Returns logs with their program files, of each example by several settings."""
+    calls, found = Calls(folder), []
+    calls.write("keys", b"")
+    calls.write("input", b"a few words, and a few words more\n")
+    for name in sorted(os.listdir(f"{TOP}/examples")):
+        if name.endswith(".elf"):
+            with open(f"{TOP}/examples/{name}", "rb") as file:
+                elf = file.read()
+            for harts, limit, interval, small in ((1, 400, 100, 4096), (2, 300, 60, 2048), (4, 120, 50, 1024)):
+                words = ("--harts", harts, "--limit", limit, "--interval", interval, "--input", calls.path("input"))
+                names = (f"{TOP}/examples/{name}", calls.path("LOG"), calls.path("BOOK"))
+                calls.spawn(("record", "--seed", str(len(found)), *map(str, words), *names), "/dev/null")
+                with open(calls.path("LOG"), "rb") as file:
+                    found.append((kept_end(file.read(), small), elf))
+    return found
+
+
+def kept_end(data, size):
+    """Returns a log of the last records of one, so many bytes at most: as if the others were given up."""
+    head, records = forge.parts(data)
+    left = forge.split(records)
+    dropped = struct.unpack_from("<Q", head, 80)[0]
+    while sum(map(len, left)) > size:
+        left.pop(0)
+        dropped += 1
+    records = b"".join(left)
+    return resealed(head[:80] + struct.pack("<Q", dropped) + head[88:], records)
+
+
+def resealed(head, records):
+    return forge.sealed(head[:88] + struct.pack("<I", len(records) % 2**32) + records)
+
+
+def other_number(draw, old, size):
+    return draw.choice((*NUMBERS, old + 1, old - 1, old * 2, draw.getrandbits(64))) % 2 ** (8 * size)
+
+
+def put(data, at, size, draw):
+    """Returns the data with another number at a place."""
+    old = int.from_bytes(data[at : at + size], "little")
+    return data[:at] + other_number(draw, old, size).to_bytes(size, "little") + data[at + size :]
+
+
+def flipped(draw, data):
+    changed = bytearray(data)
+    for _ in range(draw.choice((1, 1, 1, 2, 8))):
+        changed[draw.randrange(len(data))] ^= 1 << draw.randrange(8)
+    return bytes(changed)
+
+
+def patched(draw, data):
+    """Returns the data with some bytes left out, put in or exchanged."""
+    first, size = draw.randrange(len(data)), draw.randrange(40)
+    new = draw.choice((b"", draw.randbytes(size), data[:size]))
+    return data[:first] + new + data[first + draw.choice((0, size)) :]
+
+
+def made_record(draw, records):
+    """Returns a record: one of a log with another number in a field, or one drawn."""
+    if records and draw.random() < 0.7:
+        entry = draw.choice(records)
+        at, size = draw.choice(FIELDS[entry[0]])
+        return put(entry, at, size, draw)
+    tag = draw.choice(tuple(FIELDS))
+    return bytes((tag, draw.randrange(9))) + draw.randbytes(forge.SIZES[tag] - 2)
+
+
+def changed_records(draw, records, others):
+    """Returns the records of a log with some of them changed."""
+    found = list(records)
+    place = draw.randrange(len(found) + 1)
+    way = draw.randrange(7)
+    if way == 0:
+        del found[place : place + draw.choice((1, 1, 2, 5))]
+    elif way == 1:
+        found[place:place] = found[place : place + draw.choice((1, 1, 2, 5))]
+    elif way == 2:
+        found[place : place + 2] = reversed(found[place : place + 2])
+    elif way == 3:
+        found.insert(place, made_record(draw, found))
+    elif way == 4 and place < len(found):
+        at, size = draw.choice(FIELDS[found[place][0]])
+        found[place] = put(found[place], at, size, draw)
+    elif way == 5:
+        found[place:] = others[draw.randrange(len(others) + 1) :]
+    else:
+        found = found[place:]
+    return found
+
+
+def mutated_log(draw, pool):
+    """Returns a log that was made of recordings, and the program file of one of them."""
+    (data, elf), (other, _) = draw.choice(pool), draw.choice(pool)
+    head, records = forge.parts(data)
+    way = draw.randrange(10)
+    if way == 0:
+        return flipped(draw, data), elf
+    if way == 1:
+        return patched(draw, data), elf
+    if way == 2:
+        return data[: draw.randrange(len(data))], elf
+    if way == 3:
+        return forge.sealed(flipped(draw, data[:-32])), elf
+    if way == 4:
+        return forge.sealed(patched(draw, data[:-32])), elf
+    if way == 5:
+        at, size = draw.choice(HEAD_FIELDS)
+        return forge.sealed(put(data[:-32], at, size, draw)), elf
+    found = forge.split(records)
+    for _ in range(draw.choice((1, 1, 1, 2, 3))):
+        found = changed_records(draw, found, forge.split(forge.parts(other)[1]))
+    if draw.random() < 0.4:
+        head = head[:80] + struct.pack("<Q", draw.choice((0, 1, 2**64 - 1))) + head[88:]
+    return resealed(head, b"".join(found)), elf
+
+
+def mutated_elf(draw, pool):
+    """Returns a program file that was made of an example, and the log of one with its digest."""
+    data, elf = draw.choice(pool)
+    way = draw.randrange(4)
+    if way == 0:
+        elf = flipped(draw, elf)
+    elif way == 1:
+        elf = patched(draw, elf)
+    else:
+        size, count = draw.choice(((2, 18), (4, 26)))
+        elf = put(elf, 16 + draw.randrange(count) * size, size, draw)
+    return data[:48] + forge.digest(elf) + data[80:-32], elf
+
+
+def keys_of(draw):
+    """Returns commands of a session."""
+    lines = []
+    for _ in range(draw.randrange(12)):
+        line = draw.choice(("step", "step 3", "step 1000000", "go", "regs", "where", "hart %d", "break %x",
+                            "unbreak %x", "word %x", "quit", "", "?", "x" * draw.choice((255, 256, 257))))
+        number = draw.choice((draw.randrange(9), 0x10000 + 4 * draw.randrange(256), draw.getrandbits(32)))
+        lines.append(line % number if "%" in line else line)
+    return "\n".join(lines).encode() + draw.choice((b"\n", b""))
+
+
+# ---- what each file is given to
+
+
+def reader_words(draw, calls, data):
+    """Returns the words of a replay of one of a log's intervals, or of one that isn't there."""
+    headers = [entry for entry in forge.split(data[92:-32]) if entry[0] == 1]
+    hart, interval = draw.choice(NUMBERS), draw.choice(NUMBERS)
+    if headers and draw.random() < 0.9:
+        entry = draw.choice(headers)
+        hart, interval = entry[1], struct.unpack_from("<Q", entry, 2)[0]
+    return ("replay", calls.path("LOG"), calls.path("ELF"), str(hart), str(interval))
+
+
+def readers(draw, calls, data):
+    """Returns the words of each command but `check` that reads a log."""
+    calls.write("BOOK", bytes(draw.choice((0, 0, 0, 1, draw.randrange(9))) for _ in range(draw.randrange(200))))
+    names = calls.path("LOG"), calls.path("ELF")
+    audit = ("audit", *names, calls.path("BOOK"))
+    return [("list", names[0]), reader_words(draw, calls, data), ("joint", *names), ("debug", *names), audit]
+
+
+def give_log(draw, calls, data, elf):
+    calls.write("LOG", data)
+    calls.write("ELF", elf)
+    calls.write("keys", keys_of(draw))
+    try:
+        said, wanted = verdict.line_of(data) + "\n", 0
+    except verdict.Refused as refusal:
+        said, wanted = f"bugnet: {refusal}\n", 7
+    status, line = calls.run("check", calls.path("LOG"), out=calls.path("out"))
+    if status == 0:
+        with open(calls.path("out"), encoding="utf-8") as file:
+            line = file.read()
+    if (status, line) != (wanted, said):
+        calls.tell(("check",), f"{status} {line!r} for {wanted} {said!r}")
+    given = readers(draw, calls, data)
+    if status == 0:
+        for words in given:
+            calls.run(*words)
+    elif calls.run(*draw.choice(given)) != (wanted, said):
+        calls.tell(("check",), "another command says otherwise")
+
+
+def give_elf(draw, calls, signed, elf):
+    data = forge.sealed(signed)
+    calls.write("LOG", data)
+    calls.write("ELF", elf)
+    calls.write("keys", keys_of(draw))
+    for words in readers(draw, calls, data)[1:]:
+        calls.run(*words)
+    limits = ("--limit", "2000", "--interval", "500", "--harts", str(draw.randrange(1, 9)))
+    names = calls.path("ELF"), calls.path("LOG2"), calls.path("BOOK2")
+    calls.run("record", "--seed", str(draw.randrange(9)), *limits, *names)
+
+
+def give_small(calls):
+    """Gives all fronts and flipped bits of a small log and of a small program file."""
+    draw = random.Random(0)
+    elf = forge.program(0x00500513, 0x05D00893, 0x73)
+    data = forge.log(elf, forge.begun(0) + forge.end(0, 3, forge.EXIT, 5))
+    for length in range(len(data)):
+        give_log(draw, calls, data[:length], elf)
+    for bit in range(8 * len(data)):
+        changed = bytearray(data)
+        changed[bit // 8] ^= 1 << bit % 8
+        give_log(draw, calls, bytes(changed), elf)
+        if bit < 8 * (len(data) - 32):
+            give_log(draw, calls, forge.sealed(bytes(changed[:-32])), elf)
+    for bit in range(8 * len(elf)):
+        changed = bytearray(elf)
+        changed[bit // 8] ^= 1 << bit % 8
+        give_elf(draw, calls, data[:48] + forge.digest(changed) + data[80:-32], bytes(changed))
+    for length in range(len(elf)):
+        give_elf(draw, calls, data[:48] + forge.digest(elf[:length]) + data[80:-32], elf[:length])
+
+
+# ---- all of them
+
+
+def work(share):
+    first, end, seed = share
+    folder = f"/dev/shm/fuzz-{os.getpid()}"
+    calls = Calls(folder)
+    pool = recordings(folder)
+    if first == 0:
+        give_small(calls)
+    for place in range(first, end):
+        draw = random.Random(seed << 40 | place)
+        if draw.random() < 0.85:
+            give_log(draw, calls, *mutated_log(draw, pool))
+        else:
+            give_elf(draw, calls, *mutated_elf(draw, pool))
+    os.system(f"rm -rf {folder}")
+    return end - first, *calls.numbers()
+
+
+def told(counted):
+    """Prints what came of all calls."""
+    _, statuses, kinds, longest, largest, wrong = counted
+    for command in STATUSES:
+        each = [f"{status}: {count}" for (word, status), count in sorted(statuses.items()) if word == command]
+        print(f"{command}: {', '.join(each)}")
+    for (status, kind), count in sorted(kinds.items()):
+        print(f"  {status} {kind}: {count}")
+    print(f"the longest took {longest[0]:.2f} seconds: {longest[1]}")
+    print(f"the largest took {largest[0]} bytes: {largest[1]}")
+    print(f"{sum(statuses.values())} calls, {len(wrong)} answered otherwise")
+    print("".join(f"{line}\n" for line in wrong[:50]), end="")
+
+
+def merged(results, until):
+    """Returns what came of all files whose results come before a moment."""
+    files, statuses, kinds, longest, largest, wrong = 0, collections.Counter(), collections.Counter(), (0.0, ""), (0, ""), []
+    for one in results:
+        files += one[0]
+        statuses += one[1]
+        kinds += one[2]
+        longest, largest = max(longest, one[3]), max(largest, one[4])
+        wrong += one[5]
+        print(f"{files} files, {sum(statuses.values())} calls, {len(wrong)} answered otherwise", file=sys.stderr, flush=True)
+        if time.time() > until:
+            break
+    return files, statuses, kinds, longest, largest, wrong
+
+
+def main(words):
+    count, seed, processes, seconds = map(int, [*words, *("10000", "1", "1", "1000000")[len(words) :]])
+    step = 2000
+    shares = [(first, min(first + step, count), seed) for first in range(0, max(count, 1), step)]
+    with multiprocessing.Pool(processes) as pool:
+        counted = merged(pool.imap_unordered(work, shares), time.time() + seconds)
+    print(f"{counted[0]} files of seed {seed}, and the small ones")
+    told(counted)
+    sys.exit(1 if counted[5] else 0)
+
+
+if __name__ == "__main__":
+    main(sys.argv[1:])

@@ -1,0 +1,103 @@
+/* Refuses one call that a program makes of the C library: for LD_PRELOAD (bench/refused.py).
+ *
+ * REFUSE=KIND:N refuses the Nth call of a kind: `alloc` (room for bytes), `open`, `read` or `write`; with the kind
+ * `short` the Nth read or write of several bytes moves one. REFUSE_TOLD=FILE gets the number of calls of the kind.
+ */
+#define _GNU_SOURCE
+#include <errno.h>
+#include <fcntl.h>
+#include <stdarg.h>
+#include <stdatomic.h>
+#include <stdlib.h>
+#include <string.h>
+#include <sys/syscall.h>
+#include <sys/uio.h>
+#include <unistd.h>
+
+static char kind[16];
+static unsigned long wanted;
+static _Atomic unsigned long count;
+
+__attribute__((constructor)) static void begin(void) {
+    const char *said = getenv("REFUSE");
+    const char *colon = said ? strchr(said, ':') : NULL;
+    if (colon && colon - said < (long)sizeof kind) {
+        memcpy(kind, said, colon - said);
+        wanted = strtoul(colon + 1, NULL, 10);
+    }
+}
+
+static void tell(void) {
+    const char *name = getenv("REFUSE_TOLD");
+    if (name) {
+        unsigned long number = count;
+        int file = syscall(SYS_openat, AT_FDCWD, name, O_WRONLY | O_CREAT | O_TRUNC, 0600);
+        syscall(SYS_write, file, &number, sizeof number);
+    }
+}
+
+/* The program ends by this call, or by the return of main. */
+void _exit(int status) {
+    tell();
+    for (;;) syscall(SYS_exit_group, status);
+}
+
+__attribute__((destructor)) static void end(void) { tell(); }
+
+/* Whether this call of a kind is the one to be refused. */
+static int is_refused(const char *called) {
+    return kind[0] == called[0] && !strcmp(kind, called) && ++count == wanted;
+}
+
+
+extern void *__libc_malloc(size_t), *__libc_calloc(size_t, size_t), *__libc_realloc(void *, size_t), *__libc_memalign(size_t, size_t);
+
+void *malloc(size_t size) { return is_refused("alloc") ? (errno = ENOMEM, NULL) : __libc_malloc(size); }
+
+void *calloc(size_t some, size_t size) { return is_refused("alloc") ? (errno = ENOMEM, NULL) : __libc_calloc(some, size); }
+
+void *realloc(void *room, size_t size) { return is_refused("alloc") ? (errno = ENOMEM, NULL) : __libc_realloc(room, size); }
+
+void *aligned_alloc(size_t align, size_t size) { return is_refused("alloc") ? (errno = ENOMEM, NULL) : __libc_memalign(align, size); }
+
+int posix_memalign(void **room, size_t align, size_t size) {
+    if (is_refused("alloc")) return ENOMEM;
+    *room = __libc_memalign(align, size);
+    return *room ? 0 : ENOMEM;
+}
+
+ssize_t read(int file, void *room, size_t size) {
+    if (is_refused("read")) return errno = EIO, -1;
+    return syscall(SYS_read, file, room, size > 1 && is_refused("short") ? 1 : size);
+}
+
+ssize_t write(int file, const void *bytes, size_t size) {
+    if (is_refused("write")) return errno = EIO, -1;
+    return syscall(SYS_write, file, bytes, size > 1 && is_refused("short") ? 1 : size);
+}
+
+ssize_t __write(int file, const void *bytes, size_t size) { return write(file, bytes, size); }
+
+ssize_t writev(int file, const struct iovec *parts, int number) {
+    if (is_refused("write")) return errno = EIO, -1;
+    if (number > 0 && parts[0].iov_len > 1 && is_refused("short")) return syscall(SYS_write, file, parts[0].iov_base, 1);
+    return syscall(SYS_writev, file, parts, number);
+}
+
+int openat(int folder, const char *name, int flags, ...) {
+    va_list rest;
+    va_start(rest, flags);
+    int mode = va_arg(rest, int);
+    va_end(rest);
+    if (is_refused("open")) return errno = EIO, -1;
+    return syscall(SYS_openat, folder, name, flags, mode);
+}
+
+int open(const char *name, int flags, ...) {
+    va_list rest;
+    va_start(rest, flags);
+    int mode = va_arg(rest, int);
+    va_end(rest);
+    if (is_refused("open")) return errno = EIO, -1;
+    return syscall(SYS_openat, AT_FDCWD, name, flags, mode);
+}

@@ -1,0 +1,164 @@
+#!/usr/bin/env python3
+"""Runs the built program with one call of the system or of the C library refused, for each such call in turn.
+
+bench/refused.py [MOST]: for each command, at most so many calls of a kind (400) are refused, evenly chosen where
+there are more. The kinds: `alloc`, room for bytes isn't given; `open`, `read`, `write` fail; `short`, a read or a
+write of several bytes moves one. bench/refuse.c does it, in front of the C library.
+
+Each run has to end with the status of a run that nothing was refused, and then with its texts and files, or else:
+
+| refused | status | line on err | out | files |
+|---|---|---|---|---|
+| `alloc` | 9 | `out of memory` | a front of the text | none but LOG or LOG and BOOK saved |
+| `open`, `read` | 3; 12 where a session's commands are read | `store failed: NAME`; `read failed` | nothing; the answers before | as before |
+| `write` | 13; 3 where a file is saved | `write failed`; `store failed: NAME` | a front of the text | all saved; LOG at most |
+| `short` | | | | |
+
+It prints how many runs of each command ended with which status, and ends with 1 where one ended otherwise.
+"""
+
+import collections
+import os
+import subprocess
+import sys
+import tempfile
+
+import forge
+
+TOP = os.path.dirname(os.path.dirname(os.path.realpath(__file__)))
+PROGRAM = os.environ.get("ZELKUMA_PROGRAM", f"{TOP}/crates/bugnet_main/out/bugnet_main")
+KINDS = ("alloc", "open", "read", "write", "short")
+# Two harts: hart 0 loads a word twice, hart 1 has four bytes read into it.
+CODE = (0x00020437, 0x00051A63, 0x00042283, 0x00042303, 0x05D00893, 0x00000073, 0x00000513, 0x00040593, 0x00400613,
+        0x03F00893, 0x00000073, 0x05D00893, 0x00000073)
+RECORD = ("record", "--harts", "2", "--input", "IN", "ELF", "LOG", "BOOK")
+COMMANDS = {
+    "record --seed 1": (*RECORD, "--seed", "1"),
+    "record": RECORD,
+    "record --lean": (*RECORD, "--lean"),
+    "check": ("check", "KEPT"),
+    "list": ("list", "KEPT"),
+    "replay": ("replay", "KEPT", "ELF", "1", "1"),
+    "joint": ("joint", "KEPT", "ELF"),
+    "debug": ("debug", "KEPT", "ELF"),
+    "audit": ("audit", "KEPT", "ELF", "TURNS", "--input", "IN"),
+    "demo": ("demo", "7"),
+}
+SESSION = b"where\nstep 2\nregs\nbreak 10064\ngo\nword 20000\nunbreak 10064\ngo\nwhere\nquit\n"
+# The status of a refused call, and how its line begins.
+SAID = {
+    "alloc": {9: "bugnet: out of memory\n"},
+    "open": {3: "bugnet: store failed: "},
+    "read": {3: "bugnet: store failed: ", 12: "bugnet: read failed\n"},
+    "write": {3: "bugnet: store failed: ", 13: "bugnet: write failed\n"},
+    "short": {},
+}
+
+
+class Ran:
+    """What a run left: its status, out, err and the files that it may save; and how many calls of the kind it made."""
+
+    def __init__(self, folder, words, kind="alloc", number=0):
+        for name in ("LOG", "BOOK"):
+            write(f"{folder}/{name}", b"old")
+        env = {"LD_PRELOAD": f"{folder}/refuse.so", "REFUSE": f"{kind}:{number}", "REFUSE_TOLD": f"{folder}/told"}
+        ran = subprocess.run([PROGRAM, *words], input=SESSION, env=env, cwd=folder, timeout=60, capture_output=True)
+        self.status, self.out, self.err = ran.returncode, ran.stdout, ran.stderr.decode()
+        self.files = read(f"{folder}/LOG"), read(f"{folder}/BOOK")
+        self.calls = int.from_bytes(read(f"{folder}/told"), "little")
+
+    def is_like(self, plain):
+        return (self.status, self.out, self.err, self.files) == (plain.status, plain.out, plain.err, plain.files)
+
+
+def read(name):
+    with open(name, "rb") as file:
+        return file.read()
+
+
+def write(name, data):
+    with open(name, "wb") as file:
+        file.write(data)
+
+
+def saved_by(ran):
+    """Which of LOG and BOOK were saved."""
+    return ran.files[0] != b"old", ran.files[1] != b"old"
+
+
+def saved_before(ran, plain):
+    """Which of LOG and BOOK have to be saved by then; none where any of the two may be, the first before the second."""
+    if ran.status == 13:
+        return saved_by(plain)
+    if ran.status == 9 or "failed: LOG" in ran.err:
+        return None
+    return "failed: BOOK" in ran.err, False
+
+
+def fault_of(ran, plain, kind):
+    """Returns what is wrong with how a run ended where a call was refused; nothing where all is as it has to be."""
+    line = SAID[kind].get(ran.status)
+    if line is None:
+        return "the status"
+    if line not in ran.err or not ran.err.endswith("\n") or not plain.err.startswith(ran.err[: ran.err.index(line)]):
+        return "the line"
+    if not plain.out.startswith(ran.out) or (ran.out and ran.status == 3):
+        return "out"
+    saved, wanted = saved_by(ran), saved_before(ran, plain)
+    # A file whose own save failed may have any bytes.
+    if "failed: BOOK" in ran.err:
+        saved = saved[0], False
+    good = saved in ((False, False), (True, False), saved_by(plain)) if wanted is None else saved == wanted
+    return "" if good else "the files"
+
+
+def is_agreed(folder, ran):
+    """Whether what a recording in threads saved is the run of its own turns."""
+    if ran.status != 0:
+        return False
+    words = [PROGRAM, "audit", "LOG", "ELF", "BOOK", "--input", "IN"]
+    return ran.files[1] == b"old" or subprocess.run(words, cwd=folder, capture_output=True).returncode == 0
+
+
+def try_command(folder, name, words, most):
+    """Runs a command with each call of each kind refused; returns how many runs ended otherwise."""
+    wrong = 0
+    for kind in KINDS:
+        plain = Ran(folder, words, kind)
+        numbers = range(1, plain.calls + 1)
+        if plain.calls > most:
+            numbers = sorted({1 + place * (plain.calls - 1) // (most - 1) for place in range(most)})
+        ended = collections.Counter()
+        for number in numbers:
+            ran = Ran(folder, words, kind, number)
+            ended[ran.status] += 1
+            in_threads = "--seed" not in words and words[0] == "record"
+            if ran.is_like(plain) or (in_threads and is_agreed(folder, ran)):
+                continue
+            fault = fault_of(ran, plain, kind)
+            if fault:
+                wrong += 1
+                print(f"{name}, {kind} {number}: {fault}: status {ran.status}, out {len(ran.out)}, err {ran.err!r}")
+        each = ", ".join(f"{status}: {count}" for status, count in sorted(ended.items()))
+        print(f"| `{name}` | `{kind}` | {plain.calls:,} | {len(list(numbers)):,} | {each} |", flush=True)
+    return wrong
+
+
+def main(words):
+    most = int(words[0]) if words else 400
+    with tempfile.TemporaryDirectory() as folder:
+        shim = ["cc", "-O2", "-shared", "-fPIC", "-o", f"{folder}/refuse.so", f"{TOP}/bench/refuse.c"]
+        subprocess.run(shim, check=True)
+        write(f"{folder}/ELF", forge.program(*CODE))
+        write(f"{folder}/IN", b"wxyz")
+        kept = Ran(folder, COMMANDS["record --seed 1"])
+        write(f"{folder}/KEPT", kept.files[0])
+        write(f"{folder}/TURNS", kept.files[1])
+        print("| command | refused | calls | runs | status: runs |\n|---|---|---|---|---|")
+        wrong = sum(try_command(folder, name, command, most) for name, command in COMMANDS.items())
+    print(f"{wrong} runs ended otherwise")
+    sys.exit(1 if wrong else 0)
+
+
+if __name__ == "__main__":
+    main(sys.argv[1:])

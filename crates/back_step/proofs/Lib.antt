@@ -1,0 +1,4 @@
+pub mod Leading
+pub mod Showing
+pub mod Copying
+pub mod Trailing

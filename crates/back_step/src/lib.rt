@@ -1,0 +1,11 @@
+//! Steps of a joint replay that can be gone back, position by position.
+#![tactic(auto)]
+
+mod entry;
+mod examples;
+pub mod laws;
+mod steps;
+mod trail;
+
+pub use entry::Entry;
+pub use trail::Trail;

@@ -1,0 +1,10 @@
+use Rattle.bugnet.proofs.Single.{Grammar}
+use Rattle.bugnet.proofs.Suffices.{FileLaws}
+use Rattle.bugnet.proofs.Traces.{slices-told}
+use Rattle.bugnet.proofs.laws.slices_are_told.Goals as goal
+
+pub returns : goal.returns
+returns c =
+    let grammar : Grammar = record { one_reading = c.readings_are_unique.ensures } in
+    let laws : FileLaws = record { contents = c.logs_are_contents.ensures; version = c.format_1_is_version_1.ensures; sizes = c.files_have_their_size.ensures; read = c.files_are_read.ensures } in
+    slices-told grammar c.the_log_suffices.ensures laws

@@ -1,0 +1,7 @@
+use Rattle.std.proofs.Common.{◌≡◌, ◌++◌, drop}
+use Rattle.std.specs.List.{flat_map}
+use Rattle.log_record.specs.Spelling.{bytes_of}
+use Rattle.log_blocks.proofs.writing.push_records.Given as goal
+
+abbrev pub invariant-loop-place : goal.invariant-loop-place
+invariant-loop-place l = l.out.items ++ flat_map bytes_of (drop l.place l.records) ≡ l.fn.out.items ++ flat_map bytes_of l.records

@@ -1,0 +1,49 @@
+-- What a log retains by the guard: each hart's present Header at the hart's own turns, and the interval of a fault.
+use Rattle.std.specs.Prelude.{◌≡◌, ◌≤◌, ◌+◌, ◌^◌, ℕ, true, List, [], ◌∷◌, ◌++◌, Some}
+use Rattle.bn_base.specs.Faults.{fault_number}
+use Rattle.bn_base.specs.Programs.{Program}
+use Rattle.bn_base.specs.declared.end_mark.EndMark.{EndMark}
+use Rattle.bn_base.specs.declared.fault.Fault.{Fault}
+use Rattle.bn_base.specs.declared.settings.RawSettings.{RawSettings}
+use Rattle.rv_meaning.specs.declared.asks.Want.TheVariants.{Faulted}
+use Rattle.log_record.specs.declared.record.Record.{Record}
+use Rattle.log_record.specs.declared.record.Record.TheVariants.{Header}
+use Rattle.run_model.specs.Files.{kept_of}
+use Rattle.run_model.specs.Runs.{start, run_of, legal_from}
+use Rattle.run_model.specs.Turn.{ask_at, mark}
+use Rattle.run_laws.specs.Ends.{last_end}
+
+-- format 2, and those of its settings in their ranges that say something here: 1 to 16 harts, an interval and a limit of at
+-- least and at most so many instructions, and a log of 16,384 bytes at least
+pub record IsGuarding (c : RawSettings) : Type 0 where
+  pub format : c.format ≡ 2
+  pub harts_high : c.harts ≤ 16
+  pub interval_low : 1 ≤ c.interval
+  pub limit_high : c.limit ≤ 2 ^ 40
+  pub log_size_low : 16384 ≤ c.log_size
+
+-- the Header of hart k's interval of that number, which began at that count, is among the records
+pub record HasHeader (k number begun : ℕ) (rs : List Record) : Type 0 where
+  pub front : List Record
+  pub back : List Record
+  pub pc : ℕ
+  pub x : List ℕ
+  pub parts : rs ≡ front ++ Header k number begun pc x ∷ back
+
+-- and the hart's last End behind it has that mark
+pub record HasEnded (k number begun : ℕ) (m : EndMark) (rs : List Record) : Type 0 where
+  pub header : HasHeader k number begun rs
+  pub end : last_end k header.back ≡ Some m
+
+-- With format 2 a hart's present Header is kept right after each of its turns that leaves it live
+abbrev pub HeadersAreKept : Type 0
+HeadersAreKept = (c : RawSettings) (i : Program) (input b : List ℕ) (k : ℕ) → IsGuarding c → legal_from c i (start c i input) (b ++ k ∷ []) ≡ true
+    → let run = run_of c i input (b ++ k ∷ []) in let h = run.harts k in
+    h.live ≡ true → HasHeader k h.number h.begun (kept_of c run)
+
+-- Where the run ends in a fault, the interval of the fault is retained: its Header is kept, and behind it its End with the fault
+abbrev pub FaultsAreKept : Type 0
+FaultsAreKept = (c : RawSettings) (i : Program) (input b : List ℕ) (k : ℕ) (kind : Fault) (value : ℕ) → IsGuarding c → legal_from c i (start c i input) (b ++ k ∷ []) ≡ true
+    → (ask_at c i ((run_of c i input b).harts k)).want ≡ Faulted kind value
+    → let run = run_of c i input (b ++ k ∷ []) in let h = run.harts k in
+    HasEnded k h.number h.begun (mark h.state.ic (16 + fault_number kind) value) (kept_of c run)

@@ -1,0 +1,7 @@
+use Rattle.std.proofs.Common.{◌≡◌, ◌++◌, drop}
+use Rattle.std.specs.List.{flat_map}
+use Rattle.slice_back.specs.Texts.{register_line}
+use Rattle.slice_back.proofs.telling.write_registers.Given as goal
+
+abbrev pub invariant-loop-one : goal.invariant-loop-one
+invariant-loop-one l = l.text ++ flat_map register_line (drop l.one-index l.regs) ≡ l.fn.text ++ flat_map register_line l.regs

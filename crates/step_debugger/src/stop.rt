@@ -1,0 +1,11 @@
+// A stop on the way back.
+use bn_base::{Addr, HartId, Ic};
+
+/// The step from a position, whose row is at a breakpoint: its hart, the hart's count, and the pc.
+#[derive(Clone, Copy, Debug, PartialEq, Eq, Drop)]
+pub struct Stop {
+    pub position: u64,
+    pub hart: HartId,
+    pub ic: Ic,
+    pub pc: Addr,
+}
