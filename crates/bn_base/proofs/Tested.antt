@@ -42,7 +42,7 @@ in_range s bad =
     let sets = power 1024 s.sets h6.0 in
     let ways = below 1 16 s.ways h7.0 in
     let line = power 16 s.line h8.0 in
-    let format = below 1 1 s.format h9.0 in
+    let format = below 1 2 s.format h9.0 in
     record {
       harts_low = harts.0;
       harts_high = harts.1;

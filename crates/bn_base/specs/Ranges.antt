@@ -1,5 +1,5 @@
 -- The ranges of the settings.
-use Rattle.std.specs.Prelude.{ℕ, ◌%◌, ◌^◌, ◌==◌, ◌≡◌, ◌≤◌, Bool, true, false, ◌&&◌, nat_le, List, [], ◌∷◌, codes, if◌then◌else◌, Option, Some, None, Result, Ok, Err, IsTrue}
+use Rattle.std.specs.Prelude.{ℕ, ◌%◌, ◌^◌, ◌==◌, ◌≡◌, ◌≤◌, Bool, true, false, ◌&&◌, ◌||◌, nat_le, List, [], ◌∷◌, codes, if◌then◌else◌, Option, Some, None, Result, Ok, Err, IsTrue}
 use Rattle.std.specs.Int.{is_power_of_two}
 use Rattle.bn_base.specs.declared.settings.RawSettings.{RawSettings}
 use Rattle.bn_base.specs.declared.settings.BadSetting.{BadSetting}
@@ -24,13 +24,13 @@ is_memory_size value = is_between 65536 (2 ^ 26) value && (value % 4096 == 0)
 abbrev pub most_harts : RawSettings → ℕ
 most_harts s = if s.format == 2 then 16 else 8
 
--- the caches have no second level
+-- the sets of a second level of the caches: there is none, or, with format 2 alone, a power of two of them
 abbrev pub is_second_sets : RawSettings → Bool
-is_second_sets s = s.sets2 == 0
+is_second_sets s = s.sets2 == 0 || s.format == 2 && is_small_power 4096 s.sets2
 
--- nor ways of one
+-- its ways: none exactly where it has no sets
 abbrev pub is_second_ways : RawSettings → Bool
-is_second_ways s = s.ways2 == 0
+is_second_ways s = if s.sets2 == 0 then s.ways2 == 0 else is_between 1 16 s.ways2
 
 -- a setting: its field's number, its value, and whether it is in range
 abbrev pub setting : ℕ → ℕ → Bool → ℕ × ℕ × Bool
@@ -47,7 +47,7 @@ tested s =
     ∷ setting 6 s.sets (is_small_power 1024 s.sets)
     ∷ setting 7 s.ways (is_between 1 16 s.ways)
     ∷ setting 8 s.line (is_small_power 16 s.line)
-    ∷ setting 10 s.format (is_between 1 1 s.format)
+    ∷ setting 10 s.format (is_between 1 2 s.format)
     ∷ setting 11 s.sets2 (is_second_sets s)
     ∷ setting 12 s.ways2 (is_second_ways s)
     ∷ []
@@ -111,6 +111,6 @@ pub record IsSetting (s : RawSettings) : Type 0 where
   pub line_high : s.line ≤ 16
   pub line_power : IsTrue (is_power_of_two s.line)
   pub format_low : 1 ≤ s.format
-  pub format_high : s.format ≤ 1
+  pub format_high : s.format ≤ 2
   pub second_sets : IsTrue (is_second_sets s)
   pub second_ways : IsTrue (is_second_ways s)

@@ -1,7 +1,7 @@
 // What a recording is set to.
 ghost use Rattle.std.specs.Prelude.{◌≡◌, ◌<◌, ◌≤◌, ◌*◌, ◌^◌, ◌%◌, ℕ, IsTrue, IfSome};
 ghost use Rattle.std.specs.Int.{is_power_of_two};
-ghost use Rattle.bn_base.specs.Ranges.{is_between, is_small_power, is_memory_size, most_harts, checked, first_bad, setting_name, IsSetting};
+ghost use Rattle.bn_base.specs.Ranges.{is_between, is_small_power, is_memory_size, is_second_sets, is_second_ways, most_harts, checked, first_bad, setting_name, IsSetting};
 
 use std::marker::Model;
 use thiserror::Error;
@@ -49,7 +49,7 @@ pub struct BadSetting {
 ///
 /// | setting | range |
 /// |---|---|
-/// | harts | 1 to 8 |
+/// | harts | 1 to 8; with format 2, 1 to 16 |
 /// | interval | 1 to 10,000,000 |
 /// | limit | 1 to 2^40 |
 /// | log size | 16,384 to 2^28 |
@@ -57,9 +57,9 @@ pub struct BadSetting {
 /// | sets | a power of two, 1 to 1,024 |
 /// | ways | 1 to 16 |
 /// | line | a power of two, 1 to 16 |
-/// | format | 1 |
-/// | sets2 | 0 |
-/// | ways2 | 0 |
+/// | format | 1 to 2 |
+/// | sets2 | 0; with format 2 also a power of two, 1 to 4,096 |
+/// | ways2 | 0 where sets2 is 0, else 1 to 16 |
 #[derive(Clone, Copy, Debug, PartialEq, Eq, Drop)]
 pub struct Settings {
     raw: RawSettings,
@@ -169,6 +169,24 @@ fn most_harts(raw: &RawSettings) -> u64
     if raw.format == 2 { 16 } else { 8 }
 }
 
+// Whether a second level has so many sets: none, or with format 2 a power of two.
+fn is_second_sets(raw: &RawSettings) -> bool
+    ensures { result ≡ is_second_sets raw.now }
+{
+    raw.sets2 == 0 || raw.format == 2 && is_small_power(4096, raw.sets2)
+}
+
+// Whether it has so many ways: none exactly where it has no sets.
+fn is_second_ways(raw: &RawSettings) -> bool
+    ensures { result ≡ is_second_ways raw.now }
+{
+    if raw.sets2 == 0 {
+        raw.ways2 == 0
+    } else {
+        is_between(1, 16, raw.ways2)
+    }
+}
+
 fn bad(field: u8, value: u64) -> Option<BadSetting>
     ensures { result ≡ Some (record { field = field; value = value }) }
 {
@@ -203,13 +221,13 @@ fn first_bad(raw: &RawSettings) -> Option<BadSetting>
     if !is_small_power(16, raw.line) {
         return bad(8, raw.line);
     }
-    if !is_between(1, 1, raw.format) {
+    if !is_between(1, 2, raw.format) {
         return bad(10, raw.format);
     }
-    if raw.sets2 != 0 {
+    if !is_second_sets(raw) {
         return bad(11, raw.sets2);
     }
-    if raw.ways2 != 0 {
+    if !is_second_ways(raw) {
         return bad(12, raw.ways2);
     }
     None
@@ -238,7 +256,6 @@ impl Settings {
     pub fn harts(&self) -> u8
         ensures value { result ≡ self.now.harts }
         ensures low { 1 ≤ result }
-        ensures high { result ≤ 8 }
         // Whatever the format, and with format 1.
         ensures room { result ≤ HARTS }
         ensures few { self.now.format ≡ 1 → result ≤ 8 }
@@ -313,23 +330,24 @@ impl Settings {
     /// The version of the log file.
     pub fn format(&self) -> u8
         ensures value { result ≡ self.now.format }
-        ensures one { result ≡ 1 }
+        ensures low { 1 ≤ result }
+        ensures high { result ≤ 2 }
     {
         self.raw.format as u8
     }
 
-    /// The number of sets of the second level of each hart's cache; 0, since it has none.
+    /// The number of sets of the second level of each hart's cache, a power of two; 0 where it has none.
     pub fn second_sets(&self) -> u32
         ensures value { result ≡ self.now.sets2 }
-        ensures none { result ≡ 0 }
+        ensures high { result ≤ 4096 }
     {
         self.raw.sets2 as u32
     }
 
-    /// The number of lines in a set of the second level; 0, since there is none.
+    /// The number of lines in a set of the second level; 0 where there is none.
     pub fn second_ways(&self) -> u32
         ensures value { result ≡ self.now.ways2 }
-        ensures none { result ≡ 0 }
+        ensures high { result ≤ 16 }
     {
         self.raw.ways2 as u32
     }

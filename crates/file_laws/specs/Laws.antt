@@ -1,5 +1,5 @@
 -- What a recording keeps, as a log has it.
-use Rattle.std.specs.Prelude.{◌≡◌, ℕ, true, List, length, Some, None}
+use Rattle.std.specs.Prelude.{◌≡◌, ℕ, true, List, length, Some, None, Ok}
 use Rattle.sha2.specs.Sha256.{sha256}
 use Rattle.bn_base.specs.Programs.{Program}
 use Rattle.bn_base.specs.Ranges.{IsSetting}
@@ -8,10 +8,9 @@ use Rattle.bn_outside.specs.declared.turn_row.TurnRow.{TurnRow}
 use Rattle.log_ring.specs.Kept.{Held, HoldsLog}
 use Rattle.log_order.specs.Order.{broken_by}
 use Rattle.log_order.specs.Content.{Content, IsContent}
-use Rattle.log_file.specs.declared.error.FileError.{FileError}
-use Rattle.log_file.specs.declared.error.FileError.TheVariants.{OutOfMemory}
-use Rattle.log_file.specs.File.{IsRefusal}
-use Rattle.log_file.specs.Layout.{file_bytes}
+use Rattle.log_file.specs.Layout.{saved_bytes}
+use Rattle.log_blocks.specs.File.{IsSpelled}
+use Rattle.log_blocks.specs.Readings.{Reads}
 use Rattle.hart_replay.specs.Replay.{Interval, interval_of, replayed}
 use Rattle.hart_replay.specs.Replay.{Done}
 use Rattle.run_model.specs.Rows.{rows_in}
@@ -45,20 +44,20 @@ LogsAreContents = (c : RawSettings) (i : Program) (elf input b : List ℕ) → I
 abbrev pub StreamsAreInOrder : Type 0
 StreamsAreInOrder = (c : RawSettings) (i : Program) (elf input b : List ℕ) → IsRecording c i elf input b → broken_by c 0 (run_of c i input b).stream ≡ None
 
--- Its file has no cause for a refusal
+-- Its file, in either version, says just this: it is read, and has no cause for a refusal
 abbrev pub FilesAreRead : Type 0
 FilesAreRead = (c : RawSettings) (i : Program) (elf input b : List ℕ) → IsRecording c i elf input b
-    → (e : FileError) → IsRefusal (file_of c i (sha256 elf) input b) e → e ≡ OutOfMemory
+    → Reads (file_of c i (sha256 elf) input b) (Ok (content_of c (sha256 elf) (run_of c i input b)))
 
--- What a log says whose bytes are that file's is what was kept
+-- A log of which that file is the spelling is what was kept
 abbrev pub FilesSayTheRun : Type 0
 FilesSayTheRun = (c : RawSettings) (i : Program) (elf input b : List ℕ) → IsRecording c i elf input b
-    → (d : Content) → IsContent d → file_bytes d ≡ file_of c i (sha256 elf) input b → d ≡ content_of c (sha256 elf) (run_of c i input b)
+    → (d : Content) → IsContent d → IsSpelled (file_of c i (sha256 elf) input b) d → d ≡ content_of c (sha256 elf) (run_of c i input b)
 
 -- Each interval of a hart whose Header such a log has is replayed from it as it was recorded
 abbrev pub FilesSuffice : Type 0
 FilesSuffice = (c : RawSettings) (i : Program) (elf input b : List ℕ) → IsRecording c i elf input b
-    → (d : Content) → IsContent d → file_bytes d ≡ file_of c i (sha256 elf) input b
+    → (d : Content) → IsContent d → IsSpelled (file_of c i (sha256 elf) input b) d
     → (h n : ℕ) (v : Interval) → interval_of h n d.records ≡ Some v → replayed i d.records h n ≡ record { rows = rows_in c i (start c i input) b h n; outcome = Done }
 
 -- What a ring holds after lawful rows of orderly asks that leave no hart live, whoever made these, is what a log can say
@@ -66,7 +65,7 @@ abbrev pub LogsOfRowsAreContents : Type 0
 LogsOfRowsAreContents = (c : RawSettings) (i : Program) (input digest : List ℕ) (rows : List TurnRow) (ring : Held) → HoldsLogOfRows c i input rows ring → length digest ≡ 32
     → IsContent (ring_content c digest ring)
 
--- Its file has no cause for a refusal
+-- Its file says it, and has no cause for a refusal
 abbrev pub FilesOfRowsAreRead : Type 0
 FilesOfRowsAreRead = (c : RawSettings) (i : Program) (input digest : List ℕ) (rows : List TurnRow) (ring : Held) → HoldsLogOfRows c i input rows ring → length digest ≡ 32
-    → (e : FileError) → IsRefusal (file_bytes (ring_content c digest ring)) e → e ≡ OutOfMemory
+    → Reads (saved_bytes (ring_content c digest ring)) (Ok (ring_content c digest ring))

@@ -6,7 +6,7 @@ use Rattle.bn_base.specs.declared.row.Row.{Row}
 use Rattle.bn_base.specs.declared.state.HartState.{HartState}
 use Rattle.log_record.specs.declared.record.Record.{Record}
 use Rattle.log_order.specs.Content.{Content, IsContent}
-use Rattle.log_file.specs.Layout.{file_bytes}
+use Rattle.log_blocks.specs.File.{IsSpelled}
 use Rattle.race_log.specs.Netzer.{AtPlaces}
 use Rattle.race_log.specs.Points.{Point, MeetAt, Touches, Writes}
 use Rattle.run_model.specs.Files.{file_of}
@@ -138,10 +138,10 @@ pub record SaysTheRun (r : Recording) (records : List Record) (x : Ran) : Type 0
 abbrev pub JointReplaysSayTheRun : Type 0
 JointReplaysSayTheRun = (r : Recording) (records : List Record) → IsLogOf r records → SaysTheRun r records (run_all (begin r records))
 
--- a log says so, and its bytes are those of the recording's file
+-- a log says so, and the recording's file is its spelling
 pub record IsFileOf (r : Recording) (d : Content) : Type 0 where
   pub content : IsContent d
-  pub bytes : file_bytes d ≡ file_of r.settings r.program (sha256 r.elf) r.input r.turns
+  pub bytes : IsSpelled (file_of r.settings r.program (sha256 r.elf) r.input r.turns) d
 
 -- So does that of what the recording's file says
 abbrev pub JointFilesSayTheRun : Type 0

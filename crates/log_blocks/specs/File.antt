@@ -131,9 +131,9 @@ IsFirstRefusal bytes (BadBlock at) = ⊥
 abbrev pub IsRefusal : List ℕ → Damage → Type 0
 IsRefusal bytes e = elim (is_second bytes) [ true ↦ IsSecondRefusal bytes e | false ↦ IsFirstRefusal bytes e ]
 
--- the bytes are the spelling of a log in the version that they name
+-- the bytes are the spelling of a log in the version that they name; version 1 spells logs with format 1 alone
 abbrev pub IsSpelled : List ℕ → Content → Type 0
-IsSpelled bytes c = elim (is_second bytes) [ true ↦ bytes ≡ file_bytes2 c | false ↦ bytes ≡ file_bytes c ]
+IsSpelled bytes c = elim (is_second bytes) [ true ↦ bytes ≡ file_bytes2 c | false ↦ (c.head.settings.format ≡ 1) × (bytes ≡ file_bytes c) ]
 
 -- ---- salvage
 

@@ -9,10 +9,10 @@ use Rattle.log_order.specs.declared.view.Terms.{Terms}
 use Rattle.log_order.specs.declared.view.HartView.{HartView}
 use Rattle.log_order.specs.declared.walk.OrderBreak.{OrderBreak}
 use Rattle.log_order.specs.Order.{after_all, broken_by}
-use Rattle.log_order.specs.Content.{Content, IsContent}
+use Rattle.log_order.specs.Content.{Content}
 use Rattle.log_file.specs.declared.counting.LogCounts.{LogCounts}
 use Rattle.log_file.specs.declared.counting.Walked.{Walked}
-use Rattle.log_file.specs.Layout.{file_bytes}
+use Rattle.log_file.specs.Layout.{file_bytes, IsFirst}
 use Rattle.log_file.specs.File.{HasFields}
 
 abbrev pub headers_of : Record → ℕ
@@ -60,13 +60,13 @@ pub record IsCounted (head : Head) (dropped : ℕ) (bytes : List ℕ) (n : LogCo
 -- these are the counts of a log that has what stands at the places of the fields
 pub record CountsFields (signed : List ℕ) (n : LogCounts) : Type 0 where
   pub log : Content
-  pub content : IsContent log
+  pub content : IsFirst log
   pub fields : HasFields signed log
   pub counts : n ≡ counts_of log
 
 -- these are the counts of the log whose spelling the bytes are
 pub record CountsFile (bytes : List ℕ) (n : LogCounts) : Type 0 where
   pub log : Content
-  pub content : IsContent log
+  pub content : IsFirst log
   pub spelled : bytes ≡ file_bytes log
   pub counts : n ≡ counts_of log

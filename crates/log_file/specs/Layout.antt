@@ -31,6 +31,10 @@ spelling head dropped records = signed_bytes head dropped records ++ sha256 (sig
 abbrev pub file_bytes : Content → List ℕ
 file_bytes c = spelling c.head c.dropped (flat_map bytes_of c.records)
 
+-- what version 1 can say: its settings are those of format 1, which has no other fields
+abbrev pub IsFirst : Content → Type 0
+IsFirst c = IsContent c × (c.head.settings.format ≡ 1)
+
 -- ---- version 2
 
 -- the head's bytes before its digest: as in version 1, then the format and the second level, the program's digest, the

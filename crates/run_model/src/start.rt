@@ -1,10 +1,8 @@
 // What a recording begins with.
 ghost use Rattle.std.specs.Prelude.{◌≡◌, IfOk};
 ghost use Rattle.std.specs.Bool.{Decides};
-ghost use Rattle.std.specs.List.{flat_map};
-ghost use Rattle.log_record.specs.Spelling.{bytes_of};
-ghost use Rattle.log_file.specs.Layout.{spelling};
-
+ghost use Rattle.log_order.specs.Content.{content};
+ghost use Rattle.log_file.specs.Layout.{saved_bytes};
 use bn_base::{Image, Settings};
 use log_file::write_file;
 use log_record::Head;
@@ -59,7 +57,7 @@ impl Start {
     /// error is want of memory.
     pub fn log_file(&self, alloc: Global, ring: &Ring) -> Result<Vec<u8>, AllocError>
         requires { ring.now.size ≡ self.now.settings.log_size }
-        ensures { IfOk result (λ log. log.items ≡ spelling (record { settings = self.now.settings; digest = self.now.digest }) ring.now.dropped (flat_map bytes_of ring.now.records)) }
+        ensures { IfOk result (λ log. log.items ≡ saved_bytes (content (record { settings = self.now.settings; digest = self.now.digest }) ring.now.dropped ring.now.records)) }
     {
         let _format = self.settings.format();
         let (front, back) = ring.pieces();

@@ -6,7 +6,7 @@ use Rattle.race_report.proofs.gathered.Gathered.new.Goals as goal
 pub returns : goal.returns
 returns c = record {
   harts_are = c.harts-harts.ensures.value;
-  few = omega (arith, c.harts-harts.ensures.value, c.harts-harts.ensures.high);
+  few = omega (arith, c.harts-harts.ensures.value, c.harts-harts.ensures.room);
   rows = c.new.ensures.items;
   owners = c.new-2.ensures.items;
   all = follows_none c.args.settings.now.harts true c.in_ok-new.field-0 (c.in_ok-new.ensures.harts ∙ c.harts-harts.ensures.value) c.in_ok-new.ensures.none c.in_ok-new.ensures.below;
