@@ -17,6 +17,7 @@ mod Traces
 mod Sums
 mod Recorded
 mod Tested
+mod Sizes
 mod Leaves
 mod Agrees
 mod Complete
