@@ -1,5 +1,5 @@
 -- What a head without a fault says.
-use Rattle.std.proofs.Common.{◌≡◌, ℕ, ◌≤◌, Bool, true, false, not, cond, eqb, ltb, List, length, take, Option, Some, None, Result, Ok, refl, ap, subst, ◌∙◌, arith}
+use Rattle.std.proofs.Common.{◌≡◌, ℕ, ◌≤◌, Bool, true, false, not, cond, eqb, ltb, List, length, take, Option, Some, None, Result, Ok, refl, sym, ap, ◌∙◌, arith}
 use Rattle.std.specs.Prelude.{◌≢◌}
 use Rattle.std.specs.Str.{bytes_eq}
 use Rattle.std.proofs.lemmas.Bool.{eqb-true, eq-eqb, ltb-false}
@@ -63,16 +63,15 @@ told_by : (o : Option BadSetting) (raw s : RawSettings) → first_bad raw ≡ o 
 told_by None raw s e known = (same_settings raw s known, e)
 told_by (Some bad) raw s e known = absurd cc
 
--- where all tests hold, there is no fault
-pub fault_none : (bytes : List ℕ) (s : RawSettings) → 136 ≤ length bytes → bytes_eq (take 8 bytes) magic ≡ true → number_at 4 8 bytes ≡ 2 → checked (settings_in bytes) ≡ Ok s → later_fault bytes s.log_size ≡ None
-    → (s ≡ settings_in bytes) × (head_fault bytes ≡ None)
+pub told : (raw s : RawSettings) → checked raw ≡ Ok s → s ≡ raw
+told raw s known = (told_by (first_bad raw) raw s refl known).0
+
+-- where the tests of the settings hold, and those before, the fault is one behind them
+pub fault_behind : (bytes : List ℕ) (s : RawSettings) → 136 ≤ length bytes → bytes_eq (take 8 bytes) magic ≡ true → number_at 4 8 bytes ≡ 2 → checked (settings_in bytes) ≡ Ok s → head_fault bytes ≡ later_fault bytes s.log_size
 unfolding head_fault
-fault_none bytes s long begins version known later =
+fault_behind bytes s long begins version known =
     let t = told_by (first_bad (settings_in bytes)) (settings_in bytes) s refl known in
-    (
-      t.0,
-      rw (not_less (length bytes) 124 (omega (arith, long)), begins, eq-eqb _ _ version, not_less (length bytes) 136 long, t.1) (subst (λ (x : RawSettings). later_fault bytes x.log_size ≡ None) t.0 later),
-    )
+    rw (not_less (length bytes) 124 (omega (arith, long)), begins, eq-eqb _ _ version, not_less (length bytes) 136 long, t.1) (ap (λ (x : RawSettings). later_fault bytes x.log_size) (sym t.0))
 
 -- the blocks' records have at most log-size bytes, where there are at most as many as the head says
 pub size_bound : (bytes : List ℕ) (settings : RawSettings) (n size : ℕ) → head_fault bytes ≡ None → settings ≡ settings_in bytes → n ≡ size_in bytes → size ≤ n → size ≤ settings.log_size
