@@ -26,7 +26,7 @@ use Rattle.log_blocks.specs.Fields.{settings_in, head_in, dropped_in, size_in, h
 use Rattle.log_blocks.specs.Faults.{is_second, head_fault}
 use Rattle.log_blocks.specs.Pieces.{Piece, gathered, start_in, len_in, piece_in, is_good, Walked, IsWalk}
 use Rattle.log_blocks.specs.Cuts.{first_wrong}
-use Rattle.log_blocks.specs.File.{HasBlocks, IsRecordsFault, IsSecondRefusal, IsFirstRefusal, IsRefusal, dropped_before}
+use Rattle.log_blocks.specs.File.{HasBlocks, IsRecordsFault, IsSecondRefusal, IsFirstRefusal, dropped_before}
 use Rattle.log_blocks.specs.Readings.{Reads, Salvages, AreReadOrRefused, AreSalvagedOrRefused}
 use Rattle.log_blocks.proofs.Goods.{good, front_are}
 use Rattle.log_blocks.proofs.Parted.{Parted, Stuck, parted}
