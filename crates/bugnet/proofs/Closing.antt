@@ -1,5 +1,5 @@
 -- A hart's last End is that of an interval whose Header is there: records that are in order name each interval once, and end it once.
-use Rattle.std.proofs.Common.{◌≡◌, ℕ, zero, suc, ◌+◌, ◌≤◌, ◌==◌, Bool, true, false, not, ◌&&◌, List, [], ◌∷◌, ◌++◌, length, Option, Some, None, Result, Ok, Err, refl, ap, subst, sym, ◌∙◌, arith, inl, inr, ◌⊎◌}
+use Rattle.std.proofs.Common.{◌≡◌, ℕ, zero, suc, ◌+◌, ◌^◌, ◌<◌, ◌≤◌, ◌==◌, Bool, true, false, not, ◌&&◌, List, [], ◌∷◌, ◌++◌, length, Option, Some, None, Result, Ok, Err, refl, ap, subst, sym, ◌∙◌, arith, inl, inr, ◌⊎◌}
 use Rattle.std.specs.Prelude.{if◌then◌else◌, nat_lt, nat_le, replicate, slice_get, slice_set}
 use Rattle.std.specs.Option.{option_or}
 use Rattle.bn_base.specs.declared.end_mark.EndMark.{EndMark}
@@ -15,6 +15,7 @@ use Rattle.log_order.specs.declared.walk.OrderBreak.{OrderBreak}
 use Rattle.log_order.specs.Rules.{takes_header, takes_other, is_awaited, goes_on, next_number, phase_after, has_edge, has_end, after_header, after_edge, after_end, after_other, after_one, fresh}
 use Rattle.log_order.specs.Order.{◌>>=◌, has_source, step_at, step, at_place, after_all, broken_in, broken, broken_by, terms_of}
 use Rattle.run_laws.specs.Ends.{last_end}
+use Rattle.run_laws.specs.Retained.{HasEnded}
 use Rattle.hart_replay.specs.Replay.{Interval, Logged, interval_of, interval_from, puts, nothing}
 use Rattle.bugnet.specs.Texts.{mark_in}
 use Rattle.bugnet.proofs.Marks.{mark_of_load, mark_of_ok, mark_of_failed}
@@ -407,3 +408,116 @@ found_here k n ic pc x m back d =
 found_later : (k n ic : ℕ) (m : EndMark) (v : Interval) (rs : List Record) (b : Bool) → b ≡ false → Found k n ic m rs → (i : Interval) × (elim b as (λ y. Option Interval) [ true ↦ Some v | false ↦ interval_of k n rs ] ≡ Some i) × (i.mark ≡ m) × (i.start.ic ≡ ic)
 found_later k n ic m v rs true e f = not_both e
 found_later k n ic m v rs false e f = (f.interval, f.is, f.mark_is, f.begins)
+
+found : (t : Terms) (k : ℕ) (v : HartView) (m : EndMark) (front : List Record) (n ic pc : ℕ) (x : List ℕ) (back : List Record) → Follows t k v (front ++ Header k n ic pc x ∷ back) → Direct k m back
+    → Found k n ic m (front ++ Header k n ic pc x ∷ back)
+found t k v m [] n ic pc x back f d = found_here k n ic pc x m back d
+found t k v m (Header h j c p y ∷ front) n ic pc x back f d =
+    let rs = front ++ Header k n ic pc x ∷ back in
+    let g = some_view (h == k) (after_header t v j c) (λ w. Follows t k w rs) v f in
+    let rest = found t k g.0 m front n ic pc x back g.1 d in
+    let one : Interval = interval_from (record { pc = p; x = y; ic = c }) (puts k rs nothing) in
+    let l = found_later k n ic m one rs (h == k && (j == n)) (apart (h == k && (j == n)) refl) rest in
+    record { interval = l.0; is = l.1; mark_is = l.2; begins = l.3 }
+  where
+    apart : (b : Bool) → (h == k && (j == n)) ≡ b → b ≡ false
+    apart false e = refl
+    apart true e =
+        let own = both (h == k) (j == n) e in
+        let rs = front ++ Header k n ic pc x ∷ back in
+        let g = of_chosen (h == k) ((w : HartView) × (after_header t v j c ≡ Ok w) × Follows t k w rs) (Follows t k v rs) own.0 f in
+        let opened = (header_goes t v g.0 j c g.1).2 in
+        let more = ascends t k (j + 1) g.0 front n ic pc x back (subst (IsPast (j + 1)) (sym opened) (same_least (j + 1))) g.2 in
+        absurd (too_many j n (same_number j n own.1) more)
+
+    same_least : (a : ℕ) → a ≤ a
+    same_least a = omega arith
+
+    too_many : (a b : ℕ) → a ≡ b → a + 1 ≤ b → ⊥
+    too_many a b e more = omega (arith, e, more)
+found t k v m (FirstLoad h skip value ∷ front) n ic pc x back f d =
+    let g = some_view (h == k) (after_other v) (λ w. Follows t k w (front ++ Header k n ic pc x ∷ back)) v f in
+    let rest = found t k g.0 m front n ic pc x back g.1 d in
+    record { interval = rest.interval; is = rest.is; mark_is = rest.mark_is; begins = rest.begins }
+found t k v m (ScOk h ∷ front) n ic pc x back f d =
+    let g = some_view (h == k) (after_other v) (λ w. Follows t k w (front ++ Header k n ic pc x ∷ back)) v f in
+    let rest = found t k g.0 m front n ic pc x back g.1 d in
+    record { interval = rest.interval; is = rest.is; mark_is = rest.mark_is; begins = rest.begins }
+found t k v m (ScFailed h ∷ front) n ic pc x back f d =
+    let g = some_view (h == k) (after_other v) (λ w. Follows t k w (front ++ Header k n ic pc x ∷ back)) v f in
+    let rest = found t k g.0 m front n ic pc x back g.1 d in
+    record { interval = rest.interval; is = rest.is; mark_is = rest.mark_is; begins = rest.begins }
+found t k v m (Edge h c s j ∷ front) n ic pc x back f d =
+    let g = some_view (h == k) (after_edge t v c j) (λ w. Follows t k w (front ++ Header k n ic pc x ∷ back)) v f in
+    let rest = found t k g.0 m front n ic pc x back g.1 d in
+    record { interval = rest.interval; is = rest.is; mark_is = rest.mark_is; begins = rest.begins }
+found t k v m (End h e ∷ front) n ic pc x back f d =
+    let g = some_view (h == k) (after_end t v e) (λ w. Follows t k w (front ++ Header k n ic pc x ∷ back)) v f in
+    let rest = found t k g.0 m front n ic pc x back g.1 d in
+    record { interval = rest.interval; is = rest.is; mark_is = rest.mark_is; begins = rest.begins }
+
+-- ---- what is in order
+
+behind : (t : Terms) (k : ℕ) (v : HartView) (front rest : List Record) → Follows t k v (front ++ rest) → (w : HartView) × Follows t k w rest
+behind t k v [] rest f = (v, f)
+behind t k v (r ∷ front) rest f =
+    let g = some_view (hart_of r == k) (after_one t v r) (λ w. Follows t k w (front ++ rest)) v f in
+    behind t k g.0 front rest g.1
+
+listed_behind : (k : ℕ) (m : EndMark) (front rest : List Record) → Listed k m rest → Listed k m (front ++ rest)
+listed_behind k m [] rest l = l
+listed_behind k m (r ∷ front) rest l = later k m r (front ++ rest) (listed_behind k m front rest l)
+
+fresh_at : (count k : ℕ) (v : HartView) → k < count → slice_get (replicate count v) k ≡ Some v
+fresh_at zero k v e = absurd (omega (arith, e))
+fresh_at (suc n) zero v e = refl
+fresh_at (suc n) (suc k) v e = fresh_at n k v (omega (arith, e))
+
+whole : (all : Bool) (rs : List Record) (r : Result Harts OrderBreak) → broken_in all rs r ≡ None → (us : Harts) × (r ≡ Ok us)
+whole all rs (Err b) e = absurd cc
+whole all rs (Ok us) e = (us, refl)
+
+in_order : (c : RawSettings) (dropped : ℕ) (rs : List Record) → broken_by c dropped rs ≡ None → (us : Harts) × (after_all (terms_of c) 0 (replicate c.harts (fresh (dropped == 0))) rs ≡ Ok us)
+unfolding broken
+in_order c dropped rs e = whole (dropped == 0) rs (after_all (terms_of c) 0 (replicate c.harts (fresh (dropped == 0))) rs) e
+
+-- a hart's last End, where a Header of the hart is ahead of it, is that of an interval
+record Closes (k : ℕ) (m : EndMark) (rs : List Record) : Type 0 where
+  pub number : ℕ
+  pub ic : ℕ
+  pub pc : ℕ
+  pub x : List ℕ
+  pub front : List Record
+  pub back : List Record
+  pub parts : rs ≡ front ++ Header k number ic pc x ∷ back
+  pub mark_is : mark_in k back ≡ m
+  pub found : Found k number ic m rs
+
+of_listed : (t : Terms) (k : ℕ) (v : HartView) (m : EndMark) (rs : List Record) → Follows t k v rs → Listed k m rs → Closes k m rs
+of_listed t k v m rs f l = record {
+  number = l.number;
+  ic = l.ic;
+  pc = l.pc;
+  x = l.x;
+  front = l.front;
+  back = l.back;
+  parts = l.parts;
+  mark_is = direct_mark k m l.back l.direct;
+  found = subst (Found k l.number l.ic m) (sym l.parts) (found t k v m l.front l.number l.ic l.pc l.x l.back (subst (Follows t k v) l.parts f) l.direct);
+}
+
+pub closes : (c : RawSettings) (dropped k number begun : ℕ) (m : EndMark) (rs : List Record) → broken_by c dropped rs ≡ None → k < c.harts → HasEnded k number begun m rs → Closes k m rs
+closes c dropped k number begun m rs order low has =
+    let t = terms_of c in
+    let h = has.header in
+    let v = fresh (dropped == 0) in
+    let ran = in_order c dropped rs order in
+    let f = follows t 0 k (replicate c.harts v) ran.0 v rs ran.1 (fresh_at c.harts k v low) in
+    let at = behind t k v h.front (Header k number begun h.pc h.x ∷ h.back) (subst (Follows t k v) h.parts f) in
+    let on = some_view (k == k) (after_header t at.0 number begun) (λ w. Follows t k w h.back) at.0 at.1 in
+    let l = at_header k k number begun h.pc h.x m h.back (k == k) refl (ended t k on.0 m h.back on.1 has.end) in
+    of_listed t k v m rs f (of_ended l)
+  where
+    of_ended : Ended k m (Header k number begun has.header.pc has.header.x ∷ has.header.back) → Listed k m rs
+    of_ended (inl d) = absurd (of_chosen (k == k) ⊥ (Direct k m has.header.back) (itself k) d)
+    of_ended (inr l) = subst (Listed k m) (sym has.header.parts) (listed_behind k m has.header.front (Header k number begun has.header.pc has.header.x ∷ has.header.back) l)

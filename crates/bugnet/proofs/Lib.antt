@@ -25,3 +25,5 @@ mod Joins
 mod Sessions
 mod Debugs
 mod Renewals
+mod Closing
+mod Crashes

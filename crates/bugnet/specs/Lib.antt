@@ -24,6 +24,7 @@ pub mod Saves
 pub mod Laws
 pub mod Headline
 pub mod Jointly
+pub mod Crashes
 pub mod Steps
 pub mod Debugging
 pub mod Traced

@@ -3,6 +3,7 @@ ghost use Rattle.bugnet.specs.Debugging.{SessionsShowTheRun, RecordingsCanBeDebu
 ghost use Rattle.bugnet.specs.Laws.{OneAnswer, OneSession, SeedsAreWhole, FilesKeepToTheirSize};
 ghost use Rattle.bugnet.specs.Agreements.{AuditsAgree};
 ghost use Rattle.bugnet.specs.Complete.{EachHasAnAnswer, EachCanBeDone};
+ghost use Rattle.bugnet.specs.Crashes.{CrashesAreShown};
 ghost use Rattle.bugnet.specs.Headline.{Headline, RecordingsAreReplayed};
 ghost use Rattle.bugnet.specs.Jointly.{JointHeadline, RecordingsCanBeJoined, RecordingsAreJoined};
 ghost use Rattle.bugnet.specs.Traced.{RacesAreTold, SlicesAreTold};
@@ -21,7 +22,9 @@ use log_blocks::readings::{
     salvages_are_unique, whole_files_are_salvaged,
 };
 use replay_laws::{the_log_suffices, the_rows_of_an_interval_stand_together};
-use run_laws::{kept_records_are_an_end, own_rows_are_turns, turns_are_lawful, turns_are_own};
+use run_laws::{
+    faults_are_kept, kept_records_are_an_end, own_rows_are_turns, turns_are_lawful, turns_are_own,
+};
 use run_model::verdicts_are_unique;
 
 /// No words have two answers, whatever the files are; but a recording without a seed has one for each
@@ -148,6 +151,20 @@ pub fn recordings_are_replayed()
     ensures { RecordingsAreReplayed }
 {
     headline();
+}
+
+/// With format 2 a crash is shown: of the files that a recording leaves whose last turn is a fault, the
+/// log has an interval of the fault's hart that ends with it, `list` prints that interval's line, and its
+/// replay prints the recorded run's rows up to the fault's.
+pub fn crashes_are_shown()
+    ensures { CrashesAreShown }
+{
+    recordings_are_replayed();
+    readings_are_unique();
+    faults_are_kept();
+    logs_are_contents();
+    saved_files_keep_to_the_limit();
+    files_are_read();
 }
 
 /// Where the log file of a recording and its program file are there, the program file within its limit,
