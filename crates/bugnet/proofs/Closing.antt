@@ -119,17 +119,17 @@ follows t p k vs us v [] e g = tt
 follows t p k vs us v (r ∷ rs) e g =
     let h = halves p (step t vs r) (λ next. after_all t (p + length (bytes_of r)) next rs) us e in
     let s = stepped t vs h.0 r h.1 in
-    by (hart_of r == k) refl s (λ w there. follows t (p + length (bytes_of r)) k h.0 us w rs h.2 there)
+    by h.0 (hart_of r == k) refl s (λ w there. follows t (p + length (bytes_of r)) k h.0 us w rs h.2 there)
   where
-    by : {next : Harts} (b : Bool) → (hart_of r == k) ≡ b → (s : Stepped t vs next r) → ((w : HartView) → slice_get next k ≡ Some w → Follows t k w rs)
+    by : (next : Harts) (b : Bool) → (hart_of r == k) ≡ b → (s : Stepped t vs next r) → ((w : HartView) → slice_get next k ≡ Some w → Follows t k w rs)
         → elim b as (λ x. Type 0) [ true ↦ (w : HartView) × (after_one t v r ≡ Ok w) × Follows t k w rs | false ↦ Follows t k v rs ]
-    by true e s later =
+    by next true e s later =
         let own : hart_of r ≡ k = same_number (hart_of r) k e in
         let there : slice_get vs k ≡ Some s.old = subst (λ (h : ℕ). slice_get vs h ≡ Some s.old) own s.there in
         let old : s.old ≡ v = same_view s.old v (sym there ∙ g) in
-        let next_is = subst (λ (h : ℕ). _ ≡ slice_set vs h s.new) own s.next_is in
+        let next_is : next ≡ slice_set vs k s.new = subst (λ (h : ℕ). next ≡ slice_set vs h s.new) own s.next_is in
         (s.new, subst (λ (x : HartView). after_one t x r ≡ Ok s.new) old s.goes, later s.new (subst (λ (x : Harts). slice_get x k ≡ Some s.new) (sym next_is) (get_set vs k s.old s.new there)))
-    by false e s later = later v (subst (λ (x : Harts). slice_get x k ≡ Some v) (sym s.next_is) (get_other vs (hart_of r) k s.new e ∙ g))
+    by next false e s later = later v (subst (λ (x : Harts). slice_get x k ≡ Some v) (sym s.next_is) (get_other vs (hart_of r) k s.new e ∙ g))
 
 -- ---- what a view takes
 
@@ -216,11 +216,11 @@ some_view false s W v f = (v, f)
 -- that mark is the one of the interval that is open
 direct_mark : (k : ℕ) (m : EndMark) (rs : List Record) → Direct k m rs → mark_in k rs ≡ m
 direct_mark k m [] d = absurd d
-direct_mark k m (Header h n ic pc x ∷ rs) d = by (h == k) d
+direct_mark k m (Header h n ic pc x ∷ rs) d = by (h == k) (direct_mark k m rs) d
   where
-    by : (b : Bool) → elim b as (λ x. Type 0) [ true ↦ ⊥ | false ↦ Direct k m rs ] → mark_in k rs ≡ m
-    by true d = absurd d
-    by false d = direct_mark k m rs d
+    by : (b : Bool) → (Direct k m rs → mark_in k rs ≡ m) → elim b as (λ x. Type 0) [ true ↦ ⊥ | false ↦ Direct k m rs ] → mark_in k rs ≡ m
+    by true later d = absurd d
+    by false later d = later d
 direct_mark k m (FirstLoad h skip value ∷ rs) d = mark_of_load k h skip value (puts k rs nothing) ∙ direct_mark k m rs d
 direct_mark k m (ScOk h ∷ rs) d = mark_of_ok k h (puts k rs nothing) ∙ direct_mark k m rs d
 direct_mark k m (ScFailed h ∷ rs) d = mark_of_failed k h (puts k rs nothing) ∙ direct_mark k m rs d
@@ -234,6 +234,14 @@ direct_mark k m (End h e ∷ rs) d = by (h == k) (direct_mark k m rs) d
 
 -- ---- an End behind an End
 
+ends_first : {P : Type 0} (b : Bool) → b ≡ false → b ≡ true → P
+ends_first b c e = not_both (sym e ∙ c)
+
+-- no record of the hart's own may stand there
+unheard : (b : Bool) (s : Result HartView ℕ) (v : HartView) (W : HartView → Type 0) → ((w : HartView) → s ≡ Ok w → ⊥) → elim b as (λ x. Type 0) [ true ↦ (w : HartView) × (s ≡ Ok w) × W w | false ↦ W v ] → W v
+unheard true s v W none f = absurd (none f.0 f.1)
+unheard false s v W none f = f
+
 no_direct : (t : Terms) (k : ℕ) (v : HartView) (m : EndMark) (rs : List Record) → takes_other v.phase ≡ false → Follows t k v rs → Direct k m rs → ⊥
 no_direct t k v m [] c f d = d
 no_direct t k v m (Header h n ic pc x ∷ rs) c f d = by (h == k) (no_direct t k v m rs c) f d
@@ -242,15 +250,15 @@ no_direct t k v m (Header h n ic pc x ∷ rs) c f d = by (h == k) (no_direct t k
         → elim b as (λ x. Type 0) [ true ↦ ⊥ | false ↦ Direct k m rs ] → ⊥
     by true later f d = d
     by false later f d = later f d
-no_direct t k v m (FirstLoad h skip value ∷ rs) c f d = no_direct t k v m rs c (unheard (h == k) (after_other v) v (λ w. Follows t k w rs) (λ w e. ends_first c (other_goes v w e).0) f) d
-no_direct t k v m (ScOk h ∷ rs) c f d = no_direct t k v m rs c (unheard (h == k) (after_other v) v (λ w. Follows t k w rs) (λ w e. ends_first c (other_goes v w e).0) f) d
-no_direct t k v m (ScFailed h ∷ rs) c f d = no_direct t k v m rs c (unheard (h == k) (after_other v) v (λ w. Follows t k w rs) (λ w e. ends_first c (other_goes v w e).0) f) d
-no_direct t k v m (Edge h ic s j ∷ rs) c f d = no_direct t k v m rs c (unheard (h == k) (after_edge t v ic j) v (λ w. Follows t k w rs) (λ w e. ends_first c (edge_goes t v w ic j e).0) f) d
+no_direct t k v m (FirstLoad h skip value ∷ rs) c f d = no_direct t k v m rs c (unheard (h == k) (after_other v) v (λ w. Follows t k w rs) (λ w e. ends_first (takes_other v.phase) c (other_goes v w e).0) f) d
+no_direct t k v m (ScOk h ∷ rs) c f d = no_direct t k v m rs c (unheard (h == k) (after_other v) v (λ w. Follows t k w rs) (λ w e. ends_first (takes_other v.phase) c (other_goes v w e).0) f) d
+no_direct t k v m (ScFailed h ∷ rs) c f d = no_direct t k v m rs c (unheard (h == k) (after_other v) v (λ w. Follows t k w rs) (λ w e. ends_first (takes_other v.phase) c (other_goes v w e).0) f) d
+no_direct t k v m (Edge h ic s j ∷ rs) c f d = no_direct t k v m rs c (unheard (h == k) (after_edge t v ic j) v (λ w. Follows t k w rs) (λ w e. ends_first (takes_other v.phase) c (edge_goes t v w ic j e).0) f) d
 no_direct t k v m (End h e ∷ rs) c f d = by (h == k) (no_direct t k v m rs c) f d
   where
     by : (b : Bool) → (Follows t k v rs → Direct k m rs → ⊥) → elim b as (λ x. Type 0) [ true ↦ (w : HartView) × (after_end t v e ≡ Ok w) × Follows t k w rs | false ↦ Follows t k v rs ]
         → elim b as (λ x. Type 0) [ true ↦ e ≡ m | false ↦ Direct k m rs ] → ⊥
-    by true later f d = ends_first c (end_goes t v f.0 e f.1).0
+    by true later f d = ends_first (takes_other v.phase) c (end_goes t v f.0 e f.1).0
     by false later f d = later f d
 
 -- ---- where the last End is
@@ -385,7 +393,14 @@ ascends t k low v (r ∷ front) n ic pc x back past f = by (hart_of r == k) f (�
 
 -- ---- the interval is found
 
-record Found (k n ic : ℕ) (m : EndMark) (rs : List Record) : Type 0 where
+same_least : (a : ℕ) → a ≤ a
+same_least a = omega arith
+
+too_many : (a b : ℕ) → a ≡ b → a + 1 ≤ b → ⊥
+too_many a b e more = omega (arith, e, more)
+
+-- the first interval of that number begins at that count and ends with that mark
+pub record Found (k n ic : ℕ) (m : EndMark) (rs : List Record) : Type 0 where
   pub interval : Interval
   pub is : interval_of k n rs ≡ Some interval
   pub mark_is : interval.mark ≡ m
@@ -429,12 +444,6 @@ found t k v m (Header h j c p y ∷ front) n ic pc x back f d =
         let opened = (header_goes t v g.0 j c g.1).2 in
         let more = ascends t k (j + 1) g.0 front n ic pc x back (subst (IsPast (j + 1)) (sym opened) (same_least (j + 1))) g.2 in
         absurd (too_many j n (same_number j n own.1) more)
-
-    same_least : (a : ℕ) → a ≤ a
-    same_least a = omega arith
-
-    too_many : (a b : ℕ) → a ≡ b → a + 1 ≤ b → ⊥
-    too_many a b e more = omega (arith, e, more)
 found t k v m (FirstLoad h skip value ∷ front) n ic pc x back f d =
     let g = some_view (h == k) (after_other v) (λ w. Follows t k w (front ++ Header k n ic pc x ∷ back)) v f in
     let rest = found t k g.0 m front n ic pc x back g.1 d in
@@ -482,7 +491,7 @@ unfolding broken
 in_order c dropped rs e = whole (dropped == 0) rs (after_all (terms_of c) 0 (replicate c.harts (fresh (dropped == 0))) rs) e
 
 -- a hart's last End, where a Header of the hart is ahead of it, is that of an interval
-record Closes (k : ℕ) (m : EndMark) (rs : List Record) : Type 0 where
+pub record Closes (k : ℕ) (m : EndMark) (rs : List Record) : Type 0 where
   pub number : ℕ
   pub ic : ℕ
   pub pc : ℕ
