@@ -9,7 +9,7 @@ use Rattle.bn_base.specs.Ranges.{IsSetting}
 use Rattle.bn_base.specs.declared.end_mark.EndMark.{EndMark}
 use Rattle.bn_base.specs.declared.settings.RawSettings.{RawSettings}
 use Rattle.bn_outside.specs.Files.{Files}
-use Rattle.command_words.specs.Words.{ListLine}
+use Rattle.command_words.specs.Words.{RecordingLine, ListLine}
 use Rattle.log_order.specs.Content.{Content, IsContent}
 use Rattle.log_file.specs.Layout.{saved_bytes}
 use Rattle.log_record.specs.declared.record.Record.{Record}
@@ -17,15 +17,21 @@ use Rattle.log_record.specs.declared.record.Record.TheVariants.{Header}
 use Rattle.run_model.specs.Files.{kept_of, dropped_of, content_of}
 use Rattle.run_model.specs.Runs.{start, run_of, run_from, is_live, legal_from}
 use Rattle.run_model.specs.Turn.{Run, turn, mark}
+use Rattle.run_laws.specs.Laws.{OwnAsksAreOrderly}
 use Rattle.run_laws.specs.Retained.{IsGuarding, HasEnded, FaultsAreKept}
 use Rattle.bugnet.specs.Answers.{names_in, IsAnswer}
 use Rattle.bugnet.specs.Commands.{WithFile, IsByLog, list_of}
 use Rattle.bugnet.specs.Crashes.{IsCrash, mark_of_crash, HasLine, PrintsLine, ShowsCrash, CrashesAreShown}
 use Rattle.bugnet.specs.Headline.{RecordingsAreReplayed}
+use Rattle.bugnet.specs.Recordings.{marks_of, end_by, end_status}
+use Rattle.bugnet.specs.Saves.{Leaves}
+use Rattle.bugnet.specs.declared.answer.RunEnd.{RunEnd}
+use Rattle.bugnet.specs.declared.answer.RunEnd.TheVariants as ends
 use Rattle.bugnet.specs.Texts.{interval_text, mark_in, record_text, list_text}
 use Rattle.bugnet.specs.Told.{Told}
 use Rattle.bugnet.specs.declared.names.Role.TheVariants as role
 use Rattle.bugnet.proofs.Closing.{Closes, closes}
+use Rattle.bugnet.proofs.Faulting.{is-crash}
 use Rattle.bugnet.proofs.Single.{Grammar}
 use Rattle.bugnet.proofs.Suffices.{FileLaws, by-file, by-content}
 
@@ -108,8 +114,8 @@ HasIts c i input hart reason value b =
 kept-so : (c : RawSettings) (i : Program) (input turns : List ℕ) (k : IsCrash c i input turns) → HasIts c i input k.hart (16 + fault_number k.kind) k.value (k.before ++ k.hart ∷ []) → HasIts c i input k.hart (16 + fault_number k.kind) k.value turns
 kept-so c i input turns k has = subst (HasIts c i input k.hart (16 + fault_number k.kind) k.value) (sym k.turns_are) has
 
-pub crashes-shown : Grammar → FileLaws → FaultsAreKept → RecordingsAreReplayed → CrashesAreShown
-crashes-shown g laws faults replays r old new l format k =
+shown : Grammar → FileLaws → FaultsAreKept → RecordingsAreReplayed → (r : RecordingLine) (old new : Files) (l : Leaves r old new) → r.settings.format ≡ 2 → (k : IsCrash r.settings l.program l.input l.turns) → ShowsCrash l k
+shown g laws faults replays r old new l format k =
     let c = r.settings in
     let i = l.program in
     let run = run_of c i l.input l.turns in
@@ -128,3 +134,15 @@ crashes-shown g laws faults replays r old new l format k =
       listed = λ files log log_is what a. record { text = list_text (kept_of c run); told = list-told g laws files log d what content (log_is ∙ l.log) a; has = line-of k.hart (mark_of_crash k) (kept_of c run) is };
       replayed = λ files log elf log_is elf_is what a. replays r old new l k.hart is.number is.found.interval is.found.is files log elf log_is elf_is what a;
     }
+
+ended-so : (e : RunEnd) → end_status e ≡ 10 → e ≡ ends.Fault
+ended-so ends.Fault e = refl
+ended-so ends.Limit e = absurd (omega (arith, e))
+ended-so ends.Done e = absurd (omega (arith, e))
+
+pub crashes-shown : Grammar → FileLaws → OwnAsksAreOrderly → FaultsAreKept → RecordingsAreReplayed → CrashesAreShown
+crashes-shown g laws asks faults replays r old new l format is =
+    let c = r.settings in
+    let end : end_by (marks_of c (run_of c l.program l.input l.turns)) ≡ ends.Fault = ended-so (end_by (marks_of c (run_of c l.program l.input l.turns))) is in
+    let k = is-crash asks c l.program l.input l.turns l.recording.setting l.recording.legal end in
+    (k, shown g laws faults replays r old new l format k)

@@ -26,4 +26,5 @@ mod Sessions
 mod Debugs
 mod Renewals
 mod Closing
+mod Faulting
 mod Crashes

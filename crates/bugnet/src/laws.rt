@@ -23,7 +23,8 @@ use log_blocks::readings::{
 };
 use replay_laws::{the_log_suffices, the_rows_of_an_interval_stand_together};
 use run_laws::{
-    faults_are_kept, kept_records_are_an_end, own_rows_are_turns, turns_are_lawful, turns_are_own,
+    faults_are_kept, kept_records_are_an_end, own_asks_are_orderly, own_rows_are_turns,
+    turns_are_lawful, turns_are_own,
 };
 use run_model::verdicts_are_unique;
 
@@ -153,14 +154,15 @@ pub fn recordings_are_replayed()
     headline();
 }
 
-/// With format 2 a crash is shown: of the files that a recording leaves whose last turn is a fault, the
-/// log has an interval of the fault's hart that ends with it, `list` prints that interval's line, and its
-/// replay prints the recorded run's rows up to the fault's.
+/// With format 2 a crash is shown: where a recording's run ended in a fault, status 10, its last turn is
+/// that fault, and of the files that it leaves the log has an interval of the fault's hart that ends with
+/// it: `list` prints that interval's line, and its replay the recorded run's rows up to the fault's.
 pub fn crashes_are_shown()
     ensures { CrashesAreShown }
 {
     recordings_are_replayed();
     readings_are_unique();
+    own_asks_are_orderly();
     faults_are_kept();
     logs_are_contents();
     saved_files_keep_to_the_limit();

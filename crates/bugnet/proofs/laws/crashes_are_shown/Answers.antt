@@ -7,4 +7,4 @@ pub returns : goal.returns
 returns c =
     let grammar : Grammar = record { one_reading = c.readings_are_unique.ensures } in
     let laws : FileLaws = record { contents = c.logs_are_contents.ensures; limit = c.saved_files_keep_to_the_limit.ensures; read = c.files_are_read.ensures } in
-    crashes-shown grammar laws c.faults_are_kept.ensures c.recordings_are_replayed.ensures
+    crashes-shown grammar laws c.own_asks_are_orderly.ensures c.faults_are_kept.ensures c.recordings_are_replayed.ensures
