@@ -145,7 +145,10 @@ fn the_greatest_size_of_a_file_is_found(rt: HostRuntime) {
         Max cpu time      7            unlimited    seconds\n\
         Max file size     1024         unlimited    bytes\n";
     assert_eq!(rt; most_in(table), 1024);
-    assert_eq!(rt; most_in("Max file size     unlimited    unlimited    bytes"), u64::MAX);
+    assert_eq!(rt;
+        most_in("Max file size     unlimited    unlimited    bytes"),
+        u64::MAX
+    );
     assert_eq!(rt; most_in("Max file size "), u64::MAX);
     assert_eq!(rt; most_in(""), u64::MAX);
 }

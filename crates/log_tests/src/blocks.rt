@@ -25,7 +25,13 @@ const LAST_BLOCK: [u8; 32] = [
 ];
 
 /// The file of version 2 with this head and these records.
-pub fn written(rt: &impl Abort, alloc: Global, head: &Head, dropped: u64, records: &[u8]) -> Vec<u8> {
+pub fn written(
+    rt: &impl Abort,
+    alloc: Global,
+    head: &Head,
+    dropped: u64,
+    records: &[u8],
+) -> Vec<u8> {
     let fits = records.len() <= head.settings.log_size() as usize;
     assert!(rt; fits);
     write_file2(alloc, head, dropped, records).expect(rt, "memory")

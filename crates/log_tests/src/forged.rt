@@ -65,7 +65,13 @@ fn head<R: Abort + AllocGlobal>(rt: &R, dropped: u64, size: u32) -> Vec<u8> {
 }
 
 // A block behind a head: its records' bytes, and the first two numbers behind them.
-fn block<R: Abort + AllocGlobal>(rt: &R, head: &[u8], records: &[u8], before: u64, left: u32) -> Vec<u8> {
+fn block<R: Abort + AllocGlobal>(
+    rt: &R,
+    head: &[u8],
+    records: &[u8],
+    before: u64,
+    left: u32,
+) -> Vec<u8> {
     let size = records.len() as u32;
     let body = joined(
         rt,
@@ -95,10 +101,22 @@ fn records<R: Abort + AllocGlobal>(rt: &R) -> Vec<u8> {
 
 // A head and two blocks of some records, which are cut at a place: so many records are said to have
 // been given up, and to stand before each block.
-fn cut<R: Abort + AllocGlobal>(rt: &R, records: &[u8], at: usize, dropped: u64, before: (u64, u64)) -> Vec<u8> {
+fn cut<R: Abort + AllocGlobal>(
+    rt: &R,
+    records: &[u8],
+    at: usize,
+    dropped: u64,
+    before: (u64, u64),
+) -> Vec<u8> {
     let head = head(rt, dropped, records.len() as u32);
     let behind = part(records, at, records.len());
-    let first = block(rt, &head, part(records, 0, at), before.0, behind.len() as u32);
+    let first = block(
+        rt,
+        &head,
+        part(records, 0, at),
+        before.0,
+        behind.len() as u32,
+    );
     joined(rt, &[&head, &first, &block(rt, &head, behind, before.1, 0)])
 }
 
@@ -126,10 +144,25 @@ fn blocks_that_were_moved_are_named(rt: HostRuntime) {
     let all = |parts: &[&[u8]]| joined(&rt, parts);
     check(&rt, &all(&[head, second, first]), bad(6672), LOST);
     check(&rt, &all(&[head, first]), bad(4209), LOST);
-    check(&rt, &all(&[head, second]), differs(6440, 2415), Ok((50, 30)));
+    check(
+        &rt,
+        &all(&[head, second]),
+        differs(6440, 2415),
+        Ok((50, 30)),
+    );
     check(&rt, head, differs(6440, 0), LOST);
-    check(&rt, &all(&[head, first, second, second]), bad(6672), Ok((50, 30)));
-    check(&rt, &all(&[head, first, first, second]), bad(4209), Ok((0, 80)));
+    check(
+        &rt,
+        &all(&[head, first, second, second]),
+        bad(6672),
+        Ok((50, 30)),
+    );
+    check(
+        &rt,
+        &all(&[head, first, first, second]),
+        bad(4209),
+        Ok((0, 80)),
+    );
 }
 
 // Bytes that are left out, or put in, at the front, between blocks and at the end.
@@ -141,8 +174,18 @@ fn bytes_beside_blocks_are_named(rt: HostRuntime) {
     let all = |parts: &[&[u8]]| joined(&rt, parts);
     check(&rt, part(&file, 0, 6671), bad(6671), LOST);
     check(&rt, &all(&[&file, &[0]]), bad(6673), LOST);
-    check(&rt, &all(&[head, part(&file, 236, 6672)]), bad(4109), Ok((50, 30)));
-    check(&rt, &all(&[head, part(&file, 137, 6672)]), bad(4208), Ok((50, 30)));
+    check(
+        &rt,
+        &all(&[head, part(&file, 236, 6672)]),
+        bad(4109),
+        Ok((50, 30)),
+    );
+    check(
+        &rt,
+        &all(&[head, part(&file, 137, 6672)]),
+        bad(4208),
+        Ok((50, 30)),
+    );
     check(&rt, &all(&[head, &[0], blocks]), bad(137), Ok((0, 80)));
     check(&rt, &all(&[head, &[0; 49], blocks]), bad(185), Ok((0, 80)));
     let between = all(&[part(&file, 0, 4209), &[0], part(&file, 4209, 6672)]);
@@ -189,9 +232,19 @@ fn bytes_left_that_differ_are_named(rt: HostRuntime) {
     let second = part(&all, 4025, 6440);
     let behind = block(&rt, &head, second, 50, 0);
     let more = block(&rt, &head, first, 0, 2416);
-    check(&rt, &joined(&rt, &[&head, &more, &behind]), bad(4209), Ok((50, 30)));
+    check(
+        &rt,
+        &joined(&rt, &[&head, &more, &behind]),
+        bad(4209),
+        Ok((50, 30)),
+    );
     let fewer = block(&rt, &head, first, 0, 2414);
-    check(&rt, &joined(&rt, &[&head, &fewer, &behind]), bad(4209), Ok((50, 30)));
+    check(
+        &rt,
+        &joined(&rt, &[&head, &fewer, &behind]),
+        bad(4209),
+        Ok((50, 30)),
+    );
     let front = block(&rt, &head, first, 0, 2415);
     let last = block(&rt, &head, second, 50, 1);
     check(&rt, &joined(&rt, &[&head, &front, &last]), bad(6672), LOST);
@@ -215,7 +268,12 @@ fn heads_without_records_have_no_blocks(rt: HostRuntime) {
     let one = block(&rt, &none, part(&all, 0, 161), 5, 0);
     check(&rt, &joined(&rt, &[&none, &one]), bad(345), Ok((5, 0)));
     check(&rt, &joined(&rt, &[&none, &[0]]), bad(137), Ok((5, 0)));
-    check(&rt, &head(&rt, 0, 0), disorder(0, 6), refused(disorder(0, 6)));
+    check(
+        &rt,
+        &head(&rt, 0, 0),
+        disorder(0, 6),
+        refused(disorder(0, 6)),
+    );
     check(&rt, &head(&rt, 5, 161), differs(161, 0), LOST);
 }
 

@@ -24,12 +24,18 @@ pub fn joined<R: Abort + AllocGlobal>(rt: &R, parts: &[&[u8]]) -> Vec<u8> {
 /// A head with other bytes at a place.
 pub fn replaced<R: Abort + AllocGlobal>(rt: &R, bytes: &[u8], at: usize, new: &[u8]) -> Vec<u8> {
     let behind = at.saturating_add(new.len());
-    joined(rt, &[part(bytes, 0, at), new, part(bytes, behind, bytes.len())])
+    joined(
+        rt,
+        &[part(bytes, 0, at), new, part(bytes, behind, bytes.len())],
+    )
 }
 
 /// What a head says of one hart, interval 1 and limit 40, before which 5 records were given up.
 pub fn signed<R: Abort + AllocGlobal>(rt: &R) -> Vec<u8> {
-    joined(rt, &[part(&written(rt, rt.alloc(), &head(rt), 5, &[]), 0, 104)])
+    joined(
+        rt,
+        &[part(&written(rt, rt.alloc(), &head(rt), 5, &[]), 0, 104)],
+    )
 }
 
 /// A head with its digest.
@@ -46,7 +52,12 @@ fn are_refused<R: Abort + AllocGlobal>(rt: &R, file: &[u8], fault: FileError) ->
 }
 
 // The head that has these fields: the format, and two others by their places.
-fn with_fields<R: Abort + AllocGlobal>(rt: &R, format: u32, one: (usize, u32), other: (usize, u32)) -> Vec<u8> {
+fn with_fields<R: Abort + AllocGlobal>(
+    rt: &R,
+    format: u32,
+    one: (usize, u32),
+    other: (usize, u32),
+) -> Vec<u8> {
     let bytes = replaced(rt, &signed(rt), 48, &format.to_le_bytes());
     let bytes = replaced(rt, &bytes, one.0, &one.1.to_le_bytes());
     sealed(rt, &replaced(rt, &bytes, other.0, &other.1.to_le_bytes()))
@@ -177,8 +188,9 @@ fn short_files_are_named_before_their_fields(rt: HostRuntime) {
 fn both_digests_of_a_head_are_told(rt: HostRuntime) {
     let kept = [9; 32];
     let found = [
-        0x69, 0x61, 0x73, 0xdc, 0x83, 0xcd, 0xf8, 0x49, 0x7c, 0xf0, 0xa1, 0xa2, 0x57, 0x60, 0x7b, 0x15,
-        0x01, 0x3b, 0x80, 0x0d, 0x6b, 0xb7, 0x6e, 0xdf, 0x44, 0x82, 0xec, 0x3b, 0x79, 0x4a, 0x0f, 0x92,
+        0x69, 0x61, 0x73, 0xdc, 0x83, 0xcd, 0xf8, 0x49, 0x7c, 0xf0, 0xa1, 0xa2, 0x57, 0x60, 0x7b,
+        0x15, 0x01, 0x3b, 0x80, 0x0d, 0x6b, 0xb7, 0x6e, 0xdf, 0x44, 0x82, 0xec, 0x3b, 0x79, 0x4a,
+        0x0f, 0x92,
     ];
     let file = joined(&rt, &[&signed(&rt), &kept]);
     let fault = FileError::DigestDiffers { kept, found };
