@@ -28,3 +28,4 @@ mod Renewals
 mod Closing
 mod Faulting
 mod Crashes
+mod Salvaging

@@ -25,6 +25,7 @@ pub mod Laws
 pub mod Headline
 pub mod Jointly
 pub mod Crashes
+pub mod Salvaging
 pub mod Steps
 pub mod Debugging
 pub mod Traced

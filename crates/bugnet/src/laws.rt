@@ -6,9 +6,10 @@ ghost use Rattle.bugnet.specs.Complete.{EachHasAnAnswer, EachCanBeDone};
 ghost use Rattle.bugnet.specs.Crashes.{CrashesAreShown};
 ghost use Rattle.bugnet.specs.Headline.{Headline, RecordingsAreReplayed};
 ghost use Rattle.bugnet.specs.Jointly.{JointHeadline, RecordingsCanBeJoined, RecordingsAreJoined};
+ghost use Rattle.bugnet.specs.Salvaging.{SalvagedAreReplayed};
 ghost use Rattle.bugnet.specs.Traced.{RacesAreTold, SlicesAreTold};
 
-use file_laws::logs_are_contents;
+use file_laws::{logs_are_contents, salvaged_files_suffice};
 use hart_worker::{seeded_lists_end, whole_runs_have_no_error};
 use joint_laws::{
     beginnings_go_on, files_say_the_run_jointly, own_logs_are_logs,
@@ -166,6 +167,19 @@ pub fn crashes_are_shown()
     faults_are_kept();
     logs_are_contents();
     saved_files_keep_to_the_limit();
+    files_are_read();
+}
+
+/// Where a log is salvaged of a recording's damaged file, the replay of each interval whose Header it has
+/// prints the recorded run's rows.
+pub fn salvaged_logs_are_replayed()
+    ensures { SalvagedAreReplayed }
+{
+    readings_are_unique();
+    salvaged_files_suffice();
+    the_rows_of_an_interval_stand_together();
+    files_have_their_size();
+    blocks_are_few();
     files_are_read();
 }
 
