@@ -135,7 +135,7 @@ shown g laws faults replays r old new l format k =
       replayed = λ files log elf log_is elf_is what a. replays r old new l k.hart is.number is.found.interval is.found.is files log elf log_is elf_is what a;
     }
 
-ended-so : (e : RunEnd) → end_status e ≡ 10 → e ≡ ends.Fault
+ended-so : (e : RunEnd) → 10 ≡ end_status e → e ≡ ends.Fault
 ended-so ends.Fault e = refl
 ended-so ends.Limit e = absurd (omega (arith, e))
 ended-so ends.Done e = absurd (omega (arith, e))

@@ -33,7 +33,7 @@ use Rattle.bugnet.specs.Recordings.{told_run, recorded, AreTaken, IsRunOf, IsUnt
 use Rattle.bugnet.specs.Answers.{names_in, manner_of, IsAnswer}
 use Rattle.bugnet.specs.Outside.{WithFiles, ToldRefusal, KeptLog, KeptFiles}
 use Rattle.bugnet.specs.Run.{Call, IsFree, AreKept, Tells, StoppedEarly, SomeTold, TellsAnswer}
-use Rattle.bugnet.specs.Saves.{IsRecorded, input_by, IsChosenLog, Leaves, LeavesLog, LeavesBy, LeavesRun, HoldsBytes, HasElf}
+use Rattle.bugnet.specs.Saves.{IsRecorded, input_by, IsChosenLog, Leaves, LeavesLog, TellsEnd, LeavesBy, LeavesRun, HoldsBytes, HasElf}
 use Rattle.bugnet.specs.Laws.{SeedsAreWhole, FilesKeepToTheirSize}
 use Rattle.bugnet.specs.declared.names.Role.{Role}
 use Rattle.bugnet.specs.declared.names.Role.TheVariants as role
@@ -186,10 +186,10 @@ taken-whole whole (Some seed) c i input b e taken = subst (λ (list : List ℕ).
 taken-whole whole None c i input b e taken = taken
 
 -- what a list of turns makes, which is kept under the book's name
-left : SeedsAreWhole → FilesKeepToTheirSize → (r : RecordingLine) (old new : Files) (what : Told) → Found r old what → HoldsBytes (old r.elf) → r.lean ≡ false
-    → KeptFiles what.saved r.log r.book old new → Leaves r old new
+left : SeedsAreWhole → FilesKeepToTheirSize → (r : RecordingLine) (status : ℕ) (old new : Files) (what : Told) → Found r old what → HoldsBytes (old r.elf) → r.lean ≡ false → status ≡ what.status
+    → KeptFiles what.saved r.log r.book old new → (l : Leaves r old new) × TellsEnd l status
 unfolding told_run
-left whole sizes r old new what f bytes lean kept =
+left whole sizes r status old new what f bytes lean same kept =
     let c = r.settings in
     let i = f.program in
     let run : IsRunOf c i (sha256 f.elf) (manner_of r) f.input what = subst (λ (b : Bool). IsRunBy b r.seed c i (sha256 f.elf) (manner_of r) f.input what) lean f.run in
@@ -205,7 +205,7 @@ left whole sizes r old new what f bytes lean kept =
     let is : what ≡ recorded c i (sha256 f.elf) f.input false turns = run.is ∙ ap (λ (b : Bool). recorded c i (sha256 f.elf) f.input b turns) lean in
     let both = subst (λ (t : Told). KeptFiles t.saved r.log r.book old new) is kept in
     let clash : is_clash false r.log r.book ≡ false = subst (λ (b : Bool). is_clash b r.log r.book ≡ false) lean f.names in
-    record {
+    let leaves : Leaves r old new = record {
       elf = f.elf;
       program = i;
       input = f.input;
@@ -219,7 +219,8 @@ left whole sizes r old new what f bytes lean kept =
       log = both.log_there (apart-names r.log r.book clash);
       within = sizes c i f.elf f.input turns recording;
       others = both.others;
-    }
+    } in
+    (leaves, same ∙ ap (λ (t : Told). t.status) is)
 
 -- what is kept of a lean recording: the file of what a log can say
 record SaysLog (r : RecordingLine) (program : Program) (digest input : List ℕ) (what : Told) : Type 0 where
@@ -293,10 +294,10 @@ left-log whole contents sizes r old new what f bytes lean kept =
       others = alone.others;
     }
 
-left-by : SeedsAreWhole → FilesKeepToTheirSize → LogsAreContents → SizeLaws → (lean : Bool) (r : RecordingLine) (old new : Files) (what : Told) → r.lean ≡ lean → Found r old what → HoldsBytes (old r.elf)
-    → KeptFiles what.saved r.log r.book old new → LeavesBy lean r old new
-left-by whole sizes contents lengths true r old new what e f bytes kept = left-log whole contents lengths r old new what f bytes e kept
-left-by whole sizes contents lengths false r old new what e f bytes kept = left whole sizes r old new what f bytes e kept
+left-by : SeedsAreWhole → FilesKeepToTheirSize → LogsAreContents → SizeLaws → (lean : Bool) (r : RecordingLine) (status : ℕ) (old new : Files) (what : Told) → r.lean ≡ lean → Found r old what
+    → HoldsBytes (old r.elf) → status ≡ what.status → KeptFiles what.saved r.log r.book old new → LeavesBy lean r status old new
+left-by whole sizes contents lengths true r status old new what e f bytes same kept = left-log whole contents lengths r old new what f bytes e kept
+left-by whole sizes contents lengths false r status old new what e f bytes same kept = left whole sizes r status old new what f bytes e same kept
 
 -- ---- a call
 
@@ -306,32 +307,33 @@ free-apart status (inl e) = apart status 3 e (λ e. omega (arith, e)) (λ e. ome
 free-apart status (inr (inl e)) = apart status 9 e (λ e. omega (arith, e)) (λ e. omega (arith, e)) (λ e. omega (arith, e))
 free-apart status (inr (inr e)) = apart status 13 e (λ e. omega (arith, e)) (λ e. omega (arith, e)) (λ e. omega (arith, e))
 
-done-kept : (names : FileNames) (what : Told) (status : ℕ) (k : Call) → Tells names what status k → IsRecorded status → IsRecorded what.status × AreKept names what k
-done-kept names what status k (inl done) is = (subst (λ (n : ℕ). IsRecorded n) done.status_is is, done.files)
+done-kept : (names : FileNames) (what : Told) (status : ℕ) (k : Call) → Tells names what status k → IsRecorded status → IsRecorded what.status × (status ≡ what.status) × AreKept names what k
+done-kept names what status k (inl done) is = (subst (λ (n : ℕ). IsRecorded n) done.status_is is, done.status_is, done.files)
 done-kept names what status k (inr s) is = absurd (free-apart status (stopped-free names what status k s) is)
 
 -- by maps that are told
 so-left : SeedsAreWhole → FilesKeepToTheirSize → LogsAreContents → SizeLaws → (r : RecordingLine) (status : ℕ) (old new : Option Files)
     → WithFiles old (λ files. HoldsBytes (files r.elf))
-    → WithFiles old (λ files. (what : Told) × IsRecord files (names_in (RecordLine r)) r.settings (manner_of r) (is_some r.input) what × IsRecorded what.status × WhereTold old new (KeptFiles what.saved r.log r.book))
-    → WhereTold old new (LeavesBy r.lean r)
+    → WithFiles old (λ files. (what : Told) × IsRecord files (names_in (RecordLine r)) r.settings (manner_of r) (is_some r.input) what × IsRecorded what.status × (status ≡ what.status) × WhereTold old new (KeptFiles what.saved r.log r.book))
+    → WhereTold old new (LeavesBy r.lean r status)
 so-left whole sizes contents lengths r status None new bytes h = tt
-so-left whole sizes contents lengths r status (Some x) None bytes h = absurd h.3
-so-left whole sizes contents lengths r status (Some x) (Some y) bytes h = left-by whole sizes contents lengths r.lean r x y h.0 refl (by-settings (first_bad r.settings) x r h.0 refl h.1 h.2) bytes h.3
+so-left whole sizes contents lengths r status (Some x) None bytes h = absurd h.4
+so-left whole sizes contents lengths r status (Some x) (Some y) bytes h =
+    left-by whole sizes contents lengths r.lean r status x y h.0 refl (by-settings (first_bad r.settings) x r h.0 refl h.1 h.2) bytes h.3 h.4
 
 pub call-leaves : SeedsAreWhole → FilesKeepToTheirSize → LogsAreContents → SizeLaws → (line : Line) (status : ℕ) (k : Call) → HasElf line k.old.files → TellsAnswer (Some line) status k
     → LeavesRun (Some line) status k.old.files k.new.files
 call-leaves whole sizes contents lengths (RecordLine r) status k bytes h = λ is.
     so-left whole sizes contents lengths r status k.old.files k.new.files bytes
     (with-files k.old.files (λ files. SomeTold (IsAnswer (Some (RecordLine r)) files) (λ what. Tells (names_in (RecordLine r)) what status k) ⊎ StoppedEarly (Some (RecordLine r)) files status k)
-    (λ files. (what : Told) × IsRecord files (names_in (RecordLine r)) r.settings (manner_of r) (is_some r.input) what × IsRecorded what.status × WhereTold k.old.files k.new.files (KeptFiles what.saved r.log r.book))
+    (λ files. (what : Told) × IsRecord files (names_in (RecordLine r)) r.settings (manner_of r) (is_some r.input) what × IsRecorded what.status × (status ≡ what.status) × WhereTold k.old.files k.new.files (KeptFiles what.saved r.log r.book))
     (λ files x. found files is x) h)
   where
     found : (files : Files) → IsRecorded status → SomeTold (IsAnswer (Some (RecordLine r)) files) (λ what. Tells (names_in (RecordLine r)) what status k) ⊎ StoppedEarly (Some (RecordLine r)) files status k
-        → (what : Told) × IsRecord files (names_in (RecordLine r)) r.settings (manner_of r) (is_some r.input) what × IsRecorded what.status × WhereTold k.old.files k.new.files (KeptFiles what.saved r.log r.book)
+        → (what : Told) × IsRecord files (names_in (RecordLine r)) r.settings (manner_of r) (is_some r.input) what × IsRecorded what.status × (status ≡ what.status) × WhereTold k.old.files k.new.files (KeptFiles what.saved r.log r.book)
     found files is (inl a) =
         let done = done-kept (names_in (RecordLine r)) a.0 status k a.2 is in
-        (a.0, a.1, done.0, done.1)
+        (a.0, a.1, done.0, done.1, done.2)
     found files is (inr early) = absurd (free-apart status (early-free (Some (RecordLine r)) files status k early) is)
 call-leaves whole sizes contents lengths (ReplayLine log elf hart interval) status k bytes h = tt
 call-leaves whole sizes contents lengths (JointLine log elf) status k bytes h = tt

@@ -14,8 +14,7 @@ use Rattle.run_model.specs.Turn.{ask_at, mark}
 use Rattle.rv_meaning.specs.declared.asks.Want.TheVariants.{Faulted}
 use Rattle.bugnet.specs.Answers.{IsAnswer}
 use Rattle.bugnet.specs.Headline.{run_text, part_of}
-use Rattle.bugnet.specs.Recordings.{marks_of, end_by, end_status}
-use Rattle.bugnet.specs.Saves.{Leaves}
+use Rattle.bugnet.specs.Saves.{Leaves, TellsEnd}
 use Rattle.bugnet.specs.Texts.{interval_text}
 use Rattle.bugnet.specs.Told.{Told, printed}
 
@@ -57,12 +56,8 @@ pub record ShowsCrash {r : RecordingLine} {old new : Files} (l : Leaves r old ne
   pub replayed : (files : Files) (log elf : List ℕ) → files log ≡ new r.log → files elf ≡ old r.elf → (what : Told) → IsAnswer (Some (ReplayLine log elf k.hart number)) files what
       → what ≡ printed (run_text (part_of l k.hart number) interval)
 
--- the run that a recording left ended in a fault: the recording ended with status 10
-abbrev pub EndsInFault : {r : RecordingLine} {old new : Files} → Leaves r old new → Type 0
-EndsInFault {r} l = end_status (end_by (marks_of r.settings (run_of r.settings l.program l.input l.turns))) ≡ 10
-
--- With format 2 such a run's last turn is a crash, and it is shown so, whatever the program, the input, the number of harts, and
--- what the other harts logged
+-- With format 2, where the recording's status is 10, the run's last turn is a crash, and it is shown so, whatever the program, the
+-- input, the number of harts, and what the other harts logged
 abbrev pub CrashesAreShown : Type 0
-CrashesAreShown = (r : RecordingLine) (old new : Files) (l : Leaves r old new) → r.settings.format ≡ 2 → EndsInFault l
+CrashesAreShown = (r : RecordingLine) (old new : Files) (l : Leaves r old new) → r.settings.format ≡ 2 → TellsEnd l 10
     → (k : IsCrash r.settings l.program l.input l.turns) × ShowsCrash l k

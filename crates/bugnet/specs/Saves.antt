@@ -15,7 +15,7 @@ use Rattle.run_model.specs.Files.{content_of, file_of}
 use Rattle.run_model.specs.Runs.{run_of, seeded}
 use Rattle.file_laws.specs.Given.{IsRecording}
 use Rattle.bugnet.specs.Outside.{WithFiles, SameBut}
-use Rattle.bugnet.specs.Recordings.{AreTaken}
+use Rattle.bugnet.specs.Recordings.{AreTaken, marks_of, end_by, end_status}
 
 -- a recording is done: the run ended in no fault and no limit, in a fault, or by the limit
 abbrev pub IsRecorded : ℕ → Type 0
@@ -54,6 +54,10 @@ pub record Leaves (r : RecordingLine) (old new : Files) : Type 0 where
   pub within : IsWithin (content_of r.settings (sha256 elf) (run_of r.settings program input turns))
   pub others : SameBut r.log r.book old new
 
+-- the status says how that run ended
+abbrev pub TellsEnd : {r : RecordingLine} {old new : Files} → Leaves r old new → ℕ → Type 0
+TellsEnd {r} l status = status ≡ end_status (end_by (marks_of r.settings (run_of r.settings l.program l.input l.turns)))
+
 -- where there is a seed, a log is that of the turns that it chooses
 abbrev pub IsChosenLog : Option ℕ → RawSettings → Program → (digest input : List ℕ) → (log : List ℕ) → Type 0
 IsChosenLog None c i digest input log = Unit {0}
@@ -78,14 +82,14 @@ pub record LeavesLog (r : RecordingLine) (old new : Files) : Type 0 where
   pub chosen : IsChosenLog r.seed r.settings program (sha256 elf) input (saved_bytes says)
   pub others : SameElsewhere r.log old new
 
-abbrev pub LeavesBy : (lean : Bool) → RecordingLine → (old new : Files) → Type 0
-LeavesBy true r old new = LeavesLog r old new
-LeavesBy false r old new = Leaves r old new
+abbrev pub LeavesBy : (lean : Bool) → RecordingLine → ℕ → (old new : Files) → Type 0
+LeavesBy true r status old new = LeavesLog r old new
+LeavesBy false r status old new = (l : Leaves r old new) × TellsEnd l status
 
 -- so it is once a recording is done
 abbrev pub LeavesRun : Option Line → ℕ → (old new : Option Files) → Type 0
 LeavesRun None status old new = Unit {0}
-LeavesRun (Some (RecordLine r)) status old new = IsRecorded status → WhereTold old new (LeavesBy r.lean r)
+LeavesRun (Some (RecordLine r)) status old new = IsRecorded status → WhereTold old new (LeavesBy r.lean r status)
 LeavesRun (Some (ReplayLine log elf hart interval)) status old new = Unit {0}
 LeavesRun (Some (JointLine log elf)) status old new = Unit {0}
 LeavesRun (Some (DebugLine log elf)) status old new = Unit {0}

@@ -312,7 +312,8 @@ pub fn run<S: Store, I: Source, O: Sink, X: Sink, G: Gate, R: Threads + Wait + S
 
     // A recording leaves under BOOK its turns, legal and finished, where there is a seed those that it
     // chooses, and under LOG the file of their run, in the version of its format: its records have at most
-    // log-size bytes, and it has 124 more in version 1, in version 2 136 and 48 a block. A lean one leaves BOOK as it was, and under LOG the file of what a log can say, within
+    // log-size bytes, and it has 124 more in version 1, in version 2 136 and 48 a block. The status says how
+    // the run ended. A lean one leaves BOOK as it was, and under LOG the file of what a log can say, within
     // its size; where there is a seed that of the run that it chooses.
     ensures recorded { LeavesRun (command_in words.now) result (S.files store.old) (S.files store.new) }
 
