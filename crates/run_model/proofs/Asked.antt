@@ -1,6 +1,6 @@
 -- What is traced while a hart's orderly ask is answered, its next interval begun where the guard asks for it.
 use Rattle.std.proofs.Common.{◌≡◌, ◌≢◌, ℕ, zero, suc, ◌+◌, ◌-◌, ◌*◌, ◌^◌, ◌<◌, ◌≤◌, ◌==◌, Bool, true, false, length, sym, ◌∙◌, ap, subst, arith, refl, inl, inr}
-use Rattle.std.specs.Prelude.{IsTrue, if◌then◌else◌, Option, Some, None}
+use Rattle.std.specs.Prelude.{IsTrue, if◌then◌else◌, Option, Some, None, []}
 use Rattle.std.proofs.lemmas.Bool.Decides.{eqb_tells}
 use Rattle.std.proofs.lemmas.Nat.{mul-le}
 use Rattle.bn_base.specs.Programs.{Program}

@@ -93,7 +93,7 @@ impl Trace {
         self.harts[hart as usize] = own;
     }
 
-    #[tactic(auto, using(crate::proofs::Begun::trace_guarded, crate::proofs::Begun::trace_unguarded))]
+    #[tactic(auto, using(crate::proofs::Begun::trace_unguarded))]
     /// Where the ask that a hart makes in this state is guarded, the hart first begins its next interval
     /// there; else all stays as it is.
     pub fn guard(&mut self, guarded: bool, hart: HartId, state: &HartState)
