@@ -1,13 +1,11 @@
 -- A hart begins its next interval by the guard.
-use Rattle.std.proofs.Common.{◌≡◌, ◌≢◌, ℕ, ◌+◌, ◌<◌, ◌==◌, ◌++◌, Bool, true, false, List, ◌∷◌, length, refl, sym, ◌∙◌, ap, subst, arith}
+use Rattle.std.proofs.Common.{◌≡◌, ℕ, ◌+◌, ◌<◌, ◌==◌, ◌++◌, Bool, true, false, List, ◌∷◌, length, refl, sym, ◌∙◌, ap, subst, arith}
 use Rattle.std.specs.Prelude.{slice_set}
-use Rattle.std.proofs.lemmas.Bool.{cases_eq, eq-eqb, ne_eqb}
 use Rattle.bn_base.specs.declared.settings.RawSettings.{RawSettings}
 use Rattle.bn_base.specs.declared.state.HartState.{HartState}
 use Rattle.first_load_bits.specs.Events.{Event}
 use Rattle.first_load_bits.specs.Events.{Clear}
 use Rattle.first_load_bits.specs.Stands.{Contents, StandsFor}
-use Rattle.log_record.specs.declared.record.Record.{Record}
 use Rattle.log_record.specs.Spelling.{total}
 use Rattle.race_log.specs.declared.shadow.Shadow.{Shadow}
 use Rattle.race_log.specs.Stands.{Stands}

@@ -1,4 +1,4 @@
-use Rattle.std.proofs.Common.{◌≡◌, ◌≤◌, ◌<◌, ◌==◌, ◌+◌, ◌-◌, ◌^◌, ℕ, Bool, List, length, refl, sym, subst, ap, ◌∙◌, arith, IsTrue}
+use Rattle.std.proofs.Common.{◌≡◌, ◌≤◌, ◌<◌, ◌==◌, ◌+◌, ◌-◌, ◌^◌, ℕ, Bool, List, length, sym, subst, ap, ◌∙◌, arith, IsTrue}
 use Rattle.std.specs.Prelude.{Vec, if◌then◌else◌}
 use Rattle.std.specs.Global.{Global}
 use Rattle.rv_meaning.specs.Execute.{absorbed}
@@ -10,7 +10,7 @@ use Rattle.run_model.specs.Stands.Parts.{IsMachine}
 use Rattle.run_model.specs.Stands.Logs.{taken, is_marked_next}
 use Rattle.run_model.specs.Stands.EachCache.{steps_in, touched_word, touches}
 use Rattle.run_model.specs.Stands.Harts.{AreHarts, hart_in}
-use Rattle.run_model.specs.Turn.{Run, guarded_run, serve_call, span_of, next_of, hart_after, harts_after, skipped_after, points_after, point_of}
+use Rattle.run_model.specs.Turn.{guarded_run, serve_call, span_of, next_of, hart_after, harts_after, skipped_after, points_after, point_of}
 use Rattle.run_model.specs.Stands.Plain.{IsTrace, IsRaceReady, everyone, meant, count_after, clears}
 use Rattle.run_model.proofs.Owns.{hart_of_run}
 use Rattle.run_model.proofs.PlainRuns.{traced, race_ready}
@@ -33,23 +33,23 @@ returns-clause-run c run is =
     let g = hart_in t.harts.items k in
     let h = hart_in a.new.self.harts.items k in
     let q = asked_fit c.guarded_asks_fit.ensures p.start.settings p.start.image p.trace c.guard.new.self p.turns c.args.hart c.args.ask.now c.is_guarded-guarded.result p.fits c.requires.hart c.requires.live c.requires.orderly
-        c.is_guarded-guarded.ensures.uncut c.guard.ensures.anew c.guard.ensures.same in
+    c.is_guarded-guarded.ensures.uncut c.guard.ensures.anew c.guard.ensures.same in
     let m : IsMachine c.deref.result.now p.machine run.machine = subst (λ (xs : List ℕ). IsMachine xs p.machine run.machine) (sym c.deref.ensures.value) is.machine in
     let eg : g ≡ answering.harts k = hart_of_run t.harts.items k answering.harts before.harts (omega (arith, q.within, q.harts)) in
     let eh : h ≡ answering.harts k = ap (λ (v : Vec Hart Global). hart_in v.items k) a.ensures.harts ∙ eg in
     let are : AreHarts a.new.self.harts.items answering.harts = subst (λ (v : Vec Hart Global). AreHarts v.items answering.harts) (sym a.ensures.harts) before.harts in
     let after : IsTrace settings f.new.self (serve_call settings run k ask guarded call).run =
-        traced settings answering k ask call p.turns _ g h a.result c.word_before-word.result reply f.new.self is.turns (ap (λ (v : Vec Hart Global). length v.items) a.ensures.harts ∙ q.harts) eg eh
-        (a.ensures.load settings p.start.image run.machine answering.events (c.requires.call run.machine is.machine) before.caches)
-        (c.word_before-word.ensures p.start.input.items run.machine is.machine)
-        (c.answer-reply.ensures.answer.reply run.machine m)
-        (record {
-          harts = f.ensures.harts answering.harts are;
-          caches = f.ensures.caches settings (span_of call ask.want reply) answering.events (a.ensures.caches settings answering.events before.caches);
-          shadow = subst (λ (s : Shadow). Stands (points_after (point_of k ask.state.ic p.turns (span_of call ask.want reply)) run.points) everyone s) (sym f.ensures.shadow) (a.ensures.shadow run.points before.shadow);
-          log = f.ensures.holds answering.harts _ are (a.ensures.holds run.points answering.stream before.shadow before.log);
-        })
-        (sym before.bytes ∙ before.log.bytes) in
+    traced settings answering k ask call p.turns _ g h a.result c.word_before-word.result reply f.new.self is.turns (ap (λ (v : Vec Hart Global). length v.items) a.ensures.harts ∙ q.harts) eg eh
+    (a.ensures.load settings p.start.image run.machine answering.events (c.requires.call run.machine is.machine) before.caches)
+    (c.word_before-word.ensures p.start.input.items run.machine is.machine)
+    (c.answer-reply.ensures.answer.reply run.machine m)
+    (record {
+      harts = f.ensures.harts answering.harts are;
+      caches = f.ensures.caches settings (span_of call ask.want reply) answering.events (a.ensures.caches settings answering.events before.caches);
+      shadow = subst (λ (s : Shadow). Stands (points_after (point_of k ask.state.ic p.turns (span_of call ask.want reply)) run.points) everyone s) (sym f.ensures.shadow) (a.ensures.shadow run.points before.shadow);
+      log = f.ensures.holds answering.harts _ are (a.ensures.holds run.points answering.stream before.shadow before.log);
+    })
+    (sym before.bytes ∙ before.log.bytes) in
     record {
       machine = subst (λ (xs : List ℕ). IsMachine xs c.answer-reply.new.self (answer settings call run.machine k ask).machine) c.deref.ensures.value (c.answer-reply.ensures.answer.stands run.machine m);
       trace = subst (λ (b : Bool). IsTrace settings c.forget.new.self (serve_call settings run k ask b call).run) (c.is_guarded-guarded.ensures.run run is)
@@ -63,7 +63,7 @@ invariant_of-self c =
     let t = c.guard.new.self in
     let a = c.access-load in let f = c.finish-next in
     let q = asked_fit c.guarded_asks_fit.ensures p.start.settings p.start.image p.trace c.guard.new.self p.turns c.args.hart c.args.ask.now c.is_guarded-guarded.result p.fits c.requires.hart c.requires.live c.requires.orderly
-        c.is_guarded-guarded.ensures.uncut c.guard.ensures.anew c.guard.ensures.same in
+    c.is_guarded-guarded.ensures.uncut c.guard.ensures.anew c.guard.ensures.same in
     let m = meant p.start.input.items p.machine in
     let is = is_meant p.start.input.items p.machine in
     let stands : IsMachine c.deref.result.now p.machine m = subst (λ (xs : List ℕ). IsMachine xs p.machine m) (sym c.deref.ensures.value) is in
@@ -123,35 +123,35 @@ pub access-load-requires-clause-hart : goal.access-load-requires-clause-hart
 access-load-requires-clause-hart c =
     let p = c.args.self.now in
     let q = asked_fit c.guarded_asks_fit.ensures p.start.settings p.start.image p.trace c.guard.new.self p.turns c.args.hart c.args.ask.now c.is_guarded-guarded.result p.fits c.requires.hart c.requires.live c.requires.orderly
-        c.is_guarded-guarded.ensures.uncut c.guard.ensures.anew c.guard.ensures.same in
+    c.is_guarded-guarded.ensures.uncut c.guard.ensures.anew c.guard.ensures.same in
     omega (arith, q.within, q.harts)
 
 pub access-load-requires-clause-caches : goal.access-load-requires-clause-caches
 access-load-requires-clause-caches c =
     let p = c.args.self.now in
     let q = asked_fit c.guarded_asks_fit.ensures p.start.settings p.start.image p.trace c.guard.new.self p.turns c.args.hart c.args.ask.now c.is_guarded-guarded.result p.fits c.requires.hart c.requires.live c.requires.orderly
-        c.is_guarded-guarded.ensures.uncut c.guard.ensures.anew c.guard.ensures.same in
+    c.is_guarded-guarded.ensures.uncut c.guard.ensures.anew c.guard.ensures.same in
     omega (arith, q.within, q.caches)
 
 pub access-load-requires-clause-shadow : goal.access-load-requires-clause-shadow
 access-load-requires-clause-shadow c =
     let p = c.args.self.now in
     let q = asked_fit c.guarded_asks_fit.ensures p.start.settings p.start.image p.trace c.guard.new.self p.turns c.args.hart c.args.ask.now c.is_guarded-guarded.result p.fits c.requires.hart c.requires.live c.requires.orderly
-        c.is_guarded-guarded.ensures.uncut c.guard.ensures.anew c.guard.ensures.same in
+    c.is_guarded-guarded.ensures.uncut c.guard.ensures.anew c.guard.ensures.same in
     omega (arith, q.within, q.shadow)
 
 pub access-load-requires-clause-few : goal.access-load-requires-clause-few
 access-load-requires-clause-few c =
     let p = c.args.self.now in
     let q = asked_fit c.guarded_asks_fit.ensures p.start.settings p.start.image p.trace c.guard.new.self p.turns c.args.hart c.args.ask.now c.is_guarded-guarded.result p.fits c.requires.hart c.requires.live c.requires.orderly
-        c.is_guarded-guarded.ensures.uncut c.guard.ensures.anew c.guard.ensures.same in
+    c.is_guarded-guarded.ensures.uncut c.guard.ensures.anew c.guard.ensures.same in
     omega (arith, q.shadow, q.few)
 
 pub access-load-requires-clause-ic : goal.access-load-requires-clause-ic
 access-load-requires-clause-ic c =
     let p = c.args.self.now in
     let q = asked_fit c.guarded_asks_fit.ensures p.start.settings p.start.image p.trace c.guard.new.self p.turns c.args.hart c.args.ask.now c.is_guarded-guarded.result p.fits c.requires.hart c.requires.live c.requires.orderly
-        c.is_guarded-guarded.ensures.uncut c.guard.ensures.anew c.guard.ensures.same in
+    c.is_guarded-guarded.ensures.uncut c.guard.ensures.anew c.guard.ensures.same in
     let counts = asked_counts c.each_turn_moves_on.ensures p.start.settings p.start.image c.guard.new.self p.turns c.args.hart c.args.ask.now q in
     omega (arith, counts.limit, q.settings.limit_high)
 
@@ -159,21 +159,21 @@ pub access-load-requires-clause-steps : goal.access-load-requires-clause-steps
 access-load-requires-clause-steps c =
     let p = c.args.self.now in
     let q = asked_fit c.guarded_asks_fit.ensures p.start.settings p.start.image p.trace c.guard.new.self p.turns c.args.hart c.args.ask.now c.is_guarded-guarded.result p.fits c.requires.hart c.requires.live c.requires.orderly
-        c.is_guarded-guarded.ensures.uncut c.guard.ensures.anew c.guard.ensures.same in
+    c.is_guarded-guarded.ensures.uncut c.guard.ensures.anew c.guard.ensures.same in
     few_steps p.start.settings (hart_in c.guard.new.self.harts.items c.args.hart) (steps_in c.guard.new.self.caches c.args.hart) q.own.fit q.settings.limit_high q.own.steps
 
 pub access-load-requires-clause-turns : goal.access-load-requires-clause-turns
 access-load-requires-clause-turns c =
     let p = c.args.self.now in
     let q = asked_fit c.guarded_asks_fit.ensures p.start.settings p.start.image p.trace c.guard.new.self p.turns c.args.hart c.args.ask.now c.is_guarded-guarded.result p.fits c.requires.hart c.requires.live c.requires.orderly
-        c.is_guarded-guarded.ensures.uncut c.guard.ensures.anew c.guard.ensures.same in
+    c.is_guarded-guarded.ensures.uncut c.guard.ensures.anew c.guard.ensures.same in
     q.turn
 
 pub access-load-requires-clause-counts : goal.access-load-requires-clause-counts
 access-load-requires-clause-counts c =
     let p = c.args.self.now in
     let q = asked_fit c.guarded_asks_fit.ensures p.start.settings p.start.image p.trace c.guard.new.self p.turns c.args.hart c.args.ask.now c.is_guarded-guarded.result p.fits c.requires.hart c.requires.live c.requires.orderly
-        c.is_guarded-guarded.ensures.uncut c.guard.ensures.anew c.guard.ensures.same in
+    c.is_guarded-guarded.ensures.uncut c.guard.ensures.anew c.guard.ensures.same in
     let counts = asked_counts c.each_turn_moves_on.ensures p.start.settings p.start.image c.guard.new.self p.turns c.args.hart c.args.ask.now q in
     omega (arith, counts.from, q.own.count)
 
@@ -181,14 +181,14 @@ pub access-load-requires-clause-lasting : goal.access-load-requires-clause-lasti
 access-load-requires-clause-lasting c =
     let p = c.args.self.now in
     let q = asked_fit c.guarded_asks_fit.ensures p.start.settings p.start.image p.trace c.guard.new.self p.turns c.args.hart c.args.ask.now c.is_guarded-guarded.result p.fits c.requires.hart c.requires.live c.requires.orderly
-        c.is_guarded-guarded.ensures.uncut c.guard.ensures.anew c.guard.ensures.same in
+    c.is_guarded-guarded.ensures.uncut c.guard.ensures.anew c.guard.ensures.same in
     q.own.lasting q.live
 
 pub access-load-requires-clause-room : goal.access-load-requires-clause-room
 access-load-requires-clause-room c =
     let p = c.args.self.now in
     let q = asked_fit c.guarded_asks_fit.ensures p.start.settings p.start.image p.trace c.guard.new.self p.turns c.args.hart c.args.ask.now c.is_guarded-guarded.result p.fits c.requires.hart c.requires.live c.requires.orderly
-        c.is_guarded-guarded.ensures.uncut c.guard.ensures.anew c.guard.ensures.same in
+    c.is_guarded-guarded.ensures.uncut c.guard.ensures.anew c.guard.ensures.same in
     some_room p.start.settings p.turns _ (taken c.guard.new.self.log.ring) 18 q.few q.settings.limit_high q.left (omega (arith, q.log)) (omega arith)
 
 pub access-load-requires-clause-ready : goal.access-load-requires-clause-ready
@@ -202,28 +202,28 @@ pub finish-next-requires-clause-hart : goal.finish-next-requires-clause-hart
 finish-next-requires-clause-hart c =
     let p = c.args.self.now in
     let q = asked_fit c.guarded_asks_fit.ensures p.start.settings p.start.image p.trace c.guard.new.self p.turns c.args.hart c.args.ask.now c.is_guarded-guarded.result p.fits c.requires.hart c.requires.live c.requires.orderly
-        c.is_guarded-guarded.ensures.uncut c.guard.ensures.anew c.guard.ensures.same in
+    c.is_guarded-guarded.ensures.uncut c.guard.ensures.anew c.guard.ensures.same in
     omega (arith, q.within, q.harts, ap (λ (v : Vec Hart Global). length v.items) c.access-load.ensures.harts)
 
 pub finish-next-requires-clause-few : goal.finish-next-requires-clause-few
 finish-next-requires-clause-few c =
     let p = c.args.self.now in
     let q = asked_fit c.guarded_asks_fit.ensures p.start.settings p.start.image p.trace c.guard.new.self p.turns c.args.hart c.args.ask.now c.is_guarded-guarded.result p.fits c.requires.hart c.requires.live c.requires.orderly
-        c.is_guarded-guarded.ensures.uncut c.guard.ensures.anew c.guard.ensures.same in
+    c.is_guarded-guarded.ensures.uncut c.guard.ensures.anew c.guard.ensures.same in
     omega (arith, q.few, q.harts, ap (λ (v : Vec Hart Global). length v.items) c.access-load.ensures.harts)
 
 pub finish-next-requires-clause-caches : goal.finish-next-requires-clause-caches
 finish-next-requires-clause-caches c =
     let p = c.args.self.now in
     let q = asked_fit c.guarded_asks_fit.ensures p.start.settings p.start.image p.trace c.guard.new.self p.turns c.args.hart c.args.ask.now c.is_guarded-guarded.result p.fits c.requires.hart c.requires.live c.requires.orderly
-        c.is_guarded-guarded.ensures.uncut c.guard.ensures.anew c.guard.ensures.same in
+    c.is_guarded-guarded.ensures.uncut c.guard.ensures.anew c.guard.ensures.same in
     omega (arith, q.within, q.caches, c.access-load.ensures.count)
 
 pub finish-next-requires-clause-steps : goal.finish-next-requires-clause-steps
 finish-next-requires-clause-steps c =
     let p = c.args.self.now in
     let q = asked_fit c.guarded_asks_fit.ensures p.start.settings p.start.image p.trace c.guard.new.self p.turns c.args.hart c.args.ask.now c.is_guarded-guarded.result p.fits c.requires.hart c.requires.live c.requires.orderly
-        c.is_guarded-guarded.ensures.uncut c.guard.ensures.anew c.guard.ensures.same in
+    c.is_guarded-guarded.ensures.uncut c.guard.ensures.anew c.guard.ensures.same in
     let old = steps_in c.guard.new.self.caches c.args.hart in
     few_steps_more p.start.settings (hart_in c.guard.new.self.harts.items c.args.hart) old _ (touched_word c.args.call (span_of c.args.call c.args.ask.now.want c.answer-reply.result)) q.own.fit q.settings.limit_high q.own.steps
     (c.access-load.ensures.steps c.args.hart ∙ if_true (c.args.hart == c.args.hart) _ _ (eqb_same c.args.hart))
@@ -232,21 +232,21 @@ pub finish-next-requires-clause-number : goal.finish-next-requires-clause-number
 finish-next-requires-clause-number c =
     let p = c.args.self.now in
     let q = asked_fit c.guarded_asks_fit.ensures p.start.settings p.start.image p.trace c.guard.new.self p.turns c.args.hart c.args.ask.now c.is_guarded-guarded.result p.fits c.requires.hart c.requires.live c.requires.orderly
-        c.is_guarded-guarded.ensures.uncut c.guard.ensures.anew c.guard.ensures.same in
+    c.is_guarded-guarded.ensures.uncut c.guard.ensures.anew c.guard.ensures.same in
     subst (λ (v : Vec Hart Global). (hart_in v.items c.args.hart).number < 2 ^ 62) (sym c.access-load.ensures.harts) (low_number p.start.settings (hart_in c.guard.new.self.harts.items c.args.hart) q.own.fit q.settings.limit_high)
 
 pub finish-next-requires-clause-skipped : goal.finish-next-requires-clause-skipped
 finish-next-requires-clause-skipped c =
     let p = c.args.self.now in
     let q = asked_fit c.guarded_asks_fit.ensures p.start.settings p.start.image p.trace c.guard.new.self p.turns c.args.hart c.args.ask.now c.is_guarded-guarded.result p.fits c.requires.hart c.requires.live c.requires.orderly
-        c.is_guarded-guarded.ensures.uncut c.guard.ensures.anew c.guard.ensures.same in
+    c.is_guarded-guarded.ensures.uncut c.guard.ensures.anew c.guard.ensures.same in
     subst (λ (v : Vec Hart Global). (hart_in v.items c.args.hart).skipped < 2 ^ 32 - 1) (sym c.access-load.ensures.harts) (few_skipped p.start.settings (hart_in c.guard.new.self.harts.items c.args.hart) q.own.fit q.settings.interval_high)
 
 pub finish-next-requires-clause-marked : goal.finish-next-requires-clause-marked
 finish-next-requires-clause-marked c =
     let p = c.args.self.now in
     let q = asked_fit c.guarded_asks_fit.ensures p.start.settings p.start.image p.trace c.guard.new.self p.turns c.args.hart c.args.ask.now c.is_guarded-guarded.result p.fits c.requires.hart c.requires.live c.requires.orderly
-        c.is_guarded-guarded.ensures.uncut c.guard.ensures.anew c.guard.ensures.same in
+    c.is_guarded-guarded.ensures.uncut c.guard.ensures.anew c.guard.ensures.same in
     let m = meant p.start.input.items p.machine in
     let is = is_meant p.start.input.items p.machine in
     let stands : IsMachine c.deref.result.now p.machine m = subst (λ (xs : List ℕ). IsMachine xs p.machine m) (sym c.deref.ensures.value) is in
@@ -257,19 +257,19 @@ pub finish-next-requires-clause-room : goal.finish-next-requires-clause-room
 finish-next-requires-clause-room c =
     let p = c.args.self.now in
     let q = asked_fit c.guarded_asks_fit.ensures p.start.settings p.start.image p.trace c.guard.new.self p.turns c.args.hart c.args.ask.now c.is_guarded-guarded.result p.fits c.requires.hart c.requires.live c.requires.orderly
-        c.is_guarded-guarded.ensures.uncut c.guard.ensures.anew c.guard.ensures.same in
+    c.is_guarded-guarded.ensures.uncut c.guard.ensures.anew c.guard.ensures.same in
     some_room p.start.settings p.turns _ (taken c.access-load.new.self.log.ring) 18 q.few q.settings.limit_high q.left (omega (arith, q.log, c.access-load.ensures.took)) (omega arith)
 
 pub forget-requires-clause-few : goal.forget-requires-clause-few
 forget-requires-clause-few c =
     let p = c.args.self.now in
     let q = asked_fit c.guarded_asks_fit.ensures p.start.settings p.start.image p.trace c.guard.new.self p.turns c.args.hart c.args.ask.now c.is_guarded-guarded.result p.fits c.requires.hart c.requires.live c.requires.orderly
-        c.is_guarded-guarded.ensures.uncut c.guard.ensures.anew c.guard.ensures.same in
+    c.is_guarded-guarded.ensures.uncut c.guard.ensures.anew c.guard.ensures.same in
     omega (arith, q.few, q.harts, ap (λ (v : Vec Hart Global). length v.items) c.access-load.ensures.harts, c.finish-next.ensures.len)
 
 pub forget-requires-clause-shadow : goal.forget-requires-clause-shadow
 forget-requires-clause-shadow c =
     let p = c.args.self.now in
     let q = asked_fit c.guarded_asks_fit.ensures p.start.settings p.start.image p.trace c.guard.new.self p.turns c.args.hart c.args.ask.now c.is_guarded-guarded.result p.fits c.requires.hart c.requires.live c.requires.orderly
-        c.is_guarded-guarded.ensures.uncut c.guard.ensures.anew c.guard.ensures.same in
+    c.is_guarded-guarded.ensures.uncut c.guard.ensures.anew c.guard.ensures.same in
     ap harts_of c.finish-next.ensures.shadow ∙ c.access-load.ensures.shadow_harts ∙ q.shadow ∙ sym (c.finish-next.ensures.len ∙ ap (λ (v : Vec Hart Global). length v.items) c.access-load.ensures.harts ∙ q.harts)

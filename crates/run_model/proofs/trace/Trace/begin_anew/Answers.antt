@@ -1,4 +1,4 @@
-use Rattle.std.proofs.Common.{◌≡◌, ◌∙◌, ◌+◌, ◌++◌, length, refl, ap, subst}
+use Rattle.std.proofs.Common.{◌∙◌, ◌+◌, ◌++◌, length, refl, ap, subst}
 use Rattle.std.proofs.lemmas.List.{get_or-set_same, get_or-set_other, length-set}
 use Rattle.run_model.specs.declared.next.Next.{Next}
 use Rattle.run_model.specs.Counts.{anew}
