@@ -89,7 +89,10 @@ fn each_range_of_format_2_has_these_ends(rt: HostRuntime) {
         );
         for &value in &[under, over, u64::MAX] {
             let bad = BadSetting { field, value };
-            assert_eq!(rt; Settings::checked(&with_level(field, value)).err(), Some(bad));
+            assert_eq!(rt;
+                Settings::checked(&with_level(field, value)).err(),
+                Some(bad)
+            );
         }
     }
 }
@@ -98,12 +101,24 @@ fn each_range_of_format_2_has_these_ends(rt: HostRuntime) {
 #[test]
 fn a_second_level_has_sets_and_ways(rt: HostRuntime) {
     let bad = Settings::checked(&with_level(11, 0)).err();
-    assert_eq!(rt; bad, Some(BadSetting { field: 12, value: 4 }));
+    assert_eq!(rt;
+        bad,
+        Some(BadSetting {
+            field: 12,
+            value: 4
+        })
+    );
     let mut raw = with(10, 2);
     assert!(rt; Settings::checked(&raw).is_ok());
     raw.sets2 = 1;
     let bad = Settings::checked(&raw).err();
-    assert_eq!(rt; bad, Some(BadSetting { field: 12, value: 0 }));
+    assert_eq!(rt;
+        bad,
+        Some(BadSetting {
+            field: 12,
+            value: 0
+        })
+    );
 }
 
 #[test]
