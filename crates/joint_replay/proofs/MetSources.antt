@@ -72,7 +72,7 @@ zeros zero h n e = absurd cc
 zeros (suc count) zero n e = let same : ◌≡◌ {A = Option ℕ} (Some 0) (Some n) = e in cc
 zeros (suc count) (suc h) n e = zeros count h n e
 
-zeros_length : (count : ℕ) → length (replicate count 0) ≡ count
+zeros_length : (count : ℕ) → length {A = ℕ} (replicate count 0) ≡ count
 zeros_length zero = refl
 zeros_length (suc count) = ap suc (zeros_length count)
 
