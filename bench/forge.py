@@ -1,4 +1,4 @@
-"""Makes logs of version 1 and small program files, field by field (docs/FORMAT.md; ELF, "ELF Header" and
+"""Makes logs of both versions and small program files, field by field (docs/FORMAT.md; ELF, "ELF Header" and
 "Program Header"): for the scripts beside it, which give the program files that nobody recorded.
 """
 
@@ -39,6 +39,63 @@ def head(program, n, dropped=0, **settings):
 def log(program, records, dropped=0, **settings):
     """Returns the log file with these records' bytes."""
     return sealed(head(program, len(records), dropped, **settings) + records)
+
+
+# ---- version 2
+
+
+def head2(settings, program, dropped, n):
+    """Returns the 104 bytes before a head's digest; the settings are eleven numbers, the last the format, sets2 and
+    ways2, and the program is a digest."""
+    fields = struct.pack("<IIIQIIIIIIII", 2, *settings)
+    return b"BUGNETLG" + fields + program + struct.pack("<QI", dropped, n)
+
+
+def block(seal, records, before, left):
+    """Returns a block of some records' bytes, sealed behind a head's digest."""
+    body = records + struct.pack("<QII", before % 2**64, left % 2**32, len(records) % 2**32)
+    return body + digest(seal + body)
+
+
+def cut(records):
+    """Returns the records of each block."""
+    blocks, size = [], 4_097
+    for record in records:
+        if size + len(record) > 4_096:
+            blocks.append([])
+            size = 0
+        blocks[-1].append(record)
+        size += len(record)
+    return blocks
+
+
+def file2(signed, dropped, blocks):
+    """Returns the file of a head and the records of each block."""
+    data, before, left = sealed(signed), dropped, sum(len(record) for records in blocks for record in records)
+    for records in blocks:
+        left -= sum(map(len, records))
+        data += block(data[104:136], b"".join(records), before, left)
+        before += len(records)
+    return data
+
+
+def log2(program, records, dropped=0, later=(1, 0, 0), **settings):
+    """Returns the log file of version 2 with these records' bytes; `later` are format, sets2 and ways2."""
+    values = (*{**SETTINGS, **settings}.values(), *later)
+    return file2(head2(values, digest(program), dropped, len(records)), dropped, cut(split(records)))
+
+
+def parts2(data):
+    """Returns the head of 104 bytes and the records' bytes, before and left of each block of an undamaged file."""
+    end, blocks = len(data), []
+    while end > 136:
+        before, left, size = struct.unpack_from("<QII", data, end - 48)
+        blocks.insert(0, (data[end - 48 - size : end - 48], before, left))
+        end -= 48 + size
+    return data[:104], blocks
+
+
+# ---- parts of version 1, records and program files
 
 
 def parts(data):

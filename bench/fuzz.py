@@ -3,16 +3,18 @@
 
 bench/fuzz.py [COUNT [SEED [PROCESSES [SECONDS]]]], at most so many seconds by the clock
 
-First come all fronts and all flipped bits of a small log, with its digest and with one made anew, and of a small
-program file with a log made for it. Then COUNT files (10,000) made from recordings of examples/: bits flipped,
-bytes cut out or put in, records left out, doubled, exchanged, put in or changed in a field, fronts and ends of two
-logs put together, settings changed, with the digest made anew or not; and program files with bytes changed, under
-logs that say their digest.
+First come all fronts and all flipped bits of a small log, of version 1 and of version 2, with its digests and with
+digests made anew, and of a small program file with a log made for it. Then COUNT files (10,000) made from recordings
+of examples/: bits flipped, bytes cut out or put in, records left out, doubled, exchanged, put in or changed in a
+field, fronts and ends of two logs put together, settings changed, with the digest made anew or not; half of them in
+version 2, and there also blocks left out, doubled, exchanged, cut elsewhere, damaged or with other numbers, most with
+the digests made anew; and program files with bytes changed, under logs that say their digest.
 
-A log is given to `check`; one that it takes also to `list`, `replay`, `joint`, `debug` and, with a drawn list of
-turns, to `audit`, and one that it refuses also to one of these. A program file is given to `replay`, `joint`, `debug` and `record`. Each call has to
-end by itself, with a status that its command has, one line on err that fits the status, within SECONDS of
-processor time and BYTES of memory; and `check` has to say what bench/verdict.py says.
+A log is given to `check`, and one of version 2 to `salvage`; one that `check` takes also to `list`, `replay`, `joint`,
+`debug`, `races`, `slice`, `convert` and, with a drawn list of turns, to `audit`, and one that it refuses also to one
+of these. A program file is given to `replay`, `joint`, `debug`, `races`, `slice` and `record`. Each call has to end by
+itself, with a status that its command has, one line on err that fits the status, within SECONDS of processor time and
+BYTES of memory; and `check` has to say what bench/verdict.py says, and `convert` and `salvage` too, and to save it.
 
 It prints how many calls of each command had which status, the longest and the largest, and ends with 1 where a
 call was answered otherwise; such a file is kept, and its name and words are printed.
@@ -42,6 +44,10 @@ STATUSES = {
     "replay": LOADING | {14, 15},
     "joint": LOADING | {15},
     "debug": LOADING | {15, 18},
+    "races": LOADING | {15, 20},
+    "slice": LOADING | {14, 15, 21},
+    "convert": {0, 7},
+    "salvage": {0, 7, 19},
     "audit": LOADING | {16, 17},
     "record": {0, 6, 10, 11},
 }
@@ -50,7 +56,7 @@ MARK = rf"{N} \w+ [0-9a-f]{{8}}"
 LINES = {
     6: rf"elf: (NotElf|NotRv32|NotStatic|NeedsCompressed|NeedsE|NoSegment|(TooMany|Outside) {N}|"
     rf"(Truncated|SegmentsTouch) {N} {N}|EntryOutside [0-9a-f]{{8}})",
-    7: rf"log: (BadMagic|(Short|BadVersion|BadRecord) {N}|(BadHead|LengthDiffers|BadOrder) {N} {N}|"
+    7: rf"log: (BadMagic|(Short|BadVersion|BadBlock|BadRecord) {N}|(BadHead|LengthDiffers|BadOrder) {N} {N}|"
     rf"DigestDiffers {DIGEST} {DIGEST})",
     8: f"program differs: {DIGEST} {DIGEST}",
     14: f"no interval {N} {N}",
@@ -59,6 +65,9 @@ LINES = {
     16: f"differs at {N}",
     17: f"book: (turn {N} hart {N}|unfinished {N})",
     18: "(line|commands) too long",
+    19: "nothing left",
+    20: f"races: more than {N}",
+    21: f"no row {N}",
 }
 LINES = {status: re.compile(f"bugnet: {line}\n") for status, line in LINES.items()}
 NUMBERS = (0, 1, 2, 3, 7, 8, 9, 255, 2**16, 2**31, 2**32 - 1, 2**40, 2**41, 2**41 + 1, 2**63, 2**64 - 1)
@@ -71,7 +80,9 @@ FIELDS = {
     5: ((1, 1), (2, 8), (10, 1), (11, 8)),
     6: ((1, 1), (2, 8), (10, 1), (11, 4)),
 }
-HEAD_FIELDS = ((12, 4), (16, 4), (20, 8), (28, 4), (32, 4), (36, 4), (40, 4), (44, 4), (80, 8), (8, 4))
+SETTING_FIELDS = ((12, 4), (16, 4), (20, 8), (28, 4), (32, 4), (36, 4), (40, 4), (44, 4), (8, 4))
+HEAD_FIELDS = (*SETTING_FIELDS, (80, 8))
+HEAD2_FIELDS = (*SETTING_FIELDS, (48, 4), (52, 4), (56, 4), (92, 8), (100, 4))
 
 
 # ---- one call of the program
@@ -94,6 +105,10 @@ class Calls:
     def write(self, name, data):
         with open(self.path(name), "wb") as file:
             file.write(data)
+
+    def read(self, name):
+        with open(self.path(name), "rb") as file:
+            return file.read()
 
     def spawn(self, words, out):
         """Runs the program, and returns how it ended, and what it took; None where it didn't end."""
@@ -143,7 +158,7 @@ class Calls:
     def tell(self, words, what):
         os.makedirs(KEPT, exist_ok=True)
         place = f"{KEPT}/{os.getpid()}-{len(self.wrong)}"
-        for name in ("LOG", "ELF", "BOOK", "keys"):
+        for name in ("LOG", "ELF", "BOOK", "NEW", "keys"):
             if os.path.exists(self.path(name)):
                 os.system(f"cp {self.path(name)} {place}-{name}")
         self.wrong.append(f"{place}: {' '.join(words)}: {what}")
@@ -164,7 +179,7 @@ def recordings(folder):
         if name.endswith(".elf"):
             with open(f"{TOP}/examples/{name}", "rb") as file:
                 elf = file.read()
-            for harts, limit, interval, small in ((1, 400, 100, 4096), (2, 300, 60, 2048), (4, 120, 50, 1024)):
+            for harts, limit, interval, small in ((1, 400, 100, 4096), (2, 300, 60, 2048), (4, 120, 50, 1024), (2, 400, 12, 12_000)):
                 words = ("--harts", harts, "--limit", limit, "--interval", interval, "--input", calls.path("input"))
                 names = (f"{TOP}/examples/{name}", calls.path("LOG"), calls.path("BOOK"))
                 calls.spawn(("record", "--seed", str(len(found)), *map(str, words), *names), "/dev/null")
@@ -272,6 +287,115 @@ def mutated_log(draw, pool):
     return resealed(head, b"".join(found)), elf
 
 
+# ---- the same in version 2
+
+
+def sealed2(signed, blocks):
+    """Returns a file of version 2 with all digests made anew: blocks are records' bytes, before and left."""
+    data = forge.sealed(signed)
+    return data + b"".join(forge.block(data[104:136], *each) for each in blocks)
+
+
+def version2(data):
+    """Returns an undamaged log of version 1 in version 2."""
+    settings = (*struct.unpack_from("<IIQIIIII", data, 12), 1, 0, 0)
+    dropped, n = struct.unpack_from("<QI", data, 80)
+    return forge.file2(forge.head2(settings, data[48:80], dropped, n), dropped, forge.cut(forge.split(data[92:-32])))
+
+
+def cut_anew(draw, records, dropped):
+    """Returns blocks of some records: as they have to be, or cut at drawn places."""
+    if draw.random() < 0.5:
+        parts = [b"".join(each) for each in forge.cut(records)]
+    else:
+        data, parts = b"".join(records), []
+        while data and len(parts) < 30:
+            size = draw.choice((1, 100, 146, 1_000, 4_095, 4_096, 4_097, draw.randrange(1, 4_097)))
+            parts, data = [*parts, data[:size]], data[size:]
+    blocks, before, left = [], dropped, sum(map(len, parts))
+    for part in parts:
+        left -= len(part)
+        blocks.append((part, before, left))
+        before += len(forge.split(part))
+    return blocks
+
+
+def changed_blocks(draw, blocks):
+    """Returns blocks with one of them left out, doubled, exchanged, or with another number."""
+    found = list(blocks)
+    place = draw.randrange(len(found) + 1)
+    way = draw.randrange(6)
+    if way == 0:
+        del found[place : place + 1]
+    elif way == 1:
+        found[place:place] = found[place : place + 1]
+    elif way == 2:
+        found[place : place + 2] = reversed(found[place : place + 2])
+    elif way == 3:
+        found.insert(place, (b"", draw.choice((0, 50)), sum(len(each[0]) for each in found[place:])))
+    elif place < len(found):
+        records, before, left = found[place]
+        before = other_number(draw, before, 8) if way == 4 else before
+        left = other_number(draw, left, 4) if way == 5 else left
+        found[place] = records, before, left
+    return found
+
+
+def with_left(blocks):
+    """Returns blocks each of which says how many bytes are left behind it."""
+    left, found = sum(len(records) for records, _, _ in blocks), []
+    for records, before, _ in blocks:
+        left -= len(records)
+        found.append((records, before, left))
+    return found
+
+
+def rebuilt(draw, signed, records):
+    """Returns a file of version 2 with other records, blocks or numbers, all its digests made anew."""
+    dropped = struct.unpack_from("<Q", signed, 92)[0]
+    if draw.random() < 0.3:
+        dropped = draw.choice((0, 1, 2**64 - 1))
+        signed = signed[:92] + struct.pack("<Q", dropped) + signed[100:]
+    n = sum(map(len, records))
+    blocks = cut_anew(draw, records, draw.choice((dropped, dropped, dropped, 1)))
+    for _ in range(draw.choice((0, 0, 1, 2))):
+        blocks = changed_blocks(draw, blocks)
+        blocks = with_left(blocks) if draw.random() < 0.7 else blocks
+    n = draw.choice((n, n, sum(len(each[0]) for each in blocks), n + 1, n - 1)) % 2**32
+    return sealed2(signed[:100] + struct.pack("<I", n), blocks)
+
+
+def damaged(draw, data):
+    """Returns a file with some bits flipped at a place that is more often near its end."""
+    place = draw.choice((draw.randrange(len(data)), len(data) - 1 - draw.randrange(min(len(data), 100))))
+    return data[:place] + bytes((data[place] ^ 1 << draw.randrange(8),)) + data[place + 1 :]
+
+
+def mutated_log2(draw, pool):
+    """Returns a log of version 2 that was made of recordings, and the program file of one of them."""
+    (first, elf), (other, _) = draw.choice(pool), draw.choice(pool)
+    data = version2(first)
+    way = draw.randrange(10)
+    if way == 0:
+        return damaged(draw, data), elf
+    if way == 1:
+        return patched(draw, data), elf
+    if way == 2:
+        return data[: draw.randrange(len(data))], elf
+    signed, blocks = forge.parts2(data)
+    if way == 3:
+        at, size = draw.choice(HEAD2_FIELDS)
+        return sealed2(put(signed, at, size, draw), blocks), elf
+    if way == 4:
+        at, size = draw.choice(HEAD2_FIELDS)
+        return forge.sealed(put(signed, at, size, draw)) + data[136:], elf
+    found = forge.split(forge.parts(first)[1])
+    for _ in range(draw.choice((0, 0, 1, 2))):
+        found = changed_records(draw, found, forge.split(forge.parts(other)[1]))
+    data = rebuilt(draw, signed, found)
+    return damaged(draw, data) if way > 7 else data, elf
+
+
 def mutated_elf(draw, pool):
     """Returns a program file that was made of an example, and the log of one with its digest."""
     data, elf = draw.choice(pool)
@@ -300,52 +424,85 @@ def keys_of(draw):
 # ---- what each file is given to
 
 
-def reader_words(draw, calls, data):
-    """Returns the words of a replay of one of a log's intervals, or of one that isn't there."""
-    headers = [entry for entry in forge.split(data[92:-32]) if entry[0] == 1]
-    hart, interval = draw.choice(NUMBERS), draw.choice(NUMBERS)
+def headers_of(data):
+    """Returns the Headers of a log, as far as its records are found."""
+    records = data[92:-32] if data[8:9] == b"\1" else b"".join(each[0] for each in forge.parts2(data)[1])
+    return [entry for entry in forge.split(records) if entry[0] == 1]
+
+
+def interval_words(draw, headers):
+    """Returns the words for one of a log's intervals, or for one that isn't there, and a count of it."""
+    hart, interval, count = (draw.choice(NUMBERS) for _ in range(3))
     if headers and draw.random() < 0.9:
         entry = draw.choice(headers)
-        hart, interval = entry[1], struct.unpack_from("<Q", entry, 2)[0]
-    return ("replay", calls.path("LOG"), calls.path("ELF"), str(hart), str(interval))
+        hart, (interval, count) = entry[1], struct.unpack_from("<QQ", entry, 2)
+        count += draw.choice((0, 1, 5, 20, 100))
+    return str(hart), str(interval), str(count)
 
 
-def readers(draw, calls, data):
-    """Returns the words of each command but `check` that reads a log."""
+def readers(draw, calls, headers):
+    """Returns the words of each command but `check`, `convert` and `salvage` that reads a log."""
     calls.write("BOOK", bytes(draw.choice((0, 0, 0, 1, draw.randrange(9))) for _ in range(draw.randrange(200))))
     names = calls.path("LOG"), calls.path("ELF")
+    place = interval_words(draw, headers)
+    most = draw.choice((1, 5, 1_000, 1_000_000))
     audit = ("audit", *names, calls.path("BOOK"))
-    return [("list", names[0]), reader_words(draw, calls, data), ("joint", *names), ("debug", *names), audit]
+    with_program = [("replay", *names, *place[:2]), ("joint", *names), ("debug", *names), ("races", *names, str(most))]
+    return [("list", names[0]), *with_program, ("slice", *names, *place), audit]
+
+
+def verdict_of(say, data):
+    """Returns what a log says by a reading of the format, and the status and the line."""
+    try:
+        said = say(data)
+        return said, 0, verdict.line_of(said) + "\n"
+    except verdict.Refused as refusal:
+        return None, 19 if str(refusal) == "nothing left" else 7, f"bugnet: {refusal}\n"
+
+
+def give_saver(calls, command, verdict_given):
+    """Gives the log to a command that saves one, which has to be the file of what the log says."""
+    said, wanted, line = verdict_given
+    calls.write("NEW", b"old")
+    status, told = calls.run(command, calls.path("LOG"), calls.path("NEW"), out=calls.path("out"))
+    told = calls.read("out").decode() if status == 0 else told
+    if (status, told) != (wanted, line):
+        calls.tell((command,), f"{status} {told!r} for {wanted} {line!r}")
+    if calls.read("NEW") != (b"old" if said is None else verdict.saved_of(said)):
+        calls.tell((command,), "another file is saved")
 
 
 def give_log(draw, calls, data, elf):
     calls.write("LOG", data)
     calls.write("ELF", elf)
     calls.write("keys", keys_of(draw))
-    try:
-        said, wanted = verdict.line_of(data) + "\n", 0
-    except verdict.Refused as refusal:
-        said, wanted = f"bugnet: {refusal}\n", 7
+    given = verdict_of(verdict.said_by, data)
+    said, wanted, expected = given
     status, line = calls.run("check", calls.path("LOG"), out=calls.path("out"))
     if status == 0:
-        with open(calls.path("out"), encoding="utf-8") as file:
-            line = file.read()
-    if (status, line) != (wanted, said):
-        calls.tell(("check",), f"{status} {line!r} for {wanted} {said!r}")
-    given = readers(draw, calls, data)
+        line = calls.read("out").decode()
+    if (status, line) != (wanted, expected):
+        calls.tell(("check",), f"{status} {line!r} for {wanted} {expected!r}")
+    headers = [] if said is None else [entry for entry in said[3] if entry[0] == 1]
+    words = readers(draw, calls, headers)
     if status == 0:
-        for words in given:
-            calls.run(*words)
-    elif calls.run(*draw.choice(given)) != (wanted, said):
+        for each in words:
+            calls.run(*each)
+    elif calls.run(*draw.choice(words)) != (wanted, expected):
         calls.tell(("check",), "another command says otherwise")
+    if status == 0 or draw.random() < 0.2:
+        give_saver(calls, "convert", given)
+    if data[8:12] == b"\2\0\0\0" or draw.random() < 0.1:
+        give_saver(calls, "salvage", verdict_of(verdict.salvaged, data))
 
 
 def give_elf(draw, calls, signed, elf):
     data = forge.sealed(signed)
+    data = version2(data) if draw.random() < 0.5 else data
     calls.write("LOG", data)
     calls.write("ELF", elf)
     calls.write("keys", keys_of(draw))
-    for words in readers(draw, calls, data)[1:]:
+    for words in readers(draw, calls, headers_of(data))[1:]:
         calls.run(*words)
     limits = ("--limit", "2000", "--interval", "500", "--harts", str(draw.randrange(1, 9)))
     names = calls.path("ELF"), calls.path("LOG2"), calls.path("BOOK2")
@@ -365,12 +522,30 @@ def give_small(calls):
         give_log(draw, calls, bytes(changed), elf)
         if bit < 8 * (len(data) - 32):
             give_log(draw, calls, forge.sealed(bytes(changed[:-32])), elf)
+    give_small2(calls, draw, data, elf)
     for bit in range(8 * len(elf)):
         changed = bytearray(elf)
         changed[bit // 8] ^= 1 << bit % 8
         give_elf(draw, calls, data[:48] + forge.digest(changed) + data[80:-32], bytes(changed))
     for length in range(len(elf)):
         give_elf(draw, calls, data[:48] + forge.digest(elf[:length]) + data[80:-32], elf[:length])
+
+
+def give_small2(calls, draw, first, elf):
+    """Gives all fronts and flipped bits of a small log in version 2, as they are and sealed anew."""
+    data = version2(first)
+    signed, blocks = forge.parts2(data)
+    for length in range(len(data)):
+        give_log(draw, calls, data[:length], elf)
+    for bit in range(8 * len(data)):
+        changed = bytearray(data)
+        changed[bit // 8] ^= 1 << bit % 8
+        give_log(draw, calls, bytes(changed), elf)
+        if bit < 8 * len(signed):
+            give_log(draw, calls, sealed2(bytes(changed[:104]), blocks), elf)
+        elif 8 * 136 <= bit < 8 * (len(data) - 32):
+            body = bytes(changed[136:-32])
+            give_log(draw, calls, data[:136] + body + forge.digest(data[104:136] + body), elf)
 
 
 # ---- all of them
@@ -386,7 +561,7 @@ def work(share):
     for place in range(first, end):
         draw = random.Random(seed << 40 | place)
         if draw.random() < 0.85:
-            give_log(draw, calls, *mutated_log(draw, pool))
+            give_log(draw, calls, *draw.choice((mutated_log, mutated_log2))(draw, pool))
         else:
             give_elf(draw, calls, *mutated_elf(draw, pool))
     os.system(f"rm -rf {folder}")

@@ -1,17 +1,17 @@
 #!/usr/bin/env python3
 """Runs the built program with one call of the system or of the C library refused, for each such call in turn.
 
-bench/refused.py [MOST]: for each command, at most so many calls of a kind (400) are refused, evenly chosen where
-there are more. The kinds: `alloc`, room for bytes isn't given; `open`, `read`, `write` fail; `short`, a read or a
+bench/refused.py [MOST [COMMAND..]]: for each command, or for those named, at most so many calls of a kind (400, and
+of `demo` 600) are refused, evenly chosen where there are more. The kinds: `alloc`, room for bytes isn't given; `open`, `read`, `write` fail; `short`, a read or a
 write of several bytes moves one. bench/refuse.c does it, in front of the C library.
 
 Each run has to end with the status of a run that nothing was refused, and then with its texts and files, or else:
 
 | refused | status | line on err | out | files |
 |---|---|---|---|---|
-| `alloc` | 9 | `out of memory` | a front of the text | none but LOG or LOG and BOOK saved |
+| `alloc` | 9 | `out of memory` | a front of the text | none but LOG, or LOG and BOOK, saved by `record`; NEW or not by `convert` and `salvage` |
 | `open`, `read` | 3; 12 where a session's commands are read | `store failed: NAME`; `read failed` | nothing; the answers before | as before |
-| `write` | 13; 3 where a file is saved | `write failed`; `store failed: NAME` | a front of the text | all saved; LOG at most |
+| `write` | 13; 3 where a file is saved | `write failed`; `store failed: NAME` | a front of the text | all saved; LOG or NEW at most |
 | `short` | | | | |
 
 It prints how many runs of each command ended with which status, and ends with 1 where one ended otherwise.
@@ -42,8 +42,17 @@ COMMANDS = {
     "joint": ("joint", "KEPT", "ELF"),
     "debug": ("debug", "KEPT", "ELF"),
     "audit": ("audit", "KEPT", "ELF", "TURNS", "--input", "IN"),
+    "races": ("races", "KEPT", "ELF", "10"),
+    "slice": ("slice", "KEPT", "ELF", "0", "0", "3"),
+    "convert": ("convert", "KEPT", "NEW"),
+    "salvage": ("salvage", "DAMAGED", "NEW"),
+    "check, version 2": ("check", "SEALED"),
+    "joint, version 2": ("joint", "SEALED", "ELF"),
+    "audit, version 2": ("audit", "SEALED", "ELF", "TURNS", "--input", "IN"),
     "demo": ("demo", "7"),
 }
+# Commands that make more calls for room than others, each of which is to be refused.
+ALL_OF = {"demo": 600}
 SESSION = b"where\nstep 2\nregs\nbreak 10064\ngo\nword 20000\nunbreak 10064\ngo\nwhere\nquit\n"
 # The status of a refused call, and how its line begins.
 SAID = {
@@ -59,12 +68,13 @@ class Ran:
     """What a run left: its status, out, err and the files that it may save; and how many calls of the kind it made."""
 
     def __init__(self, folder, words, kind="alloc", number=0):
-        for name in ("LOG", "BOOK"):
+        for name in ("LOG", "BOOK", "NEW"):
             write(f"{folder}/{name}", b"old")
         env = {"LD_PRELOAD": f"{folder}/refuse.so", "REFUSE": f"{kind}:{number}", "REFUSE_TOLD": f"{folder}/told"}
         ran = subprocess.run([PROGRAM, *words], input=SESSION, env=env, cwd=folder, timeout=60, capture_output=True)
         self.status, self.out, self.err = ran.returncode, ran.stdout, ran.stderr.decode()
-        self.files = read(f"{folder}/LOG"), read(f"{folder}/BOOK")
+        saved = ("NEW", "BOOK") if words[0] in ("convert", "salvage") else ("LOG", "BOOK")
+        self.files = tuple(read(f"{folder}/{name}") for name in saved)
         self.calls = int.from_bytes(read(f"{folder}/told"), "little")
 
     def is_like(self, plain):
@@ -82,7 +92,7 @@ def write(name, data):
 
 
 def saved_by(ran):
-    """Which of LOG and BOOK were saved."""
+    """Which of LOG and BOOK were saved, or whether NEW was."""
     return ran.files[0] != b"old", ran.files[1] != b"old"
 
 
@@ -90,7 +100,7 @@ def saved_before(ran, plain):
     """Which of LOG and BOOK have to be saved by then; none where any of the two may be, the first before the second."""
     if ran.status == 13:
         return saved_by(plain)
-    if ran.status == 9 or "failed: LOG" in ran.err:
+    if ran.status == 9 or "failed: LOG" in ran.err or "failed: NEW" in ran.err:
         return None
     return "failed: BOOK" in ran.err, False
 
@@ -120,6 +130,15 @@ def is_agreed(folder, ran):
     return ran.files[1] == b"old" or subprocess.run(words, cwd=folder, capture_output=True).returncode == 0
 
 
+def damaged(data):
+    """Returns a log of version 2 with its records in two blocks, of which the first is damaged."""
+    signed, blocks = forge.parts2(data)
+    records = forge.split(b"".join(each[0] for each in blocks))
+    half = len(records) // 2
+    whole = forge.file2(signed, int.from_bytes(signed[92:100], "little"), [records[:half], records[half:]])
+    return whole[:136] + bytes((whole[136] ^ 1,)) + whole[137:]
+
+
 def try_command(folder, name, words, most):
     """Runs a command with each call of each kind refused; returns how many runs ended otherwise."""
     wrong = 0
@@ -145,7 +164,7 @@ def try_command(folder, name, words, most):
 
 
 def main(words):
-    most = int(words[0]) if words else 400
+    most, names = int(words[0]) if words else 400, words[1:] or COMMANDS
     with tempfile.TemporaryDirectory() as folder:
         shim = ["cc", "-O2", "-shared", "-fPIC", "-o", f"{folder}/refuse.so", f"{TOP}/bench/refuse.c"]
         subprocess.run(shim, check=True)
@@ -154,8 +173,10 @@ def main(words):
         kept = Ran(folder, COMMANDS["record --seed 1"])
         write(f"{folder}/KEPT", kept.files[0])
         write(f"{folder}/TURNS", kept.files[1])
+        write(f"{folder}/SEALED", Ran(folder, COMMANDS["convert"]).files[0])
+        write(f"{folder}/DAMAGED", damaged(read(f"{folder}/SEALED")))
         print("| command | refused | calls | runs | status: runs |\n|---|---|---|---|---|")
-        wrong = sum(try_command(folder, name, command, most) for name, command in COMMANDS.items())
+        wrong = sum(try_command(folder, name, COMMANDS[name], max(most, ALL_OF.get(name, 0))) for name in names)
     print(f"{wrong} runs ended otherwise")
     sys.exit(1 if wrong else 0)
 

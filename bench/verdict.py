@@ -1,5 +1,6 @@
-"""Says what `check` has to print of a log file of version 1, by docs/FORMAT.md alone: each refusal in its order,
-and the seven rules of the order of records. The script beside it compares the program with it.
+"""Says what `check` has to print of a log file of version 1 or 2, and what `salvage` has to save of one of
+version 2, by docs/FORMAT.md alone: each refusal in its order, the walk over the blocks, and the seven rules of the
+order of records. The script beside it compares the program with it.
 """
 
 import struct
@@ -8,7 +9,9 @@ import forge
 
 FIELDS = (("harts", 1, 8), ("interval", 1, 10**7), ("limit", 1, 2**40), ("log_size", 16_384, 2**28),
           ("memory", 65_536, 2**26), ("sets", 1, 1_024), ("ways", 1, 16), ("line", 1, 16))
+FORMATS, HARTS_OF_FORMAT_2, SETS2, WAYS2 = (1, 2), 16, 4_096, 16
 REASONS = (1, 2, 3, 4, 5, 7, *range(17, 26))
+GUARD = 6
 
 
 class Refused(Exception):
@@ -22,21 +25,36 @@ def refuse(good, *why):
 
 def settings_of(data):
     values = struct.unpack_from("<IIQIIIII", data, 12)
+    more = struct.unpack_from("<III", data, 48) if data[8] == 2 else (1, 0, 0)
     for field, ((name, low, high), value) in enumerate(zip(FIELDS, values), 1):
+        high = HARTS_OF_FORMAT_2 if name == "harts" and more[0] == 2 else high
         good = low <= value <= high and not (name == "memory" and value % 4_096)
         refuse(good and not (name in ("sets", "line") and value & (value - 1)), "BadHead", field, value)
-    return values
+    check_later_settings(*more)
+    return values + more
 
 
-def records_of(data):
+def check_later_settings(version, sets2, ways2):
+    refuse(version in FORMATS, "BadHead", 10, version)
+    good = version == 2 and 1 <= sets2 <= SETS2 and not sets2 & (sets2 - 1)
+    refuse(sets2 == 0 or good, "BadHead", 11, sets2)
+    refuse(ways2 == 0 if sets2 == 0 else 1 <= ways2 <= WAYS2, "BadHead", 12, ways2)
+
+
+def is_mark(version, reason, value):
+    if reason == GUARD:
+        return version == 2 and value == 0
+    return reason in REASONS and not (reason in (1, 5, 7, 18) and value)
+
+
+def records_of(data, version):
     """Returns pairs of a place and a record."""
     at, found = 0, []
     while at < len(data):
         size = forge.SIZES.get(data[at], 0)
         good = size and at + size <= len(data)
         if good and data[at] == 6:
-            reason, value = struct.unpack_from("<BI", data, at + 10)
-            good = reason in REASONS and not (reason in (1, 5, 7, 18) and value)
+            good = is_mark(version, *struct.unpack_from("<BI", data, at + 10))
         refuse(good, "BadRecord", at)
         found.append((at, data[at : at + size]))
         at += size
@@ -79,7 +97,7 @@ class Hart:
             if not low <= ic <= self.count + interval:
                 return 5
         number = self.number + 1 if self.state == "open" else None
-        self.state, self.count, self.number = ("awaiting" if reason in (1, 2) else "done", ic, number)
+        self.state, self.count, self.number = ("awaiting" if reason in (1, 2, GUARD) else "done", ic, number)
         self.last_end = ic
         return 0
 
@@ -113,19 +131,118 @@ def check_order(records, n, dropped, settings):
             refuse(last is None or struct.unpack_from("<Q", record, 11)[0] < last, "BadOrder", at, 7)
 
 
-def line_of(data):
-    """Returns the line of `check`, or raises Refused with that of err."""
+# ---- version 2
+
+
+def good_block(data, end, seal, n, left):
+    """Returns how many bytes of records the block has that ends at a place, or 0 where it is bad."""
+    if end - 136 < 48:
+        return 0
+    said, size = struct.unpack_from("<II", data, end - 40)
+    if not (1 <= size <= 4_096 and size + 48 <= end - 136 and said == left and left + size <= n):
+        return 0
+    good = forge.digest(seal + data[end - 48 - size : end - 32]) == data[end - 32 : end]
+    return size if good else 0
+
+
+def walk(data, n):
+    """Returns the good blocks from the end back, first to last, each its records, its before and its end; and where
+    the first one begins."""
+    seal, end, left, blocks = forge.digest(data[:104]), len(data), 0, []
+    while size := good_block(data, end, seal, n, left):
+        start = end - 48 - size
+        before = struct.unpack_from("<Q", data, end - 48)[0]
+        blocks.insert(0, (data[start : start + size], before, end))
+        end, left = start, left + size
+    return blocks, end
+
+
+def check_cut(blocks, records, dropped):
+    cut = forge.cut([record for _, record in records])
+    before = dropped
+    for (said, count, end), wanted in zip(blocks, cut + [[]] * len(blocks)):
+        refuse(said == b"".join(wanted) and count == before % 2**64, "BadBlock", end)
+        before += len(wanted)
+
+
+def content(settings, program, dropped, records):
+    """What a log says: its head, how many records were given up, and its records one by one."""
+    return settings, program, dropped, [record for _, record in records]
+
+
+def checked(settings, program, dropped, blocks):
+    data = b"".join(records for records, _, _ in blocks)
+    records = records_of(data, settings[8])
+    check_cut(blocks, records, dropped)
+    check_order(records, len(data), dropped, settings)
+    return content(settings, program, dropped, records)
+
+
+def head_of_2(data):
+    refuse(len(data) >= 136, "Short", len(data))
+    settings = settings_of(data)
+    dropped, n = struct.unpack_from("<QI", data, 92)
+    refuse(n <= settings[3], "BadHead", 9, n)
+    found = forge.digest(data[:104])
+    refuse(found == data[104:136], "DigestDiffers", data[104:136].hex(), found.hex())
+    return settings, data[60:92], dropped, n
+
+
+def second(data):
+    settings, program, dropped, n = head_of_2(data)
+    blocks, end = walk(data, n)
+    refuse(end == 136, "BadBlock", end)
+    total = sum(len(records) for records, _, _ in blocks)
+    refuse(total == n, "LengthDiffers", n, total)
+    return checked(settings, program, dropped, blocks)
+
+
+def salvaged(data):
+    """Returns what is salvaged of a log, or raises Refused with the line of err."""
+    refuse(version_of(data) == 2, "BadVersion", version_of(data))
+    settings, program, dropped, n = head_of_2(data)
+    blocks, _ = walk(data, n)
+    if n and not blocks:
+        raise Refused("nothing left")
+    return checked(settings, program, blocks[0][1] if blocks else dropped, blocks)
+
+
+# ---- both versions
+
+
+def version_of(data):
     refuse(len(data) >= 124, "Short", len(data))
     refuse(data[:8] == b"BUGNETLG", "BadMagic")
-    version = struct.unpack_from("<I", data, 8)[0]
-    refuse(version == 1, "BadVersion", version)
+    return struct.unpack_from("<I", data, 8)[0]
+
+
+def first(data):
     settings = settings_of(data)
     dropped, n = struct.unpack_from("<QI", data, 80)
     refuse(n <= settings[3], "BadHead", 9, n)
     refuse(n == len(data) - 124, "LengthDiffers", n, len(data) - 124)
     found = forge.digest(data[:-32])
     refuse(found == data[-32:], "DigestDiffers", data[-32:].hex(), found.hex())
-    records = records_of(data[92:-32])
+    records = records_of(data[92:-32], 1)
     check_order(records, n, dropped, settings)
-    headers = sum(1 for _, record in records if record[0] == 1)
-    return f"ok records {len(records)} intervals {headers} dropped {dropped} bytes {n}"
+    return content(settings, data[48:80], dropped, records)
+
+
+def said_by(data):
+    """Returns what a log says, or raises Refused with the line of err."""
+    version = version_of(data)
+    refuse(version in (1, 2), "BadVersion", version)
+    return first(data) if version == 1 else second(data)
+
+
+def line_of(said):
+    """Returns the line of `check` for what a log says."""
+    _, _, dropped, records = said
+    headers = sum(1 for record in records if record[0] == 1)
+    return f"ok records {len(records)} intervals {headers} dropped {dropped} bytes {sum(map(len, records))}"
+
+
+def saved_of(said):
+    """Returns the file of version 2 of what a log says."""
+    settings, program, dropped, records = said
+    return forge.file2(forge.head2(settings, program, dropped, sum(map(len, records))), dropped, forge.cut(records))

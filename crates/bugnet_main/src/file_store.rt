@@ -1,6 +1,7 @@
 // The files of the system as a store.
 ghost use Rattle.std.specs.Prelude.{◌≡◌, ◌≤◌, None, IfOk, vec_len};
 
+use crate::limits::most_bytes;
 use crate::streams::Reading;
 use bn_outside::{LoadError, ReadError, SaveError, Store, read_to_end};
 use std::alloc::Global;
@@ -72,6 +73,30 @@ fn read_file<R: Files>(
     }
 }
 
+// Whether the system lets this process make a file so long. A write past its limit would end the process by a
+// signal that nothing here can ignore, so none is begun; where something else than a file has the name there is no
+// limit.
+fn has_room<R: Files>(rt: &R, name: &str, length: usize) -> bool {
+    if length as u64 <= most_bytes(rt) {
+        return true;
+    }
+    match fs::metadata(rt, name) {
+        Ok(metadata) => !metadata.is_file(),
+        Err(_) => false,
+    }
+}
+
+// Saves a file; the error says no more than that it isn't saved whole.
+fn save_file<R: Files>(rt: &R, name: &str, bytes: &[u8]) -> Result<(), SaveError> {
+    if !has_room(rt, name, bytes.len()) {
+        return Err(SaveError::Failed);
+    }
+    match fs::write(rt, name, bytes) {
+        Ok(()) => Ok(()),
+        Err(_) => Err(SaveError::Failed),
+    }
+}
+
 impl<'a, R: Files> Store for FileStore<'a, R> {
     ghost files = { λ _. None };
 
@@ -92,7 +117,7 @@ impl<'a, R: Files> Store for FileStore<'a, R> {
 
     fn save(&mut self, name: &str, bytes: &[u8]) -> Result<(), SaveError> {
         self.saves = self.saves.saturating_add(1);
-        match fs::write(self.rt, name, bytes) {
+        match save_file(self.rt, name, bytes) {
             Ok(()) => Ok(()),
             Err(_) => {
                 self.faults = self.faults.saturating_add(1);

@@ -6,6 +6,7 @@
 #![tactic(auto)]
 
 mod file_store;
+mod limits;
 mod streams;
 #[cfg(test)]
 mod tests;

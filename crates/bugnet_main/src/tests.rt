@@ -1,5 +1,6 @@
 // What no clause says: what real files hold, and that each adapter's calls succeed.
 use crate::file_store::FileStore;
+use crate::limits::most_in;
 use crate::streams::{Reading, Writing};
 use crate::words::words_of;
 use bn_outside::{Failed, LoadError, SaveError, Source, Store, read_to_end, send_all};
@@ -136,4 +137,18 @@ fn a_line_with_a_word_that_is_not_utf8_has_no_words(rt: HostRuntime) -> Result<(
     let words = words_of(&(Line { second: b"\xff" }, rt.alloc()))?;
     assert_eq!(rt; words.len(), 0);
     Ok(())
+}
+
+#[test]
+fn the_greatest_size_of_a_file_is_found(rt: HostRuntime) {
+    let table = "Limit             Soft Limit   Hard Limit   Units\n\
+        Max cpu time      7            unlimited    seconds\n\
+        Max file size     1024         unlimited    bytes\n";
+    assert_eq!(rt; most_in(table), 1024);
+    assert_eq!(rt;
+        most_in("Max file size     unlimited    unlimited    bytes"),
+        u64::MAX
+    );
+    assert_eq!(rt; most_in("Max file size "), u64::MAX);
+    assert_eq!(rt; most_in(""), u64::MAX);
 }

@@ -24,8 +24,14 @@ const LAST_BLOCK: [u8; 32] = [
     0xad, 0xf1, 0xdd, 0x2d, 0x6b, 0xc4, 0x27, 0x25, 0xd7, 0xc0, 0xd2, 0x05, 0xf4, 0x24, 0x3d, 0xe3,
 ];
 
-// The file of version 2 with this head and these records.
-fn written(rt: &impl Abort, alloc: Global, head: &Head, dropped: u64, records: &[u8]) -> Vec<u8> {
+/// The file of version 2 with this head and these records.
+pub fn written(
+    rt: &impl Abort,
+    alloc: Global,
+    head: &Head,
+    dropped: u64,
+    records: &[u8],
+) -> Vec<u8> {
     let fits = records.len() <= head.settings.log_size() as usize;
     assert!(rt; fits);
     write_file2(alloc, head, dropped, records).expect(rt, "memory")
@@ -45,8 +51,8 @@ fn a_file_is_converted(rt: HostRuntime) {
     assert_eq!(rt; again.records(), log.records());
 }
 
-// One hart, interval 1 and limit 40.
-fn head(rt: &impl Abort) -> Head {
+/// One hart, interval 1 and limit 40.
+pub fn head(rt: &impl Abort) -> Head {
     let raw = RawSettings {
         interval: 1,
         limit: 40,
@@ -58,8 +64,8 @@ fn head(rt: &impl Abort) -> Head {
     }
 }
 
-// The records of an interval of one instruction: its Header and its End, for this reason.
-fn interval(number: u8, reason: u8) -> [u8; 161] {
+/// The records of an interval of one instruction: its Header and its End, for this reason.
+pub fn interval(number: u8, reason: u8) -> [u8; 161] {
     let mut bytes = [0; 161];
     bytes[0] = 1;
     bytes[2] = number;
