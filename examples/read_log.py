@@ -10,11 +10,11 @@ import struct
 import sys
 
 SIZES = {1: 146, 2: 10, 3: 2, 4: 2, 5: 19, 6: 15}
-REASONS = {1: "length", 2: "call", 3: "exit", 4: "group", 5: "stopped", 7: "limit", 17: "Illegal",
-           18: "Breakpoint", 19: "FetchOutside", 20: "JumpMisaligned", 21: "LoadOutside",
+REASONS = {1: "length", 2: "call", 3: "exit", 4: "group", 5: "stopped", 6: "guard", 7: "limit",
+           17: "Illegal", 18: "Breakpoint", 19: "FetchOutside", 20: "JumpMisaligned", 21: "LoadOutside",
            22: "LoadMisaligned", 23: "StoreOutside", 24: "StoreMisaligned", 25: "StoreReadOnly"}
-FIELDS = ((1, 1, 8), (2, 1, 10**7), (3, 1, 2**40), (4, 16384, 2**28), (5, 65536, 2**26),
-          (6, 1, 1024), (7, 1, 16), (8, 1, 16), (10, 1, 1), (11, 0, 0), (12, 0, 0))
+FIELDS = ((1, 1, 16), (2, 1, 10**7), (3, 1, 2**40), (4, 16384, 2**28), (5, 65536, 2**26),
+          (6, 1, 1024), (7, 1, 16), (8, 1, 16), (10, 1, 2), (11, 0, 4096), (12, 0, 16))
 
 
 def refuse(good, *why):
@@ -31,13 +31,18 @@ def number(data, at, width):
 
 
 def check_settings(values):
+    harts, (form, sets2, ways2) = values[0], values[8:]
+    second = form == 2
     for (field, low, high), value in zip(FIELDS, values):
         good = low <= value <= high and not (field == 5 and value % 4096)
-        refuse(good and not (field in (6, 8) and value & (value - 1)), "BadHead", field, value)
+        good = good and not (field == 1 and harts > 8 and not second)
+        good = good and not (field == 11 and sets2 and not second)
+        good = good and not (field == 12 and (sets2 == 0) != (ways2 == 0))
+        refuse(good and not (field in (6, 8, 11) and value & (value - 1)), "BadHead", field, value)
 
 
 def head_of(data, salvage):
-    """The version, the settings, dropped, n, and where the settings' digest field begins."""
+    """The version, the format, dropped and n."""
     refuse(len(data) >= 124, "Short", len(data))
     refuse(data[:8] == b"BUGNETLG", "BadMagic")
     version = number(data, 8, 4)
@@ -48,7 +53,7 @@ def head_of(data, salvage):
     check_settings(settings + extra)
     dropped, n = struct.unpack_from("<QI", data, 92 if version == 2 else 80)
     refuse(n <= settings[3], "BadHead", 9, n)
-    return version, settings, dropped, n
+    return version, extra[0], dropped, n
 
 
 def good_block(data, seal, n, left):
@@ -71,14 +76,14 @@ def blocks_of(data, n):
     return blocks, end
 
 
-def records_of(data):
+def records_of(data, form):
     at, records = 0, []
     while at < len(data):
         size = SIZES.get(data[at], 0)
         good = size and at + size <= len(data)
         if good and data[at] == 6:
             reason, value = data[at + 10], number(data, at + 11, 4)
-            good = reason in REASONS and not (reason in (1, 5, 7, 18) and value)
+            good = reason in REASONS and not (reason in (1, 5, 6, 7, 18) and value) and (reason != 6 or form == 2)
         refuse(good, "BadRecord", at)
         records.append(data[at:at + size])
         at += size
@@ -98,11 +103,11 @@ def check_cut(blocks, records, dropped):
 
 
 def read(data, salvage):
-    version, _settings, dropped, n = head_of(data, salvage)
+    version, form, dropped, n = head_of(data, salvage)
     if version == 1:
         refuse(n == len(data) - 124, "LengthDiffers", n, len(data) - 124)
         refuse(digest(data[:-32]) == data[-32:], "DigestDiffers", data[-32:].hex(), digest(data[:-32]).hex())
-        return dropped, records_of(data[92:-32])
+        return dropped, records_of(data[92:-32], form)
     found = digest(data[:104])
     refuse(found == data[104:136], "DigestDiffers", data[104:136].hex(), found.hex())
     blocks, end = blocks_of(data, n)
@@ -113,7 +118,7 @@ def read(data, salvage):
     else:
         refuse(end == 136, "BadBlock", end)
         refuse(total == n, "LengthDiffers", n, total)
-    records = records_of(b"".join(block[0] for block in blocks))
+    records = records_of(b"".join(block[0] for block in blocks), form)
     check_cut(blocks, records, dropped)
     return dropped, records
 

@@ -36,7 +36,7 @@ fn each_range_has_these_ends(rt: HostRuntime) {
         (7, 1, 16, 0, 17),
         (8, 1, 16, 0, 32),
         (8, 2, 8, 3, 12),
-        (10, 1, 1, 0, 2),
+        (10, 1, 2, 0, 3),
         (11, 0, 0, 1, 64),
         (12, 0, 0, 1, 4),
     ];
@@ -54,6 +54,56 @@ fn each_range_has_these_ends(rt: HostRuntime) {
             assert_eq!(rt; Settings::checked(&with(field, value)).err(), Some(bad));
         }
     }
+}
+
+// Settings of format 2 with a second level of the caches, but for one field.
+fn with_level(field: u8, value: u64) -> RawSettings {
+    let mut raw = with(field, value);
+    raw.format = 2;
+    if field != 11 {
+        raw.sets2 = 64;
+    }
+    if field != 12 {
+        raw.ways2 = 4;
+    }
+    raw
+}
+
+#[test]
+fn each_range_of_format_2_has_these_ends(rt: HostRuntime) {
+    let table = [
+        // field, first in range, last in range, values out of range
+        (1, 1, 16, 0, 17),
+        (11, 1, 4096, 3, 8192),
+        (11, 2, 2048, 4095, 4097),
+        (12, 1, 16, 0, 17),
+    ];
+    for &(field, low, high, under, over) in &table {
+        assert!(rt;
+            Settings::checked(&with_level(field, low)).is_ok(),
+            "{field} {low}"
+        );
+        assert!(rt;
+            Settings::checked(&with_level(field, high)).is_ok(),
+            "{field} {high}"
+        );
+        for &value in &[under, over, u64::MAX] {
+            let bad = BadSetting { field, value };
+            assert_eq!(rt; Settings::checked(&with_level(field, value)).err(), Some(bad));
+        }
+    }
+}
+
+// No sets have no ways, and ways have sets.
+#[test]
+fn a_second_level_has_sets_and_ways(rt: HostRuntime) {
+    let bad = Settings::checked(&with_level(11, 0)).err();
+    assert_eq!(rt; bad, Some(BadSetting { field: 12, value: 4 }));
+    let mut raw = with(10, 2);
+    assert!(rt; Settings::checked(&raw).is_ok());
+    raw.sets2 = 1;
+    let bad = Settings::checked(&raw).err();
+    assert_eq!(rt; bad, Some(BadSetting { field: 12, value: 0 }));
 }
 
 #[test]

@@ -54,7 +54,7 @@ pub fn files(rt: &HostRuntime, count: u64) -> anyhow::Result<()> {
         settings,
         digest: [0; 32],
     };
-    let _format = head.settings.format();
+    anyhow::ensure!(head.settings.format() == 1, "another format");
     let clock = Instant::now(rt)?;
     let file = write_file(rt.alloc(), &head, 1, &records, &[])?;
     let written = rate_since(rt, clock, file.len() as u64)?;

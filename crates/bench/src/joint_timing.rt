@@ -14,12 +14,11 @@ use guest_gen::{Kind, guest};
 use hart_replay::Replayer;
 use hart_worker::run_seeded;
 use joint_replay::{Joint, Readiness, Stepped};
-use log_file::{read_file, write_file};
+use log_file::read_file;
 use log_order::KeptLog;
-use log_record::{Head, Record};
-use log_ring::Ring;
+use log_record::Record;
 use run_model::Start;
-use std::alloc::{AllocError, Global};
+use std::alloc::Global;
 use step_debugger::debug;
 
 // So many rows in so many microseconds.
@@ -49,23 +48,10 @@ fn beginning(alloc: Global, harts: HartId, count: u64) -> anyhow::Result<Start>
     })
 }
 
-// The log file of what a ring keeps.
-fn file_of(alloc: Global, start: &Start, ring: &Ring) -> Result<Vec<u8>, AllocError>
-    requires { ring.now.size ≡ start.now.settings.log_size }
-{
-    let _format = start.settings.format();
-    let (front, back) = ring.pieces();
-    let head = Head {
-        settings: start.settings,
-        digest: start.digest,
-    };
-    write_file(alloc, &head, ring.dropped(), front, back)
-}
-
 // The log of the run that a number chooses.
 fn recorded(alloc: Global, start: &Start) -> anyhow::Result<KeptLog> {
     let closed = run_seeded(alloc, start, LeanBook, 7)?;
-    let bytes = file_of(alloc, start, &closed.ring)?;
+    let bytes = start.log_file(alloc, &closed.ring)?;
     Ok(read_file(alloc, &bytes)?)
 }
 

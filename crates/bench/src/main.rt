@@ -8,11 +8,13 @@
 //! | `ring COUNT` | so many first loads that go through a full ring of records |
 //! | `cache COUNT` | so many touches of a hart's cache |
 //! | `file COUNT` | a log file with so many first loads, written and read |
+//! | `again COUNT` | nothing: so many asks are served, each again where memory was wanting, and what that leaves is printed |
 //! | `serve COUNT` | so many asks that the bus serves, of one hart and of eight that take turns |
 //! | `joint COUNT` | the joint replay of so many instructions of one to eight harts, and single replays of the same |
 //! | `replay COUNT` | an interval of so many instructions, at most 10,000,000: its run and its replay |
 #![tactic(auto)]
 
+mod again_check;
 mod decode_timing;
 mod file_timing;
 mod joint_timing;
@@ -60,11 +62,14 @@ fn main(rt: HostRuntime) -> anyhow::Result<()> {
     if layer == "replay" && count > 0 && count <= 10_000_000 {
         return replay_timing::replay(&rt, count);
     }
+    if layer == "again" && count > 0 {
+        return again_check::asks(&rt, count);
+    }
     if layer == "serve" && count > 0 {
         return serve_timing::asks(&rt, count);
     }
     println!(rt;
-        "bench LAYER COUNT, where LAYER is decode, meaning, races, ring, cache, file, serve, joint or replay"
+        "bench LAYER COUNT, where LAYER is decode, meaning, races, ring, cache, file, serve, again, joint or replay"
     )?;
     Ok(())
 }

@@ -69,7 +69,7 @@ fn file(alloc: Global, count: u64) -> anyhow::Result<Vec<u8>>
         digest: [0; 32],
     };
     let records = kept(alloc, count)?;
-    let _format = head.settings.format();
+    anyhow::ensure!(head.settings.format() == 1, "another format");
     anyhow::ensure!(
         records.len() <= head.settings.log_size() as usize,
         "a log too long"

@@ -6,8 +6,9 @@ use Rattle.std.specs.List.{flat_map}
 use Rattle.sha2.specs.Sha256.{sha256}
 use Rattle.bn_base.specs.Programs.{Program}
 use Rattle.bn_base.specs.declared.row.Row.{Row}
-use Rattle.log_order.specs.Content.{Content, IsContent}
+use Rattle.log_order.specs.Content.{Content}
 use Rattle.log_file.specs.Counts.{counts_of}
+use Rattle.log_file.specs.Layout.{IsFirst}
 use Rattle.log_file.specs.declared.counting.LogCounts.{LogCounts}
 use Rattle.hart_replay.specs.Replay.{Done, Replayed, replayed}
 use Rattle.joint_replay.specs.Joining.{fresh, run_all}
@@ -23,11 +24,11 @@ use Rattle.demo_run.specs.Demonstration.{demo, demo_settings, demo_program, demo
 use Rattle.demo_run.specs.Laws.{DemonstrationsAreRecordings}
 use Rattle.demo_run.specs.Starts.{AllComeToEnd, GoesThrough}
 use Rattle.demo_run.proofs.Joins.{eight-each}
-use Rattle.demo_run.proofs.Whole.{low_limit}
+use Rattle.demo_run.proofs.Whole.{low_limit, first_format}
 
--- what the log says is what a log can say
-pub says : DemonstrationsAreRecordings → LogsAreContents → (seed : ℕ) → IsContent (demo_log seed)
-says are law seed = law demo_settings (demo_program seed) (demo_elf seed) [] (demo_turns seed) (are seed)
+-- what the log says is what version 1 can say
+pub says : DemonstrationsAreRecordings → LogsAreContents → (seed : ℕ) → IsFirst (demo_log seed)
+says are law seed = (law demo_settings (demo_program seed) (demo_elf seed) [] (demo_turns seed) (are seed), first_format)
 
 -- what is counted, where it can't be refused
 pub counted-so : (a b : LogCounts) → ◌≡◌ {A = Result LogCounts FileError} (Ok a) (Ok b) → a ≡ b

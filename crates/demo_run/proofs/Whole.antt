@@ -52,6 +52,11 @@ pub low_limit : demo_settings.limit < 2 ^ 63
 unfolding demo_settings
 low_limit = omega arith
 
+-- its log is of the first version
+pub first_format : demo_settings.format ≡ 1
+unfolding demo_settings
+first_format = refl
+
 tested : checked demo_settings ≡ Ok demo_settings
 unfolding demo_settings lib.Count.ones
 tested = refl

@@ -1,13 +1,12 @@
 -- The run of a demonstration, as its closed bus has it.
-use Rattle.std.proofs.Common.{◌≡◌, ℕ, Bool, List, length, ◌∙◌, ap, arith}
+use Rattle.std.proofs.Common.{◌≡◌, ◌==◌, ℕ, Bool, true, false, List, length, ◌∙◌, ap, arith}
 use Rattle.std.specs.Prelude.{Option}
-use Rattle.std.specs.List.{flat_map}
 use Rattle.bn_base.specs.Programs.{Program}
 use Rattle.bn_base.specs.declared.end_mark.EndMark.{EndMark}
 use Rattle.bn_base.specs.declared.settings.RawSettings.{RawSettings}
 use Rattle.bn_outside.specs.declared.turn_row.TurnRow.{TurnRow}
-use Rattle.log_file.specs.Layout.{spelling, file_bytes}
-use Rattle.log_record.specs.Spelling.{bytes_of}
+use Rattle.log_file.specs.Layout.{file_bytes, file_bytes2, saved_bytes}
+use Rattle.log_order.specs.Content.{content}
 use Rattle.log_record.specs.declared.record.Record.{Record}
 use Rattle.log_ring.specs.Kept.{kept}
 use Rattle.run_model.specs.Files.{kept_of, dropped_of}
@@ -21,6 +20,7 @@ use Rattle.hart_worker.specs.Lists.{list_run}
 use Rattle.joint_laws.specs.Recordings.{recorded}
 use Rattle.demo_run.specs.Demonstration.{counts_in, demo, demo_settings, demo_program, demo_turns, demo_log, instructions_of}
 use Rattle.demo_run.specs.Starts.{IsStart}
+use Rattle.demo_run.proofs.Whole.{first_format}
 
 -- the turns that the number chooses
 abbrev pub turns_of : ℕ → Start → List ℕ
@@ -65,10 +65,14 @@ dropped-so tells seed s closed rows is end =
     let counted = end.log.counted in
     omega (arith, counted, count, all)
 
+-- its file is that of version 1
+saved-so : (seed : ℕ) → saved_bytes (demo_log seed) ≡ file_bytes (demo_log seed)
+saved-so seed = ap (λ (b : Bool). elim b as (λ y. List ℕ) [ true ↦ file_bytes2 (demo_log seed) | false ↦ file_bytes (demo_log seed) ]) (ap (λ (n : ℕ). n == 2) first_format)
+
 pub file-so : {B : _} (tells : Bool) (seed : ℕ) (s : Start) (closed : Closed B) (rows : List TurnRow) → IsStart seed s → IsClosed tells (began_of s) (turns_of seed s) closed rows
-    → spelling (record { settings = s.settings; digest = s.digest }) closed.ring.dropped (flat_map bytes_of closed.ring.records) ≡ file_bytes (demo_log seed)
+    → saved_bytes (content (record { settings = s.settings; digest = s.digest }) closed.ring.dropped closed.ring.records) ≡ file_bytes (demo_log seed)
 file-so tells seed s closed rows is end =
-    ap (λ (c : RawSettings). spelling (record { settings = c; digest = s.digest }) closed.ring.dropped (flat_map bytes_of closed.ring.records)) is.settings
-    ∙ ap (λ (d : List ℕ). spelling (record { settings = demo_settings; digest = d }) closed.ring.dropped (flat_map bytes_of closed.ring.records)) is.digest
-    ∙ ap (λ (n : ℕ). spelling (demo_log seed).head n (flat_map bytes_of closed.ring.records)) (dropped-so tells seed s closed rows is end)
-    ∙ ap (λ (rs : List Record). spelling (demo_log seed).head (demo_log seed).dropped (flat_map bytes_of rs)) (records-so tells seed s closed rows is end)
+    ap (λ (c : RawSettings). saved_bytes (content (record { settings = c; digest = s.digest }) closed.ring.dropped closed.ring.records)) is.settings
+    ∙ ap (λ (d : List ℕ). saved_bytes (content (record { settings = demo_settings; digest = d }) closed.ring.dropped closed.ring.records)) is.digest
+    ∙ ap (λ (n : ℕ). saved_bytes (content (demo_log seed).head n closed.ring.records)) (dropped-so tells seed s closed rows is end)
+    ∙ ap (λ (rs : List Record). saved_bytes (content (demo_log seed).head (demo_log seed).dropped rs)) (records-so tells seed s closed rows is end) ∙ saved-so seed

@@ -1,17 +1,11 @@
 // The recording of a demonstration.
-ghost use Rattle.std.specs.Prelude.{◌≡◌, ◌++◌, IfOk};
-ghost use Rattle.std.specs.List.{flat_map};
-ghost use Rattle.log_record.specs.Spelling.{bytes_of};
-ghost use Rattle.log_file.specs.Layout.{spelling};
+ghost use Rattle.std.specs.Prelude.{◌≡◌, IfOk};
 ghost use Rattle.demo_run.specs.Demonstration.{count_of, counts_in};
 ghost use Rattle.demo_run.specs.Starts.{IsStart, IsRecordedRun};
 
 use bn_base::EndMark;
 use bn_outside::LeanBook;
 use hart_worker::run_seeded;
-use log_file::write_file;
-use log_record::Head;
-use log_ring::Ring;
 use run_model::Start;
 use std::alloc::{AllocError, Global};
 
@@ -44,20 +38,6 @@ fn counts_in(marks: &[Option<EndMark>]) -> u128
     sum
 }
 
-// The log file of what a ring keeps.
-fn file_of(alloc: Global, start: &Start, ring: &Ring) -> Result<Vec<u8>, AllocError>
-    requires { ring.now.size ≡ start.now.settings.log_size }
-    ensures { IfOk result (λ file. file.items ≡ spelling (record { settings = start.now.settings; digest = start.now.digest }) ring.now.dropped (flat_map bytes_of ring.now.records)) }
-{
-    let _format = start.settings.format();
-    let (front, back) = ring.pieces();
-    let head = Head {
-        settings: start.settings,
-        digest: start.digest,
-    };
-    write_file(alloc, &head, ring.dropped(), front, back)
-}
-
 /// Records the run by the turns that the number chooses. No row of it is kept. The only error is want
 /// of memory.
 pub fn record(alloc: Global, start: &Start, seed: u64) -> Result<Recorded, AllocError>
@@ -68,6 +48,6 @@ pub fn record(alloc: Global, start: &Start, seed: u64) -> Result<Recorded, Alloc
     Ok(Recorded {
         turns: closed.turns,
         instructions: counts_in(&closed.ends),
-        file: file_of(alloc, start, &closed.ring)?,
+        file: start.log_file(alloc, &closed.ring)?,
     })
 }

@@ -14,3 +14,4 @@ pub mod Contents
 pub mod OfRows
 pub mod Worked
 pub mod Retained
+pub mod Salvaged

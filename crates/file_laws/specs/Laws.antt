@@ -1,21 +1,24 @@
 -- What a recording keeps, as a log has it.
-use Rattle.std.specs.Prelude.{◌≡◌, ℕ, true, List, length, Some, None, Ok}
+use Rattle.std.specs.Prelude.{◌≡◌, ℕ, true, List, ◌∷◌, ◌++◌, length, Some, None, Ok}
 use Rattle.sha2.specs.Sha256.{sha256}
 use Rattle.bn_base.specs.Programs.{Program}
 use Rattle.bn_base.specs.Ranges.{IsSetting}
 use Rattle.bn_base.specs.declared.settings.RawSettings.{RawSettings}
 use Rattle.bn_outside.specs.declared.turn_row.TurnRow.{TurnRow}
+use Rattle.log_record.specs.declared.head.Head.{Head}
 use Rattle.log_ring.specs.Kept.{Held, HoldsLog}
 use Rattle.log_order.specs.Order.{broken_by}
 use Rattle.log_order.specs.Content.{Content, IsContent}
+use Rattle.log_file.specs.Blocks.{Block, blocks_of}
 use Rattle.log_file.specs.Layout.{saved_bytes}
-use Rattle.log_blocks.specs.File.{IsSpelled}
+use Rattle.log_blocks.specs.File.{IsSpelled, HasBlocks, dropped_before}
+use Rattle.log_blocks.specs.Laws.{pieces_of}
 use Rattle.log_blocks.specs.Readings.{Reads}
 use Rattle.hart_replay.specs.Replay.{Interval, interval_of, replayed}
 use Rattle.hart_replay.specs.Replay.{Done}
 use Rattle.run_model.specs.Rows.{rows_in}
 use Rattle.run_model.specs.Runs.{start, run_of, is_over}
-use Rattle.run_model.specs.Files.{kept_of, dropped_of, content_of, file_of}
+use Rattle.run_model.specs.Files.{kept_of, dropped_of, content_of, file_of, IsEndOf}
 use Rattle.run_laws.specs.History.{after_rows, are_orderly, IsLawful}
 use Rattle.file_laws.specs.Given.{IsRecording}
 use Rattle.file_laws.specs.Recorded.{counts_of, KeepsRules, HoldsLogOfRows, ring_content}
@@ -59,6 +62,15 @@ abbrev pub FilesSuffice : Type 0
 FilesSuffice = (c : RawSettings) (i : Program) (elf input b : List ℕ) → IsRecording c i elf input b
     → (d : Content) → IsContent d → IsSpelled (file_of c i (sha256 elf) input b) d
     → (h n : ℕ) (v : Interval) → interval_of h n d.records ≡ Some v → replayed i d.records h n ≡ record { rows = rows_in c i (start c i input) b h n; outcome = Done }
+
+-- So does what is salvaged of a file where the blocks that are kept are the last of a recording's: the log of these has the
+-- run's last records, and each interval of a hart whose Header it has is replayed from it as it was recorded
+abbrev pub SalvagedFilesSuffice : Type 0
+SalvagedFilesSuffice = (c : RawSettings) (i : Program) (elf input b : List ℕ) → IsRecording c i elf input b
+    → (front : List Block) (p : Block) (back : List Block) → blocks_of (dropped_of c (run_of c i input b)) (kept_of c (run_of c i input b)) ≡ front ++ p ∷ back
+    → (head : Head) (dropped place : ℕ) (d : Content) → HasBlocks head (dropped_before dropped (pieces_of (p ∷ back))) place (pieces_of (p ∷ back)) d
+    → IsEndOf (run_of c i input b).stream d.records
+    × ((h n : ℕ) (v : Interval) → interval_of h n d.records ≡ Some v → replayed i d.records h n ≡ record { rows = rows_in c i (start c i input) b h n; outcome = Done })
 
 -- What a ring holds after lawful rows of orderly asks that leave no hart live, whoever made these, is what a log can say
 abbrev pub LogsOfRowsAreContents : Type 0

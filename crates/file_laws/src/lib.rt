@@ -3,14 +3,15 @@
 //! `run_model` and `log_order`.
 #![tactic(auto)]
 
-ghost use Rattle.file_laws.specs.Laws.{KeptRecordsKeepTheRules, RingsKeepTheRules, FinishedLogsAreInOrder, LogsAreContents, StreamsAreInOrder, FilesAreRead, FilesSayTheRun, FilesSuffice, LogsOfRowsAreContents, FilesOfRowsAreRead};
+ghost use Rattle.file_laws.specs.Laws.{KeptRecordsKeepTheRules, RingsKeepTheRules, FinishedLogsAreInOrder, LogsAreContents, StreamsAreInOrder, FilesAreRead, FilesSayTheRun, FilesSuffice, SalvagedFilesSuffice, LogsOfRowsAreContents, FilesOfRowsAreRead};
 ghost use Rattle.file_laws.specs.Retained.{FaultsAreReplayed};
 
 mod examples;
 
 use elf_loader::laws::loaded_programs_are_images;
 pub use examples::{a_stray_store_leaves_a_header, an_exit_is_a_recording};
-use log_file::laws::{files_say_one_thing, logs_are_not_refused};
+use log_blocks::laws::salvaged_blocks_are_an_end;
+use log_blocks::readings::readings_are_unique;
 use log_order::laws::{
     an_awaited_header_follows, an_edge_follows, an_end_follows, early_edges_are_not_late,
     kept_records_are_in_order, kept_records_keep_the_rules, loads_and_conditionals_follow,
@@ -18,11 +19,9 @@ use log_order::laws::{
 };
 use log_ring::laws::{a_suffix_is_kept, kept_records_fit};
 use race_log::listed_edges_are_all;
-use replay_laws::the_log_suffices;
-use run_laws::{edges_are_few, faults_are_kept, runs_end};
-use run_model::{
-    each_turn_fits, each_turn_moves_on, format_1_is_version_1, guarded_asks_fit, others_stay_fit,
-};
+use replay_laws::{ends_suffice, the_log_suffices};
+use run_laws::{edges_are_few, faults_are_kept, kept_records_are_an_end, runs_end};
+use run_model::{each_turn_fits, each_turn_moves_on, guarded_asks_fit, others_stay_fit};
 use rv_meaning::{each_ask_is_orderly, registers_stay_words};
 
 /// At all times the kept records keep the rules of single records, and each kept Edge comes from an
@@ -129,22 +128,21 @@ pub fn streams_are_in_order()
     early_edges_are_not_late();
 }
 
-/// The file of a recording is read: it has no cause for a refusal.
+/// The file of a recording, in the version of its settings' format, is read: it has no cause for a
+/// refusal.
 pub fn files_are_read()
     ensures { FilesAreRead }
 {
-    format_1_is_version_1();
     logs_are_contents();
-    logs_are_not_refused();
+    log_blocks::readings::files_are_read();
 }
 
 /// What is read of the file of a recording is what was kept.
 pub fn files_say_the_run()
     ensures { FilesSayTheRun }
 {
-    format_1_is_version_1();
-    logs_are_contents();
-    files_say_one_thing();
+    files_are_read();
+    readings_are_unique();
 }
 
 /// The file suffices: each interval of a hart whose Header is read of the file of a recording is
@@ -154,6 +152,18 @@ pub fn files_suffice()
 {
     files_say_the_run();
     the_log_suffices();
+}
+
+/// What is salvaged of a damaged file suffices too: where the blocks that are kept are the last of a
+/// recording's, the log of these has the run's last records, and each interval of a hart whose Header it
+/// has is replayed with exactly the rows that the recorded run had in it.
+pub fn salvaged_files_suffice()
+    ensures { SalvagedFilesSuffice }
+{
+    logs_are_contents();
+    salvaged_blocks_are_an_end();
+    kept_records_are_an_end();
+    ends_suffice();
 }
 
 /// What a ring holds after lawful rows of orderly asks that leave no hart live is what a log can say,
@@ -185,7 +195,7 @@ pub fn files_of_rows_are_read()
     ensures { FilesOfRowsAreRead }
 {
     logs_of_rows_are_contents();
-    logs_are_not_refused();
+    log_blocks::readings::files_are_read();
 }
 
 /// With format 2 the guard makes it sure that a crash can be replayed: where the run ends in a fault, the

@@ -82,15 +82,6 @@ same_sources h ic (Edge k n s j ∷ rs) = by (k == h) (same_sources h ic rs)
     by false rest = rest
 same_sources h ic (End k m ∷ rs) = same_sources h ic rs
 
--- past the sources of lower instructions
-pub lower_passed : (ic i : ℕ) (ss : List Source) → AllWithin (λ (s : Source). s.target < ic) ss 0 i → sources_at ic (drop i ss) ≡ sources_at ic ss
-lower_passed ic zero ss below = refl
-lower_passed ic (suc i) [] below = refl
-lower_passed ic (suc i) (s ∷ ss) below =
-    let first : s.target < ic = below 0 s (omega arith) (omega arith) in
-    lower_passed ic i ss (λ k d low high. below (suc k) d (omega arith) (omega (arith, high)))
-    ∙ sym (ap (λ b. elim b as (λ y. List (ℕ × ℕ)) [ true ↦ (s.hart, s.ic) ∷ sources_at ic ss | false ↦ sources_at ic ss ]) (ne_eqb s.target ic (λ e. absurd (omega (arith, first, e)))))
-
 -- past a higher instruction's there is none
 pub none_higher : (ic low : ℕ) (ss : List Source) → ic + 1 < low → AscendFrom low ss → sources_at ic ss ≡ []
 none_higher ic low [] lt a = refl
@@ -104,30 +95,6 @@ pub drop_ascends : (low i : ℕ) (ss : List Source) → AscendFrom low ss → As
 drop_ascends low zero ss a = weaker 0 low ss (omega arith) a
 drop_ascends low (suc i) [] a = tt
 drop_ascends low (suc i) (s ∷ ss) a = drop_ascends (s.target + 1) i ss a.1
-
-above : (low i : ℕ) (ss : List Source) (d : Source) → AscendFrom low ss → i < length ss → low ≤ (slice_index_or ss i d).target + 1
-above low i [] d a lt = absurd (omega (arith, lt))
-above low zero (s ∷ ss) d a lt = a.0
-above low (suc i) (s ∷ ss) d a lt = let first = a.0 in let rest = above (s.target + 1) i ss d a.1 (omega (arith, lt)) in omega (arith, first, rest)
-
-pub targets_rise : (low : ℕ) (ss : List Source) → AscendFrom low ss → IsNonDecreasingBy (λ (s : Source). s.target) ss
-targets_rise low [] a i j d order lt = absurd (omega (arith, lt))
-targets_rise low (s ∷ ss) a zero zero d order lt = omega arith
-targets_rise low (s ∷ ss) a zero (suc j) d order lt = let rest = above (s.target + 1) j ss d a.1 (omega (arith, lt)) in omega (arith, rest)
-targets_rise low (s ∷ ss) a (suc i) zero d order lt = absurd (omega (arith, order))
-targets_rise low (s ∷ ss) a (suc i) (suc j) d order lt = targets_rise (s.target + 1) ss a.1 i j d (omega (arith, order)) (omega (arith, lt))
-
-pub is_lower : (s : Source) (ic : ℕ) → ltb s.target ic ≡ true → s.target < ic
-is_lower s ic e = grind arith
-
--- the Edges from a place on, past those of lower instructions
-pub from_place : (h ic n : ℕ) (records : List Record) (all ss : List Source) → all ≡ ss → ss ≡ edges_into h records → ((k : ℕ) (d : Source) → 0 ≤ k → k < n → ltb (slice_index_or ss k d).target ic ≡ true)
-    → sources_at ic (take (length all - n) (drop n all)) ≡ sources_into records h ic
-from_place h ic n records all ss same is below =
-    ap (sources_at ic) (take_rest all n) ∙ lower_passed ic n all (λ k d low high. is_lower (slice_index_or all k d) ic (ap (λ (xs : List Source). ltb (slice_index_or xs k d).target ic) same ∙ below k d low high)) ∙ ap (sources_at ic) (same ∙ is) ∙ sym (same_sources h ic records)
-
-pub rest_ascends : (n : ℕ) (all ss : List Source) → all ≡ ss → AscendFrom 0 ss → AscendFrom 0 (take (length all - n) (drop n all))
-rest_ascends n all ss same a = subst (AscendFrom 0) (sym (take_rest all n)) (drop_ascends 0 n all (subst (AscendFrom 0) (sym same) a))
 
 pub all_gathered : (h : ℕ) (records found rest : List Source) → rest ≡ [] → found ++ rest ≡ records → found ≡ records
 all_gathered h records found rest none e = sym (no_rest found) ∙ ap (λ (ss : List Source). found ++ ss) (sym none) ∙ e

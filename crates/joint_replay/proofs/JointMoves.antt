@@ -12,12 +12,16 @@ use Rattle.joint_replay.specs.Lanes.{Lane, Item, lane_step, coming_of, point_of}
 use Rattle.joint_replay.specs.Points.{sources_into}
 use Rattle.joint_replay.specs.Memory.{Bytes, memory_after}
 use Rattle.joint_replay.specs.Words.{bytes_at}
-use Rattle.joint_replay.specs.Joining.{Joining, Walk, begun, longer, fresh, readiness, readiness_of, first_waited, waits_for, next_step, move, with_step}
+use Rattle.joint_replay.specs.Joining.{Joining, Walk, begun, longer, fresh, is_passed, readiness, readiness_of, first_waited, waits_for, next_step, move, with_step}
 use Rattle.joint_replay.specs.Orders.{ready_step, walk_on}
 use Rattle.joint_replay.specs.Harts.{HartLane}
 use Rattle.joint_replay.specs.Calls.{bare, IsReached}
 use Rattle.joint_replay.specs.Moves.{range_of}
 use Rattle.joint_replay.specs.Together.{lanes_of, joining, AreHarts, IsTogether}
+use Rattle.joint_replay.specs.Sound.{IsSound}
+use Rattle.joint_replay.specs.Ways.{Passes, PassesIf}
+use Rattle.joint_replay.proofs.LaneSteps.{steps_pass}
+use Rattle.joint_replay.proofs.Soundness.{stays}
 
 -- ---- one hart among the others
 
@@ -26,7 +30,7 @@ lanes_set [] h l = refl
 lanes_set (x ∷ hs) zero l = refl
 lanes_set (x ∷ hs) (suc h) l = ap (λ (ls : List Lane). x.lane ∷ ls) (lanes_set hs h l)
 
-length_set : (hs : List HartLane) (h : ℕ) (l : HartLane) → length (slice_set hs h l) ≡ length hs
+pub length_set : (hs : List HartLane) (h : ℕ) (l : HartLane) → length (slice_set hs h l) ≡ length hs
 length_set [] h l = refl
 length_set (x ∷ hs) zero l = refl
 length_set (x ∷ hs) (suc h) l = ap suc (length_set hs h l)
@@ -139,6 +143,17 @@ module _ (i : Program) (log : Content) (count : ℕ) (hs : List HartLane) (memor
           whole = λ none. refl;
         });
       }
+
+  -- what is passed stays so
+  pub passed_after : IsSound old → (new : HartLane) (item : Item) → lane_step l.program l.lane ≡ Some (Ok (item, new.lane))
+      → (s j : ℕ) → is_passed (slice_get (lanes_of hs) s) j ≡ true → is_passed (slice_get (lanes_of (slice_set hs h new)) s) j ≡ true
+  passed_after sound new item e s j p =
+      let there : slice_get (lanes_of hs) h ≡ Some l.lane = lane_got hs h l at in
+      let ready_then : readiness_of log.records (lanes_of hs) h l.lane ≡ is.Ready =
+      sym (ap (λ (x : Option Lane). elim x as (λ y. Readiness) [ None ↦ is.Done | Some lane ↦ readiness_of log.records (lanes_of hs) h lane ]) there) ∙ ready in
+      let passes : Passes i l.lane item new.lane =
+      subst (PassesIf i l.lane) (ap (λ (q : Program). lane_step q l.lane) (sym (own_at i log.records 0 h hs l t.own at).0) ∙ e) (steps_pass i l.lane (sound.lanes h l.lane there)) in
+      subst (λ (ls : List Lane). is_passed (slice_get ls s) j ≡ true) (sym (lanes_set hs h new)) (stays old h sound l.lane there ready_then new.lane item passes s j p)
 
 -- a refusal, or want of memory, leaves all but what a starved replay has left
 pub together_refused : (i : Program) (log : Content) (count : ℕ) (hs : List HartLane) (memory : List (ℕ × ℕ)) (h : ℕ) (l new : HartLane) (e : ReplayError) → slice_get hs h ≡ Some l → IsTogether i log count hs memory None

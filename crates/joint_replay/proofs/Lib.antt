@@ -1,6 +1,7 @@
 mod Worked
 pub mod Waiting
 pub mod Ascents
+pub mod MetSources
 pub mod Taking
 pub mod JointMoves
 pub mod Beginning

@@ -1,5 +1,5 @@
 -- A step of a ready hart keeps the sources of passed targets passed.
-use Rattle.std.proofs.Common.{◌≡◌, ℕ, zero, suc, Bool, true, false, ◌&&◌, ◌==◌, ◌⊎◌, inl, inr, refl, sym, ap, ◌∙◌, subst, arith, List, [], ◌∷◌, slice_get, slice_set, Option, Some, None, Result, Ok, Err}
+use Rattle.std.proofs.Common.{◌≡◌, ℕ, zero, suc, ◌<◌, Bool, true, false, ◌&&◌, ◌==◌, ◌⊎◌, inl, inr, refl, sym, ap, ◌∙◌, subst, arith, List, [], ◌∷◌, length, slice_get, slice_set, slice_index_or, Option, Some, None, Result, Ok, Err}
 use Rattle.std.proofs.lemmas.Bool.Decides.{eqb_tells}
 use Rattle.log_record.specs.declared.record.Record.{Record}
 use Rattle.log_record.specs.declared.record.Record.TheVariants.{Header, FirstLoad, ScOk, ScFailed, Edge, End}
@@ -28,6 +28,11 @@ get_other (z ∷ xs) zero zero y apart = absurd (apart refl)
 get_other (z ∷ xs) zero (suc k) y apart = refl
 get_other (z ∷ xs) (suc h) zero y apart = refl
 get_other (z ∷ xs) (suc h) (suc k) y apart = get_other xs h k y (λ e. apart (ap suc e))
+
+pub got_at : {X : Type 0} (xs : List X) (h : ℕ) (x : X) → h < length xs → x ≡ slice_index_or xs h x → slice_get xs h ≡ Some x
+got_at [] h x low e = absurd (omega (arith, low))
+got_at {X = X} (y ∷ xs) zero x low e = ap (λ (z : X). Some z) (sym e)
+got_at (y ∷ xs) (suc h) x low e = got_at xs h x (omega (arith, low)) e
 
 pub some_is : {X : Type 0} (x y : X) (o : Option X) → o ≡ Some x → o ≡ Some y → x ≡ y
 some_is {X = X} x y o e f = let g : ◌≡◌ {A = Option X} (Some x) (Some y) = sym e ∙ f in cc

@@ -20,9 +20,12 @@ use Rattle.joint_replay.specs.Joining.{Joining, readiness, error_of}
 use Rattle.joint_replay.specs.Harts.{HartLane}
 use Rattle.joint_replay.specs.Calls.{stepped_of, bare, Steps}
 use Rattle.joint_replay.specs.Moves.{LaneSteps, did, moved}
-use Rattle.joint_replay.specs.Together.{lanes_of, joining, IsTogether}
+use Rattle.joint_replay.specs.Sound.{IsSound}
+use Rattle.joint_replay.specs.Together.{lanes_of, joining, AreMet, IsTogether}
 use Rattle.joint_replay.proofs.Choosing.{lanes_length}
-use Rattle.joint_replay.proofs.JointMoves.{step_is, after_step, together_after, together_refused, same_range, bare_set, lane_kept}
+use Rattle.joint_replay.proofs.JointMoves.{step_is, after_step, together_after, together_refused, passed_after, same_range, length_set, bare_set, lane_kept}
+use Rattle.joint_replay.proofs.MetSources.{still_met, bare_stays}
+use Rattle.joint_replay.proofs.Soundness.{got_at}
 
 -- ---- what each kind of step tells, and makes of memory
 
@@ -63,11 +66,6 @@ row_told h x (Passing k) f = absurd cc
 row_told h x (Doing before row) f = ap (λ (y : Did). has.Did y.row) (same_did x (did before row) f)
 row_told h x (Ending n m) f = absurd cc
 
-pub hart_at : (hs : List HartLane) (h : ℕ) (l : HartLane) → h < length hs → l ≡ slice_index_or hs h l → slice_get hs h ≡ Some l
-hart_at [] h l low e = absurd (omega (arith, low))
-hart_at (x ∷ hs) zero l low e = ap (λ (y : HartLane). Some y) (sym e)
-hart_at (x ∷ hs) (suc h) l low e = hart_at hs h l (omega (arith, low)) e
-
 -- ---- a step
 
 module _ (i : Program) (log : Content) (count : ℕ) (hs : List HartLane) (memory : List (ℕ × ℕ)) (refused : Option ReplayError) (now : Joining) (h : ℕ) (l : HartLane)
@@ -80,7 +78,7 @@ module _ (i : Program) (log : Content) (count : ℕ) (hs : List HartLane) (memor
   old_is = ap (joining i log.records hs memory) (sym none_yet) ∙ view
 
   at : slice_get hs h ≡ Some l
-  at = let size : length now.lanes ≡ length (lanes_of hs) = ap (λ (j : Joining). length j.lanes) (sym view) in hart_at hs h l (omega (arith, low, size, lanes_length hs)) value
+  at = let size : length now.lanes ≡ length (lanes_of hs) = ap (λ (j : Joining). length j.lanes) (sym view) in got_at hs h l (omega (arith, low, size, lanes_length hs)) value
 
   together : IsTogether i log count hs memory None
   together = subst (IsTogether i log count hs memory) none_yet t
@@ -105,6 +103,15 @@ module _ (i : Program) (log : Content) (count : ℕ) (hs : List HartLane) (memor
       by : ((lane_step l.program l.lane ≡ Some (Err e)) × (new.lane ≡ l.lane)) ⊎ ((e ≡ replay.OutOfMemory) × (bare new.lane ≡ bare l.lane)) → bare new.lane ≡ bare l.lane
       by (inl a) = ap bare a.1
       by (inr a) = a.1
+
+  -- the Edges that were met are still
+  pub keeps_met : IsSound now → (met : List ℕ) → AreMet log.records hs met → (new : HartLane) (m : Moved) → LaneSteps l (Ok m) new → AreMet log.records (slice_set hs h new) met
+  keeps_met sound met a new m s =
+      still_met log.records hs (slice_set hs h new) met (length_set hs h new) (passed_after i log count hs memory h l at together ready_then (subst IsSound (sym old_is) sound) new s.0 s.1) a
+
+  pub stays_met : (met : List ℕ) → AreMet log.records hs met → (new : HartLane) (e : ReplayError) → LaneSteps l (Err e) new → AreMet log.records (slice_set hs h new) met
+  stays_met met a new e s =
+      still_met log.records hs (slice_set hs h new) met (length_set hs h new) (bare_stays (lanes_of hs) (lanes_of (slice_set hs h new)) (bare_set hs h l new at (bare_same new e s))) a
 
   pub stays : (new : HartLane) (e : ReplayError) (words : List (ℕ × ℕ)) → LaneSteps l (Err e) new → words ≡ memory → IsTogether i log count (slice_set hs h new) words (Some e)
   stays new e words s same = subst (λ (ms : List (ℕ × ℕ)). IsTogether i log count (slice_set hs h new) ms (Some e)) (sym same) (together_refused i log count hs memory h l new e at together s.0 (bare_same new e s))

@@ -2,6 +2,7 @@
 use Rattle.std.proofs.Common.{◌≡◌, ℕ, zero, suc, ◌<◌, ◌≤◌, Bool, true, ◌⊎◌, inl, inr, nat_lt, refl, sym, ap, ◌∙◌, subst, arith, List, [], ◌∷◌, slice_get, slice_set, Option, Some, None, Result, Ok, Err}
 use Rattle.std.proofs.lemmas.Bool.Decides.{eqb_tells}
 use Rattle.bn_base.specs.Programs.{Program}
+use Rattle.log_record.specs.declared.record.Record.{Record}
 use Rattle.hart_replay.specs.declared.error.ReplayError.{ReplayError}
 use Rattle.joint_replay.specs.declared.kinds.Coming.{Coming}
 use Rattle.joint_replay.specs.declared.kinds.Readiness.{Readiness}
@@ -9,7 +10,7 @@ use Rattle.joint_replay.specs.declared.kinds.Readiness.TheVariants as is
 use Rattle.joint_replay.specs.Lanes.{Course, Lane, Item, coming_of, count_of, lane_step}
 use Rattle.joint_replay.specs.Memory.{memory_after}
 use Rattle.joint_replay.specs.Joining.{Joining, Taken, Walk, begun, longer, fresh, is_passed, readiness_of, move}
-use Rattle.joint_replay.specs.Orders.{ready_step, walk_on}
+use Rattle.joint_replay.specs.Orders.{IsBegun, ready_step, walk_on}
 use Rattle.joint_replay.specs.Ways.{AreCourses, ArePoints, InCourses, IsRowAt, Passes, PassesIf}
 use Rattle.joint_replay.specs.Sound.{IsSound}
 use Rattle.joint_replay.specs.Chains.{StepTo, Leads, one, more, Did, IsLeft, IsToDo}
@@ -171,14 +172,21 @@ none : (ts : List Taken) → ts ≡ [] → (y : ℕ) (u : Taken) → slice_get t
 none [] e y u f = cc
 none (t ∷ ts) e y u f = cc
 
+module _ (pass : StepsPass) (i : Program) (harts : ℕ) (records : List Record) (order : List ℕ) (w : Walk) (sound : IsSound (fresh i harts records)) (b : IsBegun i harts records order w) where
+  ordered : IsOrdered (fresh i harts records) w
+  ordered = subst (OrderedIf (fresh i harts records)) b.allowed (walk_ordered pass (fresh i harts records) (begun (fresh i harts records)) order first)
+    where
+      first : IsOrdered (fresh i harts records) (begun (fresh i harts records))
+      first = record {
+        sound = sound;
+        same = refl;
+        done = λ h k to_do. inr to_do;
+        before = λ y h ic d s j leads to_do. absurd (none [] refl y d.step d.at);
+      }
+
+  -- allowed orders keep it sound
+  pub walks_are_sound : IsSound w.now
+  walks_are_sound = ordered.sound
+
 pub chains_are_kept : StepsPass → ChainsAreKept
-chains_are_kept pass i harts records order w sound b =
-    (subst (OrderedIf (fresh i harts records)) b.allowed (walk_ordered pass (fresh i harts records) (begun (fresh i harts records)) order first)).before
-  where
-    first : IsOrdered (fresh i harts records) (begun (fresh i harts records))
-    first = record {
-      sound = sound;
-      same = refl;
-      done = λ h k to_do. inr to_do;
-      before = λ y h ic d s j leads to_do. absurd (none [] refl y d.step d.at);
-    }
+chains_are_kept pass i harts records order w sound b = (ordered pass i harts records order w sound b).before

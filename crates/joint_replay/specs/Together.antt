@@ -1,12 +1,14 @@
 -- All harts of a joint replay, as its parts make them.
-use Rattle.std.specs.Prelude.{◌≡◌, ◌+◌, ℕ, List, [], ◌∷◌, length, map, Option}
+use Rattle.std.specs.Prelude.{◌≡◌, ◌+◌, ℕ, true, List, [], ◌∷◌, length, map, take, slice_get, Option, Some}
 use Rattle.bn_base.specs.Programs.{Program}
 use Rattle.log_record.specs.declared.record.Record.{Record}
 use Rattle.log_order.specs.Content.{Content}
 use Rattle.hart_replay.specs.declared.error.ReplayError.{ReplayError}
+use Rattle.joint_replay.specs.declared.sources.Source.{Source}
 use Rattle.joint_replay.specs.Lanes.{Lane}
 use Rattle.joint_replay.specs.Harts.{HartLane}
-use Rattle.joint_replay.specs.Joining.{Joining, lanes_from}
+use Rattle.joint_replay.specs.Joining.{Joining, is_passed, lanes_from}
+use Rattle.joint_replay.specs.Sources.{edges_into}
 use Rattle.joint_replay.specs.Calls.{IsReached}
 
 abbrev pub lanes_of : List HartLane → List Lane
@@ -26,6 +28,16 @@ pub record IsTogether (i : Program) (log : Content) (count : ℕ) (harts : List 
   pub number : log.head.settings.harts ≡ count
   pub own : AreHarts i log.records 0 harts
   pub reached : IsReached (length harts) (joining i log.records harts memory refused)
+
+-- the sources of these Edges are passed
+abbrev pub ArePassed : List Lane → List Source → Type 0
+ArePassed lanes [] = Unit {0}
+ArePassed lanes (s ∷ ss) = (is_passed (slice_get lanes s.hart) s.ic ≡ true) × ArePassed lanes ss
+
+-- of the Edges into each hart, the first so many have passed sources
+pub record AreMet (records : List Record) (harts : List HartLane) (met : List ℕ) : Type 0 where
+  pub count : length met ≡ length harts
+  pub passed : (h n : ℕ) → slice_get met h ≡ Some n → ArePassed (lanes_of harts) (take n (edges_into h records))
 
 -- so many harts before their first steps
 pub record AreBegun (i : Program) (records : List Record) (count : ℕ) (harts : List HartLane) : Type 0 where

@@ -1,16 +1,19 @@
 //! The joint replay of all retained intervals.
-ghost use Rattle.std.specs.Prelude.{◌≡◌, ◌<◌, ◌+◌, ◌==◌, ◌&&◌, not, [], ◌∷◌, length, slice_get, Some, None, IfOk, IfErr, MatchOption};
+ghost use Rattle.std.specs.Prelude.{◌≡◌, ◌<◌, ◌+◌, ◌==◌, ◌&&◌, not, [], ◌∷◌, length, take, replicate, slice_get, Some, None, IfOk, IfErr, MatchOption};
 ghost use Rattle.joint_replay.specs.declared.kinds.Readiness.TheVariants.{Ready};
 ghost use Rattle.joint_replay.specs.declared.error.JointError.TheVariants.{OutOfMemory};
 ghost use Rattle.joint_replay.specs.Points.{sources_into};
 ghost use Rattle.joint_replay.specs.Joining.{fresh, is_passed, first_waited, waits_for, readiness, coming, choice, positions_from, error_of};
 ghost use Rattle.joint_replay.specs.Memory.{word_in, known_from};
 ghost use Rattle.joint_replay.specs.Calls.{Steps, state_at, IsHalted, IsReached};
-ghost use Rattle.joint_replay.specs.Together.{AreBegun};
+ghost use Rattle.joint_replay.specs.Together.{ArePassed, AreBegun};
+ghost use Rattle.joint_replay.specs.Sources.{edges_into};
+ghost use Rattle.joint_replay.specs.Sound.{IsSound};
 
 use crate::error::JointError;
 use crate::kinds::{Coming, Next, Readiness, Stepped};
 use crate::lane::{Lane, Moved};
+use crate::laws::starts_are_sound;
 use crate::memory::Memory;
 use crate::sources::Source;
 use bn_base::{Addr, HartId, HartState, Ic, Image, List};
@@ -29,19 +32,21 @@ pub struct Joint<'a> {
     log: &'a KeptLog,
     harts: HartId,
     lanes: Vec<Lane<'a>>,
+    /// Of the Edges into each hart, how many, from the first one on, have passed sources.
+    met: Vec<usize>,
     memory: Memory,
     refused: Option<ReplayError>,
 }
 
 impl<'a> Model for Joint<'a> {
     ghost use Rattle.joint_replay.specs.Joining.{Joining};
-    ghost use Rattle.joint_replay.specs.Together.{joining, IsTogether};
+    ghost use Rattle.joint_replay.specs.Together.{joining, IsTogether, AreMet};
 
     ghost Value = { Joining };
 
     ghost view = { λ j. joining j.image.now j.log.now.records j.lanes.items j.memory.words j.refused };
 
-    ghost invariant = { λ j. IsTogether j.image.now j.log.now j.harts j.lanes.items j.memory.words j.refused };
+    ghost invariant = { λ j. IsTogether j.image.now j.log.now j.harts j.lanes.items j.memory.words j.refused × AreMet j.log.now.records j.lanes.items j.met.items };
 }
 
 impl<'a> Joint<'a> {
@@ -52,14 +57,18 @@ impl<'a> Joint<'a> {
         ensures refused { IfErr result (λ e. e ≡ OutOfMemory) }
     {
         match all_lanes(alloc, image, log) {
-            Ok(lanes) => Ok(Joint {
-                image,
-                log,
-                harts: log.head().settings.harts(),
-                lanes,
-                memory: Memory::new(alloc),
-                refused: None,
-            }),
+            Ok(lanes) => match none_met(alloc, lanes.len()) {
+                Ok(met) => Ok(Joint {
+                    image,
+                    log,
+                    harts: log.head().settings.harts(),
+                    lanes,
+                    met,
+                    memory: Memory::new(alloc),
+                    refused: None,
+                }),
+                Err(_) => Err(JointError::OutOfMemory),
+            },
             Err(_) => Err(JointError::OutOfMemory),
         }
     }
@@ -75,7 +84,13 @@ impl<'a> Joint<'a> {
     {
         match self.refused {
             Some(refusal) => Err(error_of(refusal)),
-            None => self.take(hart),
+            None => match self.take(hart) {
+                Ok(stepped) => {
+                    self.pass_sources(hart);
+                    Ok(stepped)
+                }
+                Err(error) => Err(error),
+            },
         }
     }
 
@@ -86,6 +101,7 @@ impl<'a> Joint<'a> {
         requires none { self.old.refused ≡ None }
         ensures { Steps self.old hart result self.new }
     {
+        self.keeps_passed();
         if self.memory.make_room().is_err() {
             self.refused = Some(ReplayError::OutOfMemory);
             return Err(JointError::OutOfMemory);
@@ -108,6 +124,54 @@ impl<'a> Joint<'a> {
                 }),
             },
         }
+    }
+
+    // Where no step was refused, the sources of passed targets are passed. This does nothing.
+    fn keeps_passed(&self)
+        requires { self.now.refused ≡ None }
+        ensures { IsSound self.now }
+    {
+        starts_are_sound();
+        let _head = self.log.head();
+    }
+
+    // Goes on past the Edges whose sources are passed since a hart moved.
+    fn pass_sources(&mut self, moved: HartId)
+        ensures { self.new ≡ self.old }
+    {
+        for hart in 0..self.harts() {
+            self.pass_sources_into(hart, moved);
+        }
+    }
+
+    // Goes on past those of them that lead into a hart.
+    fn pass_sources_into(&mut self, hart: HartId, moved: HartId)
+        requires { hart < length self.old.lanes }
+        ensures { self.new ≡ self.old }
+    {
+        let met = self.met[hart as usize];
+        let place = self.first_unpassed(hart, met, moved);
+        self.met[hart as usize] = place;
+    }
+
+    // The place of the first Edge into a hart whose source isn't passed, where those before a place are.
+    // It is that place, where the source there is of another hart than the one that moved.
+    fn first_unpassed(&self, hart: HartId, met: usize, moved: HartId) -> usize
+        requires there { hart < length self.now.lanes }
+        requires before { ArePassed self.now.lanes (take met (edges_into hart self.now.records)) }
+        ensures { ArePassed self.now.lanes (take result (edges_into hart self.now.records)) }
+    {
+        let sources = self.lanes[hart as usize].edges();
+        if met < sources.len() && sources[met].hart != moved {
+            return met;
+        }
+        for place in met..sources.len() {
+            let source = sources[place];
+            if !self.is_passed(source.hart, source.ic) {
+                return place;
+            }
+        }
+        sources.len()
     }
 
     /// An allowed order of steps led here. This does nothing.
@@ -211,8 +275,8 @@ impl<'a> Joint<'a> {
         requires { hart < length self.now.lanes }
         ensures { result ≡ waits_for (first_waited self.now.lanes (sources_into self.now.records hart ic)) }
     {
-        let sources = self.lanes[hart as usize].sources_from(ic);
-        for place in 0..sources.len() {
+        let sources = self.lanes[hart as usize].edges();
+        for place in self.met[hart as usize]..sources.len() {
             let source = sources[place];
             if source.target > ic {
                 return Readiness::Ready;
@@ -272,6 +336,7 @@ impl<'a> Joint<'a> {
             log: self.log,
             harts: self.harts,
             lanes: copy_lanes(&self.lanes)?,
+            met: Vec::from_slice(*self.met.allocator(), &self.met)?,
             memory: self.memory.copy()?,
             refused: self.refused,
         })
@@ -287,6 +352,13 @@ fn copy_lanes<'a>(lanes: &Vec<Lane<'a>>) -> Result<Vec<Lane<'a>>, AllocError>
         copies.push(lanes[hart].copy()?)?;
     }
     Ok(copies)
+}
+
+// No Edge into any of so many harts is known to have a passed source.
+fn none_met(alloc: Global, harts: usize) -> Result<Vec<usize>, AllocError>
+    ensures { IfOk result (λ met. met.items ≡ replicate harts 0) }
+{
+    vec![in alloc; 0; harts]
 }
 
 // All harts before their first steps.

@@ -3,8 +3,7 @@ ghost use Rattle.std.specs.Prelude.{◌≡◌, ◌<◌, true, is_some, Some, Non
 ghost use Rattle.joint_replay.specs.Lanes.{has_row, lane_of, coming_of, point_of, state_of};
 ghost use Rattle.joint_replay.specs.Intervals.{AreThere};
 ghost use Rattle.joint_replay.specs.Moves.{CourseSteps, LaneSteps};
-ghost use Rattle.joint_replay.specs.Points.{sources_into};
-ghost use Rattle.joint_replay.specs.Sources.{AscendFrom, sources_at};
+ghost use Rattle.joint_replay.specs.Sources.{edges_into, AscendFrom};
 ghost use Rattle.joint_replay.specs.Harts.{course_coming, course_point, later_courses, hart_courses, IsHartLane};
 
 use crate::calls::{Asked, filled};
@@ -201,12 +200,12 @@ impl<'a> Lane<'a> {
         }
     }
 
-    /// The Edges into the hart, from the first into an instruction or a later one on.
-    pub(crate) fn sources_from(&self, ic: Ic) -> &[Source]
-        ensures sources { sources_at ic result.now ≡ sources_into self.now.records self.now.hart ic }
+    /// The Edges into the hart, by ascending targets.
+    pub(crate) fn edges(&self) -> &[Source]
+        ensures all { result.now ≡ edges_into self.now.hart self.now.records }
         ensures order { AscendFrom 0 result.now }
     {
-        self.sources.from(ic)
+        self.sources.all()
     }
 
     /// The hart's state, where an interval is under way.

@@ -1,7 +1,6 @@
 //! The Edges into a hart.
 ghost use Rattle.std.specs.Prelude.{◌≡◌, ◌<◌, IfOk};
-ghost use Rattle.joint_replay.specs.Sources.{source_in, AscendFrom, sources_at};
-ghost use Rattle.joint_replay.specs.Points.{sources_into};
+ghost use Rattle.joint_replay.specs.Sources.{source_in, edges_into, AscendFrom};
 
 use crate::laws::edges_ascend;
 use bn_base::{HartId, Ic};
@@ -101,13 +100,12 @@ impl<'a> Sources<'a> {
         self.log
     }
 
-    /// The Edges from the first into an instruction or a later one on, by ascending targets.
-    pub(crate) fn from(&self, ic: Ic) -> &[Source]
-        ensures sources { sources_at ic result.now ≡ sources_into self.now.log.records self.now.hart ic }
+    /// All of them, by ascending targets.
+    pub(crate) fn all(&self) -> &[Source]
+        ensures all { result.now ≡ edges_into self.now.hart self.now.log.records }
         ensures order { AscendFrom 0 result.now }
     {
-        let start = self.edges.partition_point(|source| source.target < ic);
-        &self.edges[start..]
+        &self.edges
     }
 
     /// The same ones.

@@ -1,7 +1,9 @@
 -- Going through the records of a log.
-use Rattle.std.proofs.Common.{◌≡◌, ℕ, zero, suc, ◌+◌, ◌<◌, ◌≤◌, List, [], ◌∷◌, ◌++◌, length, drop, get_or, length-append, append_assoc, add-one, sym, ap, subst, ◌∙◌, arith}
+use Rattle.std.proofs.Common.{◌≡◌, ℕ, zero, suc, ◌+◌, ◌<◌, ◌≤◌, Bool, true, false, List, [], ◌∷◌, ◌++◌, length, drop, get_or, length-append, append_assoc, add-one, refl, sym, ap, subst, ◌∙◌, arith}
 use Rattle.std.proofs.Math.Seq.{drop-cons}
+use Rattle.std.specs.Prelude.{◌==◌}
 use Rattle.std.specs.List.{flat_map, AllByRecursion}
+use Rattle.std.proofs.lemmas.Bool.{eqb-true}
 use Rattle.std.proofs.lemmas.List.Concat.{flat_map-cons}
 use Rattle.log_record.specs.declared.record.Record.{Record}
 use Rattle.log_record.specs.Laws.{FitLater}
@@ -14,10 +16,16 @@ all_later : FitLater → (rs : List Record) → AllByRecursion (Fits 1) rs → A
 all_later law [] fit = tt
 all_later law (r ∷ rs) fit = (law r fit.0, all_later law rs fit.1)
 
+-- a format in range that isn't 2 is 1
+pub is_first : (format : ℕ) → 1 ≤ format → format ≤ 2 → (format == 2) ≡ false → format ≡ 1
+is_first format low high other = grind arith
+
+fits_later : FitLater → (format : ℕ) (second : Bool) → (format == 2) ≡ second → 1 ≤ format → format ≤ 2 → (rs : List Record) → AllByRecursion (Fits format) rs → AllByRecursion (Fits 2) rs
+fits_later law format true e low high rs fit = subst (λ (f : ℕ). AllByRecursion (Fits f) rs) (eqb-true format 2 e) fit
+fits_later law format false e low high rs fit = all_later law rs (subst (λ (f : ℕ). AllByRecursion (Fits f) rs) (is_first format low high e) fit)
+
 pub content_fits : FitLater → (c : Content) → IsContent c → AllByRecursion (Fits 2) c.records
-content_fits law c is =
-    let one : c.head.settings.format ≡ 1 = omega (arith, is.settings.format_low, is.settings.format_high) in
-    all_later law c.records (subst (λ (f : ℕ). AllByRecursion (Fits f) c.records) one is.fit)
+content_fits law c is = fits_later law c.head.settings.format (c.head.settings.format == 2) refl is.settings.format_low is.settings.format_high c.records is.fit
 
 pub fits_at : (format : ℕ) (rs : List Record) (k : ℕ) (x : Record) → AllByRecursion (Fits format) rs → k < length rs → x ≡ get_or rs k x → Fits format x
 fits_at format [] k x fit lt is = absurd (omega (arith, lt))

@@ -15,7 +15,7 @@ use Rattle.log_file.specs.declared.error.FileError.{FileError}
 use Rattle.log_file.specs.declared.error.FileError.TheVariants.{LengthDiffers, BadRecord, BadOrder, OutOfMemory}
 use Rattle.log_file.specs.Blocks.{blocks_of}
 use Rattle.log_file.specs.File as first
-use Rattle.log_file.specs.Layout.{file_bytes, file_bytes2}
+use Rattle.log_file.specs.Layout.{file_bytes, file_bytes2, IsFirst}
 use Rattle.log_file.specs.Readings.{TestsTell}
 use Rattle.log_file.specs.Readings as of_first
 use Rattle.log_blocks.specs.declared.damage.Damage.{Damage}
@@ -26,7 +26,7 @@ use Rattle.log_blocks.specs.Fields.{settings_in, head_in, dropped_in, size_in, h
 use Rattle.log_blocks.specs.Faults.{is_second, head_fault}
 use Rattle.log_blocks.specs.Pieces.{Piece, gathered, start_in, len_in, piece_in, is_good, Walked, IsWalk}
 use Rattle.log_blocks.specs.Cuts.{first_wrong}
-use Rattle.log_blocks.specs.File.{HasBlocks, IsRecordsFault, IsSecondRefusal, IsFirstRefusal, IsRefusal, dropped_before}
+use Rattle.log_blocks.specs.File.{HasBlocks, IsRecordsFault, IsSecondRefusal, IsFirstRefusal, dropped_before}
 use Rattle.log_blocks.specs.Readings.{Reads, Salvages, AreReadOrRefused, AreSalvagedOrRefused}
 use Rattle.log_blocks.proofs.Goods.{good, front_are}
 use Rattle.log_blocks.proofs.Parted.{Parted, Stuck, parted}
@@ -220,11 +220,11 @@ abbrev Verdict : List ℕ → Type 0
 Verdict bytes = (says : Result Content Damage) × Reads bytes says
 
 of_second : (bytes : List ℕ) → is_second bytes ≡ true → ((d : Content) × IsContent d × (bytes ≡ file_bytes2 d)) ⊎ ((e : Damage) × IsSecondRefusal bytes e × (e ≢ File OutOfMemory)) → Verdict bytes
-of_second bytes named (inl x) = (Ok x.0, (x.1, to_second (is_second bytes) (bytes ≡ file_bytes2 x.0) (bytes ≡ file_bytes x.0) named x.2))
+of_second bytes named (inl x) = (Ok x.0, (x.1, to_second (is_second bytes) (bytes ≡ file_bytes2 x.0) ((x.0.head.settings.format ≡ 1) × (bytes ≡ file_bytes x.0)) named x.2))
 of_second bytes named (inr x) = (Err x.0, (to_second (is_second bytes) (IsSecondRefusal bytes x.0) (IsFirstRefusal bytes x.0) named x.1, x.2))
 
-of_version_1 : (bytes : List ℕ) → is_second bytes ≡ false → ((d : Content) × IsContent d × (bytes ≡ file_bytes d)) ⊎ ((e : FileError) × first.IsRefusal bytes e × (e ≢ OutOfMemory)) → Verdict bytes
-of_version_1 bytes named (inl x) = (Ok x.0, (x.1, to_first (is_second bytes) (bytes ≡ file_bytes2 x.0) (bytes ≡ file_bytes x.0) named x.2))
+of_version_1 : (bytes : List ℕ) → is_second bytes ≡ false → ((d : Content) × IsFirst d × (bytes ≡ file_bytes d)) ⊎ ((e : FileError) × first.IsRefusal bytes e × (e ≢ OutOfMemory)) → Verdict bytes
+of_version_1 bytes named (inl x) = (Ok x.0, (x.1.0, to_first (is_second bytes) (bytes ≡ file_bytes2 x.0) ((x.0.head.settings.format ≡ 1) × (bytes ≡ file_bytes x.0)) named (x.1.1, x.2)))
 of_version_1 bytes named (inr x) = (Err (File x.0), (to_first (is_second bytes) (IsSecondRefusal bytes (File x.0)) (IsFirstRefusal bytes (File x.0)) named x.1, no_memory x.0 x.2))
 
 by_version : Laws → of_first.AreReadOrRefused → TestsTell → (bytes : List ℕ) → AreBytes bytes → (b : Bool) → is_second bytes ≡ b → Verdict bytes

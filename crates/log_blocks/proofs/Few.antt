@@ -1,11 +1,15 @@
 -- How many blocks a log has.
-use Rattle.std.proofs.Common.{◌≡◌, ℕ, suc, ◌+◌, ◌*◌, ◌<◌, ◌≤◌, Bool, true, false, nat_le, List, [], ◌∷◌, ◌++◌, length, Option, Some, refl, ap, arith}
+use Rattle.std.proofs.Common.{◌≡◌, ℕ, suc, ◌+◌, ◌*◌, ◌^◌, ◌<◌, ◌≤◌, Bool, true, false, nat_le, List, [], ◌∷◌, ◌++◌, length, Option, Some, refl, ap, arith}
+use Rattle.std.specs.Prelude.{◌==◌}
 use Rattle.std.specs.List.{AllByRecursion}
 use Rattle.log_record.specs.declared.record.Record.{Record}
 use Rattle.log_record.specs.declared.record.Record.TheVariants.{Header, FirstLoad, ScOk, ScFailed, Edge, End}
 use Rattle.log_record.specs.Spelling.{bytes_of, total, FitsFields, Fits}
-use Rattle.log_file.specs.Blocks.{block_size, cut_from, last_block, numbered}
-use Rattle.log_blocks.specs.Laws.{AreFew}
+use Rattle.log_order.specs.Content.{Content}
+use Rattle.log_file.specs.Blocks.{block_size, cut_from, last_block, numbered, blocks_of}
+use Rattle.log_file.specs.Layout.{file_bytes, file_bytes2}
+use Rattle.log_file.specs.Laws as of_first
+use Rattle.log_blocks.specs.Laws.{AreFew, HaveTheirSize, SavedHaveTheirLimit}
 use Rattle.log_blocks.proofs.Pushed.{total_first}
 use Rattle.log_blocks.proofs.Sealed.{TagsTell}
 
@@ -53,3 +57,20 @@ as_many before (rs ∷ rest) = ap (λ (n : ℕ). suc n) (as_many (before + lengt
 
 pub few : TagsTell → AreFew
 few tell c is = omega (arith, as_many c.dropped (cut_from [] 0 c.records), few_cut tell c.head.settings.format c.records [] 0 is.fit)
+
+-- ---- how long what is saved is
+
+first_limit : (size bytes most : ℕ) → size ≡ bytes + 124 → bytes ≤ most → most ≤ 2 ^ 28 → size ≤ 272629760
+first_limit size bytes most is bound high = omega arith
+
+second_limit : (size bytes blocks most : ℕ) → size ≡ bytes + 136 + 48 * blocks → 3951 * blocks ≤ bytes + 3951 → bytes ≤ most → most ≤ 2 ^ 28 → size ≤ 272629760
+second_limit size bytes blocks most is few bound high = omega arith
+
+saved_by : (c : Content) (b : Bool) → length (file_bytes c) ≤ 272629760 → length (file_bytes2 c) ≤ 272629760 → length (elim b as (λ z. List ℕ) [ true ↦ file_bytes2 c | false ↦ file_bytes c ]) ≤ 272629760
+saved_by c true first second = second
+saved_by c false first second = first
+
+pub saved_limit : of_first.HaveTheirSize → HaveTheirSize → AreFew → SavedHaveTheirLimit
+saved_limit first second few c is =
+    saved_by c (c.head.settings.format == 2) (first_limit (length (file_bytes c)) (total c.records) c.head.settings.log_size (first c is) is.bound is.settings.log_size_high)
+    (second_limit (length (file_bytes2 c)) (total c.records) (length (blocks_of c.dropped c.records)) c.head.settings.log_size (second c is) (few c is) is.bound is.settings.log_size_high)

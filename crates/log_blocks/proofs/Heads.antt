@@ -1,6 +1,6 @@
 -- The head of a file that is written is read again, and has no fault.
 use Rattle.std.proofs.Common.{◌≡◌, ℕ, ◌+◌, ◌%◌, ◌^◌, ◌<◌, ◌≤◌, Bool, true, false, ltb, List, [], ◌++◌, length, take, drop, length-append, append_assoc, append-nil, None, refl, sym, ap, ◌∙◌, arith}
-use Rattle.std.specs.Prelude.{◌==◌, IsTrue, if◌then◌else◌}
+use Rattle.std.specs.Prelude.{◌==◌, ◌&&◌, ◌||◌, IsTrue, if◌then◌else◌}
 use Rattle.std.specs.Int.{is_power_of_two}
 use Rattle.std.proofs.lemmas.Bool.{eqb-true, eq-eqb}
 use Rattle.std.proofs.lemmas.List.{drop-drop, take_at, drop_at}
@@ -28,6 +28,28 @@ most s = by (s.format == 2)
     by true = omega arith
     by false = omega arith
 
+at_most : (high value : ℕ) → is_small_power high value ≡ true → value ≤ high
+at_most high value h = grind arith
+
+up_to : (low high value : ℕ) → is_between low high value ≡ true → value ≤ high
+up_to low high value h = grind arith
+
+few_sets : (n : ℕ) (none second : Bool) → (n == 0) ≡ none → IsTrue (none || second && is_small_power 4096 n) → n ≤ 4096
+few_sets n true second e h = omega (arith, eqb-true n 0 e)
+few_sets n false true e h = at_most 4096 n h
+few_sets n false false e h = absurd cc
+
+few_ways : (n : ℕ) (none : Bool) → IsTrue (if none then n == 0 else is_between 1 16 n) → n ≤ 16
+few_ways n true h = omega (arith, eqb-true n 0 h)
+few_ways n false h = up_to 1 16 n h
+
+-- a second level has at most 4,096 sets of 16 ways
+second_sets : (s : RawSettings) → IsSetting s → s.sets2 ≤ 4096
+second_sets s is = few_sets s.sets2 (s.sets2 == 0) (s.format == 2) refl is.second_sets
+
+second_ways : (s : RawSettings) → IsSetting s → s.ways2 ≤ 16
+second_ways s is = few_ways s.ways2 (s.sets2 == 0) is.second_ways
+
 abbrev head_with : List ℕ → RawSettings → Head
 head_with digest s = record { settings = s; digest = digest }
 
@@ -53,8 +75,8 @@ spelled_again read h dropped n rest bytes is len small fits e =
     let s40 = read 4 40 h.settings.ways bytes _ (omega (arith, is.ways_high)) s36.1 in
     let s44 = read 4 44 h.settings.line bytes _ (omega (arith, is.line_high)) s40.1 in
     let s48 = read 4 48 h.settings.format bytes _ (omega (arith, is.format_high)) s44.1 in
-    let s52 = read 4 52 h.settings.sets2 bytes _ (omega (arith, eqb-true h.settings.sets2 0 is.second_sets)) s48.1 in
-    let s56 = read 4 56 h.settings.ways2 bytes _ (omega (arith, eqb-true h.settings.ways2 0 is.second_ways)) s52.1 in
+    let s52 = read 4 52 h.settings.sets2 bytes _ (omega (arith, second_sets h.settings is)) s48.1 in
+    let s56 = read 4 56 h.settings.ways2 bytes _ (omega (arith, second_ways h.settings is)) s52.1 in
     let digest : take 32 (drop 60 bytes) ≡ h.digest = ap (take 32) s56.1 ∙ take_at h.digest _ 32 len in
     let later = sym (drop-drop 32 60 bytes) ∙ ap (drop 32) s56.1 ∙ drop_at h.digest _ 32 len in
     let s92 = read 8 92 dropped bytes _ small later in
@@ -164,7 +186,7 @@ none_bad s is =
       power 1024 s.sets is.sets_low is.sets_high is.sets_power,
       between 1 16 s.ways is.ways_low is.ways_high,
       power 16 s.line is.line_low is.line_high is.line_power,
-      between 1 1 s.format is.format_low is.format_high,
+      between 1 2 s.format is.format_low is.format_high,
       is.second_sets,
       is.second_ways,
     ) refl

@@ -1,19 +1,19 @@
 -- What a head without a fault says.
-use Rattle.std.proofs.Common.{◌≡◌, ℕ, ◌≤◌, Bool, true, false, not, cond, eqb, ltb, List, length, take, Option, Some, None, refl, ap, ◌∙◌, arith}
+use Rattle.std.proofs.Common.{◌≡◌, ℕ, ◌≤◌, Bool, true, false, not, cond, eqb, ltb, List, length, take, Option, Some, None, Result, Ok, refl, sym, ap, ◌∙◌, arith}
 use Rattle.std.specs.Prelude.{◌≢◌}
 use Rattle.std.specs.Str.{bytes_eq}
-use Rattle.std.proofs.lemmas.Bool.{eqb-true, ltb-false}
+use Rattle.std.proofs.lemmas.Bool.{eqb-true, eq-eqb, ltb-false}
 use Rattle.std.proofs.lemmas.Slice.Eq.{bytes_eq-Decides}
 use Rattle.bn_base.specs.declared.settings.BadSetting.{BadSetting}
 use Rattle.bn_base.specs.declared.settings.RawSettings.{RawSettings}
-use Rattle.bn_base.specs.Ranges.{first_bad}
+use Rattle.bn_base.specs.Ranges.{first_bad, checked, checked_by}
 use Rattle.le_numbers.specs.Numbers.{number_at}
 use Rattle.log_file.specs.declared.error.FileError.{FileError}
 use Rattle.log_file.specs.declared.error.FileError.TheVariants.{Short, BadMagic, BadVersion, BadHead, DigestDiffers, OutOfMemory}
 use Rattle.log_file.specs.Layout.{magic}
 use Rattle.log_file.specs.Faults.{setting_fault}
 use Rattle.log_blocks.specs.Fields.{settings_in, size_in, kept_digest, head_digest}
-use Rattle.log_blocks.specs.Faults.{head_fault}
+use Rattle.log_blocks.specs.Faults.{later_fault, head_fault}
 
 passed : (b : Bool) (e : FileError) (r : Option FileError) → cond (not b) (Some e) r ≡ None → (b ≡ true) × (r ≡ None)
 passed true e r h = (refl, h)
@@ -49,6 +49,29 @@ no_fault bytes h =
     let w = under (ltb (settings_in bytes).log_size (size_in bytes)) (BadHead 9 (size_in bytes)) _ c.1 in
     let d = passed (bytes_eq (kept_digest bytes) (head_digest bytes)) (DigestDiffers (kept_digest bytes) (head_digest bytes)) None w.1 in
     record { long = ltb-false _ _ m.0; begins = same_bytes _ _ a.0; version = eqb-true _ _ b.0; settings = c.0; within = ltb-false _ _ w.0; digest = same_bytes _ _ d.0 }
+
+not_less : (a b : ℕ) → b ≤ a → ltb a b ≡ false
+not_less a b e = grind arith
+
+abbrev ok_settings : RawSettings → Result RawSettings BadSetting
+ok_settings s = Ok s
+
+same_settings : (raw s : RawSettings) → ok_settings raw ≡ ok_settings s → s ≡ raw
+same_settings raw s e = cc
+
+told_by : (o : Option BadSetting) (raw s : RawSettings) → first_bad raw ≡ o → checked_by o raw ≡ ok_settings s → (s ≡ raw) × (first_bad raw ≡ None)
+told_by None raw s e known = (same_settings raw s known, e)
+told_by (Some bad) raw s e known = absurd cc
+
+pub told : (raw s : RawSettings) → checked raw ≡ Ok s → s ≡ raw
+told raw s known = (told_by (first_bad raw) raw s refl known).0
+
+-- where the tests of the settings hold, and those before, the fault is one behind them
+pub fault_behind : (bytes : List ℕ) (s : RawSettings) → 136 ≤ length bytes → bytes_eq (take 8 bytes) magic ≡ true → number_at 4 8 bytes ≡ 2 → checked (settings_in bytes) ≡ Ok s → head_fault bytes ≡ later_fault bytes s.log_size
+unfolding head_fault
+fault_behind bytes s long begins version known =
+    let t = told_by (first_bad (settings_in bytes)) (settings_in bytes) s refl known in
+    rw (not_less (length bytes) 124 (omega (arith, long)), begins, eq-eqb _ _ version, not_less (length bytes) 136 long, t.1) (ap (λ (x : RawSettings). later_fault bytes x.log_size) (sym t.0))
 
 -- the blocks' records have at most log-size bytes, where there are at most as many as the head says
 pub size_bound : (bytes : List ℕ) (settings : RawSettings) (n size : ℕ) → head_fault bytes ≡ None → settings ≡ settings_in bytes → n ≡ size_in bytes → size ≤ n → size ≤ settings.log_size

@@ -5,7 +5,7 @@ use Rattle.log_record.specs.declared.head.Head.{Head}
 use Rattle.log_record.specs.declared.record.Record.{Record}
 use Rattle.log_record.specs.Spelling.{bytes_of, total}
 use Rattle.log_order.specs.Content.{Content, IsContent}
-use Rattle.log_file.specs.Layout.{file_bytes, file_bytes2}
+use Rattle.log_file.specs.Layout.{file_bytes, file_bytes2, saved_bytes}
 use Rattle.log_file.specs.Blocks.{Block, block_size, blocks_of}
 use Rattle.log_file.specs.declared.error.FileError.{FileError}
 use Rattle.log_file.specs.declared.error.FileError.TheVariants.{OutOfMemory}
@@ -78,3 +78,7 @@ HaveTheirSize = (c : Content) → IsContent c → length (file_bytes2 c) ≡ tot
 -- each block but the last has at least 3,951 bytes of records, since it has no room for one more
 abbrev pub AreFew : Type 0
 AreFew = (c : Content) → IsContent c → 3951 * length (blocks_of c.dropped c.records) ≤ total c.records + 3951
+
+-- what a recording saves has at most 2 ^ 28 bytes of records, and 4 MiB more
+abbrev pub SavedHaveTheirLimit : Type 0
+SavedHaveTheirLimit = (c : Content) → IsContent c → length (saved_bytes c) ≤ 272629760

@@ -1,5 +1,5 @@
 // What blocks, files and logs have to do with each other.
-ghost use Rattle.log_blocks.specs.Laws.{NameTheirVersion, SayOneThing, AreNotRefused, RefusalsAreUnique, HaveTheirSize, AreFew};
+ghost use Rattle.log_blocks.specs.Laws.{NameTheirVersion, SayOneThing, AreNotRefused, RefusalsAreUnique, HaveTheirSize, AreFew, SavedHaveTheirLimit};
 ghost use Rattle.log_blocks.specs.Laws.{SalvagedAreUnique, SalvagedAreNotRefused, SalvageRefusalsAreUnique, LastBlocksAreAnEnd, SalvagedAreAnEnd};
 
 use le_numbers::laws::{numbers_have_their_width, written_numbers_are_read};
@@ -79,4 +79,14 @@ pub fn blocks_are_few()
     ensures { AreFew }
 {
     tags_tell_sizes();
+}
+
+/// What a recording saves, in either version, is at most 4 MiB longer than the most records that a log
+/// keeps.
+pub fn saved_files_keep_to_the_limit()
+    ensures { SavedHaveTheirLimit }
+{
+    log_file::laws::files_have_their_size();
+    files_have_their_size();
+    blocks_are_few();
 }

@@ -1,6 +1,6 @@
 -- A file that is written is read again.
 use Rattle.std.proofs.Common.{◌≡◌, ℕ, ◌+◌, ◌-◌, ◌%◌, ◌^◌, ◌<◌, ◌≤◌, List, ◌++◌, length, take, drop, length-drop, length-append, Result, Ok, Err, Option, Some, None, refl, sym, ap, subst, ◌∙◌, arith, inl, inr}
-use Rattle.std.specs.Prelude.{IsTrue, true, ◌==◌, if◌then◌else◌, IfOk, IfErr, MatchResult}
+use Rattle.std.specs.Prelude.{Bool, IsTrue, true, false, ◌==◌, ◌&&◌, ◌||◌, if◌then◌else◌, IfOk, IfErr, MatchResult}
 use Rattle.std.specs.List.{flat_map, AllByRecursion}
 use Rattle.std.proofs.lemmas.Bool.{eq-eqb, eqb-true, le-ltb}
 use Rattle.std.proofs.lemmas.List.{drop-drop, take_at, drop_at}
@@ -22,22 +22,32 @@ use Rattle.log_order.specs.Order.{order_break, broken_by}
 use Rattle.log_order.specs.Content.{Content, content, IsContent}
 use Rattle.log_file.specs.declared.error.FileError.{FileError}
 use Rattle.log_file.specs.declared.error.FileError.TheVariants.{Short, BadMagic, BadVersion, BadHead, LengthDiffers, DigestDiffers, BadRecord, BadOrder, OutOfMemory}
-use Rattle.log_file.specs.Layout.{magic, signed_bytes, file_bytes, settings_in, head_in, dropped_in, size_in}
+use Rattle.log_file.specs.Layout.{magic, signed_bytes, file_bytes, IsFirst, settings_in, head_in, dropped_in, size_in}
 use Rattle.log_file.specs.Faults.{head_fault, signed_of, file_fault}
 use Rattle.log_file.specs.File.{IsRecordsFault, IsRefusal}
 use Rattle.log_file.specs.Laws.{SayOneThing, AreNotRefused, HaveTheirSize}
 use Rattle.log_file.proofs.Rows.{ArePrefixFree, no_stop, one_row}
 use Rattle.log_file.proofs.Heads.{spelled, signed_is_spelled}
 
--- settings in range are those of version 1
-pub only_first : (s : RawSettings) → IsSetting s → s.format ≡ 1
-only_first s is = omega (arith, is.format_low, is.format_high)
+-- with format 1 there are at most 8 harts
+few_harts : (s : RawSettings) → IsSetting s → s.format ≡ 1 → s.harts ≤ 8
+few_harts s is one = subst (λ (f : ℕ). s.harts ≤ (if f == 2 then 16 else 8)) one is.harts_high
 
-few_harts : (s : RawSettings) → IsSetting s → s.harts ≤ 8
-few_harts s is = subst (λ (f : ℕ). s.harts ≤ (if f == 2 then 16 else 8)) (only_first s is) is.harts_high
+fit_first : (c : Content) → IsFirst c → AllByRecursion (Fits 1) c.records
+fit_first c is = subst (λ (f : ℕ). AllByRecursion (Fits f) c.records) is.1 is.0.fit
 
-fit_first : (c : Content) → IsContent c → AllByRecursion (Fits 1) c.records
-fit_first c is = subst (λ (f : ℕ). AllByRecursion (Fits f) c.records) (only_first c.head.settings is.settings) is.fit
+none_else : (none power : Bool) → IsTrue (none || 1 == 2 && power) → none ≡ true
+none_else true power h = refl
+none_else false power h = h
+
+-- nor has it a second level
+no_second_sets : (s : RawSettings) → IsSetting s → s.format ≡ 1 → s.sets2 ≡ 0
+no_second_sets s is one =
+    eqb-true s.sets2 0 (none_else (s.sets2 == 0) (is_small_power 4096 s.sets2) (subst (λ (f : ℕ). IsTrue (s.sets2 == 0 || f == 2 && is_small_power 4096 s.sets2)) one is.second_sets))
+
+no_second_ways : (s : RawSettings) → IsSetting s → s.format ≡ 1 → s.ways2 ≡ 0
+no_second_ways s is one =
+    eqb-true s.ways2 0 (subst (λ (n : ℕ). IsTrue (if n == 0 then s.ways2 == 0 else is_between 1 16 s.ways2)) (no_second_sets s is one) is.second_ways)
 
 -- the settings with the last fields as each file of version 1 has them
 abbrev first_fields : RawSettings → ℕ → ℕ → ℕ → RawSettings
@@ -55,11 +65,10 @@ first_fields s format sets2 ways2 = record {
   ways2 = ways2;
 }
 
-same_fields : (s : RawSettings) → IsSetting s → first_fields s 1 0 0 ≡ s
-same_fields s is =
-    let one = only_first s is in
-    let sets : s.sets2 ≡ 0 = eqb-true s.sets2 0 is.second_sets in
-    let ways : s.ways2 ≡ 0 = eqb-true s.ways2 0 is.second_ways in
+same_fields : (s : RawSettings) → IsSetting s → s.format ≡ 1 → first_fields s 1 0 0 ≡ s
+same_fields s is one =
+    let sets = no_second_sets s is one in
+    let ways = no_second_ways s is one in
     ap (λ (x : ℕ). first_fields s x 0 0) (sym one) ∙ ap (λ (x : ℕ). first_fields s s.format x 0) (sym sets) ∙ ap (λ (x : ℕ). first_fields s s.format s.sets2 x) (sym ways)
 
 abbrev head_with : List ℕ → RawSettings → Head
@@ -74,11 +83,11 @@ pub record Again (bytes : List ℕ) (h : Head) (dropped n : ℕ) (rest : List �
   pub n_is : size_in bytes ≡ n
   pub rest_is : drop 92 bytes ≡ rest
 
-pub spelled_again : AreRead → (h : Head) (dropped n : ℕ) (rest bytes : List ℕ) → IsSetting h.settings → length h.digest ≡ 32 → dropped < 2 ^ 64 → n < 2 ^ 32 → bytes ≡ spelled h dropped n rest → Again bytes h dropped n rest
+pub spelled_again : AreRead → (h : Head) (dropped n : ℕ) (rest bytes : List ℕ) → IsSetting h.settings → h.settings.format ≡ 1 → length h.digest ≡ 32 → dropped < 2 ^ 64 → n < 2 ^ 32 → bytes ≡ spelled h dropped n rest → Again bytes h dropped n rest
 unfolding spelled magic
-spelled_again read h dropped n rest bytes is len small fits e =
+spelled_again read h dropped n rest bytes is one len small fits e =
     let s8 = read 4 8 1 bytes _ (omega arith) (ap (drop 8) e) in
-    let s12 = read 4 12 h.settings.harts bytes _ (omega (arith, few_harts h.settings is)) s8.1 in
+    let s12 = read 4 12 h.settings.harts bytes _ (omega (arith, few_harts h.settings is one)) s8.1 in
     let s16 = read 4 16 h.settings.interval bytes _ (omega (arith, is.interval_high)) s12.1 in
     let s20 = read 8 20 h.settings.limit bytes _ (omega (arith, is.limit_high)) s16.1 in
     let s28 = read 4 28 h.settings.log_size bytes _ (omega (arith, is.log_size_high)) s20.1 in
@@ -94,7 +103,7 @@ spelled_again read h dropped n rest bytes is len small fits e =
     record {
       begins = ap (take 8) e;
       version = s8.0;
-      head = fields ∙ ap (head_with h.digest) (same_fields h.settings is);
+      head = fields ∙ ap (head_with h.digest) (same_fields h.settings is one);
       dropped_is = s80.0;
       n_is = s88.0;
       rest_is = s88.1;
@@ -139,10 +148,10 @@ module _ (long : HaveTheirWidth) where
 pub small_size : (c : Content) → IsContent c → length (flat_map bytes_of c.records) < 2 ^ 32
 small_size c is = omega (arith, is.bound, is.settings.log_size_high)
 
-pub content_again : AreRead → (c : Content) → IsContent c → Again (signed_bytes c.head c.dropped (flat_map bytes_of c.records)) c.head c.dropped (length (flat_map bytes_of c.records)) (flat_map bytes_of c.records)
+pub content_again : AreRead → (c : Content) → IsFirst c → Again (signed_bytes c.head c.dropped (flat_map bytes_of c.records)) c.head c.dropped (length (flat_map bytes_of c.records)) (flat_map bytes_of c.records)
 content_again read c is =
     spelled_again read c.head c.dropped (length (flat_map bytes_of c.records)) (flat_map bytes_of c.records) (signed_bytes c.head c.dropped (flat_map bytes_of c.records))
-    is.settings is.digest is.dropped (small_size c is) (signed_is_spelled c.head c.dropped (flat_map bytes_of c.records))
+    is.0.settings is.1 is.0.digest is.0.dropped (small_size c is.0) (signed_is_spelled c.head c.dropped (flat_map bytes_of c.records))
 
 -- ---- the head
 
@@ -167,7 +176,7 @@ none_bad s is =
       power 1024 s.sets is.sets_low is.sets_high is.sets_power,
       between 1 16 s.ways is.ways_low is.ways_high,
       power 16 s.line is.line_low is.line_high is.line_power,
-      between 1 1 s.format is.format_low is.format_high,
+      between 1 2 s.format is.format_low is.format_high,
       is.second_sets,
       is.second_ways,
     ) refl
@@ -182,13 +191,13 @@ abbrev signed_for : Content → List ℕ
 signed_for c = signed_bytes c.head c.dropped (flat_map bytes_of c.records)
 
 -- a head that is written has no fault
-pub no_fault_again : AreRead → (c : Content) → IsContent c → head_fault (signed_for c) (sha256 (signed_for c)) ≡ None
+pub no_fault_again : AreRead → (c : Content) → IsFirst c → head_fault (signed_for c) (sha256 (signed_for c)) ≡ None
 no_fault_again read c is =
     let a = content_again read c is in
     let long : size_in (signed_for c) ≡ length (signed_for c) - 92 = a.n_is ∙ sym (ap length a.rest_is) ∙ length-drop 92 (signed_for c) in
     let settings : settings_in (signed_for c) ≡ c.head.settings = ap (λ (h : Head). h.settings) a.head in
-    let ranges : first_bad (settings_in (signed_for c)) ≡ None = ap first_bad settings ∙ none_bad c.head.settings is.settings in
-    let within : size_in (signed_for c) ≤ (settings_in (signed_for c)).log_size = omega (arith, a.n_is, ap (λ (s : RawSettings). s.log_size) settings, is.bound) in
+    let ranges : first_bad (settings_in (signed_for c)) ≡ None = ap first_bad settings ∙ none_bad c.head.settings is.0.settings in
+    let within : size_in (signed_for c) ≤ (settings_in (signed_for c)).log_size = omega (arith, a.n_is, ap (λ (s : RawSettings). s.log_size) settings, is.0.bound) in
     faultless (signed_for c) a.begins a.version ranges within long
 
 -- ---- the records
@@ -216,7 +225,7 @@ faultfree = None
 no_error : (e : FileError) → faultfree ≡ Some e → ⊥
 no_error e h = cc
 
-records_fault_again : BeginNoOther → (c : Content) → IsContent c → (e : FileError) → IsRecordsFault c.head c.dropped (flat_map bytes_of c.records) e → e ≡ OutOfMemory
+records_fault_again : BeginNoOther → (c : Content) → IsFirst c → (e : FileError) → IsRecordsFault c.head c.dropped (flat_map bytes_of c.records) e → e ≡ OutOfMemory
 records_fault_again alone c is (Short n) x = absurd x
 records_fault_again alone c is BadMagic x = absurd x
 records_fault_again alone c is (BadVersion found) x = absurd x
@@ -226,7 +235,7 @@ records_fault_again alone c is (DigestDiffers kept found) x = absurd x
 records_fault_again alone c is (BadRecord place) x = absurd (no_stop bytes_of (Fits 1) (records_free alone) c.records x.before x.rest (fit_first c is) x.fit x.parts x.more x.none)
 records_fault_again alone c is (BadOrder place rule) x =
     let same = one_row bytes_of (Fits 1) (records_free alone) c.records x.records (fit_first c is) x.fit x.parts in
-    absurd (no_break (order_break place rule) (sym is.order ∙ ap (broken_by c.head.settings c.dropped) same ∙ x.first))
+    absurd (no_break (order_break place rule) (sym is.0.order ∙ ap (broken_by c.head.settings c.dropped) same ∙ x.first))
 records_fault_again alone c is OutOfMemory x = refl
 
 -- ---- the file
@@ -261,18 +270,18 @@ at_content c e a x =
     (subst (λ (t : List ℕ). IsRecordsFault (head_in (signed_for c)) (dropped_in (signed_for c)) t e) a.rest_is x))
 
 -- a file that is written is refused only for want of memory
-pub refused_again : HaveTheirWidth → AreRead → BeginNoOther → (c : Content) → IsContent c → (e : FileError) → IsRefusal (file_bytes c) e → e ≡ OutOfMemory
+pub refused_again : HaveTheirWidth → AreRead → BeginNoOther → (c : Content) → IsFirst c → (e : FileError) → IsRefusal (file_bytes c) e → e ≡ OutOfMemory
 refused_again long read alone c is e x =
     let a = content_again read c is in
     let fault : head_fault (signed_of (file_bytes c)) (drop (length (file_bytes c) - 32) (file_bytes c)) ≡ None = rw (signed_again c, digest_again c) (no_fault_again read c is) in
-    let enough : 124 ≤ length (file_bytes c) = omega (arith, file_size long c is) in
+    let enough : 124 ≤ length (file_bytes c) = omega (arith, file_size long c is.0) in
     elim x [
       | inl one ↦ absurd (no_error e (sym (no_file_fault (file_bytes c) enough fault) ∙ one))
       | inr two ↦ records_fault_again alone c is e (at_content c e a (subst (λ (t : List ℕ). IsRecordsFault (head_in t) (dropped_in t) (drop 92 t) e) (signed_again c) two.1))
     ]
 
 -- two logs with one spelling are one
-pub one_content : AreRead → BeginNoOther → (c d : Content) → IsContent c → IsContent d → file_bytes c ≡ file_bytes d → c ≡ d
+pub one_content : AreRead → BeginNoOther → (c d : Content) → IsFirst c → IsFirst d → file_bytes c ≡ file_bytes d → c ≡ d
 one_content read alone c d ic id e =
     let s : signed_for c ≡ signed_for d = sym (signed_again c) ∙ ap signed_of e ∙ signed_again d in
     let a = content_again read c ic in
@@ -283,7 +292,7 @@ one_content read alone c d ic id e =
     ap (λ (h : Head). content h c.dropped c.records) head ∙ ap (λ (n : ℕ). content d.head n c.records) dropped ∙ ap (content d.head d.dropped) rs
 
 -- a file is read as the log whose spelling it is, since it is that of no other, and has no cause for a refusal
-pub read_only : SayOneThing → AreNotRefused → (bytes : List ℕ) (r : Result Content FileError) → IfOk r (λ c. IsContent c) → IfOk r (λ c. bytes ≡ file_bytes c) → IfErr r (λ e. IsRefusal bytes e) → (d : Content) → IsContent d → bytes ≡ file_bytes d
+pub read_only : SayOneThing → AreNotRefused → (bytes : List ℕ) (r : Result Content FileError) → IfOk r (λ c. IsFirst c) → IfOk r (λ c. bytes ≡ file_bytes c) → IfErr r (λ e. IsRefusal bytes e) → (d : Content) → IsFirst d → bytes ≡ file_bytes d
     → MatchResult r (λ c. c ≡ d) (λ e. e ≡ OutOfMemory)
 read_only same taken bytes (Ok c) ic f x d id e = same c d ic id (sym f ∙ e)
 read_only same taken bytes (Err y) ic f x d id e = taken d id y (subst (λ (b : List ℕ). IsRefusal b y) e x)

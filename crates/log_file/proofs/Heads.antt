@@ -3,13 +3,13 @@ use Rattle.std.proofs.Common.{◌≡◌, ℕ, ◌-◌, ◌<◌, ◌≤◌, Bool,
 use Rattle.std.specs.Prelude.{slice_index, IfOk}
 use Rattle.std.specs.List.{flat_map}
 use Rattle.std.specs.Str.{bytes_eq}
-use Rattle.std.proofs.lemmas.Bool.{cases_lt, eqb-true, ltb-false}
+use Rattle.std.proofs.lemmas.Bool.{cases_lt, eqb-true, eq-eqb, ltb-false}
 use Rattle.std.proofs.lemmas.List.{drop-drop, take-append-drop, get_or_append_left, get_or_past}
 use Rattle.std.proofs.lemmas.Slice.Eq.{bytes_eq-Decides}
 use Rattle.sha2.specs.Sha256.{sha256}
 use Rattle.bn_base.specs.declared.settings.BadSetting.{BadSetting}
 use Rattle.bn_base.specs.declared.settings.RawSettings.{RawSettings}
-use Rattle.bn_base.specs.Ranges.{first_bad}
+use Rattle.bn_base.specs.Ranges.{first_bad, checked, checked_by}
 use Rattle.le_numbers.specs.Numbers.{number_at, number_bytes, AreBytes}
 use Rattle.le_numbers.specs.Laws.{AreWritten}
 use Rattle.log_record.specs.declared.head.Head.{Head}
@@ -18,7 +18,7 @@ use Rattle.log_order.specs.Content.{Content}
 use Rattle.log_file.specs.declared.error.FileError.{FileError}
 use Rattle.log_file.specs.declared.error.FileError.TheVariants.{BadMagic, BadVersion, BadHead, LengthDiffers, DigestDiffers}
 use Rattle.log_file.specs.Layout.{magic, settings_bytes, signed_bytes, settings_in, head_in, dropped_in, size_in, file_bytes}
-use Rattle.log_file.specs.Faults.{setting_fault, head_fault}
+use Rattle.log_file.specs.Faults.{setting_fault, later_fault, head_fault}
 use Rattle.log_file.specs.File.{HasFields}
 
 -- the bytes before the last digest, grouped from their front
@@ -95,6 +95,24 @@ no_fault signed kept h =
     let d = passed (eqb (size_in signed) (length signed - 92)) (LengthDiffers (size_in signed) (length signed - 92)) _ w.1 in
     let e = passed (bytes_eq kept (sha256 signed)) (DigestDiffers kept (sha256 signed)) None d.1 in
     record { begins = same_bytes _ _ a.0; version = eqb-true _ _ b.0; settings = c.0; within = ltb-false _ _ w.0; size = eqb-true _ _ d.0; digest = same_bytes _ _ e.0 }
+
+abbrev ok_settings : RawSettings → Result RawSettings BadSetting
+ok_settings s = Ok s
+
+same_settings : (raw s : RawSettings) → ok_settings raw ≡ ok_settings s → s ≡ raw
+same_settings raw s e = cc
+
+told_by : (o : Option BadSetting) (raw s : RawSettings) → first_bad raw ≡ o → checked_by o raw ≡ ok_settings s → (s ≡ raw) × (first_bad raw ≡ None)
+told_by None raw s e known = (same_settings raw s known, e)
+told_by (Some bad) raw s e known = absurd cc
+
+-- where all tests hold, there is no fault
+pub fault_none : (signed kept : List ℕ) (s : RawSettings) → bytes_eq (take 8 signed) magic ≡ true → number_at 4 8 signed ≡ 1 → checked (settings_in signed) ≡ Ok s → later_fault signed kept s.log_size ≡ None
+    → (s ≡ settings_in signed) × (head_fault signed kept ≡ None)
+unfolding head_fault
+fault_none signed kept s begins version known later =
+    let t = told_by (first_bad (settings_in signed)) (settings_in signed) s refl known in
+    (t.0, rw (begins, eq-eqb _ _ version, t.1) (subst (λ (x : RawSettings). later_fault signed kept x.log_size ≡ None) t.0 later))
 
 -- the bytes of a head without a fault are those that are written for it
 pub signed_is : AreWritten → (signed kept : List ℕ) → AreBytes signed → 92 ≤ length signed → head_fault signed kept ≡ None → signed ≡ signed_bytes (head_in signed) (dropped_in signed) (drop 92 signed)

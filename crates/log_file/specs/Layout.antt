@@ -1,5 +1,5 @@
 -- The bytes of a log file: its fields one after another.
-use Rattle.std.specs.Prelude.{ℕ, ◌==◌, true, false, List, ◌++◌, codes, take, drop, length}
+use Rattle.std.specs.Prelude.{◌≡◌, ℕ, ◌==◌, true, false, List, ◌++◌, codes, take, drop, length}
 use Rattle.std.specs.List.{flat_map}
 use Rattle.sha2.specs.Sha256.{sha256}
 use Rattle.bn_base.specs.declared.settings.RawSettings.{RawSettings}
@@ -7,7 +7,7 @@ use Rattle.le_numbers.specs.Numbers.{number_at, number_bytes}
 use Rattle.log_record.specs.declared.head.Head.{Head}
 use Rattle.log_record.specs.Spelling.{bytes_of, total}
 use Rattle.log_file.specs.Blocks.{blocks_of, all_sealed}
-use Rattle.log_order.specs.Content.{Content}
+use Rattle.log_order.specs.Content.{Content, IsContent}
 
 -- the bytes that begin each file
 unfoldable pub magic : List ℕ

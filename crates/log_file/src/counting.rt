@@ -5,7 +5,7 @@ ghost use Rattle.log_record.specs.declared.record.Record.{Record};
 ghost use Rattle.log_record.specs.Spelling.{bytes_of, total, Fits};
 ghost use Rattle.log_order.specs.declared.view.HartView.{HartView};
 ghost use Rattle.log_order.specs.declared.walk.OrderBreak.{OrderBreak};
-ghost use Rattle.log_order.specs.Content.{Content, IsContent};
+ghost use Rattle.log_order.specs.Content.{Content};
 ghost use Rattle.log_order.specs.Order.{after_all, is_late, late_edge, ended, broken_in};
 ghost use Rattle.log_file.specs.declared.error.FileError.TheVariants.{OutOfMemory};
 ghost use Rattle.log_file.specs.Layout.{settings_in, head_in, dropped_in, file_bytes, IsFirst};

@@ -1,6 +1,6 @@
 // Reading a file.
 ghost use Rattle.std.specs.Prelude.{◌≡◌, ◌≤◌, ◌++◌, length, drop, None, MatchResult, IfOk, IfErr};
-ghost use Rattle.log_order.specs.Content.{Content, IsContent};
+ghost use Rattle.log_order.specs.Content.{Content};
 ghost use Rattle.log_file.specs.declared.error.FileError.TheVariants.{OutOfMemory};
 ghost use Rattle.log_file.specs.Layout.{settings_in, head_in, dropped_in, file_bytes, IsFirst};
 ghost use Rattle.log_file.specs.Faults.{head_fault};

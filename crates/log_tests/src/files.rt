@@ -30,7 +30,8 @@ fn a_file_is_read_and_written(rt: HostRuntime) -> Result<(), Fail> {
         value: 5,
     };
     assert_eq!(rt; log.records().get(1), Some(&Record::End { hart: 0, mark }));
-    let _format = log.head().settings.format();
+    let first = log.head().settings.format() == 1;
+    assert!(rt; first);
     let _size = log.head().settings.log_size();
     let file = write_file(rt.alloc(), log.head(), 0, &bytes[92..238], &bytes[238..253])?;
     assert_eq!(rt; file.as_slice(), bytes.as_slice());
@@ -170,7 +171,8 @@ fn forged(rt: &impl Abort, alloc: Global, dropped: u64, parts: &[&[u8]]) -> Opti
         records.extend_from_slice(part).expect(rt, "memory");
     }
     let head = head(rt);
-    let _format = head.settings.format();
+    let first = head.settings.format() == 1;
+    assert!(rt; first);
     let fits = records.len() <= head.settings.log_size() as usize;
     assert!(rt; fits);
     let file = write_file(alloc, &head, dropped, &records, &[]).expect(rt, "memory");

@@ -70,7 +70,8 @@ fn log(rt: &impl Abort, alloc: Global, parts: &[&[u8]]) -> KeptLog {
         settings: Settings::checked(&raw).expect(rt, "settings"),
         digest: [7; 32],
     };
-    let _format = head.settings.format();
+    let first = head.settings.format() == 1;
+    assert!(rt; first);
     let fits = records.len() <= head.settings.log_size() as usize;
     assert!(rt; fits);
     let file = write_file(alloc, &head, 0, &records, &[]).expect(rt, "memory");

@@ -78,7 +78,8 @@ pub(crate) fn log(rt: &impl Abort, alloc: Global, harts: u64, parts: &[&[u8]]) -
         settings: Settings::checked(&raw).expect(rt, "settings"),
         digest: [7; 32],
     };
-    let _format = head.settings.format();
+    let first = head.settings.format() == 1;
+    assert!(rt; first);
     let fits = records.len() <= head.settings.log_size() as usize;
     assert!(rt; fits);
     let file = write_file(alloc, &head, 0, &records, &[]).expect(rt, "memory");

@@ -51,14 +51,12 @@ module _ (turn_rows : TurnRowsAreRows) (counted : RowsAreCounted) (r : Recording
   pub row_at : (h : ℕ) (before : HartState) (row : Row) → IsRowOfTurn r.settings r.program r.input r.turns h before row → IsRowAt r h before row
   row_at h before row of_turn =
       let setting = is.setting in
-      let low = setting.format_low in
-      let high = setting.format_high in
       let limit = setting.limit_high in
       let x : RunHasRow r.settings r.program r.input r.turns h before row = turn_rows r.settings r.program r.input r.turns h before row setting is.legal of_turn in
       let rows : List Row = rows_of_hart r h in
       let count : row.ic ≡ 0 + length x.front =
       counted_at x.front x.back row 0 (length rows)
-      (ap (map (λ (z : Row). z.ic)) (sym x.rows_are) ∙ counted r.settings r.program r.input r.turns h (omega (arith, low, high)) (omega (arith, limit)) (record { legal = is.legal; over = is.over })) in
+      (ap (map (λ (z : Row). z.ic)) (sym x.rows_are) ∙ counted r.settings r.program r.input r.turns h (omega (arith, limit)) (record { legal = is.legal; over = is.over })) in
       let place : row.ic ≡ length x.front = omega (arith, count) in
       record {
         at = ap (λ (rs : List Row). slice_get rs row.ic) x.rows_are ∙ get_middle x.front x.back row row.ic place;

@@ -1,5 +1,5 @@
 -- The line of a word that is the line of the word before it, too, need not be dropped again.
-use Rattle.std.proofs.Common.{◌≡◌, ◌<◌, ◌+◌, ◌-◌, ◌*◌, ℕ, zero, suc, List, ◌∷◌, ap, ◌∙◌, arith, subst, refl}
+use Rattle.std.proofs.Common.{◌≡◌, ◌+◌, ◌-◌, ◌*◌, ℕ, zero, suc, List, ◌∷◌, ap, ◌∙◌, arith, subst, refl}
 use Rattle.first_load_bits.specs.Events.{Event, Drop, line_of}
 use Rattle.first_load_bits.specs.Stands.{Contents, StandsFor}
 use Rattle.run_model.specs.Turn.{drops}

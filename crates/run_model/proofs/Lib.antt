@@ -12,6 +12,8 @@ pub mod Owns
 pub mod PlainRuns
 pub mod Meant
 pub mod PlainFits
+pub mod Begun
+pub mod Asked
 pub mod Firsts
 pub mod Beginning
 pub mod OneTurn

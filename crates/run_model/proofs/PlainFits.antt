@@ -3,7 +3,7 @@ use Rattle.std.proofs.Common.{◌≡◌, ℕ, zero, suc, ◌+◌, ◌<◌, ◌�
 use Rattle.std.specs.Global.{Global}
 use Rattle.first_load_bits.specs.Stands.{Contents}
 use Rattle.run_model.specs.declared.log.Log.{Log}
-use Rattle.std.specs.Prelude.{Vec, Option, Some, None, is_some, IsTrue, ◌≢◌, if◌then◌else◌}
+use Rattle.std.specs.Prelude.{Vec, Option, Some, None, is_some, ◌≢◌, if◌then◌else◌}
 use Rattle.std.proofs.lemmas.Bool.Decides.{eqb_tells}
 use Rattle.std.proofs.lemmas.Option.{slice_get-get_or, get_or_from_slice_get}
 use Rattle.bn_base.specs.Programs.{Program}
@@ -23,13 +23,14 @@ use Rattle.run_model.specs.declared.next.Next.TheVariants.{GoesOn, NewInterval, 
 use Rattle.run_model.specs.declared.span.Span.{Span}
 use Rattle.run_model.specs.declared.trace.Trace.{Trace}
 use Rattle.run_model.specs.Machine.{Machine, answer, call_of}
-use Rattle.run_model.specs.Turn.{Run, is_orderly, span_of, next_of, loading, hart_after, harts_after, other_after, skipped_after}
+use Rattle.run_model.specs.Turn.{Run, span_of, next_of, loading, hart_after, harts_after, other_after, skipped_after}
 use Rattle.run_model.specs.Counts.{IsRested, MovesOn, AskMovesOn, EachTurnMovesOn, turns_left, is_there, is_loading}
 use Rattle.run_model.specs.Stands.EachCache.{AreCaches, steps_in, touched_word, touches}
 use Rattle.run_model.specs.Stands.Harts.{AreHarts, hart_in, all_left}
 use Rattle.run_model.specs.Stands.Logs.{taken, IsLog, is_marked_next}
 use Rattle.run_model.specs.Stands.Plain.{IsTrace, IsTraceFit, IsHartFit, IsSwept, count_after, clears}
 use Rattle.run_model.proofs.Fits.{fit_by, fewer_left, fit_other, no_more_left}
+use Rattle.run_model.proofs.Asked.{IsOwnFit, IsAsked, all_less, if_true, if_false, eqb_same}
 
 -- ---- the hart whose turn it was
 
@@ -83,10 +84,6 @@ other_live (RunOver reason value) h e = by_live h.live h refl e
     by_live false x q e = sym q ∙ e
 
 -- ---- the turns that are left
-
-all_less : (c : RawSettings) (n : ℕ) (f g : ℕ → Hart) → ((k : ℕ) → k < n → turns_left c (g k) ≤ turns_left c (f k)) → all_left c n g ≤ all_left c n f
-all_less c zero f g each = omega arith
-all_less c (suc n) f g each = omega (arith, each n (omega arith), all_less c n f g (λ k below. each k (omega (arith, below))))
 
 one_less : (c : RawSettings) (n own : ℕ) (f g : ℕ → Hart) → own < n → ((k : ℕ) → k < n → turns_left c (g k) ≤ turns_left c (f k)) → turns_left c (g own) < turns_left c (f own) → all_left c n g < all_left c n f
 one_less c zero own f g within each less = omega (arith, within)
@@ -144,22 +141,16 @@ moves_as c i m h k ask call reply ec er on =
     let Q : Option Plan → Reply → Type 0 = λ x r. MovesOn c h ask.state.ic (absorbed ask r).ic (next_of c x h ask.want r (absorbed ask r).ic) (span_of x ask.want r) (loading ask.want) in
     subst (λ (r : Reply). Q call r) (sym er) (subst (λ (x : Option Plan). Q x (answer c x m k ask).reply) (sym ec) on)
 
-if_true : (b : Bool) (x y : ℕ) → b ≡ true → (if b then x else y) ≡ x
-if_true b x y e = ap (λ (t : Bool). if t then x else y) e
-
-if_false : (b : Bool) (x y : ℕ) → b ≡ false → (if b then x else y) ≡ y
-if_false b x y e = ap (λ (t : Bool). if t then x else y) e
-
 -- the hart whose turn it was
 own_hart : (c : RawSettings) (old new : Trace) (turns k : ℕ) (ask : Ask) (call : Option Plan) (reply : Reply) (load : Option Warm) (next : Next) (own : Hart)
     → let h = hart_in old.harts.items k in let s = absorbed ask reply in
-    next ≡ next_of c call h ask.want reply s.ic → own ≡ hart_after next s (skipped_after load h.skipped) new.log.bytes h → 1 ≤ c.interval → (hart_in old.harts.items k).live ≡ true → IsHartFit c old k → MovesOn c h ask.state.ic s.ic next (span_of call ask.want reply) (loading ask.want)
+    next ≡ next_of c call h ask.want reply s.ic → own ≡ hart_after next s (skipped_after load h.skipped) new.log.bytes h → 1 ≤ c.interval → (hart_in old.harts.items k).live ≡ true → IsOwnFit c old k → MovesOn c h ask.state.ic s.ic next (span_of call ask.want reply) (loading ask.want)
     → Steps c old new turns k ask call reply load → hart_in new.harts.items k ≡ own → (k == k) ≡ true → IsHartFit c new k
 own_hart c old new turns k ask call reply load next own en eo some live fit on st at same =
     let h = hart_in old.harts.items k in let s = absorbed ask reply in
     let span = span_of call ask.want reply in
     let is : hart_in new.harts.items k ≡ hart_after next s (skipped_after load h.skipped) new.log.bytes h = at ∙ eo in
-    let fits = fit_by next c h ask.state.ic s span (loading ask.want) (skipped_after load h.skipped) new.log.bytes some fit.fit.fit on (skip_any load h ask.state.ic s.ic fit.fit.fit.skipped on.from on.low (λ e. on.loaded (st.loading e))) in
+    let fits = fit_by next c h ask.state.ic s span (loading ask.want) (skipped_after load h.skipped) new.log.bytes some fit.fit on (skip_any load h ask.state.ic s.ic fit.fit.skipped on.from on.low (λ e. on.loaded (st.loading e))) in
     let ic : (hart_in new.harts.items k).state.ic ≡ s.ic = ap (λ (x : Hart). x.state.ic) is ∙ ic_after next s _ _ h in
     let number : (hart_in new.harts.items k).number ≡ (hart_after next s (skipped_after load h.skipped) new.log.bytes h).number = ap (λ (x : Hart). x.number) is in
     let stepped : steps_in new.caches k ≡ steps_in old.caches k + touches (touched_word call span) + clears (next_of c call h ask.want reply s.ic) = st.steps k ∙ if_true (k == k) _ _ same in
@@ -186,52 +177,47 @@ other_hart c old new turns k j ask call reply load next fit st at apart differ =
       lasting = λ e. subst (λ (set : ℕ). has_bit set j ≡ true) (sym st.lasting) (fit.lasting (other_live next h (sym (ap (λ (x : Hart). x.live) at) ∙ e)));
     }
 
-eqb_same : (k : ℕ) → (k == k) ≡ true
-eqb_same k = grind arith
-
 -- what ends with the turn of an orderly ask has a mark
-pub next_marked : EachTurnMovesOn → (c : RawSettings) (i : Program) (m : Machine) (old : Trace) (turns k : ℕ) (ask : Ask) (call : Option Plan) (reply : Reply) → IsTraceFit c old turns → k < c.harts → (hart_in old.harts.items k).live ≡ true
-    → IsTrue (is_orderly c i (hart_in old.harts.items k) ask) → call ≡ call_of i m ask.want → reply ≡ (answer c call m k ask).reply
-    → is_marked_next (next_of c call (hart_in old.harts.items k) ask.want reply (absorbed ask reply).ic) ≡ true
-next_marked each_moves c i m old turns k ask call reply fit within live ordered ec er =
-    (moves_as c i m (hart_in old.harts.items k) k ask call reply ec er (each_moves c i m (hart_in old.harts.items k) k ask (omega (arith, fit.settings.limit_high)) (fit.each k within).fit.fit live ordered)).marked
+pub next_marked : EachTurnMovesOn → (c : RawSettings) (i : Program) (m : Machine) (old : Trace) (turns k : ℕ) (ask : Ask) (call : Option Plan) (reply : Reply) → IsAsked c i old turns k ask
+    → call ≡ call_of i m ask.want → reply ≡ (answer c call m k ask).reply → is_marked_next (next_of c call (hart_in old.harts.items k) ask.want reply (absorbed ask reply).ic) ≡ true
+next_marked each_moves c i m old turns k ask call reply q ec er =
+    (moves_as c i m (hart_in old.harts.items k) k ask call reply ec er (each_moves c i m (hart_in old.harts.items k) k ask (omega (arith, q.settings.limit_high)) q.own.fit q.live q.orderly)).marked
 
-pub fit_traced : EachTurnMovesOn → (c : RawSettings) (i : Program) (m : Machine) (old new : Trace) (turns k : ℕ) (ask : Ask) (call : Option Plan) (reply : Reply) (load : Option Warm) → IsTraceFit c old turns → k < c.harts → (hart_in old.harts.items k).live ≡ true
-    → IsTrue (is_orderly c i (hart_in old.harts.items k) ask) → call ≡ call_of i m ask.want → reply ≡ (answer c call m k ask).reply → Steps c old new turns k ask call reply load → IsTraceFit c new (turns + 1)
-fit_traced each_moves c i m old new turns k ask call reply load fit within live ordered ec er st =
+pub fit_traced : EachTurnMovesOn → (c : RawSettings) (i : Program) (m : Machine) (old new : Trace) (turns k : ℕ) (ask : Ask) (call : Option Plan) (reply : Reply) (load : Option Warm) → IsAsked c i old turns k ask
+    → call ≡ call_of i m ask.want → reply ≡ (answer c call m k ask).reply → Steps c old new turns k ask call reply load → IsTraceFit c new (turns + 1)
+fit_traced each_moves c i m old new turns k ask call reply load q ec er st =
     let h = hart_in old.harts.items k in
     let f : ℕ → Hart = hart_in old.harts.items in
     let g : ℕ → Hart = hart_in new.harts.items in
     let s = absorbed ask reply in
     let next = next_of c call h ask.want reply s.ic in
     let own = hart_after next s (skipped_after load h.skipped) new.log.bytes h in
-    let each = fit.each k within in
-    let on = moves_as c i m h k ask call reply ec er (each_moves c i m h k ask (omega (arith, fit.settings.limit_high)) each.fit.fit live ordered) in
+    let on = moves_as c i m h k ask call reply ec er (each_moves c i m h k ask (omega (arith, q.settings.limit_high)) q.own.fit q.live q.orderly) in
     let old_are : AreHarts old.harts.items f = λ j below. slice_get-get_or old.harts.items j _ below in
     let new_are : AreHarts new.harts.items (harts_after next k own f) = st.harts f old_are in
-    let at : (j : ℕ) → j < c.harts → g j ≡ harts_after next k own f j = λ j below. in_new new.harts.items j (harts_after next k own f) new_are (omega (arith, below, st.len, fit.harts)) in
-    let own_is : g k ≡ own = at k within ∙ own_at k k next own f (eqb_same k) in
-    let fewer : turns_left c own < turns_left c h = fewer_left next c h ask.state.ic s (span_of call ask.want reply) (loading ask.want) (skipped_after load h.skipped) new.log.bytes live each.fit.fit on in
+    let at : (j : ℕ) → j < c.harts → g j ≡ harts_after next k own f j = λ j below. in_new new.harts.items j (harts_after next k own f) new_are (omega (arith, below, st.len, q.harts)) in
+    let own_is : g k ≡ own = at k q.within ∙ own_at k k next own f (eqb_same k) in
+    let fewer : turns_left c own < turns_left c h = fewer_left next c h ask.state.ic s (span_of call ask.want reply) (loading ask.want) (skipped_after load h.skipped) new.log.bytes q.live q.own.fit on in
     let own_fewer : turns_left c (g k) < turns_left c (f k) = subst (λ (x : Hart). turns_left c x < turns_left c h) (sym own_is) fewer in
     let no_more : (j : ℕ) → j < c.harts → turns_left c (g j) ≤ turns_left c (f j) = λ j below. elim (eqb_tells j k) [
       | inl p ↦ subst (λ (n : ℕ). turns_left c (g n) ≤ turns_left c (f n)) (sym p.1) (omega (arith, own_fewer))
       | inr p ↦ subst (λ (x : Hart). turns_left c x ≤ turns_left c (f j)) (sym (at j below ∙ other_at j k next own f p.0)) (no_more_left next c (f j))
     ] in
-    let less = one_less c c.harts k f g within no_more own_fewer in
+    let less = one_less c c.harts k f g q.within no_more own_fewer in
     record {
-      settings = fit.settings;
-      few = fit.few;
-      harts = st.len ∙ fit.harts;
-      caches = st.caches ∙ fit.caches;
-      shadow = st.shadow ∙ fit.shadow;
+      settings = q.settings;
+      few = q.few;
+      harts = st.len ∙ q.harts;
+      caches = st.caches ∙ q.caches;
+      shadow = st.shadow ∙ q.shadow;
       each = λ j below. elim (eqb_tells j k) [
-        | inl p ↦ subst (λ (n : ℕ). IsHartFit c new n) (sym p.1) (own_hart c old new turns k ask call reply load next own refl refl fit.settings.interval_low live each on st own_is (eqb_same k))
-        | inr p ↦ other_hart c old new turns k j ask call reply load next (fit.each j below) st (at j below ∙ other_at j k next own f p.0) p.0 p.1
+        | inl p ↦ subst (λ (n : ℕ). IsHartFit c new n) (sym p.1) (own_hart c old new turns k ask call reply load next own refl refl q.settings.interval_low q.live q.own on st own_is (eqb_same k))
+        | inr p ↦ other_hart c old new turns k j ask call reply load next (q.others j below p.1) st (at j below ∙ other_at j k next own f p.0) p.0 p.1
       ];
       turn = st.turn;
-      left = omega (arith, less, fit.left);
-      log = omega (arith, st.took, fit.log);
-      log_size = st.size ∙ fit.log_size;
+      left = omega (arith, less, q.left);
+      log = omega (arith, st.took, q.log);
+      log_size = st.size ∙ q.log_size;
     }
 
 -- steps before and after, where both go by one test

@@ -1,5 +1,5 @@
 -- A turn of a plain machine, put together from the steps of the code.
-use Rattle.std.proofs.Common.{◌≡◌, ℕ, ◌+◌, ◌++◌, Bool, false, List, ◌∙◌, sym, ap, subst}
+use Rattle.std.proofs.Common.{◌≡◌, ℕ, ◌+◌, ◌++◌, false, List, ◌∙◌, sym, ap, subst}
 use Rattle.std.specs.Prelude.{Option, Some, None}
 use Rattle.std.proofs.lemmas.List.{append_assoc}
 use Rattle.bn_base.specs.declared.settings.RawSettings.{RawSettings}
@@ -19,12 +19,11 @@ use Rattle.race_log.specs.Stands.{Stands}
 use Rattle.run_model.specs.declared.hart.Hart.{Hart}
 use Rattle.run_model.specs.declared.trace.Trace.{Trace}
 use Rattle.run_model.specs.Machine.{answer}
-use Rattle.run_model.specs.Turn.{Run, serve_call, is_guarded, span_of, next_of, hart_after, harts_after, events_after, skipped_after, warmth, loading, word_before, point_of, points_after, edge_records, load_record, sc_record, next_records, run_over_records}
+use Rattle.run_model.specs.Turn.{Run, serve_call, span_of, next_of, hart_after, harts_after, events_after, skipped_after, warmth, loading, word_before, point_of, points_after, edge_records, load_record, sc_record, next_records, run_over_records}
 use Rattle.run_model.specs.Stands.EachCache.{AreCaches}
 use Rattle.run_model.specs.Stands.Harts.{AreHarts}
 use Rattle.run_model.specs.Stands.Plain.{IsTrace, IsRaceReady, everyone}
 use Rattle.run_model.proofs.Bytes.{total_append}
-use Rattle.run_model.proofs.FormatOne.{unguarded}
 
 -- five lists behind a first one
 pub six_lists : (a e l s n o : List Record) → a ++ e ++ l ++ s ++ n ++ o ≡ a ++ (e ++ (l ++ (s ++ (n ++ o))))
@@ -64,19 +63,18 @@ traced_is c run k ask call t e before =
 
 pub traced : (c : RawSettings) (run : Run) (k : ℕ) (ask : Ask) (call : Option Plan) (turns n : ℕ) (g h : Hart) (load : Option Warm) (word : ℕ) (reply : Reply) (t : Trace)
     → turns ≡ run.turns → n ≡ c.harts → g ≡ run.harts k → h ≡ run.harts k → load ≡ warmth c (loading ask.want) (run.events k) → word ≡ word_before run.machine.memory (loading ask.want) → reply ≡ (answer c call run.machine k ask).reply
-    → Traced c run k ask call turns n g h load word reply t → run.bytes ≡ total run.stream → c.format ≡ 1 → IsTrace c t (serve_call c run k ask (is_guarded c run k ask.want) call).run
-traced c run k ask call turns n g h load word reply t et en eg eh el ew er e before one =
+    → Traced c run k ask call turns n g h load word reply t → run.bytes ≡ total run.stream → IsTrace c t (serve_call c run k ask false call).run
+traced c run k ask call turns n g h load word reply t et en eg eh el ew er e before =
     let w = warmth c (loading ask.want) (run.events k) in
     let b = word_before run.machine.memory (loading ask.want) in
-    subst (λ (b : Bool). IsTrace c t (serve_call c run k ask b call).run) (sym (unguarded c run k ask.want one))
-    (traced_is c run k ask call t
+    traced_is c run k ask call t
     (subst (λ (r : Reply). Traced c run k ask call run.turns c.harts (run.harts k) (run.harts k) w b r t) er
     (subst (λ (x : ℕ). Traced c run k ask call run.turns c.harts (run.harts k) (run.harts k) w x reply t) ew
     (subst (λ (l : Option Warm). Traced c run k ask call run.turns c.harts (run.harts k) (run.harts k) l word reply t) el
     (subst (λ (x : Hart). Traced c run k ask call run.turns c.harts (run.harts k) x load word reply t) eh
     (subst (λ (x : Hart). Traced c run k ask call run.turns c.harts x h load word reply t) eg
     (subst (λ (x : ℕ). Traced c run k ask call run.turns x g h load word reply t) en
-    (subst (λ (x : ℕ). Traced c run k ask call x n g h load word reply t) et e))))))) before)
+    (subst (λ (x : ℕ). Traced c run k ask call x n g h load word reply t) et e))))))) before
 
 -- the race log is ready for the access, whatever the reply
 pub race_ready : (s : Shadow) (call : Option Plan) (want : Want) (reply : Reply) → IsRaceReady s (span_of call want replies.ScOk) → IsRaceReady s (span_of call want reply)

@@ -10,7 +10,6 @@ ghost use Rattle.run_model.specs.Stands.Plain.{IsRun};
 ghost use Rattle.run_model.specs.Stands.Turning.{parts};
 
 use crate::error::TurnError;
-use crate::laws::format_1_is_version_1;
 use crate::plain::Plain;
 use crate::start::Start;
 use crate::verdict::Verdict;
@@ -73,8 +72,6 @@ fn file_of(alloc: Global, from: &Start, list: &[u8]) -> Result<Vec<u8>, TurnErro
     ensures whole { OnOk result (list_error from.now.settings from.now.image from.now.input.items list.now ≡ None) }
     ensures refused { IfErr result (λ e. (e ≡ OutOfMemory) ⊎ (list_error from.now.settings from.now.image from.now.input.items list.now ≡ Some e)) }
 {
-    format_1_is_version_1();
-    let _format = from.settings.format();
     let recorded = whole_run(alloc, from, list)?.into_recorded();
     let file = from.log_file(alloc, &recorded.ring)?;
     Ok(file)

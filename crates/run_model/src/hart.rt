@@ -3,6 +3,7 @@ ghost use Rattle.std.specs.Prelude.{◌≡◌, ◌<◌, ◌-◌, ◌^◌, IsTrue
 ghost use Rattle.rv_meaning.specs.Execute.{absorbed};
 ghost use Rattle.rv_meaning.specs.Orderly.{is_reply_to};
 ghost use Rattle.run_model.specs.Runs.{start_hart};
+ghost use Rattle.run_model.specs.Counts.{anew};
 ghost use Rattle.run_model.specs.Turn.{budget, hart_after, mark, stopped, dead, skipped_after};
 
 use crate::next::Next;
@@ -89,6 +90,15 @@ impl Hart {
                 self.skipped = skipped;
             }
         }
+    }
+
+    /// The guard ends its interval, and it begins the next one in a state; the log took so many bytes by now.
+    pub fn begin_anew(&mut self, state: &HartState, bytes: u64)
+        requires { self.old.number < 2 ^ 64 - 1 }
+        ensures { self.new ≡ anew state.now bytes self.old }
+    {
+        self.state = *state;
+        self.take(Next::by_guard(), 0, bytes);
     }
 
     // A mark at its present count.

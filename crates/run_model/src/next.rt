@@ -1,9 +1,9 @@
 // What comes after a turn.
 ghost use Rattle.std.specs.Prelude.{◌≡◌, ◌≤◌};
-ghost use Rattle.run_model.specs.Turn.{counted, after_call, after_access, next_of};
+ghost use Rattle.run_model.specs.Turn.{counted, after_call, after_access, next_of, by_guard};
 
 use crate::hart::Hart;
-use bn_base::end_mark::{CALL, EXIT, FAULT, GROUP, LENGTH, LIMIT};
+use bn_base::end_mark::{CALL, EXIT, FAULT, GROUP, GUARD, LENGTH, LIMIT};
 use bn_base::{Ic, Settings};
 use rv_meaning::{Reply, Want};
 use system_calls::Plan;
@@ -23,6 +23,16 @@ pub enum Next {
 }
 
 impl Next {
+    /// A guarded ask ends its hart's interval, and the hart goes on.
+    pub fn by_guard() -> Next
+        ensures { result ≡ by_guard }
+    {
+        Next::NewInterval {
+            reason: GUARD,
+            value: 0,
+        }
+    }
+
     /// What comes after the turn of a hart which leaves its count at `ic`, by its want, the system
     /// call that is planned for it, if one is, and the reply.
     pub fn of(

@@ -1,5 +1,5 @@
 // What is traced of a run: its harts, their caches, the race log and the log.
-ghost use Rattle.std.specs.Prelude.{◌≡◌, ◌≤◌, ◌<◌, ◌+◌, ◌-◌, ◌*◌, ◌^◌, ◌==◌, ◌≢◌, ℕ, List, length, IsTrue, true, is_some, Option, OnOk, if◌then◌else◌};
+ghost use Rattle.std.specs.Prelude.{◌≡◌, ◌≤◌, ◌<◌, ◌+◌, ◌-◌, ◌*◌, ◌^◌, ◌==◌, ◌≢◌, ℕ, List, length, IsTrue, true, false, is_some, Option, OnOk, if◌then◌else◌};
 ghost use Rattle.bn_base.specs.Programs.{Program};
 ghost use Rattle.bn_base.specs.declared.settings.RawSettings.{RawSettings};
 ghost use Rattle.rv_meaning.specs.Execute.{absorbed};
@@ -13,14 +13,14 @@ ghost use Rattle.run_model.specs.declared.hart.Hart.{Hart};
 ghost use Rattle.run_model.specs.declared.next.Next.TheVariants.{GoesOn};
 ghost use Rattle.run_model.specs.declared.span.Span.{Span};
 ghost use Rattle.run_model.specs.Machine.{Machine, call_of};
-ghost use Rattle.run_model.specs.Turn.{span_of, next_of, loading, warmth, point_of, points_after, events_after, skipped_after};
+ghost use Rattle.run_model.specs.Turn.{Run, begun_anew, guarded_run, span_of, next_of, loading, warmth, point_of, points_after, events_after, skipped_after};
 ghost use Rattle.run_model.specs.Stands.Harts.{AreHarts, hart_in};
 ghost use Rattle.run_model.specs.Stands.Logs.{taken, IsLog, is_marked_next};
-ghost use Rattle.run_model.specs.Stands.Tracing.{CachesGoOn, next_by, harts_by, with_ends, with_access};
+ghost use Rattle.run_model.specs.Stands.Tracing.{IsAnew, CachesGoOn, next_by, harts_by, with_ends, with_access};
 ghost use Rattle.run_model.specs.Stands.EachCache.{AreCaches, steps_in, where_loading, touched_word, touches};
 ghost use Rattle.run_model.specs.Counts.{is_loading};
 ghost use Rattle.run_model.specs.Stands.Parts.{AreAddresses};
-ghost use Rattle.run_model.specs.Stands.Plain.{everyone, IsRaceReady, IsSwept, count_after, clears};
+ghost use Rattle.run_model.specs.Stands.Plain.{IsTrace, everyone, IsRaceReady, IsSwept, count_after, clears};
 
 use crate::caches::Caches;
 use crate::hart::{Hart, skipped_after};
@@ -30,7 +30,7 @@ use crate::next::Next;
 use crate::race::{record_access, sweep_known};
 use crate::records::{append_conditional, append_load, append_next};
 use crate::span::{Span, loading};
-use bn_base::{HartId, Settings};
+use bn_base::{HartId, HartState, Settings};
 use first_load_bits::Warm;
 use race_log::Shadow;
 use rv_meaning::{Ask, Reply, Want};
@@ -71,6 +71,44 @@ impl Trace {
         match span {
             None => Ok(()),
             Some(span) => self.shadow.reserve(span.first, span.count),
+        }
+    }
+
+    // The guard ends a hart's interval, and the hart begins its next one in a state: the End and the next
+    // Header are appended, and the bits of its cache are cleared.
+    fn begin_anew(&mut self, hart: HartId, state: &HartState)
+        requires hart { hart < length self.old.harts.items }
+        requires caches { hart < length self.old.caches }
+        requires steps { steps_in self.old.caches hart < 2 ^ 42 }
+        requires number { (hart_in self.old.harts.items hart).number < 2 ^ 62 }
+        requires room { taken self.old.log.ring + 2 < 2 ^ 56 }
+        ensures run { (c : RawSettings) (run : Run) → IsTrace c self.old run → IsTrace c self.new (begun_anew run hart state.now) }
+        ensures anew { IsAnew hart state.now self.old self.new }
+    {
+        let before = &self.harts[hart as usize];
+        let mut own = *before;
+        append_next(&mut self.log, Next::by_guard(), hart, own.number, state);
+        self.caches.clear(hart);
+        own.begin_anew(state, self.log.bytes);
+        self.harts[hart as usize] = own;
+    }
+
+    #[tactic(auto, using(crate::proofs::Begun::trace_unguarded))]
+    /// Where the ask that a hart makes in this state is guarded, the hart first begins its next interval
+    /// there; else all stays as it is.
+    pub fn guard(&mut self, guarded: bool, hart: HartId, state: &HartState)
+        requires hart { hart < length self.old.harts.items }
+        requires caches { hart < length self.old.caches }
+        requires steps { steps_in self.old.caches hart < 2 ^ 42 }
+        requires number { (hart_in self.old.harts.items hart).number < 2 ^ 62 }
+        requires room { taken self.old.log.ring + 2 < 2 ^ 56 }
+        ensures run { (c : RawSettings) (run : Run) → IsTrace c self.old run → IsTrace c self.new (guarded_run guarded run hart state.now) }
+        ensures anew { guarded ≡ true → IsAnew hart state.now self.old self.new }
+        ensures same { guarded ≡ false → self.new ≡ self.old }
+        ensures shadow { self.new.shadow ≡ self.old.shadow }
+    {
+        if guarded {
+            self.begin_anew(hart, state);
         }
     }
 

@@ -15,7 +15,7 @@ ghost use Rattle.run_model.specs.Stands.Turning.{parts, is_live};
 
 use crate::hart::{HEADER_SIZE, Hart};
 use crate::harts::end_each;
-use crate::laws::each_turn_moves_on;
+use crate::laws::{each_turn_moves_on, guarded_asks_fit};
 use crate::machine::{Machine, Streams};
 use crate::plain::Plain;
 use crate::span::Span;
@@ -61,11 +61,11 @@ impl Plain {
     }
 
     /// Whether a hart's orderly ask is guarded: more than half of the log's bytes stand from the Header of
-    /// its interval on, so that the interval ends ahead of it. With format 1 none is.
+    /// its interval on, so that the interval ends ahead of it. A cut isn't, and with format 1 no ask is.
     pub fn is_guarded(&self, hart: HartId, ask: &Ask) -> bool
         requires { hart < self.now.start.settings.harts }
         ensures run { (run : Run) → IsRun (parts self.now) run → result ≡ is_guarded self.now.start.settings run hart ask.now.want }
-        ensures none { result ≡ false }
+        ensures uncut { result ≡ true → is_cut ask.now.want ≡ false }
     {
         self.start.settings.format() == 2
             && !is_cut(&ask.want)
@@ -106,7 +106,8 @@ impl Plain {
         Ok(call)
     }
 
-    /// Answers an orderly ask of a live hart, once it is prepared, and takes its turn. It takes no memory.
+    /// Answers an orderly ask of a live hart, once it is prepared, and takes its turn: a guarded ask in the
+    /// hart's next interval, which then begins with it. It takes no memory.
     pub fn apply(&mut self, hart: HartId, ask: &Ask, call: Option<Plan>) -> Reply
         requires hart { hart < self.old.start.settings.harts }
         requires live { (hart_in self.old.trace.harts.items hart).live ≡ true }
@@ -120,6 +121,9 @@ impl Plain {
         ensures start { self.new.start ≡ self.old.start }
     {
         each_turn_moves_on();
+        guarded_asks_fit();
+        let guarded = self.is_guarded(hart, ask);
+        self.trace.guard(guarded, hart, &ask.state);
         let word = self.machine.word_before(&self.start.image, &ask.want);
         let reply = self
             .machine

@@ -1,7 +1,8 @@
 -- What a turn leaves behind it, in what is traced of a run.
-use Rattle.std.specs.Prelude.{ℕ, List, ◌++◌, length, Option}
+use Rattle.std.specs.Prelude.{ℕ, ◌+◌, ◌==◌, ◌≡◌, ◌≢◌, List, ◌++◌, length, Option, if◌then◌else◌}
 use Rattle.bn_base.specs.Programs.{Program}
 use Rattle.bn_base.specs.declared.settings.RawSettings.{RawSettings}
+use Rattle.bn_base.specs.declared.state.HartState.{HartState}
 use Rattle.rv_meaning.specs.Execute.{absorbed}
 use Rattle.rv_meaning.specs.declared.asks.Ask.{Ask}
 use Rattle.rv_meaning.specs.declared.asks.Want.{Want}
@@ -16,10 +17,13 @@ use Rattle.run_model.specs.declared.hart.Hart.{Hart}
 use Rattle.run_model.specs.declared.next.Next.{Next}
 use Rattle.run_model.specs.declared.next.Next.TheVariants.{GoesOn}
 use Rattle.run_model.specs.declared.span.Span.{Span}
+use Rattle.run_model.specs.declared.trace.Trace.{Trace}
 use Rattle.run_model.specs.Machine.{Machine, call_of}
 use Rattle.run_model.specs.Turn.{span_of, next_of, point_of, edge_records, load_record, sc_record, next_records, run_over_records, harts_after, hart_after, events_after, skipped_after}
+use Rattle.run_model.specs.Counts.{anew}
+use Rattle.run_model.specs.Stands.Logs.{taken}
 use Rattle.run_model.specs.Stands.Harts.{hart_in}
-use Rattle.run_model.specs.Stands.EachCache.{AreCaches, touched_word}
+use Rattle.run_model.specs.Stands.EachCache.{AreCaches, steps_in, touched_word}
 
 -- the word of its own that an ask touches, if it does
 abbrev pub touched_by : Program → Machine → Want → Reply → Option ℕ
@@ -50,3 +54,15 @@ with_access hs turn k call ask reply load word points rs =
 -- caches that stand for histories with hart k's access stand for them with what comes next
 abbrev pub CachesGoOn : RawSettings → Next → ℕ → Option Plan → Option Span → (ℕ → List Event) → (old new : List Contents) → Type 0
 CachesGoOn c next k call span events old new = AreCaches c old (events_after GoesOn k call span events) → AreCaches c new (events_after next k call span events)
+
+-- from one to the other hart k began its next interval in state s, by the guard: an End and a Header were appended, the bits
+-- of its cache were cleared, and nothing else changed
+pub record IsAnew (k : ℕ) (s : HartState) (old new : Trace) : Type 0 where
+  pub own : hart_in new.harts.items k ≡ anew s new.log.bytes (hart_in old.harts.items k)
+  pub others : (j : ℕ) → j ≢ k → hart_in new.harts.items j ≡ hart_in old.harts.items j
+  pub len : length new.harts.items ≡ length old.harts.items
+  pub caches : length new.caches ≡ length old.caches
+  pub steps : (j : ℕ) → steps_in new.caches j ≡ (if j == k then steps_in old.caches j + 1 else steps_in old.caches j)
+  pub shadow : new.shadow ≡ old.shadow
+  pub took : taken new.log.ring ≡ taken old.log.ring + 2
+  pub size : new.log.ring.size ≡ old.log.ring.size

@@ -13,4 +13,3 @@ returns-clause-file c =
     let holds = subst (λ (r : Held). HoldsLog r run.stream) (sym recorded.ensures.ring) c.in_ok-whole_run.ensures.run.trace.log.holds in
     let size = recorded.ensures.size ∙ ap (λ (s : RawSettings). s.log_size) c.in_ok-whole_run.ensures.settings in
     c.in_ok-file.ensures ∙ file_is from.settings from.digest recorded.result.ring run holds size
-    ∙ sym (c.format_1_is_version_1.ensures from.settings from.image from.digest from.input.items list (sym c.format-format.ensures.value ∙ c.format-format.ensures.one))

@@ -1,4 +1,4 @@
-use Rattle.std.proofs.Common.{◌∙◌, ◌+◌, ℕ, List, get_or, take, drop, sym, ap, subst, true, inr}
+use Rattle.std.proofs.Common.{◌∙◌, ◌+◌, ℕ, List, get_or, take, drop, sym, ap, subst, inr}
 use Rattle.run_model.specs.declared.start.Start.{Start}
 use Rattle.run_model.specs.Turn.{Run, turn}
 use Rattle.run_model.specs.Runs.{run_from, is_live, live_harts}

@@ -1,11 +1,27 @@
-use Rattle.std.proofs.Common.{◌≡◌, ◌^◌, ◌≤◌, ◌==◌, ◌∙◌, ℕ, true, false, ap, sym, subst, arith, refl}
+use Rattle.std.proofs.Common.{◌≡◌, ◌^◌, ◌<◌, ◌≤◌, ◌==◌, ◌∙◌, ℕ, Bool, true, false, ap, sym, subst, arith, refl}
+use Rattle.std.specs.Prelude.{IsTrue, ◌&&◌, ◌||◌, if◌then◌else◌}
+use Rattle.std.specs.Int.{is_power_of_two}
 use Rattle.std.proofs.lemmas.Bool.{eqb-true}
 use Rattle.std.proofs.lemmas.List.Elements.{All-same, All-replicate}
 use Rattle.bn_base.specs.declared.settings.RawSettings.{RawSettings}
-use Rattle.bn_base.specs.Ranges.{IsSetting}
+use Rattle.bn_base.specs.Ranges.{is_between, is_small_power, IsSetting}
 use Rattle.first_load_bits.specs.Events.{Geometry}
 use Rattle.first_load_bits.proofs.Standing.{new_kept, exact_power, power_low}
 use Rattle.first_load_bits.proofs.cache.Cache.new.Goals as goal
+
+at_most : (high value : ℕ) → is_small_power high value ≡ true → value ≤ high
+at_most high value h = grind arith
+
+few_sets : (sets : ℕ) (none second : Bool) → (sets == 0) ≡ none → IsTrue (none || second && is_small_power 4096 sets) → sets ≤ 4096
+few_sets sets true second e h = omega (arith, eqb-true sets 0 e)
+few_sets sets false true e h = at_most 4096 sets h
+few_sets sets false false e h = absurd cc
+
+pub power_of-set_bits_below-requires : goal.power_of-set_bits_below-requires
+power_of-set_bits_below-requires c =
+    let raw = c.raw-raw.result in
+    let is : IsSetting raw = subst IsSetting (sym c.raw-raw.ensures.value) c.raw-raw.ensures.in_range in
+    few_sets raw.sets2 (raw.sets2 == 0) (raw.format == 2) refl is.second_sets
 
 pub empty_ways-requires-clause-sets : goal.empty_ways-requires-clause-sets
 empty_ways-requires-clause-sets c =
@@ -37,9 +53,20 @@ same_geometry a b c d e g p q r s t =
     ∙ (ap (λ x. record { sets = g.sets; ways = g.ways; line = g.line; sets2 = x; ways2 = e }) s
     ∙ ap (λ x. record { sets = g.sets; ways = g.ways; line = g.line; sets2 = g.sets2; ways2 = x }) t)))
 
--- no sets where there are no ways
-no_sets : (width bits : ℕ) → width ≡ 0 → elim (width == 0) as (λ x. ℕ) [ true ↦ 0 | false ↦ 2 ^ bits ] ≡ 0
-no_sets width bits e = ap (λ n. elim (n == 0) as (λ x. ℕ) [ true ↦ 0 | false ↦ 2 ^ bits ]) e
+small_power : (high value : ℕ) → is_small_power high value ≡ true → (1 ≤ value) × IsTrue (is_power_of_two value)
+small_power high value h = grind arith
+
+some_ways : (width : ℕ) → is_between 1 16 width ≡ true → (width == 0) ≡ false
+some_ways width h = grind arith
+
+-- the second level has the sets of the settings, and none where it has no ways
+sets_below : (width bits sets : ℕ) (none second : Bool) → (sets == 0) ≡ none → IsTrue (none || second && is_small_power 4096 sets) → IsTrue (if none then width == 0 else is_between 1 16 width)
+    → (0 < sets → IsTrue (is_power_of_two sets) → 2 ^ bits ≡ sets) → elim (width == 0) as (λ x. ℕ) [ true ↦ 0 | false ↦ 2 ^ bits ] ≡ sets
+sets_below width bits sets true second e s w exact = ap (λ n. elim (n == 0) as (λ x. ℕ) [ true ↦ 0 | false ↦ 2 ^ bits ]) (eqb-true width 0 w) ∙ sym (eqb-true sets 0 e)
+sets_below width bits sets false true e s w exact =
+    let p = small_power 4096 sets s in
+    ap (λ (b : Bool). elim b as (λ x. ℕ) [ true ↦ 0 | false ↦ 2 ^ bits ]) (some_ways width w) ∙ exact (omega (arith, p.0)) p.1
+sets_below width bits sets false false e s w exact = absurd cc
 
 pub returns-clause-geometry : goal.returns-clause-geometry
 returns-clause-geometry c =
@@ -48,7 +75,9 @@ returns-clause-geometry c =
     let is : IsSetting raw = subst IsSetting (sym known) c.raw-raw.ensures.in_range in
     let sets : 2 ^ c.ilog2-set_bits.result ≡ raw.sets = exact_power raw.sets c.ilog2-set_bits.result is.sets_power c.ilog2-set_bits.ensures.power_le c.ilog2-set_bits.ensures.next_power_gt in
     let line : 2 ^ c.ilog2-word_bits.result ≡ raw.line = exact_power raw.line c.ilog2-word_bits.result is.line_power c.ilog2-word_bits.ensures.power_le c.ilog2-word_bits.ensures.next_power_gt in
-    let none : raw.sets2 ≡ 0 = eqb-true raw.sets2 0 is.second_sets in
+    let width : c.second_ways-width_below.result ≡ raw.ways2 = c.second_ways-width_below.ensures.value ∙ sym (ap (λ (r : RawSettings). r.ways2) known) in
+    let ways : IsTrue (if raw.sets2 == 0 then c.second_ways-width_below.result == 0 else is_between 1 16 c.second_ways-width_below.result) =
+    subst (λ (n : ℕ). IsTrue (if raw.sets2 == 0 then n == 0 else is_between 1 16 n)) (sym width) is.second_ways in
     same_geometry _ _ _ _ _ _ (sets ∙ ap (λ (r : RawSettings). r.sets) known) c.ways-width.ensures.value (line ∙ ap (λ (r : RawSettings). r.line) known)
-    (no_sets c.second_ways-width_below.result c.power_of-set_bits_below.result c.second_ways-width_below.ensures.none ∙ (sym none ∙ ap (λ (r : RawSettings). r.sets2) known))
+    (sets_below c.second_ways-width_below.result c.power_of-set_bits_below.result raw.sets2 (raw.sets2 == 0) (raw.format == 2) refl is.second_sets ways c.power_of-set_bits_below.ensures.power ∙ ap (λ (r : RawSettings). r.sets2) known)
     c.second_ways-width_below.ensures.value

@@ -9,7 +9,7 @@ use Rattle.joint_replay.proofs.joint.Joint.positions.Goals.{in-Some+in_ok-push, 
 
 pub loop-hart-preserved : goal.loop-hart-preserved
 loop-hart-preserved c =
-    let low : c.loop-hart.hart < length c.args.self.now.lanes = omega (arith, c.loop-hart-test.true, c.self.invariant.count_is, lanes_length c.self.inside.lanes.items, ap (λ (j : Joining). length j.lanes) c.self.view_is) in
+    let low : c.loop-hart.hart < length c.args.self.now.lanes = omega (arith, c.loop-hart-test.true, c.self.invariant.0.count_is, lanes_length c.self.inside.lanes.items, ap (λ (j : Joining). length j.lanes) c.self.view_is) in
     elim c.match-coming.branch [
       | in-Some+in_ok-push s ↦
           ap (λ (v : Vec (ℕ × ℕ) Global). v.items ++ positions_from (c.loop-hart.hart + 1) (drop (c.loop-hart.hart + 1) c.args.self.now.lanes)) s.found-is

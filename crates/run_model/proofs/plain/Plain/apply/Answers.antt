@@ -1,4 +1,4 @@
-use Rattle.std.proofs.Common.{◌≡◌, ◌≤◌, ◌==◌, ◌+◌, ℕ, List, length, sym, subst, ap, ◌∙◌, arith, IsTrue}
+use Rattle.std.proofs.Common.{◌≡◌, ◌≤◌, ◌<◌, ◌==◌, ◌+◌, ◌-◌, ◌^◌, ℕ, Bool, List, length, sym, subst, ap, ◌∙◌, arith, IsTrue}
 use Rattle.std.specs.Prelude.{Vec, if◌then◌else◌}
 use Rattle.std.specs.Global.{Global}
 use Rattle.rv_meaning.specs.Execute.{absorbed}
@@ -7,13 +7,14 @@ use Rattle.race_log.specs.Stands.{Stands, harts_of, lasting_of, next_turn, next_
 use Rattle.run_model.specs.declared.hart.Hart.{Hart}
 use Rattle.run_model.specs.Machine.{answer}
 use Rattle.run_model.specs.Stands.Parts.{IsMachine}
-use Rattle.run_model.specs.Stands.Logs.{is_marked_next}
+use Rattle.run_model.specs.Stands.Logs.{taken, is_marked_next}
 use Rattle.run_model.specs.Stands.EachCache.{steps_in, touched_word, touches}
 use Rattle.run_model.specs.Stands.Harts.{AreHarts, hart_in}
-use Rattle.run_model.specs.Turn.{span_of, next_of, hart_after, harts_after, skipped_after, points_after, point_of}
-use Rattle.run_model.specs.Stands.Plain.{everyone, meant, count_after, clears}
+use Rattle.run_model.specs.Turn.{guarded_run, serve_call, span_of, next_of, hart_after, harts_after, skipped_after, points_after, point_of}
+use Rattle.run_model.specs.Stands.Plain.{IsTrace, IsRaceReady, everyone, meant, count_after, clears}
 use Rattle.run_model.proofs.Owns.{hart_of_run}
-use Rattle.run_model.proofs.PlainRuns.{traced}
+use Rattle.run_model.proofs.PlainRuns.{traced, race_ready}
+use Rattle.run_model.proofs.Asked.{asked_fit, asked_counts, few_steps, few_steps_more, low_number, few_skipped, some_room, eqb_same, if_true}
 use Rattle.run_model.proofs.PlainFits.{fit_traced, swept_fit, swept_trace, next_marked, two_ifs}
 use Rattle.run_model.proofs.Meant.{is_meant}
 use Rattle.run_model.proofs.plain.Plain.apply.Goals as goal
@@ -24,52 +25,63 @@ returns-clause-run c run is =
     let settings = p.start.settings in
     let k = c.args.hart in let ask = c.args.ask.now in let call = c.args.call in
     let reply = c.answer-reply.result in
+    let guarded = c.is_guarded-guarded.result in
+    let answering = guarded_run guarded run k ask.state in
+    let t = c.guard.new.self in
+    let before : IsTrace settings t answering = c.guard.ensures.run settings run is.trace in
     let a = c.access-load in let f = c.finish-next in
-    let g = hart_in p.trace.harts.items k in
+    let g = hart_in t.harts.items k in
     let h = hart_in a.new.self.harts.items k in
+    let q = asked_fit c.guarded_asks_fit.ensures p.start.settings p.start.image p.trace c.guard.new.self p.turns c.args.hart c.args.ask.now c.is_guarded-guarded.result p.fits c.requires.hart c.requires.live c.requires.orderly
+    c.is_guarded-guarded.ensures.uncut c.guard.ensures.anew c.guard.ensures.same in
     let m : IsMachine c.deref.result.now p.machine run.machine = subst (λ (xs : List ℕ). IsMachine xs p.machine run.machine) (sym c.deref.ensures.value) is.machine in
-    let eg : g ≡ run.harts k = hart_of_run p.trace.harts.items k run.harts is.trace.harts (omega (arith, c.requires.hart, p.fits.harts)) in
-    let eh : h ≡ run.harts k = ap (λ (v : Vec Hart Global). hart_in v.items k) a.ensures.harts ∙ eg in
-    let are : AreHarts a.new.self.harts.items run.harts = subst (λ (v : Vec Hart Global). AreHarts v.items run.harts) (sym a.ensures.harts) is.trace.harts in
+    let eg : g ≡ answering.harts k = hart_of_run t.harts.items k answering.harts before.harts (omega (arith, q.within, q.harts)) in
+    let eh : h ≡ answering.harts k = ap (λ (v : Vec Hart Global). hart_in v.items k) a.ensures.harts ∙ eg in
+    let are : AreHarts a.new.self.harts.items answering.harts = subst (λ (v : Vec Hart Global). AreHarts v.items answering.harts) (sym a.ensures.harts) before.harts in
+    let after : IsTrace settings f.new.self (serve_call settings run k ask guarded call).run =
+    traced settings answering k ask call p.turns _ g h a.result c.word_before-word.result reply f.new.self is.turns (ap (λ (v : Vec Hart Global). length v.items) a.ensures.harts ∙ q.harts) eg eh
+    (a.ensures.load settings p.start.image run.machine answering.events (c.requires.call run.machine is.machine) before.caches)
+    (c.word_before-word.ensures p.start.input.items run.machine is.machine)
+    (c.answer-reply.ensures.answer.reply run.machine m)
+    (record {
+      harts = f.ensures.harts answering.harts are;
+      caches = f.ensures.caches settings (span_of call ask.want reply) answering.events (a.ensures.caches settings answering.events before.caches);
+      shadow = subst (λ (s : Shadow). Stands (points_after (point_of k ask.state.ic p.turns (span_of call ask.want reply)) run.points) everyone s) (sym f.ensures.shadow) (a.ensures.shadow run.points before.shadow);
+      log = f.ensures.holds answering.harts _ are (a.ensures.holds run.points answering.stream before.shadow before.log);
+    })
+    (sym before.bytes ∙ before.log.bytes) in
     record {
       machine = subst (λ (xs : List ℕ). IsMachine xs c.answer-reply.new.self (answer settings call run.machine k ask).machine) c.deref.ensures.value (c.answer-reply.ensures.answer.stands run.machine m);
-      trace = swept_trace settings f.new.self c.forget.new.self _ (traced settings run k ask call p.turns _ g h a.result c.word_before-word.result reply f.new.self is.turns (ap (λ (v : Vec Hart Global). length v.items) a.ensures.harts ∙ p.fits.harts) eg eh
-          (a.ensures.load settings p.start.image run.machine run.events (c.requires.call run.machine is.machine) is.trace.caches)
-          (c.word_before-word.ensures p.start.input.items run.machine is.machine)
-          (c.answer-reply.ensures.answer.reply run.machine m)
-          (record {
-            harts = f.ensures.harts run.harts are;
-            caches = f.ensures.caches settings (span_of call ask.want reply) run.events (a.ensures.caches settings run.events is.trace.caches);
-            shadow = subst (λ (s : Shadow). Stands (points_after (point_of k ask.state.ic p.turns (span_of call ask.want reply)) run.points) everyone s) (sym f.ensures.shadow) (a.ensures.shadow run.points is.trace.shadow);
-            log = f.ensures.holds run.harts _ are (a.ensures.holds run.points run.stream is.trace.shadow is.trace.log);
-          })
-          (sym is.trace.bytes ∙ is.trace.log.bytes) (omega (arith, p.fits.settings.format_low, p.fits.settings.format_high)))
-          c.forget.ensures.shadow c.forget.ensures.harts c.forget.ensures.caches c.forget.ensures.log;
+      trace = subst (λ (b : Bool). IsTrace settings c.forget.new.self (serve_call settings run k ask b call).run) (c.is_guarded-guarded.ensures.run run is)
+          (swept_trace settings f.new.self c.forget.new.self _ after c.forget.ensures.shadow c.forget.ensures.harts c.forget.ensures.caches c.forget.ensures.log);
       turns = ap (λ (n : ℕ). n + 1) is.turns;
     }
 
 pub invariant_of-self : goal.invariant_of-self
 invariant_of-self c =
     let p = c.args.self.now in
+    let t = c.guard.new.self in
     let a = c.access-load in let f = c.finish-next in
+    let q = asked_fit c.guarded_asks_fit.ensures p.start.settings p.start.image p.trace c.guard.new.self p.turns c.args.hart c.args.ask.now c.is_guarded-guarded.result p.fits c.requires.hart c.requires.live c.requires.orderly
+    c.is_guarded-guarded.ensures.uncut c.guard.ensures.anew c.guard.ensures.same in
     let m = meant p.start.input.items p.machine in
     let is = is_meant p.start.input.items p.machine in
     let stands : IsMachine c.deref.result.now p.machine m = subst (λ (xs : List ℕ). IsMachine xs p.machine m) (sym c.deref.ensures.value) is in
     record {
       memory = c.answer-reply.ensures.size ∙ p.memory;
-      fits = swept_fit p.start.settings f.new.self c.forget.new.self (p.turns + 1) (fit_traced c.each_turn_moves_on.ensures p.start.settings p.start.image m p.trace f.new.self p.turns c.args.hart c.args.ask.now c.args.call c.answer-reply.result a.result p.fits c.requires.hart c.requires.live c.requires.orderly
+      fits = swept_fit p.start.settings f.new.self c.forget.new.self (p.turns + 1) (fit_traced c.each_turn_moves_on.ensures p.start.settings p.start.image m t f.new.self p.turns c.args.hart c.args.ask.now c.args.call c.answer-reply.result a.result q
           (c.requires.call m is) (c.answer-reply.ensures.answer.reply m stands)
           (record {
             harts = λ g are. subst (λ (v : Vec Hart Global). AreHarts v.items g → AreHarts f.new.self.harts.items (harts_after (next_of p.start.settings c.args.call (hart_in v.items c.args.hart) c.args.ask.now.want c.answer-reply.result (absorbed c.args.ask.now c.answer-reply.result).ic) c.args.hart (hart_after (next_of p.start.settings c.args.call (hart_in v.items c.args.hart) c.args.ask.now.want c.answer-reply.result (absorbed c.args.ask.now c.answer-reply.result).ic) (absorbed c.args.ask.now c.answer-reply.result) (skipped_after a.result (hart_in v.items c.args.hart).skipped) f.new.self.log.bytes (hart_in v.items c.args.hart)) g)) a.ensures.harts (f.ensures.harts g) are;
             len = f.ensures.len ∙ ap (λ (v : Vec Hart Global). length v.items) a.ensures.harts;
             caches = f.ensures.count ∙ a.ensures.count;
-            steps = λ j. subst (λ (v : Vec Hart Global). steps_in f.new.self.caches j ≡ (if j == c.args.hart then steps_in p.trace.caches j + touches (touched_word c.args.call (span_of c.args.call c.args.ask.now.want c.answer-reply.result)) + clears (next_of p.start.settings c.args.call (hart_in v.items c.args.hart) c.args.ask.now.want c.answer-reply.result (absorbed c.args.ask.now c.answer-reply.result).ic) else steps_in p.trace.caches j)) a.ensures.harts
+            steps = λ j. subst (λ (v : Vec Hart Global). steps_in f.new.self.caches j ≡ (if j == c.args.hart then steps_in t.caches j + touches (touched_word c.args.call (span_of c.args.call c.args.ask.now.want c.answer-reply.result)) + clears (next_of p.start.settings c.args.call (hart_in v.items c.args.hart) c.args.ask.now.want c.answer-reply.result (absorbed c.args.ask.now c.answer-reply.result).ic) else steps_in t.caches j)) a.ensures.harts
                 (two_ifs (j == c.args.hart) _ _ _ _ _ (f.ensures.steps j) (a.ensures.steps j));
             loading = a.ensures.loading;
             shadow = ap harts_of f.ensures.shadow ∙ a.ensures.shadow_harts;
             lasting = ap lasting_of f.ensures.shadow ∙ a.ensures.lasting;
             turn = subst (λ (x : Shadow). next_turn x ≤ p.turns + 1) (sym f.ensures.shadow) a.ensures.turn;
-            next = subst (λ (x : Shadow). next_count x c.args.hart ≤ count_after (span_of c.args.call c.args.ask.now.want c.answer-reply.result) c.args.ask.now.state.ic (next_count p.trace.shadow c.args.hart)) (sym f.ensures.shadow) a.ensures.next;
+            next = subst (λ (x : Shadow). next_count x c.args.hart ≤ count_after (span_of c.args.call c.args.ask.now.want c.answer-reply.result) c.args.ask.now.state.ic (next_count t.shadow c.args.hart)) (sym f.ensures.shadow) a.ensures.next;
             others = λ j differ. ap (λ (x : Shadow). next_count x j) f.ensures.shadow ∙ a.ensures.others j differ;
             took = omega (arith, a.ensures.took, f.ensures.took);
             size = f.ensures.size ∙ a.ensures.size;
@@ -77,14 +89,187 @@ invariant_of-self c =
           c.forget.ensures.shadow c.forget.ensures.harts c.forget.ensures.caches c.forget.ensures.log;
     }
 
+-- ---- the guard
+
+pub guard-requires-clause-hart : goal.guard-requires-clause-hart
+guard-requires-clause-hart c =
+    let p = c.args.self.now in
+    omega (arith, c.requires.hart, p.fits.harts)
+
+pub guard-requires-clause-caches : goal.guard-requires-clause-caches
+guard-requires-clause-caches c =
+    let p = c.args.self.now in
+    omega (arith, c.requires.hart, p.fits.caches)
+
+pub guard-requires-clause-steps : goal.guard-requires-clause-steps
+guard-requires-clause-steps c =
+    let p = c.args.self.now in
+    let fit = p.fits.each c.args.hart c.requires.hart in
+    few_steps p.start.settings (hart_in p.trace.harts.items c.args.hart) (steps_in p.trace.caches c.args.hart) fit.fit.fit p.fits.settings.limit_high fit.steps
+
+pub guard-requires-clause-number : goal.guard-requires-clause-number
+guard-requires-clause-number c =
+    let p = c.args.self.now in
+    low_number p.start.settings (hart_in p.trace.harts.items c.args.hart) (p.fits.each c.args.hart c.requires.hart).fit.fit p.fits.settings.limit_high
+
+pub guard-requires-clause-room : goal.guard-requires-clause-room
+guard-requires-clause-room c =
+    let p = c.args.self.now in
+    some_room p.start.settings p.turns _ (taken p.trace.log.ring) 2 p.fits.few p.fits.settings.limit_high p.fits.left (omega (arith, p.fits.log)) (omega arith)
+
+-- ---- the access
+
+pub access-load-requires-clause-hart : goal.access-load-requires-clause-hart
+access-load-requires-clause-hart c =
+    let p = c.args.self.now in
+    let q = asked_fit c.guarded_asks_fit.ensures p.start.settings p.start.image p.trace c.guard.new.self p.turns c.args.hart c.args.ask.now c.is_guarded-guarded.result p.fits c.requires.hart c.requires.live c.requires.orderly
+    c.is_guarded-guarded.ensures.uncut c.guard.ensures.anew c.guard.ensures.same in
+    omega (arith, q.within, q.harts)
+
+pub access-load-requires-clause-caches : goal.access-load-requires-clause-caches
+access-load-requires-clause-caches c =
+    let p = c.args.self.now in
+    let q = asked_fit c.guarded_asks_fit.ensures p.start.settings p.start.image p.trace c.guard.new.self p.turns c.args.hart c.args.ask.now c.is_guarded-guarded.result p.fits c.requires.hart c.requires.live c.requires.orderly
+    c.is_guarded-guarded.ensures.uncut c.guard.ensures.anew c.guard.ensures.same in
+    omega (arith, q.within, q.caches)
+
+pub access-load-requires-clause-shadow : goal.access-load-requires-clause-shadow
+access-load-requires-clause-shadow c =
+    let p = c.args.self.now in
+    let q = asked_fit c.guarded_asks_fit.ensures p.start.settings p.start.image p.trace c.guard.new.self p.turns c.args.hart c.args.ask.now c.is_guarded-guarded.result p.fits c.requires.hart c.requires.live c.requires.orderly
+    c.is_guarded-guarded.ensures.uncut c.guard.ensures.anew c.guard.ensures.same in
+    omega (arith, q.within, q.shadow)
+
+pub access-load-requires-clause-few : goal.access-load-requires-clause-few
+access-load-requires-clause-few c =
+    let p = c.args.self.now in
+    let q = asked_fit c.guarded_asks_fit.ensures p.start.settings p.start.image p.trace c.guard.new.self p.turns c.args.hart c.args.ask.now c.is_guarded-guarded.result p.fits c.requires.hart c.requires.live c.requires.orderly
+    c.is_guarded-guarded.ensures.uncut c.guard.ensures.anew c.guard.ensures.same in
+    omega (arith, q.shadow, q.few)
+
+pub access-load-requires-clause-ic : goal.access-load-requires-clause-ic
+access-load-requires-clause-ic c =
+    let p = c.args.self.now in
+    let q = asked_fit c.guarded_asks_fit.ensures p.start.settings p.start.image p.trace c.guard.new.self p.turns c.args.hart c.args.ask.now c.is_guarded-guarded.result p.fits c.requires.hart c.requires.live c.requires.orderly
+    c.is_guarded-guarded.ensures.uncut c.guard.ensures.anew c.guard.ensures.same in
+    let counts = asked_counts c.each_turn_moves_on.ensures p.start.settings p.start.image c.guard.new.self p.turns c.args.hart c.args.ask.now q in
+    omega (arith, counts.limit, q.settings.limit_high)
+
+pub access-load-requires-clause-steps : goal.access-load-requires-clause-steps
+access-load-requires-clause-steps c =
+    let p = c.args.self.now in
+    let q = asked_fit c.guarded_asks_fit.ensures p.start.settings p.start.image p.trace c.guard.new.self p.turns c.args.hart c.args.ask.now c.is_guarded-guarded.result p.fits c.requires.hart c.requires.live c.requires.orderly
+    c.is_guarded-guarded.ensures.uncut c.guard.ensures.anew c.guard.ensures.same in
+    few_steps p.start.settings (hart_in c.guard.new.self.harts.items c.args.hart) (steps_in c.guard.new.self.caches c.args.hart) q.own.fit q.settings.limit_high q.own.steps
+
+pub access-load-requires-clause-turns : goal.access-load-requires-clause-turns
+access-load-requires-clause-turns c =
+    let p = c.args.self.now in
+    let q = asked_fit c.guarded_asks_fit.ensures p.start.settings p.start.image p.trace c.guard.new.self p.turns c.args.hart c.args.ask.now c.is_guarded-guarded.result p.fits c.requires.hart c.requires.live c.requires.orderly
+    c.is_guarded-guarded.ensures.uncut c.guard.ensures.anew c.guard.ensures.same in
+    q.turn
+
+pub access-load-requires-clause-counts : goal.access-load-requires-clause-counts
+access-load-requires-clause-counts c =
+    let p = c.args.self.now in
+    let q = asked_fit c.guarded_asks_fit.ensures p.start.settings p.start.image p.trace c.guard.new.self p.turns c.args.hart c.args.ask.now c.is_guarded-guarded.result p.fits c.requires.hart c.requires.live c.requires.orderly
+    c.is_guarded-guarded.ensures.uncut c.guard.ensures.anew c.guard.ensures.same in
+    let counts = asked_counts c.each_turn_moves_on.ensures p.start.settings p.start.image c.guard.new.self p.turns c.args.hart c.args.ask.now q in
+    omega (arith, counts.from, q.own.count)
+
+pub access-load-requires-clause-lasting : goal.access-load-requires-clause-lasting
+access-load-requires-clause-lasting c =
+    let p = c.args.self.now in
+    let q = asked_fit c.guarded_asks_fit.ensures p.start.settings p.start.image p.trace c.guard.new.self p.turns c.args.hart c.args.ask.now c.is_guarded-guarded.result p.fits c.requires.hart c.requires.live c.requires.orderly
+    c.is_guarded-guarded.ensures.uncut c.guard.ensures.anew c.guard.ensures.same in
+    q.own.lasting q.live
+
+pub access-load-requires-clause-room : goal.access-load-requires-clause-room
+access-load-requires-clause-room c =
+    let p = c.args.self.now in
+    let q = asked_fit c.guarded_asks_fit.ensures p.start.settings p.start.image p.trace c.guard.new.self p.turns c.args.hart c.args.ask.now c.is_guarded-guarded.result p.fits c.requires.hart c.requires.live c.requires.orderly
+    c.is_guarded-guarded.ensures.uncut c.guard.ensures.anew c.guard.ensures.same in
+    some_room p.start.settings p.turns _ (taken c.guard.new.self.log.ring) 18 q.few q.settings.limit_high q.left (omega (arith, q.log)) (omega arith)
+
+pub access-load-requires-clause-ready : goal.access-load-requires-clause-ready
+access-load-requires-clause-ready c =
+    let p = c.args.self.now in
+    subst (λ (x : Shadow). IsRaceReady x (span_of c.args.call c.args.ask.now.want c.answer-reply.result)) (sym c.guard.ensures.shadow) (race_ready p.trace.shadow c.args.call c.args.ask.now.want c.answer-reply.result c.requires.race)
+
+-- ---- what comes next
+
+pub finish-next-requires-clause-hart : goal.finish-next-requires-clause-hart
+finish-next-requires-clause-hart c =
+    let p = c.args.self.now in
+    let q = asked_fit c.guarded_asks_fit.ensures p.start.settings p.start.image p.trace c.guard.new.self p.turns c.args.hart c.args.ask.now c.is_guarded-guarded.result p.fits c.requires.hart c.requires.live c.requires.orderly
+    c.is_guarded-guarded.ensures.uncut c.guard.ensures.anew c.guard.ensures.same in
+    omega (arith, q.within, q.harts, ap (λ (v : Vec Hart Global). length v.items) c.access-load.ensures.harts)
+
+pub finish-next-requires-clause-few : goal.finish-next-requires-clause-few
+finish-next-requires-clause-few c =
+    let p = c.args.self.now in
+    let q = asked_fit c.guarded_asks_fit.ensures p.start.settings p.start.image p.trace c.guard.new.self p.turns c.args.hart c.args.ask.now c.is_guarded-guarded.result p.fits c.requires.hart c.requires.live c.requires.orderly
+    c.is_guarded-guarded.ensures.uncut c.guard.ensures.anew c.guard.ensures.same in
+    omega (arith, q.few, q.harts, ap (λ (v : Vec Hart Global). length v.items) c.access-load.ensures.harts)
+
+pub finish-next-requires-clause-caches : goal.finish-next-requires-clause-caches
+finish-next-requires-clause-caches c =
+    let p = c.args.self.now in
+    let q = asked_fit c.guarded_asks_fit.ensures p.start.settings p.start.image p.trace c.guard.new.self p.turns c.args.hart c.args.ask.now c.is_guarded-guarded.result p.fits c.requires.hart c.requires.live c.requires.orderly
+    c.is_guarded-guarded.ensures.uncut c.guard.ensures.anew c.guard.ensures.same in
+    omega (arith, q.within, q.caches, c.access-load.ensures.count)
+
+pub finish-next-requires-clause-steps : goal.finish-next-requires-clause-steps
+finish-next-requires-clause-steps c =
+    let p = c.args.self.now in
+    let q = asked_fit c.guarded_asks_fit.ensures p.start.settings p.start.image p.trace c.guard.new.self p.turns c.args.hart c.args.ask.now c.is_guarded-guarded.result p.fits c.requires.hart c.requires.live c.requires.orderly
+    c.is_guarded-guarded.ensures.uncut c.guard.ensures.anew c.guard.ensures.same in
+    let old = steps_in c.guard.new.self.caches c.args.hart in
+    few_steps_more p.start.settings (hart_in c.guard.new.self.harts.items c.args.hart) old _ (touched_word c.args.call (span_of c.args.call c.args.ask.now.want c.answer-reply.result)) q.own.fit q.settings.limit_high q.own.steps
+    (c.access-load.ensures.steps c.args.hart ∙ if_true (c.args.hart == c.args.hart) _ _ (eqb_same c.args.hart))
+
+pub finish-next-requires-clause-number : goal.finish-next-requires-clause-number
+finish-next-requires-clause-number c =
+    let p = c.args.self.now in
+    let q = asked_fit c.guarded_asks_fit.ensures p.start.settings p.start.image p.trace c.guard.new.self p.turns c.args.hart c.args.ask.now c.is_guarded-guarded.result p.fits c.requires.hart c.requires.live c.requires.orderly
+    c.is_guarded-guarded.ensures.uncut c.guard.ensures.anew c.guard.ensures.same in
+    subst (λ (v : Vec Hart Global). (hart_in v.items c.args.hart).number < 2 ^ 62) (sym c.access-load.ensures.harts) (low_number p.start.settings (hart_in c.guard.new.self.harts.items c.args.hart) q.own.fit q.settings.limit_high)
+
+pub finish-next-requires-clause-skipped : goal.finish-next-requires-clause-skipped
+finish-next-requires-clause-skipped c =
+    let p = c.args.self.now in
+    let q = asked_fit c.guarded_asks_fit.ensures p.start.settings p.start.image p.trace c.guard.new.self p.turns c.args.hart c.args.ask.now c.is_guarded-guarded.result p.fits c.requires.hart c.requires.live c.requires.orderly
+    c.is_guarded-guarded.ensures.uncut c.guard.ensures.anew c.guard.ensures.same in
+    subst (λ (v : Vec Hart Global). (hart_in v.items c.args.hart).skipped < 2 ^ 32 - 1) (sym c.access-load.ensures.harts) (few_skipped p.start.settings (hart_in c.guard.new.self.harts.items c.args.hart) q.own.fit q.settings.interval_high)
+
 pub finish-next-requires-clause-marked : goal.finish-next-requires-clause-marked
 finish-next-requires-clause-marked c =
     let p = c.args.self.now in
+    let q = asked_fit c.guarded_asks_fit.ensures p.start.settings p.start.image p.trace c.guard.new.self p.turns c.args.hart c.args.ask.now c.is_guarded-guarded.result p.fits c.requires.hart c.requires.live c.requires.orderly
+    c.is_guarded-guarded.ensures.uncut c.guard.ensures.anew c.guard.ensures.same in
     let m = meant p.start.input.items p.machine in
     let is = is_meant p.start.input.items p.machine in
     let stands : IsMachine c.deref.result.now p.machine m = subst (λ (xs : List ℕ). IsMachine xs p.machine m) (sym c.deref.ensures.value) is in
     subst (λ (v : Vec Hart Global). IsTrue (is_marked_next (next_of p.start.settings c.args.call (hart_in v.items c.args.hart) c.args.ask.now.want c.answer-reply.result (absorbed c.args.ask.now c.answer-reply.result).ic))) (sym c.access-load.ensures.harts)
-    (next_marked c.each_turn_moves_on.ensures p.start.settings p.start.image m p.trace p.turns c.args.hart c.args.ask.now c.args.call c.answer-reply.result p.fits c.requires.hart c.requires.live c.requires.orderly (c.requires.call m is) (c.answer-reply.ensures.answer.reply m stands))
+    (next_marked c.each_turn_moves_on.ensures p.start.settings p.start.image m c.guard.new.self p.turns c.args.hart c.args.ask.now c.args.call c.answer-reply.result q (c.requires.call m is) (c.answer-reply.ensures.answer.reply m stands))
 
-pub access-load-requires-clause-lasting : goal.access-load-requires-clause-lasting
-access-load-requires-clause-lasting c = (c.args.self.now.fits.each c.args.hart c.requires.hart).lasting c.requires.live
+pub finish-next-requires-clause-room : goal.finish-next-requires-clause-room
+finish-next-requires-clause-room c =
+    let p = c.args.self.now in
+    let q = asked_fit c.guarded_asks_fit.ensures p.start.settings p.start.image p.trace c.guard.new.self p.turns c.args.hart c.args.ask.now c.is_guarded-guarded.result p.fits c.requires.hart c.requires.live c.requires.orderly
+    c.is_guarded-guarded.ensures.uncut c.guard.ensures.anew c.guard.ensures.same in
+    some_room p.start.settings p.turns _ (taken c.access-load.new.self.log.ring) 18 q.few q.settings.limit_high q.left (omega (arith, q.log, c.access-load.ensures.took)) (omega arith)
+
+pub forget-requires-clause-few : goal.forget-requires-clause-few
+forget-requires-clause-few c =
+    let p = c.args.self.now in
+    let q = asked_fit c.guarded_asks_fit.ensures p.start.settings p.start.image p.trace c.guard.new.self p.turns c.args.hart c.args.ask.now c.is_guarded-guarded.result p.fits c.requires.hart c.requires.live c.requires.orderly
+    c.is_guarded-guarded.ensures.uncut c.guard.ensures.anew c.guard.ensures.same in
+    omega (arith, q.few, q.harts, ap (λ (v : Vec Hart Global). length v.items) c.access-load.ensures.harts, c.finish-next.ensures.len)
+
+pub forget-requires-clause-shadow : goal.forget-requires-clause-shadow
+forget-requires-clause-shadow c =
+    let p = c.args.self.now in
+    let q = asked_fit c.guarded_asks_fit.ensures p.start.settings p.start.image p.trace c.guard.new.self p.turns c.args.hart c.args.ask.now c.is_guarded-guarded.result p.fits c.requires.hart c.requires.live c.requires.orderly
+    c.is_guarded-guarded.ensures.uncut c.guard.ensures.anew c.guard.ensures.same in
+    ap harts_of c.finish-next.ensures.shadow ∙ c.access-load.ensures.shadow_harts ∙ q.shadow ∙ sym (c.finish-next.ensures.len ∙ ap (λ (v : Vec Hart Global). length v.items) c.access-load.ensures.harts ∙ q.harts)
