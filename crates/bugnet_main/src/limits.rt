@@ -42,13 +42,13 @@ pub struct Limited<'a, W, R: Files> {
 }
 
 impl<'a, W: Write, R: Files> Limited<'a, W, R> {
-    /// The stream that has this name as a file too.
-    pub fn new(inner: W, rt: &'a R, name: &'static str) -> Self {
+    /// The stream that has this name as a file too; `most` is the greatest size of a file.
+    pub fn new(inner: W, rt: &'a R, name: &'static str, most: u64) -> Self {
         Limited {
             inner,
             rt,
             name,
-            most: most_bytes(rt),
+            most,
         }
     }
 
