@@ -22,11 +22,11 @@ use Rattle.command_words.specs.declared.commands.Recording.{Recording}
 use Rattle.bugnet.specs.Names.{FileNames, name_of}
 use Rattle.bugnet.specs.Refusals.{line_of, said_of, log_refusal}
 use Rattle.bugnet.specs.Told.{Told, refused}
-use Rattle.bugnet.specs.Commands.{Either, IsByFile, WithFile, IsByLog, IsByInput, IsByProgram, IsBySettings, IsRecord}
+use Rattle.bugnet.specs.Commands.{is_clash, Either, IsByFile, WithFile, IsByLog, IsByInput, IsByProgram, IsByNames, IsBySettings, IsRecord}
 use Rattle.bugnet.specs.Recordings.{IsRun}
 use Rattle.bugnet.specs.declared.manner.Manner.{Manner}
-use Rattle.bugnet.specs.Answers.{names_in, manner_of, IsAnswer}
-use Rattle.bugnet.specs.Outside.{WithFiles, FetchTells, LogTells, ProgramTells, Gives, unless, without, GivesTo, GivesOf, GivesBy, RefusalCause, told_of}
+use Rattle.bugnet.specs.Answers.{names_in, manner_of, name_refusal, setting_refusal, IsAnswer}
+use Rattle.bugnet.specs.Outside.{WithFiles, FetchTells, LogTells, ProgramTells, Gives, unless, without, GivesTo, GivesOf, GivesBy, RefusalCause, CauseBy, told_of}
 use Rattle.bugnet.specs.declared.names.Role.{Role}
 use Rattle.bugnet.specs.declared.names.Role.TheVariants.{Input}
 use Rattle.bugnet.specs.declared.answer.Answer.{Answer}
@@ -254,6 +254,20 @@ pub settings-refused : (known : Option Files) (names : FileNames) (c : RawSettin
 settings-refused None names c how has bad e = tt
 settings-refused (Some files) names c how has bad e =
     inr (subst (λ (o : Option BadSetting). IsBySettings o files names c how has (refused names (OutOfRange bad))) (sym (bad-one (first_bad c) c bad e)) refl)
+
+-- what is answered by settings in range
+pub settings-taken : (known : Option Files) (names : FileNames) (c x : RawSettings) (how : Manner) (has : Bool) (result : Result Answer Refusal) → checked_by (first_bad c) c ≡ Ok x
+    → WithFiles known (λ files. GivesBy names (λ f. IsByNames (is_clash how.lean names.log names.book) f names x how has) files result)
+    → WithFiles known (λ files. GivesBy names (λ f. IsRecord f names c how has) files result)
+settings-taken known names c x how has result e h =
+    let n = none-bad (first_bad c) c x e in
+    let own : WithFiles known (λ files. GivesBy names (λ f. IsBySettings None f names c how has) files result) =
+    subst (λ (y : RawSettings). WithFiles known (λ files. GivesBy names (λ f. IsByNames (is_clash how.lean names.log names.book) f names y how has) files result)) n.1 h in
+    subst (λ (o : Option BadSetting). WithFiles known (λ files. GivesBy names (λ f. IsBySettings o f names c how has) files result)) (sym n.0) own
+
+pub settings-cause : (c x : RawSettings) (clash : Bool) (before now : Counts) (result : Result Answer Refusal) → checked_by (first_bad c) c ≡ Ok x → CauseBy (name_refusal clash) before now result
+    → CauseBy (setting_refusal (first_bad c) clash) before now result
+settings-cause c x clash before now result e h = subst (λ (o : Option BadSetting). CauseBy (setting_refusal o clash) before now result) (sym (none-bad (first_bad c) c x e).0) h
 
 -- ---- a recording
 
