@@ -1,5 +1,5 @@
 -- A crash with format 2 is shown by `list` and `replay`.
-use Rattle.std.proofs.Common.{◌≡◌, ℕ, ◌+◌, ◌<◌, ◌≤◌, ◌==◌, ◌&&◌, Bool, true, false, List, [], ◌∷◌, ◌++◌, nat_lt, Option, Some, ◌∙◌, ap, subst, sym, refl, arith, append_assoc}
+use Rattle.std.proofs.Common.{◌≡◌, ℕ, ◌+◌, ◌<◌, ◌≤◌, ◌==◌, ◌&&◌, Bool, true, false, List, [], ◌∷◌, ◌++◌, nat_lt, Option, Some, ◌∙◌, ap, subst, sym, refl, arith, inl, inr, ◌⊎◌, append_assoc}
 use Rattle.std.specs.Prelude.{if◌then◌else◌}
 use Rattle.std.proofs.lemmas.Bool.Decides.{nat_tests}
 use Rattle.sha2.specs.Sha256.{sha256}
@@ -135,10 +135,14 @@ shown g laws faults replays r old new l format k =
       replayed = λ files log elf log_is elf_is what a. replays r old new l k.hart is.number is.found.interval is.found.is files log elf log_is elf_is what a;
     }
 
+another : {P : Type 0} (m : ℕ) → (m ≡ 0) ⊎ (m ≡ 11) → 10 ≡ m → P
+another m (inl z) e = absurd (omega (arith, z, e))
+another m (inr z) e = absurd (omega (arith, z, e))
+
 ended-so : (e : RunEnd) → 10 ≡ end_status e → e ≡ ends.Fault
 ended-so ends.Fault e = refl
-ended-so ends.Limit e = absurd (omega (arith, e))
-ended-so ends.Done e = absurd (omega (arith, e))
+ended-so ends.Limit e = another 11 (inr refl) e
+ended-so ends.Done e = another 0 (inl refl) e
 
 pub crashes-shown : Grammar → FileLaws → OwnAsksAreOrderly → FaultsAreKept → RecordingsAreReplayed → CrashesAreShown
 crashes-shown g laws asks faults replays r old new l format is =
