@@ -37,7 +37,7 @@ use Rattle.bugnet.proofs.Suffices.{FileLaws, by-file, by-content}
 
 -- ---- the premises of the law of faults
 
-most : (format : ℕ) → format ≡ 2 → (if format == 2 then 16 else 8) ≡ 16
+most : (format : ℕ) → format ≡ 2 → ◌≡◌ {A = ℕ} (if format == 2 then 16 else 8) 16
 most format e = ap (λ (n : ℕ). if n == 2 then 16 else 8) e
 
 guards : (c : RawSettings) → c.format ≡ 2 → IsSetting c → IsGuarding c
