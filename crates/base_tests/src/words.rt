@@ -41,7 +41,7 @@ fn plain<'a>() -> Recording<'a> {
 #[test]
 fn a_recording_with_all_options(rt: HostRuntime) -> Result<(), Fail> {
     let line = "bugnet record --harts 2 --interval 3 --limit 4 --log-size 5 --memory 6 --sets 7 \
---ways 8 --line 9 --seed 10 --input in.txt p.elf p.log p.book";
+--ways 8 --line 9 --format 11 --sets2 12 --ways2 13 --seed 10 --input in.txt p.elf p.log p.book";
     let wanted = Recording {
         settings: RawSettings {
             harts: 2,
@@ -52,9 +52,9 @@ fn a_recording_with_all_options(rt: HostRuntime) -> Result<(), Fail> {
             sets: 7,
             ways: 8,
             line: 9,
-            format: 1,
-            sets2: 0,
-            ways2: 0,
+            format: 11,
+            sets2: 12,
+            ways2: 13,
         },
         seed: Some(10),
         lean: false,

@@ -12,7 +12,7 @@ use Rattle.elf_loader.specs.Loaded.{image_of}
 use Rattle.elf_loader.specs.declared.error.ElfError.{ElfError}
 use Rattle.log_order.specs.Content.{Content, IsContent}
 use Rattle.le_numbers.specs.Numbers.{AreBytes}
-use Rattle.log_file.specs.Layout.{file_bytes, file_bytes2}
+use Rattle.log_file.specs.Layout.{file_bytes, file_bytes2, saved_bytes}
 use Rattle.log_blocks.specs.Faults.{is_second}
 use Rattle.log_blocks.specs.Laws.{NameTheirVersion, AreFew}
 use Rattle.log_blocks.specs.Laws as of_second
@@ -73,7 +73,7 @@ use Rattle.bugnet.specs.declared.names.Role.TheVariants as role
 use Rattle.bugnet.specs.declared.refusal.Refusal.TheVariants.{WordsRefused, OutOfRange, SameName, Missing, TooLong, ElfRefused}
 use Rattle.bugnet.proofs.Tested.{in-range}
 use Rattle.bugnet.proofs.Loads.{by-bytes, fits}
-use Rattle.bugnet.proofs.Suffices.{FileLaws, file-size, by-file, answer, Together}
+use Rattle.bugnet.proofs.Suffices.{FileLaws, by-file, answer, Together}
 use Rattle.bugnet.proofs.Tells.{with-files, stopped-free, early-free}
 
 -- ---- some answer
@@ -310,9 +310,7 @@ can-log : FileLaws → (files : Files) (names : FileNames) (go : Content → Tol
 can-log laws files names go h =
     let d = content_of h.settings (sha256 h.elf) (run_of h.settings h.program h.input h.turns) in
     let is : IsContent d = laws.contents h.settings h.program h.elf h.input h.turns h.recording in
-    let one : h.settings.format ≡ 1 = omega (arith, h.recording.setting.format_low, h.recording.setting.format_high) in
-    let there : files names.log ≡ Some (file_bytes d) = h.log ∙ ap (λ (bytes : List ℕ). Some bytes) (laws.version h.settings h.program (sha256 h.elf) h.input h.turns one) in
-    (go d, there-file files names role.Log 272629760 (file_bytes d) (λ log what. IsByLog names log go what) (go d) there (file-size laws d is) (record { says = Ok d; reads = laws.read.first d is; is = refl }), refl)
+    (go d, there-file files names role.Log 272629760 (saved_bytes d) (λ log what. IsByLog names log go what) (go d) h.log (laws.limit d is) (record { says = Ok d; reads = laws.read.saved d is; is = refl }), refl)
 
 can-replay : LogSuffices → Together → FileLaws → (line : Option Line) (files : Files) (p : Part) (v : Interval) → ReplaysRun line files p v → length p.elf ≤ 67108864 → (what : Told) × IsAnswer line files what × IsRecorded what.status
 can-replay law stand laws line files p v r small =
@@ -320,12 +318,10 @@ can-replay law stand laws line files p v r small =
     let d = content_of p.settings (sha256 p.elf) (run_of p.settings p.program p.input p.turns) in
     let is : IsContent d = laws.contents p.settings p.program p.elf p.input p.turns r.recording in
     let what = replay_of names p.hart p.number p.elf d in
-    let one : p.settings.format ≡ 1 = omega (arith, r.recording.setting.format_low, r.recording.setting.format_high) in
-    let there : files r.log_name ≡ Some (file_bytes d) = r.log ∙ ap (λ (bytes : List ℕ). Some bytes) (laws.version p.settings p.program (sha256 p.elf) p.input p.turns one) in
-    let elf : IsReplayOf files names p.hart p.number (file_bytes d) what =
-    there-file files names role.Elf 67108864 p.elf (λ elf what. IsByLog names (file_bytes d) (replay_of names p.hart p.number elf) what) what r.program small (record { says = Ok d; reads = laws.read.first d is; is = refl }) in
+    let elf : IsReplayOf files names p.hart p.number (saved_bytes d) what =
+    there-file files names role.Elf 67108864 p.elf (λ elf what. IsByLog names (saved_bytes d) (replay_of names p.hart p.number elf) what) what r.program small (record { says = Ok d; reads = laws.read.saved d is; is = refl }) in
     let log : IsReplay files names p.hart p.number what =
-    there-file files names role.Log 272629760 (file_bytes d) (λ log what. IsReplayOf files names p.hart p.number log what) what there (file-size laws d is) elf in
+    there-file files names role.Log 272629760 (saved_bytes d) (λ log what. IsReplayOf files names p.hart p.number log what) what r.log (laws.limit d is) elf in
     let done : IsRecorded what.status = inl (ap (λ (t : Told). t.status) (answer law stand names p v line files r)) in
     subst (λ (l : Option Line). (what : Told) × IsAnswer l files what × IsRecorded what.status) (sym r.command) (what, log, done)
 
@@ -341,10 +337,10 @@ pair-told go names log elf files d i p = ap (λ (b : Bool). pair_same b go names
 pub can-pair : FileLaws → (go : ByPair) (names : FileNames) (files : Files) (d : Content) (i : Program) → ArePair names.log names.elf files d i → IsPair go files names (go d i)
 can-pair laws go names files d i p =
     let what = go d i in
-    let program : IsPairOf go files names (file_bytes d) what =
-    there-file files names role.Elf 67108864 p.bytes (λ elf what. IsByLog names (file_bytes d) (pair_of go names elf) what) what p.elf_there p.elf_small
-    (record { says = Ok d; reads = laws.read.first d p.is; is = sym (pair-told go names names.log names.elf files d i p) }) in
-    there-file files names role.Log 272629760 (file_bytes d) (λ log what. IsPairOf go files names log what) what p.log_there (file-size laws d p.is) program
+    let program : IsPairOf go files names (saved_bytes d) what =
+    there-file files names role.Elf 67108864 p.bytes (λ elf what. IsByLog names (saved_bytes d) (pair_of go names elf) what) what p.elf_there p.elf_small
+    (record { says = Ok d; reads = laws.read.saved d p.is; is = sym (pair-told go names names.log names.elf files d i p) }) in
+    there-file files names role.Log 272629760 (saved_bytes d) (λ log what. IsPairOf go files names log what) what p.log_there (laws.limit d p.is) program
 
 can-join : FileLaws → (log elf : List ℕ) (files : Files) → CanJoin log elf files → (what : Told) × IsAnswer (Some (JointLine log elf)) files what × IsRecorded what.status
 can-join laws log elf files h =
@@ -424,6 +420,13 @@ audited-by audits log elf book input files a bytes there small reads is =
     let whole : IsAudit files names has what = there-file files names role.Log 272629760 bytes (λ log what. IsAuditIn files names has log what) what there small program in
     (what, whole, inl (ap (λ (t : Told). t.status) told))
 
+-- the file of a run that is a spelling of its log is the one that it is compared with, by the version that it names
+own-version : (second : Bool) (bytes : List ℕ) (c : RawSettings) (i : Program) (digest input turns : List ℕ) → bytes ≡ file_of c i digest input turns
+    → elim second as (λ t. Type 0) [ true ↦ bytes ≡ version2_of c i digest input turns | false ↦ (c.format ≡ 1) × (bytes ≡ file_bytes (content_of c digest (run_of c i input turns))) ]
+    → bytes ≡ audit_file second c i digest input turns
+own-version true bytes c i digest input turns own spelled = spelled
+own-version false bytes c i digest input turns own spelled = own
+
 can-audit : FileLaws → SecondLaws → AuditLaws → (log elf book : List ℕ) (input : Option (List ℕ)) (files : Files) (a : Agrees log elf book input files) → AreBytes a.bytes → Audited log elf book input files
 can-audit laws seconds audits log elf book input files a bytes = by a.log_there
   where
@@ -433,15 +436,15 @@ can-audit laws seconds audits log elf book input files a bytes = by a.log_there
     is : IsContent (log-in a)
     is = laws.contents a.settings a.program a.bytes a.given a.turns (record { setting = a.setting; bytes = bytes; loaded = a.loaded; legal = a.whole.legal; over = a.whole.over })
 
-    same : file_of a.settings a.program digest a.given a.turns ≡ file_bytes (log-in a)
-    same = laws.version a.settings a.program digest a.given a.turns (omega (arith, a.setting.format_low, a.setting.format_high))
+    read : Reads (saved_bytes (log-in a)) (Ok (log-in a))
+    read = laws.read.saved (log-in a) is
 
     in-version : (second : Bool) (b : Bool) → b ≡ second → audit_file second a.settings a.program digest a.given a.turns ≡ audit_file b a.settings a.program digest a.given a.turns
     in-version second b e = ap (λ (x : Bool). audit_file x a.settings a.program digest a.given a.turns) (sym e)
 
     by : (files log ≡ Some (file_of a.settings a.program digest a.given a.turns)) ⊎ (files log ≡ Some (version2_of a.settings a.program digest a.given a.turns)) → Audited log elf book input files
-    by (inl there) = audited-by audits log elf book input files a (file_bytes (log-in a)) (there ∙ ap (λ (x : List ℕ). Some x) same) (file-size laws (log-in a) is) (laws.read.first (log-in a) is)
-        (sym same ∙ in-version false (is_second (file_bytes (log-in a))) (seconds.named (log-in a) is).1)
+    by (inl there) = audited-by audits log elf book input files a (saved_bytes (log-in a)) there (laws.limit (log-in a) is) read
+        (own-version (is_second (saved_bytes (log-in a))) (saved_bytes (log-in a)) a.settings a.program digest a.given a.turns refl read.1)
     by (inr there) = audited-by audits log elf book input files a (file_bytes2 (log-in a)) there (second-size seconds (log-in a) is) (laws.read.second (log-in a) is)
         (in-version true (is_second (file_bytes2 (log-in a))) (seconds.named (log-in a) is).0)
 
@@ -458,10 +461,10 @@ can-convert laws seconds log copy files apart h = by h.log
     names : FileNames
     names = names_in (ConvertLine log copy)
 
-    by : (files log ≡ Some (file_bytes h.content)) ⊎ (files log ≡ Some (file_bytes2 h.content)) → (what : Told) × IsAnswer (Some (ConvertLine log copy)) files what × IsRecorded what.status
+    by : (files log ≡ Some (saved_bytes h.content)) ⊎ (files log ≡ Some (file_bytes2 h.content)) → (what : Told) × IsAnswer (Some (ConvertLine log copy)) files what × IsRecorded what.status
     by (inl there) = (
       renewed h.content,
-      of-origin files names (file_bytes h.content) (λ log what. IsByLog names log renewed what) (renewed h.content) apart there (file-size laws h.content h.is) (record { says = Ok h.content; reads = laws.read.first h.content h.is; is = refl }),
+      of-origin files names (saved_bytes h.content) (λ log what. IsByLog names log renewed what) (renewed h.content) apart there (laws.limit h.content h.is) (record { says = Ok h.content; reads = laws.read.saved h.content h.is; is = refl }),
       inl refl,
     )
     by (inr there) = (

@@ -8,7 +8,7 @@ use Rattle.bn_outside.specs.Files.{Files}
 use Rattle.command_words.specs.Words.{Line, JointLine}
 use Rattle.elf_loader.specs.declared.error.ElfError.{ElfError}
 use Rattle.log_order.specs.Content.{Content, IsContent}
-use Rattle.log_file.specs.Layout.{file_bytes}
+use Rattle.log_file.specs.Layout.{saved_bytes}
 use Rattle.joint_replay.specs.declared.error.JointError.{JointError}
 use Rattle.joint_replay.specs.Joining.{Ran}
 use Rattle.joint_replay.specs.Texts.{joint_text}
@@ -28,7 +28,7 @@ use Rattle.bugnet.specs.declared.names.Role.TheVariants as role
 use Rattle.bugnet.specs.declared.refusal.Refusal.TheVariants.{TooLong}
 use Rattle.bugnet.proofs.Loads.{fits, of_false}
 use Rattle.bugnet.proofs.Single.{Grammar}
-use Rattle.bugnet.proofs.Suffices.{FileLaws, file-size, by-file, by-size, then-so, same, by-content}
+use Rattle.bugnet.proofs.Suffices.{FileLaws, by-file, by-size, then-so, same, by-content}
 use Rattle.bugnet.proofs.Tells.{with-files, stopped-free, early-free}
 
 -- ---- the log
@@ -40,14 +40,11 @@ log_of r = content_of r.settings (sha256 r.elf) (recorded r)
 is-content : FileLaws → (r : Recording) → IsRecorded r → IsContent (log_of r)
 is-content laws r is = laws.contents r.settings r.program r.elf r.input r.turns is
 
-file-bytes : FileLaws → (r : Recording) → IsRecorded r → file_of r.settings r.program (sha256 r.elf) r.input r.turns ≡ file_bytes (log_of r)
-file-bytes laws r is =
-    let one : r.settings.format ≡ 1 = omega (arith, is.setting.format_low, is.setting.format_high) in
-    laws.version r.settings r.program (sha256 r.elf) r.input r.turns one
-
 -- its joint replay says the run
 pub says-run : JointFilesSayTheRun → FileLaws → (r : Recording) → IsRecorded r → SaysRun r
-says-run law laws r is = law r (log_of r) is (record { content = is-content laws r is; bytes = sym (file-bytes laws r is) })
+says-run law laws r is =
+    let content = is-content laws r is in
+    law r (log_of r) is (record { content = content; bytes = (laws.read.saved (log_of r) content).1 })
 
 -- ---- the answer
 
@@ -71,14 +68,13 @@ pub pair-so : Grammar → FileLaws → (go : ByPair) (names : FileNames) (files 
 unfolding WithFile
 pair-so g laws go names files r what recorded log_is elf_is is =
     let d = log_of r in
-    let log = file_bytes d in
-    let there : files names.log ≡ Some log = log_is ∙ ap (λ (bytes : List ℕ). Some bytes) (file-bytes laws r recorded) in
+    let log = saved_bytes d in
     let content : IsContent d = is-content laws r recorded in
     let first : IsPairOf go files names log what =
-    by-file (files names.log) names role.Log 272629760 log (λ log what. IsPairOf go files names log what) what there (file-size laws d content) is in
+    by-file (files names.log) names role.Log 272629760 log (λ log what. IsPairOf go files names log what) what log_is (laws.limit d content) is in
     let second = by-size (files names.elf) names role.Elf 67108864 r.elf (λ elf what. IsByLog names log (pair_of go names elf) what) what elf_is first in
     then-so (nat_lt 67108864 (length r.elf)) _ _ _ (λ (by : IsByLog names log (pair_of go names r.elf) what).
-    by-content g names log d (pair_of go names r.elf) what (laws.read.first d content) by ∙ pair-told go names r recorded) second
+    by-content g names log d (pair_of go names r.elf) what (laws.read.saved d content) by ∙ pair-told go names r recorded) second
 
 -- the log of a recording and its program are there
 pub are-pair : FileLaws → (log elf : List ℕ) (files : Files) (r : Recording) → IsRecorded r → files log ≡ Some (file_of r.settings r.program (sha256 r.elf) r.input r.turns) → files elf ≡ Some r.elf
@@ -86,7 +82,7 @@ pub are-pair : FileLaws → (log elf : List ℕ) (files : Files) (r : Recording)
 are-pair laws log elf files r is log_is elf_is small = record {
   bytes = r.elf;
   is = is-content laws r is;
-  log_there = log_is ∙ ap (λ (bytes : List ℕ). Some bytes) (file-bytes laws r is);
+  log_there = log_is;
   elf_there = elf_is;
   elf_small = small;
   same = same (sha256 r.elf);

@@ -16,11 +16,8 @@ use Rattle.elf_loader.specs.declared.error.ElfError.{ElfError}
 use Rattle.le_numbers.specs.Numbers.{AreBytes}
 use Rattle.file_laws.specs.Given.{IsRecording}
 use Rattle.file_laws.specs.Laws.{LogsAreContents}
-use Rattle.log_record.specs.Spelling.{total}
-use Rattle.log_record.specs.declared.head.Head.{Head}
 use Rattle.log_order.specs.Content.{Content, IsContent}
-use Rattle.log_file.specs.Layout.{file_bytes, saved_bytes}
-use Rattle.log_file.specs.Laws.{HaveTheirSize}
+use Rattle.log_file.specs.Layout.{saved_bytes}
 use Rattle.run_model.specs.Files.{content_of, file_of}
 use Rattle.run_model.specs.Turn.{Run}
 use Rattle.run_model.specs.Runs.{start, run_of, seeded}
@@ -33,16 +30,16 @@ use Rattle.bugnet.specs.Refusals.{status_of, replay_status}
 use Rattle.bugnet.specs.Told.{Told, Saved, refused}
 use Rattle.bugnet.specs.Commands.{is_clash, Either, IsByFile, WithFile, IsByInput, IsByProgram, IsByNames, IsBySettings, IsRecord}
 use Rattle.bugnet.specs.Recordings.{told_run, recorded, AreTaken, IsRunOf, IsUntold, IsRunBy, IsRun}
-use Rattle.bugnet.proofs.Recorded.{version-one}
 use Rattle.bugnet.specs.Answers.{names_in, manner_of, IsAnswer}
 use Rattle.bugnet.specs.Outside.{WithFiles, ToldRefusal, KeptLog, KeptFiles}
 use Rattle.bugnet.specs.Run.{Call, IsFree, AreKept, Tells, StoppedEarly, SomeTold, TellsAnswer}
-use Rattle.bugnet.specs.Saves.{IsRecorded, input_by, IsChosenLog, Leaves, LeavesLog, LeavesBy, LeavesRun, HoldsBytes, HasElf}
+use Rattle.bugnet.specs.Saves.{IsRecorded, input_by, IsChosenLog, Leaves, LeavesLog, TellsEnd, LeavesBy, LeavesRun, HoldsBytes, HasElf}
 use Rattle.bugnet.specs.Laws.{SeedsAreWhole, FilesKeepToTheirSize}
 use Rattle.bugnet.specs.declared.names.Role.{Role}
 use Rattle.bugnet.specs.declared.names.Role.TheVariants as role
 use Rattle.bugnet.specs.declared.refusal.Refusal.{Refusal}
 use Rattle.bugnet.specs.declared.refusal.Refusal.TheVariants.{WordsRefused, OutOfRange, SameName, StoreFailed, Missing, TooLong, ElfRefused, LogRefused, ProgramDiffers, OutOfMemory, WriteFailed, ReplayStopped, ReadFailed, LineTooLong, CommandsTooLong, BookRefused, FileDiffers, NothingLeft, TooManyRaces, NoRow}
+use Rattle.bugnet.proofs.Sizes.{SizeLaws, is-within}
 use Rattle.bugnet.proofs.Tested.{in-range}
 use Rattle.bugnet.proofs.Tells.{with-files, stopped-free, early-free}
 
@@ -189,10 +186,10 @@ taken-whole whole (Some seed) c i input b e taken = subst (λ (list : List ℕ).
 taken-whole whole None c i input b e taken = taken
 
 -- what a list of turns makes, which is kept under the book's name
-left : SeedsAreWhole → FilesKeepToTheirSize → (r : RecordingLine) (old new : Files) (what : Told) → Found r old what → HoldsBytes (old r.elf) → r.lean ≡ false
-    → KeptFiles what.saved r.log r.book old new → Leaves r old new
+left : SeedsAreWhole → FilesKeepToTheirSize → (r : RecordingLine) (status : ℕ) (old new : Files) (what : Told) → Found r old what → HoldsBytes (old r.elf) → r.lean ≡ false → status ≡ what.status
+    → KeptFiles what.saved r.log r.book old new → (l : Leaves r old new) × TellsEnd l status
 unfolding told_run
-left whole sizes r old new what f bytes lean kept =
+left whole sizes r status old new what f bytes lean same kept =
     let c = r.settings in
     let i = f.program in
     let run : IsRunOf c i (sha256 f.elf) (manner_of r) f.input what = subst (λ (b : Bool). IsRunBy b r.seed c i (sha256 f.elf) (manner_of r) f.input what) lean f.run in
@@ -208,7 +205,7 @@ left whole sizes r old new what f bytes lean kept =
     let is : what ≡ recorded c i (sha256 f.elf) f.input false turns = run.is ∙ ap (λ (b : Bool). recorded c i (sha256 f.elf) f.input b turns) lean in
     let both = subst (λ (t : Told). KeptFiles t.saved r.log r.book old new) is kept in
     let clash : is_clash false r.log r.book ≡ false = subst (λ (b : Bool). is_clash b r.log r.book ≡ false) lean f.names in
-    record {
+    let leaves : Leaves r old new = record {
       elf = f.elf;
       program = i;
       input = f.input;
@@ -222,31 +219,28 @@ left whole sizes r old new what f bytes lean kept =
       log = both.log_there (apart-names r.log r.book clash);
       within = sizes c i f.elf f.input turns recording;
       others = both.others;
-    }
+    } in
+    (leaves, same ∙ ap (λ (t : Told). t.status) is)
 
 -- what is kept of a lean recording: the file of what a log can say
 record SaysLog (r : RecordingLine) (program : Program) (digest input : List ℕ) (what : Told) : Type 0 where
   pub says : Content
   pub content : IsContent says
   pub head : says.head ≡ record { settings = r.settings; digest = digest }
-  pub saved : what.saved ≡ Some (record { log = file_bytes says; book = None })
-  pub chosen : IsChosenLog r.seed r.settings program digest input (file_bytes says)
+  pub saved : what.saved ≡ Some (record { log = saved_bytes says; book = None })
+  pub chosen : IsChosenLog r.seed r.settings program digest input (saved_bytes says)
 
 -- of a run that is told so
-says-run : (r : RecordingLine) (program : Program) (digest input : List ℕ) (run : Run) (turns : ℕ) (what : Told) → first_bad r.settings ≡ None → IsContent (content_of r.settings digest run)
+says-run : (r : RecordingLine) (program : Program) (digest input : List ℕ) (run : Run) (turns : ℕ) (what : Told) → IsContent (content_of r.settings digest run)
     → what ≡ told_run r.settings digest run turns None → IsChosenLog r.seed r.settings program digest input (saved_bytes (content_of r.settings digest run)) → SaysLog r program digest input what
 unfolding told_run
-says-run r program digest input run turns what ok content is chosen =
-    let setting = in-range r.settings ok in
-    let one : r.settings.format ≡ 1 = omega (arith, setting.format_low, setting.format_high) in
-    let version = version-one r.settings digest run one in
-    record {
-      says = content_of r.settings digest run;
-      content = content;
-      head = refl;
-      saved = ap (λ (t : Told). t.saved) is ∙ ap (λ (log : List ℕ). Some (record { log = log; book = None })) version;
-      chosen = subst (λ (log : List ℕ). IsChosenLog r.seed r.settings program digest input log) version chosen;
-    }
+says-run r program digest input run turns what content is chosen = record {
+  says = content_of r.settings digest run;
+  content = content;
+  head = refl;
+  saved = ap (λ (t : Told). t.saved) is;
+  chosen = chosen;
+}
 
 -- the log of the turns that a seed chooses
 chosen-log : (given : Option ℕ) (seed : ℕ) (c : RawSettings) (i : Program) (digest input turns : List ℕ) → given ≡ Some seed → turns ≡ seeded c i input seed → IsChosenLog given c i digest input (file_of c i digest input turns)
@@ -265,7 +259,7 @@ says-log whole contents r old what f bytes lean None e =
     let at : IsRunBy true r.seed c i digest (manner_of r) f.input what = subst (λ (b : Bool). IsRunBy b r.seed c i digest (manner_of r) f.input what) lean f.run in
     let run : IsUntold c i digest f.input what = subst (λ (o : Option ℕ). IsRunBy true o c i digest (manner_of r) f.input what) e at in
     let after = after_rows c i (start c i f.input) run.rows in
-    says-run r i digest f.input after after.turns what f.settings run.content run.is (no-seed r.seed c i digest f.input _ e)
+    says-run r i digest f.input after after.turns what run.content run.is (no-seed r.seed c i digest f.input _ e)
 says-log whole contents r old what f bytes lean (Some seed) e =
     let c = r.settings in
     let i = f.program in
@@ -276,13 +270,13 @@ says-log whole contents r old what f bytes lean (Some seed) e =
     let taken : run.turns ≡ seeded c i f.input seed = subst (λ (o : Option ℕ). AreTaken o c i f.input run.turns) e run.taken in
     let recording : IsRecording c i f.elf f.input run.turns = record { setting = in-range c f.settings; bytes = bytes; loaded = f.loaded; legal = ends.legal; over = ends.over } in
     let is : what ≡ recorded c i digest f.input true run.turns = run.is ∙ ap (λ (b : Bool). recorded c i digest f.input b run.turns) lean in
-    says-run r i digest f.input (run_of c i f.input run.turns) (length run.turns) what f.settings (contents c i f.elf f.input run.turns recording) is (chosen-log r.seed seed c i digest f.input run.turns e taken)
+    says-run r i digest f.input (run_of c i f.input run.turns) (length run.turns) what (contents c i f.elf f.input run.turns recording) is (chosen-log r.seed seed c i digest f.input run.turns e taken)
 
-left-log : SeedsAreWhole → LogsAreContents → HaveTheirSize → (r : RecordingLine) (old new : Files) (what : Told) → Found r old what → HoldsBytes (old r.elf) → r.lean ≡ true
+left-log : SeedsAreWhole → LogsAreContents → SizeLaws → (r : RecordingLine) (old new : Files) (what : Told) → Found r old what → HoldsBytes (old r.elf) → r.lean ≡ true
     → KeptFiles what.saved r.log r.book old new → LeavesLog r old new
 left-log whole contents sizes r old new what f bytes lean kept =
     let s = says-log whole contents r old what f (bytes-there (old r.elf) f.elf f.elf_there bytes) lean r.seed refl in
-    let alone : KeptLog (file_bytes s.says) r.log old new = subst (λ (o : Option Saved). KeptFiles o r.log r.book old new) s.saved kept in
+    let alone : KeptLog (saved_bytes s.says) r.log old new = subst (λ (o : Option Saved). KeptFiles o r.log r.book old new) s.saved kept in
     record {
       elf = f.elf;
       program = f.program;
@@ -295,15 +289,15 @@ left-log whole contents sizes r old new what f bytes lean kept =
       content = s.content;
       head = s.head;
       log = alone.there;
-      within = record { kept = subst (λ (h : Head). total s.says.records ≤ h.settings.log_size) s.head s.content.bound; file = sizes s.says s.content };
+      within = is-within sizes s.says s.content;
       chosen = s.chosen;
       others = alone.others;
     }
 
-left-by : SeedsAreWhole → FilesKeepToTheirSize → LogsAreContents → HaveTheirSize → (lean : Bool) (r : RecordingLine) (old new : Files) (what : Told) → r.lean ≡ lean → Found r old what → HoldsBytes (old r.elf)
-    → KeptFiles what.saved r.log r.book old new → LeavesBy lean r old new
-left-by whole sizes contents lengths true r old new what e f bytes kept = left-log whole contents lengths r old new what f bytes e kept
-left-by whole sizes contents lengths false r old new what e f bytes kept = left whole sizes r old new what f bytes e kept
+left-by : SeedsAreWhole → FilesKeepToTheirSize → LogsAreContents → SizeLaws → (lean : Bool) (r : RecordingLine) (status : ℕ) (old new : Files) (what : Told) → r.lean ≡ lean → Found r old what
+    → HoldsBytes (old r.elf) → status ≡ what.status → KeptFiles what.saved r.log r.book old new → LeavesBy lean r status old new
+left-by whole sizes contents lengths true r status old new what e f bytes same kept = left-log whole contents lengths r old new what f bytes e kept
+left-by whole sizes contents lengths false r status old new what e f bytes same kept = left whole sizes r status old new what f bytes e same kept
 
 -- ---- a call
 
@@ -313,32 +307,33 @@ free-apart status (inl e) = apart status 3 e (λ e. omega (arith, e)) (λ e. ome
 free-apart status (inr (inl e)) = apart status 9 e (λ e. omega (arith, e)) (λ e. omega (arith, e)) (λ e. omega (arith, e))
 free-apart status (inr (inr e)) = apart status 13 e (λ e. omega (arith, e)) (λ e. omega (arith, e)) (λ e. omega (arith, e))
 
-done-kept : (names : FileNames) (what : Told) (status : ℕ) (k : Call) → Tells names what status k → IsRecorded status → IsRecorded what.status × AreKept names what k
-done-kept names what status k (inl done) is = (subst (λ (n : ℕ). IsRecorded n) done.status_is is, done.files)
+done-kept : (names : FileNames) (what : Told) (status : ℕ) (k : Call) → Tells names what status k → IsRecorded status → IsRecorded what.status × (status ≡ what.status) × AreKept names what k
+done-kept names what status k (inl done) is = (subst (λ (n : ℕ). IsRecorded n) done.status_is is, done.status_is, done.files)
 done-kept names what status k (inr s) is = absurd (free-apart status (stopped-free names what status k s) is)
 
 -- by maps that are told
-so-left : SeedsAreWhole → FilesKeepToTheirSize → LogsAreContents → HaveTheirSize → (r : RecordingLine) (status : ℕ) (old new : Option Files)
+so-left : SeedsAreWhole → FilesKeepToTheirSize → LogsAreContents → SizeLaws → (r : RecordingLine) (status : ℕ) (old new : Option Files)
     → WithFiles old (λ files. HoldsBytes (files r.elf))
-    → WithFiles old (λ files. (what : Told) × IsRecord files (names_in (RecordLine r)) r.settings (manner_of r) (is_some r.input) what × IsRecorded what.status × WhereTold old new (KeptFiles what.saved r.log r.book))
-    → WhereTold old new (LeavesBy r.lean r)
+    → WithFiles old (λ files. (what : Told) × IsRecord files (names_in (RecordLine r)) r.settings (manner_of r) (is_some r.input) what × IsRecorded what.status × (status ≡ what.status) × WhereTold old new (KeptFiles what.saved r.log r.book))
+    → WhereTold old new (LeavesBy r.lean r status)
 so-left whole sizes contents lengths r status None new bytes h = tt
-so-left whole sizes contents lengths r status (Some x) None bytes h = absurd h.3
-so-left whole sizes contents lengths r status (Some x) (Some y) bytes h = left-by whole sizes contents lengths r.lean r x y h.0 refl (by-settings (first_bad r.settings) x r h.0 refl h.1 h.2) bytes h.3
+so-left whole sizes contents lengths r status (Some x) None bytes h = absurd h.4
+so-left whole sizes contents lengths r status (Some x) (Some y) bytes h =
+    left-by whole sizes contents lengths r.lean r status x y h.0 refl (by-settings (first_bad r.settings) x r h.0 refl h.1 h.2) bytes h.3 h.4
 
-pub call-leaves : SeedsAreWhole → FilesKeepToTheirSize → LogsAreContents → HaveTheirSize → (line : Line) (status : ℕ) (k : Call) → HasElf line k.old.files → TellsAnswer (Some line) status k
+pub call-leaves : SeedsAreWhole → FilesKeepToTheirSize → LogsAreContents → SizeLaws → (line : Line) (status : ℕ) (k : Call) → HasElf line k.old.files → TellsAnswer (Some line) status k
     → LeavesRun (Some line) status k.old.files k.new.files
 call-leaves whole sizes contents lengths (RecordLine r) status k bytes h = λ is.
     so-left whole sizes contents lengths r status k.old.files k.new.files bytes
     (with-files k.old.files (λ files. SomeTold (IsAnswer (Some (RecordLine r)) files) (λ what. Tells (names_in (RecordLine r)) what status k) ⊎ StoppedEarly (Some (RecordLine r)) files status k)
-    (λ files. (what : Told) × IsRecord files (names_in (RecordLine r)) r.settings (manner_of r) (is_some r.input) what × IsRecorded what.status × WhereTold k.old.files k.new.files (KeptFiles what.saved r.log r.book))
+    (λ files. (what : Told) × IsRecord files (names_in (RecordLine r)) r.settings (manner_of r) (is_some r.input) what × IsRecorded what.status × (status ≡ what.status) × WhereTold k.old.files k.new.files (KeptFiles what.saved r.log r.book))
     (λ files x. found files is x) h)
   where
     found : (files : Files) → IsRecorded status → SomeTold (IsAnswer (Some (RecordLine r)) files) (λ what. Tells (names_in (RecordLine r)) what status k) ⊎ StoppedEarly (Some (RecordLine r)) files status k
-        → (what : Told) × IsRecord files (names_in (RecordLine r)) r.settings (manner_of r) (is_some r.input) what × IsRecorded what.status × WhereTold k.old.files k.new.files (KeptFiles what.saved r.log r.book)
+        → (what : Told) × IsRecord files (names_in (RecordLine r)) r.settings (manner_of r) (is_some r.input) what × IsRecorded what.status × (status ≡ what.status) × WhereTold k.old.files k.new.files (KeptFiles what.saved r.log r.book)
     found files is (inl a) =
         let done = done-kept (names_in (RecordLine r)) a.0 status k a.2 is in
-        (a.0, a.1, done.0, done.1)
+        (a.0, a.1, done.0, done.1, done.2)
     found files is (inr early) = absurd (free-apart status (early-free (Some (RecordLine r)) files status k early) is)
 call-leaves whole sizes contents lengths (ReplayLine log elf hart interval) status k bytes h = tt
 call-leaves whole sizes contents lengths (JointLine log elf) status k bytes h = tt

@@ -17,6 +17,7 @@ mod Traces
 mod Sums
 mod Recorded
 mod Tested
+mod Sizes
 mod Leaves
 mod Agrees
 mod Complete
@@ -24,3 +25,7 @@ mod Joins
 mod Sessions
 mod Debugs
 mod Renewals
+mod Closing
+mod Faulting
+mod Crashes
+mod Salvaging

@@ -1,14 +1,13 @@
 -- What is recorded of a closed run is what is told of its list of turns.
-use Rattle.std.proofs.Common.{◌≡◌, ℕ, ◌==◌, Bool, true, false, not, List, ◌++◌, length, Option, Some, None, sym, refl, ◌∙◌, ap, subst, arith}
+use Rattle.std.proofs.Common.{◌≡◌, ℕ, Bool, true, false, not, List, ◌++◌, length, Option, Some, None, sym, refl, ◌∙◌, ap, subst, arith}
 use Rattle.std.specs.Prelude.{Result, Ok, Err, IfOk, is_some, option_map}
-use Rattle.std.specs.List.{flat_map}
 use Rattle.bn_base.specs.Programs.{Program}
 use Rattle.bn_base.specs.Ranges.{IsSetting}
 use Rattle.bn_base.specs.declared.settings.RawSettings.{RawSettings}
 use Rattle.bn_base.specs.declared.end_mark.EndMark.{EndMark}
 use Rattle.bn_outside.specs.declared.turn_row.TurnRow.{TurnRow}
-use Rattle.log_file.specs.Layout.{spelling, file_bytes, file_bytes2, saved_bytes}
-use Rattle.log_record.specs.Spelling.{bytes_of, total}
+use Rattle.log_file.specs.Layout.{saved_bytes}
+use Rattle.log_record.specs.Spelling.{total}
 use Rattle.log_record.specs.declared.record.Record.{Record}
 use Rattle.log_ring.specs.Kept.{kept, HoldsLog}
 use Rattle.run_model.specs.Files.{kept_of, dropped_of, content_of}
@@ -44,17 +43,10 @@ on_err err turns marks dropped rs = err ++ summary_text turns (instructions_of m
 
 -- the log file, by its parts
 abbrev log_with : Start → ℕ → List Record → List ℕ
-log_with s dropped rs = spelling (record { settings = s.settings; digest = s.digest }) dropped (flat_map bytes_of rs)
-
--- with format 1 a log is of version 1
-pub version-one : (c : RawSettings) (digest : List ℕ) (run : Run) → c.format ≡ 1 → saved_bytes (content_of c digest run) ≡ file_bytes (content_of c digest run)
-version-one c digest run e =
-    let kept = content_of c digest run in
-    ap (λ (format : ℕ). elim (format == 2) as (λ t. List ℕ) [ true ↦ file_bytes2 kept | false ↦ file_bytes kept ]) e
+log_with s dropped rs = saved_bytes (content (record { settings = s.settings; digest = s.digest }) dropped rs)
 
 -- what a closed bus hands over of a run
 record IsHanded {B : _} (s : Start) (closed : Closed B) (run : Run) (turns : ℕ) : Type 0 where
-  pub format : s.settings.format ≡ 1
   pub out : closed.out.items ≡ run.machine.out
   pub err : closed.err.items ≡ run.machine.err
   pub ends : closed.ends.items ≡ marks_of s.settings run
@@ -88,7 +80,7 @@ told-so s closed run turns book r is k =
     ∙ ap (λ (x : ℕ). on_err run.machine.err turns (marks_of c run) x closed.ring.records) dropped
     ∙ ap (λ (x : List Record). on_err run.machine.err turns (marks_of c run) (dropped_of c run) x) records in
     let log : r.log.items ≡ saved_bytes (content_of c s.digest run) =
-    k.log ∙ ap (λ (x : ℕ). log_with s x closed.ring.records) dropped ∙ ap (λ (x : List Record). log_with s (dropped_of c run) x) records ∙ sym (version-one c s.digest run is.format) in
+    k.log ∙ ap (λ (x : ℕ). log_with s x closed.ring.records) dropped ∙ ap (λ (x : List Record). log_with s (dropped_of c run) x) records in
     let all = on_err run.machine.err turns (marks_of c run) (dropped_of c run) (kept_of c run) in
     let whole = saved_bytes (content_of c s.digest run) in
     ap (λ (x : RunEnd). told_of_parts x r.out.items r.err.items r.log.items (list_in r)) end
@@ -117,12 +109,12 @@ run-by false seed c i digest how input what never is = is
 
 -- what is recorded of turns that it may take
 pub recording-run : {B : _} {E : Type 0} (tells : Bool) (s : Start) (closed : Closed B) (rows : List TurnRow) (list : List ℕ) (how : Manner) (book : Option (List ℕ)) (result : Result Recording E)
-    → s.settings.format ≡ 1 → (how.lean ≡ true → how.seed ≡ None → ⊥) → AreTaken how.seed s.settings s.image s.input.items list → book ≡ book_if how.lean list
+    → (how.lean ≡ true → how.seed ≡ None → ⊥) → AreTaken how.seed s.settings s.image s.input.items list → book ≡ book_if how.lean list
     → IsClosed tells (began_of s) list closed rows → IfOk result (λ r. IsRecordingOf s closed book r)
     → IfOk result (λ r. IsRecordingBy s how r)
-recording-run tells s closed rows list how book (Ok r) version never taken same is k =
+recording-run tells s closed rows list how book (Ok r) never taken same is k =
     let run = run_of s.settings s.image s.input.items list in
-    let handed : IsHanded s closed run (length list) = record { format = version; out = is.out; err = is.err; ends = is.ends; turns_are = is.turns; size = is.size; log = is.log } in
+    let handed : IsHanded s closed run (length list) = record { out = is.out; err = is.err; ends = is.ends; turns_are = is.turns; size = is.size; log = is.log } in
     let of : IsRunOf s.settings s.image s.digest how s.input.items (told_of_recording r) = record {
       turns = list;
       taken = taken;
@@ -132,7 +124,7 @@ recording-run tells s closed rows list how book (Ok r) version never taken same 
       told = run-by how.lean how.seed s.settings s.image s.digest how s.input.items (told_of_recording r) never of;
       lean = lean-so s closed book r k ∙ ap (λ (o : Option (List ℕ)). not (is_some o)) same ∙ lean-if how.lean list;
     }
-recording-run tells s closed rows list how book (Err x) version never taken same is k = tt
+recording-run tells s closed rows list how book (Err x) never taken same is k = tt
 
 -- the list of a run in threads is legal and finished
 pub threads-taken : {B : _} (s : Start) (closed : Closed B) (rows : List TurnRow) → IsThreaded (began_of s) closed rows → AreTaken None s.settings s.image s.input.items (harts_of rows)
@@ -140,12 +132,12 @@ threads-taken s closed rows is = record { legal = is.ended.legal; over = is.ende
 
 -- what is recorded of rows that no one tells
 pub recording-rows : {B : _} {E : Type 0} (s : Start) (closed : Closed B) (result : Result Recording E)
-    → s.settings.format ≡ 1 → IsSetting s.settings → length s.digest ≡ 32 → LogsOfRowsAreContents → closed.ring.size ≡ s.settings.log_size → (rows : List TurnRow) × IsOfRows (began_of s) closed rows
+    → IsSetting s.settings → length s.digest ≡ 32 → LogsOfRowsAreContents → closed.ring.size ≡ s.settings.log_size → (rows : List TurnRow) × IsOfRows (began_of s) closed rows
     → IfOk result (λ r. IsRecordingOf s closed None r) → IfOk result (λ r. IsRecordingBy s (record { seed = None; lean = true }) r)
-recording-rows s closed (Ok r) version setting long law size (rows, is) k =
+recording-rows s closed (Ok r) setting long law size (rows, is) k =
     let c = s.settings in
     let run = after_rows c s.image (start c s.image s.input.items) rows in
-    let handed : IsHanded s closed run run.turns = record { format = version; out = is.out; err = is.err; ends = is.ends; turns_are = is.turns; size = size; log = is.log } in
+    let handed : IsHanded s closed run run.turns = record { out = is.out; err = is.err; ends = is.ends; turns_are = is.turns; size = size; log = is.log } in
     let held : HoldsLogOfRows c s.image s.input.items rows closed.ring = record { setting = setting; lawful = is.lawful; orderly = is.orderly; over = is.over; log = is.log; size = size; fit = is.fit } in
     let says : IsContent (content (record { settings = c; digest = s.digest }) closed.ring.dropped closed.ring.records) = law c s.image s.input.items s.digest rows closed.ring held long in
     let dropped : IsContent (content (record { settings = c; digest = s.digest }) (dropped_of c run) closed.ring.records) =
@@ -161,4 +153,4 @@ recording-rows s closed (Ok r) version setting long law size (rows, is) k =
       };
       lean = lean-so s closed None r k;
     }
-recording-rows s closed (Err x) version setting long law size some k = tt
+recording-rows s closed (Err x) setting long law size some k = tt

@@ -11,12 +11,12 @@ use Rattle.bn_outside.specs.Files.{Files}
 use Rattle.command_words.specs.Words.{Line, ReplayLine}
 use Rattle.elf_loader.specs.declared.error.ElfError.{ElfError}
 use Rattle.log_order.specs.Content.{Content, IsContent}
-use Rattle.log_file.specs.Laws.{HaveTheirSize}
-use Rattle.log_file.specs.Layout.{file_bytes}
+use Rattle.log_file.specs.Layout.{saved_bytes}
+use Rattle.log_blocks.specs.Laws.{SavedHaveTheirLimit}
 use Rattle.log_blocks.specs.Readings.{Reads, FilesAreRead}
 use Rattle.log_blocks.specs.declared.damage.Damage.{Damage}
 use Rattle.hart_replay.specs.Replay.{Done, Replayed, Interval, replayed}
-use Rattle.run_model.specs.Files.{kept_of, content_of, FormatOneIsVersionOne}
+use Rattle.run_model.specs.Files.{kept_of, content_of}
 use Rattle.run_model.specs.Rows.{rows_in}
 use Rattle.run_model.specs.Runs.{start, run_of}
 use Rattle.run_laws.specs.Laws.{KeptIsAnEnd}
@@ -41,13 +41,8 @@ use Rattle.bugnet.proofs.Tells.{with-files, stopped-free, early-free}
 -- the laws of log files
 pub record FileLaws : Type 0 where
   pub contents : LogsAreContents
-  pub version : FormatOneIsVersionOne
-  pub sizes : HaveTheirSize
+  pub limit : SavedHaveTheirLimit
   pub read : FilesAreRead
-
--- each is one that a command loads
-pub file-size : FileLaws → (d : Content) → IsContent d → length (file_bytes d) ≤ 272629760
-file-size laws d is = omega (arith, laws.sizes d is, is.bound, is.settings.log_size_high)
 
 -- ---- the answer
 
@@ -100,15 +95,13 @@ unfolding WithFile
 replays g law stand laws files p v line r what is =
     let names = names_in (ReplayLine r.log_name r.elf_name p.hart p.number) in
     let d = content_of p.settings (sha256 p.elf) (run_of p.settings p.program p.input p.turns) in
-    let log = file_bytes d in
-    let one : p.settings.format ≡ 1 = omega (arith, r.recording.setting.format_low, r.recording.setting.format_high) in
-    let there : files r.log_name ≡ Some log = r.log ∙ ap (λ (bytes : List ℕ). Some bytes) (laws.version p.settings p.program (sha256 p.elf) p.input p.turns one) in
+    let log = saved_bytes d in
     let content : IsContent d = laws.contents p.settings p.program p.elf p.input p.turns r.recording in
     let first : IsReplayOf files names p.hart p.number log what =
-    by-file (files r.log_name) names role.Log 272629760 log (λ log what. IsReplayOf files names p.hart p.number log what) what there (file-size laws d content) is in
+    by-file (files r.log_name) names role.Log 272629760 log (λ log what. IsReplayOf files names p.hart p.number log what) what r.log (laws.limit d content) is in
     let second = by-size (files r.elf_name) names role.Elf 67108864 p.elf (λ elf what. IsByLog names log (replay_of names p.hart p.number elf) what) what r.program first in
     then-so (nat_lt 67108864 (length p.elf)) _ _ _ (λ (by : IsByLog names log (replay_of names p.hart p.number p.elf) what).
-    by-content g names log d (replay_of names p.hart p.number p.elf) what (laws.read.first d content) by ∙ answer law stand names p v line files r) second
+    by-content g names log d (replay_of names p.hart p.number p.elf) what (laws.read.saved d content) by ∙ answer law stand names p v line files r) second
 
 pub headline : Grammar → LogSuffices → Together → FileLaws → Headline
 headline g law stand laws line files p v r what is =

@@ -4,7 +4,7 @@ use Rattle.std.specs.Int.{is_power_of_two}
 use Rattle.std.proofs.lemmas.Bool.Decides.{nat_tests}
 use Rattle.bn_base.specs.declared.settings.RawSettings.{RawSettings}
 use Rattle.bn_base.specs.declared.settings.BadSetting.{BadSetting}
-use Rattle.bn_base.specs.Ranges.{is_between, is_small_power, is_memory_size, most_harts, bad_or, first_bad, IsSetting}
+use Rattle.bn_base.specs.Ranges.{is_between, is_small_power, is_memory_size, is_second_sets, is_second_ways, most_harts, bad_or, first_bad, IsSetting}
 use Rattle.hart_worker.specs.Laws.{SeededListsEnd}
 use Rattle.bugnet.specs.Laws.{SeedsAreWhole}
 
@@ -38,9 +38,9 @@ in-range s e =
     let sets = passed (is_small_power 1024 s.sets) _ _ memory.1 in
     let ways = passed (is_between 1 16 s.ways) _ _ sets.1 in
     let line = passed (is_small_power 16 s.line) _ _ ways.1 in
-    let format = passed (is_between 1 1 s.format) _ _ line.1 in
-    let sets2 = passed (s.sets2 == 0) _ _ format.1 in
-    let ways2 = passed (s.ways2 == 0) _ _ sets2.1 in
+    let format = passed (is_between 1 2 s.format) _ _ line.1 in
+    let sets2 = passed (is_second_sets s) _ _ format.1 in
+    let ways2 = passed (is_second_ways s) _ _ sets2.1 in
     let h = between 1 (most_harts s) s.harts harts.0 in
     let i = between 1 10000000 s.interval interval.0 in
     let l = between 1 (2 ^ 40) s.limit limit.0 in
@@ -52,7 +52,7 @@ in-range s e =
     let w = between 1 16 s.ways ways.0 in
     let r = both (is_between 1 16 s.line) (is_power_of_two s.line) line.0 in
     let t = between 1 16 s.line r.0 in
-    let f = between 1 1 s.format format.0 in
+    let f = between 1 2 s.format format.0 in
     record {
       harts_low = h.0;
       harts_high = h.1;

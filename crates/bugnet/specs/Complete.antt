@@ -8,7 +8,7 @@ use Rattle.bn_outside.specs.Files.{Files}
 use Rattle.command_words.specs.Words.{Line, RecordingLine, RecordLine, ReplayLine, JointLine, DebugLine, ListLine, CheckLine, AuditLine, RacesLine, SliceLine, ConvertLine, SalvageLine, DemoLine}
 use Rattle.std.specs.Str.{bytes_eq}
 use Rattle.log_order.specs.Content.{Content, IsContent}
-use Rattle.log_file.specs.Layout.{file_bytes, file_bytes2}
+use Rattle.log_file.specs.Layout.{saved_bytes, file_bytes2}
 use Rattle.elf_loader.specs.Loaded.{image_of}
 use Rattle.hart_replay.specs.Replay.{Interval}
 use Rattle.run_model.specs.Files.{file_of}
@@ -79,11 +79,11 @@ pub record HasLog (there : Option (List ℕ)) : Type 0 where
   pub recording : IsRecording settings program elf input turns
   pub log : there ≡ Some (file_of settings program (sha256 elf) input turns)
 
--- the file of a log is there, in either version
+-- the file of a log is there, in the version of its settings' format or in version 2
 pub record HasContent (there : Option (List ℕ)) : Type 0 where
   pub content : Content
   pub is : IsContent content
-  pub log : (there ≡ Some (file_bytes content)) ⊎ (there ≡ Some (file_bytes2 content))
+  pub log : (there ≡ Some (saved_bytes content)) ⊎ (there ≡ Some (file_bytes2 content))
 
 -- in version 2
 pub record HasSecond (there : Option (List ℕ)) : Type 0 where

@@ -1,8 +1,8 @@
 -- What a recording has of a closed run, and of the list of its turns where that is saved.
 use Rattle.std.specs.Prelude.{◌≡◌, ◌++◌, ℕ, List, Option}
-use Rattle.std.specs.List.{flat_map}
-use Rattle.log_file.specs.Layout.{spelling}
-use Rattle.log_record.specs.Spelling.{bytes_of, total}
+use Rattle.log_file.specs.Layout.{saved_bytes}
+use Rattle.log_order.specs.Content.{content}
+use Rattle.log_record.specs.Spelling.{total}
 use Rattle.run_model.specs.declared.start.Start.{Start}
 use Rattle.bus_core.specs.declared.closed.Closed.{Closed}
 use Rattle.bugnet.specs.Texts.{summary_text}
@@ -17,7 +17,7 @@ pub record IsRecordingOf {B : _} (start : Start) (closed : Closed B) (book : Opt
   pub end : r.end ≡ end_by closed.ends.items
   pub out : r.out.items ≡ closed.out.items
   pub err : r.err.items ≡ closed.err.items ++ summary_text closed.turns (instructions_of closed.ends.items) closed.ring.dropped (total closed.ring.records) (end_word (end_by closed.ends.items))
-  pub log : r.log.items ≡ spelling (record { settings = start.settings; digest = start.digest }) closed.ring.dropped (flat_map bytes_of closed.ring.records)
+  pub log : r.log.items ≡ saved_bytes (content (record { settings = start.settings; digest = start.digest }) closed.ring.dropped closed.ring.records)
   pub list : list_in r ≡ book
 
 -- a recording made in this manner from what a run begins with

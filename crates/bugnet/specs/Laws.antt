@@ -6,8 +6,7 @@ use Rattle.bn_base.specs.Ranges.{first_bad}
 use Rattle.bn_base.specs.declared.settings.RawSettings.{RawSettings}
 use Rattle.bn_outside.specs.Files.{Files}
 use Rattle.command_words.specs.Words.{Line, RecordLine, ReplayLine, JointLine, DebugLine, ListLine, CheckLine, AuditLine, RacesLine, SliceLine, ConvertLine, SalvageLine, DemoLine}
-use Rattle.log_record.specs.Spelling.{total}
-use Rattle.run_model.specs.Files.{kept_of, file_of}
+use Rattle.run_model.specs.Files.{content_of}
 use Rattle.run_model.specs.Runs.{run_of, seeded}
 use Rattle.replay_laws.specs.Law.{IsWhole}
 use Rattle.file_laws.specs.Given.{IsRecording}
@@ -86,7 +85,8 @@ IsNoSession (Some (DemoLine seed)) = Unit {0}
 abbrev pub SeedsAreWhole : Type 0
 SeedsAreWhole = (c : RawSettings) (i : Program) (input : List ℕ) (seed : ℕ) → first_bad c ≡ None → IsWhole c i input (seeded c i input seed)
 
--- the log of each recording, whatever its turns, keeps to its size
+-- the log of each recording, whatever its turns and its format, keeps to its size: its records have at most log-size bytes, and its
+-- file 124 more in version 1, and 136 and 48 a block in version 2
 abbrev pub FilesKeepToTheirSize : Type 0
 FilesKeepToTheirSize = (c : RawSettings) (i : Program) (elf input b : List ℕ) → IsRecording c i elf input b
-    → IsWithin c (total (kept_of c (run_of c i input b))) (length (file_of c i (sha256 elf) input b))
+    → IsWithin (content_of c (sha256 elf) (run_of c i input b))

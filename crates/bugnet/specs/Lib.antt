@@ -24,6 +24,8 @@ pub mod Saves
 pub mod Laws
 pub mod Headline
 pub mod Jointly
+pub mod Crashes
+pub mod Salvaging
 pub mod Steps
 pub mod Debugging
 pub mod Traced

@@ -7,7 +7,7 @@ use Rattle.bn_outside.specs.Files.{Files}
 use Rattle.elf_loader.specs.Loaded.{image_of}
 use Rattle.elf_loader.specs.declared.error.ElfError.{ElfError}
 use Rattle.log_order.specs.Content.{Content, IsContent}
-use Rattle.log_file.specs.Layout.{file_bytes}
+use Rattle.log_file.specs.Layout.{saved_bytes}
 use Rattle.bugnet.specs.Names.{FileNames}
 use Rattle.bugnet.specs.Told.{Told, refused}
 use Rattle.bugnet.specs.Commands.{WithFile, IsByLog}
@@ -37,11 +37,11 @@ IsPairOf go files names log what = WithFile files names role.Elf 67108864 (λ el
 abbrev pub IsPair : ByPair → Files → FileNames → Told → Type 0
 IsPair go files names what = WithFile files names role.Log 272629760 (λ log what. IsPairOf go files names log what) what
 
--- a log and its program are there
+-- a log and its program are there, the log's file in the version of its settings' format
 pub record ArePair (log elf : List ℕ) (files : Files) (d : Content) (i : Program) : Type 0 where
   pub bytes : List ℕ
   pub is : IsContent d
-  pub log_there : files log ≡ Some (file_bytes d)
+  pub log_there : files log ≡ Some (saved_bytes d)
   pub elf_there : files elf ≡ Some bytes
   pub elf_small : length bytes ≤ 67108864
   pub same : bytes_eq (sha256 bytes) d.head.digest ≡ true

@@ -3,25 +3,31 @@ ghost use Rattle.bugnet.specs.Debugging.{SessionsShowTheRun, RecordingsCanBeDebu
 ghost use Rattle.bugnet.specs.Laws.{OneAnswer, OneSession, SeedsAreWhole, FilesKeepToTheirSize};
 ghost use Rattle.bugnet.specs.Agreements.{AuditsAgree};
 ghost use Rattle.bugnet.specs.Complete.{EachHasAnAnswer, EachCanBeDone};
+ghost use Rattle.bugnet.specs.Crashes.{CrashesAreShown};
 ghost use Rattle.bugnet.specs.Headline.{Headline, RecordingsAreReplayed};
 ghost use Rattle.bugnet.specs.Jointly.{JointHeadline, RecordingsCanBeJoined, RecordingsAreJoined};
+ghost use Rattle.bugnet.specs.Salvaging.{SalvagedAreReplayed};
 ghost use Rattle.bugnet.specs.Traced.{RacesAreTold, SlicesAreTold};
 
-use file_laws::logs_are_contents;
+use file_laws::{logs_are_contents, salvaged_files_suffice};
 use hart_worker::{seeded_lists_end, whole_runs_have_no_error};
 use joint_laws::{
     beginnings_go_on, files_say_the_run_jointly, own_logs_are_logs,
     reached_joint_replays_say_the_run, steps_are_not_refused,
 };
-use log_blocks::laws::{blocks_are_few, files_name_their_version};
+use log_blocks::laws::{
+    blocks_are_few, files_have_their_size, files_name_their_version, saved_files_keep_to_the_limit,
+};
 use log_blocks::readings::{
     files_are_read, files_are_read_or_refused, files_are_salvaged_or_refused, readings_are_unique,
     salvages_are_unique, whole_files_are_salvaged,
 };
-use log_file::laws::files_have_their_size;
 use replay_laws::{the_log_suffices, the_rows_of_an_interval_stand_together};
-use run_laws::{kept_records_are_an_end, own_rows_are_turns, turns_are_lawful, turns_are_own};
-use run_model::{format_1_is_version_1, verdicts_are_unique};
+use run_laws::{
+    faults_are_kept, kept_records_are_an_end, own_asks_are_orderly, own_rows_are_turns,
+    turns_are_lawful, turns_are_own,
+};
+use run_model::verdicts_are_unique;
 
 /// No words have two answers, whatever the files are; but a recording without a seed has one for each
 /// list of turns, and of a lean one without a seed nothing is said.
@@ -58,8 +64,7 @@ pub fn recordings_can_be_debugged()
 {
     sessions_show_the_run();
     logs_are_contents();
-    format_1_is_version_1();
-    files_have_their_size();
+    saved_files_keep_to_the_limit();
     files_are_read();
 }
 
@@ -75,8 +80,7 @@ pub fn headline()
     the_rows_of_an_interval_stand_together();
     kept_records_are_an_end();
     logs_are_contents();
-    format_1_is_version_1();
-    files_have_their_size();
+    saved_files_keep_to_the_limit();
     files_are_read();
 }
 
@@ -91,8 +95,7 @@ pub fn joint_headline()
     readings_are_unique();
     files_say_the_run_jointly();
     logs_are_contents();
-    format_1_is_version_1();
-    files_have_their_size();
+    saved_files_keep_to_the_limit();
     files_are_read();
 }
 
@@ -126,11 +129,10 @@ pub fn each_can_be_done()
     the_rows_of_an_interval_stand_together();
     kept_records_are_an_end();
     logs_are_contents();
-    format_1_is_version_1();
-    files_have_their_size();
+    saved_files_keep_to_the_limit();
     files_are_read();
     files_name_their_version();
-    log_blocks::laws::files_have_their_size();
+    files_have_their_size();
     blocks_are_few();
     whole_files_are_salvaged();
 }
@@ -153,6 +155,34 @@ pub fn recordings_are_replayed()
     headline();
 }
 
+/// With format 2 a crash is shown: where a recording's run ended in a fault, status 10, its last turn is
+/// that fault, and of the files that it leaves the log has an interval of the fault's hart that ends with
+/// it: `list` prints that interval's line, and its replay the recorded run's rows up to the fault's.
+pub fn crashes_are_shown()
+    ensures { CrashesAreShown }
+{
+    recordings_are_replayed();
+    readings_are_unique();
+    own_asks_are_orderly();
+    faults_are_kept();
+    logs_are_contents();
+    saved_files_keep_to_the_limit();
+    files_are_read();
+}
+
+/// Where a log is salvaged of a recording's damaged file, the replay of each interval whose Header it has
+/// prints the recorded run's rows.
+pub fn salvaged_logs_are_replayed()
+    ensures { SalvagedAreReplayed }
+{
+    readings_are_unique();
+    salvaged_files_suffice();
+    the_rows_of_an_interval_stand_together();
+    files_have_their_size();
+    blocks_are_few();
+    files_are_read();
+}
+
 /// Where the log file of a recording and its program file are there, the program file within its limit,
 /// there is all that their joint replay needs: it isn't stopped.
 pub fn recordings_can_be_joined()
@@ -160,8 +190,7 @@ pub fn recordings_can_be_joined()
 {
     files_say_the_run_jointly();
     logs_are_contents();
-    format_1_is_version_1();
-    files_have_their_size();
+    saved_files_keep_to_the_limit();
     files_are_read();
 }
 
@@ -182,8 +211,7 @@ pub fn races_are_told()
     files_are_read();
     files_say_the_run_jointly();
     logs_are_contents();
-    format_1_is_version_1();
-    files_have_their_size();
+    saved_files_keep_to_the_limit();
 }
 
 /// Of the log file of a recording with its program file `slice` tells the slice of a row of the run's own,
@@ -196,8 +224,7 @@ pub fn slices_are_told()
     files_are_read();
     the_log_suffices();
     logs_are_contents();
-    format_1_is_version_1();
-    files_have_their_size();
+    saved_files_keep_to_the_limit();
 }
 
 /// The list of turns that a seed chooses is legal and finished, where the settings were tested.
@@ -208,11 +235,11 @@ pub fn seeds_are_whole()
 }
 
 /// The records that the log of a recording keeps have at most the bytes that the settings give, and its
-/// file has 124 bytes more than they.
+/// file has 124 bytes more than they in version 1, in version 2 136 and 48 a block.
 pub fn files_keep_to_their_size()
     ensures { FilesKeepToTheirSize }
 {
-    format_1_is_version_1();
     logs_are_contents();
+    log_file::laws::files_have_their_size();
     files_have_their_size();
 }

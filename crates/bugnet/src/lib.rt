@@ -30,10 +30,10 @@ mod versions;
 
 pub use answer::{Answer, NewLog, Reading, Recording, RunEnd};
 pub use laws::{
-    audits_agree, each_can_be_done, each_has_an_answer, files_keep_to_their_size, headline,
-    joint_headline, one_answer, one_session, races_are_told, recordings_are_joined,
-    recordings_are_replayed, recordings_can_be_debugged, recordings_can_be_joined, seeds_are_whole,
-    sessions_show_the_run, slices_are_told,
+    audits_agree, crashes_are_shown, each_can_be_done, each_has_an_answer, files_keep_to_their_size,
+    headline, joint_headline, one_answer, one_session, races_are_told, recordings_are_joined,
+    recordings_are_replayed, recordings_can_be_debugged, recordings_can_be_joined,
+    salvaged_logs_are_replayed, seeds_are_whole, sessions_show_the_run, slices_are_told,
 };
 pub use manner::Manner;
 pub use names::{Names, Role};

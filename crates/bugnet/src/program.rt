@@ -37,9 +37,8 @@ use crate::slicing::slice_files;
 use bn_outside::{Gate, Sink, Source, Store};
 use command_words::{Command, Recording, WordsError, read_words};
 use file_laws::logs_are_contents;
+use log_blocks::laws::{files_have_their_size, saved_files_keep_to_the_limit};
 use log_blocks::readings::{files_are_read, readings_are_unique};
-use log_file::laws::files_have_their_size;
-use run_model::format_1_is_version_1;
 use std::alloc::Global;
 use std::sync::Wait;
 use std::thread::Threads;
@@ -173,6 +172,7 @@ fn perform<S: Store, O: Sink, X: Sink, G: Gate, R: Threads + Wait + Sync>(
     seeds_are_whole();
     files_keep_to_their_size();
     logs_are_contents();
+    log_file::laws::files_have_their_size();
     files_have_their_size();
     match answer_to(rt, alloc, command, names, store, gate) {
         Err(refusal) => refuse(alloc, names, &refusal, err),
@@ -213,8 +213,7 @@ fn obey<S: Store, I: Source, O: Sink, X: Sink, G: Gate, R: Threads + Wait + Sync
     readings_are_unique();
     sessions_show_the_run();
     logs_are_contents();
-    format_1_is_version_1();
-    files_have_their_size();
+    saved_files_keep_to_the_limit();
     files_are_read();
     let names = names_of(command);
     match command {
@@ -312,8 +311,9 @@ pub fn run<S: Store, I: Source, O: Sink, X: Sink, G: Gate, R: Threads + Wait + S
     ensures saves { LineSaves (command_in words.now) result (S.saves store.old) (S.saves store.new) }
 
     // A recording leaves under BOOK its turns, legal and finished, where there is a seed those that it
-    // chooses, and under LOG the file of their run: its records have at most log-size bytes, and it has
-    // 124 more. A lean one leaves BOOK as it was, and under LOG the file of what a log can say, within
+    // chooses, and under LOG the file of their run, in the version of its format: its records have at most
+    // log-size bytes, and it has 124 more in version 1, in version 2 136 and 48 a block. The status says how
+    // the run ended. A lean one leaves BOOK as it was, and under LOG the file of what a log can say, within
     // its size; where there is a seed that of the run that it chooses.
     ensures recorded { LeavesRun (command_in words.now) result (S.files store.old) (S.files store.new) }
 

@@ -1,8 +1,6 @@
 // The recording of a run.
 ghost use Rattle.std.specs.Prelude.{◌≡◌, ◌++◌, IfOk, length, Some, None, true, false, option_map};
-ghost use Rattle.std.specs.List.{flat_map, list_any};
-ghost use Rattle.log_record.specs.Spelling.{bytes_of};
-ghost use Rattle.log_file.specs.Layout.{spelling};
+ghost use Rattle.std.specs.List.{list_any};
 ghost use Rattle.run_laws.specs.Laws.{harts_of};
 ghost use Rattle.bugnet.specs.Recordings.{count_of, instructions_of, is_fault, is_limit, end_by, end_word, book_if};
 ghost use Rattle.bugnet.specs.Texts.{summary_text};
@@ -17,9 +15,6 @@ use bn_outside::{Book, FullBook, Gate, LeanBook, TurnRow};
 use bus_core::Closed;
 use file_laws::logs_of_rows_are_contents;
 use hart_worker::{run_listed, run_threads};
-use log_file::write_file;
-use log_record::Head;
-use log_ring::Ring;
 use run_model::Start;
 use rv_text::Text;
 use std::alloc::{AllocError, Global};
@@ -90,20 +85,6 @@ fn end_by(marks: &[Option<EndMark>]) -> RunEnd
     }
 }
 
-// The log file of what a ring keeps.
-fn log_of(alloc: Global, start: &Start, ring: &Ring) -> Result<Vec<u8>, AllocError>
-    requires { ring.now.size ≡ start.now.settings.log_size }
-    ensures { IfOk result (λ log. log.items ≡ spelling (record { settings = start.now.settings; digest = start.now.digest }) ring.now.dropped (flat_map bytes_of ring.now.records)) }
-{
-    let _format = start.settings.format();
-    let (front, back) = ring.pieces();
-    let head = Head {
-        settings: start.settings,
-        digest: start.digest,
-    };
-    write_file(alloc, &head, ring.dropped(), front, back)
-}
-
 // Stream 2 of a run, and the line of its recording.
 fn err_of(
     alloc: Global,
@@ -136,7 +117,7 @@ fn recording_of<B: Book>(
         dropped: closed.ring.dropped(),
         kept: closed.ring.len() as u64,
     };
-    let log = log_of(alloc, start, &closed.ring)?;
+    let log = start.log_file(alloc, &closed.ring)?;
     let err = err_of(alloc, closed.err, &counts, &end)?;
     Ok(Recording {
         end,
@@ -164,7 +145,6 @@ fn record_seeded(
 ) -> Result<Recording, AllocError>
     ensures { IfOk result (λ r. IsRecordingBy start.now (record { seed = Some seed; lean = lean }) r) }
 {
-    let _format = start.settings.format();
     let listed = run_listed(alloc, start, LeanBook, seed)?;
     recording_of(alloc, start, listed.closed, book_if(lean, listed.list))
 }
@@ -196,7 +176,6 @@ fn record_threads<G: Gate, R: Threads + Wait + Sync>(
 ) -> Result<Recording, AllocError>
     ensures { IfOk result (λ r. IsRecordingBy start.now (record { seed = None; lean = false }) r) }
 {
-    let _format = start.settings.format();
     let closed = run_threads(rt, alloc, start, FullBook::new(alloc), gate)?;
     let list = list_of(alloc, &closed.book)?;
     recording_of(alloc, start, closed, Some(list))
@@ -217,7 +196,6 @@ fn record_lean<G: Gate, R: Threads + Wait + Sync>(
     ensures { IfOk result (λ r. IsRecordingBy start.now (record { seed = None; lean = true }) r) }
 {
     logs_of_rows_are_contents();
-    let _format = start.settings.format();
     let _settings = start.settings.raw();
     digest_has_its_length(start.digest);
     let closed = run_threads(rt, alloc, start, LeanBook, gate)?;

@@ -21,6 +21,10 @@ pub setting : said (codes "record" ∷ codes "--ways" ∷ codes "2" ∷ codes "E
 unfolding line_of clap_on_literals
 setting = refl
 
+pub format : said (codes "record" ∷ codes "--format=2" ∷ codes "--sets2=4096" ∷ codes "E" ∷ codes "L" ∷ codes "B" ∷ codes "--seed=5" ∷ codes "--ways2=1" ∷ []) ≡ Some (RecordLine (record plain { settings = record default_settings { format = 2; sets2 = 4096; ways2 = 1 } }))
+unfolding line_of clap_on_literals
+format = refl
+
 pub replay : said (codes "replay" ∷ codes "L" ∷ codes "E" ∷ codes "3" ∷ codes "70" ∷ []) ≡ Some (ReplayLine (codes "L") (codes "E") 3 70)
 unfolding line_of clap_on_literals
 replay = refl

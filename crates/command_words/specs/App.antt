@@ -44,7 +44,8 @@ abbrev pub settings_app : App
 settings_app = with_rules (new_app (codes "record"))
     (number_option (codes "harts") ∷ number_option (codes "interval") ∷ number_option (codes "limit")
     ∷ number_option (codes "log-size") ∷ number_option (codes "memory") ∷ number_option (codes "sets")
-    ∷ number_option (codes "ways") ∷ number_option (codes "line") ∷ [])
+    ∷ number_option (codes "ways") ∷ number_option (codes "line")
+    ∷ number_option (codes "format") ∷ number_option (codes "sets2") ∷ number_option (codes "ways2") ∷ [])
 
 -- `record [SETTINGS] [--seed N] [--lean] [--input FILE] ELF LOG BOOK`
 abbrev pub record_app : App

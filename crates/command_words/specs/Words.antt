@@ -116,7 +116,7 @@ is_set (Some t) = bytes_eq t (codes "true")
 abbrev pub flag_in : Text → List Row → Bool
 flag_in id rows = is_set (first_of id rows)
 
--- the settings, of which the last three have no option
+-- the settings
 abbrev pub settings_in : List Row → Option RawSettings
 settings_in rows =
     and_then (number_or default_settings.harts (codes "harts") rows) (λ harts.
@@ -127,7 +127,22 @@ settings_in rows =
     and_then (number_or default_settings.sets (codes "sets") rows) (λ sets.
     and_then (number_or default_settings.ways (codes "ways") rows) (λ ways.
     and_then (number_or default_settings.line (codes "line") rows) (λ line.
-    Some (record default_settings { harts = harts; interval = interval; limit = limit; log_size = log_size; memory = memory; sets = sets; ways = ways; line = line })))))))))
+    and_then (number_or default_settings.format (codes "format") rows) (λ format.
+    and_then (number_or default_settings.sets2 (codes "sets2") rows) (λ sets2.
+    and_then (number_or default_settings.ways2 (codes "ways2") rows) (λ ways2.
+    Some (record {
+      harts = harts;
+      interval = interval;
+      limit = limit;
+      log_size = log_size;
+      memory = memory;
+      sets = sets;
+      ways = ways;
+      line = line;
+      format = format;
+      sets2 = sets2;
+      ways2 = ways2;
+    }))))))))))))
 
 abbrev pub recording_in : List Row → Option RecordingLine
 recording_in rows =

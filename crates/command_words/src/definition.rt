@@ -66,7 +66,10 @@ fn settings_command<'a>(alloc: Global) -> Result<Command<'a>, AllocError>
     let command = command.arg(number_option(alloc, "memory"))?;
     let command = command.arg(number_option(alloc, "sets"))?;
     let command = command.arg(number_option(alloc, "ways"))?;
-    command.arg(number_option(alloc, "line"))
+    let command = command.arg(number_option(alloc, "line"))?;
+    let command = command.arg(number_option(alloc, "format"))?;
+    let command = command.arg(number_option(alloc, "sets2"))?;
+    command.arg(number_option(alloc, "ways2"))
 }
 
 // `record [OPTIONS] [--seed N] [--lean] [--input FILE] ELF LOG BOOK`

@@ -6,7 +6,7 @@ ghost use Rattle.command_words.specs.Examples.{said, plain};
 
 /// Options stand before, between and after names, with `=` or in two words. Settings that aren't
 /// given have their defaults.
-#[tactic(auto, using(crate::proofs::Cases::before, crate::proofs::Cases::between, crate::proofs::Cases::after, crate::proofs::Cases::no_seed, crate::proofs::Cases::lean, crate::proofs::Cases::setting))]
+#[tactic(auto, using(crate::proofs::Cases::before, crate::proofs::Cases::between, crate::proofs::Cases::after, crate::proofs::Cases::no_seed, crate::proofs::Cases::lean, crate::proofs::Cases::setting, crate::proofs::Cases::format))]
 pub fn options_stand_anywhere()
     ensures before { said (codes "record" ∷ codes "--seed" ∷ codes "5" ∷ codes "E" ∷ codes "L" ∷ codes "B" ∷ []) ≡ Some (RecordLine plain) }
     ensures between { said (codes "record" ∷ codes "E" ∷ codes "--seed=5" ∷ codes "L" ∷ codes "B" ∷ []) ≡ Some (RecordLine plain) }
@@ -14,6 +14,7 @@ pub fn options_stand_anywhere()
     ensures no_seed { said (codes "record" ∷ codes "E" ∷ codes "L" ∷ codes "B" ∷ []) ≡ Some (RecordLine (record plain { seed = None })) }
     ensures lean { said (codes "record" ∷ codes "--lean" ∷ codes "E" ∷ codes "L" ∷ codes "B" ∷ codes "--seed=5" ∷ []) ≡ Some (RecordLine (record plain { lean = true })) }
     ensures setting { said (codes "record" ∷ codes "--ways" ∷ codes "2" ∷ codes "E" ∷ codes "L" ∷ codes "B" ∷ codes "--seed=5" ∷ []) ≡ Some (RecordLine (record plain { settings = record default_settings { ways = 2 } })) }
+    ensures format { said (codes "record" ∷ codes "--format=2" ∷ codes "--sets2=4096" ∷ codes "E" ∷ codes "L" ∷ codes "B" ∷ codes "--seed=5" ∷ codes "--ways2=1" ∷ []) ≡ Some (RecordLine (record plain { settings = record default_settings { format = 2; sets2 = 4096; ways2 = 1 } })) }
 {}
 
 /// The other commands, each with its names and numbers in order.

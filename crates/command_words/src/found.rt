@@ -71,6 +71,9 @@ fn settings_in(matches: &ArgMatches<'_>) -> Option<RawSettings>
     let sets = number_or(matches, "sets", default.sets)?;
     let ways = number_or(matches, "ways", default.ways)?;
     let line = number_or(matches, "line", default.line)?;
+    let format = number_or(matches, "format", default.format)?;
+    let sets2 = number_or(matches, "sets2", default.sets2)?;
+    let ways2 = number_or(matches, "ways2", default.ways2)?;
     Some(RawSettings {
         harts,
         interval,
@@ -80,7 +83,9 @@ fn settings_in(matches: &ArgMatches<'_>) -> Option<RawSettings>
         sets,
         ways,
         line,
-        ..default
+        format,
+        sets2,
+        ways2,
     })
 }
 

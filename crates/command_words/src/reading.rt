@@ -27,7 +27,8 @@ fn matched<'a>(matches: &ArgMatches<'a>) -> Option<Command<'a>>
 ///
 /// ```text
 /// record [--harts N] [--interval N] [--limit N] [--log-size N] [--memory N] [--sets N]
-///        [--ways N] [--line N] [--seed N] [--lean] [--input FILE] ELF LOG BOOK
+///        [--ways N] [--line N] [--format N] [--sets2 N] [--ways2 N] [--seed N] [--lean]
+///        [--input FILE] ELF LOG BOOK
 /// replay LOG ELF HART INTERVAL
 /// joint LOG ELF
 /// debug LOG ELF

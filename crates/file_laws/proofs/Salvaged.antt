@@ -13,7 +13,7 @@ use Rattle.run_laws.specs.Laws.{KeptIsAnEnd}
 use Rattle.replay_laws.specs.Law.{EndsSuffice}
 use Rattle.file_laws.specs.Laws.{LogsAreContents, SalvagedFilesSuffice}
 
-abbrev says : Content → Result Content Damage
+abbrev pub says : Content → Result Content Damage
 says d = Ok d
 
 pub same_log : (c d : Content) → says c ≡ says d → c ≡ d

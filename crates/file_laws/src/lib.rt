@@ -3,7 +3,8 @@
 //! `run_model` and `log_order`.
 #![tactic(auto)]
 
-ghost use Rattle.file_laws.specs.Laws.{KeptRecordsKeepTheRules, RingsKeepTheRules, FinishedLogsAreInOrder, LogsAreContents, StreamsAreInOrder, FilesAreRead, FilesSayTheRun, FilesSuffice, SalvagedFilesSuffice, LogsOfRowsAreContents, FilesOfRowsAreRead};
+ghost use Rattle.file_laws.specs.Laws.{KeptRecordsKeepTheRules, RingsKeepTheRules, FinishedLogsAreInOrder, LogsAreContents, StreamsAreInOrder};
+ghost use Rattle.file_laws.specs.Laws.{FilesAreRead, FilesSayTheRun, FilesSuffice, SalvagedFilesSuffice, LogsOfRowsAreContents, FilesOfRowsAreRead};
 ghost use Rattle.file_laws.specs.Retained.{FaultsAreReplayed};
 
 mod examples;

@@ -1,5 +1,5 @@
 -- Edges whose sources are passed, the first ones into each hart.
-use Rattle.std.proofs.Common.{◌≡◌, ℕ, zero, suc, ◌+◌, ◌<◌, ◌≤◌, Bool, true, false, ◌==◌, ◌⊎◌, inl, inr, refl, sym, ap, ◌∙◌, subst, arith, List, [], ◌∷◌, length, map, take, drop, replicate, slice_get, slice_set, slice_index_or, Option, Some, None}
+use Rattle.std.proofs.Common.{◌≡◌, ℕ, zero, suc, ◌+◌, ◌<◌, ◌≤◌, Bool, true, false, ◌==◌, inl, inr, refl, sym, ap, ◌∙◌, subst, arith, List, [], ◌∷◌, length, map, take, drop, replicate, slice_get, slice_set, slice_index_or, Option, Some, None}
 use Rattle.std.proofs.lemmas.Bool.Decides.{eqb_tells}
 use Rattle.bn_base.specs.Programs.{Program}
 use Rattle.log_record.specs.declared.record.Record.{Record}
@@ -72,7 +72,7 @@ zeros zero h n e = absurd cc
 zeros (suc count) zero n e = let same : ◌≡◌ {A = Option ℕ} (Some 0) (Some n) = e in cc
 zeros (suc count) (suc h) n e = zeros count h n e
 
-zeros_length : (count : ℕ) → length (replicate count 0) ≡ count
+zeros_length : (count : ℕ) → length {A = ℕ} (replicate count 0) ≡ count
 zeros_length zero = refl
 zeros_length (suc count) = ap suc (zeros_length count)
 

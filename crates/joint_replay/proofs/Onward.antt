@@ -1,5 +1,5 @@
 -- Runs, step by step.
-use Rattle.std.proofs.Common.{◌≡◌, ℕ, zero, suc, ◌+◌, ◌<◌, ◌≤◌, ◌⊎◌, inl, inr, refl, sym, ap, ◌∙◌, subst, arith, is_some, List, [], ◌∷◌, ◌++◌, append_assoc, length, slice_get, slice_set, Option, Some, None, Result, Ok, Err}
+use Rattle.std.proofs.Common.{◌≡◌, ℕ, zero, suc, ◌+◌, ◌<◌, ◌⊎◌, inl, inr, refl, sym, ap, ◌∙◌, subst, arith, List, [], ◌∷◌, ◌++◌, append_assoc, length, slice_get, slice_set, Option, Some, None, Result, Ok, Err}
 use Rattle.std.proofs.lemmas.List.{append-nil}
 use Rattle.bn_base.specs.Programs.{Program}
 use Rattle.bn_base.specs.declared.row.Row.{Row}
@@ -11,7 +11,7 @@ use Rattle.joint_replay.specs.declared.kinds.Next.{Next}
 use Rattle.joint_replay.specs.declared.kinds.Next.TheVariants.{Hart, AllDone, NoneReady}
 use Rattle.joint_replay.specs.Lanes.{Course, Lane, Item, Doing, Ending, row_given, courses_steps, lane_step, lane_steps}
 use Rattle.joint_replay.specs.Memory.{memory_after}
-use Rattle.joint_replay.specs.Joining.{Joining, Taken, Walk, Ran, begun, longer, ran, choice, move, next_step, error_of, positions_from, steps_left, run_on, run_for, run_all}
+use Rattle.joint_replay.specs.Joining.{Joining, Taken, Walk, Ran, begun, ran, choice, move, next_step, error_of, positions_from, steps_left, run_on, run_for, run_all}
 use Rattle.joint_replay.specs.Texts.{item_text, steps_text}
 use Rattle.joint_replay.specs.Runs.{one_step, IsStep, IsFirst, RunsGoOn, RunsEnd}
 

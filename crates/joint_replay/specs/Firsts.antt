@@ -1,11 +1,11 @@
 -- The first step of a run, and the end of a run that takes none.
-use Rattle.std.specs.Prelude.{◌≡◌, ◌<◌, ℕ, List, [], ◌∷◌, ◌++◌, length, Some, None, Ok, Err}
+use Rattle.std.specs.Prelude.{◌≡◌, ◌<◌, ℕ, [], ◌∷◌, ◌++◌, length, Some, None, Ok, Err}
 use Rattle.hart_replay.specs.declared.error.ReplayError.{ReplayError}
 use Rattle.joint_replay.specs.declared.error.JointError.TheVariants.{Stuck}
 use Rattle.joint_replay.specs.declared.kinds.Readiness.TheVariants.{Ready}
 use Rattle.joint_replay.specs.declared.kinds.Next.TheVariants.{Hart, AllDone, NoneReady}
 use Rattle.joint_replay.specs.Lanes.{Item}
-use Rattle.joint_replay.specs.Joining.{Joining, Taken, begun, ran, choice, readiness, next_step, error_of, positions_from, steps_left, run_all}
+use Rattle.joint_replay.specs.Joining.{Joining, begun, ran, choice, readiness, next_step, error_of, positions_from, steps_left, run_all}
 
 -- a run is its first step, which hart h takes, and the run after it
 pub record IsFirstStep (j : Joining) (h : ℕ) (x : Item × Joining) : Type 0 where

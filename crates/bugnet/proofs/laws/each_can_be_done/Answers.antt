@@ -5,8 +5,8 @@ use Rattle.bugnet.proofs.laws.each_can_be_done.Goals as goal
 
 pub returns : goal.returns
 returns c =
-    let laws : FileLaws = record { contents = c.logs_are_contents.ensures; version = c.format_1_is_version_1.ensures; sizes = c.files_have_their_size.ensures; read = c.files_are_read.ensures } in
-    let seconds : SecondLaws = record { named = c.files_name_their_version.ensures; sizes = c.files_have_their_size-2.ensures; few = c.blocks_are_few.ensures; whole = c.whole_files_are_salvaged.ensures } in
+    let laws : FileLaws = record { contents = c.logs_are_contents.ensures; limit = c.saved_files_keep_to_the_limit.ensures; read = c.files_are_read.ensures } in
+    let seconds : SecondLaws = record { named = c.files_name_their_version.ensures; sizes = c.files_have_their_size.ensures; few = c.blocks_are_few.ensures; whole = c.whole_files_are_salvaged.ensures } in
     let audits : AuditLaws = record { verdicts = c.verdicts_are_unique.ensures; errors = c.whole_runs_have_no_error.ensures } in
     let rows : RowLaws = record { whole = c.seeds_are_whole.ensures; contents = c.logs_are_contents.ensures; lawful = c.turns_are_lawful.ensures; own = c.turns_are_own.ensures; turns = c.own_rows_are_turns.ensures } in
     can-be-done rows c.one_answer.ensures c.the_log_suffices.ensures (c.the_rows_of_an_interval_stand_together.ensures, c.kept_records_are_an_end.ensures) laws seconds audits

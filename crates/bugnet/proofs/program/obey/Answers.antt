@@ -15,6 +15,6 @@ pub returns-in-Debug-clause-session : goal.returns-in-Debug-clause-session
 returns-in-Debug-clause-session g c =
     let k = call (g.S.Store.files) (g.S.Store.counts) (g.O.Sink.written) (g.O.Sink.faults) (g.X.Sink.written) (g.X.Sink.faults) c.args.store.now c.args.out.now c.args.err.now c.debug_files.new.store c.debug_files.new.out c.debug_files.new.err in
     let grammar : Grammar = record { one_reading = c.readings_are_unique.ensures } in
-    let laws : FileLaws = record { contents = c.logs_are_contents.ensures; version = c.format_1_is_version_1.ensures; sizes = c.files_have_their_size.ensures; read = c.files_are_read.ensures } in
+    let laws : FileLaws = record { contents = c.logs_are_contents.ensures; limit = c.saved_files_keep_to_the_limit.ensures; read = c.files_are_read.ensures } in
     debugs-any grammar laws c.sessions_show_the_run.ensures (seen c.args.command.now) c.names_of-names.result c.debug_files.result (g.I.Source.left c.args.input.now) (g.I.Source.left c.debug_files.new.input) (g.I.Source.faults c.args.input.now) (g.I.Source.faults c.debug_files.new.input) k
     (λ n. rw c.in-Debug.is at n) c.names_of-names.ensures c.debug_files.ensures.told

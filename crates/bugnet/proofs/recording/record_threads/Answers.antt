@@ -1,4 +1,4 @@
-use Rattle.std.proofs.Common.{ℕ, Bool, List, Option, sym, ap, refl, ◌∙◌, ◌≡◌, arith}
+use Rattle.std.proofs.Common.{ℕ, Bool, List, Option, ap, refl, ◌≡◌, arith}
 use Rattle.std.specs.Prelude.{true, false, Some, None}
 use Rattle.bus_core.specs.Bus.{began_of}
 use Rattle.hart_worker.specs.Threads.{IsThreaded}
@@ -16,4 +16,4 @@ returns g c =
     let rows = closed.book.rows in
     let is : IsThreaded (began_of s) closed rows = c.in_ok-closed.ensures.run refl in
     recording-run true s closed rows (harts_of rows) (record { seed = None; lean = false }) (Some c.in_ok-list.list.items) c.recording_of.result
-    (sym c.format-format.ensures.value ∙ c.format-format.ensures.one) (λ lean none. never-true lean) (threads-taken s closed rows is) (ap (λ (list : List ℕ). Some list) c.in_ok-list.ensures) is.ended c.recording_of.ensures
+    (λ lean none. never-true lean) (threads-taken s closed rows is) (ap (λ (list : List ℕ). Some list) c.in_ok-list.ensures) is.ended c.recording_of.ensures

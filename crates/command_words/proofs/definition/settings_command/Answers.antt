@@ -15,4 +15,7 @@ returns c =
     let s5 = more _ (number_option (codes "memory")) c.in_ok-command-5.ensures c.number_option-5.ensures s4 in
     let s6 = more _ (number_option (codes "sets")) c.in_ok-command-6.ensures c.number_option-6.ensures s5 in
     let s7 = more _ (number_option (codes "ways")) c.in_ok-command-7.ensures c.number_option-7.ensures s6 in
-    IfOk-weaker c.arg-8.result _ _ (λ r h. more _ (number_option (codes "line")) h c.number_option-8.ensures s7) c.arg-8.ensures
+    let s8 = more _ (number_option (codes "line")) c.in_ok-command-8.ensures c.number_option-8.ensures s7 in
+    let s9 = more _ (number_option (codes "format")) c.in_ok-command-9.ensures c.number_option-9.ensures s8 in
+    let s10 = more _ (number_option (codes "sets2")) c.in_ok-command-10.ensures c.number_option-10.ensures s9 in
+    IfOk-weaker c.arg-11.result _ _ (λ r h. more _ (number_option (codes "ways2")) h c.number_option-11.ensures s10) c.arg-11.ensures

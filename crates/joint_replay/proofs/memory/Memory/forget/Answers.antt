@@ -1,4 +1,4 @@
-use Rattle.std.proofs.Common.{ap, ◌∙◌, refl, subst, arith, Some}
+use Rattle.std.proofs.Common.{ap, ◌∙◌, refl, arith, Some}
 use Rattle.joint_replay.specs.Memory.{forget}
 use Rattle.joint_replay.specs.Words.{Remembered}
 use Rattle.joint_replay.proofs.WordLists.{none_yet, one_more, all_gone, still_below}

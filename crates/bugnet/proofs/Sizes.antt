@@ -1,0 +1,26 @@
+-- The file of what a recording keeps has its size, in the version of its settings' format.
+use Rattle.std.proofs.Common.{◌≡◌, ◌+◌, ◌*◌, ◌==◌, ℕ, Bool, true, false, List, length, arith}
+use Rattle.log_file.specs.Blocks.{blocks_of}
+use Rattle.log_file.specs.Laws as of_first
+use Rattle.log_file.specs.Layout.{file_bytes, file_bytes2}
+use Rattle.log_blocks.specs.Laws as of_second
+use Rattle.log_order.specs.Content.{Content, IsContent}
+use Rattle.log_record.specs.Spelling.{total}
+use Rattle.bugnet.specs.Saves.{IsWithin}
+
+in-all : (whole records blocks : ℕ) → whole ≡ records + 136 + 48 * blocks → whole ≡ records + (136 + 48 * blocks)
+in-all whole records blocks e = omega (arith, e)
+
+by-version : (second : Bool) (d : Content) → length (file_bytes d) ≡ total d.records + 124 → length (file_bytes2 d) ≡ total d.records + 136 + 48 * length (blocks_of d.dropped d.records)
+    → length (elim second as (λ t. List ℕ) [ true ↦ file_bytes2 d | false ↦ file_bytes d ])
+    ≡ total d.records + (elim second as (λ t. ℕ) [ true ↦ 136 + 48 * length (blocks_of d.dropped d.records) | false ↦ 124 ])
+by-version true d first second = in-all (length (file_bytes2 d)) (total d.records) (length (blocks_of d.dropped d.records)) second
+by-version false d first second = first
+
+-- the laws of sizes
+pub record SizeLaws : Type 0 where
+  pub first : of_first.HaveTheirSize
+  pub second : of_second.HaveTheirSize
+
+pub is-within : SizeLaws → (d : Content) → IsContent d → IsWithin d
+is-within laws d is = record { kept = is.bound; file = by-version (d.head.settings.format == 2) d (laws.first d is) (laws.second d is) }

@@ -1,0 +1,36 @@
+-- What is salvaged of a recording's damaged file is replayed as it was recorded.
+use Rattle.std.specs.Prelude.{◌≡◌, ◌≤◌, ℕ, List, ◌∷◌, ◌++◌, length, Some}
+use Rattle.sha2.specs.Sha256.{sha256}
+use Rattle.bn_outside.specs.Files.{Files}
+use Rattle.command_words.specs.Words.{ReplayLine}
+use Rattle.hart_replay.specs.Replay.{Interval, interval_of}
+use Rattle.log_blocks.specs.Fields.{head_in}
+use Rattle.log_blocks.specs.File.{IsSalvaged}
+use Rattle.log_blocks.specs.Laws.{pieces_of}
+use Rattle.log_file.specs.Blocks.{Block, blocks_of}
+use Rattle.log_file.specs.Layout.{file_bytes2}
+use Rattle.log_order.specs.Content.{Content}
+use Rattle.run_model.specs.Files.{kept_of, dropped_of}
+use Rattle.run_model.specs.Runs.{run_of}
+use Rattle.file_laws.specs.Given.{IsRecording}
+use Rattle.bugnet.specs.Answers.{IsAnswer}
+use Rattle.bugnet.specs.Headline.{Part, run_text}
+use Rattle.bugnet.specs.Told.{Told, printed}
+
+-- of these bytes a log is salvaged, and what is undamaged of them is a recording's: the head, and at the end some of the blocks
+-- into which what it keeps is cut, all from some one on
+pub record SalvagesRun (p : Part) (bytes : List ℕ) (d : Content) : Type 0 where
+  pub recording : IsRecording p.settings p.program p.elf p.input p.turns
+  pub salvaged : IsSalvaged bytes d
+  pub head : head_in bytes ≡ record { settings = p.settings; digest = sha256 p.elf }
+  pub front : List Block
+  pub first : Block
+  pub back : List Block
+  pub blocks : blocks_of (dropped_of p.settings (run_of p.settings p.program p.input p.turns)) (kept_of p.settings (run_of p.settings p.program p.input p.turns)) ≡ front ++ first ∷ back
+  pub pieces : salvaged.pieces ≡ pieces_of (first ∷ back)
+
+-- The replay of each interval whose Header the saved log has prints the recorded run's rows
+abbrev pub SalvagedAreReplayed : Type 0
+SalvagedAreReplayed = (p : Part) (bytes : List ℕ) (d : Content) → SalvagesRun p bytes d → (v : Interval) → interval_of p.hart p.number d.records ≡ Some v → length p.elf ≤ 67108864
+    → (files : Files) (log elf : List ℕ) → files log ≡ Some (file_bytes2 d) → files elf ≡ Some p.elf
+    → (what : Told) → IsAnswer (Some (ReplayLine log elf p.hart p.number)) files what → what ≡ printed (run_text p v)
