@@ -7,8 +7,9 @@ First come all fronts and all flipped bits of a small log, of version 1 and of v
 digests made anew, and of a small program file with a log made for it. Then COUNT files (10,000) made from recordings
 of examples/: bits flipped, bytes cut out or put in, records left out, doubled, exchanged, put in or changed in a
 field, fronts and ends of two logs put together, settings changed, with the digest made anew or not; half of them in
-version 2, and there also blocks left out, doubled, exchanged, cut elsewhere, damaged or with other numbers, most with
-the digests made anew; and program files with bytes changed, under logs that say their digest.
+version 2, of recordings with format 2 too, and there also blocks left out, doubled, exchanged, cut elsewhere, damaged
+or with other numbers, most with the digests made anew; and program files with bytes changed, under logs that say
+their digest.
 
 A log is given to `check`, and one of version 2 to `salvage`; one that `check` takes also to `list`, `replay`, `joint`,
 `debug`, `races`, `slice`, `convert` and, with a drawn list of turns, to `audit`, and one that it refuses also to one
@@ -170,21 +171,38 @@ class Calls:
 # ---- what is made of recordings
 
 
+# Of each example: how many harts, the limit, the interval, and how many bytes of records are kept; then the same with
+# format 2, where the log is saved in version 2, and small enough for the guard.
+RECORDED = ((1, 400, 100, 4096), (2, 300, 60, 2048), (4, 120, 50, 1024), (2, 400, 12, 12_000))
+SMALL_CACHE = ("--log-size", "16384", "--sets", "1", "--ways", "1", "--line", "1")
+RECORDED2 = (("--harts", "16", "--limit", "250", *SMALL_CACHE), ("--limit", "2000", "--sets2", "2", "--ways2", "1", *SMALL_CACHE))
+
+
+def recorded(calls, elf, *words):
+    """Returns the log of a recording; nothing where the program doesn't take the words."""
+    names = elf, calls.path("LOG"), calls.path("BOOK")
+    ended, _ = calls.spawn(("record", *map(str, words), "--input", calls.path("input"), *names), "/dev/null")
+    return calls.read("LOG") if os.waitstatus_to_exitcode(ended) in (0, 10, 11) else b""
+
+
 def recordings(folder):
-    """Returns logs with their program files, of each example by several settings."""
-    calls, found = Calls(folder), []
+    """Returns logs with their program files, of each example by several settings, version by version."""
+    calls, found = Calls(folder), {1: [], 2: []}
     calls.write("keys", b"")
     calls.write("input", b"a few words, and a few words more\n")
     for name in sorted(os.listdir(f"{TOP}/examples")):
         if name.endswith(".elf"):
-            with open(f"{TOP}/examples/{name}", "rb") as file:
+            path = f"{TOP}/examples/{name}"
+            with open(path, "rb") as file:
                 elf = file.read()
-            for harts, limit, interval, small in ((1, 400, 100, 4096), (2, 300, 60, 2048), (4, 120, 50, 1024), (2, 400, 12, 12_000)):
-                words = ("--harts", harts, "--limit", limit, "--interval", interval, "--input", calls.path("input"))
-                names = (f"{TOP}/examples/{name}", calls.path("LOG"), calls.path("BOOK"))
-                calls.spawn(("record", "--seed", str(len(found)), *map(str, words), *names), "/dev/null")
-                with open(calls.path("LOG"), "rb") as file:
-                    found.append((kept_end(file.read(), small), elf))
+            for harts, limit, interval, small in RECORDED:
+                words = ("--harts", harts, "--limit", limit, "--interval", interval)
+                data = recorded(calls, path, "--seed", len(found[1]), *words)
+                found[1].append((kept_end(data, small), elf))
+            for words in RECORDED2:
+                data = recorded(calls, path, "--seed", len(found[2]), "--format", 2, *words)
+                found[2] += [(data, elf)] if data else []
+    found[2] += [(version2(data), elf) for data, elf in found[1]]
     return found
 
 
@@ -263,7 +281,7 @@ def changed_records(draw, records, others):
 
 def mutated_log(draw, pool):
     """Returns a log that was made of recordings, and the program file of one of them."""
-    (data, elf), (other, _) = draw.choice(pool), draw.choice(pool)
+    (data, elf), (other, _) = draw.choice(pool[1]), draw.choice(pool[1])
     head, records = forge.parts(data)
     way = draw.randrange(10)
     if way == 0:
@@ -301,6 +319,10 @@ def version2(data):
     settings = (*struct.unpack_from("<IIQIIIII", data, 12), 1, 0, 0)
     dropped, n = struct.unpack_from("<QI", data, 80)
     return forge.file2(forge.head2(settings, data[48:80], dropped, n), dropped, forge.cut(forge.split(data[92:-32])))
+
+
+def records_of(blocks):
+    return forge.split(b"".join(records for records, _, _ in blocks))
 
 
 def cut_anew(draw, records, dropped):
@@ -373,8 +395,7 @@ def damaged(draw, data):
 
 def mutated_log2(draw, pool):
     """Returns a log of version 2 that was made of recordings, and the program file of one of them."""
-    (first, elf), (other, _) = draw.choice(pool), draw.choice(pool)
-    data = version2(first)
+    (data, elf), (other, _) = draw.choice(pool[2]), draw.choice(pool[2])
     way = draw.randrange(10)
     if way == 0:
         return damaged(draw, data), elf
@@ -389,16 +410,16 @@ def mutated_log2(draw, pool):
     if way == 4:
         at, size = draw.choice(HEAD2_FIELDS)
         return forge.sealed(put(signed, at, size, draw)) + data[136:], elf
-    found = forge.split(forge.parts(first)[1])
+    found = records_of(blocks)
     for _ in range(draw.choice((0, 0, 1, 2))):
-        found = changed_records(draw, found, forge.split(forge.parts(other)[1]))
+        found = changed_records(draw, found, records_of(forge.parts2(other)[1]))
     data = rebuilt(draw, signed, found)
     return damaged(draw, data) if way > 7 else data, elf
 
 
 def mutated_elf(draw, pool):
     """Returns a program file that was made of an example, and the log of one with its digest."""
-    data, elf = draw.choice(pool)
+    data, elf = draw.choice(pool[1])
     way = draw.randrange(4)
     if way == 0:
         elf = flipped(draw, elf)
@@ -426,8 +447,8 @@ def keys_of(draw):
 
 def headers_of(data):
     """Returns the Headers of a log, as far as its records are found."""
-    records = data[92:-32] if data[8:9] == b"\1" else b"".join(each[0] for each in forge.parts2(data)[1])
-    return [entry for entry in forge.split(records) if entry[0] == 1]
+    records = forge.split(data[92:-32]) if data[8] == 1 else records_of(forge.parts2(data)[1])
+    return [entry for entry in records if entry[0] == 1]
 
 
 def interval_words(draw, headers):
