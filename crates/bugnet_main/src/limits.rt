@@ -1,7 +1,7 @@
 // The limits that the system sets to the process.
+use std::fs;
 use std::fs::Files;
-use std::io::{ErrorKind, Read, Write};
-use std::{fs, io};
+use std::io::Read;
 
 // The bytes of a text as one: none where they aren't UTF-8.
 fn text_of(bytes: &[u8]) -> &str {
@@ -29,53 +29,5 @@ pub fn most_bytes<R: Files>(rt: &R) -> u64 {
             Err(_) => u64::MAX,
         },
         Err(_) => u64::MAX,
-    }
-}
-
-/// A stream that may be a file: no write to it is begun that would pass the greatest size of a file.
-#[derive(Drop)]
-pub struct Limited<'a, W, R: Files> {
-    inner: W,
-    rt: &'a R,
-    name: &'static str,
-    most: u64,
-}
-
-impl<'a, W: Write, R: Files> Limited<'a, W, R> {
-    /// The stream that has this name as a file too; `most` is the greatest size of a file.
-    pub fn new(inner: W, rt: &'a R, name: &'static str, most: u64) -> Self {
-        Limited {
-            inner,
-            rt,
-            name,
-            most,
-        }
-    }
-
-    // Whether so many bytes more may be written.
-    fn has_room(&self, length: usize) -> bool {
-        if self.most == u64::MAX {
-            return true;
-        }
-        match fs::metadata(self.rt, self.name) {
-            Ok(metadata) if metadata.is_file() => {
-                metadata.len().saturating_add(length as u64) <= self.most
-            }
-            _ => true,
-        }
-    }
-}
-
-impl<'a, W: Write, R: Files> Write for Limited<'a, W, R> {
-    fn write(&mut self, buf: &[u8]) -> io::Result<usize> {
-        if self.has_room(buf.len()) {
-            self.inner.write(buf)
-        } else {
-            Err(io::Error::from(ErrorKind::FileTooLarge))
-        }
-    }
-
-    fn flush(&mut self) -> io::Result<()> {
-        self.inner.flush()
     }
 }

@@ -14,7 +14,6 @@ mod words;
 
 use bn_outside::{OpenGate, send_all};
 use file_store::FileStore;
-use limits::{Limited, most_bytes};
 use std::process::ExitCode;
 use streams::{Reading, Writing};
 use words::words_of;
@@ -23,15 +22,14 @@ use words::words_of;
 const OUT_OF_MEMORY: u8 = 9;
 
 fn main(rt: HostRuntime) -> ExitCode {
-    let most = most_bytes(&rt);
-    let mut err = Writing::new(Limited::new(rt.stderr(), &rt, "/proc/self/fd/2", most));
+    let mut err = Writing::new(rt.stderr());
     let Ok(words) = words_of(&rt) else {
         let _ = send_all(&mut err, b"bugnet: out of memory\n");
         return ExitCode::from(OUT_OF_MEMORY);
     };
     let mut store = FileStore::new(&rt);
     let mut input = Reading::new(rt.stdin());
-    let mut out = Writing::new(Limited::new(rt.stdout(), &rt, "/proc/self/fd/1", most));
+    let mut out = Writing::new(rt.stdout());
     let status = bugnet::run(
         &rt,
         rt.alloc(),
