@@ -64,6 +64,11 @@ fn head<R: Abort + AllocGlobal>(rt: &R, dropped: u64, size: u32) -> Vec<u8> {
     sealed(rt, &replaced(rt, &bytes, 100, &size.to_le_bytes()))
 }
 
+// How many bytes these are, as a field of a file says it.
+fn size_of<R: Abort>(rt: &R, bytes: &[u8]) -> u32 {
+    u32::try_from(bytes.len()).expect(rt, "short")
+}
+
 // A block behind a head: its records' bytes, and the first two numbers behind them.
 fn block<R: Abort + AllocGlobal>(
     rt: &R,
@@ -72,7 +77,7 @@ fn block<R: Abort + AllocGlobal>(
     before: u64,
     left: u32,
 ) -> Vec<u8> {
-    let size = records.len() as u32;
+    let size = size_of(rt, records);
     let body = joined(
         rt,
         &[
@@ -108,14 +113,14 @@ fn cut<R: Abort + AllocGlobal>(
     dropped: u64,
     before: (u64, u64),
 ) -> Vec<u8> {
-    let head = head(rt, dropped, records.len() as u32);
+    let head = head(rt, dropped, size_of(rt, records));
     let behind = part(records, at, records.len());
     let first = block(
         rt,
         &head,
         part(records, 0, at),
         before.0,
-        behind.len() as u32,
+        size_of(rt, behind),
     );
     joined(rt, &[&head, &first, &block(rt, &head, behind, before.1, 0)])
 }
@@ -209,18 +214,18 @@ fn blocks_of_another_head_are_bad(rt: HostRuntime) {
 fn blocks_have_from_1_to_4096_bytes(rt: HostRuntime) {
     let file = whole(&rt);
     let all = records(&rt);
-    let head = part(&file, 0, 136);
-    let none = block(&rt, head, &[], 80, 0);
+    let head = head(&rt, 0, 6440);
+    let none = block(&rt, &head, &[], 80, 0);
     check(&rt, &joined(&rt, &[&file, &none]), bad(6720), LOST);
-    let front = block(&rt, head, &[], 0, 6440);
-    let parts = joined(&rt, &[head, &front, part(&file, 136, 6672)]);
+    let front = block(&rt, &head, &[], 0, 6440);
+    let parts = joined(&rt, &[&head, &front, part(&file, 136, 6672)]);
     check(&rt, &parts, bad(184), Ok((0, 80)));
     let long = cut(&rt, &all, 4171, 0, (0, 51));
     check(&rt, &long, bad(4355), Ok((51, 29)));
     let least = cut(&rt, &all, 4097, 0, (0, 50));
     check(&rt, &least, bad(4281), refused(no_record(0)));
-    let one = block(&rt, head, &all, 0, 0);
-    check(&rt, &joined(&rt, &[head, &one]), bad(6624), LOST);
+    let one = block(&rt, &head, &all, 0, 0);
+    check(&rt, &joined(&rt, &[&head, &one]), bad(6624), LOST);
 }
 
 // What a block says of the bytes behind it.
