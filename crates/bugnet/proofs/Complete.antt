@@ -21,7 +21,6 @@ use Rattle.log_blocks.specs.declared.damage.Damage.{Damage}
 use Rattle.log_blocks.specs.declared.damage.SalvageError.{SalvageError}
 use Rattle.hart_replay.specs.Replay.{Interval}
 use Rattle.run_model.specs.Files.{file_of, content_of}
-use Rattle.replay_laws.specs.Law.{LogSuffices}
 use Rattle.bugnet.specs.Names.{FileNames, no_names, name_of}
 use Rattle.demo_run.specs.Demonstration.{demo_text}
 use Rattle.bugnet.specs.Told.{Told, refused, printed}
@@ -73,7 +72,7 @@ use Rattle.bugnet.specs.declared.names.Role.TheVariants as role
 use Rattle.bugnet.specs.declared.refusal.Refusal.TheVariants.{WordsRefused, OutOfRange, SameName, Missing, TooLong, ElfRefused}
 use Rattle.bugnet.proofs.Tested.{in-range}
 use Rattle.bugnet.proofs.Loads.{by-bytes, fits}
-use Rattle.bugnet.proofs.Suffices.{FileLaws, by-file, answer, Together}
+use Rattle.bugnet.proofs.Suffices.{FileLaws, Sizes, read-size, by-file, answer, Together}
 use Rattle.bugnet.proofs.Tells.{with-files, stopped-free, early-free}
 
 -- ---- some answer
@@ -312,17 +311,16 @@ can-log laws files names go h =
     let is : IsContent d = laws.contents h.settings h.program h.elf h.input h.turns h.recording in
     (go d, there-file files names role.Log 272629760 (saved_bytes d) (λ log what. IsByLog names log go what) (go d) h.log (laws.limit d is) (record { says = Ok d; reads = laws.read.saved d is; is = refl }), refl)
 
-can-replay : LogSuffices → Together → FileLaws → (line : Option Line) (files : Files) (p : Part) (v : Interval) → ReplaysRun line files p v → length p.elf ≤ 67108864 → (what : Told) × IsAnswer line files what × IsRecorded what.status
-can-replay law stand laws line files p v r small =
+can-replay : Together → Sizes → (line : Option Line) (files : Files) (p : Part) (v : Interval) → ReplaysRun line files p v → length p.elf ≤ 67108864 → (what : Told) × IsAnswer line files what × IsRecorded what.status
+can-replay laws sizes line files p v r small =
     let names = names_in (ReplayLine r.log_name r.elf_name p.hart p.number) in
-    let d = content_of p.settings (sha256 p.elf) (run_of p.settings p.program p.input p.turns) in
-    let is : IsContent d = laws.contents p.settings p.program p.elf p.input p.turns r.recording in
+    let d = r.says.log in
     let what = replay_of names p.hart p.number p.elf d in
-    let elf : IsReplayOf files names p.hart p.number (saved_bytes d) what =
-    there-file files names role.Elf 67108864 p.elf (λ elf what. IsByLog names (saved_bytes d) (replay_of names p.hart p.number elf) what) what r.program small (record { says = Ok d; reads = laws.read.saved d is; is = refl }) in
+    let elf : IsReplayOf files names p.hart p.number r.bytes what =
+    there-file files names role.Elf 67108864 p.elf (λ elf what. IsByLog names r.bytes (replay_of names p.hart p.number elf) what) what r.program small (record { says = Ok d; reads = r.says.reads; is = refl }) in
     let log : IsReplay files names p.hart p.number what =
-    there-file files names role.Log 272629760 (saved_bytes d) (λ log what. IsReplayOf files names p.hart p.number log what) what r.log (laws.limit d is) elf in
-    let done : IsRecorded what.status = inl (ap (λ (t : Told). t.status) (answer law stand names p v line files r)) in
+    there-file files names role.Log 272629760 r.bytes (λ log what. IsReplayOf files names p.hart p.number log what) what r.log (read-size sizes r.bytes d r.says.reads) elf in
+    let done : IsRecorded what.status = inl (ap (λ (t : Told). t.status) (answer laws names p v line files r)) in
     subst (λ (l : Option Line). (what : Told) × IsAnswer l files what × IsRecorded what.status) (sym r.command) (what, log, done)
 
 -- the joint replay of a log that isn't stopped is done
@@ -490,8 +488,8 @@ only-done one line files what alike is done = record {
   done = λ told other. subst (λ (t : Told). IsRecorded t.status) (one (Some line) files what told is other (alike what told)) done;
 }
 
-pub can-be-done : RowLaws → OneAnswer → LogSuffices → Together → FileLaws → SecondLaws → AuditLaws → EachCanBeDone
-can-be-done rows one law stand laws seconds audits (RecordLine r) files h =
+pub can-be-done : RowLaws → OneAnswer → Together → Sizes → FileLaws → SecondLaws → AuditLaws → EachCanBeDone
+can-be-done rows one together sizes laws seconds audits (RecordLine r) files h =
     let how = manner_of r in
     record {
       answer = λ bytes.
@@ -499,35 +497,35 @@ can-be-done rows one law stand laws seconds audits (RecordLine r) files h =
           (run.0, can-record r files h run.0 run.1);
       done = λ told is. run-recorded how.lean how.seed r.settings h.program (sha256 h.elf) how h.input told (is-record r files h told is);
     }
-can-be-done rows one law stand laws seconds audits (ReplayLine log elf hart interval) files h =
-    let l = can-replay law stand laws (Some (ReplayLine log elf hart interval)) files h.0 h.1 h.2 h.3 in
+can-be-done rows one together sizes laws seconds audits (ReplayLine log elf hart interval) files h =
+    let l = can-replay together sizes (Some (ReplayLine log elf hart interval)) files h.0 h.1 h.2 h.3 in
     only-done one (ReplayLine log elf hart interval) files l.0 (λ a b. tt) l.1 l.2
-can-be-done rows one law stand laws seconds audits (JointLine log elf) files h =
+can-be-done rows one together sizes laws seconds audits (JointLine log elf) files h =
     let l = can-join laws log elf files h in
     only-done one (JointLine log elf) files l.0 (λ a b. tt) l.1 l.2
-can-be-done rows one law stand laws seconds audits (DebugLine log elf) files h = absurd h
-can-be-done rows one law stand laws seconds audits (ListLine log) files h =
+can-be-done rows one together sizes laws seconds audits (DebugLine log elf) files h = absurd h
+can-be-done rows one together sizes laws seconds audits (ListLine log) files h =
     let l = can-log laws files (names_in (ListLine log)) list_of h in
     only-done one (ListLine log) files l.0 (λ a b. tt) l.1 (inl (ap (λ (t : Told). t.status) l.2))
-can-be-done rows one law stand laws seconds audits (CheckLine log) files h =
+can-be-done rows one together sizes laws seconds audits (CheckLine log) files h =
     let l = can-log laws files (names_in (CheckLine log)) check_of h in
     only-done one (CheckLine log) files l.0 (λ a b. tt) l.1 (inl (ap (λ (t : Told). t.status) l.2))
-can-be-done rows one law stand laws seconds audits (AuditLine log elf book input) files h =
+can-be-done rows one together sizes laws seconds audits (AuditLine log elf book input) files h =
     let l = can-audit laws seconds audits log elf book input files h.0 h.1 in
     only-done one (AuditLine log elf book input) files l.0 (λ a b. tt) l.1 l.2
-can-be-done rows one law stand laws seconds audits (RacesLine log elf most) files h =
+can-be-done rows one together sizes laws seconds audits (RacesLine log elf most) files h =
     let l = can-race laws log elf most files h in
     only-done one (RacesLine log elf most) files l.0 (λ a b. tt) l.1 l.2
-can-be-done rows one law stand laws seconds audits (SliceLine log elf hart interval ic) files h =
+can-be-done rows one together sizes laws seconds audits (SliceLine log elf hart interval ic) files h =
     let l = can-slice laws log elf hart interval ic files h in
     only-done one (SliceLine log elf hart interval ic) files l.0 (λ a b. tt) l.1 l.2
-can-be-done rows one law stand laws seconds audits (ConvertLine log copy) files h =
+can-be-done rows one together sizes laws seconds audits (ConvertLine log copy) files h =
     let l = can-convert laws seconds log copy files h.0 h.1 in
     only-done one (ConvertLine log copy) files l.0 (λ a b. tt) l.1 l.2
-can-be-done rows one law stand laws seconds audits (SalvageLine log copy) files h =
+can-be-done rows one together sizes laws seconds audits (SalvageLine log copy) files h =
     let l = can-salvage seconds log copy files h.0 h.1 in
     only-done one (SalvageLine log copy) files l.0 (λ a b. tt) l.1 l.2
-can-be-done rows one law stand laws seconds audits (DemoLine seed) files h = only-done one (DemoLine seed) files (printed (demo_text seed)) (λ a b. tt) refl (inl refl)
+can-be-done rows one together sizes laws seconds audits (DemoLine seed) files h = only-done one (DemoLine seed) files (printed (demo_text seed)) (λ a b. tt) refl (inl refl)
 
 -- ---- a session
 

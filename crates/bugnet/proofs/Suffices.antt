@@ -9,24 +9,29 @@ use Rattle.bn_base.specs.Programs.{Program}
 use Rattle.bn_base.specs.declared.row.Row.{Row}
 use Rattle.bn_outside.specs.Files.{Files}
 use Rattle.command_words.specs.Words.{Line, ReplayLine}
+use Rattle.elf_loader.specs.Loaded.{image_of}
 use Rattle.elf_loader.specs.declared.error.ElfError.{ElfError}
+use Rattle.log_record.specs.declared.head.Head.{Head}
 use Rattle.log_order.specs.Content.{Content, IsContent}
-use Rattle.log_file.specs.Layout.{saved_bytes}
+use Rattle.log_file.specs.Laws as of_first
+use Rattle.log_file.specs.Layout.{file_bytes, file_bytes2}
+use Rattle.log_blocks.specs.Faults.{is_second}
 use Rattle.log_blocks.specs.Laws.{SavedHaveTheirLimit}
+use Rattle.log_blocks.specs.Laws as of_second
 use Rattle.log_blocks.specs.Readings.{Reads, FilesAreRead}
 use Rattle.log_blocks.specs.declared.damage.Damage.{Damage}
 use Rattle.hart_replay.specs.Replay.{Done, Replayed, Interval, replayed}
-use Rattle.run_model.specs.Files.{kept_of, content_of}
+use Rattle.run_model.specs.Files.{content_of, file_of}
 use Rattle.run_model.specs.Rows.{rows_in}
 use Rattle.run_model.specs.Runs.{start, run_of}
 use Rattle.run_laws.specs.Laws.{KeptIsAnEnd}
-use Rattle.replay_laws.specs.Law.{LogSuffices, RowsStandTogether}
+use Rattle.replay_laws.specs.Law.{EndsSuffice, RowsStandTogether}
 use Rattle.file_laws.specs.Laws.{LogsAreContents}
 use Rattle.bugnet.specs.Names.{FileNames}
 use Rattle.bugnet.specs.Told.{Told, refused, printed}
 use Rattle.bugnet.specs.Commands.{Either, IsByFile, WithFile, by_log, IsByLog, replay_same, replay_loaded, replay_found, replay_of, interval_told, ended, IsReplayOf, IsReplay}
 use Rattle.bugnet.specs.Answers.{names_in, names_by, IsAnswer}
-use Rattle.bugnet.specs.Headline.{Part, interval_rows, run_text, ReplaysRun, IsReplayed, Headline, part_of, RecordingsAreReplayed, PrintsRun}
+use Rattle.bugnet.specs.Headline.{Part, interval_rows, run_text, ReplaysRun, IsReplayed, Headline, part_of, RecordingsAreReplayed, RecordingsSayEnds, PrintsRun}
 use Rattle.bugnet.specs.Outside.{WithFiles}
 use Rattle.bugnet.specs.Run.{Call, IsFree, SomeTold, Tells, StoppedEarly, TellsAnswer}
 use Rattle.bugnet.specs.declared.names.Role.{Role}
@@ -43,6 +48,21 @@ pub record FileLaws : Type 0 where
   pub contents : LogsAreContents
   pub limit : SavedHaveTheirLimit
   pub read : FilesAreRead
+
+-- how many bytes files of both versions have
+pub record Sizes : Type 0 where
+  pub first : of_first.HaveTheirSize
+  pub second : of_second.HaveTheirSize
+  pub few : of_second.AreFew
+
+spelled-size : Sizes → (second : Bool) (bytes : List ℕ) (d : Content) → IsContent d → elim second as (λ b. Type 0) [ true ↦ bytes ≡ file_bytes2 d | false ↦ (d.head.settings.format ≡ 1) × (bytes ≡ file_bytes d) ]
+    → length bytes ≤ 272629760
+spelled-size sizes true bytes d is e = omega (arith, ap length e, sizes.second d is, sizes.few d is, is.bound, is.settings.log_size_high)
+spelled-size sizes false bytes d is e = omega (arith, ap length e.1, sizes.first d is, is.bound, is.settings.log_size_high)
+
+-- what is read is what a command loads
+pub read-size : Sizes → (bytes : List ℕ) (d : Content) → Reads bytes (Ok d) → length bytes ≤ 272629760
+read-size sizes bytes d reads = spelled-size sizes (is_second bytes) bytes d reads.0 reads.1
 
 -- ---- the answer
 
@@ -63,24 +83,25 @@ then-so false A B C f x = f x
 pub same : (bs : List ℕ) → bytes_eq bs bs ≡ true
 same bs = (bytes_eq-Decides bs bs).1 refl
 
--- the rows of an interval stand together, and what a log keeps is an end of its run's records
+-- every end of a run's records suffices, and the rows of an interval stand together
 abbrev pub Together : Type 0
-Together = RowsStandTogether × KeptIsAnEnd
+Together = EndsSuffice × RowsStandTogether
 
--- the replay of what the log of a run says
-pub answer : LogSuffices → Together → (names : FileNames) (p : Part) (v : Interval) (line : Option Line) (files : Files) → ReplaysRun line files p v
-    → replay_of names p.hart p.number p.elf (content_of p.settings (sha256 p.elf) (run_of p.settings p.program p.input p.turns)) ≡ printed (run_text p v)
+-- the replay of what a log says
+pub answer : Together → (names : FileNames) (p : Part) (v : Interval) (line : Option Line) (files : Files) (r : ReplaysRun line files p v)
+    → replay_of names p.hart p.number p.elf r.says.log ≡ printed (run_text p v)
 unfolding ended
-answer law stand names p v line files r =
-    let run = run_of p.settings p.program p.input p.turns in
-    let d = content_of p.settings (sha256 p.elf) run in
+answer laws names p v line files r =
+    let d = r.says.log in
     let small : p.settings.limit < 2 ^ 63 = omega (arith, r.recording.setting.limit_high) in
+    let digest : bytes_eq (sha256 p.elf) d.head.digest ≡ true = ap (λ (h : Head). bytes_eq (sha256 p.elf) h.digest) r.says.head ∙ same (sha256 p.elf) in
+    let loaded : image_of p.elf d.head.settings ≡ Ok p.program = ap (λ (h : Head). image_of p.elf h.settings) r.says.head ∙ r.recording.loaded in
     let rows : replayed p.program d.records p.hart p.number ≡ record { rows = rows_in p.settings p.program (start p.settings p.program p.input) p.turns p.hart p.number; outcome = Done } =
-    law p.settings p.program p.input p.turns p.hart p.number small (record { legal = r.recording.legal; over = r.recording.over }) v r.kept in
+    laws.0 p.settings p.program p.input p.turns p.hart p.number small (record { legal = r.recording.legal; over = r.recording.over }) d.records r.says.end v r.kept in
     let together : rows_in p.settings p.program (start p.settings p.program p.input) p.turns p.hart p.number ≡ interval_rows p v =
-    stand.0 p.settings p.program p.input p.turns p.hart p.number small (record { legal = r.recording.legal; over = r.recording.over }) (kept_of p.settings run) (stand.1 p.settings run) v r.kept in
-    ap (λ (b : Bool). replay_same b names p.hart p.number p.elf d) (same (sha256 p.elf))
-    ∙ ap (λ (i : Result Program ElfError). replay_loaded names p.hart p.number d i) r.recording.loaded
+    laws.1 p.settings p.program p.input p.turns p.hart p.number small (record { legal = r.recording.legal; over = r.recording.over }) d.records r.says.end v r.kept in
+    ap (λ (b : Bool). replay_same b names p.hart p.number p.elf d) digest
+    ∙ ap (λ (i : Result Program ElfError). replay_loaded names p.hart p.number d i) loaded
     ∙ ap (λ (o : Option Interval). replay_found names p.hart p.number d p.program o) r.kept
     ∙ ap (λ (x : Replayed). interval_told names p.hart p.number v x) rows
     ∙ ap (λ (rs : List Row). interval_told names p.hart p.number v (record { rows = rs; outcome = Done })) together
@@ -89,28 +110,46 @@ answer law stand names p v line files r =
 pub by-content : Grammar → (names : FileNames) (bytes : List ℕ) (d : Content) (go : Content → Told) (what : Told) → Reads bytes (Ok d) → IsByLog names bytes go what → what ≡ go d
 by-content g names bytes d go what reads by = by.is ∙ ap (λ (r : Result Content Damage). by_log names go r) (g.one_reading bytes by.says (Ok d) by.reads reads)
 
-replays : Grammar → LogSuffices → Together → FileLaws → (files : Files) (p : Part) (v : Interval) (line : Option Line) (r : ReplaysRun line files p v) (what : Told)
+replays : Grammar → Together → Sizes → (files : Files) (p : Part) (v : Interval) (line : Option Line) (r : ReplaysRun line files p v) (what : Told)
     → IsReplay files (names_in (ReplayLine r.log_name r.elf_name p.hart p.number)) p.hart p.number what → IsReplayed (Some (ReplayLine r.log_name r.elf_name p.hart p.number)) p v what
 unfolding WithFile
-replays g law stand laws files p v line r what is =
+replays g laws sizes files p v line r what is =
     let names = names_in (ReplayLine r.log_name r.elf_name p.hart p.number) in
-    let d = content_of p.settings (sha256 p.elf) (run_of p.settings p.program p.input p.turns) in
-    let log = saved_bytes d in
-    let content : IsContent d = laws.contents p.settings p.program p.elf p.input p.turns r.recording in
+    let log = r.bytes in
+    let d = r.says.log in
     let first : IsReplayOf files names p.hart p.number log what =
-    by-file (files r.log_name) names role.Log 272629760 log (λ log what. IsReplayOf files names p.hart p.number log what) what r.log (laws.limit d content) is in
+    by-file (files r.log_name) names role.Log 272629760 log (λ log what. IsReplayOf files names p.hart p.number log what) what r.log (read-size sizes log d r.says.reads) is in
     let second = by-size (files r.elf_name) names role.Elf 67108864 p.elf (λ elf what. IsByLog names log (replay_of names p.hart p.number elf) what) what r.program first in
     then-so (nat_lt 67108864 (length p.elf)) _ _ _ (λ (by : IsByLog names log (replay_of names p.hart p.number p.elf) what).
-    by-content g names log d (replay_of names p.hart p.number p.elf) what (laws.read.saved d content) by ∙ answer law stand names p v line files r) second
+    by-content g names log d (replay_of names p.hart p.number p.elf) what r.says.reads by ∙ answer laws names p v line files r) second
 
-pub headline : Grammar → LogSuffices → Together → FileLaws → Headline
-headline g law stand laws line files p v r what is =
+pub headline : Grammar → Together → Sizes → Headline
+headline g laws sizes line files p v r what is =
     subst (λ (l : Option Line). IsReplayed l p v what) (sym r.command)
-    (replays g law stand laws files p v line r what (subst (λ (l : Option Line). IsAnswer l files what) r.command is))
+    (replays g laws sizes files p v line r what (subst (λ (l : Option Line). IsAnswer l files what) r.command is))
+
+-- ---- which files say an end
+
+-- what a recording saves, and the same in version 2
+pub say-ends : FileLaws → KeptIsAnEnd → RecordingsSayEnds
+say-ends laws kept = record {
+  saved = λ c i elf input b is. record {
+    log = content_of c (sha256 elf) (run_of c i input b);
+    reads = laws.read.saved (content_of c (sha256 elf) (run_of c i input b)) (laws.contents c i elf input b is);
+    head = refl;
+    end = kept c (run_of c i input b);
+  };
+  converted = λ c i elf input b is. record {
+    log = content_of c (sha256 elf) (run_of c i input b);
+    reads = laws.read.second (content_of c (sha256 elf) (run_of c i input b)) (laws.contents c i elf input b is);
+    head = refl;
+    end = kept c (run_of c i input b);
+  };
+}
 
 -- what a recording left
-pub replayed-so : Headline → RecordingsAreReplayed
-replayed-so law r old new l hart number v kept files log elf log_is elf_is what is =
+pub replayed-so : FileLaws → KeptIsAnEnd → Headline → RecordingsAreReplayed
+replayed-so laws ends law r old new l hart number v kept files log elf log_is elf_is what is =
     of_false (nat_lt 67108864 (length l.elf)) _ _ (fits 67108864 (length l.elf) l.small)
     (law (Some (ReplayLine log elf hart number)) files (part_of l hart number) v (record {
       log_name = log;
@@ -118,7 +157,9 @@ replayed-so law r old new l hart number v kept files log elf log_is elf_is what 
       command = refl;
       program = elf_is ∙ l.elf_there;
       recording = l.recording;
+      bytes = file_of r.settings l.program (sha256 l.elf) l.input l.turns;
       log = log_is ∙ l.log;
+      says = (say-ends laws ends).saved r.settings l.program l.elf l.input l.turns l.recording;
       kept = kept;
     }) what is)
 

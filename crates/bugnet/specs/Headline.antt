@@ -1,5 +1,5 @@
--- The headline: the log that a recording saves gives the recorded run's rows.
-use Rattle.std.specs.Prelude.{◌≡◌, ◌⊎◌, ℕ, ◌-◌, nat_lt, List, ◌++◌, length, take, drop, Option, Some}
+-- The headline: a log that says an end of what was recorded gives the recorded run's rows.
+use Rattle.std.specs.Prelude.{◌≡◌, ◌⊎◌, ℕ, ◌-◌, nat_lt, List, ◌++◌, length, take, drop, Option, Some, Ok}
 use Rattle.std.specs.Io.KnownBytes.{Appends}
 use Rattle.sha2.specs.Sha256.{sha256}
 use Rattle.bn_base.specs.Programs.{Program}
@@ -7,8 +7,11 @@ use Rattle.bn_base.specs.declared.row.Row.{Row}
 use Rattle.bn_base.specs.declared.settings.RawSettings.{RawSettings}
 use Rattle.bn_outside.specs.Files.{Files}
 use Rattle.command_words.specs.Words.{Line, RecordingLine, ReplayLine}
+use Rattle.log_order.specs.Content.{Content}
+use Rattle.log_file.specs.Layout.{file_bytes2}
+use Rattle.log_blocks.specs.Readings.{Reads}
 use Rattle.hart_replay.specs.Replay.{Interval, interval_of}
-use Rattle.run_model.specs.Files.{kept_of, file_of}
+use Rattle.run_model.specs.Files.{kept_of, content_of, file_of, IsEndOf}
 use Rattle.run_model.specs.Rows.{rows_of}
 use Rattle.replay_laws.specs.Law.{end_of}
 use Rattle.run_model.specs.Runs.{start, run_of}
@@ -41,15 +44,27 @@ interval_rows p v = take (end_of v - v.start.ic) (drop v.start.ic (rows_of p.set
 abbrev pub run_text : Part → Interval → List ℕ
 run_text p v = begin_text p.hart p.number v.start.ic ++ rows_text (interval_rows p v) ++ end_text p.hart p.number v.mark
 
--- a command replays an interval from the log file of a recording with its program file, and the log keeps the interval's Header
+-- bytes say an end of a run's records: they are read, in either version, as a log with the recording's settings and the digest of its
+-- program file, whose records are the run's last ones. So are those that the recording saves, and those that are converted or
+-- salvaged of these (`RecordingsSayEnds`, `SalvagedSayEnds`)
+pub record SaysEnd (c : RawSettings) (i : Program) (elf input turns bytes : List ℕ) : Type 0 where
+  pub log : Content
+  pub reads : Reads bytes (Ok log)
+  pub head : log.head ≡ record { settings = c; digest = sha256 elf }
+  pub end : IsEndOf (run_of c i input turns).stream log.records
+
+-- a command replays an interval from a log file that says an end of a recording, with its program file, and the log has the interval's
+-- Header
 pub record ReplaysRun (line : Option Line) (files : Files) (p : Part) (v : Interval) : Type 0 where
   pub log_name : List ℕ
   pub elf_name : List ℕ
   pub command : line ≡ Some (ReplayLine log_name elf_name p.hart p.number)
   pub program : files elf_name ≡ Some p.elf
   pub recording : IsRecording p.settings p.program p.elf p.input p.turns
-  pub log : files log_name ≡ Some (file_of p.settings p.program (sha256 p.elf) p.input p.turns)
-  pub kept : interval_of p.hart p.number (kept_of p.settings (run_of p.settings p.program p.input p.turns)) ≡ Some v
+  pub bytes : List ℕ
+  pub log : files log_name ≡ Some bytes
+  pub says : SaysEnd p.settings p.program p.elf p.input p.turns bytes
+  pub kept : interval_of p.hart p.number says.log.records ≡ Some v
 
 -- what is answered is the text of the recorded run's own rows; but a program file of more than 2 ^ 26 bytes is too long for any
 -- command, also for the one that records
@@ -76,3 +91,10 @@ RecordingsAreReplayed = (r : RecordingLine) (old new : Files) (l : Leaves r old 
 abbrev pub PrintsRun : Option Line → Files → ℕ → Option (List ℕ) → Option (List ℕ) → Type 0
 PrintsRun line files status out_old out_new = (p : Part) (v : Interval) → ReplaysRun line files p v
     → IsFree status ⊎ Either (nat_lt 67108864 (length p.elf)) (status ≡ 5) ((status ≡ 0) × Appends out_old out_new (run_text p v))
+
+-- ---- which files say an end
+
+-- The file that a recording saves says an end of its records, and so does its log in version 2, as `convert` saves it
+pub record RecordingsSayEnds : Type 0 where
+  pub saved : (c : RawSettings) (i : Program) (elf input b : List ℕ) → IsRecording c i elf input b → SaysEnd c i elf input b (file_of c i (sha256 elf) input b)
+  pub converted : (c : RawSettings) (i : Program) (elf input b : List ℕ) → IsRecording c i elf input b → SaysEnd c i elf input b (file_bytes2 (content_of c (sha256 elf) (run_of c i input b)))

@@ -1,4 +1,4 @@
--- The headline's second half: the joint replay of the log that a recording saves says the recorded run.
+-- The headline's second half: the joint replay of a log that says an end of what was recorded says the recorded run.
 use Rattle.std.specs.Prelude.{◌≡◌, ◌⊎◌, ◌≤◌, ℕ, nat_lt, List, length, Option, Some}
 use Rattle.std.specs.Io.KnownBytes.{Appends}
 use Rattle.sha2.specs.Sha256.{sha256}
@@ -7,12 +7,14 @@ use Rattle.command_words.specs.Words.{Line, RecordingLine, JointLine}
 use Rattle.joint_replay.specs.Joining.{Ran, run_all}
 use Rattle.joint_replay.specs.Texts.{joint_text}
 use Rattle.run_model.specs.Files.{file_of}
+use Rattle.log_record.specs.declared.record.Record.{Record}
 use Rattle.joint_laws.specs.Recordings.{Recording, IsRecorded, kept, begin}
 use Rattle.joint_laws.specs.Laws.{SaysTheRun}
 use Rattle.bugnet.specs.Told.{Told, refused, printed}
 use Rattle.bugnet.specs.Commands.{Either}
 use Rattle.bugnet.specs.Joined.{CanJoin}
 use Rattle.bugnet.specs.Answers.{names_by, IsAnswer}
+use Rattle.bugnet.specs.Headline.{SaysEnd}
 use Rattle.bugnet.specs.Run.{IsFree}
 use Rattle.bugnet.specs.Saves.{Leaves}
 use Rattle.bugnet.specs.declared.names.Role.TheVariants as role
@@ -26,27 +28,29 @@ joint_run r = run_all (begin r (kept r))
 abbrev pub SaysRun : Recording → Type 0
 SaysRun r = SaysTheRun r (kept r) (joint_run r)
 
--- a command replays the log file of a recording jointly, with its program file
+-- a command replays a log file that says an end of a recording jointly, with its program file
 pub record JoinsRun (line : Option Line) (files : Files) (r : Recording) : Type 0 where
   pub log_name : List ℕ
   pub elf_name : List ℕ
   pub command : line ≡ Some (JointLine log_name elf_name)
   pub program : files elf_name ≡ Some r.elf
   pub recording : IsRecorded r
-  pub log : files log_name ≡ Some (file_of r.settings r.program (sha256 r.elf) r.input r.turns)
+  pub bytes : List ℕ
+  pub log : files log_name ≡ Some bytes
+  pub says : SaysEnd r.settings r.program r.elf r.input r.turns bytes
 
--- the text of that joint replay is told, and it says the run
-pub record TellsRun (r : Recording) (what : Told) : Type 0 where
-  pub text : what ≡ printed (joint_text (joint_run r))
-  pub says : SaysRun r
+-- the text of the joint replay of these records is told, the lowest ready hart first, and it says the run
+pub record TellsRun (r : Recording) (records : List Record) (what : Told) : Type 0 where
+  pub text : what ≡ printed (joint_text (run_all (begin r records)))
+  pub says : SaysTheRun r records (run_all (begin r records))
 
 -- so is what is answered; but a program file of more than 2 ^ 26 bytes is too long for any command, also for the one that records
-abbrev pub IsJoined : Option Line → Recording → Told → Type 0
-IsJoined line r what = Either (nat_lt 67108864 (length r.elf)) (what ≡ refused (names_by line) (TooLong role.Elf)) (TellsRun r what)
+abbrev pub IsJoined : Option Line → Recording → List Record → Told → Type 0
+IsJoined line r records what = Either (nat_lt 67108864 (length r.elf)) (what ≡ refused (names_by line) (TooLong role.Elf)) (TellsRun r records what)
 
 -- so is the answer, and there is no other
 abbrev pub JointHeadline : Type 0
-JointHeadline = (line : Option Line) (files : Files) (r : Recording) → JoinsRun line files r → (what : Told) → IsAnswer line files what → IsJoined line r what
+JointHeadline = (line : Option Line) (files : Files) (r : Recording) (j : JoinsRun line files r) (what : Told) → IsAnswer line files what → IsJoined line r j.says.log.records what
 
 -- Where the log file of a recording is there and its program file, which isn't too long, there is all that the command needs: their
 -- joint replay isn't stopped
@@ -62,15 +66,15 @@ recording_of {r} l = record { settings = r.settings; program = l.program; elf = 
 -- file are by then
 abbrev pub RecordingsAreJoined : Type 0
 RecordingsAreJoined = (r : RecordingLine) (old new : Files) (l : Leaves r old new) (files : Files) (log elf : List ℕ) → files log ≡ new r.log → files elf ≡ old r.elf
-    → (what : Told) → IsAnswer (Some (JointLine log elf)) files what → TellsRun (recording_of l) what
+    → (what : Told) → IsAnswer (Some (JointLine log elf)) files what → TellsRun (recording_of l) (kept (recording_of l)) what
 
 -- the command is done: out gains the text of that joint replay, and it says the run
-pub record DoneJointly (r : Recording) (status : ℕ) (out_old out_new : Option (List ℕ)) : Type 0 where
+pub record DoneJointly (r : Recording) (records : List Record) (status : ℕ) (out_old out_new : Option (List ℕ)) : Type 0 where
   pub done : status ≡ 0
-  pub text : Appends out_old out_new (joint_text (joint_run r))
-  pub says : SaysRun r
+  pub text : Appends out_old out_new (joint_text (run_all (begin r records)))
+  pub says : SaysTheRun r records (run_all (begin r records))
 
 -- so it is, unless memory was wanting, the outside failed, or the program file is too long
 abbrev pub PrintsJointly : Option Line → Files → ℕ → Option (List ℕ) → Option (List ℕ) → Type 0
-PrintsJointly line files status out_old out_new = (r : Recording) → JoinsRun line files r
-    → IsFree status ⊎ Either (nat_lt 67108864 (length r.elf)) (status ≡ 5) (DoneJointly r status out_old out_new)
+PrintsJointly line files status out_old out_new = (r : Recording) (j : JoinsRun line files r)
+    → IsFree status ⊎ Either (nat_lt 67108864 (length r.elf)) (status ≡ 5) (DoneJointly r j.says.log.records status out_old out_new)

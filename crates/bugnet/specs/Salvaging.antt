@@ -14,7 +14,7 @@ use Rattle.run_model.specs.Files.{kept_of, dropped_of}
 use Rattle.run_model.specs.Runs.{run_of}
 use Rattle.file_laws.specs.Given.{IsRecording}
 use Rattle.bugnet.specs.Answers.{IsAnswer}
-use Rattle.bugnet.specs.Headline.{Part, run_text}
+use Rattle.bugnet.specs.Headline.{Part, run_text, SaysEnd}
 use Rattle.bugnet.specs.Told.{Told, printed}
 
 -- of these bytes a log is salvaged, and what is undamaged of them is a recording's: the head, and at the end some of the blocks
@@ -29,7 +29,11 @@ pub record SalvagesRun (p : Part) (bytes : List ℕ) (d : Content) : Type 0 wher
   pub blocks : blocks_of (dropped_of p.settings (run_of p.settings p.program p.input p.turns)) (kept_of p.settings (run_of p.settings p.program p.input p.turns)) ≡ front ++ first ∷ back
   pub pieces : salvaged.pieces ≡ pieces_of (first ∷ back)
 
--- The replay of each interval whose Header the saved log has prints the recorded run's rows
+-- What is saved of it says an end of the recording's records
+abbrev pub SalvagedSayEnds : Type 0
+SalvagedSayEnds = (p : Part) (bytes : List ℕ) (d : Content) → SalvagesRun p bytes d → SaysEnd p.settings p.program p.elf p.input p.turns (file_bytes2 d)
+
+-- So the replay of each interval whose Header the saved log has prints the recorded run's rows
 abbrev pub SalvagedAreReplayed : Type 0
 SalvagedAreReplayed = (p : Part) (bytes : List ℕ) (d : Content) → SalvagesRun p bytes d → (v : Interval) → interval_of p.hart p.number d.records ≡ Some v → length p.elf ≤ 67108864
     → (files : Files) (log elf : List ℕ) → files log ≡ Some (file_bytes2 d) → files elf ≡ Some p.elf

@@ -4,15 +4,15 @@ ghost use Rattle.bugnet.specs.Laws.{OneAnswer, OneSession, SeedsAreWhole, FilesK
 ghost use Rattle.bugnet.specs.Agreements.{AuditsAgree};
 ghost use Rattle.bugnet.specs.Complete.{EachHasAnAnswer, EachCanBeDone};
 ghost use Rattle.bugnet.specs.Crashes.{CrashesAreShown};
-ghost use Rattle.bugnet.specs.Headline.{Headline, RecordingsAreReplayed};
+ghost use Rattle.bugnet.specs.Headline.{Headline, RecordingsAreReplayed, RecordingsSayEnds};
 ghost use Rattle.bugnet.specs.Jointly.{JointHeadline, RecordingsCanBeJoined, RecordingsAreJoined};
-ghost use Rattle.bugnet.specs.Salvaging.{SalvagedAreReplayed};
+ghost use Rattle.bugnet.specs.Salvaging.{SalvagedSayEnds, SalvagedAreReplayed};
 ghost use Rattle.bugnet.specs.Traced.{RacesAreTold, SlicesAreTold};
 
 use file_laws::{logs_are_contents, salvaged_files_suffice};
 use hart_worker::{seeded_lists_end, whole_runs_have_no_error};
 use joint_laws::{
-    beginnings_go_on, files_say_the_run_jointly, own_logs_are_logs,
+    beginnings_go_on, files_say_the_run_jointly, joint_replays_say_the_run, own_logs_are_logs,
     reached_joint_replays_say_the_run, steps_are_not_refused,
 };
 use log_blocks::laws::{
@@ -22,7 +22,7 @@ use log_blocks::readings::{
     files_are_read, files_are_read_or_refused, files_are_salvaged_or_refused, readings_are_unique,
     salvages_are_unique, whole_files_are_salvaged,
 };
-use replay_laws::{the_log_suffices, the_rows_of_an_interval_stand_together};
+use replay_laws::{ends_suffice, the_log_suffices, the_rows_of_an_interval_stand_together};
 use run_laws::{
     faults_are_kept, kept_records_are_an_end, own_asks_are_orderly, own_rows_are_turns,
     turns_are_lawful, turns_are_own,
@@ -68,34 +68,53 @@ pub fn recordings_can_be_debugged()
     files_are_read();
 }
 
-/// The answer to the replay of an interval from the log file of a run is the text of the run's own
-/// rows, from the count of the interval's Header to that of its End, whatever the program, its input,
-/// the list of turns and the settings. A program file that is longer than a command may load is
-/// refused, when it is recorded too.
+/// The answer to the replay of an interval from a log that says an end of a recording's records is the text
+/// of the run's own rows, from the count of the interval's Header to that of its End, whatever the program,
+/// its input, the list of turns, the settings, and how much of the records is left. A program file that is
+/// longer than a command may load is refused, when it is recorded too.
 pub fn headline()
     ensures { Headline }
 {
     readings_are_unique();
-    the_log_suffices();
+    ends_suffice();
     the_rows_of_an_interval_stand_together();
-    kept_records_are_an_end();
-    logs_are_contents();
-    saved_files_keep_to_the_limit();
-    files_are_read();
+    log_file::laws::files_have_their_size();
+    files_have_their_size();
+    blocks_are_few();
 }
 
-/// The answer to the joint replay of the log file of a run is the text of one that says the run: it
-/// isn't stopped, keeps the recorded order of conflicting accesses, gives the run's own rows of each
-/// hart's retained intervals from the run's own states, and ends with recorded words. It is so whatever
-/// the program, its input, the list of turns and the settings. A program file that is longer than a
-/// command may load is refused, when it is recorded too.
+/// The answer to the joint replay of such a log is the text of one that says the run: it isn't stopped,
+/// keeps the recorded order of conflicting accesses, gives the run's own rows of each hart's retained
+/// intervals from the run's own states, and ends with recorded words. It is so whatever the program, its
+/// input, the list of turns, the settings, and how much of the records is left. A program file that is
+/// longer than a command may load is refused, when it is recorded too.
 pub fn joint_headline()
     ensures { JointHeadline }
 {
     readings_are_unique();
-    files_say_the_run_jointly();
+    joint_replays_say_the_run();
+    log_file::laws::files_have_their_size();
+    files_have_their_size();
+    blocks_are_few();
+}
+
+/// What a recording saves says an end of its records, and so does the same log in version 2, as `convert`
+/// saves it.
+pub fn recordings_say_ends()
+    ensures { RecordingsSayEnds }
+{
     logs_are_contents();
     saved_files_keep_to_the_limit();
+    files_are_read();
+    kept_records_are_an_end();
+}
+
+/// What `salvage` saves of a recording's damaged file says an end of its records, where the blocks that it
+/// keeps are the recording's last ones.
+pub fn salvaged_logs_say_ends()
+    ensures { SalvagedSayEnds }
+{
+    salvaged_files_suffice();
     files_are_read();
 }
 
@@ -125,14 +144,14 @@ pub fn each_can_be_done()
     turns_are_lawful();
     turns_are_own();
     own_rows_are_turns();
-    the_log_suffices();
+    ends_suffice();
     the_rows_of_an_interval_stand_together();
-    kept_records_are_an_end();
     logs_are_contents();
     saved_files_keep_to_the_limit();
     files_are_read();
     files_name_their_version();
     files_have_their_size();
+    log_file::laws::files_have_their_size();
     blocks_are_few();
     whole_files_are_salvaged();
 }
@@ -153,6 +172,10 @@ pub fn recordings_are_replayed()
     ensures { RecordingsAreReplayed }
 {
     headline();
+    logs_are_contents();
+    saved_files_keep_to_the_limit();
+    files_are_read();
+    kept_records_are_an_end();
 }
 
 /// With format 2 a crash is shown: where a recording's run ended in a fault, status 10, its last turn is
@@ -175,12 +198,8 @@ pub fn crashes_are_shown()
 pub fn salvaged_logs_are_replayed()
     ensures { SalvagedAreReplayed }
 {
-    readings_are_unique();
-    salvaged_files_suffice();
-    the_rows_of_an_interval_stand_together();
-    files_have_their_size();
-    blocks_are_few();
-    files_are_read();
+    salvaged_logs_say_ends();
+    headline();
 }
 
 /// Where the log file of a recording and its program file are there, the program file within its limit,
@@ -200,6 +219,10 @@ pub fn recordings_are_joined()
     ensures { RecordingsAreJoined }
 {
     joint_headline();
+    logs_are_contents();
+    saved_files_keep_to_the_limit();
+    files_are_read();
+    kept_records_are_an_end();
 }
 
 /// Of the log file of a recording with its program file `races` tells the races of the joint replay that

@@ -1,9 +1,9 @@
 use Rattle.bugnet.proofs.Single.{Grammar}
-use Rattle.bugnet.proofs.Suffices.{FileLaws, headline}
+use Rattle.bugnet.proofs.Suffices.{Sizes, headline}
 use Rattle.bugnet.proofs.laws.headline.Goals as goal
 
 pub returns : goal.returns
 returns c =
     let grammar : Grammar = record { one_reading = c.readings_are_unique.ensures } in
-    let laws : FileLaws = record { contents = c.logs_are_contents.ensures; limit = c.saved_files_keep_to_the_limit.ensures; read = c.files_are_read.ensures } in
-    headline grammar c.the_log_suffices.ensures (c.the_rows_of_an_interval_stand_together.ensures, c.kept_records_are_an_end.ensures) laws
+    let sizes : Sizes = record { first = c.files_have_their_size.ensures; second = c.files_have_their_size-2.ensures; few = c.blocks_are_few.ensures } in
+    headline grammar (c.ends_suffice.ensures, c.the_rows_of_an_interval_stand_together.ensures) sizes

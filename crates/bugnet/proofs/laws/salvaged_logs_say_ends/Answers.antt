@@ -1,0 +1,5 @@
+use Rattle.bugnet.proofs.Salvaging.{say-ends}
+use Rattle.bugnet.proofs.laws.salvaged_logs_say_ends.Goals as goal
+
+pub returns : goal.returns
+returns c = say-ends (record { suffice = c.salvaged_files_suffice.ensures; read = c.files_are_read.ensures })
