@@ -34,7 +34,7 @@ use Rattle.bugnet.specs.declared.refusal.Refusal.TheVariants.{TooLong}
 use Rattle.bugnet.proofs.Loads.{fits, of_false}
 use Rattle.bugnet.proofs.Single.{Grammar}
 use Rattle.run_laws.specs.Laws.{KeptIsAnEnd}
-use Rattle.bugnet.proofs.Suffices.{FileLaws, Sizes, read-size, by-file, by-size, then-so, same, by-content, say-ends}
+use Rattle.bugnet.proofs.Suffices.{FileLaws, Sizes, read-size, by-file, by-size, then-so, same, by-content, saved-end}
 use Rattle.bugnet.proofs.Tells.{with-files, stopped-free, early-free}
 
 -- ---- the log
@@ -132,7 +132,7 @@ joined-so laws ends law r old new l files log elf log_is elf_is what is =
       recording = l.recording;
       bytes = file_of r.settings l.program (sha256 l.elf) l.input l.turns;
       log = log_is ∙ l.log;
-      says = (say-ends laws ends).saved r.settings l.program l.elf l.input l.turns l.recording;
+      says = saved-end laws ends r.settings l.program l.elf l.input l.turns l.recording;
     }) what is)
 
 -- the file of a recording has all that the command needs

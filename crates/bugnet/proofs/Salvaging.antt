@@ -7,9 +7,12 @@ use Rattle.log_blocks.specs.Laws.{pieces_of}
 use Rattle.log_blocks.specs.Pieces.{Piece}
 use Rattle.log_blocks.specs.Readings.{FilesAreRead}
 use Rattle.log_file.specs.Layout.{file_bytes2}
+use Rattle.log_order.specs.Content.{Content}
+use Rattle.run_model.specs.Files.{IsEndOf}
+use Rattle.run_model.specs.Runs.{run_of}
 use Rattle.file_laws.specs.Laws.{SalvagedFilesSuffice}
-use Rattle.bugnet.specs.Headline.{Headline}
-use Rattle.bugnet.specs.Salvaging.{SalvagedSayEnds, SalvagedAreReplayed}
+use Rattle.bugnet.specs.Headline.{Part, SaysEnd, Headline}
+use Rattle.bugnet.specs.Salvaging.{SalvagesRun, SalvagedSayEnds, SalvagedAreReplayed}
 use Rattle.bugnet.proofs.Loads.{fits, of_false}
 
 -- the laws of salvaged logs and their files
@@ -17,22 +20,29 @@ pub record SalvageLaws : Type 0 where
   pub suffice : SalvagedFilesSuffice
   pub read : FilesAreRead
 
--- the log is an end of the run's
-pub say-ends : SalvageLaws → SalvagedSayEnds
-say-ends laws p bytes d s =
+-- its records are the run's last ones
+pub is-end : SalvageLaws → (p : Part) (bytes : List ℕ) (d : Content) → SalvagesRun p bytes d → IsEndOf (run_of p.settings p.program p.input p.turns).stream d.records
+is-end laws p bytes d s =
     let place = 136 + length s.salvaged.rest in
     let held : HasBlocks (head_in bytes) (dropped_before (dropped_in bytes) (pieces_of (s.first ∷ s.back))) place (pieces_of (s.first ∷ s.back)) d =
     subst (λ (ps : List Piece). HasBlocks (head_in bytes) (dropped_before (dropped_in bytes) ps) place ps d) s.pieces s.salvaged.blocks in
-    record {
-      log = d;
-      reads = laws.read.second d s.salvaged.blocks.content;
-      head = s.salvaged.blocks.head_is ∙ s.head;
-      end = (laws.suffice p.settings p.program p.elf p.input p.turns s.recording s.front s.first s.back s.blocks (head_in bytes) (dropped_in bytes) place d held).0;
-    }
+    (laws.suffice p.settings p.program p.elf p.input p.turns s.recording s.front s.first s.back s.blocks (head_in bytes) (dropped_in bytes) place d held).0
+
+-- the log says an end of the recording
+abbrev pub salvaged-end : SalvageLaws → (p : Part) (bytes : List ℕ) (d : Content) → SalvagesRun p bytes d → SaysEnd p.settings p.program p.elf p.input p.turns (file_bytes2 d)
+salvaged-end laws p bytes d s = record {
+  log = d;
+  reads = laws.read.second d s.salvaged.blocks.content;
+  head = s.salvaged.blocks.head_is ∙ s.head;
+  end = is-end laws p bytes d s;
+}
+
+pub say-ends : SalvageLaws → SalvagedSayEnds
+say-ends laws = salvaged-end laws
 
 -- so its replay is the recorded run's
-pub salvaged-replayed : SalvagedSayEnds → Headline → SalvagedAreReplayed
-salvaged-replayed ends law p bytes d s v kept small files log elf log_is elf_is what is =
+pub salvaged-replayed : SalvageLaws → Headline → SalvagedAreReplayed
+salvaged-replayed laws law p bytes d s v kept small files log elf log_is elf_is what is =
     of_false (nat_lt 67108864 (length p.elf)) _ _ (fits 67108864 (length p.elf) small)
     (law (Some (ReplayLine log elf p.hart p.number)) files p v (record {
       log_name = log;
@@ -42,6 +52,6 @@ salvaged-replayed ends law p bytes d s v kept small files log elf log_is elf_is 
       recording = s.recording;
       bytes = file_bytes2 d;
       log = log_is;
-      says = ends p bytes d s;
+      says = salvaged-end laws p bytes d s;
       kept = kept;
     }) what is)

@@ -7,6 +7,7 @@ use Rattle.std.proofs.lemmas.Slice.Eq.{bytes_eq-Decides}
 use Rattle.sha2.specs.Sha256.{sha256}
 use Rattle.bn_base.specs.Programs.{Program}
 use Rattle.bn_base.specs.declared.row.Row.{Row}
+use Rattle.bn_base.specs.declared.settings.RawSettings.{RawSettings}
 use Rattle.bn_outside.specs.Files.{Files}
 use Rattle.command_words.specs.Words.{Line, ReplayLine}
 use Rattle.elf_loader.specs.Loaded.{image_of}
@@ -26,12 +27,13 @@ use Rattle.run_model.specs.Rows.{rows_in}
 use Rattle.run_model.specs.Runs.{start, run_of}
 use Rattle.run_laws.specs.Laws.{KeptIsAnEnd}
 use Rattle.replay_laws.specs.Law.{EndsSuffice, RowsStandTogether}
+use Rattle.file_laws.specs.Given.{IsRecording}
 use Rattle.file_laws.specs.Laws.{LogsAreContents}
 use Rattle.bugnet.specs.Names.{FileNames}
 use Rattle.bugnet.specs.Told.{Told, refused, printed}
 use Rattle.bugnet.specs.Commands.{Either, IsByFile, WithFile, by_log, IsByLog, replay_same, replay_loaded, replay_found, replay_of, interval_told, ended, IsReplayOf, IsReplay}
 use Rattle.bugnet.specs.Answers.{names_in, names_by, IsAnswer}
-use Rattle.bugnet.specs.Headline.{Part, interval_rows, run_text, ReplaysRun, IsReplayed, Headline, part_of, RecordingsAreReplayed, RecordingsSayEnds, PrintsRun}
+use Rattle.bugnet.specs.Headline.{Part, interval_rows, run_text, SaysEnd, ReplaysRun, IsReplayed, Headline, part_of, RecordingsAreReplayed, RecordingsSayEnds, PrintsRun}
 use Rattle.bugnet.specs.Outside.{WithFiles}
 use Rattle.bugnet.specs.Run.{Call, IsFree, SomeTold, Tells, StoppedEarly, TellsAnswer}
 use Rattle.bugnet.specs.declared.names.Role.{Role}
@@ -131,14 +133,17 @@ headline g laws sizes line files p v r what is =
 -- ---- which files say an end
 
 -- what a recording saves, and the same in version 2
+abbrev pub saved-end : FileLaws → KeptIsAnEnd → (c : RawSettings) (i : Program) (elf input b : List ℕ) → IsRecording c i elf input b → SaysEnd c i elf input b (file_of c i (sha256 elf) input b)
+saved-end laws kept c i elf input b is = record {
+  log = content_of c (sha256 elf) (run_of c i input b);
+  reads = laws.read.saved (content_of c (sha256 elf) (run_of c i input b)) (laws.contents c i elf input b is);
+  head = refl;
+  end = kept c (run_of c i input b);
+}
+
 pub say-ends : FileLaws → KeptIsAnEnd → RecordingsSayEnds
 say-ends laws kept = record {
-  saved = λ c i elf input b is. record {
-    log = content_of c (sha256 elf) (run_of c i input b);
-    reads = laws.read.saved (content_of c (sha256 elf) (run_of c i input b)) (laws.contents c i elf input b is);
-    head = refl;
-    end = kept c (run_of c i input b);
-  };
+  saved = saved-end laws kept;
   converted = λ c i elf input b is. record {
     log = content_of c (sha256 elf) (run_of c i input b);
     reads = laws.read.second (content_of c (sha256 elf) (run_of c i input b)) (laws.contents c i elf input b is);
@@ -159,7 +164,7 @@ replayed-so laws ends law r old new l hart number v kept files log elf log_is el
       recording = l.recording;
       bytes = file_of r.settings l.program (sha256 l.elf) l.input l.turns;
       log = log_is ∙ l.log;
-      says = (say-ends laws ends).saved r.settings l.program l.elf l.input l.turns l.recording;
+      says = saved-end laws ends r.settings l.program l.elf l.input l.turns l.recording;
       kept = kept;
     }) what is)
 

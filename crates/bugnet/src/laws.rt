@@ -198,7 +198,8 @@ pub fn crashes_are_shown()
 pub fn salvaged_logs_are_replayed()
     ensures { SalvagedAreReplayed }
 {
-    salvaged_logs_say_ends();
+    salvaged_files_suffice();
+    files_are_read();
     headline();
 }
 

@@ -2,4 +2,4 @@ use Rattle.bugnet.proofs.Salvaging.{salvaged-replayed}
 use Rattle.bugnet.proofs.laws.salvaged_logs_are_replayed.Goals as goal
 
 pub returns : goal.returns
-returns c = salvaged-replayed c.salvaged_logs_say_ends.ensures c.headline.ensures
+returns c = salvaged-replayed (record { suffice = c.salvaged_files_suffice.ensures; read = c.files_are_read.ensures }) c.headline.ensures
