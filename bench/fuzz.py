@@ -17,6 +17,10 @@ of these. A program file is given to `replay`, `joint`, `debug`, `races`, `slice
 itself, with a status that its command has, one line on err that fits the status, within SECONDS of processor time and
 BYTES of memory; and `check` has to say what bench/verdict.py says, and `convert` and `salvage` too, and to save it.
 
+With ZELKUMA_CASES the same files are given to the same call in memory, many of them to one process: that variable
+names the built program of the crate program_cases, which does what lines say. Only the recordings come of the
+program itself then. Seconds are those of that process for a call, and bytes are its most in all.
+
 It prints how many calls of each command had which status, the longest and the largest, and ends with 1 where a
 call was answered otherwise; such a file is kept, and its name and words are printed.
 """
@@ -28,6 +32,7 @@ import random
 import re
 import signal
 import struct
+import subprocess
 import sys
 import time
 
@@ -37,6 +42,7 @@ import verdict
 TOP = os.path.dirname(os.path.dirname(os.path.realpath(__file__)))
 PROGRAM = os.environ.get("ZELKUMA_PROGRAM", f"{TOP}/crates/bugnet_main/out/bugnet_main")
 SECONDS, BYTES, PATIENCE = 1.0, 64 << 20, 30
+CASES = os.environ.get("ZELKUMA_CASES")
 KEPT = "/tmp/fuzz-kept"
 LOADING = {0, 6, 7, 8}
 STATUSES = {
@@ -166,6 +172,98 @@ class Calls:
 
     def numbers(self):
         return self.statuses, self.kinds, self.longest, self.largest, self.wrong
+
+
+class Cases(Calls):
+    """Calls in memory, of a process that reads lines, and what came of them."""
+
+    TICK = os.sysconf("SC_CLK_TCK")
+
+    def __init__(self, folder):
+        super().__init__(folder)
+        self.files, self.count = {}, 0
+        self.begin()
+
+    def begin(self):
+        """Begins a process, which has the files that there are."""
+        pipe = subprocess.PIPE
+        self.process = subprocess.Popen([CASES], stdin=pipe, stdout=pipe, stderr=subprocess.STDOUT)
+        self.used = 0.0
+        for name, data in self.files.items():
+            self.write(name, data)
+
+    def path(self, name):
+        return name
+
+    def say(self, line):
+        self.process.stdin.write(line.encode() + b"\n")
+
+    def write(self, name, data):
+        self.files[name] = data
+        if name != "keys":
+            self.say(f"zeros {name} 0")
+            for at in range(0, len(data), 8192):
+                self.say(f"bytes {name} {data[at : at + 8192].hex()}")
+
+    def answer(self):
+        """Returns what was printed for the lines so far, whose last one asks for a file that isn't there."""
+        self.count += 1
+        self.say(f"size none-{self.count}")
+        self.process.stdin.flush()
+        lines, last = [], f"none-{self.count} is not there\n".encode()
+        for line in self.process.stdout:
+            if line.endswith(last):
+                lines.append(line[: -len(last)])
+                return b"".join(lines)
+            lines.append(line)
+        return None
+
+    def read(self, name):
+        if name == "out":
+            return self.out
+        self.say(f"show {name}")
+        return bytes.fromhex(self.answer().partition(b"\n")[2].decode())
+
+    def took(self):
+        """Returns the seconds of the process since this was asked last, and its most bytes."""
+        with open(f"/proc/{self.process.pid}/stat", encoding="utf-8") as file:
+            fields = file.read().rpartition(")")[2].split()
+        with open(f"/proc/{self.process.pid}/status", encoding="utf-8") as file:
+            size = next(int(line.split()[1]) << 10 for line in file if line.startswith("VmHWM"))
+        used = (int(fields[11]) + int(fields[12])) / self.TICK
+        before, self.used = self.used, used
+        return used - before, size
+
+    def run(self, *words, out=None):
+        """Runs a command as its process does, and returns its status and its line on err."""
+        if words[0] == "debug" and self.files["keys"]:
+            self.say(f"keys {self.files['keys'].hex()}")
+        self.say(f"run {' '.join(words)}")
+        printed = self.answer()
+        if printed is None:
+            self.tell(words, f"ended with {self.process.wait()}")
+            self.begin()
+            return None, ""
+        _, status, counted, text = printed.split(b"\n", 3)
+        status, size = int(status.split()[1]), int(counted.split()[1])
+        at = size if text.startswith(b"err ", size) else text.rindex(b"\nerr ") + 1
+        self.out, line = text[:at], text[at:].split(b"\n", 1)[1].decode()
+        line = line.rpartition("left ")[0] if words[0] == "debug" and self.files["keys"] else line
+        self.statuses[words[0], status] += 1
+        self.look(words, status, line)
+        seconds, most = self.took()
+        self.longest, self.largest = max(self.longest, (seconds, " ".join(words))), (most, "")
+        if seconds > SECONDS or most > BYTES:
+            self.tell(words, f"took {seconds:.2f} seconds, {most} bytes with all before")
+        return status, line
+
+    def tell(self, words, what):
+        os.makedirs(KEPT, exist_ok=True)
+        place = f"{KEPT}/{os.getpid()}-{len(self.wrong)}"
+        for name, data in self.files.items():
+            with open(f"{place}-{name}", "wb") as file:
+                file.write(data)
+        self.wrong.append(f"{place}: {' '.join(words)}: {what}")
 
 
 # ---- what is made of recordings
@@ -575,8 +673,8 @@ def give_small2(calls, draw, first, elf):
 def work(share):
     first, end, seed = share
     folder = f"/dev/shm/fuzz-{os.getpid()}"
-    calls = Calls(folder)
     pool = recordings(folder)
+    calls = Cases(folder) if CASES else Calls(folder)
     if first == 0:
         give_small(calls)
     for place in range(first, end):

@@ -14,7 +14,7 @@ work=$(mktemp -d)
 trap 'rm -rf "$work"' EXIT
 runs=${1:-3}
 elf=$top/examples/sort.elf
-zelkuma=$("$top/zelkuma" build) # the program itself
+zelkuma=${ZELKUMA_PROGRAM:-$("$top/zelkuma" build)} # the program itself
 
 # seconds STATUS WORD..: runs the words, which have to end with this status, and prints the least
 # processor time of all the runs. What they write to err last is in $work/err.

@@ -19,6 +19,7 @@ It prints how many runs of each command ended with which status, and ends with 1
 
 import collections
 import os
+import struct
 import subprocess
 import sys
 import tempfile
@@ -36,10 +37,12 @@ COMMANDS = {
     "record --seed 1": (*RECORD, "--seed", "1"),
     "record": RECORD,
     "record --lean": (*RECORD, "--lean"),
+    "record --format 2": (*RECORD, "--seed", "1", "--format", "2"),
     "check": ("check", "KEPT"),
     "list": ("list", "KEPT"),
     "replay": ("replay", "KEPT", "ELF", "1", "1"),
     "joint": ("joint", "KEPT", "ELF"),
+    "joint, some given up": ("joint", "ENDED", "ELF"),
     "debug": ("debug", "KEPT", "ELF"),
     "audit": ("audit", "KEPT", "ELF", "TURNS", "--input", "IN"),
     "races": ("races", "KEPT", "ELF", "10"),
@@ -130,6 +133,13 @@ def is_agreed(folder, ran):
     return ran.files[1] == b"old" or subprocess.run(words, cwd=folder, capture_output=True).returncode == 0
 
 
+def cut_front(data):
+    """Returns a log of version 1 whose first two records were given up."""
+    head, records = forge.parts(data)
+    left = b"".join(forge.split(records)[2:])
+    return forge.sealed(head[:80] + struct.pack("<QI", 2, len(left)) + left)
+
+
 def damaged(data):
     """Returns a log of version 2 with its records in two blocks, of which the first is damaged."""
     signed, blocks = forge.parts2(data)
@@ -172,6 +182,7 @@ def main(words):
         write(f"{folder}/IN", b"wxyz")
         kept = Ran(folder, COMMANDS["record --seed 1"])
         write(f"{folder}/KEPT", kept.files[0])
+        write(f"{folder}/ENDED", cut_front(kept.files[0]))
         write(f"{folder}/TURNS", kept.files[1])
         write(f"{folder}/SEALED", Ran(folder, COMMANDS["convert"]).files[0])
         write(f"{folder}/DAMAGED", damaged(read(f"{folder}/SEALED")))

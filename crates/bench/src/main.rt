@@ -28,6 +28,49 @@ mod touch_timing;
 
 use std::env;
 
+// Times a layer by so much of it, or tells the words.
+fn time_layer(rt: &HostRuntime, layer: &str, count: u64) -> anyhow::Result<()> {
+    if layer == "decode" && count > 0 {
+        return decode_timing::decoding(rt, count);
+    }
+    if layer == "meaning" && count > 0 {
+        return meaning_timing::meaning(rt, count);
+    }
+    if layer == "races" && count > 0 && count < 1 << 40 {
+        return race_timing::races(rt, count);
+    }
+    if layer == "ring" && count > 0 && count < 1 << 40 {
+        return ring_timing::records(rt, count);
+    }
+    if layer == "cache" && count > 0 && count < 1 << 40 {
+        return touch_timing::touches(rt, count);
+    }
+    if layer == "file" && count > 0 {
+        return file_timing::files(rt, count);
+    }
+    time_run(rt, layer, count)
+}
+
+// The same of the layers that run a program or replay one.
+fn time_run(rt: &HostRuntime, layer: &str, count: u64) -> anyhow::Result<()> {
+    if layer == "joint" && count > 0 {
+        return joint_timing::joint_replays(rt, count);
+    }
+    if layer == "replay" && count > 0 && count <= 10_000_000 {
+        return replay_timing::replay(rt, count);
+    }
+    if layer == "again" && count > 0 {
+        return again_check::asks(rt, count);
+    }
+    if layer == "serve" && count > 0 {
+        return serve_timing::asks(rt, count);
+    }
+    println!(rt;
+        "bench LAYER COUNT, where LAYER is decode, meaning, races, ring, cache, file, serve, again, joint or replay"
+    )?;
+    Ok(())
+}
+
 fn main(rt: HostRuntime) -> anyhow::Result<()> {
     let words: Vec<String> = env::args(&rt)?.collect(rt.alloc())?;
     let layer = match words.get(1) {
@@ -38,38 +81,5 @@ fn main(rt: HostRuntime) -> anyhow::Result<()> {
         Some(word) => word.as_str().parse::<u64>().unwrap_or(0),
         None => 0,
     };
-    if layer == "decode" && count > 0 {
-        return decode_timing::decoding(&rt, count);
-    }
-    if layer == "meaning" && count > 0 {
-        return meaning_timing::meaning(&rt, count);
-    }
-    if layer == "races" && count > 0 && count < 1 << 40 {
-        return race_timing::races(&rt, count);
-    }
-    if layer == "ring" && count > 0 && count < 1 << 40 {
-        return ring_timing::records(&rt, count);
-    }
-    if layer == "cache" && count > 0 && count < 1 << 40 {
-        return touch_timing::touches(&rt, count);
-    }
-    if layer == "file" && count > 0 {
-        return file_timing::files(&rt, count);
-    }
-    if layer == "joint" && count > 0 {
-        return joint_timing::joint_replays(&rt, count);
-    }
-    if layer == "replay" && count > 0 && count <= 10_000_000 {
-        return replay_timing::replay(&rt, count);
-    }
-    if layer == "again" && count > 0 {
-        return again_check::asks(&rt, count);
-    }
-    if layer == "serve" && count > 0 {
-        return serve_timing::asks(&rt, count);
-    }
-    println!(rt;
-        "bench LAYER COUNT, where LAYER is decode, meaning, races, ring, cache, file, serve, again, joint or replay"
-    )?;
-    Ok(())
+    time_layer(&rt, layer, count)
 }

@@ -15,7 +15,7 @@ use crate::names::{Names, Role};
 use crate::printing::{refuse, send_check};
 use crate::refusal::Refusal;
 use bn_outside::{SaveError, Sink, Store};
-use log_blocks::{SalvageError, counts_of, salvage, write_log2};
+use log_blocks::{SalvageError, counts_of, salvage_file, write_log2};
 use log_order::KeptLog;
 use std::alloc::Global;
 
@@ -52,8 +52,11 @@ fn salvage_of(alloc: Global, names: &Names, log: &[u8]) -> Result<Answer, Refusa
     ensures own { IsOwn result }
     ensures renews { IfOk result IsRenewed }
 {
-    match salvage(alloc, log) {
-        Ok(log) => renew(alloc, names, &log),
+    match salvage_file(alloc, log) {
+        Ok(new) => Ok(Answer::Renewed(NewLog {
+            file: new.bytes,
+            counts: new.counts,
+        })),
         Err(SalvageError::File(damage)) => Err(Refusal::LogRefused(damage)),
         Err(SalvageError::NothingLeft) => Err(Refusal::NothingLeft),
         Err(SalvageError::OutOfMemory) => Err(Refusal::OutOfMemory),

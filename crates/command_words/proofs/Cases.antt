@@ -3,7 +3,7 @@ use Rattle.std.proofs.Common.{◌≡◌, [], ◌∷◌, codes, Some, None, true,
 use Rattle.clap.proofs.OnLiterals.{clap_on_literals}
 use Rattle.bn_base.specs.Ranges.{default_settings}
 use Rattle.command_words.specs.Words.{RecordLine, ReplayLine, JointLine, DebugLine, ListLine, CheckLine, AuditLine, RacesLine, SliceLine, ConvertLine, SalvageLine, DemoLine, line_of}
-use Rattle.command_words.specs.Examples.{said, plain}
+use Rattle.command_words.specs.Examples.{said, plain, two_level_words, two_levels}
 
 pub before : said (codes "record" ∷ codes "--seed" ∷ codes "5" ∷ codes "E" ∷ codes "L" ∷ codes "B" ∷ []) ≡ Some (RecordLine plain)
 unfolding line_of clap_on_literals
@@ -21,7 +21,7 @@ pub setting : said (codes "record" ∷ codes "--ways" ∷ codes "2" ∷ codes "E
 unfolding line_of clap_on_literals
 setting = refl
 
-pub format : said (codes "record" ∷ codes "--format=2" ∷ codes "--sets2=4096" ∷ codes "E" ∷ codes "L" ∷ codes "B" ∷ codes "--seed=5" ∷ codes "--ways2=1" ∷ []) ≡ Some (RecordLine (record plain { settings = record default_settings { format = 2; sets2 = 4096; ways2 = 1 } }))
+pub format : said two_level_words ≡ Some (RecordLine two_levels)
 unfolding line_of clap_on_literals
 format = refl
 

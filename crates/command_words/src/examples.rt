@@ -2,7 +2,7 @@
 ghost use Rattle.std.specs.Prelude.{◌≡◌, ◌∷◌, [], Some, None, true, codes};
 ghost use Rattle.bn_base.specs.Ranges.{default_settings};
 ghost use Rattle.command_words.specs.Words.{RecordLine, ReplayLine, JointLine, DebugLine, ListLine, CheckLine, AuditLine, RacesLine, SliceLine, ConvertLine, SalvageLine, DemoLine, line_of};
-ghost use Rattle.command_words.specs.Examples.{said, plain};
+ghost use Rattle.command_words.specs.Examples.{said, plain, two_level_words, two_levels};
 
 /// Options stand before, between and after names, with `=` or in two words. Settings that aren't
 /// given have their defaults.
@@ -14,7 +14,7 @@ pub fn options_stand_anywhere()
     ensures no_seed { said (codes "record" ∷ codes "E" ∷ codes "L" ∷ codes "B" ∷ []) ≡ Some (RecordLine (record plain { seed = None })) }
     ensures lean { said (codes "record" ∷ codes "--lean" ∷ codes "E" ∷ codes "L" ∷ codes "B" ∷ codes "--seed=5" ∷ []) ≡ Some (RecordLine (record plain { lean = true })) }
     ensures setting { said (codes "record" ∷ codes "--ways" ∷ codes "2" ∷ codes "E" ∷ codes "L" ∷ codes "B" ∷ codes "--seed=5" ∷ []) ≡ Some (RecordLine (record plain { settings = record default_settings { ways = 2 } })) }
-    ensures format { said (codes "record" ∷ codes "--format=2" ∷ codes "--sets2=4096" ∷ codes "E" ∷ codes "L" ∷ codes "B" ∷ codes "--seed=5" ∷ codes "--ways2=1" ∷ []) ≡ Some (RecordLine (record plain { settings = record default_settings { format = 2; sets2 = 4096; ways2 = 1 } })) }
+    ensures format { said two_level_words ≡ Some (RecordLine two_levels) }
 {}
 
 /// The other commands, each with its names and numbers in order.

@@ -1,4 +1,8 @@
 mod Exits
+pub mod Levels
+pub mod Listed
+pub mod Lookups
+pub mod Codes
 pub mod Marks
 pub mod Puts
 pub mod Places

@@ -17,9 +17,9 @@ use Rattle.rv_meaning.specs.declared.asks.Reply.TheVariants as replies
 use Rattle.hart_rows.specs.Rows.{row_of, call_row, fault_row}
 use Rattle.hart_replay.specs.declared.error.ReplayError.TheVariants.{EndDiffers, ScMissing}
 use Rattle.hart_replay.specs.Replay.{Outcome, Refused, Replayed, Interval, Position, Next, On, Stop, missing, after_ask, after_sc, ask_step, one_step, found, call_reason, steps, finish, onto, left_over, fault_end, ended, first, interval_from, Logged, puts, nothing, interval_of, replayed_in}
+use Rattle.hart_replay.specs.Codes.{CodeOf}
 use Rattle.hart_replay.specs.Coming.{after_row, reply_in, with_rows, without_rows, to_come, over, Replaying, Begins, a_word_comes}
 use Rattle.hart_replay.specs.Sides.{Side, Goes, interval_at, position_at, later, side, side_to_come, left_by, KeepsWord, Does}
-use Rattle.std.specs.Borrow.{Bor}
 use Rattle.std.specs.Prelude.{Result, Ok, Err, drop, ◌⊎◌}
 use Rattle.std.proofs.Common.{inl, inr}
 use Rattle.log_record.specs.declared.record.Record.{Record}
@@ -275,7 +275,7 @@ SamePlan o n = (n.image ≡ o.image) × (n.hart ≡ o.hart) × (n.mark ≡ o.mar
 
 same_to_come : (o n : Course) → SamePlan o n → side_to_come o.image.now o.hart o.mark n.state n.called (side_of n) ≡ course_to_come n
 same_to_come o n same =
-    let i : n.image.now ≡ o.image.now = ap (λ (b : Bor Program). b.now) same.0 in
+    let i : n.image.now ≡ o.image.now = ap (λ (b : CodeOf). b.now) same.0 in
     sym (ap (λ (x : Program). side_to_come x n.hart n.mark n.state n.called (side_of n)) i
     ∙ ap (λ (x : ℕ). side_to_come o.image.now x n.mark n.state n.called (side_of n)) same.1
     ∙ ap (λ (x : EndMark). side_to_come o.image.now o.hart x n.state n.called (side_of n)) same.2)
@@ -289,7 +289,7 @@ stepped_on o n ended now row view none lt fits does same =
     subst (λ (r : Replaying). (r.left ≡ with_rows (row ∷ []) (left_by ended (course_to_come n))) × (n.state ≡ after_row r.program r.state row) × (n.image.now ≡ r.program) × (n.mark ≡ r.mark)) view (
       ap (λ (x : Option (Result (Unit {0}) ReplayError)). left_by x (course_to_come o)) none ∙ gone ∙ sym (ap (λ (x : Option (Result (Unit {0}) ReplayError)). with_rows (row ∷ []) (left_by x (course_to_come n))) none),
       state_after o.image.now o.hart o.mark o.state o.called (side_of o) row n.state n.called (side_of n) does.0,
-      ap (λ (b : Bor Program). b.now) same.0,
+      ap (λ (b : CodeOf). b.now) same.0,
       same.2,
     )
 
@@ -301,7 +301,7 @@ pub stepped_out : (o n : Course) (ended : Option (Result (Unit {0}) ReplayError)
 stepped_out o n ended now e view none lt does same =
     subst (λ (r : Replaying). ((r.left ≡ over (Refused e)) ⊎ (e ≡ OutOfMemory)) × (◌≡◌ {A = Replaying} (record { program = n.image.now; mark = n.mark; state = n.state; left = over (Refused e) }) (record { program = r.program; mark = r.mark; state = r.state; left = over (Refused e) })) × ((r.left ≡ over (Refused e)) ⊎ (a_word_comes r.left.rows ≡ true))) view (
       by_answer does.0,
-      ap (λ (b : Bor Program). record { program = b.now; mark = n.mark; state = n.state; left = over (Refused e) }) same.0 ∙ ap (λ (m : EndMark). record { program = o.image.now; mark = m; state = n.state; left = over (Refused e) }) same.2
+      ap (λ (b : CodeOf). record { program = b.now; mark = n.mark; state = n.state; left = over (Refused e) }) same.0 ∙ ap (λ (m : EndMark). record { program = o.image.now; mark = m; state = n.state; left = over (Refused e) }) same.2
           ∙ ap (λ (s : HartState). record { program = o.image.now; mark = o.mark; state = s; left = over (Refused e) }) does.1,
       by_row does.0,
     )

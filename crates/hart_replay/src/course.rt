@@ -12,11 +12,12 @@ ghost use Rattle.hart_replay.specs.Sides.{IsSystem, call_reg, call_answer, fault
 ghost use Rattle.hart_replay.specs.Courses.{CourseDoes, DoneAndKept, next_asked, next_of, replied_row, replied, left_of, end_of};
 ghost use Rattle.hart_replay.specs.Scans.{met, IsWaiting};
 
+use crate::code::Code;
 use crate::error::ReplayError;
 use crate::pending::{Conditionals, Loads};
 use crate::words::Words;
 use bn_base::end_mark::{CALL, EXIT, FAULT, GROUP, LENGTH};
-use bn_base::{Addr, EndMark, Fault, HartId, HartState, Image, Register, Row};
+use bn_base::{Addr, EndMark, Fault, HartId, HartState, Register, Row};
 use hart_rows::Fetched;
 use rv_meaning::{
     AmoOp, Reply, Want, absorb_in_place, each_instruction_is_counted_or_asks, quiet_run_in_place,
@@ -29,7 +30,7 @@ use std::alloc::AllocError;
 /// ends the interval.
 #[derive(Drop)]
 pub(crate) struct Course<'a> {
-    pub(crate) image: &'a Image,
+    pub(crate) image: Code<'a>,
     pub(crate) hart: HartId,
     pub(crate) mark: EndMark,
     pub(crate) state: HartState,
@@ -399,14 +400,25 @@ impl<'a> Course<'a> {
         ensures answer { CourseDoes self.old (next_of self.old) result self.new }
         ensures same { (self.new.image ≡ self.old.image) × (self.new.hart ≡ self.old.hart) × (self.new.mark ≡ self.old.mark) }
     {
-        let here = Fetched::at(self.hart, self.image, &self.state);
+        let here = self.image.fetch(self.hart, &self.state);
+        self.go_on_at(&here)
+    }
+
+    // The same, where the instruction is looked up.
+    fn go_on_at(&mut self, here: &Fetched) -> Result<Row, ReplayError>
+        requires here { here.now ≡ fetched self.old.hart self.old.image.now self.old.state }
+        requires count { self.old.state.ic < self.old.mark.ic }
+        ensures answer { CourseDoes self.old (next_of self.old) result self.new }
+        ensures same { (self.new.image ≡ self.old.image) × (self.new.hart ≡ self.old.hart) × (self.new.mark ≡ self.old.mark) }
+    {
         each_instruction_is_counted_or_asks();
-        match quiet_run_in_place(self.image, &mut self.state, 1) {
+        let image = self.image.image();
+        match quiet_run_in_place(image, &mut self.state, 1) {
             Want::Cut => {
                 self.called = false;
                 Ok(here.row(&self.state.x, None, None))
             }
-            want => self.ask(&here, &want),
+            want => self.ask(here, &want),
         }
     }
 
@@ -430,9 +442,10 @@ impl<'a> Course<'a> {
         requires { 16 < self.now.mark.reason }
         ensures { record { rows = rows_of result.0; outcome = outcome_of result.1 } ≡ end_of self.now }
     {
-        let here = Fetched::at(self.hart, self.image, &self.state);
+        let image = self.image.image();
+        let here = Fetched::at(self.hart, image, &self.state);
         let mut state = self.state;
-        let want = quiet_run_in_place(self.image, &mut state, 1);
+        let want = quiet_run_in_place(image, &mut state, 1);
         match fault_in(&want) {
             Some((kind, value)) => {
                 let end = EndMark::of_fault(self.state.ic, kind, value);
@@ -479,7 +492,7 @@ impl<'a> Course<'a> {
         ensures rest { IfOk result (λ c. c ≡ record self.now { words = c.words }) }
     {
         Ok(Course {
-            image: self.image,
+            image: self.image.copy(),
             hart: self.hart,
             mark: self.mark,
             state: self.state,

@@ -1,9 +1,12 @@
 //! The replay of one checkpoint interval, from its log and the program alone.
 #![tactic(auto)]
 
+mod code;
 mod course;
+mod directory;
 pub mod error;
 mod header;
+mod level;
 mod page;
 mod pending;
 pub mod replayer;

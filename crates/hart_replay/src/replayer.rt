@@ -4,6 +4,7 @@ ghost use Rattle.hart_replay.specs.declared.error.ReplayError.TheVariants.{NoInt
 ghost use Rattle.hart_replay.specs.Replay.{interval_of};
 ghost use Rattle.hart_replay.specs.Coming.{Begins, Stepped};
 
+use crate::code::Code;
 use crate::course::Course;
 use crate::error::ReplayError;
 use crate::header::find;
@@ -20,7 +21,7 @@ use std::marker::Model;
 /// Contracts see the program, the mark of the interval's End, the hart's state after the rows given
 /// so far, and what is left: the rows to come and the outcome. Each step takes constant time, but for records of the log that it
 /// passes; each record is passed at most twice. The memory that it takes is in proportion to the
-/// pages of 64 words that the interval touches.
+/// pages of 64 words that the interval touches, beside 16 KiB for what it looked up in the code.
 #[derive(Drop)]
 pub struct Replayer<'a> {
     course: Course<'a>,
@@ -72,7 +73,7 @@ impl<'a> Replayer<'a> {
             None => Err(ReplayError::NoInterval { hart, interval }),
             Some(start) => Ok(Replayer {
                 course: Course {
-                    image,
+                    image: Code::new(alloc, image),
                     hart: start.hart,
                     mark: next_mark(start.hart, records, start.next),
                     state: start.state,

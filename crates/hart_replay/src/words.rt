@@ -1,28 +1,73 @@
 //! The words that a replay knows.
 ghost use Rattle.std.specs.Prelude.{◌≡◌, ◌≤◌, ◌<◌, ◌+◌, ◌/◌, ◌==◌, ℕ, Some, None, if◌then◌else◌, OnOk, IfOk, IsOk};
-ghost use Rattle.hart_replay.specs.Pages.{word_at};
+ghost use Rattle.hart_replay.specs.Pages.{word_at, word_in};
+ghost use Rattle.hart_replay.specs.Directories.{stands_at};
 
+use crate::directory::Directory;
 use crate::page::{PAGE_WORDS, Page};
 use bn_base::Addr;
 use std::alloc::{AllocError, Global};
-use std::collections::HashMap;
 use std::marker::Model;
+
+/// A page with its number.
+#[derive(Drop)]
+pub(crate) struct Numbered {
+    number: u32,
+    page: Page,
+}
+
+impl Numbered {
+    // A page of which one word is known.
+    fn of_word(number: u32, at: u32, word: u32) -> Numbered
+        requires { at < 64 }
+        ensures number { result.number ≡ number }
+        ensures word { (k : ℕ) → word_in result.page k ≡ (if k == at then Some word else None) }
+    {
+        let mut page = Page::new();
+        page.put(at, word);
+        Numbered { number, page }
+    }
+}
+
+impl Clone for Numbered {
+    ghost is_clone = { λ p q. q ≡ p };
+
+    fn clone(&self) -> Result<Numbered, AllocError> {
+        Ok(Numbered {
+            number: self.number,
+            page: self.page.copy(),
+        })
+    }
+}
+
+// Whether the page of a number stands at a place.
+fn stands_at(pages: &[Numbered], place: usize, number: u32) -> bool
+    ensures { result ≡ stands_at pages.now place number }
+{
+    match pages.get(place) {
+        None => false,
+        Some(page) => page.number == number,
+    }
+}
 
 /// The known words by address, in pages of 64 words, which are made where a word of theirs is put.
 ///
 /// Contracts see the pages, and for how many more there is room. Word k has the addresses from 4k on.
+/// A page is found by four look-ups in arrays, whatever the addresses are.
 #[derive(Drop)]
 pub struct Words {
-    pages: HashMap<u32, Page>,
+    directory: Directory,
+    pages: Vec<Numbered>,
 }
 
 impl Model for Words {
-    ghost use Rattle.std.specs.HashMap.{spare};
+    ghost use Rattle.std.specs.Prelude.{◌-◌, min, vec_len, vec_capacity};
     ghost use Rattle.hart_replay.specs.Pages.{Known};
+    ghost use Rattle.hart_replay.specs.Directories.{page_at, pages_of, place_for};
 
     ghost Value = { Known };
 
-    ghost view = { λ w. record { pages = w.pages.entries; room = spare w.pages } };
+    ghost view = { λ w. record { pages = pages_of (page_at (place_for w.directory) w.pages.items); room = min w.directory.room (vec_capacity w.pages - vec_len w.pages) } };
 }
 
 impl Words {
@@ -31,7 +76,8 @@ impl Words {
         ensures { (k : ℕ) → word_at result.pages k ≡ None }
     {
         Words {
-            pages: HashMap::new(alloc),
+            directory: Directory::new(alloc),
+            pages: Vec::new(alloc),
         }
     }
 
@@ -40,9 +86,16 @@ impl Words {
         ensures { result ≡ word_at self.now.pages (addr / 4) }
     {
         let number = addr / 4;
-        match self.pages.get(&(number / PAGE_WORDS)) {
+        let page = number / PAGE_WORDS;
+        match self.pages.get(self.directory.place(page)) {
             None => None,
-            Some(page) => page.word(number % PAGE_WORDS),
+            Some(found) => {
+                if found.number == page {
+                    found.page.word(number % PAGE_WORDS)
+                } else {
+                    None
+                }
+            }
         }
     }
 
@@ -51,6 +104,7 @@ impl Words {
         ensures room { OnOk result (pages ≤ self.new.room) }
         ensures same { (k : ℕ) → word_at self.new.pages k ≡ word_at self.old.pages k }
     {
+        self.directory.make_room(pages)?;
         self.pages.reserve(pages)
     }
 
@@ -62,16 +116,16 @@ impl Words {
         ensures room { self.old.room ≤ self.new.room + 1 }
     {
         let number = addr / 4;
-        let place = number % PAGE_WORDS;
-        match self.pages.get_mut(&(number / PAGE_WORDS)) {
-            Some(page) => page.put(place, word),
-            None => {
-                let mut page = Page::new();
-                page.put(place, word);
-                self.pages.insert(number / PAGE_WORDS, page)?;
-            }
+        let page = number / PAGE_WORDS;
+        let at = number % PAGE_WORDS;
+        let place = self.directory.place(page);
+        if stands_at(&self.pages, place, page) {
+            self.pages[place].page.put(at, word);
+            return Ok(());
         }
-        Ok(())
+        let end = self.pages.len();
+        self.pages.push(Numbered::of_word(page, at, word))?;
+        self.directory.put(page, end)
     }
 
     /// Makes the aligned word of an address unknown.
@@ -80,9 +134,10 @@ impl Words {
         ensures room { self.new.room ≡ self.old.room }
     {
         let number = addr / 4;
-        match self.pages.get_mut(&(number / PAGE_WORDS)) {
-            Some(page) => page.forget(number % PAGE_WORDS),
-            None => (),
+        let page = number / PAGE_WORDS;
+        let place = self.directory.place(page);
+        if stands_at(&self.pages, place, page) {
+            self.pages[place].page.forget(number % PAGE_WORDS);
         }
     }
 
@@ -90,8 +145,10 @@ impl Words {
     pub fn copy(&self) -> Result<Words, AllocError>
         ensures { IfOk result (λ w. w.pages ≡ self.now.pages) }
     {
+        let alloc = *self.pages.allocator();
         Ok(Words {
-            pages: self.pages.clone()?,
+            directory: self.directory.copy()?,
+            pages: Vec::from_clones(alloc, &self.pages)?,
         })
     }
 }

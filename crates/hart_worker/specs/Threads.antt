@@ -1,16 +1,20 @@
 -- Runs whose turns harts took each by itself.
-use Rattle.std.specs.Prelude.{◌≡◌, ◌==◌, ◌<◌, ℕ, Bool, true, false, List, [], ◌∷◌, ◌++◌, Option, Some, None, Result, IfOk, MatchResult, slice_index_or}
+use Rattle.std.specs.Prelude.{◌≡◌, ◌⊎◌, ◌==◌, ◌<◌, ℕ, Bool, true, false, List, [], ◌∷◌, ◌++◌, Option, Some, None, Result, IfOk, MatchResult, slice_index_or}
 use Rattle.bn_base.specs.Programs.{Program}
 use Rattle.bn_base.specs.declared.settings.RawSettings.{RawSettings}
 use Rattle.rv_meaning.specs.declared.asks.Ask.{Ask}
 use Rattle.rv_meaning.specs.declared.asks.Reply.{Reply}
+use Rattle.rv_meaning.specs.declared.asks.Reply.TheVariants.{Word, Stored, ScOk, Answer, Went, Over}
+use Rattle.rv_meaning.specs.declared.asks.Want.{Want}
+use Rattle.rv_meaning.specs.declared.asks.Want.TheVariants.{Load, Store, LoadReserved, StoreConditional, Amo, System, Cut, Faulted}
 use Rattle.bn_outside.specs.declared.turn_row.TurnRow.{TurnRow}
-use Rattle.run_model.specs.Runs.{start_hart, start_state}
+use Rattle.run_model.specs.Runs.{start_hart, start_state, seeded}
 use Rattle.run_laws.specs.History.{IsLawful, IsOwn, Place, place_of, rows_by}
 use Rattle.run_laws.specs.Laws.{harts_of, place_over}
 use Rattle.bus_core.specs.Bus.{Began, first_run, row}
 use Rattle.bus_core.specs.declared.closed.Closed.{Closed}
 use Rattle.hart_worker.specs.Closed.{IsClosed}
+use Rattle.hart_worker.specs.Lists.{list_rows, seeded_after}
 use Rattle.hart_worker.specs.declared.own_place.OwnPlace.{OwnPlace}
 use Rattle.hart_worker.specs.declared.worker.Worked.{Worked}
 
@@ -39,6 +43,24 @@ pub record IsDriven (tells : Bool) (c : RawSettings) (i : Program) (h : ℕ) (fi
   pub place_is : tells ≡ true → now ≡ place_over c first rows
   pub lean : tells ≡ false → rows ≡ []
 
+-- ---- a desk in memory
+
+-- a reply to a want that gives it a word; a store-conditional stores
+abbrev pub reply_with : Want → ℕ → Reply
+reply_with (Load addr width signed rd) word = Word word
+reply_with (LoadReserved addr rd) word = Word word
+reply_with (Amo addr op rd value) word = Word word
+reply_with (Store addr width value) word = Stored
+reply_with (StoreConditional addr rd value) word = ScOk
+reply_with (System number args) word = Answer word
+reply_with Cut word = Went
+reply_with (Faulted kind value) word = Over
+
+-- the answer to a want with the next word; none where there is no more
+abbrev pub answer_with : Want → Option ℕ → Option (Reply × Bool)
+answer_with want None = None
+answer_with want (Some word) = Some (reply_with want word, false)
+
 -- ---- what all harts did
 
 -- rows are hart h's own from the start
@@ -62,6 +84,11 @@ pub record IsThreaded {B : _} (b : Began) (closed : Closed B) (rows : List TurnR
   pub lawful : IsLawful b.settings b.image (first_run b) rows
   pub own : AreAllOwn b rows
   pub ended : IsClosed true b (harts_of rows) closed rows
+
+-- all rows are those of the turns that a number chooses from the start, or those of the turns of some rows' harts and of
+-- the turns that it chooses after these
+abbrev pub AreBySeed : Began → (rows : List TurnRow) → (seed : ℕ) → (all : List TurnRow) → Type 0
+AreBySeed b rows seed all = (all ≡ list_rows b (seeded b.settings b.image b.input seed)) ⊎ (all ≡ list_rows b (harts_of rows ++ seeded_after b (harts_of rows) seed))
 
 -- a hart's rows, where a row stands ahead of those that have these of the hart
 abbrev pub rows_with : ℕ → TurnRow → List TurnRow → List TurnRow

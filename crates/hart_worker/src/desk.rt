@@ -1,9 +1,9 @@
 //! Where a hart that runs by itself takes its turns.
-ghost use Rattle.std.specs.Prelude.{◌≡◌, true, false, [], IfOk, IfSome, OnOk, IsTrue};
+ghost use Rattle.std.specs.Prelude.{◌≡◌, true, false, [], length, slice_get, is_none, IfOk, IfSome, OnOk, IsTrue};
 ghost use Rattle.rv_meaning.specs.Orderly.{is_reply_to};
 ghost use Rattle.run_laws.specs.History.{IsOwn};
 ghost use Rattle.run_laws.specs.Laws.{place_over};
-ghost use Rattle.hart_worker.specs.Threads.{place_at, taken_after, IsDriven};
+ghost use Rattle.hart_worker.specs.Threads.{place_at, taken_after, IsDriven, reply_with, answer_with};
 
 use crate::own_place::OwnPlace;
 use bn_base::{HartId, Settings};
@@ -24,11 +24,15 @@ pub trait Desk {
     /// The turns that were taken, the oldest first, where it tells them.
     ghost taken: { Self → List TurnRow };
 
+    /// Whether its last turn found the hart over.
+    ghost over: { Self → Bool };
+
     /// A turn: the reply, and whether the ask was guarded. None where the hart is over. The only error is
     /// want of memory.
     fn turn(&mut self, hart: HartId, ask: &Ask) -> Result<Option<(Reply, bool)>, AllocError>
         ensures fits { IfOk result (λ o. IfSome o (λ r. IsTrue (is_reply_to ask.now.want r.0))) }
-        ensures taken { IfOk result (λ o. taken self.new ≡ taken_after tells (taken self.old) hart ask.now o) };
+        ensures taken { IfOk result (λ o. taken self.new ≡ taken_after tells (taken self.old) hart ask.now o) }
+        ensures over { IfOk result (λ o. over self.new ≡ is_none o) };
 }
 
 /// Runs one hart from a place until it is over, and gives where it is then. Each turn is one call of the
@@ -43,7 +47,8 @@ pub fn drive<D: Desk, G: Gate, R: Wait>(
     gate: &G,
 ) -> Result<OwnPlace, AllocError>
     requires { D.taken desk.old ≡ [] }
-    ensures { IfOk result (λ place. IsDriven D.tells settings.now code.now hart (place_at first) (D.taken desk.new) (place_at place)) }
+    ensures driven { IfOk result (λ place. IsDriven D.tells settings.now code.now hart (place_at first) (D.taken desk.new) (place_at place)) }
+    ensures over { OnOk result (D.over desk.new ≡ true) }
 {
     own_rows_grow();
     let mut place = first;
@@ -65,6 +70,7 @@ pub fn drive<D: Desk, G: Gate, R: Wait>(
 pub struct MemoryDesk {
     words: Vec<u32>,
     turns: Vec<TurnRow>,
+    over: bool,
 }
 
 impl MemoryDesk {
@@ -75,6 +81,7 @@ impl MemoryDesk {
         MemoryDesk {
             words,
             turns: Vec::new(alloc),
+            over: false,
         }
     }
 
@@ -86,9 +93,10 @@ impl MemoryDesk {
     }
 }
 
-// A reply to a want that gives it a word.
+// A reply to a want that gives it a word; a store-conditional stores.
 fn reply_with(want: &Want, word: u32) -> Reply
-    ensures { IsTrue (is_reply_to want.now result) }
+    ensures value { result ≡ reply_with want.now word }
+    ensures fits { IsTrue (is_reply_to want.now result) }
 {
     match want {
         Want::Load { .. } | Want::LoadReserved { .. } | Want::Amo { .. } => Reply::Word(word),
@@ -107,8 +115,18 @@ impl Desk for MemoryDesk {
 
     ghost taken = { λ d. d.turns.items };
 
-    fn turn(&mut self, hart: HartId, ask: &Ask) -> Result<Option<(Reply, bool)>, AllocError> {
-        let Some(word) = self.words.get(self.turns.len()).copied() else {
+    ghost over = { λ d. d.over };
+
+    fn turn(&mut self, hart: HartId, ask: &Ask) -> Result<Option<(Reply, bool)>, AllocError>
+        ensures fits { IfOk result (λ o. IfSome o (λ r. IsTrue (is_reply_to ask.now.want r.0))) }
+        ensures taken { IfOk result (λ o. self.new.turns.items ≡ taken_after true self.old.turns.items hart ask.now o) }
+        ensures over { IfOk result (λ o. self.new.over ≡ is_none o) }
+        ensures words { self.new.words ≡ self.old.words }
+        ensures next { IfOk result (λ o. o ≡ answer_with ask.now.want (slice_get self.old.words.items (length self.old.turns.items))) }
+    {
+        let next = self.words.get(self.turns.len()).copied();
+        self.over = next.is_none();
+        let Some(word) = next else {
             return Ok(None);
         };
         let reply = reply_with(&ask.want, word);

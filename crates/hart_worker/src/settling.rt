@@ -5,7 +5,7 @@ ghost use Rattle.bn_outside.specs.declared.turn_row.TurnRow.{TurnRow};
 ghost use Rattle.bus_core.specs.Bus.{began_of};
 ghost use Rattle.hart_worker.specs.Closed.{IsOfRows};
 ghost use Rattle.hart_worker.specs.Lists.{HasTaken, is_finished};
-ghost use Rattle.hart_worker.specs.Threads.{AreWorked, DoAgree, IsThreaded};
+ghost use Rattle.hart_worker.specs.Threads.{AreWorked, DoAgree, IsThreaded, AreBySeed};
 
 use crate::comparing::{begins_with, compares};
 use crate::laws::rows_name_their_harts;
@@ -37,6 +37,7 @@ pub fn settle<B: Book>(
     ensures size { IfOk result (λ c. c.ring.size ≡ from.now.settings.log_size) }
     ensures of_rows { IfOk result (λ c. (rows : List TurnRow) × IsOfRows (began_of from.now) c rows) }
     ensures run { IfOk result (λ c. B.tells ≡ true → IsThreaded (began_of from.now) c (B.told c.book)) }
+    ensures by_seed { IfOk result (λ c. B.tells ≡ true → AreBySeed (began_of from.now) bus.rows 0 (B.told c.book)) }
     ensures keeps { bus.began ≡ began_of from.now → DoAgree (began_of from.now) bus.rows worked.now → bus.halted ≡ false → B.tells ≡ true → IfOk result (λ c. IsPrefix bus.rows (B.told c.book)) }
 {
     lists_go_on();
@@ -74,6 +75,7 @@ fn again<B: Book>(alloc: Global, from: &Start, book: B) -> Result<Closed<B>, All
     ensures size { IfOk result (λ c. c.ring.size ≡ from.now.settings.log_size) }
     ensures of_rows { IfOk result (λ c. (rows : List TurnRow) × IsOfRows (began_of from.now) c rows) }
     ensures run { IfOk result (λ c. B.tells ≡ true → IsThreaded (began_of from.now) c (B.told c.book)) }
+    ensures by_seed { (rows : List TurnRow) → IfOk result (λ c. B.tells ≡ true → AreBySeed (began_of from.now) rows 0 (B.told c.book)) }
 {
     turns_are_lawful();
     turns_are_own();

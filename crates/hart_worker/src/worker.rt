@@ -56,6 +56,7 @@ pub struct LockedBus<'a, B: Book, R: Wait> {
     bus: &'a Mutex<Bus<B>>,
     mine: Vec<TurnRow>,
     tells: bool,
+    over: bool,
     ghost tells_is: { tells ≡ B.tells },
 }
 
@@ -77,6 +78,7 @@ impl<'a, B: Book, R: Wait> LockedBus<'a, B, R> {
             bus,
             mine: Vec::new(alloc),
             tells,
+            over: false,
         }
     }
 }
@@ -86,8 +88,12 @@ impl<B: Book, R: Wait> Desk for LockedBus<'_, B, R> {
 
     ghost taken = { λ d. d.mine.items };
 
+    ghost over = { λ d. d.over };
+
     fn turn(&mut self, hart: HartId, ask: &Ask) -> Result<Option<(Reply, bool)>, AllocError> {
-        let Some((reply, guarded)) = take_locked(&mut self.bus.lock(self.rt), hart, ask)? else {
+        let taken = take_locked(&mut self.bus.lock(self.rt), hart, ask)?;
+        self.over = taken.is_none();
+        let Some((reply, guarded)) = taken else {
             return Ok(None);
         };
         if self.tells {
@@ -128,6 +134,7 @@ pub fn work_at<B: Book, G: Gate, R: Wait>(
         bus: _,
         mine,
         tells: _,
+        over: _,
     } = desk;
     let place = driven?;
     Ok(Worked {

@@ -18,6 +18,7 @@ pub mod Kept
 pub mod Ends
 pub mod Parted
 pub mod Decided
+pub mod Tallied
 pub mod Counted
 pub mod Says
 pub mod Few

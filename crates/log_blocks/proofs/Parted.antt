@@ -9,7 +9,7 @@ use Rattle.log_record.specs.declared.record.Record.{Record}
 use Rattle.log_record.specs.Laws.{TellTheirSize, AreRead, AreWritten}
 use Rattle.log_record.specs.Reading.{record_in}
 use Rattle.log_record.specs.Spelling.{bytes_of, size_of, is_marked, Fits}
-use Rattle.log_blocks.specs.File.{NoRecord}
+use Rattle.log_file.specs.File.{NoRecord}
 use Rattle.log_blocks.proofs.Firsts.{some_bytes}
 
 -- a record that bytes begin with, and the rest

@@ -79,22 +79,39 @@ fault_is : (h k : Head) (d e a b : ℕ) (pieces : List Piece) (y : Damage) → h
 fault_is h k d e a b pieces y hk de ab x =
     subst (λ (t : ℕ). IsRecordsFault k e t pieces y) ab (subst (λ (t : ℕ). IsRecordsFault k t a pieces y) de (subst (λ (t : Head). IsRecordsFault t d a pieces y) hk x))
 
-pub read_ok : (bytes digest body : List ℕ) (n rest size : ℕ) (sizes : List ℕ) (head : Head) (dropped : ℕ) (r : Result Content Damage) → Behind bytes digest body n → HasWalked digest n body rest size sizes → rest ≡ 0 → n ≡ size → head ≡ head_in bytes
-    → dropped ≡ dropped_in bytes → Answers body rest size sizes head dropped r → MatchResult r (IsRead bytes) (IsSecondRefusal bytes)
-read_ok bytes digest body n rest size sizes head dropped (Ok c) b w none all hi di says = record {
+pub read_is : (bytes digest body : List ℕ) (n rest size : ℕ) (sizes : List ℕ) (head : Head) (dropped : ℕ) (c : Content) → Behind bytes digest body n → (w : HasWalked digest n body rest size sizes) → rest ≡ 0 → n ≡ size
+    → head ≡ head_in bytes → dropped ≡ dropped_in bytes → HasBlocks head dropped (136 + rest) w.pieces c → IsRead bytes c
+read_is bytes digest body n rest size sizes head dropped c b w none all hi di blocks = record {
   pieces = w.pieces;
   fault = b.fault;
   walk = subst (λ (t : List ℕ). IsWalk (head_digest bytes) (size_in bytes) (blocks_in bytes) t w.pieces) (nothing_ahead body rest none) (walk_is bytes digest body (take rest body) n w.pieces b w.walk);
   size_is = sym b.n_is ∙ all ∙ w.laid.size_is;
-  blocks = has_blocks_is head (head_in bytes) dropped (dropped_in bytes) (136 + rest) 136 w.pieces c hi di (omega (arith, none)) (says w.pieces w.laid);
+  blocks = has_blocks_is head (head_in bytes) dropped (dropped_in bytes) (136 + rest) 136 w.pieces c hi di (omega (arith, none)) blocks;
 }
-read_ok bytes digest body n rest size sizes head dropped (Err e) b w none all hi di says = inr (inr (record {
+
+pub refused_is : (bytes digest body : List ℕ) (n rest size : ℕ) (sizes : List ℕ) (head : Head) (dropped : ℕ) (e : Damage) → Behind bytes digest body n → (w : HasWalked digest n body rest size sizes) → rest ≡ 0 → n ≡ size
+    → head ≡ head_in bytes → dropped ≡ dropped_in bytes → IsRecordsFault head dropped (136 + rest) w.pieces e → IsSecondRefusal bytes e
+refused_is bytes digest body n rest size sizes head dropped e b w none all hi di fault = inr (inr (record {
   rest = take rest body;
   pieces = w.pieces;
   fault = b.fault;
   walk = walk_is bytes digest body (take rest body) n w.pieces b w.walk;
-  wrong = inr (inr (nothing_ahead body rest none, sym b.n_is ∙ all ∙ w.laid.size_is, fault_is head (head_in bytes) dropped (dropped_in bytes) (136 + rest) 136 w.pieces e hi di (omega (arith, none)) (says w.pieces w.laid)));
+  wrong = inr (inr (nothing_ahead body rest none, sym b.n_is ∙ all ∙ w.laid.size_is, fault_is head (head_in bytes) dropped (dropped_in bytes) (136 + rest) 136 w.pieces e hi di (omega (arith, none)) fault));
 }))
+
+pub read_ok : (bytes digest body : List ℕ) (n rest size : ℕ) (sizes : List ℕ) (head : Head) (dropped : ℕ) (r : Result Content Damage) → Behind bytes digest body n → HasWalked digest n body rest size sizes → rest ≡ 0 → n ≡ size → head ≡ head_in bytes
+    → dropped ≡ dropped_in bytes → Answers body rest size sizes head dropped r → MatchResult r (IsRead bytes) (IsSecondRefusal bytes)
+read_ok bytes digest body n rest size sizes head dropped (Ok c) b w none all hi di says = read_is bytes digest body n rest size sizes head dropped c b w none all hi di (says w.pieces w.laid)
+read_ok bytes digest body n rest size sizes head dropped (Err e) b w none all hi di says = refused_is bytes digest body n rest size sizes head dropped e b w none all hi di (says w.pieces w.laid)
+
+-- the walk over the bytes behind a head is one over those of the file
+pub walked_behind : (bytes digest body : List ℕ) (n rest size : ℕ) (sizes : List ℕ) → Behind bytes digest body n → HasWalked digest n body rest size sizes → HasWalked (head_digest bytes) (size_in bytes) (blocks_in bytes) rest size sizes
+walked_behind bytes digest body n rest size sizes b w =
+    subst (λ (t : List ℕ). HasWalked (head_digest bytes) (size_in bytes) t rest size sizes) b.body_is
+    (subst (λ (k : ℕ). HasWalked (head_digest bytes) k body rest size sizes) b.n_is (subst (λ (t : List ℕ). HasWalked t n body rest size sizes) b.digest_is w))
+
+pub behind : (bytes : List ℕ) → head_fault bytes ≡ None → Behind bytes (head_digest bytes) (blocks_in bytes) (size_in bytes)
+behind bytes fault = record { fault = fault; digest_is = refl; n_is = refl; body_is = refl }
 
 -- ---- salvage
 
@@ -139,49 +156,59 @@ told_is bytes (File (BadRecord at)) f = (inr f, λ is. absurd cc)
 told_is bytes (File (BadOrder at rule)) f = (inr f, λ is. absurd cc)
 told_is bytes (File OutOfMemory) f = tt
 
-pub salvaged : (bytes digest body : List ℕ) (n rest size : ℕ) (sizes : List ℕ) (head : Head) (given dropped : ℕ) (r : Result Content Damage) → Behind bytes digest body n → HasWalked digest n body rest size sizes
+pub salvaged_is : (bytes digest body : List ℕ) (n rest size : ℕ) (sizes : List ℕ) (head : Head) (given dropped : ℕ) (c : Content) → Behind bytes digest body n → (w : HasWalked digest n body rest size sizes)
     → (not (n == 0) && (length sizes == 0)) ≡ false → head ≡ head_in bytes → given ≡ dropped_in bytes → ((pieces : List Piece) → AreLaid body rest size sizes pieces → dropped ≡ dropped_before given pieces)
-    → Answers body rest size sizes head dropped r → MatchResult r (IsSalvaged bytes) (λ e. IsSalvageRefusal bytes (told e))
-salvaged bytes digest body n rest size sizes head given dropped (Ok c) b w kept hi gi di says = record {
+    → HasBlocks head dropped (136 + rest) w.pieces c → IsSalvaged bytes c
+salvaged_is bytes digest body n rest size sizes head given dropped c b w kept hi gi di blocks = record {
   rest = take rest body;
   pieces = w.pieces;
   fault = b.fault;
   walk = walk_is bytes digest body (take rest body) n w.pieces b w.walk;
   some = λ none. sym b.n_is ∙ not_lost n sizes kept (sizes_none sizes w.pieces w.laid.sizes_are none);
   blocks = has_blocks_is head (head_in bytes) dropped (dropped_before (dropped_in bytes) w.pieces) (136 + rest) (136 + length (take rest body)) w.pieces c hi (di w.pieces w.laid ∙ ap (λ (k : ℕ). dropped_before k w.pieces) gi)
-      (omega (arith, length-take-le rest body w.within)) (says w.pieces w.laid);
+      (omega (arith, length-take-le rest body w.within)) blocks;
 }
-salvaged bytes digest body n rest size sizes head given dropped (Err e) b w kept hi gi di says = told_is bytes e (record {
+
+pub salvage_refused : (bytes digest body : List ℕ) (n rest size : ℕ) (sizes : List ℕ) (head : Head) (given dropped : ℕ) (e : Damage) → Behind bytes digest body n → (w : HasWalked digest n body rest size sizes)
+    → (not (n == 0) && (length sizes == 0)) ≡ false → head ≡ head_in bytes → given ≡ dropped_in bytes → ((pieces : List Piece) → AreLaid body rest size sizes pieces → dropped ≡ dropped_before given pieces)
+    → IsRecordsFault head dropped (136 + rest) w.pieces e → IsSalvageRefusal bytes (told e)
+salvage_refused bytes digest body n rest size sizes head given dropped e b w kept hi gi di fault = told_is bytes e (record {
   rest = take rest body;
   pieces = w.pieces;
   fault = b.fault;
   walk = walk_is bytes digest body (take rest body) n w.pieces b w.walk;
   some = λ none. sym b.n_is ∙ not_lost n sizes kept (sizes_none sizes w.pieces w.laid.sizes_are none);
   wrong = fault_is head (head_in bytes) dropped (dropped_before (dropped_in bytes) w.pieces) (136 + rest) (136 + length (take rest body)) w.pieces e hi (di w.pieces w.laid ∙ ap (λ (k : ℕ). dropped_before k w.pieces) gi)
-      (omega (arith, length-take-le rest body w.within)) (says w.pieces w.laid);
+      (omega (arith, length-take-le rest body w.within)) fault;
 })
+
+pub salvaged : (bytes digest body : List ℕ) (n rest size : ℕ) (sizes : List ℕ) (head : Head) (given dropped : ℕ) (r : Result Content Damage) → Behind bytes digest body n → HasWalked digest n body rest size sizes
+    → (not (n == 0) && (length sizes == 0)) ≡ false → head ≡ head_in bytes → given ≡ dropped_in bytes → ((pieces : List Piece) → AreLaid body rest size sizes pieces → dropped ≡ dropped_before given pieces)
+    → Answers body rest size sizes head dropped r → MatchResult r (IsSalvaged bytes) (λ e. IsSalvageRefusal bytes (told e))
+salvaged bytes digest body n rest size sizes head given dropped (Ok c) b w kept hi gi di says = salvaged_is bytes digest body n rest size sizes head given dropped c b w kept hi gi di (says w.pieces w.laid)
+salvaged bytes digest body n rest size sizes head given dropped (Err e) b w kept hi gi di says = salvage_refused bytes digest body n rest size sizes head given dropped e b w kept hi gi di (says w.pieces w.laid)
 
 -- ---- by cases on what a call answered
 
-pub if_ok : (P : Content → Type 0) (Q : Damage → Type 0) (r : Result Content Damage) → MatchResult r P Q → IfOk r P
+pub if_ok : {X : Type 0} (P : X → Type 0) (Q : Damage → Type 0) (r : Result X Damage) → MatchResult r P Q → IfOk r P
 if_ok P Q (Ok c) m = m
 if_ok P Q (Err e) m = tt
 
-pub if_err : (P : Content → Type 0) (Q : Damage → Type 0) (r : Result Content Damage) → MatchResult r P Q → IfErr r Q
+pub if_err : {X : Type 0} (P : X → Type 0) (Q : Damage → Type 0) (r : Result X Damage) → MatchResult r P Q → IfErr r Q
 if_err P Q (Ok c) m = tt
 if_err P Q (Err e) m = m
 
-abbrev log_ok : Content → Result Content Damage
-log_ok c = Ok c
+abbrev took : {X : Type 0} → X → Result X Damage
+took x = Ok x
 
-abbrev log_err : Damage → Result Content Damage
-log_err e = Err e
+abbrev failed : {X : Type 0} → Damage → Result X Damage
+failed e = Err e
 
-pub salvaged_log : (bytes : List ℕ) (r : Result Content Damage) (c : Content) → r ≡ log_ok c → MatchResult r (IsSalvaged bytes) (λ e. IsSalvageRefusal bytes (told e)) → IsSalvaged bytes c
-salvaged_log bytes r c is m = subst (λ (x : Result Content Damage). MatchResult x (IsSalvaged bytes) (λ e. IsSalvageRefusal bytes (told e))) is m
+pub taken_is : {X : Type 0} (P : X → Type 0) (Q : Damage → Type 0) (r : Result X Damage) (x : X) → r ≡ took x → MatchResult r P Q → P x
+taken_is {X = X} P Q r x is m = subst (λ (y : Result X Damage). MatchResult y P Q) is m
 
-pub salvage_told : (bytes : List ℕ) (r : Result Content Damage) (e : Damage) → r ≡ log_err e → MatchResult r (IsSalvaged bytes) (λ e. IsSalvageRefusal bytes (told e)) → IsSalvageRefusal bytes (told e)
-salvage_told bytes r e is m = subst (λ (x : Result Content Damage). MatchResult x (IsSalvaged bytes) (λ y. IsSalvageRefusal bytes (told y))) is m
+pub damage_is : {X : Type 0} (P : X → Type 0) (Q : Damage → Type 0) (r : Result X Damage) (e : Damage) → r ≡ failed e → MatchResult r P Q → Q e
+damage_is {X = X} P Q r e is m = subst (λ (y : Result X Damage). MatchResult y P Q) is m
 
 abbrev head_of : RawSettings → List ℕ → Head
 head_of s digest = record { settings = s; digest = digest }

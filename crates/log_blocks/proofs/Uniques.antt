@@ -20,7 +20,8 @@ use Rattle.log_blocks.specs.Fields.{head_in, dropped_in, size_in, head_digest, b
 use Rattle.log_blocks.specs.Faults.{is_second, head_fault}
 use Rattle.log_blocks.specs.Pieces.{Piece, gathered, IsWalk}
 use Rattle.log_blocks.specs.Cuts.{first_wrong}
-use Rattle.log_blocks.specs.File.{NoRecord, CutOtherwise, BreaksOrder, HasBlocks, IsRecordsFault, IsHeadFault, IsWalkFault, IsSecondRefusal, dropped_before, IsSalvaged, IsSalvageFault, NoneIsLeft, IsFirstRefusal}
+use Rattle.log_file.specs.File.{NoRecord}
+use Rattle.log_blocks.specs.File.{CutOtherwise, BreaksOrder, HasBlocks, IsRecordsFault, IsHeadFault, IsWalkFault, IsSecondRefusal, dropped_before, IsSalvaged, IsSalvageFault, NoneIsLeft, IsFirstRefusal}
 use Rattle.log_blocks.specs.Laws.{FirstAreUnique, RefusalsAreUnique, SalvagedAreUnique, SalvagedAreNotRefused, SalvageRefusalsAreUnique}
 use Rattle.log_blocks.proofs.Written.{Same, one_walk}
 use Rattle.log_blocks.proofs.Recovered.{no_stop, one_list}

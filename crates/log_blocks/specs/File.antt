@@ -1,14 +1,15 @@
 -- Why bytes are no log file of version 2, and what is salvaged of them.
-use Rattle.std.specs.Prelude.{◌≡◌, ◌≢◌, ℕ, ◌+◌, ◌<◌, ◌⊎◌, List, [], ◌∷◌, ◌++◌, length, Some, None, true, false}
+use Rattle.std.specs.Prelude.{◌≡◌, ◌≢◌, ℕ, ◌+◌, ◌<◌, ◌⊎◌, List, [], ◌∷◌, length, Some, None, true, false}
 use Rattle.std.specs.List.{flat_map, AllByRecursion}
 use Rattle.log_record.specs.declared.head.Head.{Head}
 use Rattle.log_record.specs.declared.record.Record.{Record}
-use Rattle.log_record.specs.Spelling.{bytes_of, total, Fits}
+use Rattle.log_record.specs.Spelling.{bytes_of, Fits}
 use Rattle.log_order.specs.Order.{order_break, broken_by}
 use Rattle.log_order.specs.Content.{Content, IsContent}
 use Rattle.log_file.specs.declared.error.FileError.TheVariants.{Short, BadMagic, BadVersion, BadHead, LengthDiffers, DigestDiffers, BadRecord, BadOrder, OutOfMemory}
 use Rattle.log_file.specs.Blocks.{blocks_of}
 use Rattle.log_file.specs.Layout.{file_bytes, file_bytes2}
+use Rattle.log_file.specs.File.{NoRecord}
 use Rattle.log_file.specs.File as first
 use Rattle.log_blocks.specs.declared.damage.Damage.{Damage}
 use Rattle.log_blocks.specs.declared.damage.Damage.TheVariants.{File, BadBlock}
@@ -18,16 +19,6 @@ use Rattle.log_blocks.specs.Fields.{head_in, dropped_in, size_in, head_digest, b
 use Rattle.log_blocks.specs.Faults.{is_second, head_fault}
 use Rattle.log_blocks.specs.Pieces.{Piece, gathered, IsWalk}
 use Rattle.log_blocks.specs.Cuts.{first_wrong}
-
--- up to the place the bytes are those of records, and there none begins though bytes are left
-pub record NoRecord (format : ℕ) (bytes : List ℕ) (place : ℕ) : Type 0 where
-  pub before : List Record
-  pub rest : List ℕ
-  pub fit : AllByRecursion (Fits format) before
-  pub parts : bytes ≡ flat_map bytes_of before ++ rest
-  pub place_is : place ≡ total before
-  pub more : 0 < length rest
-  pub none : (r : Record) (y : List ℕ) → Fits format r → rest ≡ bytes_of r ++ y → ⊥
 
 -- no record begins somewhere in bytes that should be those of records, or memory is wanted
 abbrev pub IsSplitError : ℕ → List ℕ → Damage → Type 0

@@ -19,5 +19,5 @@ pub use counting::{count_file, counts_of};
 pub use damage::{Damage, SalvageError};
 pub use head::is_second;
 pub use reading::read_file;
-pub use salvaging::salvage;
+pub use salvaging::{NewFile, salvage, salvage_file};
 pub use writing::{write_file2, write_log2};

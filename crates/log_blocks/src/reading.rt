@@ -10,7 +10,7 @@ ghost use Rattle.log_blocks.specs.declared.damage.Damage.TheVariants.{File};
 ghost use Rattle.log_blocks.specs.Fields.{settings_in, head_in, dropped_in, size_in, head_digest, blocks_in};
 ghost use Rattle.log_blocks.specs.Faults.{is_second, head_fault};
 ghost use Rattle.log_blocks.specs.Pieces.{Piece, gathered, IsWalk};
-ghost use Rattle.log_blocks.specs.Walks.{AreKept};
+ghost use Rattle.log_blocks.specs.Walks.{AreKept, HasWalked};
 ghost use Rattle.log_blocks.specs.File.{HasBlocks, IsRecordsFault, IsOrderFault, IsSecondRefusal, IsRefusal, IsSpelled, IsRead};
 
 use crate::damage::Damage;
@@ -66,18 +66,18 @@ pub(crate) fn content_of(
     }
 }
 
-// What a file says whose head has no fault and these settings.
-fn content_in(alloc: Global, bytes: &[u8], settings: Settings) -> Result<KeptLog, Damage>
+/// The walk over the blocks of a file whose head has no fault, where they are all good and have as many
+/// bytes of records as the head says. The error is the first that applies.
+pub(crate) fn whole_walk(alloc: Global, bytes: &[u8]) -> Result<Walk, Damage>
     requires long { 136 ≤ length bytes.now }
-    requires settings { settings ≡ settings_in bytes.now }
     requires fault { head_fault bytes.now ≡ None }
-    ensures read { IfOk result (IsRead bytes.now) }
+    ensures walked { IfOk result (λ w. HasWalked (head_digest bytes.now) (size_in bytes.now) (blocks_in bytes.now) w.rest w.size w.sizes.items) }
+    ensures all { IfOk result (λ w. w.rest ≡ 0) }
+    ensures size { IfOk result (λ w. size_in bytes.now ≡ w.size) }
     ensures refused { IfErr result (IsSecondRefusal bytes.now) }
 {
-    let _range = settings.raw();
     let said = read_u32(bytes, 100) as usize;
-    let blocks = tail(bytes, HEAD_SIZE);
-    let walk = walk_back(alloc, &head_digest(bytes), said, blocks)?;
+    let walk = walk_back(alloc, &head_digest(bytes), said, tail(bytes, HEAD_SIZE))?;
     if 0 < walk.rest {
         return Err(Damage::BadBlock {
             at: (HEAD_SIZE + walk.rest) as u64,
@@ -89,15 +89,29 @@ fn content_in(alloc: Global, bytes: &[u8], settings: Settings) -> Result<KeptLog
             found: walk.size as u64,
         }));
     }
+    Ok(walk)
+}
+
+// What a file says whose head has no fault and these settings.
+fn content_in(alloc: Global, bytes: &[u8], settings: Settings) -> Result<KeptLog, Damage>
+    requires long { 136 ≤ length bytes.now }
+    requires settings { settings ≡ settings_in bytes.now }
+    requires fault { head_fault bytes.now ≡ None }
+    ensures read { IfOk result (IsRead bytes.now) }
+    ensures refused { IfErr result (IsSecondRefusal bytes.now) }
+{
+    let _range = settings.raw();
+    let walk = whole_walk(alloc, bytes)?;
     let head = Head {
         settings,
         digest: program_in(bytes),
     };
-    content_of(alloc, head, read_u64(bytes, 92), blocks, &walk)
+    let dropped = read_u64(bytes, 92);
+    content_of(alloc, head, dropped, tail(bytes, HEAD_SIZE), &walk)
 }
 
-/// What a log file of version 2 says. The error is the first that applies.
-pub(crate) fn read_second(alloc: Global, bytes: &[u8]) -> Result<KeptLog, Damage>
+// What a log file of version 2 says. The error is the first that applies.
+fn read_second(alloc: Global, bytes: &[u8]) -> Result<KeptLog, Damage>
     ensures read { IfOk result (IsRead bytes.now) }
     ensures spelled { IfOk result (λ c. bytes.now ≡ file_bytes2 c) }
     ensures refused { IfErr result (IsSecondRefusal bytes.now) }

@@ -1,22 +1,35 @@
 // What can be read of a damaged file.
-ghost use Rattle.std.specs.Prelude.{◌≡◌, ◌≤◌, ◌==◌, ◌&&◌, not, List, None, length, IfOk, IfErr};
-ghost use Rattle.log_blocks.specs.Fields.{settings_in};
+ghost use Rattle.std.specs.Prelude.{◌≡◌, ◌≤◌, ◌+◌, ◌==◌, ◌&&◌, not, false, List, None, length, MatchResult, IfOk, IfErr};
+ghost use Rattle.log_blocks.specs.Fields.{settings_in, size_in, head_digest, blocks_in};
 ghost use Rattle.log_blocks.specs.Faults.{head_fault};
 ghost use Rattle.log_blocks.specs.Pieces.{Piece};
-ghost use Rattle.log_blocks.specs.Walks.{AreKept};
-ghost use Rattle.log_blocks.specs.File.{dropped_before, told, IsSalvaged, IsSalvageRefusal};
+ghost use Rattle.log_blocks.specs.Walks.{AreKept, HasWalked};
+ghost use Rattle.log_blocks.specs.Counts.{RenewsBlocks, RenewsSalvaged};
+ghost use Rattle.log_blocks.specs.File.{dropped_before, told, IsRecordsFault, IsSalvaged, IsSalvageRefusal};
 
+use crate::counting::counts_along;
 use crate::damage::{Damage, SalvageError};
+use crate::gathering::gather;
 use crate::head::{HEAD_SIZE, checked_settings, head_digest, program_in};
 use crate::reading::content_of;
 use crate::sealing::{SEAL_SIZE, front, tail};
 use crate::walking::{Walk, walk_back};
+use crate::writing::write_file2;
 use bn_base::Settings;
 use le_numbers::{read_u32, read_u64};
-use log_file::FileError;
+use log_file::{FileError, LogCounts};
 use log_order::KeptLog;
 use log_record::Head;
 use std::alloc::Global;
+
+/// A file of version 2 that is made of another, and what its log has.
+#[derive(Drop)]
+pub struct NewFile {
+    /// The file.
+    pub bytes: Vec<u8>,
+    /// What is counted of its log.
+    pub counts: LogCounts,
+}
 
 // A damage as a reason why nothing is salvaged.
 fn told(damage: Damage) -> SalvageError
@@ -50,6 +63,22 @@ fn is_lost(said: usize, walk: &Walk) -> bool
     said != 0 && walk.sizes.is_empty()
 }
 
+// The walk over the last good blocks of a file whose head has no fault.
+fn kept_walk(alloc: Global, bytes: &[u8]) -> Result<Walk, SalvageError>
+    requires long { 136 ≤ length bytes.now }
+    requires fault { head_fault bytes.now ≡ None }
+    ensures walked { IfOk result (λ w. HasWalked (head_digest bytes.now) (size_in bytes.now) (blocks_in bytes.now) w.rest w.size w.sizes.items) }
+    ensures some { IfOk result (λ w. (not (size_in bytes.now == 0) && (length w.sizes.items == 0)) ≡ false) }
+    ensures refused { IfErr result (IsSalvageRefusal bytes.now) }
+{
+    let said = read_u32(bytes, 100) as usize;
+    let walk = walk_back(alloc, &head_digest(bytes), said, tail(bytes, HEAD_SIZE))?;
+    if is_lost(said, &walk) {
+        return Err(SalvageError::NothingLeft);
+    }
+    Ok(walk)
+}
+
 // What is salvaged of a file whose head has no fault and these settings.
 fn salvage_in(alloc: Global, bytes: &[u8], settings: Settings) -> Result<KeptLog, SalvageError>
     requires long { 136 ≤ length bytes.now }
@@ -59,19 +88,62 @@ fn salvage_in(alloc: Global, bytes: &[u8], settings: Settings) -> Result<KeptLog
     ensures refused { IfErr result (IsSalvageRefusal bytes.now) }
 {
     let _range = settings.raw();
-    let said = read_u32(bytes, 100) as usize;
-    let blocks = tail(bytes, HEAD_SIZE);
-    let walk = walk_back(alloc, &head_digest(bytes), said, blocks)?;
-    if is_lost(said, &walk) {
-        return Err(SalvageError::NothingLeft);
-    }
+    let walk = kept_walk(alloc, bytes)?;
     let head = Head {
         settings,
         digest: program_in(bytes),
     };
+    let blocks = tail(bytes, HEAD_SIZE);
     let dropped = dropped_before(blocks, &walk, read_u64(bytes, 92));
     match content_of(alloc, head, dropped, blocks, &walk) {
         Ok(log) => Ok(log),
+        Err(damage) => Err(told(damage)),
+    }
+}
+
+// The file of version 2 of the blocks that a walk back over the bytes behind a head kept, with its counts.
+fn new_of(
+    alloc: Global,
+    head: Head,
+    dropped: u64,
+    bytes: &[u8],
+    walk: &Walk,
+) -> Result<NewFile, Damage>
+    requires laid { (pieces : List Piece) × AreKept bytes.now walk.now pieces }
+    requires bound { walk.now.size ≤ head.settings.log_size }
+    ensures { (pieces : List Piece) → AreKept bytes.now walk.now pieces → MatchResult result (RenewsBlocks head dropped (136 + walk.now.rest) pieces) (IsRecordsFault head dropped (136 + walk.now.rest) pieces) }
+{
+    let _digest = head.digest;
+    let records = gather(alloc, bytes, walk)?;
+    let counts = match counts_along(&head, dropped, bytes, walk, &records) {
+        Ok(counts) => counts,
+        Err(damage) => return Err(damage),
+    };
+    let file = write_file2(alloc, &head, dropped, &records)?;
+    Ok(NewFile {
+        bytes: file,
+        counts,
+    })
+}
+
+// The file of what is salvaged of a file whose head has no fault and these settings.
+fn renewed_in(alloc: Global, bytes: &[u8], settings: Settings) -> Result<NewFile, SalvageError>
+    requires long { 136 ≤ length bytes.now }
+    requires settings { settings ≡ settings_in bytes.now }
+    requires fault { head_fault bytes.now ≡ None }
+    ensures renewed { IfOk result (RenewsSalvaged bytes.now) }
+    ensures refused { IfErr result (IsSalvageRefusal bytes.now) }
+{
+    let _range = settings.raw();
+    let walk = kept_walk(alloc, bytes)?;
+    let head = Head {
+        settings,
+        digest: program_in(bytes),
+    };
+    let blocks = tail(bytes, HEAD_SIZE);
+    let dropped = dropped_before(blocks, &walk, read_u64(bytes, 92));
+    match new_of(alloc, head, dropped, blocks, &walk) {
+        Ok(new) => Ok(new),
         Err(damage) => Err(told(damage)),
     }
 }
@@ -85,5 +157,17 @@ pub fn salvage(alloc: Global, bytes: &[u8]) -> Result<KeptLog, SalvageError>
     match checked_settings(bytes) {
         Err(fault) => Err(SalvageError::File(Damage::File(fault))),
         Ok(settings) => salvage_in(alloc, bytes, settings),
+    }
+}
+
+/// The file of version 2 of what `salvage` salvages of a file, and what that log has, without a list of its
+/// records: it takes three times as much memory as the records' bytes. It is refused as `salvage` refuses it.
+pub fn salvage_file(alloc: Global, bytes: &[u8]) -> Result<NewFile, SalvageError>
+    ensures renewed { IfOk result (RenewsSalvaged bytes.now) }
+    ensures refused { IfErr result (IsSalvageRefusal bytes.now) }
+{
+    match checked_settings(bytes) {
+        Err(fault) => Err(SalvageError::File(Damage::File(fault))),
+        Ok(settings) => renewed_in(alloc, bytes, settings),
     }
 }

@@ -202,16 +202,16 @@ no_fault_again read c is =
 
 -- ---- the records
 
-pub some_bytes : (r : Record) → Fits 1 r → 0 < length (bytes_of r)
-some_bytes (Header h n ic pc x) fits = omega arith
-some_bytes (FirstLoad h skip value) fits = omega arith
-some_bytes (ScOk h) fits = omega arith
-some_bytes (ScFailed h) fits = omega arith
-some_bytes (Edge h ic s j) fits = omega arith
-some_bytes (End h mark) fits = omega arith
+pub some_bytes : (r : Record) → 0 < length (bytes_of r)
+some_bytes (Header h n ic pc x) = omega arith
+some_bytes (FirstLoad h skip value) = omega arith
+some_bytes (ScOk h) = omega arith
+some_bytes (ScFailed h) = omega arith
+some_bytes (Edge h ic s j) = omega arith
+some_bytes (End h mark) = omega arith
 
 pub records_free : BeginNoOther → ArePrefixFree bytes_of (Fits 1)
-records_free alone = record { some = some_bytes; one = λ r s x y fr fs e. alone r s x y fr.fields fs.fields e }
+records_free alone = record { some = λ r fits. some_bytes r; one = λ r s x y fr fs e. alone r s x y fr.fields fs.fields e }
 
 abbrev unbroken : Option OrderBreak
 unbroken = None

@@ -29,7 +29,7 @@ no_some a e = absurd cc
 
 none_left : (left : List Record) → AllByRecursion (Fits 1) left → flat_map bytes_of left ≡ [] → length left ≡ 0
 none_left [] fit e = refl
-none_left (r ∷ left) fit e = absurd (omega (arith, ap length e, length-append (bytes_of r) (flat_map bytes_of left), some_bytes r fit.0))
+none_left (r ∷ left) fit e = absurd (omega (arith, ap length e, length-append (bytes_of r) (flat_map bytes_of left), some_bytes r))
 
 pub counted_all : (bytes : List ℕ) (rs : List Record) (at count : ℕ) → length bytes ≤ at → Counted bytes rs at count → count ≡ length rs
 counted_all bytes rs at count le c = omega (arith, none_left c.left c.fit (sym c.bytes_left ∙ drop_all at bytes le), c.count_is)

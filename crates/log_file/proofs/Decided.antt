@@ -85,7 +85,7 @@ record Split (bytes : List ℕ) : Type 0 where
 
 record Stuck (bytes : List ℕ) : Type 0 where
   pub place : ℕ
-  pub none : NoRecord bytes place
+  pub none : NoRecord 1 bytes place
 
 more : (bytes rest : List ℕ) (r : Record) → Fits 1 r → bytes ≡ bytes_of r ++ rest → Split rest ⊎ Stuck rest → Split bytes ⊎ Stuck bytes
 more bytes rest r f e (inl s) = inl (record { records = r ∷ s.records; fit = (f, s.fit); parts = e ∙ ap (λ (t : List ℕ). bytes_of r ++ t) s.parts })
@@ -112,7 +112,7 @@ module _ (tell : TellTheirSize) (written : AreWritten) (read : AreRead) where
       inr (record { place = 0; none = record { before = []; rest = bytes; fit = tt; parts = refl; place_is = refl; more = some; none = none } })
   onward fuel bytes are some few go (inl g) =
       let are_rest : AreBytes g.rest = λ i. subst (λ (t : List ℕ). slice_index t i < 256) (sym g.rest_is) (rw get_or-drop (are (g.at + i))) in
-      let fewer : length g.rest ≤ fuel = omega (arith, few, some_bytes g.first g.fits, ap (λ (t : List ℕ). length t) g.parts ∙ length-append (bytes_of g.first) g.rest) in
+      let fewer : length g.rest ≤ fuel = omega (arith, few, some_bytes g.first, ap (λ (t : List ℕ). length t) g.parts ∙ length-append (bytes_of g.first) g.rest) in
       more bytes g.rest g.first g.fits g.parts (go g.rest are_rest fewer)
 
   split : (fuel : ℕ) (bytes : List ℕ) → AreBytes bytes → length bytes ≤ fuel → Split bytes ⊎ Stuck bytes

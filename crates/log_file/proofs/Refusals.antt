@@ -32,12 +32,12 @@ same_break b c h = cc
 
 -- by the law that no record's bytes begin another's
 module _ (alone : BeginNoOther) where
-  one_place : (bytes : List ℕ) (p q : ℕ) → NoRecord bytes p → NoRecord bytes q → p ≡ q
+  one_place : (bytes : List ℕ) (p q : ℕ) → NoRecord 1 bytes p → NoRecord 1 bytes q → p ≡ q
   one_place bytes p q x y =
       let same = one_stop bytes_of (Fits 1) (records_free alone) x.before y.before x.rest y.rest x.fit y.fit (sym x.parts ∙ y.parts) x.none y.none in
       x.place_is ∙ ap total same ∙ sym y.place_is
 
-  whole_or_not : (head : Head) (dropped : ℕ) (bytes : List ℕ) (p q rule : ℕ) → NoRecord bytes p → BreaksOrder head dropped bytes q rule → ⊥
+  whole_or_not : (head : Head) (dropped : ℕ) (bytes : List ℕ) (p q rule : ℕ) → NoRecord 1 bytes p → BreaksOrder head dropped bytes q rule → ⊥
   whole_or_not head dropped bytes p q rule x y = no_stop bytes_of (Fits 1) (records_free alone) y.records x.before x.rest y.fit x.fit (sym y.parts ∙ x.parts) x.more x.none
 
   one_break : (head : Head) (dropped : ℕ) (bytes : List ℕ) (p q a b : ℕ) → BreaksOrder head dropped bytes p a → BreaksOrder head dropped bytes q b → order_break p a ≡ order_break q b

@@ -17,9 +17,10 @@ use Rattle.log_order.specs.Rules.{is_unfinished, fresh}
 use Rattle.log_file.proofs.Again.{some_bytes}
 use Rattle.log_file.proofs.Counts.{same_some}
 use Rattle.log_file.specs.declared.counting.LogCounts.{LogCounts}
+use Rattle.log_file.specs.declared.counting.Tally.{Tally}
 use Rattle.log_file.specs.declared.counting.Walked.{Walked}
 use Rattle.log_file.specs.File.{BreaksOrder}
-use Rattle.log_file.specs.Counts.{headers_of, header_count, Walks, IsWalked, IsCounted}
+use Rattle.log_file.specs.Counts.{headers_of, header_count, Walks, IsWalked, IsTallied, IsCounted}
 
 abbrev Harts : Type 0
 Harts = List HartView
@@ -28,9 +29,9 @@ abbrev Ran : Type 0
 Ran = Result Harts OrderBreak
 
 -- the records up to the rest of the bytes, and what was found on the way along them
-pub record WalkedTo (t : Terms) (start harts : List HartView) (bytes rest : List ℕ) (records headers : ℕ) (broken : Option OrderBreak) : Type 0 where
+pub record WalkedTo (format : ℕ) (t : Terms) (start harts : List HartView) (bytes rest : List ℕ) (records headers : ℕ) (broken : Option OrderBreak) : Type 0 where
   pub front : List Record
-  pub fit : AllByRecursion (Fits 1) front
+  pub fit : AllByRecursion (Fits format) front
   pub parts : bytes ≡ flat_map bytes_of front ++ rest
   pub count : records ≡ length front
   pub headers_are : headers ≡ header_count front
@@ -42,9 +43,9 @@ headers_more : (rs : List Record) (r : Record) → header_count (rs ++ r ∷ [])
 headers_more [] r = omega arith
 headers_more (x ∷ rs) r = omega (arith, headers_more rs r)
 
-fit_more : (rs : List Record) (r : Record) → AllByRecursion (Fits 1) rs → Fits 1 r → AllByRecursion (Fits 1) (rs ++ r ∷ [])
-fit_more [] r fit one = (one, tt)
-fit_more (x ∷ rs) r fit one = (fit.0, fit_more rs r fit.1 one)
+fit_more : (format : ℕ) (rs : List Record) (r : Record) → AllByRecursion (Fits format) rs → Fits format r → AllByRecursion (Fits format) (rs ++ r ∷ [])
+fit_more format [] r fit one = (one, tt)
+fit_more format (x ∷ rs) r fit one = (fit.0, fit_more format rs r fit.1 one)
 
 -- the records of the second part are taken where those of the first were
 then_one : (t : Terms) (q place : ℕ) (fs : List Record) (r : Record) (ran : Ran)
@@ -72,26 +73,26 @@ pub breaks : (t : Terms) (place rule : ℕ) (start harts : Harts) (rs : List Rec
 unfolding after_all
 breaks t place rule start harts rs r is ran broke = after_more t 0 place start rs r (omega (arith, is)) ∙ rw (ran, sym broke) refl
 
-split_off : (rest after : List ℕ) (size : ℕ) (r : Record) → after ≡ drop size rest → BeginsWith 1 rest r size → rest ≡ bytes_of r ++ after
-split_off rest after size r behind b = b.parts ∙ ap (λ (x : List ℕ). bytes_of r ++ x) (sym behind)
+split_off : (format : ℕ) (rest after : List ℕ) (size : ℕ) (r : Record) → after ≡ drop size rest → BeginsWith format rest r size → rest ≡ bytes_of r ++ after
+split_off format rest after size r behind b = b.parts ∙ ap (λ (x : List ℕ). bytes_of r ++ x) (sym behind)
 
-pub shorter : (rest after : List ℕ) (size : ℕ) (r : Record) → after ≡ drop size rest → BeginsWith 1 rest r size → length after < length rest
-shorter rest after size r behind b = omega (arith, ap length (split_off rest after size r behind b), length-append (bytes_of r) after, some_bytes r b.fits)
+pub shorter : (format : ℕ) (rest after : List ℕ) (size : ℕ) (r : Record) → after ≡ drop size rest → BeginsWith format rest r size → length after < length rest
+shorter format rest after size r behind b = omega (arith, ap length (split_off format rest after size r behind b), length-append (bytes_of r) after, some_bytes r)
 
 -- the walk before its first record, after one more, and at the end of the bytes
-pub walked_none : (t : Terms) (start : Harts) (bytes : List ℕ) → WalkedTo t start start bytes bytes 0 0 None
+pub walked_none : (format : ℕ) (t : Terms) (start : Harts) (bytes : List ℕ) → WalkedTo format t start start bytes bytes 0 0 None
 unfolding after_all
-walked_none t start bytes = record { front = []; fit = tt; parts = refl; count = refl; headers_are = refl; ran = refl }
+walked_none format t start bytes = record { front = []; fit = tt; parts = refl; count = refl; headers_are = refl; ran = refl }
 
-pub walked_one : (t : Terms) (start harts next : Harts) (bytes rest after : List ℕ) (records headers more : ℕ) (broken found : Option OrderBreak) (place size : ℕ) (r : Record)
-    → after ≡ drop size rest → WalkedTo t start harts bytes rest records headers broken → BeginsWith 1 rest r size → place ≡ length bytes - length rest → more ≡ headers_of r
+pub walked_one : (format : ℕ) (t : Terms) (start harts next : Harts) (bytes rest after : List ℕ) (records headers more : ℕ) (broken found : Option OrderBreak) (place size : ℕ) (r : Record)
+    → after ≡ drop size rest → WalkedTo format t start harts bytes rest records headers broken → BeginsWith format rest r size → place ≡ length bytes - length rest → more ≡ headers_of r
     → ((begin : Harts) (rs : List Record) → place ≡ total rs → Walks (after_all t 0 begin rs) broken harts → Walks (after_all t 0 begin (rs ++ r ∷ [])) found next)
-    → WalkedTo t start next bytes after (records + 1) (headers + more) found
-walked_one t start harts next bytes rest after records headers more broken found place size r behind w b at is take =
+    → WalkedTo format t start next bytes after (records + 1) (headers + more) found
+walked_one format t start harts next bytes rest after records headers more broken found place size r behind w b at is take =
     record {
       front = w.front ++ r ∷ [];
-      fit = fit_more w.front r w.fit b.fits;
-      parts = w.parts ∙ ap (λ (x : List ℕ). flat_map bytes_of w.front ++ x) (split_off rest after size r behind b)
+      fit = fit_more format w.front r w.fit b.fits;
+      parts = w.parts ∙ ap (λ (x : List ℕ). flat_map bytes_of w.front ++ x) (split_off format rest after size r behind b)
           ∙ sym (append_assoc (flat_map bytes_of w.front) (bytes_of r) after) ∙ ap (λ (x : List ℕ). x ++ after) (spelled_more w.front r);
       count = omega (arith, w.count, length-append w.front (r ∷ []));
       headers_are = omega (arith, w.headers_are, is, headers_more w.front r);
@@ -114,29 +115,29 @@ not_late harts bytes rest (Edge h ic s j) e other = absurd (other (ap (λ (x : L
 not_late harts bytes rest (End h mark) e other = refl
 
 -- the records of the rest of the bytes, which begins at a place: the first late Edge is among them, if there is one
-pub record Left (harts : Harts) (rs : List Record) (place : ℕ) (rest : List ℕ) : Type 0 where
+pub record Left (format : ℕ) (harts : Harts) (rs : List Record) (place : ℕ) (rest : List ℕ) : Type 0 where
   pub left : List Record
-  pub fit : AllByRecursion (Fits 1) left
+  pub fit : AllByRecursion (Fits format) left
   pub parts : rest ≡ flat_map bytes_of left
   pub same : late_edge harts place left ≡ late_edge harts 0 rs
 
-pub left_all : (harts : Harts) (rs : List Record) (place : ℕ) (bytes : List ℕ) → place ≡ 0 → AllByRecursion (Fits 1) rs → bytes ≡ flat_map bytes_of rs → Left harts rs place bytes
-left_all harts rs place bytes zero fit parts = record { left = rs; fit = fit; parts = parts; same = ap (λ (p : ℕ). late_edge harts p rs) zero }
+pub left_all : (format : ℕ) (harts : Harts) (rs : List Record) (place : ℕ) (bytes : List ℕ) → place ≡ 0 → AllByRecursion (Fits format) rs → bytes ≡ flat_map bytes_of rs → Left format harts rs place bytes
+left_all format harts rs place bytes zero fit parts = record { left = rs; fit = fit; parts = parts; same = ap (λ (p : ℕ). late_edge harts p rs) zero }
 
-pub left_none : (harts : Harts) (rs : List Record) (place : ℕ) (rest : List ℕ) → length rest ≡ 0 → Left harts rs place rest → None ≡ late_edge harts 0 rs
+pub left_none : (format : ℕ) (harts : Harts) (rs : List Record) (place : ℕ) (rest : List ℕ) → length rest ≡ 0 → Left format harts rs place rest → None ≡ late_edge harts 0 rs
 unfolding late_edge
-left_none harts rs place rest none l = by_left l.left l.fit l.parts l.same
+left_none format harts rs place rest none l = by_left l.left l.fit l.parts l.same
   where
-    by_left : (left : List Record) → AllByRecursion (Fits 1) left → rest ≡ flat_map bytes_of left → late_edge harts place left ≡ late_edge harts 0 rs → None ≡ late_edge harts 0 rs
+    by_left : (left : List Record) → AllByRecursion (Fits format) left → rest ≡ flat_map bytes_of left → late_edge harts place left ≡ late_edge harts 0 rs → None ≡ late_edge harts 0 rs
     by_left [] fit parts same = same
-    by_left (r ∷ more) fit parts same = absurd (omega (arith, none, ap length parts, length-append (bytes_of r) (flat_map bytes_of more), some_bytes r fit.0))
+    by_left (r ∷ more) fit parts same = absurd (omega (arith, none, ap length parts, length-append (bytes_of r) (flat_map bytes_of more), some_bytes r))
 
-pub left_late : (harts : Harts) (rs : List Record) (place : ℕ) (rest : List ℕ) (late : Bool) → 0 < length rest → late ≡ true
-    → ((r : Record) (behind : List ℕ) → Fits 1 r → rest ≡ bytes_of r ++ behind → late ≡ is_late harts r) → Left harts rs place rest → Some place ≡ late_edge harts 0 rs
+pub left_late : (format : ℕ) (harts : Harts) (rs : List Record) (place : ℕ) (rest : List ℕ) (late : Bool) → 0 < length rest → late ≡ true
+    → ((r : Record) (behind : List ℕ) → Fits format r → rest ≡ bytes_of r ++ behind → late ≡ is_late harts r) → Left format harts rs place rest → Some place ≡ late_edge harts 0 rs
 unfolding late_edge
-left_late harts rs place rest late more true_here tells l = by_left l.left l.fit l.parts l.same
+left_late format harts rs place rest late more true_here tells l = by_left l.left l.fit l.parts l.same
   where
-    by_left : (left : List Record) → AllByRecursion (Fits 1) left → rest ≡ flat_map bytes_of left → late_edge harts place left ≡ late_edge harts 0 rs → Some place ≡ late_edge harts 0 rs
+    by_left : (left : List Record) → AllByRecursion (Fits format) left → rest ≡ flat_map bytes_of left → late_edge harts place left ≡ late_edge harts 0 rs → Some place ≡ late_edge harts 0 rs
     by_left [] fit parts same = absurd (omega (arith, more, ap length parts))
     by_left (r ∷ behind) fit parts same =
         let here : is_late harts r ≡ true = sym (tells r (flat_map bytes_of behind) fit.0 parts) ∙ true_here in
@@ -144,13 +145,13 @@ left_late harts rs place rest late more true_here tells l = by_left l.left l.fit
 
 -- by the law that the first byte of a record tells how many they are
 module _ (tell : TellTheirSize) where
-  pub left_more : (harts : Harts) (rs : List Record) (place next size : ℕ) (rest after : List ℕ) (late : Bool) → 0 < length rest → late ≡ false
-      → ((r : Record) (behind : List ℕ) → Fits 1 r → rest ≡ bytes_of r ++ behind → late ≡ is_late harts r)
-      → Some size ≡ size_of (slice_index rest 0) → after ≡ drop size rest → size ≤ length rest → next ≡ place + size → Left harts rs place rest → Left harts rs next after
+  pub left_more : (format : ℕ) (harts : Harts) (rs : List Record) (place next size : ℕ) (rest after : List ℕ) (late : Bool) → 0 < length rest → late ≡ false
+      → ((r : Record) (behind : List ℕ) → Fits format r → rest ≡ bytes_of r ++ behind → late ≡ is_late harts r)
+      → Some size ≡ size_of (slice_index rest 0) → after ≡ drop size rest → size ≤ length rest → next ≡ place + size → Left format harts rs place rest → Left format harts rs next after
   unfolding late_edge
-  left_more harts rs place next size rest after late more false_here tells told behind within on l = by_left l.left l.fit l.parts l.same
+  left_more format harts rs place next size rest after late more false_here tells told behind within on l = by_left l.left l.fit l.parts l.same
     where
-      by_left : (left : List Record) → AllByRecursion (Fits 1) left → rest ≡ flat_map bytes_of left → late_edge harts place left ≡ late_edge harts 0 rs → Left harts rs next after
+      by_left : (left : List Record) → AllByRecursion (Fits format) left → rest ≡ flat_map bytes_of left → late_edge harts place left ≡ late_edge harts 0 rs → Left format harts rs next after
       by_left [] fit parts same = absurd (omega (arith, more, ap length parts))
       by_left (r ∷ others) fit parts same =
           let here : is_late harts r ≡ false = sym (tells r (flat_map bytes_of others) fit.0 parts) ∙ false_here in
@@ -163,11 +164,11 @@ module _ (tell : TellTheirSize) where
           }
 
   -- where no record's first byte stands, or too few bytes, no record is left
-  pub left_stops : (harts : Harts) (rs : List Record) (place : ℕ) (rest : List ℕ) → 0 < length rest
-      → ((n : ℕ) → Some n ≡ size_of (slice_index rest 0) → length rest < n) → Left harts rs place rest → None ≡ late_edge harts 0 rs
-  left_stops harts rs place rest more short l = by_left l.left l.fit l.parts
+  pub left_stops : (format : ℕ) (harts : Harts) (rs : List Record) (place : ℕ) (rest : List ℕ) → 0 < length rest
+      → ((n : ℕ) → Some n ≡ size_of (slice_index rest 0) → length rest < n) → Left format harts rs place rest → None ≡ late_edge harts 0 rs
+  left_stops format harts rs place rest more short l = by_left l.left l.fit l.parts
     where
-      by_left : (left : List Record) → AllByRecursion (Fits 1) left → rest ≡ flat_map bytes_of left → None ≡ late_edge harts 0 rs
+      by_left : (left : List Record) → AllByRecursion (Fits format) left → rest ≡ flat_map bytes_of left → None ≡ late_edge harts 0 rs
       by_left [] fit parts = absurd (omega (arith, more, ap length parts))
       by_left (r ∷ others) fit parts =
           let told : Some (length (bytes_of r)) ≡ size_of (slice_index rest 0) = sym (ap (λ (x : List ℕ). size_of (slice_index x 0)) parts ∙ tell r (flat_map bytes_of others) fit.0.fields) in
@@ -204,17 +205,20 @@ break_is s dropped count all t v start harts rs found result few many which term
     ∙ ap (λ (b : Bool). broken_in b rs (after_all (terms_of s) 0 (replicate s.harts (fresh b)) rs)) which
 
 -- what a walk and the first break of the order say of the records
-pub is_counted : (head : Head) (dropped : ℕ) (t : Terms) (start harts : Harts) (bytes : List ℕ) (w : Walked) (n : LogCounts) (result : Option OrderBreak) → (walked : IsWalked t start harts bytes w) → result ≡ None
-    → result ≡ broken_by head.settings dropped walked.records → n ≡ record { records = w.records; intervals = w.headers; dropped = dropped; bytes = length bytes } → IsCounted head dropped bytes n
-is_counted head dropped t start harts bytes w n result walked none is counts =
+pub is_tallied : (format : ℕ) (settings : RawSettings) (dropped : ℕ) (t : Terms) (start harts : Harts) (bytes : List ℕ) (w : Walked) (n : LogCounts) (result : Option OrderBreak) → (walked : IsWalked format t start harts bytes w)
+    → result ≡ broken_by settings dropped walked.records → n ≡ record { records = w.records; intervals = w.headers; dropped = dropped; bytes = length bytes }
+    → IsTallied format settings dropped bytes (record { counts = n; broken = result })
+is_tallied format settings dropped t start harts bytes w n result walked is counts =
     record {
       records = walked.records;
       fit = walked.fit;
       parts = walked.parts;
-      order = sym is ∙ none;
       counts = counts ∙ rw (walked.count, walked.headers, ap length walked.parts) refl;
+      broken = is;
     }
 
-pub breaks_order : (head : Head) (dropped : ℕ) (t : Terms) (start harts : Harts) (bytes : List ℕ) (w : Walked) (place rule : ℕ) (result : Option OrderBreak) → (walked : IsWalked t start harts bytes w) → result ≡ Some (order_break place rule)
-    → result ≡ broken_by head.settings dropped walked.records → BreaksOrder head dropped bytes place rule
-breaks_order head dropped t start harts bytes w place rule result walked found is = record { records = walked.records; fit = walked.fit; parts = walked.parts; first = sym is ∙ found }
+pub is_counted : (head : Head) (dropped : ℕ) (bytes : List ℕ) (t : Tally) → IsTallied 1 head.settings dropped bytes t → t.broken ≡ None → IsCounted head dropped bytes t.counts
+is_counted head dropped bytes t k none = record { records = k.records; fit = k.fit; parts = k.parts; order = sym k.broken ∙ none; counts = k.counts }
+
+pub breaks_order : (head : Head) (dropped : ℕ) (bytes : List ℕ) (place rule : ℕ) (t : Tally) → IsTallied 1 head.settings dropped bytes t → t.broken ≡ Some (order_break place rule) → BreaksOrder head dropped bytes place rule
+breaks_order head dropped bytes place rule t k found = record { records = k.records; fit = k.fit; parts = k.parts; first = sym k.broken ∙ found }

@@ -1,6 +1,7 @@
 -- What is counted of a log.
 use Rattle.std.specs.Prelude.{◌≡◌, ℕ, ◌+◌, List, [], ◌∷◌, length, Option, Some, None, Result, Ok, Err}
 use Rattle.std.specs.List.{flat_map, AllByRecursion}
+use Rattle.bn_base.specs.declared.settings.RawSettings.{RawSettings}
 use Rattle.log_record.specs.declared.head.Head.{Head}
 use Rattle.log_record.specs.declared.record.Record.{Record}
 use Rattle.log_record.specs.declared.record.Record.TheVariants.{Header, FirstLoad, ScOk, ScFailed, Edge, End}
@@ -11,6 +12,7 @@ use Rattle.log_order.specs.declared.walk.OrderBreak.{OrderBreak}
 use Rattle.log_order.specs.Order.{after_all, broken_by}
 use Rattle.log_order.specs.Content.{Content}
 use Rattle.log_file.specs.declared.counting.LogCounts.{LogCounts}
+use Rattle.log_file.specs.declared.counting.Tally.{Tally}
 use Rattle.log_file.specs.declared.counting.Walked.{Walked}
 use Rattle.log_file.specs.Layout.{file_bytes, IsFirst}
 use Rattle.log_file.specs.File.{HasFields}
@@ -41,13 +43,21 @@ Walks ran None harts = ran ≡ Ok harts
 Walks ran (Some found) harts = ran ≡ Err found
 
 -- the walk along the records of these bytes, from these views of the harts to those
-pub record IsWalked (t : Terms) (start harts : List HartView) (bytes : List ℕ) (w : Walked) : Type 0 where
+pub record IsWalked (format : ℕ) (t : Terms) (start harts : List HartView) (bytes : List ℕ) (w : Walked) : Type 0 where
   pub records : List Record
-  pub fit : AllByRecursion (Fits 1) records
+  pub fit : AllByRecursion (Fits format) records
   pub parts : bytes ≡ flat_map bytes_of records
   pub count : w.records ≡ length records
   pub headers : w.headers ≡ header_count records
   pub ran : Walks (after_all t 0 start records) w.broken harts
+
+-- the bytes are those of records that a log of this version has, of which these are the counts, and this is the first break of the order
+pub record IsTallied (format : ℕ) (settings : RawSettings) (dropped : ℕ) (bytes : List ℕ) (t : Tally) : Type 0 where
+  pub records : List Record
+  pub fit : AllByRecursion (Fits format) records
+  pub parts : bytes ≡ flat_map bytes_of records
+  pub counts : t.counts ≡ counts_in dropped records
+  pub broken : t.broken ≡ broken_by settings dropped records
 
 -- the bytes are those of records in order, of which these are the counts
 pub record IsCounted (head : Head) (dropped : ℕ) (bytes : List ℕ) (n : LogCounts) : Type 0 where

@@ -17,15 +17,15 @@ pub record HasFields (signed : List ℕ) (c : Content) : Type 0 where
   pub dropped : c.dropped ≡ dropped_in signed
   pub records : drop 92 signed ≡ flat_map bytes_of c.records
 
--- up to the place the bytes are those of records, and there none begins though bytes are left
-pub record NoRecord (bytes : List ℕ) (place : ℕ) : Type 0 where
+-- up to the place the bytes are those of records of this format, and there none begins though bytes are left
+pub record NoRecord (format : ℕ) (bytes : List ℕ) (place : ℕ) : Type 0 where
   pub before : List Record
   pub rest : List ℕ
-  pub fit : AllByRecursion (Fits 1) before
+  pub fit : AllByRecursion (Fits format) before
   pub parts : bytes ≡ flat_map bytes_of before ++ rest
   pub place_is : place ≡ total before
   pub more : 0 < length rest
-  pub none : (r : Record) (y : List ℕ) → Fits 1 r → rest ≡ bytes_of r ++ y → ⊥
+  pub none : (r : Record) (y : List ℕ) → Fits format r → rest ≡ bytes_of r ++ y → ⊥
 
 -- the bytes are those of records, which break the order first there
 pub record BreaksOrder (head : Head) (dropped : ℕ) (bytes : List ℕ) (place rule : ℕ) : Type 0 where
@@ -42,7 +42,7 @@ IsRecordsFault head dropped bytes (BadVersion found) = ⊥
 IsRecordsFault head dropped bytes (BadHead field value) = ⊥
 IsRecordsFault head dropped bytes (LengthDiffers said found) = ⊥
 IsRecordsFault head dropped bytes (DigestDiffers kept found) = ⊥
-IsRecordsFault head dropped bytes (BadRecord place) = NoRecord bytes place
+IsRecordsFault head dropped bytes (BadRecord place) = NoRecord 1 bytes place
 IsRecordsFault head dropped bytes (BadOrder place rule) = BreaksOrder head dropped bytes place rule
 IsRecordsFault head dropped bytes OutOfMemory = Unit {0}
 
@@ -60,6 +60,6 @@ IsSplitError bytes (BadVersion found) = ⊥
 IsSplitError bytes (BadHead field value) = ⊥
 IsSplitError bytes (LengthDiffers said found) = ⊥
 IsSplitError bytes (DigestDiffers kept found) = ⊥
-IsSplitError bytes (BadRecord place) = NoRecord bytes place
+IsSplitError bytes (BadRecord place) = NoRecord 1 bytes place
 IsSplitError bytes (BadOrder place rule) = ⊥
 IsSplitError bytes OutOfMemory = Unit {0}

@@ -9,8 +9,8 @@ ghost use Rattle.log_order.specs.Content.{Content};
 ghost use Rattle.log_order.specs.Order.{after_all, is_late, late_edge, ended, broken_in};
 ghost use Rattle.log_file.specs.declared.error.FileError.TheVariants.{OutOfMemory};
 ghost use Rattle.log_file.specs.Layout.{settings_in, head_in, dropped_in, file_bytes, IsFirst};
-ghost use Rattle.log_file.specs.File.{IsRecordsFault, IsSplitError, IsRefusal};
-ghost use Rattle.log_file.specs.Counts.{headers_of, counts_of, Walks, IsWalked, IsCounted, CountsFields, CountsFile};
+ghost use Rattle.log_file.specs.File.{NoRecord, IsRecordsFault, IsRefusal};
+ghost use Rattle.log_file.specs.Counts.{headers_of, counts_of, Walks, IsWalked, IsTallied, IsCounted, CountsFields, CountsFile};
 
 use crate::error::FileError;
 use crate::head::{DIGEST_SIZE, HEAD_SIZE, checked_settings, digest_in, tail};
@@ -21,7 +21,7 @@ use le_numbers::read_u64;
 use log_order::walk::{any_unfinished, is_late, step};
 use log_order::{HartView, OrderBreak, Terms};
 use log_record::laws::tags_tell_sizes;
-use log_record::{Head, Record, read, size};
+use log_record::{Head, Record, read_as, size};
 
 /// What is counted of a log.
 #[derive(Clone, Copy, Debug, PartialEq, Eq, Drop)]
@@ -43,6 +43,15 @@ pub struct Walked {
     records: u64,
     headers: u64,
     broken: Option<OrderBreak>,
+}
+
+/// What is counted of records, and where they break the order first.
+#[derive(Clone, Copy, Debug, PartialEq, Eq, Drop)]
+pub struct Tally {
+    /// What is counted of them.
+    pub counts: LogCounts,
+    /// The first break of their order; `None` where they are in order.
+    pub broken: Option<OrderBreak>,
 }
 
 // Whether a record is a Header.
@@ -82,11 +91,11 @@ fn advance(
     }
 }
 
-// Walks along the records of a log of version 1 whose bytes these are.
-fn walk(terms: &Terms, harts: &mut [HartView], bytes: &[u8]) -> Result<Walked, FileError>
-    ensures walked { IfOk result (IsWalked terms.now harts.old harts.new bytes.now) }
-    ensures refused { IfErr result (λ e. IsSplitError bytes.now e) }
-    ensures memory { IfErr result (λ e. e ≢ OutOfMemory) }
+// Walks along the records of a log of this version whose bytes these are. The error is the first place
+// where a record should begin and none does.
+fn walk(format: u8, terms: &Terms, harts: &mut [HartView], bytes: &[u8]) -> Result<Walked, u64>
+    ensures walked { IfOk result (IsWalked format terms.now harts.old harts.new bytes.now) }
+    ensures refused { IfErr result (λ at. NoRecord format bytes.now at) }
 {
     let mut records = 0;
     let mut headers = 0;
@@ -94,8 +103,8 @@ fn walk(terms: &Terms, harts: &mut [HartView], bytes: &[u8]) -> Result<Walked, F
     let mut rest = bytes;
     while !rest.is_empty() {
         let at = (bytes.len() - rest.len()) as u64;
-        match read(rest) {
-            None => return Err(FileError::BadRecord { at }),
+        match read_as(format, rest) {
+            None => return Err(at),
             Some((entry, size)) => {
                 broken = advance(terms, harts, broken, at, &entry);
                 records += 1;
@@ -115,27 +124,27 @@ fn walk(terms: &Terms, harts: &mut [HartView], bytes: &[u8]) -> Result<Walked, F
 const EDGE: u8 = 5;
 
 // Whether the record at the front of some bytes is a late Edge.
-fn late_at(harts: &[HartView], bytes: &[u8]) -> bool
+fn late_at(format: u8, harts: &[HartView], bytes: &[u8]) -> bool
     requires { 0 < length bytes.now }
-    ensures { (r : Record) (rest : List ℕ) → Fits 1 r → bytes.now ≡ bytes_of r ++ rest → result ≡ is_late harts.now r }
+    ensures { (r : Record) (rest : List ℕ) → Fits format r → bytes.now ≡ bytes_of r ++ rest → result ≡ is_late harts.now r }
 {
     if bytes[0] != EDGE {
         return false;
     }
-    match read(bytes) {
+    match read_as(format, bytes) {
         Some((entry, _)) => is_late(harts, &entry),
         None => false,
     }
 }
 
-// The place of the first late Edge among the records of a log of version 1 whose bytes these are.
-fn late_edge(harts: &[HartView], bytes: &[u8]) -> Option<u64>
-    ensures { (rs : List Record) → AllByRecursion (Fits 1) rs → bytes.now ≡ flat_map bytes_of rs → result ≡ late_edge harts.now 0 rs }
+// The place of the first late Edge among the records of a log of this version whose bytes these are.
+fn late_edge(format: u8, harts: &[HartView], bytes: &[u8]) -> Option<u64>
+    ensures { (rs : List Record) → AllByRecursion (Fits format) rs → bytes.now ≡ flat_map bytes_of rs → result ≡ late_edge harts.now 0 rs }
 {
     tags_tell_sizes();
     let mut rest = bytes;
     while !rest.is_empty() {
-        if late_at(harts, rest) {
+        if late_at(format, harts, rest) {
             return Some((bytes.len() - rest.len()) as u64);
         }
         match size(rest[0]) {
@@ -152,9 +161,9 @@ fn late_edge(harts: &[HartView], bytes: &[u8]) -> Option<u64>
 }
 
 // The first break of the two rules about the end, where these harts are left by the records of a log
-// of version 1 whose bytes these are.
-fn ended(all: bool, harts: &[HartView], bytes: &[u8]) -> Option<OrderBreak>
-    ensures { (rs : List Record) → AllByRecursion (Fits 1) rs → bytes.now ≡ flat_map bytes_of rs → result ≡ ended all harts.now rs }
+// of this version whose bytes these are.
+fn ended(format: u8, all: bool, harts: &[HartView], bytes: &[u8]) -> Option<OrderBreak>
+    ensures { (rs : List Record) → AllByRecursion (Fits format) rs → bytes.now ≡ flat_map bytes_of rs → result ≡ ended all harts.now rs }
 {
     if any_unfinished(all, harts) {
         return Some(OrderBreak {
@@ -162,26 +171,49 @@ fn ended(all: bool, harts: &[HartView], bytes: &[u8]) -> Option<OrderBreak>
             rule: 6,
         });
     }
-    match late_edge(harts, bytes) {
+    match late_edge(format, harts, bytes) {
         None => None,
         Some(at) => Some(OrderBreak { at, rule: 7 }),
     }
 }
 
-// The first break of the order of the records of a log of version 1 whose bytes these are, where a
+// The first break of the order of the records of a log of this version whose bytes these are, where a
 // walk along them found this break of a rule, or none and left the harts so.
 fn first_break(
+    format: u8,
     all: bool,
     harts: &[HartView],
     found: Option<OrderBreak>,
     bytes: &[u8],
 ) -> Option<OrderBreak>
-    ensures { (rs : List Record) (ran : Result (List HartView) OrderBreak) → AllByRecursion (Fits 1) rs → bytes.now ≡ flat_map bytes_of rs → Walks ran found harts.now → result ≡ broken_in all rs ran }
+    ensures { (rs : List Record) (ran : Result (List HartView) OrderBreak) → AllByRecursion (Fits format) rs → bytes.now ≡ flat_map bytes_of rs → Walks ran found harts.now → result ≡ broken_in all rs ran }
 {
     match found {
         Some(found) => Some(found),
-        None => ended(all, harts, bytes),
+        None => ended(format, all, harts, bytes),
     }
+}
+
+/// What is counted of the records of a log of this version with these settings whose bytes these are,
+/// and where they break the order first, so many having been given up before them. No list of them
+/// is made, and no memory is taken. The error is the first place, in bytes from the first record's,
+/// where a record should begin and none does.
+pub fn tally_of(format: u8, settings: &Settings, dropped: u64, bytes: &[u8]) -> Result<Tally, u64>
+    ensures tallied { IfOk result (IsTallied format settings.now dropped bytes.now) }
+    ensures refused { IfErr result (λ at. NoRecord format bytes.now at) }
+{
+    let all = dropped == 0;
+    let mut views = [HartView::fresh(all); HARTS];
+    let harts = &mut views[..settings.harts() as usize];
+    let walked = walk(format, &Terms::of(settings), harts, bytes)?;
+    let broken = first_break(format, all, harts, walked.broken, bytes);
+    let counts = LogCounts {
+        records: walked.records,
+        intervals: walked.headers,
+        dropped,
+        bytes: bytes.len() as u64,
+    };
+    Ok(Tally { counts, broken })
 }
 
 // What the records of a log of version 1 are that has this head and dropped so many: how many, where
@@ -191,21 +223,15 @@ fn counted(head: &Head, dropped: u64, bytes: &[u8]) -> Result<LogCounts, FileErr
     ensures refused { IfErr result (λ e. IsRecordsFault head.now dropped bytes.now e) }
     ensures memory { IfErr result (λ e. e ≢ OutOfMemory) }
 {
-    let all = dropped == 0;
-    let mut views = [HartView::fresh(all); HARTS];
-    let harts = &mut views[..head.settings.harts() as usize];
-    let walked = walk(&Terms::of(&head.settings), harts, bytes)?;
-    match first_break(all, harts, walked.broken, bytes) {
-        Some(found) => Err(FileError::BadOrder {
-            at: found.at,
-            rule: found.rule,
-        }),
-        None => Ok(LogCounts {
-            records: walked.records,
-            intervals: walked.headers,
-            dropped,
-            bytes: bytes.len() as u64,
-        }),
+    match tally_of(1, &head.settings, dropped, bytes) {
+        Err(at) => Err(FileError::BadRecord { at }),
+        Ok(tally) => match tally.broken {
+            None => Ok(tally.counts),
+            Some(found) => Err(FileError::BadOrder {
+                at: found.at,
+                rule: found.rule,
+            }),
+        },
     }
 }
 

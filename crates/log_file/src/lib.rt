@@ -10,7 +10,7 @@ pub mod readings;
 pub mod splitting;
 pub mod writing;
 
-pub use counting::{LogCounts, count_file};
+pub use counting::{LogCounts, Tally, count_file, tally_of};
 pub use error::FileError;
 pub use reading::read_file;
 pub use writing::write_file;

@@ -9,10 +9,6 @@ mod files;
 #[cfg(test)]
 mod first_log;
 #[cfg(test)]
-mod forged;
-#[cfg(test)]
-mod forged_heads;
-#[cfg(test)]
 mod going_back;
 #[cfg(test)]
 mod order;

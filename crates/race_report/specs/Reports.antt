@@ -35,11 +35,11 @@ IsReport harts most r (Err OutOfMemory) = Unit {0}
 
 -- ---- its parts
 
--- how an error of the joint replay is told
+-- how an error of the joint replay is told: want of memory as such, and any other as what it is
 abbrev pub Tells : JointError → RaceError → Type 0
 Tells e (Joint f) = (f ≡ e) × (f ≢ why.OutOfMemory)
 Tells e (TooMany max) = ⊥
-Tells e OutOfMemory = Unit {0}
+Tells e OutOfMemory = e ≡ why.OutOfMemory
 
 -- a joint replay stops with an error
 abbrev pub Stops : Joining → RaceError → Type 0

@@ -1,5 +1,5 @@
 -- A loop over the harts' reservations.
-use Rattle.std.proofs.Common.{arith, refl, subst, ◌≡◌, ◌∙◌, sym, ap, ℕ, ◌+◌, ◌<◌, ◌≤◌, ◌≢◌, ◌⊎◌, inl, inr, List, length, get_or, set, Option, None}
+use Rattle.std.proofs.Common.{arith, refl, subst, ◌≡◌, ◌∙◌, sym, ap, ℕ, ◌+◌, ◌<◌, ◌≤◌, ◌≢◌, ◌⊎◌, inl, inr, List, length, get_or, set, Option, None, Bool, true, false}
 use Rattle.std.proofs.lemmas.List.{get_or-set_same, get_or-set_other, length-set}
 use Rattle.std.proofs.lemmas.Bool.{cases_eq}
 use Rattle.bn_base.specs.declared.settings.TheConstants.{HARTS}
@@ -30,3 +30,7 @@ changed_more g k old now v below is c = record {
 -- once all are changed, they stand for the changed map
 pub changed_all : (g : ℕ → Option ℕ → Option ℕ) (k : ℕ) (old now : List (Option ℕ)) (f : ℕ → Option ℕ) → HARTS ≤ k → Changed g k old now → AreReserved old f → AreReserved now (λ j. g j (f j))
 changed_all g k old now f all c r = record { at = λ j h. c.done j (omega arith) ∙ ap (g j) (r.at j h) }
+
+-- what a hart made stays made
+pub made_stays : (b : Bool) → b ≡ false → b ≡ true → ⊥
+made_stays b e f = cc

@@ -1,10 +1,11 @@
 -- The hart whose turn it was, put together from the steps of the code.
 use Rattle.std.proofs.Common.{◌≡◌, ℕ, ◌<◌, List, length, refl, ◌∙◌, ap}
-use Rattle.std.specs.Prelude.{Option, get_or}
+use Rattle.std.specs.Prelude.{Option, Some, None, get_or}
 use Rattle.std.proofs.lemmas.Option.{slice_get-get_or, get_or_from_slice_get}
 use Rattle.bn_base.specs.declared.settings.RawSettings.{RawSettings}
 use Rattle.bn_base.specs.declared.state.HartState.{HartState}
 use Rattle.rv_meaning.specs.declared.asks.Want.{Want}
+use Rattle.rv_meaning.specs.declared.asks.Want.TheVariants.{Load, Store, LoadReserved, StoreConditional, Amo, System, Cut, Faulted}
 use Rattle.rv_meaning.specs.declared.asks.Reply.{Reply}
 use Rattle.system_calls.specs.declared.effect.Plan.{Plan}
 use Rattle.first_load_bits.specs.declared.warm.Warm.{Warm}
@@ -28,16 +29,36 @@ after_same (NewInterval reason value) s skipped bytes h = refl
 after_same (HartOver reason value) s skipped bytes h = refl
 after_same (RunOver reason value) s skipped bytes h = refl
 
-pub next_is : (c : RawSettings) (call : Option Plan) (want : Want) (reply : Reply) (x h a : Hart) (s : HartState) (n : Next) → x ≡ h → a ≡ record x { state = s } → n ≡ next_of c call x want reply a.state.ic → n ≡ next_of c call h want reply s.ic
-next_is c call want reply x h a s n ex ea en =
-    en ∙ ap (λ (y : Hart). next_of c call y want reply a.state.ic) ex ∙ ap (λ (y : Hart). next_of c call h want reply y.state.ic) ea
+next_same : (c : RawSettings) (call : Option Plan) (want : Want) (reply : Reply) (h : Hart) (s : HartState) (ic : ℕ) → next_of c call (record h { state = s }) want reply ic ≡ next_of c call h want reply ic
+next_same c (Some plan) want reply h s ic = refl
+next_same c None (Load addr width signed rd) reply h s ic = refl
+next_same c None (Store addr width value) reply h s ic = refl
+next_same c None (LoadReserved addr rd) reply h s ic = refl
+next_same c None (StoreConditional addr rd value) reply h s ic = refl
+next_same c None (Amo addr op rd value) reply h s ic = refl
+next_same c None (System number args) reply h s ic = refl
+next_same c None Cut reply h s ic = refl
+next_same c None (Faulted kind value) reply h s ic = refl
 
-pub own_is : (c : RawSettings) (call : Option Plan) (want : Want) (reply : Reply) (load : Option Warm) (x h a own : Hart) (s : HartState) (n : Next) (k bytes : ℕ) → x ≡ h → a ≡ record x { state = s } → n ≡ next_of c call x want reply a.state.ic
-    → k ≡ skipped_after load x.skipped → own ≡ hart_after n a.state k bytes a → own ≡ hart_after (next_of c call h want reply s.ic) s (skipped_after load h.skipped) bytes h
-own_is c call want reply load x h a own s n k bytes ex ea en ek eo =
-    let next = next_of c call h want reply s.ic in
-    let changed : a ≡ record h { state = s } = ea ∙ ap (λ (y : Hart). record y { state = s }) ex in
-    eo ∙ ap (λ (m : Next). hart_after m a.state k bytes a) (next_is c call want reply x h a s n ex ea en)
-    ∙ ap (λ (j : ℕ). hart_after next a.state j bytes a) (ek ∙ ap (λ (y : Hart). skipped_after load y.skipped) ex)
-    ∙ ap (λ (y : Hart). hart_after next y.state (skipped_after load h.skipped) bytes y) changed
-    ∙ after_same next s (skipped_after load h.skipped) bytes h
+-- what comes next, by the hart in its new state
+pub next_here : (c : RawSettings) (call : Option Plan) (want : Want) (reply : Reply) (x a : Hart) (s : HartState) (n : Next) → a ≡ record x { state = s } → n ≡ next_of c call a want reply a.state.ic → n ≡ next_of c call x want reply s.ic
+next_here c call want reply x a s n ea en =
+    en ∙ ap (λ (y : Hart). next_of c call y want reply y.state.ic) ea ∙ next_same c call want reply x s s.ic
+
+-- the hart itself, put together in its place
+pub own_here : (load : Option Warm) (x a own : Hart) (s : HartState) (n : Next) (k bytes : ℕ) → a ≡ record x { state = s } → k ≡ skipped_after load x.skipped
+    → own ≡ hart_after n a.state k bytes a → own ≡ hart_after n s (skipped_after load x.skipped) bytes x
+own_here load x a own s n k bytes ea ek eo =
+    eo ∙ ap (λ (j : ℕ). hart_after n a.state j bytes a) ek
+    ∙ ap (λ (y : Hart). hart_after n y.state (skipped_after load x.skipped) bytes y) ea
+    ∙ after_same n s (skipped_after load x.skipped) bytes x
+
+-- what comes next, by the hart of the list
+pub next_at : (c : RawSettings) (call : Option Plan) (want : Want) (reply : Reply) (x h : Hart) (ic : ℕ) (n : Next) → x ≡ h → n ≡ next_of c call x want reply ic → n ≡ next_of c call h want reply ic
+next_at c call want reply x h ic n ex en = en ∙ ap (λ (y : Hart). next_of c call y want reply ic) ex
+
+-- the hart after its turn, whatever the records took in since
+pub own_after : (load : Option Warm) (x h own : Hart) (s : HartState) (n m : Next) (old new : ℕ) → x ≡ h → n ≡ m → own ≡ hart_after n s (skipped_after load x.skipped) old x
+    → hart_after n s (skipped_after load x.skipped) old x ≡ hart_after n s (skipped_after load x.skipped) new x → own ≡ hart_after m s (skipped_after load h.skipped) new h
+own_after load x h own s n m old new ex en eo headed =
+    eo ∙ headed ∙ ap (λ (k : Next). hart_after k s (skipped_after load x.skipped) new x) en ∙ ap (λ (y : Hart). hart_after m s (skipped_after load y.skipped) new y) ex

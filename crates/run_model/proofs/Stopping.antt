@@ -6,10 +6,11 @@ use Rattle.std.proofs.lemmas.List.{get_or-set_same, get_or-set_other, append_ass
 use Rattle.std.proofs.lemmas.Option.{slice_get-get_or, get_or_from_slice_get}
 use Rattle.log_record.specs.declared.record.Record.{Record}
 use Rattle.log_record.specs.declared.record.Record.TheVariants.{End}
+use Rattle.bn_base.specs.declared.state.HartState.{HartState}
 use Rattle.run_model.specs.declared.hart.Hart.{Hart}
 use Rattle.run_model.specs.declared.next.Next.{Next}
-use Rattle.run_model.specs.declared.next.Next.TheVariants.{RunOver}
-use Rattle.run_model.specs.Turn.{other_after, harts_after, stopped_records, run_over_records, mark}
+use Rattle.run_model.specs.declared.next.Next.TheVariants.{GoesOn, NewInterval, HartOver, RunOver}
+use Rattle.run_model.specs.Turn.{other_after, harts_after, stopped_records, run_over_records, next_records, mark}
 use Rattle.run_model.specs.Stands.Harts.{AreHarts, others_after, stopped_at, stopped_below, stop_record, stop_records}
 
 -- hart k of a list in which one was set
@@ -110,13 +111,48 @@ others_stay next hs own f e are k below = are k below ∙ ap Some (no_change (k 
 pub all_stopped : (hs : List Hart) (own n : ℕ) (f : ℕ → Hart) → AreHarts hs (stopped_below own n f) → n ≡ length hs → AreHarts hs (stopped_at own f)
 all_stopped hs own n f are whole k below = are k below ∙ ap Some (below_stopped own n k f (omega (arith, below, whole)))
 
-after_by : (b : Bool) (t x y : Hart) → elim b as (λ z. Hart) [ true ↦ t | false ↦ elim b as (λ z. Hart) [ true ↦ x | false ↦ y ] ] ≡ elim b as (λ z. Hart) [ true ↦ t | false ↦ y ]
-after_by true t x y = refl
-after_by false t x y = refl
+-- the harts, of which the one whose turn it was is set ahead of the others
+abbrev pub with_own : ℕ → Hart → (ℕ → Hart) → ℕ → Hart
+with_own own t f j = elim (j == own) [ true ↦ t | false ↦ f j ]
 
--- the harts after a turn, once the one whose turn it was is set
-pub harts_set : (next : Next) (hs : List Hart) (own : ℕ) (t : Hart) (f : ℕ → Hart) → AreHarts hs (others_after next own f) → own < length hs → AreHarts (slice_set hs own t) (harts_after next own t f)
-harts_set next hs own t f are within = are_set hs own t (others_after next own f) (harts_after next own t f) are within (λ k. after_by (k == own) t (f k) (other_after next (f k)))
+pub own_set : (hs : List Hart) (own : ℕ) (t : Hart) (f : ℕ → Hart) → AreHarts hs f → own < length hs → AreHarts (slice_set hs own t) (with_own own t f)
+own_set hs own t f are within = are_set hs own t f (with_own own t f) are within (λ k. refl)
+
+after_by : (next : Next) (b : Bool) (t x : Hart) → elim b as (λ z. Hart) [ true ↦ elim b as (λ z. Hart) [ true ↦ t | false ↦ x ] | false ↦ other_after next (elim b as (λ z. Hart) [ true ↦ t | false ↦ x ]) ] ≡ elim b as (λ z. Hart) [ true ↦ t | false ↦ other_after next x ]
+after_by next true t x = refl
+after_by next false t x = refl
+
+-- they are those after the turn, once the others are
+pub others_then : (next : Next) (hs : List Hart) (own : ℕ) (t : Hart) (f : ℕ → Hart) → AreHarts hs (others_after next own (with_own own t f)) → AreHarts hs (harts_after next own t f)
+others_then next hs own t f are k below = are k below ∙ ap Some (after_by next (k == own) t (f k))
+
+-- and the Ends of the others are the same
+one_end : (b : Bool) (j : ℕ) (t h : Hart) (rs : List Record)
+    → elim (not b && (elim b as (λ z. Hart) [ true ↦ t | false ↦ h ]).live) as (λ z. List Record) [ true ↦ End j (mark (elim b as (λ z. Hart) [ true ↦ t | false ↦ h ]).state.ic 5 0) ∷ rs | false ↦ rs ]
+    ≡ elim (not b && h.live) as (λ z. List Record) [ true ↦ End j (mark h.state.ic 5 0) ∷ rs | false ↦ rs ]
+one_end true j t h rs = refl
+one_end false j t h rs = refl
+
+stops_with_own : (n own j : ℕ) (t : Hart) (f : ℕ → Hart) → stopped_records own j n (with_own own t f) ≡ stopped_records own j n f
+stops_with_own zero own j t f = refl
+stops_with_own (suc n) own j t f =
+    one_end (j == own) j t (f j) (stopped_records own (j + 1) n (with_own own t f))
+    ∙ ap (λ (rs : List Record). elim (not (j == own) && (f j).live) as (λ z. List Record) [ true ↦ End j (mark (f j).state.ic 5 0) ∷ rs | false ↦ rs ]) (stops_with_own n own (j + 1) t f)
+
+pub ends_with_own : (next : Next) (own n : ℕ) (t : Hart) (f : ℕ → Hart) → run_over_records next own n (with_own own t f) ≡ run_over_records next own n f
+ends_with_own GoesOn own n t f = refl
+ends_with_own (NewInterval reason value) own n t f = refl
+ends_with_own (HartOver reason value) own n t f = refl
+ends_with_own (RunOver reason value) own n t f = stops_with_own n own 0 t f
+
+-- the records of a turn, by what the code appends one after the other
+pub ends_are : (n m : Next) (own : ℕ) (x h t : Hart) (s : HartState) (hs kept : List Hart) (f : ℕ → Hart) (rs : List Record) → n ≡ m → x ≡ h → length kept ≡ length hs
+    → (rs ++ next_records n own x.number s) ++ run_over_records n own (length kept) (with_own own t f) ≡ rs ++ next_records m own h.number s ++ run_over_records m own (length hs) f
+ends_are n m own x h t s hs kept f rs en ex el =
+    ap (λ (ys : List Record). (rs ++ next_records n own x.number s) ++ ys) (ends_with_own n own (length kept) t f)
+    ∙ ap (λ (l : ℕ). (rs ++ next_records n own x.number s) ++ run_over_records n own l f) el
+    ∙ ap (λ (y : Hart). (rs ++ next_records n own y.number s) ++ run_over_records n own (length hs) f) ex
+    ∙ ap (λ (j : Next). (rs ++ next_records j own h.number s) ++ run_over_records j own (length hs) f) en
 
 pub over_harts : (next : Next) (reason value : ℕ) (hs : List Hart) (own : ℕ) (f : ℕ → Hart) → next ≡ RunOver reason value → AreHarts hs (stopped_at own f) → AreHarts hs (others_after next own f)
 over_harts next reason value hs own f e are = subst (λ (n : Next). AreHarts hs (others_after n own f)) (sym e) are

@@ -46,8 +46,8 @@ fn stop_others(harts: &mut Vec<Hart>, log: &mut Log, own: HartId)
     }
 }
 
-// Where a turn ends the run, the other harts are stopped and their Ends appended.
-fn end_others(harts: &mut Vec<Hart>, log: &mut Log, own: HartId, next: Next)
+/// Where a turn ends the run, the other harts are stopped and their Ends appended.
+pub fn end_others(harts: &mut Vec<Hart>, log: &mut Log, own: HartId, next: Next)
     requires few { length harts.old.items ≤ HARTS }
     requires room { taken log.old.ring + HARTS < 2 ^ 56 }
     ensures harts { (f : ℕ → Hart) → AreHarts harts.old.items f → AreHarts harts.new.items (others_after next own f) }
@@ -61,23 +61,6 @@ fn end_others(harts: &mut Vec<Hart>, log: &mut Log, own: HartId, next: Next)
         Next::RunOver { .. } => stop_others(harts, log, own),
         Next::GoesOn | Next::NewInterval { .. } | Next::HartOver { .. } => {}
     }
-}
-
-/// The harts after a turn: the one whose turn it was is as given, and where the turn ends the run,
-/// the others are stopped and their Ends appended.
-pub fn finish_turn(harts: &mut Vec<Hart>, log: &mut Log, number: HartId, next: Next, own: Hart)
-    requires number { number < length harts.old.items }
-    requires few { length harts.old.items ≤ HARTS }
-    requires room { taken log.old.ring + HARTS < 2 ^ 56 }
-    ensures harts { (f : ℕ → Hart) → AreHarts harts.old.items f → AreHarts harts.new.items (harts_after next number own f) }
-    ensures holds { (f : ℕ → Hart) (rs : List Record) → AreHarts harts.old.items f → IsLog log.old rs → IsLog log.new (rs ++ run_over_records next number (length harts.old.items) f) }
-    ensures headed { (s : HartState) (skipped : ℕ) (h : Hart) → hart_after next s skipped log.old.bytes h ≡ hart_after next s skipped log.new.bytes h }
-    ensures took { taken log.new.ring ≤ taken log.old.ring + HARTS }
-    ensures size { log.new.ring.size ≡ log.old.ring.size }
-    ensures len { length harts.new.items ≡ length harts.old.items }
-{
-    end_others(harts, log, number, next);
-    harts[number as usize] = own;
 }
 
 /// No hart is live any more.

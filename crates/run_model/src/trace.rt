@@ -1,5 +1,5 @@
 // What is traced of a run: its harts, their caches, the race log and the log.
-ghost use Rattle.std.specs.Prelude.{◌≡◌, ◌≤◌, ◌<◌, ◌+◌, ◌-◌, ◌*◌, ◌^◌, ◌==◌, ◌≢◌, ℕ, List, length, IsTrue, true, false, is_some, Option, OnOk, if◌then◌else◌};
+ghost use Rattle.std.specs.Prelude.{◌≡◌, ◌≤◌, ◌<◌, ◌+◌, ◌-◌, ◌*◌, ◌^◌, ◌++◌, ◌==◌, ◌≢◌, ℕ, List, length, IsTrue, true, false, is_some, Option, OnOk, if◌then◌else◌};
 ghost use Rattle.bn_base.specs.Programs.{Program};
 ghost use Rattle.bn_base.specs.declared.settings.RawSettings.{RawSettings};
 ghost use Rattle.rv_meaning.specs.Execute.{absorbed};
@@ -13,7 +13,7 @@ ghost use Rattle.run_model.specs.declared.hart.Hart.{Hart};
 ghost use Rattle.run_model.specs.declared.next.Next.TheVariants.{GoesOn};
 ghost use Rattle.run_model.specs.declared.span.Span.{Span};
 ghost use Rattle.run_model.specs.Machine.{Machine, call_of};
-ghost use Rattle.run_model.specs.Turn.{Run, begun_anew, guarded_run, span_of, next_of, loading, warmth, point_of, points_after, events_after, skipped_after};
+ghost use Rattle.run_model.specs.Turn.{Run, begun_anew, guarded_run, span_of, next_of, next_records, hart_after, loading, warmth, point_of, points_after, events_after, skipped_after};
 ghost use Rattle.run_model.specs.Stands.Harts.{AreHarts, hart_in};
 ghost use Rattle.run_model.specs.Stands.Logs.{taken, IsLog, is_marked_next};
 ghost use Rattle.run_model.specs.Stands.Tracing.{IsAnew, CachesGoOn, next_by, harts_by, with_ends, with_access};
@@ -24,7 +24,7 @@ ghost use Rattle.run_model.specs.Stands.Plain.{IsTrace, everyone, IsRaceReady, I
 
 use crate::caches::Caches;
 use crate::hart::{Hart, skipped_after};
-use crate::harts::finish_turn;
+use crate::harts::end_others;
 use crate::log::Log;
 use crate::next::Next;
 use crate::race::{record_access, sweep_known};
@@ -54,6 +54,37 @@ fn where_loading(want: &Want, touched: Option<Warm>) -> Option<Warm>
         None => None,
         Some(_) => touched,
     }
+}
+
+// The reply to a hart's ask gives its next state, and it takes in what comes next, which is answered; the End and
+// the next Header are appended. It is changed in its place. `load` is how the word of a loading access was.
+fn take_turn(
+    settings: &Settings,
+    own: &mut Hart,
+    log: &mut Log,
+    hart: HartId,
+    call: Option<Plan>,
+    ask: &Ask,
+    reply: Reply,
+    load: Option<Warm>,
+) -> Next
+    requires fits { IsTrue (is_reply_to ask.now.want reply) }
+    requires number { own.old.number < 2 ^ 62 }
+    requires skipped { own.old.skipped < 2 ^ 32 - 1 }
+    requires marked { IsTrue (is_marked_next (next_of settings.now call own.old ask.now.want reply (absorbed ask.now reply).ic)) }
+    requires room { taken log.old.ring + 2 < 2 ^ 56 }
+    ensures next { result ≡ next_of settings.now call own.old ask.now.want reply (absorbed ask.now reply).ic }
+    ensures own { own.new ≡ hart_after result (absorbed ask.now reply) (skipped_after load own.old.skipped) log.new.bytes own.old }
+    ensures holds { (rs : List Record) → IsLog log.old rs → IsLog log.new (rs ++ next_records result hart own.old.number (absorbed ask.now reply)) }
+    ensures took { taken log.new.ring ≤ taken log.old.ring + 2 }
+    ensures size { log.new.ring.size ≡ log.old.ring.size }
+{
+    let skipped = skipped_after(load, own.skipped);
+    own.absorb(ask, reply);
+    let next = Next::of(settings, call, own, &ask.want, reply, own.state.ic);
+    append_next(log, next, hart, own.number, &own.state);
+    own.take(next, skipped, log.bytes);
+    next
 }
 
 impl Trace {
@@ -228,15 +259,10 @@ impl Trace {
         ensures took { taken self.new.log.ring ≤ taken self.old.log.ring + 18 }
         ensures size { self.new.log.ring.size ≡ self.old.log.ring.size }
     {
-        let before = &self.harts[hart as usize];
-        let skipped = skipped_after(load, before.skipped);
-        let mut own = *before;
-        own.absorb(ask, reply);
-        let next = Next::of(settings, call, before, &ask.want, reply, own.state.ic);
-        append_next(&mut self.log, next, hart, own.number, &own.state);
+        let own = &mut self.harts[hart as usize];
+        let next = take_turn(settings, own, &mut self.log, hart, call, ask, reply, load);
         self.begin(hart, next);
-        own.take(next, skipped, self.log.bytes);
-        finish_turn(&mut self.harts, &mut self.log, hart, next, own);
+        end_others(&mut self.harts, &mut self.log, hart, next);
         next
     }
 

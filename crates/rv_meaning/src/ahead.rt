@@ -11,8 +11,9 @@ ghost use Rattle.rv_meaning.specs.Execute.{ask_of};
 
 use crate::asks::Want;
 use crate::interpreter::quiet_run_in_place;
+use crate::moves::count_up;
 use crate::steps::step;
-use bn_base::{Addr, HartState, Image};
+use bn_base::{Addr, HartState, Ic, Image};
 use rv_decode::{Instr, decode};
 use std::alloc::{AllocError, Global};
 use std::marker::Model;
@@ -79,6 +80,14 @@ fn start_of(image: &Image) -> Addr
     }
 }
 
+// Puts pc and count, which a run keeps in variables, back into its state.
+fn put_back(state: &mut HartState, pc: Addr, ic: Ic)
+    ensures { state.new ≡ record state.old { pc = pc; ic = ic } }
+{
+    state.pc = pc;
+    state.ic = ic;
+}
+
 impl<'a> DecodedImage<'a> {
     /// Decodes the segment that the program starts in. The error is that memory is wanting, which
     /// comes only where that segment is code.
@@ -128,16 +137,24 @@ impl<'a> DecodedImage<'a> {
         ensures { record { state = state.new; want = result } ≡ ask_of self.now budget state.old }
     {
         let mut want = Want::Cut;
+        let mut pc = state.pc;
+        let mut ic = state.ic;
         for done in 0..budget {
-            match self.instr(state.pc) {
-                None => return quiet_run_in_place(self.image, state, budget - done),
+            match self.instr(pc) {
+                None => {
+                    put_back(state, pc, ic);
+                    return quiet_run_in_place(self.image, state, budget - done);
+                }
                 Some(instr) => {
-                    if !step(instr, self.image, state, &mut want) {
+                    if !step(instr, self.image, &mut pc, &mut state.x, &mut want) {
+                        put_back(state, pc, ic);
                         return want;
                     }
+                    ic = count_up(ic);
                 }
             }
         }
+        put_back(state, pc, ic);
         Want::Cut
     }
 }

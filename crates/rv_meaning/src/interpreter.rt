@@ -5,6 +5,7 @@ ghost use Rattle.rv_meaning.specs.Orderly.{orderly};
 
 use crate::asks::{Ask, Want};
 use crate::fetch::{code_segment, code_word};
+use crate::moves::count_up;
 use crate::steps::step;
 use bn_base::{Fault, HartState, Image};
 use rv_decode::decode;
@@ -33,9 +34,10 @@ pub fn quiet_run_in_place(image: &Image, state: &mut HartState, budget: u64) -> 
                     };
                 }
                 Some(instr) => {
-                    if !step(&instr, image, state, &mut want) {
+                    if !step(&instr, image, &mut state.pc, &mut state.x, &mut want) {
                         return want;
                     }
+                    state.ic = count_up(state.ic);
                 }
             },
         }

@@ -8,7 +8,7 @@ ghost use Rattle.rv_meaning.specs.declared.asks.Want.TheVariants.{Load, Store, L
 
 use crate::amo::AmoOp;
 use crate::asks::Want;
-use bn_base::{Addr, Fault, HartState, Image, Register};
+use bn_base::{Addr, Fault, Image, Register, Registers};
 
 /// A fault and its value.
 pub fn fault(want: &mut Want, kind: Fault, value: u32) -> bool
@@ -130,11 +130,10 @@ pub fn amo(want: &mut Want, image: &Image, addr: Addr, op: AmoOp, rd: Register, 
 }
 
 /// A system call.
-pub fn system(want: &mut Want, state: &HartState) -> bool
-    ensures asked { want.new ≡ System (slice_index state.now.x 17) (slice_index state.now.x 10 ∷ slice_index state.now.x 11 ∷ slice_index state.now.x 12 ∷ []) }
+pub fn system(want: &mut Want, x: &Registers) -> bool
+    ensures asked { want.new ≡ System (slice_index x.now 17) (slice_index x.now 10 ∷ slice_index x.now 11 ∷ slice_index x.now 12 ∷ []) }
     ensures asks { result ≡ false }
 {
-    let x = &state.x;
     let args = [
         x.get(Register::new(10)),
         x.get(Register::new(11)),

@@ -1,7 +1,7 @@
 -- Rows as they are noted up to the one with a count.
-use Rattle.std.specs.Prelude.{◌≡◌, ℕ, ◌++◌, Bool, true, false, List, Option, Some, None}
+use Rattle.std.specs.Prelude.{◌≡◌, ◌⊎◌, ℕ, ◌<◌, ◌++◌, Bool, true, false, List, length, Option, Some, None}
 use Rattle.bn_base.specs.declared.row.Row.{Row}
-use Rattle.hart_replay.specs.Replay.{Replayed, Outcome, Done, Refused}
+use Rattle.hart_replay.specs.Replay.{Replayed, Done, Refused}
 use Rattle.hart_replay.specs.Scans.{Pending}
 use Rattle.hart_replay.specs.declared.error.ReplayError.{ReplayError}
 use Rattle.hart_replay.specs.declared.error.ReplayError.TheVariants.{NoInterval, LoadMissing, ScMissing, RecordsLeft, EndDiffers, OutOfMemory}
@@ -38,11 +38,12 @@ error_of (RecordsLeft h n) = Replay (RecordsLeft h n)
 error_of (EndDiffers h m n) = Replay (EndDiffers h m n)
 error_of OutOfMemory = ends.OutOfMemory
 
--- the error comes where a replay ends so: a refusal is its own, and want of memory may come
-abbrev pub IsStop : Outcome → SliceError → Type 0
-IsStop o (Replay e) = o ≡ Refused e
-IsStop o (NoRow ic) = ⊥
-IsStop o ends.OutOfMemory = Unit {0}
+-- the error comes where a replay ends so: a refusal is its own; want of memory may come, but only where the replay has a row, or
+-- found no memory itself
+abbrev pub IsStop : Replayed → SliceError → Type 0
+IsStop y (Replay e) = y.outcome ≡ Refused e
+IsStop y (NoRow ic) = ⊥
+IsStop y ends.OutOfMemory = (y.outcome ≡ Refused OutOfMemory) ⊎ (0 < length y.rows)
 
 -- the rows that are noted of a whole replay that is done, if the wanted one is among them
 abbrev pub IsTraced : ℕ → List (ℕ × ℕ) → Replayed → Option (List Noted) → Type 0

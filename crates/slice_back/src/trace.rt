@@ -99,7 +99,8 @@ fn error_of(error: ReplayError) -> SliceError
 /// The rows of a replay up to the one with a count, where it is done; `None` where there is no such
 /// row.
 ///
-/// All rows are replayed. The error is the replay's, or want of memory.
+/// All rows are replayed. The error is the replay's, or want of memory, which comes only where the
+/// replay has a row or found none itself.
 pub(crate) fn rows_up_to(
     alloc: Global,
     replayer: &mut Replayer,
@@ -107,7 +108,7 @@ pub(crate) fn rows_up_to(
     ic: Ic,
 ) -> Result<Option<Vec<Noted>>, SliceError>
     ensures done { IfOk result (λ found. IsTraced ic loads.now replayer.old.left (option_map (λ v. v.items) found)) }
-    ensures refused { IfErr result (λ e. IsStop replayer.old.left.outcome e) }
+    ensures refused { IfErr result (λ e. IsStop replayer.old.left e) }
 {
     let mut trace = Trace::new(alloc, loads, ic);
     'rows: loop {

@@ -11,17 +11,19 @@ use std::marker::Model;
 #[derive(Debug, Drop)]
 pub(crate) struct Reservations {
     of: [Option<Addr>; HARTS],
+    // Whether a hart made one so far. Before that there is nothing to end.
+    made: bool,
 }
 
 impl Model for Reservations {
-    ghost use Rattle.std.specs.Prelude.{◌≡◌, ℕ, List, Option, length};
+    ghost use Rattle.std.specs.Prelude.{◌≡◌, ℕ, false, List, Option, None, length, get_or};
     ghost use Rattle.bn_base.specs.declared.settings.TheConstants.{HARTS};
 
     ghost Value = { List (Option ℕ) };
 
     ghost view = { λ r. r.of };
 
-    ghost invariant = { λ r. length r.of ≡ HARTS };
+    ghost invariant = { λ r. (length r.of ≡ HARTS) × (r.made ≡ false → (k : ℕ) → get_or r.of k None ≡ None) };
 }
 
 // A hart's reservation after another hart wrote a word.
@@ -67,7 +69,10 @@ impl Reservations {
     pub fn new() -> Reservations
         ensures { AreReserved result (λ k. None) }
     {
-        Reservations { of: [None; HARTS] }
+        Reservations {
+            of: [None; HARTS],
+            made: false,
+        }
     }
 
     /// Whether a hart has reserved an aligned word.
@@ -86,6 +91,7 @@ impl Reservations {
         requires { hart < HARTS }
         ensures { (f : ℕ → Option ℕ) → AreReserved self.old f → AreReserved self.new (reserving hart own f) }
     {
+        self.made = self.made || own.is_some();
         self.of[hart as usize] = own;
     }
 
@@ -93,8 +99,10 @@ impl Reservations {
     pub fn end_others(&mut self, hart: HartId, addr: Addr)
         ensures { (f : ℕ → Option ℕ) → AreReserved self.old f → AreReserved self.new (others_lose hart addr f) }
     {
-        for k in 0..HARTS {
-            self.of[k] = after_write(self.of[k], k, hart, addr);
+        if self.made {
+            for k in 0..HARTS {
+                self.of[k] = after_write(self.of[k], k, hart, addr);
+            }
         }
     }
 
@@ -102,8 +110,10 @@ impl Reservations {
     pub fn end_among(&mut self, first: Addr, count: u32)
         ensures { (f : ℕ → Option ℕ) → AreReserved self.old f → AreReserved self.new (all_lose first count f) }
     {
-        for k in 0..HARTS {
-            self.of[k] = after_fill(self.of[k], first, count);
+        if self.made {
+            for k in 0..HARTS {
+                self.of[k] = after_fill(self.of[k], first, count);
+            }
         }
     }
 }

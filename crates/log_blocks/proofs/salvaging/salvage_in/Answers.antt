@@ -1,26 +1,32 @@
-use Rattle.std.proofs.Common.{sym, subst, ◌∙◌}
-use Rattle.log_blocks.specs.File.{IsSalvageRefusal}
+use Rattle.std.proofs.Common.{List, ℕ, sym, subst, refl}
+use Rattle.log_blocks.specs.File.{told, IsSalvaged, IsSalvageRefusal}
+use Rattle.log_blocks.specs.Walks.{AreLaid}
 use Rattle.log_blocks.specs.declared.damage.SalvageError.{SalvageError}
 use Rattle.log_blocks.proofs.Tested.{size_bound}
-use Rattle.log_blocks.proofs.Salvaged.{lost, salvaged, salvaged_log, salvage_told, head_is}
+use Rattle.log_blocks.proofs.Salvaged.{behind, salvaged, taken_is, damage_is, head_is}
 use Rattle.log_blocks.proofs.salvaging.salvage_in.Goals as goal
 
-pub returns-then-is_lost-clause-refused : goal.returns-then-is_lost-clause-refused
-returns-then-is_lost-clause-refused c =
-    lost c.args.bytes.now c.head_digest.result c.tail-blocks.result.now c.read_u32-said.result c.in_ok-walk.walk.rest c.in_ok-walk.walk.size c.in_ok-walk.walk.sizes.items
-    (record { fault = c.requires.fault; digest_is = c.head_digest.ensures; n_is = c.read_u32-said.ensures; body_is = c.tail-blocks.ensures }) c.in_ok-walk.ensures (sym c.is_lost.ensures ∙ c.if-is_lost.true)
+pub dropped_before-dropped-requires : goal.dropped_before-dropped-requires
+dropped_before-dropped-requires c =
+    let w = c.in_ok-walk.ensures.walked in
+    (w.pieces, subst (λ (t : List ℕ). AreLaid t c.in_ok-walk.walk.rest c.in_ok-walk.walk.size c.in_ok-walk.walk.sizes.items w.pieces) (sym c.tail-blocks.ensures) w.laid)
+
+pub content_of-requires-clause-laid : goal.content_of-requires-clause-laid
+content_of-requires-clause-laid c =
+    let w = c.in_ok-walk.ensures.walked in
+    (w.pieces, subst (λ (t : List ℕ). AreLaid t c.in_ok-walk.walk.rest c.in_ok-walk.walk.size c.in_ok-walk.walk.sizes.items w.pieces) (sym c.tail-blocks.ensures) w.laid)
 
 pub content_of-requires-clause-bound : goal.content_of-requires-clause-bound
-content_of-requires-clause-bound c = size_bound c.args.bytes.now c.args.settings c.read_u32-said.result c.in_ok-walk.walk.size c.requires.fault c.requires.settings c.read_u32-said.ensures (c.in_ok-walk.ensures.few)
+content_of-requires-clause-bound c = size_bound c.args.bytes.now c.args.settings _ c.in_ok-walk.walk.size c.requires.fault c.requires.settings refl c.in_ok-walk.ensures.walked.few
 
 pub returns-in-Ok-clause-salvaged : goal.returns-in-Ok-clause-salvaged
-returns-in-Ok-clause-salvaged c = salvaged_log c.args.bytes.now c.content_of.result c.in-Ok.log c.in-Ok.is (
-    salvaged c.args.bytes.now c.head_digest.result c.tail-blocks.result.now c.read_u32-said.result c.in_ok-walk.walk.rest c.in_ok-walk.walk.size c.in_ok-walk.walk.sizes.items _ c.read_u64.result c.dropped_before-dropped.result c.content_of.result
-    (record { fault = c.requires.fault; digest_is = c.head_digest.ensures; n_is = c.read_u32-said.ensures; body_is = c.tail-blocks.ensures }) c.in_ok-walk.ensures (sym c.is_lost.ensures ∙ c.if-is_lost.false)
-    (head_is c.args.bytes.now c.args.settings c.program_in.result c.requires.settings c.program_in.ensures) c.read_u64.ensures c.dropped_before-dropped.ensures c.content_of.ensures)
+returns-in-Ok-clause-salvaged c = taken_is (IsSalvaged c.args.bytes.now) (λ e. IsSalvageRefusal c.args.bytes.now (told e)) c.content_of.result c.in-Ok.log c.in-Ok.is (
+    salvaged c.args.bytes.now _ _ _ c.in_ok-walk.walk.rest c.in_ok-walk.walk.size c.in_ok-walk.walk.sizes.items _ c.read_u64.result c.dropped_before-dropped.result c.content_of.result
+    (behind c.args.bytes.now c.requires.fault) c.in_ok-walk.ensures.walked c.in_ok-walk.ensures.some (head_is c.args.bytes.now c.args.settings c.program_in.result c.requires.settings c.program_in.ensures) c.read_u64.ensures
+    (rw c.tail-blocks.ensures at c.dropped_before-dropped.ensures) (rw c.tail-blocks.ensures at c.content_of.ensures))
 
 pub returns-clause-refused : goal.returns-clause-refused
-returns-clause-refused c = subst (λ (e : SalvageError). IsSalvageRefusal c.args.bytes.now e) (sym c.told.ensures) (salvage_told c.args.bytes.now c.content_of.result c.in-Err.damage c.in-Err.is (
-    salvaged c.args.bytes.now c.head_digest.result c.tail-blocks.result.now c.read_u32-said.result c.in_ok-walk.walk.rest c.in_ok-walk.walk.size c.in_ok-walk.walk.sizes.items _ c.read_u64.result c.dropped_before-dropped.result c.content_of.result
-    (record { fault = c.requires.fault; digest_is = c.head_digest.ensures; n_is = c.read_u32-said.ensures; body_is = c.tail-blocks.ensures }) c.in_ok-walk.ensures (sym c.is_lost.ensures ∙ c.if-is_lost.false)
-    (head_is c.args.bytes.now c.args.settings c.program_in.result c.requires.settings c.program_in.ensures) c.read_u64.ensures c.dropped_before-dropped.ensures c.content_of.ensures))
+returns-clause-refused c = subst (λ (e : SalvageError). IsSalvageRefusal c.args.bytes.now e) (sym c.told.ensures) (damage_is (IsSalvaged c.args.bytes.now) (λ e. IsSalvageRefusal c.args.bytes.now (told e)) c.content_of.result c.in-Err.damage c.in-Err.is (
+    salvaged c.args.bytes.now _ _ _ c.in_ok-walk.walk.rest c.in_ok-walk.walk.size c.in_ok-walk.walk.sizes.items _ c.read_u64.result c.dropped_before-dropped.result c.content_of.result
+    (behind c.args.bytes.now c.requires.fault) c.in_ok-walk.ensures.walked c.in_ok-walk.ensures.some (head_is c.args.bytes.now c.args.settings c.program_in.result c.requires.settings c.program_in.ensures) c.read_u64.ensures
+    (rw c.tail-blocks.ensures at c.dropped_before-dropped.ensures) (rw c.tail-blocks.ensures at c.content_of.ensures)))

@@ -8,7 +8,7 @@ use Rattle.log_file.proofs.counting.late_edge.Given as goal
 abbrev pub invariant-loop-rest : goal.invariant-loop-rest
 invariant-loop-rest l = record {
   near : length l.rest ≤ length l.bytes;
-  left : (rs : List Record) → AllByRecursion (Fits 1) rs → l.bytes ≡ flat_map bytes_of rs → Left l.harts rs (length l.bytes - length l.rest) l.rest;
+  left : (rs : List Record) → AllByRecursion (Fits l.format) rs → l.bytes ≡ flat_map bytes_of rs → Left l.format l.harts rs (length l.bytes - length l.rest) l.rest;
 }
 
 abbrev pub decreases-loop-rest : goal.decreases-loop-rest

@@ -1,38 +1,62 @@
-use Rattle.std.proofs.Common.{◌≡◌, ◌∙◌, sym, subst}
+use Rattle.std.proofs.Common.{◌≡◌, ◌∙◌, ◌++◌, List, length, sym, subst, ap, length-set}
 use Rattle.std.specs.Prelude.{Vec}
 use Rattle.std.specs.Global.{Global}
 use Rattle.rv_meaning.specs.Execute.{absorbed}
+use Rattle.log_record.specs.declared.record.Record.{Record}
 use Rattle.run_model.specs.declared.hart.Hart.{Hart}
+use Rattle.run_model.specs.declared.log.Log.{Log}
 use Rattle.run_model.specs.declared.next.Next.{Next}
 use Rattle.run_model.specs.Stands.EachCache.{AreCaches}
 use Rattle.run_model.specs.Stands.Harts.{AreHarts, hart_in}
-use Rattle.run_model.specs.Turn.{events_after, harts_after, hart_after, skipped_after, next_of}
-use Rattle.run_model.proofs.Owns.{hart_at, next_is, own_is}
+use Rattle.run_model.specs.Stands.Logs.{IsLog}
+use Rattle.run_model.specs.Turn.{events_after, harts_after, hart_after, skipped_after, next_of, next_records}
+use Rattle.run_model.proofs.Owns.{hart_at, next_at, own_after}
+use Rattle.run_model.proofs.Stopping.{with_own, own_set, others_then, ends_are}
 use Rattle.run_model.proofs.trace.Trace.finish.Goals as goal
 
 pub returns-clause-harts : goal.returns-clause-harts
 returns-clause-harts c f are =
-    let x = c.index-before.result.now in
-    let h = hart_in c.args.self.now.harts.items c.args.hart in
+    let hs = c.args.self.now.harts.items in
+    let k = c.args.hart in
+    let x = c.index_mut-own.result.now in
+    let h = hart_in hs k in
     let s = absorbed c.args.ask.now c.args.reply in
-    let there = hart_at c.args.self.now.harts.items c.args.hart x c.requires.hart c.index-before.ensures in
-    let next = next_is c.args.settings.now c.args.call c.args.ask.now.want c.args.reply x h c.absorb.new.self s c.of-next.result there c.absorb.ensures c.of-next.ensures in
-    let old = c.begin.new.self.log.bytes in
-    let new = c.finish_turn.new.log.bytes in
-    let skipped = skipped_after c.args.load h.skipped in
-    let after = next_of c.args.settings.now c.args.call h c.args.ask.now.want c.args.reply s.ic in
-    let headed : hart_after after s skipped old h ≡ hart_after after s skipped new h = subst (λ (n : Next). hart_after n s skipped old h ≡ hart_after n s skipped new h) next (c.finish_turn.ensures.headed s skipped h) in
-    let own = own_is c.args.settings.now c.args.call c.args.ask.now.want c.args.reply c.args.load x h c.absorb.new.self c.take.new.self s c.of-next.result c.skipped_after-skipped.result old there c.absorb.ensures c.of-next.ensures c.skipped_after-skipped.ensures c.take.ensures in
-    subst (λ (y : Hart). AreHarts c.finish_turn.new.harts.items (harts_after (next_of c.args.settings.now c.args.call h c.args.ask.now.want c.args.reply s.ic) c.args.hart y f)) (own ∙ headed)
-    (subst (λ (n : Next). AreHarts c.finish_turn.new.harts.items (harts_after n c.args.hart c.take.new.self f)) next
-    (c.finish_turn.ensures.harts f (subst (λ (v : Vec Hart Global). AreHarts v.items f) (sym c.begin.ensures.harts) are)))
+    let t = c.take_turn-next in
+    let there = hart_at hs k x c.requires.hart c.index_mut-own.ensures.value in
+    let next = next_at c.args.settings.now c.args.call c.args.ask.now.want c.args.reply x h s.ic t.result there t.ensures.next in
+    let m = next_of c.args.settings.now c.args.call h c.args.ask.now.want c.args.reply s.ic in
+    let new = c.end_others.new.log.bytes in
+    let taken_in = subst (λ (l : Log). t.new.own ≡ hart_after t.result s (skipped_after c.args.load x.skipped) l.bytes x) (sym c.begin.ensures.log) t.ensures.own in
+    let own = own_after c.args.load x h t.new.own s t.result m c.begin.new.self.log.bytes new there next taken_in (c.end_others.ensures.headed s (skipped_after c.args.load x.skipped) x) in
+    let set = subst (λ (v : Vec Hart Global). AreHarts v.items (with_own k t.new.own f)) (sym c.begin.ensures.harts) (own_set hs k t.new.own f are c.requires.hart) in
+    let then_others = others_then t.result c.end_others.new.harts.items k t.new.own f (c.end_others.ensures.harts (with_own k t.new.own f) set) in
+    subst (λ (y : Hart). AreHarts c.end_others.new.harts.items (harts_after m k y f)) own
+    (subst (λ (n : Next). AreHarts c.end_others.new.harts.items (harts_after n k t.new.own f)) next then_others)
+
+pub returns-clause-holds : goal.returns-clause-holds
+returns-clause-holds c f rs are held =
+    let hs = c.args.self.now.harts.items in
+    let k = c.args.hart in
+    let x = c.index_mut-own.result.now in
+    let h = hart_in hs k in
+    let s = absorbed c.args.ask.now c.args.reply in
+    let t = c.take_turn-next in
+    let there = hart_at hs k x c.requires.hart c.index_mut-own.ensures.value in
+    let next = next_at c.args.settings.now c.args.call c.args.ask.now.want c.args.reply x h s.ic t.result there t.ensures.next in
+    let m = next_of c.args.settings.now c.args.call h c.args.ask.now.want c.args.reply s.ic in
+    let set = subst (λ (v : Vec Hart Global). AreHarts v.items (with_own k t.new.own f)) (sym c.begin.ensures.harts) (own_set hs k t.new.own f are c.requires.hart) in
+    let count = ap (λ (v : Vec Hart Global). length v.items) c.begin.ensures.harts ∙ length-set hs k t.new.own in
+    let taken_in = subst (λ (l : Log). IsLog l (rs ++ next_records t.result k x.number s)) (sym c.begin.ensures.log) (t.ensures.holds rs held) in
+    subst (λ (ys : List Record). IsLog c.end_others.new.log ys) (ends_are t.result m k x h t.new.own s hs c.begin.new.self.harts.items f rs next there count)
+    (c.end_others.ensures.holds (with_own k t.new.own f) (rs ++ next_records t.result k x.number s) set taken_in)
 
 pub returns-clause-caches : goal.returns-clause-caches
 returns-clause-caches c s span events are =
-    let x = c.index-before.result.now in
-    let h = hart_in c.args.self.now.harts.items c.args.hart in
-    let t = absorbed c.args.ask.now c.args.reply in
-    let there = hart_at c.args.self.now.harts.items c.args.hart x c.requires.hart c.index-before.ensures in
-    let next = next_is c.args.settings.now c.args.call c.args.ask.now.want c.args.reply x h c.absorb.new.self t c.of-next.result there c.absorb.ensures c.of-next.ensures in
+    let hs = c.args.self.now.harts.items in
+    let x = c.index_mut-own.result.now in
+    let h = hart_in hs c.args.hart in
+    let t = c.take_turn-next in
+    let there = hart_at hs c.args.hart x c.requires.hart c.index_mut-own.ensures.value in
+    let next = next_at c.args.settings.now c.args.call c.args.ask.now.want c.args.reply x h (absorbed c.args.ask.now c.args.reply).ic t.result there t.ensures.next in
     subst (λ (n : Next). AreCaches s c.begin.new.self.caches (events_after n c.args.hart c.args.call span events)) next
     (c.begin.ensures.caches s c.args.call span events are)

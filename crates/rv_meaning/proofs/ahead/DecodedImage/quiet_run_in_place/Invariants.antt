@@ -4,4 +4,4 @@ use Rattle.rv_meaning.proofs.ahead.DecodedImage.quiet_run_in_place.Given as goal
 
 -- what is left to do gives what all of it gives
 abbrev pub invariant-loop-done : goal.invariant-loop-done
-invariant-loop-done l = ask_of l.self (l.fn.budget - l.done) l.state ≡ ask_of l.self l.fn.budget l.fn.state
+invariant-loop-done l = ask_of l.self (l.fn.budget - l.done) (record { pc = l.pc; x = l.state.x; ic = l.ic }) ≡ ask_of l.self l.fn.budget l.fn.state

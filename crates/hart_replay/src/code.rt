@@ -1,0 +1,141 @@
+//! The program of a replay, with what its code words decode to.
+ghost use Rattle.std.specs.Prelude.{◌≡◌, ◌/◌, ◌%◌};
+ghost use Rattle.bn_base.specs.Programs.{Program};
+ghost use Rattle.hart_rows.specs.Lookups.{fetched};
+ghost use Rattle.hart_replay.specs.Codes.{IsLookup, AreLookups};
+
+use bn_base::{Addr, HartId, HartState, Image, Register};
+use hart_rows::Fetched;
+use std::alloc::{AllocError, Global};
+use std::marker::Model;
+
+/// How many look-ups are kept.
+const KEPT: usize = 1024;
+
+/// What was looked up at an address: the code word, and the register that its instruction writes.
+#[derive(Clone, Copy, Drop)]
+struct Lookup {
+    pc: Addr,
+    word: Option<u32>,
+    rd: Option<Register>,
+}
+
+/// A program, and what was looked up last at the addresses of its code: of those that have the same
+/// place in a table of 1,024, the latest. Contracts see the program.
+///
+/// The table takes 16 KiB, once there is a look-up to keep. Where memory is wanting nothing is kept.
+#[derive(Drop)]
+pub(crate) struct Code<'a> {
+    image: &'a Image,
+    kept: Vec<Lookup>,
+}
+
+impl<'a> Model for Code<'a> {
+    ghost use Rattle.hart_replay.specs.Codes.{CodeOf, AreLookups};
+
+    ghost Value = { CodeOf };
+
+    ghost view = { λ c. record { now = c.image.now } };
+
+    ghost invariant = { λ c. AreLookups c.image.now c.kept.items };
+}
+
+impl Lookup {
+    // That there is no word at an address where none can be.
+    fn none() -> Lookup
+        ensures { (i : Program) → IsLookup i result }
+    {
+        Lookup {
+            pc: 1,
+            word: None,
+            rd: None,
+        }
+    }
+}
+
+// The place of an address in the table.
+fn place_of(pc: Addr) -> usize
+    ensures { result ≡ pc / 4 % 1024 }
+{
+    (pc / 4) as usize % KEPT
+}
+
+// Makes the table, where there is none and memory for it.
+fn make_table(kept: &mut Vec<Lookup>)
+    ensures { (i : Program) → AreLookups i kept.old.items → AreLookups i kept.new.items }
+{
+    if kept.first().is_none() {
+        let alloc = *kept.allocator();
+        if let Ok(made) = vec![in alloc; Lookup::none(); KEPT] {
+            *kept = made;
+        }
+    }
+}
+
+// Keeps a look-up at a place of the table, where it has that place.
+fn keep(kept: &mut Vec<Lookup>, place: usize, lookup: Lookup)
+    ensures { (i : Program) → IsLookup i lookup → AreLookups i kept.old.items → AreLookups i kept.new.items }
+{
+    if place < kept.len() {
+        kept[place] = lookup;
+    }
+}
+
+impl<'a> Code<'a> {
+    /// The program, of which nothing is kept yet. It takes no memory.
+    pub(crate) fn new(alloc: Global, image: &'a Image) -> Code<'a>
+        ensures { result.now ≡ image.now }
+    {
+        Code {
+            image,
+            kept: Vec::new(alloc),
+        }
+    }
+
+    /// The program.
+    pub(crate) fn image(&self) -> &'a Image
+        ensures { result.now ≡ self.now.now }
+    {
+        self.image
+    }
+
+    /// The instruction that a hart in this state does next.
+    pub(crate) fn fetch(&mut self, hart: HartId, state: &HartState) -> Fetched
+        ensures value { result ≡ fetched hart self.old.now state.now }
+        ensures same { self.new ≡ self.old }
+    {
+        match self.kept.get(place_of(state.pc)) {
+            Some(kept) if kept.pc == state.pc => Fetched {
+                hart,
+                ic: state.ic,
+                pc: kept.pc,
+                word: kept.word,
+                rd: kept.rd,
+            },
+            _ => self.look_up(hart, state),
+        }
+    }
+
+    // The same where it isn't kept. It is from then on.
+    fn look_up(&mut self, hart: HartId, state: &HartState) -> Fetched
+        ensures value { result ≡ fetched hart self.old.now state.now }
+        ensures same { self.new ≡ self.old }
+    {
+        let here = Fetched::at(hart, self.image, state);
+        let lookup = Lookup {
+            pc: here.pc,
+            word: here.word,
+            rd: here.rd,
+        };
+        make_table(&mut self.kept);
+        keep(&mut self.kept, place_of(here.pc), lookup);
+        here
+    }
+
+    /// The same program, of which nothing is kept yet.
+    pub(crate) fn copy(&self) -> Code<'a>
+        ensures { result ≡ self.now }
+    {
+        Code::new(*self.kept.allocator(), self.image)
+    }
+}

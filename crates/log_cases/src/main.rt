@@ -1,0 +1,48 @@
+//! Makes logs of bytes as standard input says, and prints what reading, salvaging and replaying say of
+//! them. Nothing is said of a log but by its bytes, so damaged and forged ones are made like good ones.
+//!
+//! | line | what it does |
+//! |---|---|
+//! | `# TEXT` | begins a case, with the files that stand before the first case and no code, and prints the line |
+//! | `note TEXT` | nothing: it tells the reader what the lines behind it make |
+//! | `bytes NAME HEX` | these bytes behind those that the file has |
+//! | `header NAME HART INTERVAL COUNT PC X1 ..` | a Header behind them, whose other registers are 0 |
+//! | `first-load NAME HART SKIP VALUE` | a FirstLoad |
+//! | `sc-ok NAME HART`, `sc-failed NAME HART` | what came of a store-conditional |
+//! | `edge NAME HART COUNT FROM COUNT` | an Edge |
+//! | `end NAME HART COUNT REASON VALUE` | an End |
+//! | `part NAME OTHER FROM END` | the bytes of another file from a place up to another |
+//! | `join NAME OTHER ..` | all bytes of other files |
+//! | `digest NAME OTHER` | the digest of the bytes of another file |
+//! | `block NAME HEAD RECORDS FROM END BEFORE LEFT` | a sealed block behind that head: the bytes of records from a place up to another, the number of records before it, and of bytes left behind it |
+//! | `take NAME OTHER` | a copy of another file |
+//! | `set NAME PLACE WIDTH NUMBER` | a number in place of so many bytes from a place on |
+//! | `put NAME PLACE HEX` | these bytes in place of those from a place on |
+//! | `flip NAME PLACE` | a byte with the other lowest bit |
+//! | `cut NAME LENGTH` | the first bytes alone |
+//! | `write1 NAME LOG DROPPED RECORDS`, `write2 ..` | the file of version 1 or 2 with a log's head, these records, and so many dropped |
+//! | `convert NAME OTHER`, `rescue NAME OTHER` | the file of version 2 of what is read, or salvaged, of another |
+//! | `read NAME`, `salvage NAME`, `count NAME` | how many records a log has, or why it is refused; counted as version 1 |
+//! | `tell NAME` | `read` and `salvage` |
+//! | `show NAME` | the file's bytes |
+//! | `code WORD ..` | the program: at most 64 code words at 0x10054, in hexadecimal |
+//! | `replay NAME HART INTERVAL` | the rows of an interval, and what comes of it, then and at a further step |
+#![tactic(auto)]
+
+mod building;
+mod changing;
+mod files;
+mod logs;
+mod replays;
+mod script;
+mod words;
+
+use script::Case;
+
+fn main(rt: HostRuntime) -> anyhow::Result<()> {
+    let mut case = Case::new(rt.alloc());
+    for line in rt.lines(rt.alloc()) {
+        case.step(&rt, &line?)?;
+    }
+    Ok(())
+}
