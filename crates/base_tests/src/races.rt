@@ -51,7 +51,8 @@ fn step(
     ensures lasting { lasting_of shadow.new ≡ lasting_of shadow.old }
 {
     shadow.reserve(first, count)?;
-    let edges = shadow.access(hart, ic, turn, first, count, mode);
+    shadow.access(hart, ic, turn, first, count, mode);
+    let edges = shadow.edges();
     assert_eq!(rt; edges.count(), sources.len());
     for (i, source) in sources.iter().enumerate() {
         assert!(rt; edges.get(i) == Some(*source));
@@ -64,11 +65,11 @@ fn step(
 fn a_hart_with_a_lower_count_follows(rt: HostRuntime) -> Result<(), Fail> {
     let mut shadow = some_harts(&rt, rt.alloc(), 3)?;
     shadow.reserve(A, 2)?;
-    let none = shadow.access(0, 4, 0, A, 2, Write);
-    assert_eq!(rt; none.count(), 0);
+    shadow.access(0, 4, 0, A, 2, Write);
+    assert_eq!(rt; shadow.edges().count(), 0);
     shadow.reserve(A + 4, 2)?;
-    let one = shadow.access(1, 3, 1, A + 4, 2, Read);
-    assert!(rt; one.get(0) == Some((0, 4)));
+    shadow.access(1, 3, 1, A + 4, 2, Read);
+    assert!(rt; shadow.edges().get(0) == Some((0, 4)));
     assert!(rt; shadow.times(1).covers(0, 4));
     assert!(rt; !shadow.times(0).covers(1, 3));
     Ok(())
@@ -114,7 +115,8 @@ fn one_step(
     ensures lasting { lasting_of shadow.new ≡ lasting_of shadow.old }
 {
     shadow.reserve(A, 1)?;
-    let edges = shadow.access(hart, ic, turn, A, 1, mode);
+    shadow.access(hart, ic, turn, A, 1, mode);
+    let edges = shadow.edges();
     assert!(rt; edges.get(0) == source);
     assert!(rt; edges.get(1).is_none());
     Ok(())

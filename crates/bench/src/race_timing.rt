@@ -29,8 +29,8 @@ fn access_word(
     ensures counts { (h : ℕ) → next_count shadow.new h ≤ turn + 1 }
 {
     shadow.reserve(4 * word, 1)?;
-    let edges = shadow.access(hart, turn, turn, 4 * word, 1, mode);
-    Ok(edges.count())
+    shadow.access(hart, turn, turn, 4 * word, 1, mode);
+    Ok(shadow.edges().count())
 }
 
 // Accesses of the harts in turn to words in no order, one in `writes` of them a store; how many edges they have.

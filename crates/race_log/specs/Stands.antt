@@ -45,6 +45,10 @@ next_count s hart = times_of s hart hart
 abbrev pub reserved_range : Shadow → Option (ℕ × ℕ)
 reserved_range s = s.reserved
 
+-- the sources of the edges into the last access
+abbrev pub edges_of : Shadow → List (ℕ × ℕ)
+edges_of s = s.edges
+
 -- what is kept of the word
 abbrev pub kept_of : Shadow → ℕ → List Kept
 kept_of s word = kept_in s.words word

@@ -32,6 +32,13 @@ impl Edges {
         }
     }
 
+    /// Leaves no edges.
+    pub(crate) fn clear(&mut self)
+        ensures { self.new ≡ [] }
+    {
+        self.count = 0;
+    }
+
     /// Puts an edge's source at the end.
     pub(crate) fn push(&mut self, hart: HartId, ic: Ic)
         requires { length self.old < HARTS }

@@ -160,27 +160,29 @@ fn latest_in(
     best
 }
 
-/// The sources of the edges into an access of `count` words from `first`, the latest first, at most `most` of them:
-/// each time the latest that the times don't cover, after they took in the times after the one before.
+/// Puts into `edges`, in the place of what it had, the sources of the edges into an access of `count` words from
+/// `first`, the latest first, at most `most` of them: each time the latest that the times don't cover, after they
+/// took in the times after the one before.
 pub fn find_sources(
     words: &KeptWords,
     times: &mut Times,
+    edges: &mut Edges,
     hart: HartId,
     writes: bool,
     first: Addr,
     count: u32,
     most: usize,
-) -> Edges
+)
     requires aligned { first % 4 ≡ 0 }
     requires range { first + 4 * count ≤ 2 ^ 32 }
     requires most { most < HARTS }
-    ensures sources { result ≡ sources hart writes most (count_of times.old) (gathered (kept_in words.now) first count) }
+    ensures sources { edges.new ≡ sources hart writes most (count_of times.old) (gathered (kept_in words.now) first count) }
     ensures counts { (h : ℕ) → count_of times.new h
         ≡ counts_after hart writes most (count_of times.old) (gathered (kept_in words.now) first count) h }
-    ensures few { length result ≤ most }
-    ensures none { length result ≡ 0 → (h : ℕ) → count_of times.new h ≡ count_of times.old h }
+    ensures few { length edges.new ≤ most }
+    ensures none { length edges.new ≡ 0 → (h : ℕ) → count_of times.new h ≡ count_of times.old h }
 {
-    let mut edges = Edges::new();
+    edges.clear();
     for round in 0..most {
         match latest_in(words, times, hart, writes, first, count) {
             None => break,
@@ -190,5 +192,4 @@ pub fn find_sources(
             }
         }
     }
-    edges
 }

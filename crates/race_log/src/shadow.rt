@@ -21,6 +21,8 @@ pub struct Shadow {
     reserved: Option<(Addr, u32)>,
     times: Vec<Times>,
     words: KeptWords,
+    // The edges into the last access.
+    edges: Edges,
     // One bit for each hart, set where it was at each sweep so far.
     lasting: u16,
     // How many accesses were taken in since the last sweep.
@@ -41,7 +43,7 @@ impl Shadow {
     ghost use Rattle.race_log.specs.Laws.{AreSources};
     ghost use Rattle.race_log.specs.Kept.{access_point, after};
     ghost use Rattle.race_log.specs.Sweep.{has_bit, is_covered, accessed_below};
-    ghost use Rattle.race_log.specs.Stands.{Stands, KnowsSame, harts_of, lasting_of, lasts, next_turn, next_count, times_of, kept_of, words_of, held_of, is_known, reserved_range};
+    ghost use Rattle.race_log.specs.Stands.{Stands, KnowsSame, harts_of, lasting_of, lasts, next_turn, next_count, times_of, kept_of, words_of, held_of, is_known, reserved_range, edges_of};
 
     /// Knows of no point and keeps nothing.
     pub fn new(alloc: Global, settings: &Settings) -> Result<Shadow, AllocError>
@@ -49,6 +51,7 @@ impl Shadow {
         ensures turn { IfOk result (λ s. next_turn s ≡ 0) }
         ensures counts { IfOk result (λ s. (h : ℕ) → next_count s h ≡ 0) }
         ensures reserved { IfOk result (λ s. reserved_range s ≡ None) }
+        ensures edges { IfOk result (λ s. edges_of s ≡ []) }
         ensures lasting { IfOk result (λ s. (h : ℕ) → h < harts_of s → IsTrue (lasts s h)) }
         ensures stands { IfOk result (λ s. (live : ℕ → Bool) → Stands [] live s) }
     {
@@ -63,6 +66,7 @@ impl Shadow {
             reserved: None,
             times,
             words: KeptWords::new(alloc, harts)?,
+            edges: Edges::new(),
             lasting: u16::MAX,
             since: 0,
         })
@@ -80,6 +84,7 @@ impl Shadow {
         ensures ok { OnOk result (reserved_range self.new ≡ Some (first, count)) }
         ensures err { OnErr result (reserved_range self.new ≡ reserved_range self.old) }
         ensures ready { reserved_range self.old ≡ Some (first, count) → IsOk result }
+        ensures edges { edges_of self.new ≡ edges_of self.old }
     {
         self.words.make_room(first, count)?;
         self.reserved = Some((first, count));
@@ -87,16 +92,8 @@ impl Shadow {
     }
 
     /// Takes in the hart's instruction at the count `ic`, done in this turn, which reads or writes `count` words from
-    /// `first`, and answers the edges into it. The hart's bit was clear at no sweep so far.
-    pub fn access(
-        &mut self,
-        hart: HartId,
-        ic: Ic,
-        turn: u64,
-        first: Addr,
-        count: u32,
-        mode: Mode,
-    ) -> Edges
+    /// `first`; [`Shadow::edges`] then has the edges into it. The hart's bit was clear at no sweep so far.
+    pub fn access(&mut self, hart: HartId, ic: Ic, turn: u64, first: Addr, count: u32, mode: Mode)
         requires hart { hart < harts_of self.old }
         requires ic { ic < 2 ^ 41 }
         requires aligned { first % 4 ≡ 0 }
@@ -105,12 +102,12 @@ impl Shadow {
         requires turns { next_turn self.old ≤ turn }
         requires counts { next_count self.old hart ≤ ic }
         requires lasting { IsTrue (lasts self.old hart) }
-        // The points that the edges into this one come from are answered, each once, and the latest first.
+        // The points that the edges into this one come from are there then, each once, and the latest first.
         ensures edges { (run : List Point) (live : ℕ → Bool) → IsTrue (live hart) → Stands run live self.old →
-            result ≡ sources_into (after run (access_point hart ic turn first count mode)) (length run) }
+            edges_of self.new ≡ sources_into (after run (access_point hart ic turn first count mode)) (length run) }
         ensures exact { (run : List Point) (live : ℕ → Bool) → IsTrue (live hart) → Stands run live self.old →
-            AreSources run (access_point hart ic turn first count mode) result }
-        ensures few { length result < harts_of self.old }
+            AreSources run (access_point hart ic turn first count mode) (edges_of self.new) }
+        ensures few { length (edges_of self.new) < harts_of self.old }
 
         // The shadow then stands for the run with this point, and the hart's times are those of this point.
         ensures stands { (run : List Point) (live : ℕ → Bool) → IsTrue (live hart) → Stands run live self.old →
@@ -127,10 +124,11 @@ impl Shadow {
         ensures counts { (h : ℕ) → next_count self.new h ≡ (if h == hart then ic + 1 else next_count self.old h) }
         ensures reserved { reserved_range self.new ≡ None }
     {
-        let mut times = self.times[hart as usize];
-        let edges = find_sources(
+        let times = &mut self.times[hart as usize];
+        find_sources(
             &self.words,
-            &mut times,
+            times,
+            &mut self.edges,
             hart,
             mode.is_write(),
             first,
@@ -138,13 +136,18 @@ impl Shadow {
             self.harts as usize - 1,
         );
         times.set(hart, ic + 1);
+        self.words.go_on(hart, self.edges.count() > 0, times);
+        self.words.keep(first, count, hart, mode, turn, ic + 1);
         self.last_turn = Some(turn);
         self.reserved = None;
         self.since = self.since.saturating_add(1);
-        self.words.go_on(hart, edges.count() > 0, &times);
-        self.times[hart as usize] = times;
-        self.words.keep(first, count, hart, mode, turn, ic + 1);
-        edges
+    }
+
+    /// The edges into the access that was taken in last, and none before the first.
+    pub fn edges(&self) -> &Edges
+        ensures { result.now ≡ edges_of self.now }
+    {
+        &self.edges
     }
 
     /// For each hart, how many of its instructions are the given hart's latest point or before it; none of any hart, as
@@ -177,6 +180,7 @@ impl Shadow {
         ensures turn { next_turn self.new ≡ next_turn self.old }
         ensures times { (h other : ℕ) → times_of self.new h other ≡ times_of self.old h other }
         ensures reserved { reserved_range self.new ≡ reserved_range self.old }
+        ensures edges { edges_of self.new ≡ edges_of self.old }
     {
         let known = self.known_to_all(live);
         self.lasting &= live;

@@ -45,8 +45,8 @@ pub fn record_access(
     ensures others { (h : ℕ) → h ≢ hart → next_count shadow.new h ≡ next_count shadow.old h }
 {
     if let Some(span) = span {
-        let edges = shadow.access(hart, ic, turn, span.first, span.count, span.mode);
-        append_edges(log, hart, ic, &edges);
+        shadow.access(hart, ic, turn, span.first, span.count, span.mode);
+        append_edges(log, hart, ic, shadow.edges());
     }
 }
 

@@ -14,10 +14,10 @@ use Rattle.race_log.proofs.shadow.Shadow.access.Goals as goal
 
 pub returns-clause-edges : goal.returns-clause-edges
 returns-clause-edges c = λ run live lives stands.
-    let known = read_times c.args.self.now c.args.hart c.index.result.now c.requires.hart c.index.ensures in
+    let known = read_times c.args.self.now c.args.hart c.index_mut-times.result.now c.requires.hart c.index_mut-times.ensures.value in
     let kept = gathered (kept_in c.args.self.now.words) c.args.first c.args.count in
-    c.find_sources-edges.ensures.sources
-    ∙ (ap (λ w. sources c.args.hart w (c.args.self.now.harts - 1) (count_of c.index.result.now) kept) c.is_write.ensures
+    c.find_sources.ensures.sources
+    ∙ (ap (λ w. sources c.args.hart w (c.args.self.now.harts - 1) (count_of c.index_mut-times.result.now) kept) c.is_write.ensures
     ∙ (ap (λ counts. sources c.args.hart (is_write c.args.mode) (c.args.self.now.harts - 1) counts kept) (sym known)
     ∙ found_edges run c.args.hart c.args.ic c.args.turn c.args.first c.args.count c.args.mode live c.args.self.now stands
     c.requires.hart c.requires.counts c.requires.turns c.requires.lasting lives))
@@ -32,18 +32,18 @@ returns-clause-exact c = λ run live lives stands h i.
 
 pub returns-clause-times : goal.returns-clause-times
 returns-clause-times c = λ run live lives stands h i.
-    let known = read_times c.args.self.now c.args.hart c.index.result.now c.requires.hart c.index.ensures in
-    let set = set_times c.args.self.now c.args.hart c.args.ic c.args.first c.args.count c.args.mode c.index.result.now c.set.new.self known
-    c.find_sources-edges.new.times c.is_write.result c.is_write.ensures c.find_sources-edges.ensures.counts c.set.ensures in
+    let known = read_times c.args.self.now c.args.hart c.index_mut-times.result.now c.requires.hart c.index_mut-times.ensures.value in
+    let set = set_times c.args.self.now c.args.hart c.args.ic c.args.first c.args.count c.args.mode c.index_mut-times.result.now c.set.new.self known
+    c.find_sources.new.times c.is_write.result c.is_write.ensures c.find_sources.ensures.counts c.set.ensures in
     new_times run c.args.hart c.args.ic c.args.turn c.args.first c.args.count c.args.mode live c.args.self.now stands
     c.requires.hart c.requires.counts c.requires.turns c.requires.lasting lives (counts_at (slice_get (slice_set c.args.self.now.times.items c.args.hart c.set.new.self) c.args.hart))
     (λ g. counts_here c.args.self.now.times.items c.args.hart c.set.new.self (omega (arith, c.requires.hart, c.args.self.now.each_hart, c.args.self.now.times.ok)) g ∙ set g) h i
 
 pub returns-clause-stands : goal.returns-clause-stands
 returns-clause-stands c = λ run live lives stands.
-    let known = read_times c.args.self.now c.args.hart c.index.result.now c.requires.hart c.index.ensures in
-    let set = set_times c.args.self.now c.args.hart c.args.ic c.args.first c.args.count c.args.mode c.index.result.now c.set.new.self known
-    c.find_sources-edges.new.times c.is_write.result c.is_write.ensures c.find_sources-edges.ensures.counts c.set.ensures in
+    let known = read_times c.args.self.now c.args.hart c.index_mut-times.result.now c.requires.hart c.index_mut-times.ensures.value in
+    let set = set_times c.args.self.now c.args.hart c.args.ic c.args.first c.args.count c.args.mode c.index_mut-times.result.now c.set.new.self known
+    c.find_sources.new.times c.is_write.result c.is_write.ensures c.find_sources.ensures.counts c.set.ensures in
     let kept : kept_in c.go_on.new.self ≡ kept_in c.args.self.now.words = λ i w. c.go_on.ensures.kept w i in
     let k = kept_now c.go_on.new.self.stretches c.args.mode c.args.hart c.args.turn (c.args.ic + 1) in
     stands_after run c.args.hart c.args.ic c.args.turn c.args.first c.args.count c.args.mode live c.args.self.now stands
@@ -52,7 +52,7 @@ returns-clause-stands c = λ run live lives stands.
     (λ h. counts_here c.args.self.now.times.items c.args.hart c.set.new.self (omega (arith, c.requires.hart, c.args.self.now.each_hart, c.args.self.now.times.ok)) h)
     (λ other apart h. counts_there c.args.self.now.times.items c.args.hart other c.set.new.self apart h)
     refl refl (omega arith) refl
-    (times_kept c.args.hart (c.args.ic + 1) (present_counts c.go_on.new.self.stretches c.args.hart) (count_of c.find_sources-edges.new.times) (count_of c.set.new.self) c.set.ensures c.go_on.ensures.own)
+    (times_kept c.args.hart (c.args.ic + 1) (present_counts c.go_on.new.self.stretches c.args.hart) (count_of c.find_sources.new.times) (count_of c.set.new.self) c.set.ensures c.go_on.ensures.own)
     (λ more. subst (λ f. KeepsAccess k c.args.first c.args.count f (kept_in c.keep.new.self)) kept
     (c.keep.ensures.many (omega (arith, more, c.args.self.now.same_harts, c.go_on.ensures.harts))))
     (λ one w. c.keep.ensures.alone (omega (arith, one, c.args.self.now.same_harts, c.go_on.ensures.harts)) w ∙ c.go_on.ensures.kept w)
@@ -92,15 +92,15 @@ pub go_on-requires-clause-room : goal.go_on-requires-clause-room
 go_on-requires-clause-room c = λ learns.
     let some = ltb-true 0 c.count.result learns in
     (c.args.self.now.room (c.args.first, c.args.count) c.requires.reserved).stretch
-    (omega (arith, some, c.count.ensures, c.find_sources-edges.ensures.few, c.args.self.now.same_harts))
+    (omega (arith, some, c.count.ensures, c.find_sources.ensures.few, c.args.self.now.same_harts))
 
 pub go_on-requires-clause-same : goal.go_on-requires-clause-same
 go_on-requires-clause-same c = λ none h apart.
-    let known = read_times c.args.self.now c.args.hart c.index.result.now c.requires.hart c.index.ensures in
+    let known = read_times c.args.self.now c.args.hart c.index_mut-times.result.now c.requires.hart c.index_mut-times.ensures.value in
     let empty = sym c.count.ensures ∙ not_less c.count.result none in
     c.args.self.now.present c.args.hart h c.requires.hart apart
-    ∙ (ap (λ (f : ℕ → ℕ). f h) known ∙ (sym (c.find_sources-edges.ensures.none empty h)
-    ∙ sym (set_apart c.args.hart (c.args.ic + 1) (count_of c.find_sources-edges.new.times) (count_of c.set.new.self) c.set.ensures h apart)))
+    ∙ (ap (λ (f : ℕ → ℕ). f h) known ∙ (sym (c.find_sources.ensures.none empty h)
+    ∙ sym (set_apart c.args.hart (c.args.ic + 1) (count_of c.find_sources.new.times) (count_of c.set.new.self) c.set.ensures h apart)))
 
 pub keep-requires-clause-pages : goal.keep-requires-clause-pages
 keep-requires-clause-pages c = λ more i low.
