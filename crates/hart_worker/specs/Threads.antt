@@ -1,5 +1,5 @@
 -- Runs whose turns harts took each by itself.
-use Rattle.std.specs.Prelude.{◌≡◌, ◌⊎◌, ◌==◌, ◌<◌, ℕ, Bool, true, false, List, [], ◌∷◌, ◌++◌, Option, Some, None, Result, IfOk, MatchResult, slice_index_or}
+use Rattle.std.specs.Prelude.{◌≡◌, ◌⊎◌, ◌==◌, ◌<◌, ◌+◌, ℕ, Bool, true, false, List, [], ◌∷◌, ◌++◌, Option, Some, None, Result, IfOk, MatchResult, slice_index_or}
 use Rattle.bn_base.specs.Programs.{Program}
 use Rattle.bn_base.specs.declared.settings.RawSettings.{RawSettings}
 use Rattle.rv_meaning.specs.declared.asks.Ask.{Ask}
@@ -11,7 +11,8 @@ use Rattle.bn_outside.specs.declared.turn_row.TurnRow.{TurnRow}
 use Rattle.run_model.specs.Runs.{start_hart, start_state, seeded}
 use Rattle.run_laws.specs.History.{IsLawful, IsOwn, Place, place_of, rows_by}
 use Rattle.run_laws.specs.Laws.{harts_of, place_over}
-use Rattle.bus_core.specs.Bus.{Began, first_run, row}
+use Rattle.run_model.specs.Turn.{Run}
+use Rattle.bus_core.specs.Bus.{Began, Seen, IsState, first_run, row, served_reply, served_guarded, served_run}
 use Rattle.bus_core.specs.declared.closed.Closed.{Closed}
 use Rattle.hart_worker.specs.Closed.{IsClosed}
 use Rattle.hart_worker.specs.Lists.{list_rows, seeded_after}
@@ -42,6 +43,14 @@ pub record IsDriven (tells : Bool) (c : RawSettings) (i : Program) (h : ℕ) (fi
   pub own : IsOwn c i h first rows
   pub place_is : tells ≡ true → now ≡ place_over c first rows
   pub lean : tells ≡ false → rows ≡ []
+
+-- a bus served what hart h asks: the reply, whether the ask was guarded, and all that is kept are those of the definition
+pub record IsServed (old : Seen) (h : ℕ) (ask : Ask) (answered : Reply × Bool) (new : Seen) : Type 0 where
+  pub reply : (run : Run) → IsState old run → answered.0 ≡ served_reply old.began run h ask
+  pub guarded : (run : Run) → IsState old run → answered.1 ≡ served_guarded old.began run h ask
+  pub state : (run : Run) → IsState old run → IsState new (served_run old.began run h ask)
+  pub turns : new.turns ≡ old.turns + 1
+  pub running : new.halted ≡ old.halted
 
 -- ---- a desk in memory
 

@@ -76,7 +76,8 @@ pub struct MemoryDesk {
 impl MemoryDesk {
     /// A desk that gives these words, before its first turn.
     pub fn new(alloc: Global, words: Vec<u32>) -> MemoryDesk
-        ensures { result.turns.items ≡ [] }
+        ensures turns { result.turns.items ≡ [] }
+        ensures words { result.words ≡ words }
     {
         MemoryDesk {
             words,

@@ -2,8 +2,9 @@
 ghost use Rattle.std.specs.Prelude.{◌≡◌, ◌<◌, ◌++◌, ℕ, true, false, List, length, IfOk};
 ghost use mathlib.Core.List.{IsPrefix};
 ghost use Rattle.bn_outside.specs.declared.turn_row.TurnRow.{TurnRow};
+ghost use Rattle.run_model.specs.Runs.{seeded};
 ghost use Rattle.bus_core.specs.Bus.{began_of};
-ghost use Rattle.hart_worker.specs.Closed.{IsOfRows};
+ghost use Rattle.hart_worker.specs.Closed.{IsClosed, IsOfRows};
 ghost use Rattle.hart_worker.specs.Lists.{HasTaken, is_finished};
 ghost use Rattle.hart_worker.specs.Threads.{AreWorked, DoAgree, IsThreaded, AreBySeed};
 
@@ -75,6 +76,7 @@ fn again<B: Book>(alloc: Global, from: &Start, book: B) -> Result<Closed<B>, All
     ensures size { IfOk result (λ c. c.ring.size ≡ from.now.settings.log_size) }
     ensures of_rows { IfOk result (λ c. (rows : List TurnRow) × IsOfRows (began_of from.now) c rows) }
     ensures run { IfOk result (λ c. B.tells ≡ true → IsThreaded (began_of from.now) c (B.told c.book)) }
+    ensures closed { IfOk result (λ c. IsClosed B.tells (began_of from.now) (seeded from.now.settings from.now.image from.now.input.items 0) c (B.told c.book)) }
     ensures by_seed { (rows : List TurnRow) → IfOk result (λ c. B.tells ≡ true → AreBySeed (began_of from.now) rows 0 (B.told c.book)) }
 {
     turns_are_lawful();

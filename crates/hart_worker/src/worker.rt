@@ -1,10 +1,10 @@
 //! A hart in a thread of its own.
-ghost use Rattle.std.specs.Prelude.{◌≡◌, ◌+◌, true, false, [], is_some, IfOk, IfSome, OnErr, IsTrue};
+ghost use Rattle.std.specs.Prelude.{◌≡◌, true, false, [], is_some, IfOk, IfSome, IfNone, OnErr, IsTrue};
 ghost use Rattle.rv_meaning.specs.Orderly.{is_reply_to};
 ghost use Rattle.run_laws.specs.History.{IsOwn};
 ghost use Rattle.run_laws.specs.Laws.{place_over};
 ghost use Rattle.bus_core.specs.Bus.{is_live};
-ghost use Rattle.hart_worker.specs.Threads.{place_at, first_place, taken_after, IsDriven};
+ghost use Rattle.hart_worker.specs.Threads.{place_at, first_place, taken_after, IsDriven, IsServed};
 
 use crate::desk::{Desk, drive};
 use crate::own_place::OwnPlace;
@@ -24,8 +24,8 @@ pub struct Worked {
     pub state: HartState,
 }
 
-// One turn of a hart, under the lock: None where it isn't live. Where memory is wanting, no hart is live
-// any more.
+// One turn of a hart, under the lock: what the machine answers, whatever the book tells. None where the
+// hart isn't live; then nothing changes. Where memory is wanting, no hart is live any more.
 fn take_locked<B: Book>(
     bus: &mut Bus<B>,
     hart: HartId,
@@ -34,7 +34,8 @@ fn take_locked<B: Book>(
     ensures live { IfOk result (λ o. is_some o ≡ is_live bus.old hart) }
     ensures fits { IfOk result (λ o. IfSome o (λ r. IsTrue (is_reply_to ask.now.want r.0))) }
     ensures rows { IfOk result (λ o. B.tells ≡ true → bus.new.rows ≡ taken_after true bus.old.rows hart ask.now o) }
-    ensures turns { IfOk result (λ o. IfSome o (λ r. bus.new.turns ≡ bus.old.turns + 1)) }
+    ensures served { IfOk result (λ o. IfSome o (λ r. IsServed bus.old hart ask.now r bus.new)) }
+    ensures same { IfOk result (λ o. IfNone o (bus.new ≡ bus.old)) }
     ensures began { bus.new.began ≡ bus.old.began }
     ensures halted { OnErr result (bus.new.halted ≡ true) }
 {

@@ -92,7 +92,7 @@ refused_read start count line byte e new old now next before after last s p t =
     by : (e : DebugError) → TakesByte (record { count = count; line = line }) byte (Err e) new → ReadsLine start (line ++ byte ∷ []) old next before last (Err e) new
     by (LineTooLong n) t = λ more. behind_byte start.count count line byte more _ (s.as_far (byte ∷ more)) (t more)
     by (TooMuch n) t = λ more. behind_byte start.count count line byte more _ (s.as_far (byte ∷ more)) (t more)
-    by OutOfMemory t = tt
+    by OutOfMemory t = (byte, λ more. behind_byte start.count count line byte more _ (s.as_far (byte ∷ more)) (t more))
     by ReadFault t = absurd t
     by WriteFault t = absurd t
     by (Joint f) t = absurd t

@@ -55,13 +55,13 @@ pub record Reading : Type 0 where
   pub count : ℕ
   pub line : List ℕ
 
--- one byte more: the line ends with it (`true`), or it belongs to the line, or it is one too many
+-- one byte more: the line ends with it (`true`), or it belongs to the line, or it is one too many; or there is no memory for it
 abbrev pub TakesByte : Reading → ℕ → Result Bool DebugError → Reading → Type 0
 TakesByte old byte (Ok true) new = (new.count ≡ old.count + 1) × (new.count ≤ input_limit) × ((more : List ℕ) → input_from old.count old.line (byte ∷ more) ≡ with_line new.line (input_from new.count [] more))
 TakesByte old byte (Ok false) new = (new.count ≡ old.count + 1) × (new.line ≡ old.line ++ byte ∷ []) × (length new.line ≤ line_limit) × ((more : List ℕ) → input_from old.count old.line (byte ∷ more) ≡ input_from new.count new.line more)
 TakesByte old byte (Err (LineTooLong n)) new = (more : List ℕ) → input_from old.count old.line (byte ∷ more) ≡ ends_in new.line (Some (LineTooLong n))
 TakesByte old byte (Err (TooMuch n)) new = (more : List ℕ) → input_from old.count old.line (byte ∷ more) ≡ ends_in new.line (Some (TooMuch n))
-TakesByte old byte (Err OutOfMemory) new = Unit {0}
+TakesByte old byte (Err OutOfMemory) new = (more : List ℕ) → input_from old.count old.line (byte ∷ more) ≡ input_from new.count (new.line ++ byte ∷ []) more
 TakesByte old byte (Err e) new = ⊥
 
 -- a source gives its next byte, or is at its end, or fails
@@ -71,14 +71,14 @@ GivesByte old new before now (Ok None) = ConsumesAll old new []
 GivesByte old new before now (Err e) = Consumes old new [] × Rose before now
 
 -- what is read next, of a source of which these bytes are gone then: a line that ends with LF (`true`); the end of the source,
--- and the bytes before it; or why there is none
+-- and the bytes before it; or why there is none, where memory is wanting for the last byte that is gone
 abbrev pub ReadsLine : Reading → (gone : List ℕ) → (left now_left : Option (List ℕ)) → (before now : ℕ) → Result Bool DebugError → Reading → Type 0
 ReadsLine old gone left now_left before now (Ok true) new = (old.count < new.count) × (new.count ≤ input_limit) × ((more : List ℕ) → input_from old.count [] (gone ++ more) ≡ with_line new.line (input_from new.count [] more))
 ReadsLine old gone left now_left before now (Ok false) new = (input_from old.count [] gone ≡ ends_in new.line None) × ConsumesAll left now_left gone
 ReadsLine old gone left now_left before now (Err ReadFault) new = (input_from old.count [] gone ≡ ends_in new.line None) × Rose before now
 ReadsLine old gone left now_left before now (Err (LineTooLong n)) new = (more : List ℕ) → input_from old.count [] (gone ++ more) ≡ ends_in new.line (Some (LineTooLong n))
 ReadsLine old gone left now_left before now (Err (TooMuch n)) new = (more : List ℕ) → input_from old.count [] (gone ++ more) ≡ ends_in new.line (Some (TooMuch n))
-ReadsLine old gone left now_left before now (Err OutOfMemory) new = Unit {0}
+ReadsLine old gone left now_left before now (Err OutOfMemory) new = (byte : ℕ) × ((more : List ℕ) → input_from old.count [] (gone ++ more) ≡ input_from new.count (new.line ++ byte ∷ []) more)
 ReadsLine old gone left now_left before now (Err e) new = ⊥
 
 -- bytes of the source are gone, and they are what is read

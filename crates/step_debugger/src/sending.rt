@@ -1,6 +1,7 @@
 //! How answers are sent.
-ghost use Rattle.std.specs.Prelude.{◌≤◌};
+ghost use Rattle.std.specs.Prelude.{◌≡◌, ◌≤◌, IfErr};
 ghost use Rattle.step_debugger.specs.Goings.{Sends, Gathers};
+ghost use Rattle.step_debugger.specs.declared.error.DebugError.TheVariants.{WriteFault};
 
 use crate::error::DebugError;
 use bn_outside::{Sink, send_all};
@@ -9,10 +10,11 @@ use rv_text::Text;
 // How many bytes of a text wait at least before they are sent.
 const BLOCK: usize = 65_536;
 
-/// Sends what waits of a text.
+/// Sends what waits of a text. The only error is that of a write.
 pub(crate) fn send<O: Sink>(text: &Text, out: &mut O) -> Result<(), DebugError>
     ensures sent { Sends text.now (λ _. Unit {0}) (O.written out.old) (O.written out.new) (O.faults out.old) (O.faults out.new) result }
     ensures later { O.faults out.old ≤ O.faults out.new }
+    ensures cause { IfErr result (λ e. e ≡ WriteFault) }
 {
     match send_all(out, text.as_bytes()) {
         Ok(()) => Ok(()),
@@ -20,10 +22,11 @@ pub(crate) fn send<O: Sink>(text: &Text, out: &mut O) -> Result<(), DebugError>
     }
 }
 
-/// Sends what waits of a text, where it is a block or more.
+/// Sends what waits of a text, where it is a block or more. The only error is that of a write.
 pub(crate) fn send_block<O: Sink>(text: &mut Text, out: &mut O) -> Result<(), DebugError>
     ensures sent { Gathers text.old (λ _. Unit {0}) (O.written out.old) (O.written out.new) (O.faults out.old) (O.faults out.new) text.new result }
     ensures later { O.faults out.old ≤ O.faults out.new }
+    ensures cause { IfErr result (λ e. e ≡ WriteFault) }
 {
     if text.len() < BLOCK {
         return Ok(());
