@@ -3,6 +3,7 @@ use Rattle.std.specs.Prelude.{◌≡◌, ◌<◌, ℕ, List, [], ◌++◌, codes
 use Rattle.bn_base.specs.declared.row.Row.{Row}
 use Rattle.rv_decode.specs.Table.{decoded}
 use Rattle.rv_text.specs.Instructions.{hex8}
+use Rattle.rv_text.specs.Names.{register_name}
 use Rattle.rv_text.specs.Rows.{word_text, register_text}
 
 -- the hart and its count
@@ -25,6 +26,14 @@ labelled label (Some access) = label ++ hex8 access.0 ++ codes "=" ++ hex8 acces
 -- what the instruction changed or read
 unfoldable pub changes_text : Option (ℕ × ℕ) → Option (ℕ × ℕ) → Option (ℕ × ℕ) → List ℕ
 changes_text reg load store = register_text reg ++ labelled (codes " | load ") load ++ labelled (codes " | store ") store
+
+-- there is no text, or it is that of the hart and the count
+abbrev pub NoneOrCount : ℕ → ℕ → List ℕ → Type 0
+NoneOrCount hart ic text = 0 < length text → text ≡ count_text hart ic
+
+-- a register's name behind ` | ` with `=` behind it
+unfoldable pub label_text : ℕ → List ℕ
+label_text register = codes " | " ++ register_name register ++ codes "="
 
 -- the line of a row with this word
 unfoldable pub joined_text : Row → ℕ → List ℕ

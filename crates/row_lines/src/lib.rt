@@ -5,6 +5,7 @@
 #![tactic(auto)]
 
 mod code;
+mod counts;
 mod effects;
 mod lines;
 

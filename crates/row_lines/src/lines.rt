@@ -1,12 +1,13 @@
 //! Lines of rows, one after another.
-ghost use Rattle.std.specs.Prelude.{◌≡◌, ◌++◌, ◌/◌, ◌%◌, Some, None, OnOk, OnErr, codes, decimal};
+ghost use Rattle.std.specs.Prelude.{◌≡◌, ◌++◌, ◌/◌, ◌%◌, Some, None, OnOk, OnErr, codes};
 ghost use Rattle.rv_text.specs.Rows.{row_text};
 ghost use Rattle.rv_text.specs.Texts.{BeginsWith};
 ghost use Rattle.row_lines.specs.Lines.{count_text, place_text, joined_text};
 
 use crate::code::{CodeText, write_place};
+use crate::counts::CountText;
 use crate::effects::write_changes;
-use bn_base::{Addr, HartId, Ic, Row};
+use bn_base::{Addr, Row};
 use rv_text::{Text, write_row};
 use std::alloc::{AllocError, Global};
 
@@ -14,12 +15,13 @@ use std::alloc::{AllocError, Global};
 const KEPT: usize = 1024;
 
 /// Writes lines of rows, and keeps the texts of their code: of the pcs that have the same place in a
-/// table of 1,024, the latest with its word.
+/// table of 1,024, the latest with its word. Of the last hart and count it keeps all but a digit.
 ///
 /// The table takes some 40 KiB, and some 50 bytes more for each text in it. Where memory is wanting
 /// for it, less is kept or nothing.
 #[derive(Drop)]
 pub struct RowLines {
+    count: CountText,
     kept: Vec<CodeText>,
 }
 
@@ -41,21 +43,11 @@ fn empty_table(alloc: Global) -> Vec<CodeText> {
     kept
 }
 
-// The hart and its count. It may stop in the middle.
-#[tactic(auto, unfolding(crate::specs::Lines::count_text))]
-fn write_count(hart: HartId, ic: Ic, text: &mut Text) -> Result<(), AllocError>
-    ensures ok { OnOk result (text.new ≡ text.old ++ count_text hart ic) }
-    ensures begins { BeginsWith text.old text.new }
-{
-    text.push_decimal(u64::from(hart))?;
-    text.push_str(" ")?;
-    text.push_decimal(ic)
-}
-
 impl RowLines {
     /// A writer that keeps no text yet.
     pub fn new(alloc: Global) -> RowLines {
         RowLines {
+            count: CountText::none(alloc),
             kept: empty_table(alloc),
         }
     }
@@ -78,7 +70,7 @@ impl RowLines {
         ensures ok { OnOk result (text.new ≡ text.old ++ joined_text row.now word) }
         ensures begins { BeginsWith text.old text.new }
     {
-        write_count(row.hart, row.ic, text)?;
+        self.count.write(row.hart, row.ic, text)?;
         self.write_code(row.pc, word, text)?;
         write_changes(row, text)?;
         text.push_str("\n")
