@@ -6,6 +6,7 @@ ghost use Rattle.hart_replay.specs.Starts.{started, found_in};
 
 use bn_base::{HartId, HartState};
 use log_record::Record;
+use record_list::RecordList;
 
 /// The start of an interval: its hart and state, and the place of the record after its Header.
 #[derive(Drop)]
@@ -43,13 +44,13 @@ fn start_in(hart: u64, interval: u64, entry: &Record) -> Option<(HartId, HartSta
 }
 
 /// Finds the Header of an interval, which doesn't stand before a place.
-pub(crate) fn find(hart: u64, interval: u64, records: &[Record], from: usize) -> Option<Start>
+pub(crate) fn find(hart: u64, interval: u64, records: &RecordList, from: usize) -> Option<Start>
     requires before { interval_of hart interval (take from records.now) ≡ None }
     ensures start { interval_of hart interval records.now ≡ found_in result hart records.now }
     ensures hart { IfSome result (λ s. s.hart ≡ hart) }
 {
     for place in from..records.len() {
-        if let Some((hart, state)) = start_in(hart, interval, &records[place]) {
+        if let Some((hart, state)) = start_in(hart, interval, &records.get(place)) {
             return Some(Start {
                 hart,
                 state,

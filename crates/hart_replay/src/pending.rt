@@ -4,7 +4,7 @@ ghost use Rattle.hart_replay.specs.Scans.{loads_in, conditionals_in, due, met, I
 
 use crate::scan::{count_conditionals, count_loads, next_conditional, next_load};
 use bn_base::HartId;
-use log_record::Record;
+use record_list::RecordList;
 use std::marker::Model;
 
 /// The first loads of a hart's interval that are still to be met, and the number of loading
@@ -12,7 +12,7 @@ use std::marker::Model;
 #[derive(Drop)]
 pub(crate) struct Loads<'a> {
     hart: HartId,
-    records: &'a [Record],
+    records: &'a RecordList,
     /// The place of the record after the next first load.
     at: usize,
     /// The next first load (skip, value).
@@ -33,7 +33,7 @@ impl<'a> Model for Loads<'a> {
 
 impl<'a> Loads<'a> {
     /// Those among the records from a place on.
-    pub(crate) fn new(hart: HartId, records: &'a [Record], from: usize) -> Loads<'a>
+    pub(crate) fn new(hart: HartId, records: &'a RecordList, from: usize) -> Loads<'a>
         ensures { result ≡ record { loads = loads_in hart (drop from records.now); skipped = 0 } }
     {
         let (next, at) = next_load(hart, records, from);
@@ -100,7 +100,7 @@ impl<'a> Loads<'a> {
 #[derive(Drop)]
 pub(crate) struct Conditionals<'a> {
     hart: HartId,
-    records: &'a [Record],
+    records: &'a RecordList,
     at: usize,
 }
 
@@ -115,7 +115,7 @@ impl<'a> Model for Conditionals<'a> {
 
 impl<'a> Conditionals<'a> {
     /// Those among the records from a place on.
-    pub(crate) fn new(hart: HartId, records: &'a [Record], from: usize) -> Conditionals<'a>
+    pub(crate) fn new(hart: HartId, records: &'a RecordList, from: usize) -> Conditionals<'a>
         ensures { result ≡ conditionals_in hart (drop from records.now) }
     {
         Conditionals {

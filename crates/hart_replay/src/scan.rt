@@ -5,6 +5,7 @@ ghost use Rattle.hart_replay.specs.Scans.{loads_in, conditionals_in, mark_in, in
 
 use bn_base::{EndMark, HartId};
 use log_record::Record;
+use record_list::RecordList;
 
 // What a record says of the first loads of a hart's interval: nothing, or that there are no more,
 // or one.
@@ -66,13 +67,13 @@ fn end_in(hart: HartId, entry: &Record) -> Option<EndMark>
 /// the place after it.
 pub(crate) fn next_load(
     hart: HartId,
-    records: &[Record],
+    records: &RecordList,
     from: usize,
 ) -> (Option<(u32, u32)>, usize)
     ensures { in_front result.0 (loads_in hart (drop result.1 records.now)) ≡ loads_in hart (drop from records.now) }
 {
     for place in from..records.len() {
-        if let Some(found) = load_in(hart, &records[place]) {
+        if let Some(found) = load_in(hart, &records.get(place)) {
             return (found, place + 1);
         }
     }
@@ -82,13 +83,13 @@ pub(crate) fn next_load(
 /// The next store-conditional of a hart's interval, whether it succeeded, and the place after it.
 pub(crate) fn next_conditional(
     hart: HartId,
-    records: &[Record],
+    records: &RecordList,
     from: usize,
 ) -> (Option<bool>, usize)
     ensures { in_front result.0 (conditionals_in hart (drop result.1 records.now)) ≡ conditionals_in hart (drop from records.now) }
 {
     for place in from..records.len() {
-        if let Some(found) = conditional_in(hart, &records[place]) {
+        if let Some(found) = conditional_in(hart, &records.get(place)) {
             return (found, place + 1);
         }
     }
@@ -96,12 +97,12 @@ pub(crate) fn next_conditional(
 }
 
 /// How many first loads of a hart's interval there are among the records from a place on.
-pub(crate) fn count_loads(hart: HartId, records: &[Record], from: usize) -> u64
+pub(crate) fn count_loads(hart: HartId, records: &RecordList, from: usize) -> u64
     ensures { result ≡ length (loads_in hart (drop from records.now)) }
 {
     let mut count = 0;
     for place in from..records.len() {
-        match load_in(hart, &records[place]) {
+        match load_in(hart, &records.get(place)) {
             None => continue,
             Some(None) => return count,
             Some(Some(_)) => count += 1,
@@ -111,12 +112,12 @@ pub(crate) fn count_loads(hart: HartId, records: &[Record], from: usize) -> u64
 }
 
 /// How many store-conditionals of a hart's interval there are among the records from a place on.
-pub(crate) fn count_conditionals(hart: HartId, records: &[Record], from: usize) -> u64
+pub(crate) fn count_conditionals(hart: HartId, records: &RecordList, from: usize) -> u64
     ensures { result ≡ length (conditionals_in hart (drop from records.now)) }
 {
     let mut count = 0;
     for place in from..records.len() {
-        match conditional_in(hart, &records[place]) {
+        match conditional_in(hart, &records.get(place)) {
             None => continue,
             Some(None) => return count,
             Some(Some(_)) => count += 1,
@@ -126,11 +127,11 @@ pub(crate) fn count_conditionals(hart: HartId, records: &[Record], from: usize) 
 }
 
 /// The mark of a hart's next End among the records from a place on.
-pub(crate) fn next_mark(hart: HartId, records: &[Record], from: usize) -> EndMark
+pub(crate) fn next_mark(hart: HartId, records: &RecordList, from: usize) -> EndMark
     ensures { result ≡ mark_in hart (drop from records.now) }
 {
     for place in from..records.len() {
-        if let Some(mark) = end_in(hart, &records[place]) {
+        if let Some(mark) = end_in(hart, &records.get(place)) {
             return mark;
         }
     }

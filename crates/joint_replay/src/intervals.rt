@@ -44,7 +44,7 @@ fn retained_at(hart: HartId, log: &KeptLog, place: usize) -> Option<Retained>
 {
     let records = log.records();
     ordered_logs_have_shape();
-    match number_in(hart, &records[place]) {
+    match number_in(hart, &records.get(place)) {
         None => None,
         Some(number) => Some(Retained { number, place }),
     }

@@ -5,6 +5,7 @@ ghost use Rattle.joint_replay.specs.Points.{is_below, first_count, insert, inser
 
 use bn_base::{HartId, Ic};
 use log_record::Record;
+use record_list::RecordList;
 use std::alloc::{AllocError, Global};
 use std::collections::BTreeSet;
 
@@ -23,11 +24,11 @@ fn header_count(hart: HartId, entry: &Record) -> Option<Ic>
 }
 
 /// The count of the hart's first retained Header.
-pub(crate) fn first_count(hart: HartId, records: &[Record]) -> Option<Ic>
+pub(crate) fn first_count(hart: HartId, records: &RecordList) -> Option<Ic>
     ensures { result ≡ first_count hart records.now }
 {
     for place in 0..records.len() {
-        if let Some(ic) = header_count(hart, &records[place]) {
+        if let Some(ic) = header_count(hart, &records.get(place)) {
             return Some(ic);
         }
     }
@@ -86,7 +87,7 @@ fn add_points(
 pub(crate) fn ordering_points(
     alloc: Global,
     hart: HartId,
-    records: &[Record],
+    records: &RecordList,
 ) -> Result<BTreeSet<Ic>, AllocError>
     ensures { IfOk result (λ points. points.keys ≡ ordering_points hart records.now) }
 {
@@ -96,7 +97,7 @@ pub(crate) fn ordering_points(
         add_points(
             first,
             hart,
-            &records[records.len() - 1 - passed],
+            &records.get(records.len() - 1 - passed),
             &mut points,
         )?;
     }

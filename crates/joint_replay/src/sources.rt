@@ -79,7 +79,7 @@ impl<'a> Sources<'a> {
         let records = log.records();
         let mut edges = Vec::new(alloc);
         for place in 0..records.len() {
-            if let Some(source) = source_in(hart, &records[place]) {
+            if let Some(source) = source_in(hart, &records.get(place)) {
                 edges.push(source)?;
             }
         }

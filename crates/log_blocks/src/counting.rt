@@ -23,6 +23,7 @@ use log_file::{FileError, LogCounts, tally_of};
 use log_order::KeptLog;
 use log_record::laws::{records_fit_later_versions, tags_tell_sizes};
 use log_record::{Head, Record, write};
+use record_list::RecordList;
 use std::alloc::Global;
 
 // Whether a record is a Header.
@@ -41,7 +42,7 @@ fn headers_of(entry: &Record) -> u64
 }
 
 // The counts of records before which so many were given up.
-fn counts_in(dropped: u64, records: &[Record]) -> LogCounts
+fn counts_in(dropped: u64, records: &RecordList) -> LogCounts
     requires fit { AllByRecursion (Fits 2) records.now }
     requires bound { total records.now ≤ 2 ^ 32 }
     ensures { result ≡ counts_in dropped records.now }
@@ -50,8 +51,9 @@ fn counts_in(dropped: u64, records: &[Record]) -> LogCounts
     let mut intervals = 0;
     let mut bytes = 0;
     for place in 0..count {
-        intervals += headers_of(&records[place]);
-        bytes += write(&records[place]).len() as u64;
+        let entry = records.get(place);
+        intervals += headers_of(&entry);
+        bytes += write(&entry).len() as u64;
     }
     LogCounts {
         records: count as u64,

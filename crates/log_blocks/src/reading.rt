@@ -25,17 +25,18 @@ use le_numbers::laws::{numbers_have_their_width, read_numbers_are_written};
 use le_numbers::{read_u32, read_u64};
 use log_file::FileError;
 use log_order::KeptLog;
+use log_record::Head;
 use log_record::laws::tags_tell_sizes;
-use log_record::{Head, Record};
+use record_list::RecordList;
 use std::alloc::Global;
 
 // The log of records that are in their blocks.
-fn in_order(head: Head, dropped: u64, records: Vec<Record>) -> Result<KeptLog, Damage>
-    requires fit { AllByRecursion (Fits head.settings.format) records.items }
-    requires bound { total records.items ≤ head.settings.log_size }
-    ensures ok { IfOk result (λ c. c ≡ content head dropped records.items) }
+fn in_order(head: Head, dropped: u64, records: RecordList) -> Result<KeptLog, Damage>
+    requires fit { AllByRecursion (Fits head.settings.format) records }
+    requires bound { total records ≤ head.settings.log_size }
+    ensures ok { IfOk result (λ c. c ≡ content head dropped records) }
     ensures whole { IfOk result (λ c. IsContent c) }
-    ensures err { IfErr result (IsOrderFault head dropped records.items) }
+    ensures err { IfErr result (IsOrderFault head dropped records) }
 {
     match KeptLog::checked(head, dropped, records) {
         Ok(log) => Ok(log),

@@ -7,17 +7,19 @@ ghost use Rattle.log_blocks.specs.File.{IsSplitError};
 
 use crate::damage::Damage;
 use log_file::FileError;
-use log_record::{Record, read_as};
+use log_file::splitting::count;
+use log_record::read_as;
+use record_list::RecordList;
 use std::alloc::Global;
 
 /// The records of a log of this format whose bytes these are. The error tells the first place where
 /// a record should begin and none does.
-pub(crate) fn split(alloc: Global, format: u8, bytes: &[u8]) -> Result<Vec<Record>, Damage>
-    ensures fit { IfOk result (λ v. AllByRecursion (Fits format) v.items) }
-    ensures parts { IfOk result (λ v. bytes.now ≡ flat_map bytes_of v.items) }
+pub(crate) fn split(alloc: Global, format: u8, bytes: &[u8]) -> Result<RecordList, Damage>
+    ensures fit { IfOk result (λ v. AllByRecursion (Fits format) v) }
+    ensures parts { IfOk result (λ v. bytes.now ≡ flat_map bytes_of v) }
     ensures refused { IfErr result (λ e. IsSplitError format bytes.now e) }
 {
-    let mut records = Vec::new(alloc);
+    let mut records = RecordList::with_capacity(alloc, count(bytes))?;
     let mut rest = bytes;
     while !rest.is_empty() {
         match read_as(format, rest) {

@@ -16,7 +16,8 @@ use le_numbers::{push_u32, push_u64};
 use log_file::head::{MAGIC, digest_of};
 use log_order::KeptLog;
 use log_record::laws::records_fit_later_versions;
-use log_record::{Head, Record, write};
+use log_record::{Head, write};
+use record_list::RecordList;
 use std::alloc::{AllocError, Global};
 
 // The part of a head that both versions have, in room for so many bytes.
@@ -128,12 +129,12 @@ pub fn write_file2(
 }
 
 // Appends the bytes of records.
-fn push_records(out: &mut Vec<u8>, records: &[Record]) -> Result<(), AllocError>
+fn push_records(out: &mut Vec<u8>, records: &RecordList) -> Result<(), AllocError>
     requires { AllByRecursion (Fits 2) records.now }
     ensures { OnOk result (out.new.items ≡ out.old.items ++ flat_map bytes_of records.now) }
 {
     for place in 0..records.len() {
-        let bytes = write(&records[place]);
+        let bytes = write(&records.get(place));
         out.extend_from_slice(bytes.as_slice())?;
     }
     Ok(())

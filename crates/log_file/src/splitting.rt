@@ -7,11 +7,13 @@ ghost use Rattle.log_file.specs.File.{IsSplitError};
 
 use crate::error::FileError;
 use log_record::laws::tags_tell_sizes;
-use log_record::{Record, read, size};
+use log_record::{read, size};
+use record_list::RecordList;
 use std::alloc::Global;
 
-// How many records these bytes are, by the tags alone.
-fn count(bytes: &[u8]) -> usize
+/// How many records these bytes are, by the tags alone. Bytes that are no records are counted up to the
+/// first tag that none has.
+pub fn count(bytes: &[u8]) -> usize
     ensures { (rs : List Record) → AllByRecursion (Fits 1) rs → bytes.now ≡ flat_map bytes_of rs → result ≡ length rs }
 {
     tags_tell_sizes();
@@ -31,12 +33,12 @@ fn count(bytes: &[u8]) -> usize
 
 /// The records of a log of version 1 whose bytes these are. The error tells the first place where a record should begin
 /// and none does.
-pub fn split(alloc: Global, bytes: &[u8]) -> Result<Vec<Record>, FileError>
-    ensures fit { IfOk result (λ v. AllByRecursion (Fits 1) v.items) }
-    ensures parts { IfOk result (λ v. bytes.now ≡ flat_map bytes_of v.items) }
+pub fn split(alloc: Global, bytes: &[u8]) -> Result<RecordList, FileError>
+    ensures fit { IfOk result (λ v. AllByRecursion (Fits 1) v) }
+    ensures parts { IfOk result (λ v. bytes.now ≡ flat_map bytes_of v) }
     ensures refused { IfErr result (λ e. IsSplitError bytes.now e) }
 {
-    let mut records = Vec::with_capacity(alloc, count(bytes))?;
+    let mut records = RecordList::with_capacity(alloc, count(bytes))?;
     let mut rest = bytes;
     while !rest.is_empty() {
         match read(rest) {

@@ -6,7 +6,8 @@ ghost use Rattle.log_order.specs.Order.{broken_by};
 ghost use Rattle.log_order.specs.Content.{content, IsContent};
 
 use crate::walk::{OrderBreak, broken_by};
-use log_record::{Head, Record};
+use log_record::Head;
+use record_list::RecordList;
 use std::marker::Model;
 
 /// What a log says: its head, how many records were given up before those that it keeps, and these
@@ -15,7 +16,7 @@ use std::marker::Model;
 pub struct KeptLog {
     head: Head,
     dropped: u64,
-    records: Vec<Record>,
+    records: RecordList,
 }
 
 impl Model for KeptLog {
@@ -23,19 +24,19 @@ impl Model for KeptLog {
 
     ghost Value = { Content };
 
-    ghost view = { λ k. content k.head k.dropped k.records.items };
+    ghost view = { λ k. content k.head k.dropped k.records };
 
-    ghost invariant = { λ k. IsContent (content k.head k.dropped k.records.items) };
+    ghost invariant = { λ k. IsContent (content k.head k.dropped k.records) };
 }
 
 impl KeptLog {
     /// The log with this head, so many dropped records and these kept ones, which logs of its
     /// version have, and which have at most log-size bytes. The error tells where they break the order first.
-    pub fn checked(head: Head, dropped: u64, records: Vec<Record>) -> Result<KeptLog, OrderBreak>
-        requires fit { AllByRecursion (Fits head.settings.format) records.items }
-        requires bound { total records.items ≤ head.settings.log_size }
-        ensures ok { IfOk result (λ k. k ≡ content head dropped records.items) }
-        ensures err { IfErr result (λ b. broken_by head.settings dropped records.items ≡ Some b) }
+    pub fn checked(head: Head, dropped: u64, records: RecordList) -> Result<KeptLog, OrderBreak>
+        requires fit { AllByRecursion (Fits head.settings.format) records }
+        requires bound { total records ≤ head.settings.log_size }
+        ensures ok { IfOk result (λ k. k ≡ content head dropped records) }
+        ensures err { IfErr result (λ b. broken_by head.settings dropped records ≡ Some b) }
         ensures whole { IfOk result (λ k. IsContent k) }
     {
         let _settings = head.settings.raw();
@@ -66,7 +67,7 @@ impl KeptLog {
     }
 
     /// The kept records, the oldest first.
-    pub fn records(&self) -> &[Record]
+    pub fn records(&self) -> &RecordList
         ensures value { result.now ≡ self.now.records }
         ensures whole { IsContent self.now }
     {

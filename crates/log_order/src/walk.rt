@@ -9,6 +9,7 @@ ghost use Rattle.log_order.specs.Order.{has_source, step, Steps, after_all, is_l
 use crate::view::{HartView, Terms};
 use bn_base::{HARTS, Settings};
 use log_record::Record;
+use record_list::RecordList;
 
 /// Where the order of records is broken first, and by which rule.
 #[derive(Clone, Copy, Debug, PartialEq, Eq, Drop)]
@@ -60,13 +61,14 @@ pub fn step(terms: &Terms, harts: &mut [HartView], entry: &Record) -> Result<(),
     }
 }
 
-fn after_all(terms: &Terms, harts: &mut [HartView], records: &[Record]) -> Result<(), OrderBreak>
+fn after_all(terms: &Terms, harts: &mut [HartView], records: &RecordList) -> Result<(), OrderBreak>
     requires { total records.now < 2 ^ 63 }
     ensures { Steps result harts.new (after_all terms.now 0 harts.old records.now) }
 {
     let mut at = 0;
-    for entry in records {
-        if let Err(rule) = step(terms, harts, entry) {
+    for place in 0..records.len() {
+        let entry = records.get(place);
+        if let Err(rule) = step(terms, harts, &entry) {
             return Err(OrderBreak {
                 at,
                 rule: rule as u64,
@@ -102,13 +104,14 @@ pub fn is_late(harts: &[HartView], entry: &Record) -> bool
     }
 }
 
-fn late_edge(harts: &[HartView], records: &[Record]) -> Option<u64>
+fn late_edge(harts: &[HartView], records: &RecordList) -> Option<u64>
     requires { total records.now < 2 ^ 63 }
     ensures { result ≡ late_edge harts.now 0 records.now }
 {
     let mut at = 0;
-    for entry in records {
-        if is_late(harts, entry) {
+    for place in 0..records.len() {
+        let entry = records.get(place);
+        if is_late(harts, &entry) {
             return Some(at);
         }
         at += entry.size() as u64;
@@ -116,19 +119,19 @@ fn late_edge(harts: &[HartView], records: &[Record]) -> Option<u64>
     None
 }
 
-fn total(records: &[Record]) -> u64
+fn total(records: &RecordList) -> u64
     requires { total records.now < 2 ^ 63 }
     ensures { result ≡ total records.now }
 {
     let mut size = 0;
-    for entry in records {
-        size += entry.size() as u64;
+    for place in 0..records.len() {
+        size += records.get(place).size() as u64;
     }
     size
 }
 
 #[tactic(auto, unfolding(crate::specs::Order::ended))]
-fn ended(all: bool, harts: &[HartView], records: &[Record]) -> Option<OrderBreak>
+fn ended(all: bool, harts: &[HartView], records: &RecordList) -> Option<OrderBreak>
     requires { total records.now < 2 ^ 63 }
     ensures { result ≡ ended all harts.now records.now }
 {
@@ -145,7 +148,7 @@ fn ended(all: bool, harts: &[HartView], records: &[Record]) -> Option<OrderBreak
 }
 
 #[tactic(auto, unfolding(crate::specs::Order::broken))]
-fn broken(terms: &Terms, count: usize, all: bool, records: &[Record]) -> Option<OrderBreak>
+fn broken(terms: &Terms, count: usize, all: bool, records: &RecordList) -> Option<OrderBreak>
     requires count { count ≤ HARTS }
     requires size { total records.now < 2 ^ 63 }
     ensures { result ≡ broken terms.now count all records.now }
@@ -160,7 +163,7 @@ fn broken(terms: &Terms, count: usize, all: bool, records: &[Record]) -> Option<
 
 /// Where the order of a log's records is broken first, so many records having been dropped before
 /// them. `None` comes exactly where they are in order.
-pub fn broken_by(settings: &Settings, dropped: u64, records: &[Record]) -> Option<OrderBreak>
+pub fn broken_by(settings: &Settings, dropped: u64, records: &RecordList) -> Option<OrderBreak>
     requires { total records.now < 2 ^ 63 }
     ensures { result ≡ broken_by settings.now dropped records.now }
 {

@@ -5,8 +5,8 @@ use Rattle.log_file.proofs.splitting.split.Given as goal
 
 abbrev pub invariant-loop-rest : goal.invariant-loop-rest
 invariant-loop-rest l = record {
-  fit : AllByRecursion (Fits 1) l.records.items;
-  parts : l.bytes ≡ flat_map bytes_of l.records.items ++ l.rest;
+  fit : AllByRecursion (Fits 1) l.records;
+  parts : l.bytes ≡ flat_map bytes_of l.records ++ l.rest;
 }
 
 abbrev pub decreases-loop-rest : goal.decreases-loop-rest

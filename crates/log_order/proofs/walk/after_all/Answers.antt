@@ -1,18 +1,18 @@
 use Rattle.log_record.specs.Spelling.{bytes_of}
-use Rattle.std.proofs.Common.{◌≡◌, length}
+use Rattle.std.proofs.Common.{◌≡◌, length, ℕ, subst, ◌<◌, ◌≤◌}
 use Rattle.log_order.proofs.Walking.{goes_on, stops, is_done, place_left}
 use Rattle.log_order.proofs.walk.after_all.Goals as goal
 
 pub returns-in-Err : goal.returns-in-Err
-returns-in-Err c = stops c.args.terms.now c.loop-entry.at c.loop-entry.harts c.args.records.now c.loop-entry.entry-index c.entry-item.result c.in-Err.rule _ c.loop-entry-test.true c.entry-item.is c.in-Err.ensures c.loop-entry.invariant.kept
+returns-in-Err c = stops c.args.terms.now c.loop-place.at c.loop-place.harts c.args.records.now c.loop-place.place c.get-entry.result c.in-Err.rule _ (subst (λ (n : ℕ). c.loop-place.place < n) c.len-place-end.ensures.value c.loop-place-test.true) c.get-entry.ensures c.in-Err.ensures c.loop-place.invariant.kept
 
-pub loop-entry-preserved : goal.loop-entry-preserved
-loop-entry-preserved c =
-    let n : c.size.result ≡ length (bytes_of c.entry-item.result) = c.size.ensures.value in
+pub loop-place-preserved : goal.loop-place-preserved
+loop-place-preserved c =
+    let n : c.size.result ≡ length (bytes_of c.get-entry.result) = c.size.ensures.value in
     record {
-      kept = rw n (goes_on c.args.terms.now c.loop-entry.at c.loop-entry.harts c.args.records.now c.loop-entry.entry-index c.entry-item.result c.step.new.harts _ c.loop-entry-test.true c.entry-item.is c.in_default.ensures c.loop-entry.invariant.kept);
-      place = place_left c.args.records.now c.loop-entry.entry-index c.entry-item.result c.size.result c.loop-entry.at _ c.loop-entry-test.true c.entry-item.is n c.loop-entry.invariant.place;
+      kept = rw n (goes_on c.args.terms.now c.loop-place.at c.loop-place.harts c.args.records.now c.loop-place.place c.get-entry.result c.step.new.harts _ (subst (λ (n : ℕ). c.loop-place.place < n) c.len-place-end.ensures.value c.loop-place-test.true) c.get-entry.ensures c.in_default.ensures c.loop-place.invariant.kept);
+      place = place_left c.args.records.now c.loop-place.place c.get-entry.result c.size.result c.loop-place.at _ (subst (λ (n : ℕ). c.loop-place.place < n) c.len-place-end.ensures.value c.loop-place-test.true) c.get-entry.ensures n c.loop-place.invariant.place;
     }
 
 pub returns : goal.returns
-returns c = is_done c.args.terms.now c.loop-entry.at c.loop-entry.harts c.args.records.now c.loop-entry.entry-index _ c.loop-entry-test.false c.loop-entry.invariant.kept
+returns c = is_done c.args.terms.now c.loop-place.at c.loop-place.harts c.args.records.now c.loop-place.place _ (subst (λ (n : ℕ). n ≤ c.loop-place.place) c.len-place-end.ensures.value c.loop-place-test.false) c.loop-place.invariant.kept

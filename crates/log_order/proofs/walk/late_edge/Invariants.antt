@@ -3,8 +3,8 @@ use Rattle.log_record.specs.Spelling.{total}
 use Rattle.log_order.specs.Order.{late_edge}
 use Rattle.log_order.proofs.walk.late_edge.Given as goal
 
-abbrev pub invariant-loop-entry : goal.invariant-loop-entry
-invariant-loop-entry l = record {
-  kept : late_edge l.harts l.at (drop l.entry-index l.records) ≡ late_edge l.harts 0 l.records;
-  place : l.at + total (drop l.entry-index l.records) ≡ total l.records;
+abbrev pub invariant-loop-place : goal.invariant-loop-place
+invariant-loop-place l = record {
+  kept : late_edge l.harts l.at (drop l.place l.records) ≡ late_edge l.harts 0 l.records;
+  place : l.at + total (drop l.place l.records) ≡ total l.records;
 }

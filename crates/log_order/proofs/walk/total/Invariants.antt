@@ -2,5 +2,5 @@ use Rattle.std.proofs.Common.{◌≡◌, ◌+◌, drop}
 use Rattle.log_record.specs.Spelling.{total}
 use Rattle.log_order.proofs.walk.total.Given as goal
 
-abbrev pub invariant-loop-entry : goal.invariant-loop-entry
-invariant-loop-entry l = l.size + total (drop l.entry-index l.records) ≡ total l.records
+abbrev pub invariant-loop-place : goal.invariant-loop-place
+invariant-loop-place l = l.size + total (drop l.place l.records) ≡ total l.records

@@ -1,0 +1,7 @@
+// Lists of records in little memory.
+#![tactic(auto)]
+
+mod entry;
+pub mod list;
+
+pub use list::RecordList;
