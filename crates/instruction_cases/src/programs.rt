@@ -1,0 +1,87 @@
+// Programs, and what stands in them.
+use crate::words::{low, number_or, word};
+use bn_base::{Fault, HartState, Image, Registers, Segment, Settings};
+use rv_meaning::{Ask, Want};
+use std::alloc::{AllocError, Global};
+
+/// The program of these words at 0x10000.
+pub fn program(alloc: Global, mut words: Vec<u32>) -> Result<Image, AllocError> {
+    words.truncate(64);
+    let count = words.len() as u32;
+    let segment = Segment::new(0x10000, words, count, true, false);
+    let segments = Vec::from_array(alloc, [segment])?;
+    Ok(Image::new(segments, 0x10000, &Settings::default()))
+}
+
+/// The program of these words at 0x10000, and of others at 0x11000.
+pub fn two_segments(
+    alloc: Global,
+    mut words: Vec<u32>,
+    mut others: Vec<u32>,
+) -> Result<Image, AllocError> {
+    words.truncate(64);
+    others.truncate(64);
+    let count = words.len() as u32;
+    let first = Segment::new(0x10000, words, count, true, false);
+    let count = others.len() as u32;
+    let second = Segment::new(0x11000, others, count, true, false);
+    let segments = Vec::from_array(alloc, [first, second])?;
+    Ok(Image::new(segments, 0x10000, &Settings::default()))
+}
+
+// Prints what stands at an address.
+fn print_at<R: Print>(rt: &R, image: &Image, addr: u32) -> anyhow::Result<()> {
+    print!(rt; "{:08x}", image.first(addr))?;
+    match image.code(addr) {
+        Some(word) => print!(rt; " code {word:08x}")?,
+        None => print!(rt; " no code")?,
+    }
+    println!(rt; " store {}", image.may_store(addr))?;
+    Ok(())
+}
+
+// What a line has an ask want.
+fn want_of(words: &[&str]) -> Want {
+    let name = word(words, 3);
+    if name == "breakpoint" {
+        Want::Faulted {
+            kind: Fault::Breakpoint,
+            value: low(words, 4),
+        }
+    } else if name == "store" {
+        Want::Store {
+            addr: low(words, 4),
+            width: (low(words, 5) % 256) as u8,
+            value: 0,
+        }
+    } else {
+        Want::Cut
+    }
+}
+
+// Whether an ask that a line says is orderly.
+fn is_orderly(image: &Image, words: &[&str]) -> bool {
+    let state = HartState {
+        pc: 0x10000,
+        x: Registers::new([0; 32]),
+        ic: 5,
+    };
+    let want = want_of(words);
+    let ask = Ask { state, want };
+    ask.is_orderly(image, number_or(words, 1, 0), number_or(words, 2, 0))
+}
+
+/// Prints what a line wants to know of a program; false where it wants nothing.
+pub fn told<R: Print>(rt: &R, image: &Image, verb: &str, words: &[&str]) -> anyhow::Result<bool> {
+    if verb == "at" {
+        print_at(rt, image, low(words, 1))?;
+    } else if verb == "begins" {
+        let (entry, heap) = (image.entry(), image.heap_start());
+        println!(rt; "entry {entry:08x} heap {heap:08x}")?;
+    } else if verb == "orderly" {
+        println!(rt; "orderly {}", is_orderly(image, words))?;
+    } else {
+        return Ok(false);
+    }
+    Ok(true)
+}
