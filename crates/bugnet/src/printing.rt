@@ -22,7 +22,8 @@ use hart_replay::{ReplayError, Replayer};
 use log_file::LogCounts;
 use log_order::KeptLog;
 use log_record::Record;
-use rv_text::{Text, write_end, write_row};
+use row_lines::RowLines;
+use rv_text::{Text, write_end};
 use std::alloc::Global;
 
 // How many bytes of a text wait at least before they are sent.
@@ -131,11 +132,16 @@ pub fn send_short<O: Sink>(text: &Text, out: &mut O) -> Result<(), Refusal>
 }
 
 // Puts the line of a row behind what waits.
-fn gather_row<O: Sink>(text: &mut Text, row: &Row, out: &mut O) -> Result<(), Refusal>
+fn gather_row<O: Sink>(
+    lines: &mut RowLines,
+    text: &mut Text,
+    row: &Row,
+    out: &mut O,
+) -> Result<(), Refusal>
     ensures sent { Gathered (O.written out.old) (O.written out.new) (O.faults out.old) (O.faults out.new) (text.old ++ row_text row.now) text.new result }
     ensures later { O.faults out.old ≤ O.faults out.new }
 {
-    match write_row(row, text) {
+    match lines.write_row(row, text) {
         Ok(()) => send_block(text, out),
         Err(_) => send_short(text, out),
     }
@@ -166,9 +172,10 @@ fn send_rows<O: Sink>(
     ensures later { O.faults out.old ≤ O.faults out.new }
 {
     let mut text = Text::new(alloc);
+    let mut lines = RowLines::new(alloc);
     'rows: loop {
         match replayer.step() {
-            Ok(Some(row)) => match gather_row(&mut text, &row, out) {
+            Ok(Some(row)) => match gather_row(&mut lines, &mut text, &row, out) {
                 Ok(()) => (),
                 Err(refusal) => return Err(refusal),
             },
