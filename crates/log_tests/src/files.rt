@@ -28,7 +28,7 @@ fn a_file_is_read_and_written(rt: HostRuntime) -> Result<(), Fail> {
         reason: 3,
         value: 5,
     };
-    assert_eq!(rt; log.records().get(1), Some(&Record::End { hart: 0, mark }));
+    assert_eq!(rt; log.records().get(1), Record::End { hart: 0, mark });
     let first = log.head().settings.format() == 1;
     assert!(rt; first);
     let _size = log.head().settings.log_size();

@@ -1,6 +1,7 @@
 use bn_base::{RawSettings, Settings};
 use log_order::{KeptLog, OrderBreak};
-use log_record::{Head, Record};
+use log_record::Head;
+use record_list::RecordList;
 use std::process::Abort;
 use std::test::*;
 
@@ -15,10 +16,10 @@ fn head(rt: &impl Abort) -> Head {
 // Without records a log with dropped ones is in order, and one without lacks its hart's End.
 #[test]
 fn a_log_is_what_it_was_made_of(rt: HostRuntime) {
-    let log = KeptLog::checked(head(&rt), 5, Vec::new(rt.alloc())).expect(&rt, "in order");
+    let log = KeptLog::checked(head(&rt), 5, RecordList::new(rt.alloc())).expect(&rt, "in order");
     assert_eq!(rt; log.records().len(), 0);
     assert_eq!(rt; log.dropped(), 5);
     assert_eq!(rt; log.head().digest, [7; 32]);
-    let found = KeptLog::checked(head(&rt), 0, Vec::new(rt.alloc())).err();
+    let found = KeptLog::checked(head(&rt), 0, RecordList::new(rt.alloc())).err();
     assert_eq!(rt; found, Some(OrderBreak { at: 0, rule: 6 }));
 }

@@ -103,7 +103,7 @@ fn no_record_has_another_tag(rt: HostRuntime) {
     assert_eq!(rt; read(&[]), None);
 }
 
-// The size of a record in memory, which docs/FORMAT.md states.
+// The size in memory of a record by itself; in a list it takes less.
 #[test]
 fn records_have_this_size_in_memory(rt: HostRuntime) {
     assert_eq!(rt; size_of::<Record>(), 160);
