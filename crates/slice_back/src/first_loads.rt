@@ -7,6 +7,7 @@ ghost use Rattle.slice_back.specs.FirstLoads.{loads_of, begun, loads_behind, Are
 
 use bn_base::HartId;
 use log_record::Record;
+use record_list::RecordList;
 use std::alloc::{AllocError, Global};
 use std::marker::Model;
 
@@ -35,11 +36,11 @@ fn header_of(hart: u64, interval: u64, entry: &Record) -> Option<HartId>
 }
 
 // The hart of an interval and the place after its Header.
-fn header_in(hart: u64, interval: u64, records: &[Record]) -> Option<(HartId, usize)>
+fn header_in(hart: u64, interval: u64, records: &RecordList) -> Option<(HartId, usize)>
     ensures { loads_of (interval_of hart interval records.now) ≡ loads_behind result records.now }
 {
     for place in 0..records.len() {
-        if let Some(hart) = header_of(hart, interval, &records[place]) {
+        if let Some(hart) = header_of(hart, interval, &records.get(place)) {
             return Some((hart, place + 1));
         }
     }
@@ -76,14 +77,14 @@ fn load_in(hart: HartId, entry: &Record) -> Option<Option<(u32, u32)>>
 fn loads_from(
     alloc: Global,
     hart: HartId,
-    records: &[Record],
+    records: &RecordList,
     from: usize,
 ) -> Result<Vec<(u32, u32)>, AllocError>
     ensures { IfOk result (λ loads. loads.items ≡ loads_in hart (drop from records.now)) }
 {
     let mut loads = Vec::new(alloc);
     for place in from..records.len() {
-        match load_in(hart, &records[place]) {
+        match load_in(hart, &records.get(place)) {
             None => continue,
             Some(None) => return Ok(loads),
             Some(Some(load)) => loads.push(load)?,
@@ -97,7 +98,7 @@ pub(crate) fn first_loads(
     alloc: Global,
     hart: u64,
     interval: u64,
-    records: &[Record],
+    records: &RecordList,
 ) -> Result<Vec<(u32, u32)>, AllocError>
     ensures { IfOk result (λ loads. AreLoadsOf (interval_of hart interval records.now) loads.items) }
 {
