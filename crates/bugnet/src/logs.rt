@@ -7,6 +7,7 @@ ghost use Rattle.bugnet.specs.Logs.{mark_or, mark_of, mark_from};
 
 use bn_base::{EndMark, HartId};
 use log_record::Record;
+use record_list::RecordList;
 
 // The mark of a hart's End.
 #[tactic(auto, using(crate::proofs::Marks::mark_of_load, crate::proofs::Marks::mark_of_ok, crate::proofs::Marks::mark_of_failed))]
@@ -24,11 +25,11 @@ fn end_in(hart: HartId, entry: &Record) -> Option<EndMark>
 }
 
 /// The mark of a hart's next End among the records from a place on.
-pub fn next_mark(hart: HartId, records: &[Record], from: usize) -> EndMark
+pub fn next_mark(hart: HartId, records: &RecordList, from: usize) -> EndMark
     ensures { result ≡ mark_in hart (drop from records.now) }
 {
     for place in from..records.len() {
-        if let Some(mark) = end_in(hart, &records[place]) {
+        if let Some(mark) = end_in(hart, &records.get(place)) {
             return mark;
         }
     }
@@ -64,11 +65,11 @@ fn hart_in(hart: u64, interval: u64, entry: &Record) -> Option<HartId>
 }
 
 /// The mark of an interval that a log keeps; none where no Header has that hart and number.
-pub fn interval_mark(hart: u64, interval: u64, records: &[Record]) -> Option<EndMark>
+pub fn interval_mark(hart: u64, interval: u64, records: &RecordList) -> Option<EndMark>
     ensures { result ≡ mark_of (interval_of hart interval records.now) }
 {
     for place in 0..records.len() {
-        if let Some(of) = hart_in(hart, interval, &records[place]) {
+        if let Some(of) = hart_in(hart, interval, &records.get(place)) {
             return Some(next_mark(of, records, place + 1));
         }
     }

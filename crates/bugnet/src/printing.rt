@@ -22,6 +22,7 @@ use hart_replay::{ReplayError, Replayer};
 use log_file::LogCounts;
 use log_order::KeptLog;
 use log_record::Record;
+use record_list::RecordList;
 use rv_text::{Text, write_end, write_row};
 use std::alloc::Global;
 
@@ -285,7 +286,7 @@ fn gather_interval<O: Sink>(
 fn gather_record<O: Sink>(
     text: &mut Text,
     entry: &Record,
-    records: &[Record],
+    records: &RecordList,
     next: usize,
     out: &mut O,
 ) -> Result<(), Refusal>
@@ -318,7 +319,7 @@ pub fn send_list<O: Sink>(alloc: Global, log: &KeptLog, out: &mut O) -> Result<(
     let records = log.records();
     let mut text = Text::new(alloc);
     for place in 0..records.len() {
-        match gather_record(&mut text, &records[place], records, place + 1, out) {
+        match gather_record(&mut text, &records.get(place), records, place + 1, out) {
             Ok(()) => (),
             Err(refusal) => return Err(refusal),
         }
