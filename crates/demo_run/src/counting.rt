@@ -64,7 +64,7 @@ fn count_at(alloc: Global, image: &Image, log: &KeptLog, place: usize) -> Result
     ensures count { IfOk result (λ count. count + rows_in image.now log.now.records (drop (place + 1) log.now.records) ≡ rows_in image.now log.now.records (drop place log.now.records)) }
     ensures few { IfOk result (λ count. count ≤ 2 ^ 64) }
 {
-    match log.records()[place] {
+    match log.records().get(place) {
         Record::Header { hart, interval, .. } => {
             count_interval(alloc, image, log, u64::from(hart), interval)
         }
