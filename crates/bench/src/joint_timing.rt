@@ -139,7 +139,7 @@ fn time_interval(
 fn time_intervals(rt: &HostRuntime, image: &Image, log: &KeptLog) -> anyhow::Result<Spent> {
     let mut sum = Spent { rows: 0, micros: 0 };
     for place in 0..log.records().len() {
-        if let Record::Header { hart, interval, .. } = log.records()[place] {
+        if let Record::Header { hart, interval, .. } = log.records().get(place) {
             let one = time_interval(rt, image, log, hart, interval)?;
             sum = Spent {
                 rows: sum.rows.wrapping_add(one.rows),
