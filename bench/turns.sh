@@ -1,0 +1,63 @@
+#!/usr/bin/env bash
+# Times a turn of a recording by a seed: of one hart in runs of ever more turns, with the most memory that they take
+# beside the list of turns, which has a byte for each; and of eight harts that all load and store the same words. With an
+# earlier program beside it, each is timed with that too, in turns. It prints ratios; the times beside them are those of
+# the machine and of the moment.
+#
+# bench/turns.sh [RUNS]: each is run RUNS times (3), and the least processor time counts. ZELKUMA_TURNS are the numbers
+# of turns (1000000 10000000 100000000), ZELKUMA_BEFORE is the earlier program.
+set -eu
+top=$(cd "$(dirname "$0")/.." && pwd)
+work=$(mktemp -d)
+trap 'rm -rf "$work"' EXIT
+runs=${1:-3}
+zelkuma=${ZELKUMA_PROGRAM:-$("$top/zelkuma" build)} # the program itself
+before=${ZELKUMA_BEFORE:-}
+
+# number N: as the four bytes of a word.
+number() {
+    printf "$(printf '\\x%02x' $(($1 & 255)) $(($1 >> 8 & 255)) $(($1 >> 16 & 255)) $(($1 >> 24)))"
+}
+
+# once PROGRAM NAME HARTS TIMES: records so many harts, each with so many loads and stores of the same words, adds the
+# processor time to the file of the name, and leaves turns and most memory (in KiB) beside it.
+once() {
+    local program=$1 name=$2 count=$3 hart
+    for hart in $(seq "$count"); do
+        number "$4" && number 0 && number 0
+    done >"$work/input"
+    /usr/bin/time -f '%U %S %M' -o "$work/time" "$program" record --seed 1 --harts "$count" --input "$work/input" \
+        "$top/bench/harts.elf" "$work/LOG" "$work/BOOK" >/dev/null 2>"$work/err"
+    cat "$work/time" >>"$work/$name"
+    sed -n 's/^bugnet: turns \([0-9]*\).*/\1/p' "$work/err" >"$work/$name.turns"
+}
+
+# A turn's nanoseconds, by the least time of all runs.
+turn() { awk -v turns="$(cat "$work/$1.turns")" '{ s = $1 + $2; if (NR == 1 || s < least) least = s } END { print least * 1e9 / turns }' "$work/$1"; }
+memory() { awk -v turns="$(cat "$work/$1.turns")" '{ if ($3 > most) most = $3 } END { printf "%d\n", most - turns / 1024 }' "$work/$1"; }
+
+measured() { # NAME HARTS TIMES
+    local run
+    for run in $(seq "$runs"); do
+        once "$zelkuma" "$1" "$2" "$3"
+        [ -z "$before" ] || once "$before" "$1.before" "$2" "$3"
+    done
+}
+
+beside() { # NAME: what stands behind its line
+    [ -z "$before" ] || awk -v now="$(turn "$1")" -v then="$(turn "$1.before")" 'BEGIN { printf ", %.2f times as fast as before (%.0f)", then / now, then }'
+}
+
+first=
+for turns in ${ZELKUMA_TURNS:-1000000 10000000 100000000}; do
+    measured "$turns" 1 $((turns / 2))
+    first=${first:-$turns}
+    awk -v turns="$(cat "$work/$turns.turns")" -v ns="$(turn "$turns")" -v one="$(turn "$first")" -v memory="$(memory "$turns")" \
+        -v beside="$(beside "$turns")" 'BEGIN {
+        printf "one hart, %d turns: %.0f ns a turn, %.2f of the first; %d KiB at the peak without the list of turns%s\n", turns, ns, ns / one, memory, beside
+    }'
+done
+measured eight 8 125000
+awk -v turns="$(cat "$work/eight.turns")" -v ns="$(turn eight)" -v one="$(turn "$first")" -v beside="$(beside eight)" 'BEGIN {
+    printf "eight harts on the same words, %d turns: %.0f ns a turn, %.2f of one hart'\''s%s\n", turns, ns, ns / one, beside
+}'
