@@ -2,7 +2,7 @@ use Rattle.std.proofs.Common.{◌≡◌, ◌∙◌, ℕ, true, arith, subst, sym
 use Rattle.race_log.specs.Sweep.{has_bit}
 use Rattle.base_tests.proofs.races.a_hart_with_a_lower_count_follows.Goals as goal
 
-pub access-2-requires-clause-lasting : goal.access-2-requires-clause-lasting
-access-2-requires-clause-lasting g c =
+pub access-requires-2-clause-lasting : goal.access-requires-2-clause-lasting
+access-requires-2-clause-lasting g c =
     subst (λ (set : ℕ). has_bit set 1 ≡ true) (sym (c.reserve-2.ensures.same.lasting ∙ (c.access.ensures.lasting ∙ c.reserve.ensures.same.lasting)))
     (c.in_ok-shadow.ensures.lasting 1 (omega (arith, c.in_ok-shadow.ensures.harts)))

@@ -1,0 +1,78 @@
+// Memory after some steps.
+ghost use Rattle.std.specs.Prelude.{◌≡◌, ◌*◌, length, IfOk};
+
+use crate::words::low;
+use bn_base::Image;
+use bus_memory::Memory;
+use std::alloc::{AllocError, Global};
+
+/// A step of memory.
+#[derive(Clone, Copy, Drop)]
+pub enum Step {
+    /// Room for so many words from an address on.
+    Room(u32, u32),
+    /// A word at an address, whose page is made.
+    Put(u32, u32),
+}
+
+/// The step that a line says; none where it says none.
+pub fn step_of(verb: &str, words: &[&str]) -> Option<Step> {
+    if verb == "room" {
+        Some(Step::Room(low(words, 1), low(words, 2)))
+    } else if verb == "put" {
+        Some(Step::Put(low(words, 1), low(words, 2)))
+    } else {
+        None
+    }
+}
+
+// Takes a step, where it can be taken.
+fn take(memory: &mut Memory, size: u32, step: Step) -> Result<(), AllocError>
+    requires { 4 * length memory.old.words ≡ size }
+    ensures { length memory.new.words ≡ length memory.old.words }
+{
+    match step {
+        Step::Room(addr, count) if addr % 4 == 0 && addr as u64 + 4 * count as u64 <= size as u64 =>
+            { memory.room(addr, count) }
+        Step::Put(addr, value) if addr % 4 == 0 && memory.has_page(addr) => {
+            memory.put(addr, value);
+            Ok(())
+        }
+        _ => Ok(()),
+    }
+}
+
+// The memory of a program after steps.
+fn after(alloc: Global, image: &Image, steps: &[Step]) -> Result<Memory, AllocError>
+    ensures { IfOk result (λ m. 4 * length m.words ≡ image.now.memory) }
+{
+    let size = image.memory();
+    let mut memory = Memory::new(alloc, image)?;
+    for step in steps {
+        take(&mut memory, size, *step)?;
+    }
+    Ok(memory)
+}
+
+/// Prints what a line wants to know of the memory after steps; false where it wants nothing.
+pub fn told<R: Print>(
+    rt: &R,
+    alloc: Global,
+    image: &Image,
+    steps: &[Step],
+    verb: &str,
+    words: &[&str],
+) -> anyhow::Result<bool> {
+    let addr = low(words, 1);
+    if verb == "page" {
+        let memory = after(alloc, image, steps)?;
+        println!(rt; "page {}", memory.has_page(addr))?;
+        Ok(true)
+    } else if verb == "word" && addr % 4 == 0 && addr < image.memory() {
+        let memory = after(alloc, image, steps)?;
+        println!(rt; "word {:08x}", memory.word(addr))?;
+        Ok(true)
+    } else {
+        Ok(false)
+    }
+}
