@@ -1,5 +1,5 @@
 //! Does the cases of standard input, and prints what comes of each: cases of command lines, settings,
-//! programs, marks, system calls, memory, caches and numbers. Each line calls public functions of the
+//! programs, marks, system calls, memory, caches, numbers, stores and streams. Each line calls public functions of the
 //! lowest layers, so that a case costs no proof.
 //!
 //! Numbers are hexadecimal, but those of settings and of marks, which are decimal. One that is left out
@@ -28,6 +28,10 @@
 //! | `read PLACE HEX` | the numbers of 2, 4 and 8 bytes there |
 //! | `write4 PLACE NUMBER HEX`, `write8 ..` | the bytes with a number there |
 //! | `push NUMBER NUMBER` | the bytes of a number of 32 bits and one of 64 |
+//! | `store FAILING CALL NAME WORD ..` | what comes of calls of a new store, of which those of these numbers fail: `save` of a text, `load` with a limit, `put` of a text without a call, and `held`, what stands there |
+//! | `sink MOST FAILING TEXT ..` | what comes of texts that are sent to a new sink, at most so many bytes a write, and what was written |
+//! | `reads FAILING TEXT COUNT` | so many reads of one byte of a text, and what is left |
+//! | `source MOST FAILING TEXT EXPECTED LIMIT` | what a text is read as, to its end or the limit, at most so many bytes a read |
 #![tactic(auto)]
 
 mod caches;
@@ -37,6 +41,7 @@ mod numbers;
 mod programs;
 mod script;
 mod settings;
+mod streams;
 mod words;
 
 use script::Case;

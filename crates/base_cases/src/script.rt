@@ -3,7 +3,7 @@ use crate::caches::{Event, event_of, print_answers};
 use crate::memory::{Step, step_of};
 use crate::programs::{loaded, made};
 use crate::words::{word, words_of};
-use crate::{command_lines, memory, numbers, programs, settings};
+use crate::{command_lines, memory, numbers, programs, settings, streams};
 use bn_base::Image;
 use std::alloc::{AllocError, Global};
 
@@ -70,7 +70,7 @@ impl Case {
         )
     }
 
-    // Prints what a line wants to know of caches, settings or numbers; else false.
+    // Prints what a line wants to know of caches, settings, numbers, stores or streams; else false.
     fn answer<R: Print>(&self, rt: &R, verb: &str, words: &[&str]) -> anyhow::Result<bool> {
         if verb == "cache" {
             print_answers(rt, self.alloc, &self.events, words)?;
@@ -78,7 +78,8 @@ impl Case {
         }
         Ok(
             settings::told(rt, self.alloc, verb, words)?
-                || numbers::told(rt, self.alloc, verb, words)?,
+                || numbers::told(rt, self.alloc, verb, words)?
+                || streams::told(rt, self.alloc, verb, words)?,
         )
     }
 

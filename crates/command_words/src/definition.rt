@@ -9,21 +9,18 @@ use clap::builder::ValueParser;
 use clap::{Arg, ArgAction, Command};
 use std::alloc::{AllocError, Global};
 
-// `--ID N`
-fn number_option<'a>(alloc: Global, id: &'a str) -> Arg<'a>
-    ensures { IsRule (number_option id.entry.now) result }
-{
-    Arg::new(alloc, id)
-        .long(id)
-        .action(ArgAction::Set)
-        .value_parser(ValueParser::Unsigned(0, u64::MAX))
-}
-
 // `--ID TEXT`
 fn text_option<'a>(alloc: Global, id: &'a str) -> Arg<'a>
     ensures { IsRule (text_option id.entry.now) result }
 {
     Arg::new(alloc, id).long(id).action(ArgAction::Set)
+}
+
+// `--ID N`
+fn number_option<'a>(alloc: Global, id: &'a str) -> Arg<'a>
+    ensures { IsRule (number_option id.entry.now) result }
+{
+    text_option(alloc, id).value_parser(ValueParser::Unsigned(0, u64::MAX))
 }
 
 // `--ID`

@@ -27,6 +27,8 @@
 //! | `show NAME` | the file's bytes |
 //! | `code WORD ..` | the program: at most 64 code words at 0x10054, in hexadecimal |
 //! | `replay NAME HART INTERVAL` | the rows of an interval, and what comes of it, then and at a further step |
+//! | `slice NAME HART INTERVAL COUNT` | the slice of a row of an interval, or why there is none |
+//! | `races NAME MAX` | the races of a log, at most so many, or why there is no report |
 #![tactic(auto)]
 
 mod building;
@@ -34,6 +36,7 @@ mod changing;
 mod files;
 mod logs;
 mod replays;
+mod reports;
 mod script;
 mod words;
 

@@ -8,8 +8,8 @@ use log_order::KeptLog;
 use rv_text::{Text, write_row};
 use std::alloc::{AllocError, Global};
 
-// The program of these words, from 0x10054 on.
-fn program(alloc: Global, code: &[u32]) -> Result<Image, AllocError> {
+/// The program of these words, from 0x10054 on.
+pub fn program(alloc: Global, code: &[u32]) -> Result<Image, AllocError> {
     let mut words = code.to_vec(alloc)?;
     words.truncate(64);
     let count = words.len() as u32;
@@ -18,8 +18,8 @@ fn program(alloc: Global, code: &[u32]) -> Result<Image, AllocError> {
     Ok(Image::new(segments, 0x10054, &Settings::default()))
 }
 
-// Prints a text as it stands.
-fn print_text<R: Print>(rt: &R, text: &Text) -> anyhow::Result<()> {
+/// Prints a text as it stands.
+pub fn print_text<R: Print>(rt: &R, text: &Text) -> anyhow::Result<()> {
     print!(rt; "{}", std::str::from_utf8(text.as_bytes())?)?;
     Ok(())
 }

@@ -4,6 +4,7 @@ use crate::changing::changed;
 use crate::files::Files;
 use crate::logs::{told, written};
 use crate::replays::replayed;
+use crate::reports::reported;
 use crate::words::{code, word, words_of};
 use std::alloc::Global;
 
@@ -56,7 +57,10 @@ impl Case {
         if told(rt, self.alloc, &self.files, verb, words)? {
             return Ok(true);
         }
-        replayed(rt, self.alloc, &self.files, &self.code, words)
+        if replayed(rt, self.alloc, &self.files, &self.code, words)? {
+            return Ok(true);
+        }
+        reported(rt, self.alloc, &self.files, &self.code, words)
     }
 
     // Prints what a line wants to know, or makes the file that it says.

@@ -37,7 +37,7 @@ fn seek(trail: &mut Trail, to: u64) -> Option<u64> {
 // second step, how many steps were taken again, and the position then.
 fn went(rt: &impl Abort, alloc: Global) -> (Option<Entry>, Option<u64>, Option<u64>, u64) {
     let image = program(alloc, &EXIT).expect(rt, "memory");
-    let kept = log(rt, alloc, 1, &[&header(0, 0, 0x54), &end(3, 3, 5)]);
+    let kept = log(rt, alloc, &[&header(0, 0, 0x54), &end(3, 3, 5)]);
     match Trail::begin(alloc, &image, &kept, 2) {
         Err(_) => (None, None, None, 9),
         Ok(mut trail) => {

@@ -13,12 +13,8 @@ mod going_back;
 #[cfg(test)]
 mod order;
 #[cfg(test)]
-mod races;
-#[cfg(test)]
 mod records;
 #[cfg(test)]
 mod replaying;
 #[cfg(test)]
 mod ring;
-#[cfg(test)]
-mod slicing;

@@ -39,26 +39,18 @@ pub(crate) fn header(interval: u8, ic: u8, pc: u8) -> [u8; 146] {
     bytes
 }
 
-pub(crate) fn first_load(skip: u8, value: u8) -> [u8; 10] {
-    [2, 0, skip, 0, 0, 0, value, 0, 0, 0]
-}
-
 pub(crate) fn end(ic: u8, reason: u8, value: u8) -> [u8; 15] {
     [6, 0, ic, 0, 0, 0, 0, 0, 0, 0, reason, value, 0, 0, 0]
 }
 
 // The log of these records, written to a file and read back.
-pub(crate) fn log(rt: &impl Abort, alloc: Global, harts: u64, parts: &[&[u8]]) -> KeptLog {
+pub(crate) fn log(rt: &impl Abort, alloc: Global, parts: &[&[u8]]) -> KeptLog {
     let mut records = Vec::new(alloc);
     for part in parts {
         records.extend_from_slice(part).expect(rt, "memory");
     }
-    let raw = RawSettings {
-        harts,
-        ..RawSettings::default()
-    };
     let head = Head {
-        settings: Settings::checked(&raw).expect(rt, "settings"),
+        settings: Settings::checked(&RawSettings::default()).expect(rt, "defaults"),
         digest: [7; 32],
     };
     let first = head.settings.format() == 1;
@@ -71,7 +63,7 @@ pub(crate) fn log(rt: &impl Abort, alloc: Global, harts: u64, parts: &[&[u8]]) -
 
 #[test]
 fn the_state_is_that_after_the_rows(rt: HostRuntime) {
-    let kept = log(&rt, rt.alloc(), 1, &[&header(0, 0, 0x54), &end(3, 3, 5)]);
+    let kept = log(&rt, rt.alloc(), &[&header(0, 0, 0x54), &end(3, 3, 5)]);
     let image = program(rt.alloc(), &EXIT).expect(&rt, "memory");
     let mut replayer = Replayer::begin(rt.alloc(), &image, &kept, 0, 0).expect(&rt, "an interval");
     assert_eq!(rt; replayer.state().pc, 0x10054);

@@ -1,0 +1,167 @@
+// Stores and streams in memory, of which calls fail where a line says so.
+use crate::words::{wide, word};
+use bn_outside::{
+    MemorySink, MemorySource, MemoryStore, Sink, Source, Store, read_to_end, send_all,
+};
+use std::alloc::{AllocError, Global};
+use std::str::from_utf8;
+
+// The numbers of the calls that fail, between commas; a word that is no number is none.
+fn failing(alloc: Global, text: &str) -> Result<Vec<u64>, AllocError> {
+    let mut calls = Vec::new(alloc);
+    for number in text.split(',') {
+        if let Ok(number) = u64::from_str_radix(number, 16) {
+            calls.push(number)?;
+        }
+    }
+    Ok(calls)
+}
+
+// Prints what a load gives.
+fn print_load<R: Print, S: Store>(
+    rt: &R,
+    alloc: Global,
+    store: &mut S,
+    name: &str,
+    limit: usize,
+) -> anyhow::Result<()> {
+    match store.load(alloc, name, limit) {
+        Ok(bytes) => println!(rt; "load {name} {}", from_utf8(&bytes)?)?,
+        Err(error) => println!(rt; "load {name} {error:?}")?,
+    }
+    Ok(())
+}
+
+// Prints what comes of a save.
+fn print_save<R: Print, S: Store>(
+    rt: &R,
+    store: &mut S,
+    name: &str,
+    text: &str,
+) -> anyhow::Result<()> {
+    println!(rt; "save {name} {:?}", store.save(name, text.as_bytes()))?;
+    Ok(())
+}
+
+// Prints what a store has under a name, without a call of it.
+fn print_held<R: Print>(rt: &R, store: &MemoryStore, name: &str) -> anyhow::Result<()> {
+    match store.bytes(name) {
+        Some(bytes) => println!(rt; "held {name} {}", from_utf8(bytes)?)?,
+        None => println!(rt; "held {name} nothing")?,
+    }
+    Ok(())
+}
+
+// Does what three words of a line say with a store.
+fn act<R: Print>(
+    rt: &R,
+    alloc: Global,
+    store: &mut MemoryStore,
+    words: &[&str],
+    place: usize,
+) -> anyhow::Result<()> {
+    let name = word(words, place.saturating_add(1));
+    let rest = place.saturating_add(2);
+    match word(words, place) {
+        "save" => print_save(rt, store, name, word(words, rest)),
+        "load" => print_load(rt, alloc, store, name, wide(words, rest) as usize),
+        "held" => print_held(rt, store, name),
+        "put" => Ok(store.put(name, word(words, rest).as_bytes())?),
+        verb => Err(anyhow::anyhow!("no call of a store: {verb}")),
+    }
+}
+
+// Does what a line says with a new store.
+fn print_store<R: Print>(rt: &R, alloc: Global, words: &[&str]) -> anyhow::Result<()> {
+    let mut store = MemoryStore::new(alloc, failing(alloc, word(words, 1))?);
+    let mut place: usize = 2;
+    while place < words.len() {
+        act(rt, alloc, &mut store, words, place)?;
+        place = place.saturating_add(3);
+    }
+    Ok(())
+}
+
+// A sink that takes at most so many bytes a write, or with 0 as many as it is given.
+fn sink_of(alloc: Global, most: usize, failing: Vec<u64>) -> MemorySink {
+    if most == 0 {
+        MemorySink::new(alloc, failing)
+    } else {
+        MemorySink::in_pieces(alloc, most, failing)
+    }
+}
+
+// Prints what comes of a text that is sent.
+fn print_sent<R: Print, K: Sink>(rt: &R, sink: &mut K, text: &str) -> anyhow::Result<()> {
+    println!(rt; "send {text} {:?}", send_all(sink, text.as_bytes()))?;
+    Ok(())
+}
+
+// Sends the texts of a line, and prints what was written.
+fn print_sink<R: Print>(rt: &R, alloc: Global, words: &[&str]) -> anyhow::Result<()> {
+    let mut sink = sink_of(
+        alloc,
+        wide(words, 1) as usize,
+        failing(alloc, word(words, 2))?,
+    );
+    for text in words.iter().skip(3) {
+        print_sent(rt, &mut sink, text)?;
+    }
+    println!(rt; "written {}", from_utf8(sink.written())?)?;
+    Ok(())
+}
+
+// A source of a text that gives at most so many bytes a read, or with 0 as many as there is room for.
+fn source_of(
+    alloc: Global,
+    most: usize,
+    failing: Vec<u64>,
+    text: &str,
+) -> Result<MemorySource, AllocError> {
+    let bytes = Vec::from_slice(alloc, text.as_bytes())?;
+    if most == 0 {
+        Ok(MemorySource::new(bytes, failing))
+    } else {
+        Ok(MemorySource::in_pieces(bytes, most, failing))
+    }
+}
+
+// Prints what a read of one byte gives.
+fn print_byte<R: Print, I: Source>(rt: &R, source: &mut I) -> anyhow::Result<()> {
+    println!(rt; "read {:?}", source.read(&mut [0u8]))?;
+    Ok(())
+}
+
+// Reads so many single bytes of a line's source, and prints what is left.
+fn print_reads<R: Print>(rt: &R, alloc: Global, words: &[&str]) -> anyhow::Result<()> {
+    let mut source = source_of(alloc, 0, failing(alloc, word(words, 1))?, word(words, 2))?;
+    for _ in 0..wide(words, 3) {
+        print_byte(rt, &mut source)?;
+    }
+    println!(rt; "left {}", from_utf8(source.left())?)?;
+    Ok(())
+}
+
+// Reads a line's source to its end or the limit.
+fn print_source<R: Print>(rt: &R, alloc: Global, words: &[&str]) -> anyhow::Result<()> {
+    let most = wide(words, 1) as usize;
+    let mut source = source_of(alloc, most, failing(alloc, word(words, 2))?, word(words, 3))?;
+    let expected = wide(words, 4) as usize;
+    match read_to_end(alloc, &mut source, expected, wide(words, 5) as usize) {
+        Ok(bytes) => println!(rt; "all {}", from_utf8(&bytes)?)?,
+        Err(error) => println!(rt; "all {error:?}")?,
+    }
+    Ok(())
+}
+
+/// Prints what a line wants to know of stores and streams; false where it wants nothing.
+pub fn told<R: Print>(rt: &R, alloc: Global, verb: &str, words: &[&str]) -> anyhow::Result<bool> {
+    match verb {
+        "store" => print_store(rt, alloc, words)?,
+        "sink" => print_sink(rt, alloc, words)?,
+        "reads" => print_reads(rt, alloc, words)?,
+        "source" => print_source(rt, alloc, words)?,
+        _ => return Ok(false),
+    }
+    Ok(true)
+}
