@@ -52,7 +52,7 @@ fn print_held<R: Print>(rt: &R, store: &MemoryStore, name: &str) -> anyhow::Resu
     Ok(())
 }
 
-// Does what three words of a line say with a store.
+// Does what three words of a line say with a store, the first two words of it left aside.
 fn act<R: Print>(
     rt: &R,
     alloc: Global,
@@ -60,9 +60,9 @@ fn act<R: Print>(
     words: &[&str],
     place: usize,
 ) -> anyhow::Result<()> {
-    let name = word(words, place.saturating_add(1));
-    let rest = place.saturating_add(2);
-    match word(words, place) {
+    let name = word(words, place.saturating_add(3));
+    let rest = place.saturating_add(4);
+    match word(words, place.saturating_add(2)) {
         "save" => print_save(rt, store, name, word(words, rest)),
         "load" => print_load(rt, alloc, store, name, wide(words, rest) as usize),
         "held" => print_held(rt, store, name),
@@ -74,10 +74,8 @@ fn act<R: Print>(
 // Does what a line says with a new store.
 fn print_store<R: Print>(rt: &R, alloc: Global, words: &[&str]) -> anyhow::Result<()> {
     let mut store = MemoryStore::new(alloc, failing(alloc, word(words, 1))?);
-    let mut place: usize = 2;
-    while place < words.len() {
-        act(rt, alloc, &mut store, words, place)?;
-        place = place.saturating_add(3);
+    for call in 0..words.len() / 3 {
+        act(rt, alloc, &mut store, words, call.saturating_mul(3))?;
     }
     Ok(())
 }
