@@ -116,33 +116,57 @@ is_set (Some t) = bytes_eq t (codes "true")
 abbrev pub flag_in : Text → List Row → Bool
 flag_in id rows = is_set (first_of id rows)
 
--- the settings
-abbrev pub settings_in : List Row → Option RawSettings
-settings_in rows =
+-- harts, interval, limit and format
+abbrev pub run_at : List Row → Option (ℕ × ℕ × ℕ × ℕ)
+run_at rows =
     and_then (number_or default_settings.harts (codes "harts") rows) (λ harts.
     and_then (number_or default_settings.interval (codes "interval") rows) (λ interval.
     and_then (number_or default_settings.limit (codes "limit") rows) (λ limit.
+    and_then (number_or default_settings.format (codes "format") rows) (λ format.
+    Some (harts, interval, limit, format)))))
+
+-- the sizes of the log and of memory
+abbrev pub sizes_at : List Row → Option (ℕ × ℕ)
+sizes_at rows =
     and_then (number_or default_settings.log_size (codes "log-size") rows) (λ log_size.
     and_then (number_or default_settings.memory (codes "memory") rows) (λ memory.
+    Some (log_size, memory)))
+
+-- the sets, ways and words a line of a cache
+abbrev pub cache_at : List Row → Option (ℕ × ℕ × ℕ)
+cache_at rows =
     and_then (number_or default_settings.sets (codes "sets") rows) (λ sets.
     and_then (number_or default_settings.ways (codes "ways") rows) (λ ways.
     and_then (number_or default_settings.line (codes "line") rows) (λ line.
-    and_then (number_or default_settings.format (codes "format") rows) (λ format.
+    Some (sets, ways, line))))
+
+-- the sets and ways of its second level
+abbrev pub second_at : List Row → Option (ℕ × ℕ)
+second_at rows =
     and_then (number_or default_settings.sets2 (codes "sets2") rows) (λ sets2.
     and_then (number_or default_settings.ways2 (codes "ways2") rows) (λ ways2.
+    Some (sets2, ways2)))
+
+-- the settings
+abbrev pub settings_in : List Row → Option RawSettings
+settings_in rows =
+    and_then (run_at rows) (λ run.
+    and_then (sizes_at rows) (λ sizes.
+    and_then (cache_at rows) (λ cache.
+    and_then (second_at rows) (λ second.
     Some (record {
-      harts = harts;
-      interval = interval;
-      limit = limit;
-      log_size = log_size;
-      memory = memory;
-      sets = sets;
-      ways = ways;
-      line = line;
-      format = format;
-      sets2 = sets2;
-      ways2 = ways2;
-    }))))))))))))
+      harts = run.0;
+      interval = run.1;
+      limit = run.2;
+      log_size = sizes.0;
+      memory = sizes.1;
+      sets = cache.0;
+      ways = cache.1;
+      line = cache.2;
+      format = run.3;
+      sets2 = second.0;
+      ways2 = second.1;
+    })))))
 
 abbrev pub recording_in : List Row → Option RecordingLine
 recording_in rows =
@@ -156,25 +180,31 @@ recording_in rows =
 abbrev pub record_in : List Row → Option Line
 record_in rows = option_map RecordLine (recording_in rows)
 
-abbrev pub replay_in : List Row → Option Line
-replay_in rows =
+-- the name of a log, and that of another file
+abbrev pub pair_at : Text → List Row → Option (Text × Text)
+pair_at id rows =
     and_then (first_of (codes "log") rows) (λ log.
-    and_then (first_of (codes "elf") rows) (λ elf.
+    and_then (first_of id rows) (λ other.
+    Some (log, other)))
+
+-- a hart and an interval
+abbrev pub place_at : List Row → Option (ℕ × ℕ)
+place_at rows =
     and_then (number_at (codes "hart") rows) (λ hart.
     and_then (number_at (codes "interval") rows) (λ interval.
-    Some (ReplayLine log elf hart interval)))))
+    Some (hart, interval)))
+
+abbrev pub replay_in : List Row → Option Line
+replay_in rows =
+    and_then (pair_at (codes "elf") rows) (λ files.
+    and_then (place_at rows) (λ place.
+    Some (ReplayLine files.0 files.1 place.0 place.1)))
 
 abbrev pub joint_in : List Row → Option Line
-joint_in rows =
-    and_then (first_of (codes "log") rows) (λ log.
-    and_then (first_of (codes "elf") rows) (λ elf.
-    Some (JointLine log elf)))
+joint_in rows = option_map (λ files. JointLine files.0 files.1) (pair_at (codes "elf") rows)
 
 abbrev pub debug_in : List Row → Option Line
-debug_in rows =
-    and_then (first_of (codes "log") rows) (λ log.
-    and_then (first_of (codes "elf") rows) (λ elf.
-    Some (DebugLine log elf)))
+debug_in rows = option_map (λ files. DebugLine files.0 files.1) (pair_at (codes "elf") rows)
 
 abbrev pub list_in : List Row → Option Line
 list_in rows = option_map ListLine (first_of (codes "log") rows)
@@ -184,38 +214,28 @@ check_in rows = option_map CheckLine (first_of (codes "log") rows)
 
 abbrev pub audit_in : List Row → Option Line
 audit_in rows =
-    and_then (first_of (codes "log") rows) (λ log.
-    and_then (first_of (codes "elf") rows) (λ elf.
+    and_then (pair_at (codes "elf") rows) (λ files.
     and_then (first_of (codes "book") rows) (λ book.
-    Some (AuditLine log elf book (first_of (codes "input") rows)))))
+    Some (AuditLine files.0 files.1 book (first_of (codes "input") rows))))
 
 abbrev pub races_in : List Row → Option Line
 races_in rows =
-    and_then (first_of (codes "log") rows) (λ log.
-    and_then (first_of (codes "elf") rows) (λ elf.
+    and_then (pair_at (codes "elf") rows) (λ files.
     and_then (number_at (codes "max") rows) (λ max.
-    Some (RacesLine log elf max))))
+    Some (RacesLine files.0 files.1 max)))
 
 abbrev pub slice_in : List Row → Option Line
 slice_in rows =
-    and_then (first_of (codes "log") rows) (λ log.
-    and_then (first_of (codes "elf") rows) (λ elf.
-    and_then (number_at (codes "hart") rows) (λ hart.
-    and_then (number_at (codes "interval") rows) (λ interval.
+    and_then (pair_at (codes "elf") rows) (λ files.
+    and_then (place_at rows) (λ place.
     and_then (number_at (codes "ic") rows) (λ ic.
-    Some (SliceLine log elf hart interval ic))))))
+    Some (SliceLine files.0 files.1 place.0 place.1 ic))))
 
 abbrev pub convert_in : List Row → Option Line
-convert_in rows =
-    and_then (first_of (codes "log") rows) (λ log.
-    and_then (first_of (codes "new") rows) (λ new.
-    Some (ConvertLine log new)))
+convert_in rows = option_map (λ files. ConvertLine files.0 files.1) (pair_at (codes "new") rows)
 
 abbrev pub salvage_in : List Row → Option Line
-salvage_in rows =
-    and_then (first_of (codes "log") rows) (λ log.
-    and_then (first_of (codes "new") rows) (λ new.
-    Some (SalvageLine log new)))
+salvage_in rows = option_map (λ files. SalvageLine files.0 files.1) (pair_at (codes "new") rows)
 
 abbrev pub demo_in : List Row → Option Line
 demo_in rows = option_map DemoLine (number_at (codes "seed") rows)

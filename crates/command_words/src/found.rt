@@ -2,7 +2,7 @@
 ghost use Rattle.std.specs.Prelude.{◌≡◌, option_map, codes};
 ghost use Rattle.clap.specs.Words.{first_of, found_of, rows_of};
 ghost use Rattle.bn_base.specs.Ranges.{default_settings};
-ghost use Rattle.command_words.specs.Words.{seen, seen_recording, number_of, number_or, number_if, number_at, flag_in, settings_in, recording_in, record_in, replay_in, joint_in, debug_in, list_in, check_in, audit_in, races_in, slice_in, convert_in, salvage_in, demo_in, named};
+ghost use Rattle.command_words.specs.Words.{seen, seen_recording, number_of, number_or, number_if, number_at, pair_at, place_at, flag_in, run_at, sizes_at, cache_at, second_at, settings_in, recording_in, record_in, replay_in, joint_in, debug_in, list_in, check_in, audit_in, races_in, slice_in, convert_in, salvage_in, demo_in, named};
 
 use crate::commands::{Command, Recording};
 use bn_base::RawSettings;
@@ -59,21 +59,57 @@ fn flag_in(matches: &ArgMatches<'_>, id: &str) -> bool
     }
 }
 
+// Harts, interval, limit and format.
+fn run_at(matches: &ArgMatches<'_>, default: &RawSettings) -> Option<(u64, u64, u64, u64)>
+    requires { default.now ≡ default_settings }
+    ensures { result ≡ run_at (rows_of (found_of matches.now)) }
+{
+    let harts = number_or(matches, "harts", default.harts)?;
+    let interval = number_or(matches, "interval", default.interval)?;
+    let limit = number_or(matches, "limit", default.limit)?;
+    let format = number_or(matches, "format", default.format)?;
+    Some((harts, interval, limit, format))
+}
+
+// The sizes of the log and of memory.
+fn sizes_at(matches: &ArgMatches<'_>, default: &RawSettings) -> Option<(u64, u64)>
+    requires { default.now ≡ default_settings }
+    ensures { result ≡ sizes_at (rows_of (found_of matches.now)) }
+{
+    let log_size = number_or(matches, "log-size", default.log_size)?;
+    let memory = number_or(matches, "memory", default.memory)?;
+    Some((log_size, memory))
+}
+
+// The sets, ways and words a line of a cache.
+fn cache_at(matches: &ArgMatches<'_>, default: &RawSettings) -> Option<(u64, u64, u64)>
+    requires { default.now ≡ default_settings }
+    ensures { result ≡ cache_at (rows_of (found_of matches.now)) }
+{
+    let sets = number_or(matches, "sets", default.sets)?;
+    let ways = number_or(matches, "ways", default.ways)?;
+    let line = number_or(matches, "line", default.line)?;
+    Some((sets, ways, line))
+}
+
+// The sets and ways of its second level.
+fn second_at(matches: &ArgMatches<'_>, default: &RawSettings) -> Option<(u64, u64)>
+    requires { default.now ≡ default_settings }
+    ensures { result ≡ second_at (rows_of (found_of matches.now)) }
+{
+    let sets2 = number_or(matches, "sets2", default.sets2)?;
+    let ways2 = number_or(matches, "ways2", default.ways2)?;
+    Some((sets2, ways2))
+}
+
 fn settings_in(matches: &ArgMatches<'_>) -> Option<RawSettings>
     ensures { result ≡ settings_in (rows_of (found_of matches.now)) }
 {
     let default = RawSettings::default();
-    let harts = number_or(matches, "harts", default.harts)?;
-    let interval = number_or(matches, "interval", default.interval)?;
-    let limit = number_or(matches, "limit", default.limit)?;
-    let log_size = number_or(matches, "log-size", default.log_size)?;
-    let memory = number_or(matches, "memory", default.memory)?;
-    let sets = number_or(matches, "sets", default.sets)?;
-    let ways = number_or(matches, "ways", default.ways)?;
-    let line = number_or(matches, "line", default.line)?;
-    let format = number_or(matches, "format", default.format)?;
-    let sets2 = number_or(matches, "sets2", default.sets2)?;
-    let ways2 = number_or(matches, "ways2", default.ways2)?;
+    let (harts, interval, limit, format) = run_at(matches, &default)?;
+    let (log_size, memory) = sizes_at(matches, &default)?;
+    let (sets, ways, line) = cache_at(matches, &default)?;
+    let (sets2, ways2) = second_at(matches, &default)?;
     Some(RawSettings {
         harts,
         interval,
@@ -119,13 +155,29 @@ fn record_in<'a>(matches: &ArgMatches<'a>) -> Option<Command<'a>>
     }
 }
 
+// The names of a log and of another file.
+fn pair_at<'a>(matches: &ArgMatches<'a>, id: &str) -> Option<(&'a str, &'a str)>
+    ensures { option_map (λ files. (files.0.now, files.1.now)) result ≡ pair_at id.now (rows_of (found_of matches.now)) }
+{
+    let log = text_at(matches, "log")?;
+    let other = text_at(matches, id)?;
+    Some((log, other))
+}
+
+// A hart and an interval.
+fn place_at(matches: &ArgMatches<'_>) -> Option<(u64, u64)>
+    ensures { result ≡ place_at (rows_of (found_of matches.now)) }
+{
+    let hart = number_at(matches, "hart")?;
+    let interval = number_at(matches, "interval")?;
+    Some((hart, interval))
+}
+
 fn replay_in<'a>(matches: &ArgMatches<'a>) -> Option<Command<'a>>
     ensures { option_map seen result ≡ replay_in (rows_of (found_of matches.now)) }
 {
-    let log = text_at(matches, "log")?;
-    let elf = text_at(matches, "elf")?;
-    let hart = number_at(matches, "hart")?;
-    let interval = number_at(matches, "interval")?;
+    let (log, elf) = pair_at(matches, "elf")?;
+    let (hart, interval) = place_at(matches)?;
     Some(Command::Replay {
         log,
         elf,
@@ -137,16 +189,14 @@ fn replay_in<'a>(matches: &ArgMatches<'a>) -> Option<Command<'a>>
 fn joint_in<'a>(matches: &ArgMatches<'a>) -> Option<Command<'a>>
     ensures { option_map seen result ≡ joint_in (rows_of (found_of matches.now)) }
 {
-    let log = text_at(matches, "log")?;
-    let elf = text_at(matches, "elf")?;
+    let (log, elf) = pair_at(matches, "elf")?;
     Some(Command::Joint { log, elf })
 }
 
 fn debug_in<'a>(matches: &ArgMatches<'a>) -> Option<Command<'a>>
     ensures { option_map seen result ≡ debug_in (rows_of (found_of matches.now)) }
 {
-    let log = text_at(matches, "log")?;
-    let elf = text_at(matches, "elf")?;
+    let (log, elf) = pair_at(matches, "elf")?;
     Some(Command::Debug { log, elf })
 }
 
@@ -167,8 +217,7 @@ fn check_in<'a>(matches: &ArgMatches<'a>) -> Option<Command<'a>>
 fn audit_in<'a>(matches: &ArgMatches<'a>) -> Option<Command<'a>>
     ensures { option_map seen result ≡ audit_in (rows_of (found_of matches.now)) }
 {
-    let log = text_at(matches, "log")?;
-    let elf = text_at(matches, "elf")?;
+    let (log, elf) = pair_at(matches, "elf")?;
     let book = text_at(matches, "book")?;
     Some(Command::Audit {
         log,
@@ -181,8 +230,7 @@ fn audit_in<'a>(matches: &ArgMatches<'a>) -> Option<Command<'a>>
 fn races_in<'a>(matches: &ArgMatches<'a>) -> Option<Command<'a>>
     ensures { option_map seen result ≡ races_in (rows_of (found_of matches.now)) }
 {
-    let log = text_at(matches, "log")?;
-    let elf = text_at(matches, "elf")?;
+    let (log, elf) = pair_at(matches, "elf")?;
     let max = number_at(matches, "max")?;
     Some(Command::Races { log, elf, max })
 }
@@ -190,16 +238,14 @@ fn races_in<'a>(matches: &ArgMatches<'a>) -> Option<Command<'a>>
 fn slice_in<'a>(matches: &ArgMatches<'a>) -> Option<Command<'a>>
     ensures { option_map seen result ≡ slice_in (rows_of (found_of matches.now)) }
 {
-    let log = text_at(matches, "log")?;
-    let elf = text_at(matches, "elf")?;
-    let hart = number_at(matches, "hart")?;
-    let number = number_at(matches, "interval")?;
+    let (log, elf) = pair_at(matches, "elf")?;
+    let (hart, interval) = place_at(matches)?;
     let ic = number_at(matches, "ic")?;
     Some(Command::Slice {
         log,
         elf,
         hart,
-        interval: number,
+        interval,
         ic,
     })
 }
@@ -207,16 +253,14 @@ fn slice_in<'a>(matches: &ArgMatches<'a>) -> Option<Command<'a>>
 fn convert_in<'a>(matches: &ArgMatches<'a>) -> Option<Command<'a>>
     ensures { option_map seen result ≡ convert_in (rows_of (found_of matches.now)) }
 {
-    let log = text_at(matches, "log")?;
-    let new = text_at(matches, "new")?;
+    let (log, new) = pair_at(matches, "new")?;
     Some(Command::Convert { log, new })
 }
 
 fn salvage_in<'a>(matches: &ArgMatches<'a>) -> Option<Command<'a>>
     ensures { option_map seen result ≡ salvage_in (rows_of (found_of matches.now)) }
 {
-    let log = text_at(matches, "log")?;
-    let new = text_at(matches, "new")?;
+    let (log, new) = pair_at(matches, "new")?;
     Some(Command::Salvage { log, new })
 }
 
