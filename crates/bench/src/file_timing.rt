@@ -21,18 +21,30 @@ fn end(count: u64) -> Record
     Record::End { hart: 0, mark }
 }
 
-// The bytes of so many first loads of a hart and of its end.
-fn kept(alloc: Global, count: u64) -> Result<Vec<u8>, AllocError> {
-    let load = write(&Record::FirstLoad {
+// A first load.
+fn load() -> Record
+    ensures { IsTrue (is_marked 2 result) }
+{
+    Record::FirstLoad {
         hart: 0,
         skip: 2,
         value: 3,
-    });
-    let mut bytes = Vec::new(alloc);
-    for _ in 0..count {
-        bytes.extend_from_slice(load.as_slice())?;
     }
-    bytes.extend_from_slice(write(&end(count)).as_slice())?;
+}
+
+// Puts a piece behind bytes, so many times.
+fn append_all(bytes: &mut Vec<u8>, piece: &[u8], count: u64) -> Result<(), AllocError> {
+    for _ in 0..count {
+        bytes.extend_from_slice(piece)?;
+    }
+    Ok(())
+}
+
+// The bytes of so many first loads of a hart and of its end.
+fn kept(alloc: Global, count: u64) -> Result<Vec<u8>, AllocError> {
+    let mut bytes = Vec::new(alloc);
+    append_all(&mut bytes, write(&load()).as_slice(), count)?;
+    append_all(&mut bytes, write(&end(count)).as_slice(), 1)?;
     Ok(bytes)
 }
 
