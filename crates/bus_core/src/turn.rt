@@ -12,8 +12,8 @@ use run_model::Plain;
 use rv_meaning::{Ask, Reply};
 use std::alloc::AllocError;
 
-// Serves an orderly ask. All memory is found first: pages, a stream's room, the race log's and the book's.
-fn take_orderly<B: Book>(
+/// Serves an orderly ask. All memory is found first: pages, a stream's room, the race log's and the book's.
+pub fn take_orderly<B: Book>(
     plain: &mut Plain,
     book: &mut B,
     hart: HartId,
