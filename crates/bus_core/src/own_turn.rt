@@ -6,28 +6,25 @@ ghost use Rattle.run_model.specs.Stands.Turning.{parts};
 ghost use Rattle.bus_core.specs.Bus.{turned_run, turn_row, is_live, IsState};
 
 use crate::bus::Bus;
-use crate::turn::take_orderly;
+use crate::turn::take_row;
 use bn_base::HartId;
-use bn_outside::Book;
+use bn_outside::{Book, TurnRow};
 use race_log::notes_decide;
 use run_model::Plain;
-use rv_meaning::{Ask, DecodedImage, Want, each_ask_is_orderly};
+use rv_meaning::{Ask, DecodedImage, Reply, Want, each_ask_is_orderly};
 use std::alloc::AllocError;
 
-// What a hart asks next, after its quiet instructions. It is orderly. The state is copied once.
-fn own_ask(plain: &Plain, code: &DecodedImage, hart: HartId) -> Ask
+// Lets a hart that asks, with a copy of its state, do its quiet instructions up to what it asks next. That is
+// orderly.
+fn ask_next(plain: &Plain, code: &DecodedImage, hart: HartId, ask: &mut Ask)
     requires hart { hart < (parts plain.now).start.settings.harts }
     requires code { code.now ≡ (parts plain.now).start.image }
-    ensures asks { result ≡ ask_at (parts plain.now).start.settings (parts plain.now).start.image (hart_in (parts plain.now).trace.harts.items hart) }
-    ensures orderly { IsTrue (is_orderly (parts plain.now).start.settings (parts plain.now).start.image (hart_in (parts plain.now).trace.harts.items hart) result) }
+    requires state { ask.old.state ≡ (hart_in (parts plain.now).trace.harts.items hart).state }
+    ensures asks { ask.new ≡ ask_at (parts plain.now).start.settings (parts plain.now).start.image (hart_in (parts plain.now).trace.harts.items hart) }
+    ensures orderly { IsTrue (is_orderly (parts plain.now).start.settings (parts plain.now).start.image (hart_in (parts plain.now).trace.harts.items hart) ask.new) }
 {
     each_ask_is_orderly();
-    let mut ask = Ask {
-        state: *plain.state(hart),
-        want: Want::Cut,
-    };
     ask.want = code.quiet_run_in_place(&mut ask.state, plain.budget(hart));
-    ask
 }
 
 impl<B: Book> Bus<B> {
@@ -50,8 +47,17 @@ impl<B: Book> Bus<B> {
         ensures disordered { self.new.disordered ≡ self.old.disordered }
     {
         notes_decide();
-        let ask = own_ask(&self.plain, code, hart);
-        take_orderly(&mut self.plain, &mut self.book, hart, &ask)?;
+        let mut turn = TurnRow {
+            hart,
+            ask: Ask {
+                state: *self.plain.state(hart),
+                want: Want::Cut,
+            },
+            reply: Reply::Over,
+            guarded: false,
+        };
+        ask_next(&self.plain, code, hart, &mut turn.ask);
+        take_row(&mut self.plain, &mut self.book, &mut turn)?;
         Ok(())
     }
 }

@@ -12,8 +12,35 @@ use run_model::Plain;
 use rv_meaning::{Ask, Reply};
 use std::alloc::AllocError;
 
-/// Serves an orderly ask. All memory is found first: pages, a stream's room, the race log's and the book's.
-pub fn take_orderly<B: Book>(
+/// Serves the orderly ask of a turn's row, and puts the reply in the row, and whether the ask was guarded.
+/// All memory is found first: pages, a stream's room, the race log's and the book's.
+pub fn take_row<B: Book>(
+    plain: &mut Plain,
+    book: &mut B,
+    turn: &mut TurnRow,
+) -> Result<(), AllocError>
+    requires live { is_live (parts plain.old) turn.old.hart ≡ true }
+    requires orderly { IsTrue (is_orderly (parts plain.old).start.settings (parts plain.old).start.image (hart_in (parts plain.old).trace.harts.items turn.old.hart) turn.old.ask) }
+    requires meant { (run : Run) → IsRun (parts plain.old) run → is_orderly (parts plain.old).start.settings (parts plain.old).start.image (run.harts turn.old.hart) turn.old.ask ≡ true }
+    ensures reply { OnOk result ((run : Run) → IsRun (parts plain.old) run → turn.new.reply ≡ (serve (parts plain.old).start.settings (parts plain.old).start.image run turn.old.hart turn.old.ask).reply) }
+    ensures guarded { OnOk result ((run : Run) → IsRun (parts plain.old) run → turn.new.guarded ≡ (serve (parts plain.old).start.settings (parts plain.old).start.image run turn.old.hart turn.old.ask).guarded) }
+    ensures run { OnOk result ((run : Run) → IsRun (parts plain.old) run → IsRun (parts plain.new) (serve (parts plain.old).start.settings (parts plain.old).start.image run turn.old.hart turn.old.ask).run) }
+    ensures refused { OnErr result ((run : Run) → IsRun (parts plain.old) run → IsRun (parts plain.new) run) }
+    ensures start { (parts plain.new).start ≡ (parts plain.old).start }
+    ensures told { OnOk result (B.tells ≡ true → B.told book.new ≡ B.told book.old ++ turn.new ∷ []) }
+    ensures kept { OnErr result (B.told book.new ≡ B.told book.old) }
+    ensures asked { (turn.new.hart ≡ turn.old.hart) × (turn.new.ask ≡ turn.old.ask) }
+{
+    turn.guarded = plain.is_guarded(turn.hart, &turn.ask);
+    let call = plain.prepare(&turn.ask)?;
+    book.room()?;
+    turn.reply = plain.apply(turn.hart, &turn.ask, call);
+    book.note(*turn);
+    Ok(())
+}
+
+// Serves an orderly ask.
+fn take_orderly<B: Book>(
     plain: &mut Plain,
     book: &mut B,
     hart: HartId,
@@ -30,17 +57,14 @@ pub fn take_orderly<B: Book>(
     ensures told { IfOk result (λ r. B.tells ≡ true → B.told book.new ≡ B.told book.old ++ row hart ask.now r.0 r.1 ∷ []) }
     ensures kept { OnErr result (B.told book.new ≡ B.told book.old) }
 {
-    let guarded = plain.is_guarded(hart, ask);
-    let call = plain.prepare(ask)?;
-    book.room()?;
-    let reply = plain.apply(hart, ask, call);
-    book.note(TurnRow {
+    let mut turn = TurnRow {
         hart,
         ask: *ask,
-        reply,
-        guarded,
-    });
-    Ok((reply, guarded))
+        reply: Reply::Over,
+        guarded: false,
+    };
+    take_row(plain, book, &mut turn)?;
+    Ok((turn.reply, turn.guarded))
 }
 
 // Serves an ask that isn't orderly: it ends all.
