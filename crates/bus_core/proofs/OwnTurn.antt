@@ -9,7 +9,7 @@ use Rattle.run_model.specs.Stands.Harts.{hart_in, no_hart}
 use Rattle.run_model.specs.Stands.Plain.{PlainParts, IsRun}
 use Rattle.run_model.specs.Stands.Turning.{is_live}
 use Rattle.run_model.specs.Turn.{Run, ask_at, is_orderly}
-use Rattle.bus_core.specs.Bus.{Began, began_of, row, turn_row, served_reply, served_guarded}
+use Rattle.bus_core.specs.Bus.{Began, row, turn_row, served_reply, served_guarded}
 use Rattle.bus_core.proofs.Rows.{live_within}
 
 -- a live hart is that of each run

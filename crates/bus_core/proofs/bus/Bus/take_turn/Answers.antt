@@ -3,7 +3,7 @@ use Rattle.rv_meaning.specs.declared.asks.Ask.{Ask}
 use Rattle.bn_outside.specs.declared.turn_row.TurnRow.{TurnRow}
 use Rattle.run_model.specs.Stands.Plain.{IsRun}
 use Rattle.run_model.specs.Stands.Turning.{parts}
-use Rattle.run_model.specs.Turn.{serve, ask_at}
+use Rattle.run_model.specs.Turn.{serve}
 use Rattle.bus_core.specs.Bus.{Seen, seen, IsState, IsHistory, began_of, run_after, row, turned_run, turn_row, is_live}
 use Rattle.bus_core.proofs.History.{Serves, history_more, run_is, state_is}
 use Rattle.bus_core.proofs.OwnTurn.{ask_is, own_orderly, same_row, row_is, or_not_true}
