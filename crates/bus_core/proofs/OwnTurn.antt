@@ -3,7 +3,6 @@ use Rattle.std.proofs.Common.{◌≡◌, ℕ, Bool, true, false, not, ◌||◌, 
 use Rattle.std.proofs.lemmas.Option.{get_or_from_slice_get}
 use Rattle.rv_meaning.specs.declared.asks.Ask.{Ask}
 use Rattle.rv_meaning.specs.declared.asks.Reply.{Reply}
-use Rattle.bn_outside.specs.declared.turn_row.TurnRow.{TurnRow}
 use Rattle.run_model.specs.declared.hart.Hart.{Hart}
 use Rattle.run_model.specs.Stands.Harts.{hart_in, no_hart}
 use Rattle.run_model.specs.Stands.Plain.{PlainParts, IsRun}
@@ -22,10 +21,6 @@ ask_is p run k ask is live e = e ∙ ap (λ (h : Hart). ask_at p.start.settings 
 
 pub own_orderly : (p : PlainParts) (run : Run) (k : ℕ) (ask : Ask) → IsRun p run → is_live p k ≡ true → is_orderly p.start.settings p.start.image (hart_in p.trace.harts.items k) ask ≡ true → true ≡ is_orderly p.start.settings p.start.image (run.harts k) ask
 own_orderly p run k ask is live o = sym o ∙ ap (λ (h : Hart). is_orderly p.start.settings p.start.image h ask) (hart_is p run k is live)
-
--- a row is what it has
-pub same_row : (r : TurnRow) (k : ℕ) (ask : Ask) → r.hart ≡ k → r.ask ≡ ask → r ≡ row k ask r.reply r.guarded
-same_row r k ask ek ea = ap (λ (h : ℕ). row h r.ask r.reply r.guarded) ek ∙ ap (λ (a : Ask). row k a r.reply r.guarded) ea
 
 -- the row of a turn
 pub row_is : (b : Began) (run : Run) (k : ℕ) (ask : Ask) (reply : Reply) (guarded : Bool) → ask ≡ ask_at b.settings b.image (run.harts k) → reply ≡ served_reply b run k ask → guarded ≡ served_guarded b run k ask → row k ask reply guarded ≡ turn_row b run k

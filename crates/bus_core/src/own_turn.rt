@@ -1,4 +1,4 @@
-// A turn of a hart on the bus's own thread: the hart's quiet instructions, and its first ask.
+// A turn of a hart in the bus's own place: its quiet instructions, and what it asks after them.
 ghost use Rattle.std.specs.Prelude.{◌≡◌, ◌<◌, ◌+◌, ◌∷◌, ◌++◌, [], true, IsTrue, OnOk, OnErr};
 ghost use Rattle.run_model.specs.Turn.{Run, ask_at, is_orderly};
 ghost use Rattle.run_model.specs.Stands.Harts.{hart_in};
@@ -6,7 +6,7 @@ ghost use Rattle.run_model.specs.Stands.Turning.{parts};
 ghost use Rattle.bus_core.specs.Bus.{turned_run, turn_row, is_live, IsState};
 
 use crate::bus::Bus;
-use crate::turn::take_row;
+use crate::turn::answer_orderly;
 use bn_base::HartId;
 use bn_outside::{Book, TurnRow};
 use race_log::notes_decide;
@@ -14,8 +14,8 @@ use run_model::Plain;
 use rv_meaning::{Ask, DecodedImage, Reply, Want, each_ask_is_orderly};
 use std::alloc::AllocError;
 
-// Lets a hart that asks, with a copy of its state, do its quiet instructions up to what it asks next. That is
-// orderly.
+// Does a hart's quiet instructions on the copy of its state that an ask has, up to what the hart asks next. That
+// is orderly.
 fn ask_next(plain: &Plain, code: &DecodedImage, hart: HartId, ask: &mut Ask)
     requires hart { hart < (parts plain.now).start.settings.harts }
     requires code { code.now ≡ (parts plain.now).start.image }
@@ -57,7 +57,10 @@ impl<B: Book> Bus<B> {
             guarded: false,
         };
         ask_next(&self.plain, code, hart, &mut turn.ask);
-        take_row(&mut self.plain, &mut self.book, &mut turn)?;
+        let (reply, guarded) = answer_orderly(&mut self.plain, &mut self.book, hart, &turn.ask)?;
+        turn.reply = reply;
+        turn.guarded = guarded;
+        self.book.note(turn);
         Ok(())
     }
 }

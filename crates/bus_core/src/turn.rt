@@ -1,5 +1,5 @@
 // One served ask: the machine's turn and the book's row.
-ghost use Rattle.std.specs.Prelude.{◌≡◌, ◌∷◌, ◌++◌, [], Bool, true, false, not, IsTrue, IfOk, OnOk, OnErr};
+ghost use Rattle.std.specs.Prelude.{◌≡◌, ◌<◌, ◌∷◌, ◌++◌, [], Bool, true, false, not, IsTrue, IfOk, OnOk, OnErr};
 ghost use Rattle.run_model.specs.Turn.{Run, serve, is_orderly};
 ghost use Rattle.run_model.specs.Stands.Harts.{hart_in};
 ghost use Rattle.run_model.specs.Stands.Plain.{IsRun};
@@ -12,31 +12,30 @@ use run_model::Plain;
 use rv_meaning::{Ask, Reply};
 use std::alloc::AllocError;
 
-/// Serves the orderly ask of a turn's row, and puts the reply in the row, and whether the ask was guarded.
-/// All memory is found first: pages, a stream's room, the race log's and the book's.
-pub fn take_row<B: Book>(
+/// Answers an orderly ask, and leaves room for its row in the book. All memory is found first: pages, a
+/// stream's room, the race log's and the book's.
+pub fn answer_orderly<B: Book>(
     plain: &mut Plain,
     book: &mut B,
-    turn: &mut TurnRow,
-) -> Result<(), AllocError>
-    requires live { is_live (parts plain.old) turn.old.hart ≡ true }
-    requires orderly { IsTrue (is_orderly (parts plain.old).start.settings (parts plain.old).start.image (hart_in (parts plain.old).trace.harts.items turn.old.hart) turn.old.ask) }
-    requires meant { (run : Run) → IsRun (parts plain.old) run → is_orderly (parts plain.old).start.settings (parts plain.old).start.image (run.harts turn.old.hart) turn.old.ask ≡ true }
-    ensures reply { OnOk result ((run : Run) → IsRun (parts plain.old) run → turn.new.reply ≡ (serve (parts plain.old).start.settings (parts plain.old).start.image run turn.old.hart turn.old.ask).reply) }
-    ensures guarded { OnOk result ((run : Run) → IsRun (parts plain.old) run → turn.new.guarded ≡ (serve (parts plain.old).start.settings (parts plain.old).start.image run turn.old.hart turn.old.ask).guarded) }
-    ensures run { OnOk result ((run : Run) → IsRun (parts plain.old) run → IsRun (parts plain.new) (serve (parts plain.old).start.settings (parts plain.old).start.image run turn.old.hart turn.old.ask).run) }
+    hart: HartId,
+    ask: &Ask,
+) -> Result<(Reply, bool), AllocError>
+    requires live { is_live (parts plain.old) hart ≡ true }
+    requires orderly { IsTrue (is_orderly (parts plain.old).start.settings (parts plain.old).start.image (hart_in (parts plain.old).trace.harts.items hart) ask.now) }
+    requires meant { (run : Run) → IsRun (parts plain.old) run → is_orderly (parts plain.old).start.settings (parts plain.old).start.image (run.harts hart) ask.now ≡ true }
+    ensures reply { IfOk result (λ r. (run : Run) → IsRun (parts plain.old) run → r.0 ≡ (serve (parts plain.old).start.settings (parts plain.old).start.image run hart ask.now).reply) }
+    ensures guarded { IfOk result (λ r. (run : Run) → IsRun (parts plain.old) run → r.1 ≡ (serve (parts plain.old).start.settings (parts plain.old).start.image run hart ask.now).guarded) }
+    ensures run { OnOk result ((run : Run) → IsRun (parts plain.old) run → IsRun (parts plain.new) (serve (parts plain.old).start.settings (parts plain.old).start.image run hart ask.now).run) }
     ensures refused { OnErr result ((run : Run) → IsRun (parts plain.old) run → IsRun (parts plain.new) run) }
     ensures start { (parts plain.new).start ≡ (parts plain.old).start }
-    ensures told { OnOk result (B.tells ≡ true → B.told book.new ≡ B.told book.old ++ turn.new ∷ []) }
-    ensures kept { OnErr result (B.told book.new ≡ B.told book.old) }
-    ensures asked { (turn.new.hart ≡ turn.old.hart) × (turn.new.ask ≡ turn.old.ask) }
+    ensures rows { B.told book.new ≡ B.told book.old }
+    ensures room { OnOk result (0 < B.spare book.new) }
 {
-    turn.guarded = plain.is_guarded(turn.hart, &turn.ask);
-    let call = plain.prepare(&turn.ask)?;
+    let guarded = plain.is_guarded(hart, ask);
+    let call = plain.prepare(ask)?;
     book.room()?;
-    turn.reply = plain.apply(turn.hart, &turn.ask, call);
-    book.note(*turn);
-    Ok(())
+    let reply = plain.apply(hart, ask, call);
+    Ok((reply, guarded))
 }
 
 // Serves an orderly ask.
@@ -57,14 +56,14 @@ fn take_orderly<B: Book>(
     ensures told { IfOk result (λ r. B.tells ≡ true → B.told book.new ≡ B.told book.old ++ row hart ask.now r.0 r.1 ∷ []) }
     ensures kept { OnErr result (B.told book.new ≡ B.told book.old) }
 {
-    let mut turn = TurnRow {
+    let (reply, guarded) = answer_orderly(plain, book, hart, ask)?;
+    book.note(TurnRow {
         hart,
         ask: *ask,
-        reply: Reply::Over,
-        guarded: false,
-    };
-    take_row(plain, book, &mut turn)?;
-    Ok((turn.reply, turn.guarded))
+        reply,
+        guarded,
+    });
+    Ok((reply, guarded))
 }
 
 // Serves an ask that isn't orderly: it ends all.

@@ -5,29 +5,29 @@ use Rattle.run_model.specs.Stands.Plain.{IsRun}
 use Rattle.run_model.specs.Turn.{Served, serve_call, is_guarded}
 use Rattle.run_model.specs.Stands.Turning.{parts}
 use Rattle.bus_core.proofs.Serves.{served_orderly}
-use Rattle.bus_core.proofs.turn.take_row.Goals as goal
+use Rattle.bus_core.proofs.turn.answer_orderly.Goals as goal
 
 pub returns-clause-reply : goal.returns-clause-reply
 returns-clause-reply g c run is =
-    let s = (parts c.args.plain.now).start in let ask = c.args.turn.now.ask in let k = c.args.turn.now.hart in
+    let s = (parts c.args.plain.now).start in let ask = c.args.ask.now in let k = c.args.hart in
     let same = c.prepare.ensures.start in
     let now = c.prepare.ensures.run run is in
     let call = c.in_ok-call.ensures.call run.machine now.machine ∙ ap (λ (t : Start). call_of t.image run.machine ask.want) same in
-    c.apply-turn.ensures.reply run now ∙ ap (λ (t : Start). (serve_call t.settings run k ask (is_guarded t.settings run k ask.want) c.in_ok-call.call).reply) same
+    c.apply-reply.ensures.reply run now ∙ ap (λ (t : Start). (serve_call t.settings run k ask (is_guarded t.settings run k ask.want) c.in_ok-call.call).reply) same
     ∙ ap (λ (x : Served). x.reply) (served_orderly s.settings s.image run k ask c.in_ok-call.call call (c.requires.meant run is))
 
 pub returns-clause-guarded : goal.returns-clause-guarded
 returns-clause-guarded g c run is =
-    let s = (parts c.args.plain.now).start in let ask = c.args.turn.now.ask in let k = c.args.turn.now.hart in
+    let s = (parts c.args.plain.now).start in let ask = c.args.ask.now in let k = c.args.hart in
     let now = c.prepare.ensures.run run is in
     let call = c.in_ok-call.ensures.call run.machine now.machine ∙ ap (λ (t : Start). call_of t.image run.machine ask.want) c.prepare.ensures.start in
-    c.is_guarded-turn.ensures.run run is ∙ ap (λ (x : Served). x.guarded) (served_orderly s.settings s.image run k ask c.in_ok-call.call call (c.requires.meant run is))
+    c.is_guarded-guarded.ensures.run run is ∙ ap (λ (x : Served). x.guarded) (served_orderly s.settings s.image run k ask c.in_ok-call.call call (c.requires.meant run is))
 
 pub returns-clause-run : goal.returns-clause-run
 returns-clause-run g c run is =
-    let s = (parts c.args.plain.now).start in let ask = c.args.turn.now.ask in let k = c.args.turn.now.hart in
+    let s = (parts c.args.plain.now).start in let ask = c.args.ask.now in let k = c.args.hart in
     let same = c.prepare.ensures.start in
     let now = c.prepare.ensures.run run is in
     let call = c.in_ok-call.ensures.call run.machine now.machine ∙ ap (λ (t : Start). call_of t.image run.machine ask.want) same in
-    subst (λ (x : Served). IsRun (parts c.apply-turn.new.self) x.run) (served_orderly s.settings s.image run k ask c.in_ok-call.call call (c.requires.meant run is))
-    (subst (λ (t : Start). IsRun (parts c.apply-turn.new.self) (serve_call t.settings run k ask (is_guarded t.settings run k ask.want) c.in_ok-call.call).run) same (c.apply-turn.ensures.run run now))
+    subst (λ (x : Served). IsRun (parts c.apply-reply.new.self) x.run) (served_orderly s.settings s.image run k ask c.in_ok-call.call call (c.requires.meant run is))
+    (subst (λ (t : Start). IsRun (parts c.apply-reply.new.self) (serve_call t.settings run k ask (is_guarded t.settings run k ask.want) c.in_ok-call.call).run) same (c.apply-reply.ensures.run run now))
