@@ -4,3 +4,4 @@ pub mod Rows
 pub mod History
 pub mod LastMarks
 pub mod Order
+pub mod OwnTurn

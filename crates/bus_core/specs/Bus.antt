@@ -19,9 +19,9 @@ use Rattle.run_model.specs.Stands.Parts.{MachineParts, IsMachine}
 use Rattle.first_load_bits.specs.Stands.{Contents}
 use Rattle.run_model.specs.Stands.EachCache.{AreCaches}
 use Rattle.run_model.specs.Stands.Harts.{AreHarts, is_live_hart}
-use Rattle.run_model.specs.Turn.{Run, halted, serve}
+use Rattle.run_model.specs.Turn.{Run, halted, serve, turn}
 use Rattle.run_model.specs.Runs.{start}
-use Rattle.run_laws.specs.History.{after_rows, are_orderly, IsLawful}
+use Rattle.run_laws.specs.History.{after_rows, are_orderly, row_at, IsLawful}
 use Rattle.file_laws.specs.Recorded.{counts_of, KeepsRules}
 
 -- what a run begins with
@@ -108,6 +108,13 @@ served_guarded b run hart ask = (serve b.settings b.image run hart ask).guarded
 
 abbrev pub row : ℕ → Ask → Reply → Bool → TurnRow
 row hart ask reply guarded = record { hart = hart; ask = ask; reply = reply; guarded = guarded }
+
+-- the run after a hart's turn, in which it asks what it asks next, and the row of that turn
+abbrev pub turned_run : Began → Run → ℕ → Run
+turned_run b run hart = turn b.settings b.image run hart
+
+abbrev pub turn_row : Began → Run → ℕ → TurnRow
+turn_row b run hart = row_at b.settings b.image run hart
 
 -- the rows are lawful, and tell whether all asks were orderly
 pub record AreTold (b : Began) (disordered : Bool) (rows : List TurnRow) : Type 0 where

@@ -4,6 +4,7 @@
 mod bus;
 mod closed;
 mod ends;
+mod own_turn;
 mod serving;
 mod turn;
 

@@ -1,5 +1,5 @@
 // One served ask: the machine's turn and the book's row.
-ghost use Rattle.std.specs.Prelude.{◌≡◌, ◌∷◌, ◌++◌, [], Bool, true, false, not, IsTrue, IfOk, OnOk, OnErr};
+ghost use Rattle.std.specs.Prelude.{◌≡◌, ◌<◌, ◌∷◌, ◌++◌, [], Bool, true, false, not, IsTrue, IfOk, OnOk, OnErr};
 ghost use Rattle.run_model.specs.Turn.{Run, serve, is_orderly};
 ghost use Rattle.run_model.specs.Stands.Harts.{hart_in};
 ghost use Rattle.run_model.specs.Stands.Plain.{IsRun};
@@ -12,7 +12,33 @@ use run_model::Plain;
 use rv_meaning::{Ask, Reply};
 use std::alloc::AllocError;
 
-// Serves an orderly ask. All memory is found first: pages, a stream's room, the race log's and the book's.
+/// Answers an orderly ask, and leaves room for its row in the book. All memory is found first: pages, a
+/// stream's room, the race log's and the book's.
+pub fn answer_orderly<B: Book>(
+    plain: &mut Plain,
+    book: &mut B,
+    hart: HartId,
+    ask: &Ask,
+) -> Result<(Reply, bool), AllocError>
+    requires live { is_live (parts plain.old) hart ≡ true }
+    requires orderly { IsTrue (is_orderly (parts plain.old).start.settings (parts plain.old).start.image (hart_in (parts plain.old).trace.harts.items hart) ask.now) }
+    requires meant { (run : Run) → IsRun (parts plain.old) run → is_orderly (parts plain.old).start.settings (parts plain.old).start.image (run.harts hart) ask.now ≡ true }
+    ensures reply { IfOk result (λ r. (run : Run) → IsRun (parts plain.old) run → r.0 ≡ (serve (parts plain.old).start.settings (parts plain.old).start.image run hart ask.now).reply) }
+    ensures guarded { IfOk result (λ r. (run : Run) → IsRun (parts plain.old) run → r.1 ≡ (serve (parts plain.old).start.settings (parts plain.old).start.image run hart ask.now).guarded) }
+    ensures run { OnOk result ((run : Run) → IsRun (parts plain.old) run → IsRun (parts plain.new) (serve (parts plain.old).start.settings (parts plain.old).start.image run hart ask.now).run) }
+    ensures refused { OnErr result ((run : Run) → IsRun (parts plain.old) run → IsRun (parts plain.new) run) }
+    ensures start { (parts plain.new).start ≡ (parts plain.old).start }
+    ensures rows { B.told book.new ≡ B.told book.old }
+    ensures room { OnOk result (0 < B.spare book.new) }
+{
+    let guarded = plain.is_guarded(hart, ask);
+    let call = plain.prepare(ask)?;
+    book.room()?;
+    let reply = plain.apply(hart, ask, call);
+    Ok((reply, guarded))
+}
+
+// Serves an orderly ask.
 fn take_orderly<B: Book>(
     plain: &mut Plain,
     book: &mut B,
@@ -30,10 +56,7 @@ fn take_orderly<B: Book>(
     ensures told { IfOk result (λ r. B.tells ≡ true → B.told book.new ≡ B.told book.old ++ row hart ask.now r.0 r.1 ∷ []) }
     ensures kept { OnErr result (B.told book.new ≡ B.told book.old) }
 {
-    let guarded = plain.is_guarded(hart, ask);
-    let call = plain.prepare(ask)?;
-    book.room()?;
-    let reply = plain.apply(hart, ask, call);
+    let (reply, guarded) = answer_orderly(plain, book, hart, ask)?;
     book.note(TurnRow {
         hart,
         ask: *ask,

@@ -5,7 +5,7 @@ use Rattle.run_model.specs.Stands.Plain.{IsRun}
 use Rattle.run_model.specs.Turn.{Served, serve_call, is_guarded}
 use Rattle.run_model.specs.Stands.Turning.{parts}
 use Rattle.bus_core.proofs.Serves.{served_orderly}
-use Rattle.bus_core.proofs.turn.take_orderly.Goals as goal
+use Rattle.bus_core.proofs.turn.answer_orderly.Goals as goal
 
 pub returns-clause-reply : goal.returns-clause-reply
 returns-clause-reply g c run is =

@@ -1,0 +1,35 @@
+-- A hart that asks what it asks next.
+use Rattle.std.proofs.Common.{◌≡◌, ℕ, Bool, true, false, not, ◌||◌, refl, sym, ◌∙◌, ap}
+use Rattle.std.proofs.lemmas.Option.{get_or_from_slice_get}
+use Rattle.rv_meaning.specs.declared.asks.Ask.{Ask}
+use Rattle.rv_meaning.specs.declared.asks.Reply.{Reply}
+use Rattle.run_model.specs.declared.hart.Hart.{Hart}
+use Rattle.run_model.specs.Stands.Harts.{hart_in, no_hart}
+use Rattle.run_model.specs.Stands.Plain.{PlainParts, IsRun}
+use Rattle.run_model.specs.Stands.Turning.{is_live}
+use Rattle.run_model.specs.Turn.{Run, ask_at, is_orderly}
+use Rattle.bus_core.specs.Bus.{Began, row, turn_row, served_reply, served_guarded}
+use Rattle.bus_core.proofs.Rows.{live_within}
+
+-- a live hart is that of each run
+hart_is : (p : PlainParts) (run : Run) (k : ℕ) → IsRun p run → is_live p k ≡ true → hart_in p.trace.harts.items k ≡ run.harts k
+hart_is p run k is live = get_or_from_slice_get p.trace.harts.items k (run.harts k) no_hart (is.trace.harts k (live_within p.trace.harts.items k live))
+
+-- so is what it asks next, and that is orderly
+pub ask_is : (p : PlainParts) (run : Run) (k : ℕ) (ask : Ask) → IsRun p run → is_live p k ≡ true → ask ≡ ask_at p.start.settings p.start.image (hart_in p.trace.harts.items k) → ask ≡ ask_at p.start.settings p.start.image (run.harts k)
+ask_is p run k ask is live e = e ∙ ap (λ (h : Hart). ask_at p.start.settings p.start.image h) (hart_is p run k is live)
+
+pub own_orderly : (p : PlainParts) (run : Run) (k : ℕ) (ask : Ask) → IsRun p run → is_live p k ≡ true → is_orderly p.start.settings p.start.image (hart_in p.trace.harts.items k) ask ≡ true → true ≡ is_orderly p.start.settings p.start.image (run.harts k) ask
+own_orderly p run k ask is live o = sym o ∙ ap (λ (h : Hart). is_orderly p.start.settings p.start.image h ask) (hart_is p run k is live)
+
+-- the row of a turn
+pub row_is : (b : Began) (run : Run) (k : ℕ) (ask : Ask) (reply : Reply) (guarded : Bool) → ask ≡ ask_at b.settings b.image (run.harts k) → reply ≡ served_reply b run k ask → guarded ≡ served_guarded b run k ask → row k ask reply guarded ≡ turn_row b run k
+row_is b run k ask reply guarded ea er eg =
+    ap (λ (r : Reply). row k ask r guarded) er
+    ∙ ap (λ (g : Bool). row k ask (served_reply b run k ask) g) eg
+    ∙ ap (λ (a : Ask). row k a (served_reply b run k a) (served_guarded b run k a)) ea
+
+-- an orderly ask leaves the flag
+pub or_not_true : (d : Bool) → d ≡ (d || not true)
+or_not_true true = refl
+or_not_true false = refl

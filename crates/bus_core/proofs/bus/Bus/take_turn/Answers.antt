@@ -1,0 +1,71 @@
+use Rattle.std.proofs.Common.{◌≡◌, ℕ, ◌+◌, true, List, ◌∷◌, ◌++◌, [], subst, sym, ◌∙◌, ap}
+use Rattle.rv_meaning.specs.declared.asks.Ask.{Ask}
+use Rattle.bn_outside.specs.declared.turn_row.TurnRow.{TurnRow}
+use Rattle.run_model.specs.Stands.Plain.{IsRun}
+use Rattle.run_model.specs.Stands.Turning.{parts}
+use Rattle.run_model.specs.Turn.{serve}
+use Rattle.bus_core.specs.Bus.{Seen, seen, IsState, IsHistory, began_of, run_after, row, turned_run, turn_row, is_live}
+use Rattle.bus_core.proofs.History.{Serves, history_more, run_is, state_is}
+use Rattle.bus_core.proofs.OwnTurn.{ask_is, own_orderly, row_is, or_not_true}
+use Rattle.bus_core.proofs.Serves.{served_turns, on_err}
+use Rattle.bus_core.proofs.bus.Bus.take_turn.Goals as goal
+
+pub returns-in_err-reply-clause-refused : goal.returns-in_err-reply-clause-refused
+returns-in_err-reply-clause-refused g c =
+    let b = c.self.inside in
+    let p = parts b.plain in let q = parts c.answer_orderly.new.plain in let told = g.B.Book.told b.book in
+    on_err c.from_residual.result _ (λ run is.
+    let at : IsState (seen p b.halted b.disordered told) run = subst (λ (x : Seen). IsState x run) (sym c.self.view_is) is in
+    state_is q b.halted b.disordered (g.B.Book.told c.answer_orderly.new.book) run (c.in_err-reply.ensures.refused run (run_is c.notes_decide.ensures p b.halted b.disordered told run at)))
+
+pub invariant_of-self-2 : goal.invariant_of-self-2
+invariant_of-self-2 g c =
+    let b = c.self.inside in
+    let p = parts b.plain in let q = parts c.answer_orderly.new.plain in
+    let k = c.args.hart in let ask = c.ask_next.new.ask in let r = c.in_ok-reply in
+    let e = c.in_ok-reply.ensures in
+    let s = c.self.invariant.some in
+    let live = subst (λ (x : Seen). is_live x k ≡ true) (sym c.self.view_is) c.requires.live in
+    let told_is = λ (t : g.B.Book.tells ≡ true). c.note.ensures.row t ∙ ap (λ (rs : List TurnRow). rs ++ row k ask r.reply r.guarded ∷ []) c.answer_orderly.ensures.rows in
+    let serves : Serves p q k ask true r.reply r.guarded = record { same = c.answer_orderly.ensures.start; replies = e.reply; flags = e.guarded; runs = e.run; asks = λ run is. own_orderly p run k ask is live c.ask_next.ensures.orderly } in
+    record {
+      told = λ t. subst (λ (rs : List TurnRow). IsHistory q b.halted b.disordered rs) (sym (told_is t)) (history_more p q b.halted b.disordered b.disordered true (g.B.Book.told b.book) k ask r.reply r.guarded b.plain.fits.harts live serves (or_not_true b.disordered) (c.self.invariant.told t));
+      some = (s.0 ++ row k ask r.reply r.guarded ∷ [], history_more p q b.halted b.disordered b.disordered true s.0 k ask r.reply r.guarded b.plain.fits.harts live serves (or_not_true b.disordered) s.1);
+    }
+
+pub returns-clause-state : goal.returns-clause-state
+returns-clause-state g c = λ run is.
+    let b = c.self.inside in
+    let p = parts b.plain in let q = parts c.answer_orderly.new.plain in let told = g.B.Book.told b.book in
+    let k = c.args.hart in let ask = c.ask_next.new.ask in
+    let live = subst (λ (x : Seen). is_live x k ≡ true) (sym c.self.view_is) c.requires.live in
+    let at : IsState (seen p b.halted b.disordered told) run = subst (λ (x : Seen). IsState x run) (sym c.self.view_is) is in
+    let from = run_is c.notes_decide.ensures p b.halted b.disordered told run at in
+    let now : Seen = seen q b.halted b.disordered (g.B.Book.told c.note.new.self) in
+    let asks = ask_is p run k ask from live c.ask_next.ensures.asks in
+    let served : IsRun q (turned_run (began_of p.start) run k) = subst (λ (a : Ask). IsRun q (serve p.start.settings p.start.image run k a).run) asks (c.in_ok-reply.ensures.run run from) in
+    subst (λ (x : Seen). IsState now (turned_run x.began run k)) c.self.view_is
+    (state_is q b.halted b.disordered (g.B.Book.told c.note.new.self) (turned_run (began_of p.start) run k) served)
+
+pub returns-clause-told : goal.returns-clause-told
+returns-clause-told g c = λ t run is.
+    let b = c.self.inside in
+    let p = parts b.plain in let told = g.B.Book.told b.book in
+    let k = c.args.hart in let ask = c.ask_next.new.ask in let r = c.in_ok-reply in
+    let e = c.in_ok-reply.ensures in
+    let live = subst (λ (x : Seen). is_live x k ≡ true) (sym c.self.view_is) c.requires.live in
+    let at : IsState (seen p b.halted b.disordered told) run = subst (λ (x : Seen). IsState x run) (sym c.self.view_is) is in
+    let from = run_is c.notes_decide.ensures p b.halted b.disordered told run at in
+    let asks = ask_is p run k ask from live c.ask_next.ensures.asks in
+    c.note.ensures.row t ∙ ap (λ (rs : List TurnRow). rs ++ row k ask r.reply r.guarded ∷ []) c.answer_orderly.ensures.rows
+    ∙ ap (λ (x : TurnRow). told ++ x ∷ []) (row_is (began_of p.start) run k ask r.reply r.guarded asks (e.reply run from) (e.guarded run from))
+    ∙ ap (λ (x : Seen). x.rows ++ turn_row x.began run k ∷ []) c.self.view_is
+
+pub returns-clause-turns : goal.returns-clause-turns
+returns-clause-turns g c =
+    let b = c.self.inside in
+    let p = parts b.plain in
+    let s = c.self.invariant.some in
+    let run = run_after (began_of p.start) b.halted s.0 in
+    (c.in_ok-reply.ensures.run run s.1.run).turns ∙ served_turns p.start.settings p.start.image run c.args.hart c.ask_next.new.ask
+    ∙ ap (λ (n : ℕ). n + 1) (sym s.1.run.turns ∙ ap (λ (x : Seen). x.turns) c.self.view_is)
