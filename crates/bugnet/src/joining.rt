@@ -19,6 +19,7 @@ use bn_base::{HartId, Ic};
 use bn_outside::{Sink, Store, send_all};
 use joint_replay::laws::{runs_end, runs_go_on};
 use joint_replay::{Joint, JointError, write_known};
+use row_lines::RowLines;
 use rv_text::Text;
 use std::alloc::{AllocError, Global};
 
@@ -64,8 +65,9 @@ fn send_steps<O: Sink>(
     runs_go_on();
     runs_end();
     let mut text = Text::new(alloc);
+    let mut lines = RowLines::new(alloc);
     'steps: loop {
-        match joint.advance(&mut text) {
+        match joint.advance(&mut lines, &mut text) {
             Ok(more) => {
                 if !more {
                     match send(out, &text) {

@@ -10,6 +10,7 @@ use joint_replay::laws::{runs_end, runs_go_on};
 use joint_replay::{Joint, JointError};
 use le_numbers::push_u32;
 use log_order::KeptLog;
+use row_lines::RowLines;
 use rv_text::Text;
 use std::alloc::{AllocError, Global};
 
@@ -20,9 +21,10 @@ fn go_through(alloc: Global, joint: &mut Joint) -> Result<(), AllocError>
 {
     runs_go_on();
     runs_end();
+    let mut lines = RowLines::new(alloc);
     let mut line = Text::new(alloc);
     'steps: loop {
-        match joint.advance(&mut line) {
+        match joint.advance(&mut lines, &mut line) {
             Ok(true) => line.clear(),
             Ok(false) => return Ok(()),
             Err(JointError::OutOfMemory) => return Err(AllocError),

@@ -8,8 +8,9 @@ use crate::error::JointError;
 use crate::joint::{Joint, error_of};
 use crate::kinds::Next;
 use crate::laws::{runs_end, runs_go_on};
-use crate::texts::write_step;
+use crate::texts::write_step_by;
 use bn_base::HartId;
+use row_lines::RowLines;
 use rv_text::Text;
 
 impl<'a> Joint<'a> {
@@ -27,14 +28,19 @@ impl<'a> Joint<'a> {
     }
 
     // Takes the next step of the lowest ready hart, and appends its line.
-    fn tell(&mut self, hart: HartId, out: &mut Text) -> Result<bool, JointError>
+    fn tell(
+        &mut self,
+        hart: HartId,
+        lines: &mut RowLines,
+        out: &mut Text,
+    ) -> Result<bool, JointError>
         requires none { self.old.refused ≡ None }
         requires lowest { choice self.old ≡ Hart hart }
         ensures { Advances self.old result self.new out.old out.new }
     {
         match self.step(hart) {
             Err(error) => Err(error),
-            Ok(stepped) => match write_step(&stepped, out) {
+            Ok(stepped) => match write_step_by(lines, &stepped, out) {
                 Ok(()) => Ok(true),
                 Err(_) => {
                     self.halt();
@@ -45,43 +51,43 @@ impl<'a> Joint<'a> {
     }
 
     // Goes on by one step, where none was refused yet.
-    fn go_on(&mut self, out: &mut Text) -> Result<bool, JointError>
+    fn go_on(&mut self, lines: &mut RowLines, out: &mut Text) -> Result<bool, JointError>
         requires none { self.old.refused ≡ None }
         ensures { Advances self.old result self.new out.old out.new }
     {
         match self.next() {
             Next::AllDone => Ok(false),
             Next::NoneReady => Err(self.stuck()),
-            Next::Hart(hart) => self.tell(hart, out),
+            Next::Hart(hart) => self.tell(hart, lines, out),
         }
     }
 
-    /// Takes the next step of the lowest ready hart, and appends its line; `false` where all harts are
-    /// done.
+    /// Takes the next step of the lowest ready hart, and appends its line, which `lines` writes; `false`
+    /// where all harts are done.
     ///
     /// Stuck comes where no hart is ready and not all are done, and a refusal of the step where it is
     /// refused; then there is no line. Where memory is wanting there is no line either, but the step may
     /// be done. After that, as after any refusal, each step answers the same.
-    pub fn advance(&mut self, out: &mut Text) -> Result<bool, JointError>
+    pub fn advance(&mut self, lines: &mut RowLines, out: &mut Text) -> Result<bool, JointError>
         ensures { Advances self.old result self.new out.old out.new }
     {
         match self.refusal() {
             Some(refusal) => Err(error_of(refusal)),
-            None => self.go_on(out),
+            None => self.go_on(lines, out),
         }
     }
 
-    /// Takes all steps, the lowest ready hart's first, and appends their lines.
+    /// Takes all steps, the lowest ready hart's first, and appends their lines, which `lines` writes.
     ///
     /// It ends where all harts are done. The errors are those of `advance`: the lines before them stand,
     /// and a further call appends nothing and answers the same.
-    pub fn run_all(&mut self, out: &mut Text) -> Result<(), JointError>
+    pub fn run_all(&mut self, lines: &mut RowLines, out: &mut Text) -> Result<(), JointError>
         ensures { Runs self.old result self.new out.old out.new }
     {
         runs_go_on();
         runs_end();
         'steps: loop {
-            match self.advance(out) {
+            match self.advance(lines, out) {
                 Err(error) => return Err(error),
                 Ok(more) => {
                     if !more {

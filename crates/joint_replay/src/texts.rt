@@ -5,6 +5,7 @@ ghost use Rattle.joint_replay.specs.Texts.{pass_text, known_text, stepped_text};
 
 use crate::kinds::Stepped;
 use bn_base::{Addr, HartId, Ic};
+use row_lines::RowLines;
 use rv_text::{Text, write_end, write_row};
 use std::alloc::AllocError;
 
@@ -75,5 +76,21 @@ pub fn write_step(stepped: &Stepped, text: &mut Text) -> Result<(), AllocError>
             interval,
             mark,
         } => write_end(u64::from(*hart), *interval, mark, text),
+    }
+}
+
+/// As [`write_step`]; the line of a row is one of `lines`, which keeps the texts of code that is done
+/// again.
+pub fn write_step_by(
+    lines: &mut RowLines,
+    stepped: &Stepped,
+    text: &mut Text,
+) -> Result<(), AllocError>
+    ensures ok { OnOk result (text.new ≡ text.old ++ stepped_text stepped.now) }
+    ensures err { OnErr result (text.new ≡ text.old) }
+{
+    match stepped {
+        Stepped::Did(row) => lines.write_row(row, text),
+        _ => write_step(stepped, text),
     }
 }

@@ -15,6 +15,7 @@ use bn_base::{HartId, Image, List, Row};
 use joint_replay::laws::runs_go_by_steps;
 use joint_replay::{Joint, JointError, Next, Stepped};
 use log_order::KeptLog;
+use row_lines::RowLines;
 use rv_text::Text;
 use std::alloc::Global;
 
@@ -90,8 +91,9 @@ fn stuck(alloc: Global, joint: &mut Joint) -> RaceError
     requires stuck { choice joint.old ≡ NoneReady }
     ensures { Stops joint.old result }
 {
+    let mut lines = RowLines::new(alloc);
     let mut untold = Text::new(alloc);
-    match joint.run_all(&mut untold) {
+    match joint.run_all(&mut lines, &mut untold) {
         Ok(()) => RaceError::OutOfMemory,
         Err(error) => told_as(error),
     }
