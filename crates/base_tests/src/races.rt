@@ -139,3 +139,62 @@ fn accesses_that_all_know_go(rt: HostRuntime) -> Result<(), Fail> {
     assert_eq!(rt; s.held(), 0);
     Ok(())
 }
+
+// Four accesses of the first word by hart 0, the first of them at a count and in a turn of that number.
+fn four(shadow: &mut Shadow, from: u64) -> Result<(), Fail>
+    requires harts { 0 < harts_of shadow.old }
+    requires from { from < 2 ^ 40 }
+    requires turns { next_turn shadow.old ≤ from }
+    requires counts { next_count shadow.old 0 ≤ from }
+    requires lasting { IsTrue (lasts shadow.old 0) }
+    ensures harts { harts_of shadow.new ≡ harts_of shadow.old }
+    ensures turns { OnOk result (next_turn shadow.new ≡ from + 4) }
+    ensures counts { OnOk result (next_count shadow.new 0 ≡ from + 4) }
+    ensures lasting { lasting_of shadow.new ≡ lasting_of shadow.old }
+{
+    shadow.reserve(0, 1)?;
+    shadow.access(0, from, from, 0, 1, Read);
+    shadow.reserve(0, 1)?;
+    shadow.access(0, from + 1, from + 1, 0, 1, Read);
+    shadow.reserve(0, 1)?;
+    shadow.access(0, from + 2, from + 2, 0, 1, Read);
+    shadow.reserve(0, 1)?;
+    shadow.access(0, from + 3, from + 3, 0, 1, Read);
+    Ok(())
+}
+
+// Sixteen of them.
+fn sixteen(shadow: &mut Shadow, from: u64) -> Result<(), Fail>
+    requires harts { 0 < harts_of shadow.old }
+    requires from { from < 2 ^ 39 }
+    requires turns { next_turn shadow.old ≤ from }
+    requires counts { next_count shadow.old 0 ≤ from }
+    requires lasting { IsTrue (lasts shadow.old 0) }
+    ensures harts { harts_of shadow.new ≡ harts_of shadow.old }
+    ensures turns { OnOk result (next_turn shadow.new ≡ from + 16) }
+    ensures counts { OnOk result (next_count shadow.new 0 ≡ from + 16) }
+    ensures lasting { lasting_of shadow.new ≡ lasting_of shadow.old }
+{
+    four(shadow, from)?;
+    four(shadow, from + 4)?;
+    four(shadow, from + 8)?;
+    four(shadow, from + 12)
+}
+
+#[test]
+fn a_sweep_of_a_page_is_due_after_its_words_accesses(rt: HostRuntime) -> Result<(), Fail> {
+    let mut shadow = some_harts(&rt, rt.alloc(), 2)?;
+    let s = &mut shadow;
+    // There is no page yet, and then one, of 64 words.
+    assert!(rt; s.is_sweep_due());
+    sixteen(s, 0)?;
+    assert!(rt; !s.is_sweep_due());
+    sixteen(s, 16)?;
+    sixteen(s, 32)?;
+    assert!(rt; !s.is_sweep_due());
+    sixteen(s, 48)?;
+    assert!(rt; s.is_sweep_due());
+    assert_eq!(rt; s.sweep(3), 0);
+    assert!(rt; !s.is_sweep_due());
+    Ok(())
+}
