@@ -60,6 +60,7 @@ fn agree_all(rows: &[TurnRow], from: &Start, worked: &[Result<Worked, AllocError
 fn agrees_at(rows: &[TurnRow], hart: HartId, from: &Start, one: &Result<Worked, AllocError>) -> bool
     requires { IfOk one.now (λ w. IsHartsOwn (began_of from.now) hart w.mine.items) }
     ensures own { result ≡ true → IsHartsOwn (began_of from.now) hart (rows_by hart rows.now) }
+    ensures same { result ≡ true → MatchResult one.now (λ w. rows_by hart rows.now ≡ w.mine.items) (λ e. ⊥) }
     ensures all { MatchResult one.now (λ w. rows_by hart rows.now ≡ w.mine.items) (λ e. ⊥) → result ≡ true }
 {
     match one {
