@@ -2,6 +2,8 @@
 # Tries what the script zelkuma does by itself, on a small tree of its own and with a toolchain that
 # only seems to prove and build. It takes some seconds, and needs no toolchain.
 set -u
+# A shell that begins with a signal ignored, as under nohup, never meets it: the calls that are stopped here have to.
+[ -n "${MEETS_SIGNALS:-}" ] || MEETS_SIGNALS=1 exec env --default-signal=HUP,INT,TERM "$0" "$@"
 top=$(cd "$(dirname "$0")/.." && pwd)
 work=$(mktemp -d)
 trap 'rm -rf "$work"' EXIT
