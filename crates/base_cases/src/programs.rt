@@ -24,11 +24,10 @@ pub fn made(
     }
 }
 
-/// A copy of the program of a file, with the settings of a line.
+/// The program of a file, with the settings of a line.
 pub fn loaded(alloc: Global, file: &[u8], words: &[&str]) -> anyhow::Result<Image> {
     let settings = checked(words)?;
-    let image = load(alloc, file, &settings)?;
-    Ok(image.copy()?)
+    Ok(load(alloc, file, &settings)?)
 }
 
 // Prints what stands at an address.

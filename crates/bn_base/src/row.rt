@@ -7,7 +7,7 @@ use crate::{Addr, HartId, Ic};
 ///
 /// In `load` and `store` the address is the access's byte address, and the value is the whole
 /// aligned word: before a load, after a store. An AMO has both.
-#[derive(Clone, Copy, Debug, PartialEq, Eq, Drop)]
+#[derive(Clone, Copy, Debug, Drop)]
 pub struct Row {
     pub hart: HartId,
     /// The number of instructions that the hart had done before it.

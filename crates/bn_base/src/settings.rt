@@ -60,7 +60,7 @@ pub struct BadSetting {
 /// | format | 1 to 2 |
 /// | sets2 | 0; with format 2 also a power of two, 1 to 4,096 |
 /// | ways2 | 0 where sets2 is 0, else 1 to 16 |
-#[derive(Clone, Copy, Debug, PartialEq, Eq, Drop)]
+#[derive(Clone, Copy, PartialEq, Eq, Drop)]
 pub struct Settings {
     raw: RawSettings,
 }

@@ -19,7 +19,7 @@ use sha2::{Digest, Sha256};
 use std::alloc::Global;
 
 /// How a run ended.
-#[derive(Clone, Copy, Debug, PartialEq, Eq, Drop)]
+#[derive(Clone, Copy, Drop)]
 pub enum RunEnd {
     /// By no fault, and no hart met the limit.
     Done,

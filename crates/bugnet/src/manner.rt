@@ -1,7 +1,7 @@
 // How a run is recorded.
 
 /// How a run is recorded.
-#[derive(Clone, Copy, Debug, PartialEq, Eq, Drop)]
+#[derive(Clone, Copy, Drop)]
 pub struct Manner {
     /// The number that chooses its turns. Without one each hart runs in a thread of its own.
     pub seed: Option<u64>,

@@ -5,7 +5,7 @@ ghost use Rattle.bugnet.specs.Names.{no_names, name_of};
 use std::marker::Model;
 
 /// What a file is to a command.
-#[derive(Clone, Copy, Debug, PartialEq, Eq, Drop)]
+#[derive(Clone, Copy, Drop)]
 pub enum Role {
     /// The program.
     Elf,

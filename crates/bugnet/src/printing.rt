@@ -31,7 +31,7 @@ use std::alloc::Global;
 const BLOCK: usize = 65_536;
 
 /// How the replay of an interval ended.
-#[derive(Clone, Copy, Debug, PartialEq, Eq, Drop)]
+#[derive(Clone, Copy, Drop)]
 pub enum Ending {
     /// As its log says.
     Done,

@@ -13,7 +13,7 @@ use run_model::TurnError;
 use std::alloc::AllocError;
 
 /// Why a command is refused. An error held in a refusal is never its OutOfMemory.
-#[derive(Clone, Copy, Debug, PartialEq, Eq, Drop)]
+#[derive(Clone, Copy, Drop)]
 pub enum Refusal {
     /// The words are no command.
     WordsRefused,

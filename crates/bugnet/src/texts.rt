@@ -110,7 +110,7 @@ pub fn push_check(text: &mut Text, log: &LogCounts) -> Result<(), AllocError>
 }
 
 /// What is counted of a recording, and how it ended.
-#[derive(Clone, Copy, Debug, PartialEq, Eq, Drop)]
+#[derive(Clone, Copy, Drop)]
 pub struct RunCounts {
     pub turns: u64,
     pub instructions: u128,

@@ -7,7 +7,7 @@ use rv_text::Text;
 use std::alloc::AllocError;
 
 /// What is counted of a demonstration.
-#[derive(Clone, Copy, Debug, PartialEq, Eq, Drop)]
+#[derive(Clone, Copy, Drop)]
 pub struct Figures {
     /// The number that makes the program and chooses the turns.
     pub seed: u64,

@@ -20,7 +20,7 @@ use std::marker::Model;
 ///
 /// Contracts see a cache as its geometry, that count, the latest clear and its ways, and say by `StandsFor` which histories
 /// of touches, drops and clears it stands for. Only `new` takes memory.
-#[derive(Debug, Drop)]
+#[derive(Drop)]
 pub struct Cache {
     // The ways of all sets, those of a set side by side; and so those of the second level.
     ways: Vec<Way>,

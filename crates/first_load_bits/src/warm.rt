@@ -3,7 +3,7 @@ ghost use Rattle.std.specs.Prelude.{◌≡◌, ◌<◌, ◌==◌, if◌then◌el
 ghost use Rattle.std.specs.Int.{bit_at};
 
 /// What a cache knew of a word just before a touch of it.
-#[derive(Clone, Copy, Debug, PartialEq, Eq, Drop)]
+#[derive(Clone, Copy, Debug, Drop)]
 pub enum Warm {
     /// The word was touched since the last clear, and from some such touch on the cache has held its line.
     Warm,

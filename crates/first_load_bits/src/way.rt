@@ -3,7 +3,7 @@ ghost use Rattle.std.specs.Prelude.{◌≡◌, ◌<◌, false, length, All, IfSo
 ghost use Rattle.first_load_bits.specs.Ways.{HasLine, IsOldest, IsPlaceFor, has_line, has_other, line_in, known_bits};
 
 /// A way of a set: room for a line, of which it keeps the number and bits, and no contents of memory.
-#[derive(Clone, Copy, Debug, PartialEq, Eq, Drop)]
+#[derive(Clone, Copy, Drop)]
 pub struct Way {
     /// The number of its line: an address in it, divided by the number of bytes in a line.
     pub line: u32,

@@ -10,7 +10,7 @@ use rv_decode::decode;
 
 /// An instruction that a hart is about to do: where it stands, its word, and the register that it
 /// writes. It is looked up once, before the instruction is done, and makes the row afterwards.
-#[derive(Clone, Copy, Debug, PartialEq, Eq, Drop)]
+#[derive(Clone, Copy, Drop)]
 pub struct Fetched {
     pub hart: HartId,
     /// The number of instructions that the hart had done before it.

@@ -9,7 +9,7 @@ use run_model::start_state;
 use rv_meaning::{Ask, DecodedImage, Reply, Want, absorb};
 
 /// Where a hart is, as it knows by itself: its state, and its count when its present interval began.
-#[derive(Clone, Copy, Debug, PartialEq, Eq, Drop)]
+#[derive(Clone, Copy, Drop)]
 pub struct OwnPlace {
     pub state: HartState,
     pub begun: Ic,

@@ -7,7 +7,7 @@ use bn_base::{EndMark, Ic};
 use log_record::Record;
 
 /// The settings on which the order depends.
-#[derive(Clone, Copy, Debug, PartialEq, Eq, Drop)]
+#[derive(Clone, Copy, Drop)]
 pub struct Terms {
     /// The length of a full interval, in instructions.
     pub interval: u64,
@@ -16,7 +16,7 @@ pub struct Terms {
 }
 
 /// What may come next of a hart.
-#[derive(Clone, Copy, Debug, PartialEq, Eq, Drop)]
+#[derive(Clone, Copy, Drop)]
 pub enum Phase {
     /// No Header or End of it came, and records before these are gone.
     Unknown,
@@ -29,7 +29,7 @@ pub enum Phase {
 }
 
 /// What the records so far say of a hart.
-#[derive(Clone, Copy, Debug, PartialEq, Eq, Drop)]
+#[derive(Clone, Copy, Drop)]
 pub struct HartView {
     pub phase: Phase,
     /// 1 plus the greatest count of its Edges, 0 without one.

@@ -1,7 +1,7 @@
 //! The layouts of instruction words.
 
 /// How the fields lie in a word (sections 2.2 and 2.3 of the RISC-V unprivileged specification).
-#[derive(Clone, Copy, PartialEq, Eq, Debug, Drop)]
+#[derive(Clone, Copy, Debug, Drop)]
 pub enum Format {
     /// rd and the upper 20 bits of an immediate.
     U,

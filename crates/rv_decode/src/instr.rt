@@ -4,7 +4,7 @@ ghost use Rattle.std.specs.Prelude.{◌<◌};
 use crate::name::Name;
 
 /// An instruction. A field that its format lacks is 0 or false, and so are all fields of a fence.
-#[derive(Clone, Copy, PartialEq, Eq, Debug, Drop)]
+#[derive(Clone, Copy, Debug, Drop)]
 pub struct Instr {
     /// Which instruction it is.
     pub name: Name,

@@ -6,7 +6,7 @@ use crate::format::Format;
 
 /// The names of the 59 instructions of RV32IMA. The sections are those of the RISC-V
 /// unprivileged specification, version 20191213.
-#[derive(Clone, Copy, PartialEq, Eq, Debug, Drop)]
+#[derive(Clone, Copy, Debug, Drop)]
 pub enum Name {
     /// Load upper immediate (section 2.4.1).
     Lui,

@@ -2,7 +2,7 @@
 use bn_base::Addr;
 
 /// What a system call does. All but the ends of a hart and of the run go on with an answer in a0.
-#[derive(Clone, Copy, Debug, PartialEq, Eq, Drop)]
+#[derive(Clone, Copy, Debug, Drop)]
 pub enum Plan {
     /// The next `len` bytes of the input go to the bytes from `addr` on. The answer is `len`.
     Fill { addr: Addr, len: u32 },

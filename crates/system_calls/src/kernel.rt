@@ -2,7 +2,7 @@
 use bn_base::Addr;
 
 /// The part of the machine's state that system calls depend on.
-#[derive(Clone, Copy, Debug, PartialEq, Eq, Drop)]
+#[derive(Clone, Copy, Drop)]
 pub struct Kernel {
     /// The present break, where the heap ends.
     pub brk: Addr,

@@ -12,3 +12,21 @@ returns-in-51 c = subst (λ (n : ℕ). kind_by (row_by table n c.args.rd c.args.
 
 pub returns-in-47 : goal.returns-in-47
 returns-in-47 c = rw c.in-47.is c.atomic_name.ensures
+
+pub returns-in-3 : goal.returns-in-3
+returns-in-3 c = rw c.in-3.is c.load_name.ensures
+
+pub returns-in-35 : goal.returns-in-35
+returns-in-35 c = rw c.in-35.is c.store_name.ensures
+
+pub returns-in-99 : goal.returns-in-99
+returns-in-99 c = rw c.in-99.is c.branch_name.ensures
+
+pub returns-in-103 : goal.returns-in-103
+returns-in-103 c = rw c.in-103.is c.jump_name.ensures
+
+pub returns-in-15 : goal.returns-in-15
+returns-in-15 c = rw c.in-15.is c.fence_name.ensures
+
+pub returns-in-115 : goal.returns-in-115
+returns-in-115 c = rw c.in-115.is c.system_name.ensures
