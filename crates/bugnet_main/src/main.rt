@@ -5,18 +5,9 @@
 //! two outputs keep their order, and what a command prints is seen before the next one is read.
 #![tactic(auto)]
 
-mod file_store;
-mod limits;
-mod streams;
-#[cfg(test)]
-mod tests;
-mod words;
-
 use bn_outside::{OpenGate, send_all};
-use file_store::FileStore;
+use host_outside::{FileStore, Reading, Writing, words_of};
 use std::process::ExitCode;
-use streams::{Reading, Writing};
-use words::words_of;
 
 // The status for want of memory.
 const OUT_OF_MEMORY: u8 = 9;

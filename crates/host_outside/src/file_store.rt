@@ -22,6 +22,7 @@ pub struct FileStore<'a, R: Files> {
 }
 
 impl<'a, R: Files> FileStore<'a, R> {
+    /// The files of a host, with nothing counted yet.
     pub fn new(rt: &'a R) -> Self
         ensures misses { result.misses ≡ 0 }
         ensures longs { result.longs ≡ 0 }

@@ -32,43 +32,61 @@ fn refusal<S: Store>(
     store.load(rt.alloc(), name, limit).err()
 }
 
+// The name of a file among those that may go at any time, which no other process has.
+fn file_name(rt: &HostRuntime, kind: &str) -> Result<String, Fail> {
+    let folder = env::temp_dir(rt)?;
+    let (folder, id) = (folder.as_str(), process::id(rt.process()));
+    Ok(format!(in rt.alloc(); "{folder}/host_outside_{kind}_{id}")?)
+}
+
+// Whether bytes are saved under a name.
+fn saves<S: Store>(store: &mut S, name: &str, bytes: &[u8]) -> bool {
+    store.save(name, bytes).is_ok()
+}
+
+// Whether a load is refused as too long, missing and failed.
+fn refusals(rt: &HostRuntime, name: &str, limit: usize) -> [bool; 3] {
+    let found = refusal(rt, &mut FileStore::new(rt), name, limit);
+    [
+        matches!(found, Some(LoadError::TooLong)),
+        matches!(found, Some(LoadError::Missing)),
+        matches!(found, Some(LoadError::Failed)),
+    ]
+}
+
 #[test]
 fn files_are_saved_whole_and_loaded_within_the_limit(rt: HostRuntime) -> Result<(), Fail> {
-    let folder = env::temp_dir(&rt)?;
-    let folder = folder.as_str();
-    let id = process::id(rt.process());
-    let name = format!(in rt.alloc(); "{folder}/bugnet_main_test_{id}")?;
+    let name = file_name(&rt, "whole")?;
     let name = name.as_str();
     let mut store = FileStore::new(&rt);
-    assert_eq!(rt; store.save(name, b"a longer text"), Ok(()));
-    assert_eq!(rt; store.save(name, b"text"), Ok(()));
+    assert!(rt; saves(&mut store, name, b"a longer text"));
+    assert!(rt; saves(&mut store, name, b"text"));
     assert!(rt; loads(&rt, &mut store, name, 4, b"text"));
-    assert_eq!(rt; refusal(&rt, &mut store, name, 3), Some(LoadError::TooLong));
+    assert_eq!(rt; refusals(&rt, name, 3), [true, false, false]);
     fs::remove_file(&rt, name)?;
-    assert_eq!(rt; refusal(&rt, &mut store, name, 4), Some(LoadError::Missing));
-    assert_eq!(rt;
-        refusal(&rt, &mut store, folder, 4),
-        Some(LoadError::Failed)
-    );
-    assert_eq!(rt; store.save(folder, b"text"), Err(SaveError::Failed));
+    assert_eq!(rt; refusals(&rt, name, 4), [false, true, false]);
+    Ok(())
+}
+
+#[test]
+fn a_folder_is_no_file(rt: HostRuntime) -> Result<(), Fail> {
+    let folder = env::temp_dir(&rt)?;
+    let folder = folder.as_str();
+    assert_eq!(rt; refusals(&rt, folder, 4), [false, false, true]);
+    let saved = FileStore::new(&rt).save(folder, b"text");
+    assert!(rt; matches!(saved, Err(SaveError::Failed)));
     Ok(())
 }
 
 #[test]
 fn a_file_of_several_pieces_is_loaded_whole(rt: HostRuntime) -> Result<(), Fail> {
-    let folder = env::temp_dir(&rt)?;
-    let folder = folder.as_str();
-    let id = process::id(rt.process());
-    let name = format!(in rt.alloc(); "{folder}/bugnet_main_pieces_{id}")?;
+    let name = file_name(&rt, "pieces")?;
     let name = name.as_str();
     let bytes = vec![in rt.alloc(); 7u8; 200_000]?;
     let mut store = FileStore::new(&rt);
-    assert_eq!(rt; store.save(name, &bytes), Ok(()));
+    assert!(rt; saves(&mut store, name, &bytes));
     assert!(rt; loads(&rt, &mut store, name, 200_000, &bytes));
-    assert_eq!(rt;
-        refusal(&rt, &mut store, name, 199_999),
-        Some(LoadError::TooLong)
-    );
+    assert_eq!(rt; refusals(&rt, name, 199_999), [true, false, false]);
     fs::remove_file(&rt, name)?;
     Ok(())
 }

@@ -12,6 +12,7 @@ pub struct Reading<R> {
 }
 
 impl<R: Read> Reading<R> {
+    /// A source of this reader, with nothing counted yet.
     pub fn new(inner: R) -> Self
         ensures inner { result.inner ≡ inner }
         ensures faults { result.faults ≡ 0 }
@@ -45,6 +46,7 @@ pub struct Writing<W> {
 }
 
 impl<W: Write> Writing<W> {
+    /// A sink that gives to this writer, with nothing counted yet.
     pub fn new(inner: W) -> Self
         ensures inner { result.inner ≡ inner }
         ensures faults { result.faults ≡ 0 }

@@ -1,0 +1,17 @@
+//! The outside of a program that runs on a host: its files as a store, readers and writers as a source and
+//! sinks, and the words of its command line.
+//!
+//! What the host's files, readers and writers hold is told by no clause, since others may change them at any
+//! moment. What is told is how much is loaded at most, what is handed on, and that each failure is counted.
+#![tactic(auto)]
+
+mod file_store;
+mod limits;
+mod streams;
+#[cfg(test)]
+mod tests;
+mod words;
+
+pub use file_store::FileStore;
+pub use streams::{Reading, Writing};
+pub use words::words_of;
