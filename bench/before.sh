@@ -14,17 +14,21 @@ trap 'rm -rf "$work"' EXIT
 
 # A program that times these two alone, over the crates that it needs.
 checkout() {
+    local times=
+    # (an earlier commit may have the times of the race log in a crate of their own)
+    ! git -C "$top" cat-file -e "$2:crates/vector_time" 2>"$work/unread" || times=crates/vector_time
     mkdir -p "$work/$1"
-    git -C "$top" archive "$2" crates/bn_base crates/vector_time crates/race_log crates/first_load_bits \
+    # shellcheck disable=SC2086
+    git -C "$top" archive "$2" crates/bn_base $times crates/race_log crates/first_load_bits \
         crates/bench/src/touch_timing.rt crates/bench/src/race_timing.rt crates/bench/src/rate.rt \
         crates/bench/proofs/touch_timing crates/bench/proofs/race_timing | tar -x -C "$work/$1"
-    cat >"$work/$1/crates.txt" <<'END_OF_CRATES'
-bn_base: thiserror
-vector_time: bn_base
-race_log: bn_base vector_time
-first_load_bits: bn_base
-bench: bn_base race_log first_load_bits anyhow
-END_OF_CRATES
+    {
+        echo "bn_base: thiserror"
+        [ -z "$times" ] || echo "vector_time: bn_base"
+        echo "race_log: bn_base ${times#crates/}"
+        echo "first_load_bits: bn_base"
+        echo "bench: bn_base race_log first_load_bits anyhow"
+    } >"$work/$1/crates.txt"
     cat >"$work/$1/crates/bench/src/main.rt" <<'END_OF_MAIN'
 //! Times touches of a hart's cache, and accesses of the race log.
 #![tactic(auto)]
@@ -54,7 +58,7 @@ END_OF_MAIN
     }
 }
 
-git -C "$top" diff --quiet HEAD -- crates/bn_base crates/vector_time crates/race_log crates/first_load_bits ||
+git -C "$top" diff --quiet HEAD -- crates/bn_base crates/race_log crates/first_load_bits ||
     echo "what isn't committed isn't timed" >&2
 checkout before "$rev"
 checkout now HEAD
