@@ -99,16 +99,40 @@ fn tell(rt: &HostRuntime, harts: HartId, closed: &Closed<FullBook>) -> anyhow::R
     Ok(())
 }
 
-fn checked(rt: &HostRuntime, harts: HartId, count: u64) -> anyhow::Result<()> {
+// Serves so many asks on a bus, and closes it.
+fn served(
+    mut bus: Bus<FullBook>,
+    code: &DecodedImage,
+    harts: HartId,
+    count: u64,
+) -> anyhow::Result<Closed<FullBook>> {
+    match serve_all(&mut bus, code, harts, count) {
+        Ok(()) => Ok(bus.close()),
+        Err(error) => Err(error),
+    }
+}
+
+// The run of so many asks from a beginning.
+fn run(
+    alloc: Global,
+    start: &Start,
+    harts: HartId,
+    count: u64,
+) -> anyhow::Result<Closed<FullBook>> {
+    let code = DecodedImage::new(alloc, &start.image)?;
+    let bus = Bus::new(alloc, start, FullBook::new(alloc))?;
+    served(bus, &code, harts, count)
+}
+
+// Serves so many asks of so many harts, and prints what that leaves.
+fn check(rt: &HostRuntime, harts: HartId, count: u64) -> anyhow::Result<()> {
     let start = beginning(rt.alloc(), harts)?;
-    let code = DecodedImage::new(rt.alloc(), &start.image)?;
-    let mut bus = Bus::new(rt.alloc(), &start, FullBook::new(rt.alloc()))?;
-    serve_all(&mut bus, &code, harts, count)?;
-    tell(rt, harts, &bus.close())
+    let closed = run(rt.alloc(), &start, harts, count)?;
+    tell(rt, harts, &closed)
 }
 
 /// Serves so many asks of one hart, and then of eight, each again where memory was wanting.
 pub fn asks(rt: &HostRuntime, count: u64) -> anyhow::Result<()> {
-    checked(rt, 1, count)?;
-    checked(rt, 8, count)
+    check(rt, 1, count)?;
+    check(rt, 8, count)
 }

@@ -48,30 +48,25 @@ fn kept(alloc: Global, count: u64) -> Result<Vec<u8>, AllocError> {
     Ok(bytes)
 }
 
-/// Times the writing and the reading of a log file with so many first loads, 10 bytes each.
-pub fn files(rt: &HostRuntime, count: u64) -> anyhow::Result<()> {
+// The head of a log of the greatest size.
+fn head() -> Option<Head> {
     let raw = RawSettings {
         log_size: 1 << 28,
         ..RawSettings::default()
     };
-    let Ok(settings) = Settings::checked(&raw) else {
-        return Ok(());
-    };
-    let records = kept(rt.alloc(), count)?;
-    if records.len() > settings.log_size() as usize {
-        println!(rt; "a log holds at most 268435456 bytes")?;
-        return Ok(());
+    match Settings::checked(&raw) {
+        Ok(settings) => Some(Head {
+            settings,
+            digest: [0; 32],
+        }),
+        Err(_) => None,
     }
-    let head = Head {
-        settings,
-        digest: [0; 32],
-    };
-    anyhow::ensure!(head.settings.format() == 1, "another format");
+}
+
+// Times the reading of a file, and prints how it went beside the rate of its writing.
+fn time_read(rt: &HostRuntime, file: &[u8], written: u64) -> anyhow::Result<()> {
     let clock = Instant::now(rt)?;
-    let file = write_file(rt.alloc(), &head, 1, &records, &[])?;
-    let written = rate_since(rt, clock, file.len() as u64)?;
-    let clock = Instant::now(rt)?;
-    let log = read_file(rt.alloc(), &file);
+    let log = read_file(rt.alloc(), file);
     let read = rate_since(rt, clock, file.len() as u64)?;
     match log {
         Ok(log) => {
@@ -81,4 +76,26 @@ pub fn files(rt: &HostRuntime, count: u64) -> anyhow::Result<()> {
         Err(error) => println!(rt; "file refused: {error}")?,
     }
     Ok(())
+}
+
+// Times the writing of a file of records, and the reading of it.
+fn time_file(rt: &HostRuntime, head: &Head, records: &[u8]) -> anyhow::Result<()> {
+    if records.len() > head.settings.log_size() as usize {
+        println!(rt; "a log holds at most 268435456 bytes")?;
+        return Ok(());
+    }
+    anyhow::ensure!(head.settings.format() == 1, "another format");
+    let clock = Instant::now(rt)?;
+    let file = write_file(rt.alloc(), head, 1, records, &[])?;
+    let written = rate_since(rt, clock, file.len() as u64)?;
+    time_read(rt, &file, written)
+}
+
+/// Times the writing and the reading of a log file with so many first loads, 10 bytes each.
+pub fn files(rt: &HostRuntime, count: u64) -> anyhow::Result<()> {
+    let records = kept(rt.alloc(), count)?;
+    match head() {
+        Some(head) => time_file(rt, &head, &records),
+        None => Ok(()),
+    }
 }

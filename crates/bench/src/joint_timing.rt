@@ -188,15 +188,20 @@ fn tell(
     Ok(())
 }
 
+// Times the three ways through a log.
+fn time_log(rt: &HostRuntime, harts: HartId, image: &Image, log: &KeptLog) -> anyhow::Result<()> {
+    let joint = time_joint(rt, image, log)?;
+    let single = time_intervals(rt, image, log)?;
+    let debugged = time_debugger(rt, image, log)?;
+    tell(rt, harts, joint, single, debugged)
+}
+
 fn timed(rt: &HostRuntime, harts: HartId, count: u64) -> anyhow::Result<()>
     requires { 0 < harts }
 {
     let start = beginning(rt.alloc(), harts, count)?;
     let log = recorded(rt.alloc(), &start)?;
-    let joint = time_joint(rt, &start.image, &log)?;
-    let single = time_intervals(rt, &start.image, &log)?;
-    let debugged = time_debugger(rt, &start.image, &log)?;
-    tell(rt, harts, joint, single, debugged)
+    time_log(rt, harts, &start.image, &log)
 }
 
 /// Times the joint replay of a recording of so many instructions of a generated program, single

@@ -5,9 +5,10 @@ ghost use Rattle.log_record.specs.Spelling.{is_marked};
 use crate::meaning_timing::{MIXED, program, start, sum_of, timed_decoded};
 use crate::rate::rate_since;
 use bn_base::end_mark::LIMIT;
-use bn_base::{Addr, EndMark, RawSettings, Register, Row, Settings};
+use bn_base::{Addr, EndMark, Image, RawSettings, Register, Row, Settings};
 use hart_replay::{ReplayError, Replayer};
 use log_file::{read_file, write_file};
+use log_order::KeptLog;
 use log_record::{Head, Record, write};
 use std::alloc::{AllocError, Global};
 use std::time::Instant;
@@ -131,6 +132,12 @@ fn timed(rt: &HostRuntime, replayer: &mut Replayer, count: u64) -> anyhow::Resul
     Ok(())
 }
 
+// Replays the interval of a log to its end.
+fn replay_log(rt: &HostRuntime, image: &Image, log: &KeptLog, count: u64) -> anyhow::Result<()> {
+    let mut replayer = Replayer::begin(rt.alloc(), image, log, 0, 0)?;
+    timed(rt, &mut replayer, count)
+}
+
 /// Times so many instructions of the loop with loads and stores, and then the replay of their
 /// interval from its log. Both come to the same state.
 pub fn replay(rt: &HostRuntime, count: u64) -> anyhow::Result<()>
@@ -138,7 +145,7 @@ pub fn replay(rt: &HostRuntime, count: u64) -> anyhow::Result<()>
 {
     let image = program(rt.alloc(), Vec::from_array(rt.alloc(), MIXED)?)?;
     timed_decoded(rt, "run", &image, count)?;
-    let log = read_file(rt.alloc(), &file(rt.alloc(), count)?)?;
-    let mut replayer = Replayer::begin(rt.alloc(), &image, &log, 0, 0)?;
-    timed(rt, &mut replayer, count)
+    let bytes = file(rt.alloc(), count)?;
+    let log = read_file(rt.alloc(), &bytes)?;
+    replay_log(rt, &image, &log, count)
 }

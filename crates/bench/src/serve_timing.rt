@@ -69,11 +69,24 @@ fn tell(rt: &HostRuntime, harts: HartId, rate: u64, ring: &Ring) -> anyhow::Resu
     Ok(())
 }
 
+// Times so many asks that a bus serves, and closes it.
+fn time_bus(
+    rt: &HostRuntime,
+    mut bus: Bus<LeanBook>,
+    image: &Image,
+    harts: HartId,
+    count: u64,
+) -> anyhow::Result<()> {
+    match rate_of(rt, &mut bus, image, harts, count) {
+        Ok(rate) => tell(rt, harts, rate, &bus.close().ring),
+        Err(error) => Err(error),
+    }
+}
+
 fn timed(rt: &HostRuntime, harts: HartId, count: u64) -> anyhow::Result<()> {
     let start = beginning(rt.alloc(), harts)?;
-    let mut bus = Bus::new(rt.alloc(), &start, LeanBook)?;
-    let rate = rate_of(rt, &mut bus, &start.image, harts, count)?;
-    tell(rt, harts, rate, &bus.close().ring)
+    let bus = Bus::new(rt.alloc(), &start, LeanBook)?;
+    time_bus(rt, bus, &start.image, harts, count)
 }
 
 /// Times so many served asks of one hart, and then of eight.
