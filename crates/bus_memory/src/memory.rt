@@ -15,7 +15,7 @@ use std::marker::Model;
 /// Contracts see the words from address 0 on, and of each page of 1,024 words whether it is made.
 /// A page that isn't made holds zeros, and takes next to no memory. A word is found by two
 /// look-ups in arrays.
-#[derive(Debug, Drop)]
+#[derive(Drop)]
 pub struct Memory {
     pages: Vec<Page>,
 }

@@ -12,7 +12,7 @@ pub(crate) const PAGE_BYTES: u32 = 4096;
 
 /// A page of 1,024 words. It holds them, or none, which stand for zeros. One that is made holds
 /// them, and may be written.
-#[derive(Debug, Drop)]
+#[derive(Drop)]
 pub(crate) struct Page {
     words: Vec<u32>,
     made: bool,

@@ -1,121 +1,141 @@
 // What no clause says: what real files hold, and that each adapter's calls succeed.
+ghost use Rattle.std.specs.Prelude.{◌<◌, length};
+
 use crate::file_store::FileStore;
 use crate::limits::most_in;
 use crate::streams::{Reading, Writing};
 use crate::words::words_of;
 use bn_outside::{Failed, LoadError, SaveError, Source, Store, read_to_end, send_all};
+use std::alloc::{AllocError, Global};
 use std::env::{Env, FillError};
+use std::fs::Files;
 use std::test::Fail;
 use std::{env, fs, process};
 
 // A load through the bound, which tells of the bytes that they are these.
-fn loads<S: Store>(
-    rt: &HostRuntime,
-    store: &mut S,
-    name: &str,
-    limit: usize,
-    bytes: &[u8],
-) -> bool {
-    match store.load(rt.alloc(), name, limit) {
+fn loads<S: Store>(alloc: Global, store: &mut S, name: &str, limit: usize, bytes: &[u8]) -> bool {
+    match store.load(alloc, name, limit) {
         Ok(found) => found.as_slice() == bytes,
         Err(_) => false,
     }
 }
 
 // Why a load through the bound gives no bytes.
-fn refusal<S: Store>(
-    rt: &HostRuntime,
-    store: &mut S,
-    name: &str,
-    limit: usize,
-) -> Option<LoadError> {
-    store.load(rt.alloc(), name, limit).err()
+fn refusal<S: Store>(alloc: Global, store: &mut S, name: &str, limit: usize) -> Option<LoadError> {
+    store.load(alloc, name, limit).err()
 }
 
-// The name of a file among those that may go at any time, which no other process has.
-fn file_name(rt: &HostRuntime, kind: &str) -> Result<String, Fail> {
-    let folder = env::temp_dir(rt)?;
-    let (folder, id) = (folder.as_str(), process::id(rt.process()));
-    Ok(format!(in rt.alloc(); "{folder}/host_outside_{kind}_{id}")?)
+// Whether these bytes are saved, and loaded where the limit is their length, and no shorter.
+fn is_kept<S: Store>(alloc: Global, store: &mut S, name: &str, bytes: &[u8]) -> bool
+    requires { 0 < length bytes.now }
+{
+    store.save(name, bytes) == Ok(())
+        && loads(alloc, store, name, bytes.len(), bytes)
+        && refusal(alloc, store, name, bytes.len() - 1) == Some(LoadError::TooLong)
 }
 
-// Whether bytes are saved under a name.
-fn saves<S: Store>(store: &mut S, name: &str, bytes: &[u8]) -> bool {
-    store.save(name, bytes).is_ok()
+// Whether what is a folder is neither loaded nor saved.
+fn is_refused<S: Store>(alloc: Global, store: &mut S, folder: &str) -> bool {
+    refusal(alloc, store, folder, 4) == Some(LoadError::Failed)
+        && store.save(folder, b"text") == Err(SaveError::Failed)
 }
 
-// Whether a load is refused as too long, missing and failed.
-fn refusals(rt: &HostRuntime, name: &str, limit: usize) -> [bool; 3] {
-    let found = refusal(rt, &mut FileStore::new(rt), name, limit);
-    [
-        matches!(found, Some(LoadError::TooLong)),
-        matches!(found, Some(LoadError::Missing)),
-        matches!(found, Some(LoadError::Failed)),
-    ]
+// The name of a file of this process in a folder.
+fn name_in(alloc: Global, folder: &str, word: &str, process: u32) -> Result<String, AllocError> {
+    format!(in alloc; "{folder}/host_outside_{word}_{process}")
+}
+
+// Whether a longer file is saved, and a shorter one in its place that is kept; whether it is missing once it was
+// removed; and whether a folder is refused.
+fn replaced<R: Files>(rt: &R, alloc: Global, name: &str, folder: &str) -> [bool; 5] {
+    let mut store = FileStore::new(rt);
+    let longer = store.save(name, b"a longer text") == Ok(());
+    let kept = is_kept(alloc, &mut store, name, b"text");
+    let removed = fs::remove_file(rt, name).is_ok();
+    let missing = refusal(alloc, &mut store, name, 4) == Some(LoadError::Missing);
+    let refused = is_refused(alloc, &mut store, folder);
+    [longer, kept, removed, missing, refused]
 }
 
 #[test]
 fn files_are_saved_whole_and_loaded_within_the_limit(rt: HostRuntime) -> Result<(), Fail> {
-    let name = file_name(&rt, "whole")?;
-    let name = name.as_str();
-    let mut store = FileStore::new(&rt);
-    assert!(rt; saves(&mut store, name, b"a longer text"));
-    assert!(rt; saves(&mut store, name, b"text"));
-    assert!(rt; loads(&rt, &mut store, name, 4, b"text"));
-    assert_eq!(rt; refusals(&rt, name, 3), [true, false, false]);
-    fs::remove_file(&rt, name)?;
-    assert_eq!(rt; refusals(&rt, name, 4), [false, true, false]);
+    let folder = env::temp_dir(&rt)?;
+    let name = name_in(
+        rt.alloc(),
+        folder.as_str(),
+        "test",
+        process::id(rt.process()),
+    )?;
+    let told = replaced(&rt, rt.alloc(), name.as_str(), folder.as_str());
+    assert_eq!(rt; told, [true; 5]);
     Ok(())
 }
 
-#[test]
-fn a_folder_is_no_file(rt: HostRuntime) -> Result<(), Fail> {
-    let folder = env::temp_dir(&rt)?;
-    let folder = folder.as_str();
-    assert_eq!(rt; refusals(&rt, folder, 4), [false, false, true]);
-    let saved = FileStore::new(&rt).save(folder, b"text");
-    assert!(rt; matches!(saved, Err(SaveError::Failed)));
-    Ok(())
+// Whether these bytes are kept in a file, and it is removed.
+fn kept_and_removed<R: Files>(rt: &R, alloc: Global, name: &str, bytes: &[u8]) -> bool
+    requires { 0 < length bytes.now }
+{
+    let mut store = FileStore::new(rt);
+    let kept = is_kept(alloc, &mut store, name, bytes);
+    fs::remove_file(rt, name).is_ok() && kept
 }
 
 #[test]
 fn a_file_of_several_pieces_is_loaded_whole(rt: HostRuntime) -> Result<(), Fail> {
-    let name = file_name(&rt, "pieces")?;
-    let name = name.as_str();
+    let folder = env::temp_dir(&rt)?;
+    let name = name_in(
+        rt.alloc(),
+        folder.as_str(),
+        "pieces",
+        process::id(rt.process()),
+    )?;
     let bytes = vec![in rt.alloc(); 7u8; 200_000]?;
-    let mut store = FileStore::new(&rt);
-    assert!(rt; saves(&mut store, name, &bytes));
-    assert!(rt; loads(&rt, &mut store, name, 200_000, &bytes));
-    assert_eq!(rt; refusals(&rt, name, 199_999), [true, false, false]);
-    fs::remove_file(&rt, name)?;
+    let well = kept_and_removed(&rt, rt.alloc(), name.as_str(), &bytes);
+    assert!(rt; well);
     Ok(())
+}
+
+// Whether a source gives the first byte of a text, and then its others.
+fn text_is_read(alloc: Global) -> bool {
+    let mut source = Reading::new(b"text".as_slice());
+    let first = source.read(&mut [0]) == Ok(1);
+    match read_to_end(alloc, &mut source, 0, 3) {
+        Ok(rest) => first && rest.as_slice() == b"ext".as_slice(),
+        Err(_) => false,
+    }
+}
+
+// Whether a folder can be opened, and not read.
+fn folder_is_not_read<R: Files>(rt: &R, folder: &str) -> bool {
+    match fs::open(rt, folder) {
+        Ok(file) => Reading::new(file).read(&mut [0]) == Err(Failed),
+        Err(_) => false,
+    }
 }
 
 #[test]
 fn a_source_gives_what_its_reader_gives(rt: HostRuntime) -> Result<(), Fail> {
-    let alloc = rt.alloc();
-    let mut source = Reading::new(b"text".as_slice());
-    assert_eq!(rt; source.read(&mut [0]), Ok(1));
-    assert_eq!(rt;
-        read_to_end(alloc, &mut source, 0, 3)?.as_slice(),
-        b"ext".as_slice()
-    );
-    // A folder can be opened, and not read.
     let folder = env::temp_dir(&rt)?;
-    let mut source = Reading::new(fs::open(&rt, folder.as_str())?);
-    assert_eq!(rt; source.read(&mut [0]), Err(Failed));
+    let refused = folder_is_not_read(&rt, folder.as_str());
+    assert!(rt; refused);
+    assert!(rt; text_is_read(rt.alloc()));
     Ok(())
 }
 
-#[test]
-fn a_sink_fails_where_its_writer_takes_nothing(rt: HostRuntime) -> Result<(), Fail> {
+// What a writer of six bytes takes of a text twice: whether it takes all of it, and whether it fails then; and its bytes.
+fn sent_twice() -> (bool, bool, [u8; 6]) {
     let mut room = [0; 6];
     let mut sink = Writing::new(room.as_mut_slice());
-    assert_eq!(rt; send_all(&mut sink, b"text"), Ok(()));
-    assert_eq!(rt; send_all(&mut sink, b"text"), Err(Failed));
+    let first = send_all(&mut sink, b"text") == Ok(());
+    let second = send_all(&mut sink, b"text") == Err(Failed);
     drop(sink);
-    assert_eq!(rt; room, *b"textte");
-    Ok(())
+    (first, second, room)
+}
+
+#[test]
+fn a_sink_fails_where_its_writer_takes_nothing(rt: HostRuntime) {
+    let told = sent_twice();
+    assert!(rt; told == (true, true, *b"textte"));
 }
 
 // A command line of two words.
@@ -147,13 +167,19 @@ impl Env for Line {
     }
 }
 
+// How many words a line has, and whether its second one is this.
+fn words_in(alloc: Global, second: &'static [u8]) -> Result<(usize, bool), AllocError> {
+    let words = words_of(&(Line { second }, alloc))?;
+    let is_second = words.get(1).is_some_and(|word| word.as_str() == "replay");
+    Ok((words.len(), is_second))
+}
+
 #[test]
-fn a_line_with_a_word_that_is_not_utf8_has_no_words(rt: HostRuntime) -> Result<(), Fail> {
-    let words = words_of(&(Line { second: b"replay" }, rt.alloc()))?;
-    assert_eq!(rt; words.len(), 2);
-    assert!(rt; words.get(1).is_some_and(|word| word.as_str() == "replay"));
-    let words = words_of(&(Line { second: b"\xff" }, rt.alloc()))?;
-    assert_eq!(rt; words.len(), 0);
+fn a_line_with_a_word_that_is_not_utf8_has_no_words(rt: HostRuntime) -> Result<(), AllocError> {
+    let told = words_in(rt.alloc(), b"replay")?;
+    let none = words_in(rt.alloc(), b"\xff")?;
+    assert!(rt; told == (2, true));
+    assert!(rt; none == (0, false));
     Ok(())
 }
 

@@ -1,9 +1,10 @@
 //! Ways back in the joint replay of a log that was made by hand.
 use crate::replaying::{end, header, log, program};
 use back_step::{Entry, Trail};
+use bn_base::Image;
 use joint_replay::Readiness;
-use std::alloc::Global;
-use std::process::Abort;
+use log_order::KeptLog;
+use std::alloc::{AllocError, Global};
 use std::test::*;
 
 // addi a0,zero,5; addi a7,zero,93; ecall
@@ -33,35 +34,47 @@ fn seek(trail: &mut Trail, to: u64) -> Option<u64> {
     }
 }
 
-// Three steps, and ways back to 1 and to 0, with a copy at each second position: the entry of the
-// second step, how many steps were taken again, and the position then.
-fn went(rt: &impl Abort, alloc: Global) -> (Option<Entry>, Option<u64>, Option<u64>, u64) {
-    let image = program(alloc, &EXIT).expect(rt, "memory");
-    let kept = log(rt, alloc, &[&header(0, 0, 0x54), &end(3, 3, 5)]);
-    match Trail::begin(alloc, &image, &kept, 2) {
+// Three steps, and ways back to 1 and to 0: the entry of the second step, how many steps were taken
+// again, and the position then.
+fn went(trail: &mut Trail) -> (Option<Entry>, Option<u64>, Option<u64>, u64) {
+    step(trail);
+    step(trail);
+    step(trail);
+    let entry = trail.entry(1);
+    let first = seek(trail, 1);
+    let second = seek(trail, 0);
+    (entry, first, second, trail.position())
+}
+
+// The same in the joint replay of a log, with a copy at each second position.
+fn went_in(
+    alloc: Global,
+    image: &Image,
+    kept: &KeptLog,
+) -> (Option<Entry>, Option<u64>, Option<u64>, u64) {
+    match Trail::begin(alloc, image, kept, 2) {
+        Ok(mut trail) => went(&mut trail),
         Err(_) => (None, None, None, 9),
-        Ok(mut trail) => {
-            step(&mut trail);
-            step(&mut trail);
-            step(&mut trail);
-            let entry = trail.entry(1);
-            let first = seek(&mut trail, 1);
-            let second = seek(&mut trail, 0);
-            (entry, first, second, trail.position())
-        }
+    }
+}
+
+// The same of the log that was made by hand.
+fn first_went(alloc: Global) -> Result<(Option<Entry>, Option<u64>, Option<u64>, u64), AllocError> {
+    let image = program(alloc, &EXIT)?;
+    match log(alloc, &[&header(0, 0, 0x54), &end(3, 3, 5)])? {
+        Some(kept) => Ok(went_in(alloc, &image, &kept)),
+        None => Ok((None, None, None, 8)),
     }
 }
 
 #[test]
-fn a_way_back_takes_the_steps_from_a_copy_again(rt: HostRuntime) {
-    let told = went(&rt, rt.alloc());
+fn a_way_back_takes_the_steps_from_a_copy_again(rt: HostRuntime) -> Result<(), AllocError> {
+    let told = first_went(rt.alloc())?;
     let entry = Entry {
         hart: 0,
         ic: 1,
         pc: Some(0x10058),
     };
-    assert_eq!(rt; told.0, Some(entry));
-    assert_eq!(rt; told.1, Some(1));
-    assert_eq!(rt; told.2, Some(0));
-    assert_eq!(rt; told.3, 0);
+    assert!(rt; told == (Some(entry), Some(1), Some(0), 0));
+    Ok(())
 }

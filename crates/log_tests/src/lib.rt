@@ -3,8 +3,6 @@
 #![tactic(auto)]
 
 #[cfg(test)]
-mod blocks;
-#[cfg(test)]
 mod files;
 #[cfg(test)]
 mod first_log;
@@ -18,3 +16,5 @@ mod records;
 mod replaying;
 #[cfg(test)]
 mod ring;
+#[cfg(test)]
+mod texts;

@@ -3,30 +3,29 @@ ghost use Rattle.log_record.specs.Spelling.{is_marked};
 
 use bn_base::{EndMark, Registers};
 use log_record::{Record, read, size, write};
-use std::process::Abort;
 use std::test::*;
 
-// A record is written as these bytes, and read from them, but not from fewer.
-fn check(rt: &impl Abort, entry: Record, bytes: &[u8])
+// Whether a record is written as these bytes, and read from them, but not from fewer.
+fn is_spelt(entry: Record, bytes: &[u8]) -> bool
     requires marked { IsTrue (is_marked 2 entry) }
     requires some { 0 < length bytes.now }
 {
-    assert_eq!(rt; write(&entry).as_slice(), bytes);
-    assert_eq!(rt; read(bytes), Some((entry, bytes.len())));
-    assert_eq!(rt; read(&bytes[..bytes.len() - 1]), None);
-    assert_eq!(rt; size(bytes[0]), Some(bytes.len()));
+    write(&entry).as_slice() == bytes
+        && read(bytes) == Some((entry, bytes.len()))
+        && read(&bytes[..bytes.len() - 1]).is_none()
+        && size(bytes[0]) == Some(bytes.len())
 }
 
-#[test]
-fn records_have_these_bytes(rt: HostRuntime) {
+fn first_load_is_spelt() -> bool {
     let first_load = Record::FirstLoad {
         hart: 7,
         skip: 0x0403_0201,
         value: 0xdead_beef,
     };
-    check(&rt, first_load, &[2, 7, 1, 2, 3, 4, 0xef, 0xbe, 0xad, 0xde]);
-    check(&rt, Record::ScOk { hart: 5 }, &[3, 5]);
-    check(&rt, Record::ScFailed { hart: 6 }, &[4, 6]);
+    is_spelt(first_load, &[2, 7, 1, 2, 3, 4, 0xef, 0xbe, 0xad, 0xde])
+}
+
+fn edge_is_spelt() -> bool {
     let edge = Record::Edge {
         hart: 1,
         ic: 0x0706_0504_0302_0100,
@@ -36,14 +35,26 @@ fn records_have_these_bytes(rt: HostRuntime) {
     let bytes = [
         5, 1, 0, 1, 2, 3, 4, 5, 6, 7, 2, 16, 17, 18, 19, 20, 21, 22, 23,
     ];
-    check(&rt, edge, &bytes);
+    is_spelt(edge, &bytes)
+}
+
+fn end_is_spelt() -> bool {
     let mark = EndMark {
         ic: 3,
         reason: 3,
         value: 5,
     };
     let end = Record::End { hart: 0, mark };
-    check(&rt, end, &[6, 0, 3, 0, 0, 0, 0, 0, 0, 0, 3, 5, 0, 0, 0]);
+    is_spelt(end, &[6, 0, 3, 0, 0, 0, 0, 0, 0, 0, 3, 5, 0, 0, 0])
+}
+
+#[test]
+fn records_have_these_bytes(rt: HostRuntime) {
+    assert!(rt; first_load_is_spelt());
+    assert!(rt; is_spelt(Record::ScOk { hart: 5 }, &[3, 5]));
+    assert!(rt; is_spelt(Record::ScFailed { hart: 6 }, &[4, 6]));
+    assert!(rt; edge_is_spelt());
+    assert!(rt; end_is_spelt());
 }
 
 // A Header has the number of the interval, the count, the pc and x1 to x31; x0 has no bytes.
@@ -70,25 +81,36 @@ fn headers_leave_x0_out(rt: HostRuntime) {
     bytes[23] = 1;
     bytes[142] = 4;
     bytes[143] = 3;
-    check(&rt, header, &bytes);
+    assert!(rt; is_spelt(header, &bytes));
 }
 
-// Which reasons are known, and which of them may have a value other than 0.
+// Whether an End with this reason, and this highest byte of its value, is read.
+fn is_read(reason: u8, highest: u8) -> bool {
+    read(&[6, 0, 3, 0, 0, 0, 0, 0, 0, 0, reason, 0, 0, 0, highest]).is_some()
+}
+
+// Which reasons are known.
+fn is_known(reason: u8) -> bool {
+    match reason {
+        1..=5 | 7 | 17..=25 => true,
+        _ => false,
+    }
+}
+
+// Which of them may have a value other than 0.
+fn is_valued(reason: u8) -> bool {
+    match reason {
+        2..=4 | 17 | 19..=25 => true,
+        _ => false,
+    }
+}
+
 #[test]
 fn reasons_are_these(rt: HostRuntime) {
-    let known = [1, 2, 3, 4, 5, 7, 17, 18, 19, 20, 21, 22, 23, 24, 25];
-    let valued = [2, 3, 4, 17, 19, 20, 21, 22, 23, 24, 25];
     for reason in 0..=255u8 {
-        let mut bytes = [6, 0, 3, 0, 0, 0, 0, 0, 0, 0, reason, 0, 0, 0, 0];
-        assert_eq!(rt;
-            read(&bytes).is_some(),
-            known.contains(&reason),
-            "reason {reason}"
-        );
-        bytes[14] = 1;
-        assert_eq!(rt;
-            read(&bytes).is_some(),
-            valued.contains(&reason),
+        assert!(rt; is_read(reason, 0) == is_known(reason), "reason {reason}");
+        assert!(rt;
+            is_read(reason, 1) == is_valued(reason),
             "reason {reason}, value 2^24"
         );
     }
@@ -96,11 +118,8 @@ fn reasons_are_these(rt: HostRuntime) {
 
 #[test]
 fn no_record_has_another_tag(rt: HostRuntime) {
-    assert_eq!(rt; size(0), None);
-    assert_eq!(rt; size(7), None);
-    assert_eq!(rt; read(&[0; 146]), None);
-    assert_eq!(rt; read(&[7; 146]), None);
-    assert_eq!(rt; read(&[]), None);
+    assert!(rt; size(0).is_none() && size(7).is_none());
+    assert!(rt; read(&[0; 146]).is_none() && read(&[7; 146]).is_none() && read(&[]).is_none());
 }
 
 // The size in memory of a record by itself; in a list it takes less.

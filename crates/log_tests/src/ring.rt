@@ -4,6 +4,7 @@ ghost use Rattle.log_record.specs.Spelling.{is_marked};
 use bn_base::Registers;
 use log_record::Record;
 use log_ring::Ring;
+use std::alloc::{AllocError, Global};
 use std::test::*;
 
 fn header(interval: u64) -> Record
@@ -29,46 +30,81 @@ fn append_all(ring: &mut Ring, entry: &Record, count: u32)
     }
 }
 
-// 146 + 1,623 * 10 bytes fit into 16,384; with ten more the header goes.
-#[test]
-fn the_oldest_record_goes_first(rt: HostRuntime) -> Result<(), Fail> {
+// How many bytes a ring's records have, and how many records it gave up.
+fn told(ring: &Ring) -> (usize, u64) {
+    (ring.len(), ring.dropped())
+}
+
+// Whether a ring's records have these bytes, in a copy and in its two pieces.
+fn holds(alloc: Global, ring: &Ring, bytes: &[u8]) -> Result<bool, AllocError> {
+    let copy = ring.copy(alloc)?;
+    let (front, back) = ring.pieces();
+    let pieces = front.len() + back.len() == bytes.len()
+        && bytes.starts_with(front)
+        && bytes.ends_with(back);
+    Ok(copy.as_slice() == bytes && pieces)
+}
+
+// Whether all of a ring's records are this FirstLoad.
+fn repeats(alloc: Global, ring: &Ring) -> Result<bool, AllocError> {
+    let copy = ring.copy(alloc)?;
+    let load = [2, 1, 2, 0, 0, 0, 3, 0, 0, 0];
+    Ok(copy.chunks(10).all(|part| part == load.as_slice()))
+}
+
+// What a ring of 16,384 bytes tells with a Header and 1,623 FirstLoads, and with one FirstLoad more; and whether it
+// was empty before these, and has FirstLoads alone after them.
+fn oldest_first(alloc: Global) -> Result<(bool, (usize, u64), (usize, u64), bool), AllocError> {
     let load = Record::FirstLoad {
         hart: 1,
         skip: 2,
         value: 3,
     };
-    let mut ring = Ring::new(rt.alloc(), 16_384)?;
-    assert!(rt; ring.is_empty());
+    let mut ring = Ring::new(alloc, 16_384)?;
+    let empty = ring.is_empty();
     ring.append(&header(0));
     append_all(&mut ring, &load, 1_623);
-    assert_eq!(rt; ring.len(), 16_376);
-    assert_eq!(rt; ring.dropped(), 0);
+    let full = told(&ring);
     ring.append(&load);
-    assert_eq!(rt; ring.len(), 16_240);
-    assert_eq!(rt; ring.dropped(), 1);
-    let bytes = ring.copy(rt.alloc())?;
-    for (at, byte) in bytes.iter().enumerate() {
-        let expected = [2, 1, 2, 0, 0, 0, 3, 0, 0, 0];
-        assert_eq!(rt; *byte, expected[at % 10], "at {at}");
-    }
+    let later = told(&ring);
+    let repeats = repeats(alloc, &ring)?;
+    Ok((empty, full, later, repeats))
+}
+
+// 146 + 1,623 * 10 bytes fit into 16,384; with ten more the header goes.
+#[test]
+fn the_oldest_record_goes_first(rt: HostRuntime) -> Result<(), AllocError> {
+    let told = oldest_first(rt.alloc())?;
+    assert!(rt; told == (true, (16_376, 0), (16_240, 1), true));
     Ok(())
+}
+
+// What a ring tells with 73 of the shortest records, and with the longest in place of them.
+fn room_of_73(ring: &mut Ring) -> ((usize, u64), (usize, u64))
+    requires few { ring.old.dropped + length ring.old.records < 2 ^ 59 }
+    ensures { ring.new.dropped + length ring.new.records ≡ ring.old.dropped + length ring.old.records + 74 }
+{
+    append_all(ring, &Record::ScOk { hart: 1 }, 73);
+    let full = told(ring);
+    ring.append(&header(0));
+    (full, told(ring))
+}
+
+// These in a ring of 146 bytes; and how many records it gave up with one of the shortest more, and whether it has that
+// one alone.
+fn longest_last(alloc: Global) -> Result<((usize, u64), (usize, u64), u64, bool), AllocError> {
+    let mut ring = Ring::new(alloc, 146)?;
+    let (full, later) = room_of_73(&mut ring);
+    ring.append(&Record::ScFailed { hart: 2 });
+    let dropped = ring.dropped();
+    let well = holds(alloc, &ring, &[4, 2])?;
+    Ok((full, later, dropped, well))
 }
 
 // The longest record takes the room of 73 of the shortest.
 #[test]
-fn a_header_takes_the_room_of_73_records(rt: HostRuntime) -> Result<(), Fail> {
-    let mut ring = Ring::new(rt.alloc(), 146)?;
-    append_all(&mut ring, &Record::ScOk { hart: 1 }, 73);
-    assert_eq!(rt; ring.len(), 146);
-    ring.append(&header(0));
-    assert_eq!(rt; ring.len(), 146);
-    assert_eq!(rt; ring.dropped(), 73);
-    ring.append(&Record::ScFailed { hart: 2 });
-    assert_eq!(rt; ring.copy(rt.alloc())?.as_slice(), [4, 2].as_slice());
-    let (front, back) = ring.pieces();
-    let mut bytes = Vec::from_slice(rt.alloc(), front)?;
-    bytes.extend_from_slice(back)?;
-    assert_eq!(rt; bytes.as_slice(), [4, 2].as_slice());
-    assert_eq!(rt; ring.dropped(), 74);
+fn a_header_takes_the_room_of_73_records(rt: HostRuntime) -> Result<(), AllocError> {
+    let told = longest_last(rt.alloc())?;
+    assert!(rt; told == ((146, 0), (146, 73), 74, true));
     Ok(())
 }

@@ -1,8 +1,9 @@
 -- Stretches and which of them are used.
-use Rattle.std.proofs.Common.{◌≡◌, ◌≢◌, ℕ, ◌+◌, ◌<◌, ◌≤◌, ◌∷◌, [], zero, suc, Bool, true, false, not, ◌&&◌, refl, inl, inr, arith, sym, ap, ◌∙◌, List, Some, slice_get, slice_set, slice_index, slice_index_or, length, subst, IsTrue, nat_lt, lt-ltb, ltb-true}
+use Rattle.std.proofs.Common.{◌≡◌, ◌≢◌, ℕ, ◌+◌, ◌<◌, ◌≤◌, ◌∷◌, [], zero, suc, Bool, true, false, cond, not, ◌&&◌, ◌++◌, refl, inl, inr, arith, sym, ap, ◌∙◌, List, Some, slice_get, slice_set, slice_index, slice_index_or, length, subst, IsTrue, nat_lt, lt-ltb, ltb-true}
 use Rattle.std.proofs.lemmas.Option.{slice_get-get_or}
 use Rattle.std.proofs.lemmas.Bool.{false≢true, cases_eq}
 use Rattle.std.proofs.lemmas.List.{get_or-set_same, get_or-set_other}
+use Rattle.vector_time.specs.Times.{count_of}
 use Rattle.race_log.specs.declared.stretches.Stretch.{Stretch}
 use Rattle.race_log.specs.Slots.{counts_of, is_marked, is_settled, AreSettledNow}
 use Rattle.race_log.proofs.PageLemmas.{get_here, get_there}
@@ -116,3 +117,22 @@ mark_stays table place i s low e t = elim (cases_eq i place) [
 -- the same where the next one is given by another number
 pub settled_grown : (table news : List Stretch) (next later i : ℕ) → next ≡ length table → later ≡ next → IsTrue (is_settled table next i) → IsTrue (is_settled news later i)
 settled_grown table news next later i full same t = subst (λ n. IsTrue (is_settled news n i)) (sym same) (settled_full table news next i full t)
+
+-- ---- a stretch at the end of the table
+
+-- one that knows of no point changes no counts
+pub push_counts : (b : Bool) (table news : List Stretch) (s : Stretch) → ((h : ℕ) → count_of s.times h ≡ 0) → news ≡ cond b (table ++ s ∷ []) table
+    → (i h : ℕ) → counts_of (slice_get news i) h ≡ counts_of (slice_get table i) h
+push_counts false table news s none e i h = ap (λ xs. counts_of (slice_get xs i) h) e
+push_counts true table news s none e i h = ap (λ xs. counts_of (slice_get xs i) h) e ∙ go table i
+  where
+    go : (xs : List Stretch) (j : ℕ) → counts_of (slice_get (xs ++ s ∷ []) j) h ≡ counts_of (slice_get xs j) h
+    go [] zero = none h
+    go [] (suc j) = refl
+    go (x ∷ xs) zero = refl
+    go (x ∷ xs) (suc j) = go xs j
+
+-- and the table has at most one more
+pub push_between : (b : Bool) (old new : ℕ) → new ≡ cond b (old + 1) old → (old ≤ new) × (new ≤ old + 1)
+push_between true old new e = (omega (arith, e), omega (arith, e))
+push_between false old new e = (omega (arith, e), omega (arith, e))

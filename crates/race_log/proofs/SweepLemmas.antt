@@ -1,5 +1,5 @@
 -- Accesses that are given up.
-use Rattle.std.proofs.Common.{◌≡◌, ◌≢◌, ℕ, zero, suc, ◌+◌, ◌*◌, ◌<◌, not, refl, arith, sym, ap, ap₂, ◌∙◌, List, [], ◌∷◌, ◌++◌, Option, Some, slice_get, length, subst, length-append}
+use Rattle.std.proofs.Common.{◌≡◌, ◌≢◌, ℕ, zero, suc, ◌+◌, ◌*◌, ◌<◌, Bool, true, false, cond, not, refl, arith, sym, ap, ap₂, ◌∙◌, List, [], ◌∷◌, ◌++◌, Option, Some, slice_get, length, subst, length-append}
 use Rattle.std.proofs.lemmas.List.{append_assoc, append-nil}
 use Rattle.std.proofs.lemmas.List.Elements.{filter-append}
 use Rattle.vector_time.specs.declared.times.Times.{Times}
@@ -68,6 +68,11 @@ gives_word times counts harts old mid new at a b write others reads below =
     gives_append times a b (write_in counts (slice_get old at)) (reads_in counts old (at + 1) 0 harts) (write_in counts (slice_get new at)) (reads_in counts new (at + 1) 0 harts)
     (subst (λ o. GivesUp times a (write_in counts (slice_get old at)) (write_in counts o)) (sym (below at (omega arith))) write)
     (subst (λ ks. GivesUp times b ks (reads_in counts new (at + 1) 0 harts)) (reads_same counts old mid (at + 1) 0 harts (λ j low high. others j (λ e. omega (arith, e, low)))) reads)
+
+-- nothing is kept where there is no word, and so nothing is left there
+pub uncovered_where : (times : Option Times) (b : Bool) (new old : List Kept) → new ≡ uncovered times old → cond b new [] ≡ uncovered times (cond b old [])
+uncovered_where times true new old e = e
+uncovered_where times false new old e = refl
 
 -- ---- sums
 

@@ -1,5 +1,5 @@
 -- The laws of points, edges, merges and kept accesses.
-use Rattle.std.specs.Prelude.{◌≡◌, ◌<◌, ◌≤◌, ◌⊎◌, ◌↔◌, ◌∷◌, ◌++◌, [], ℕ, Bool, List, IsTrue, slice_get, Some, Contains, AllPairs, filter, not}
+use Rattle.std.specs.Prelude.{◌≡◌, ◌≤◌, ◌⊎◌, ◌↔◌, ◌∷◌, ◌++◌, [], ℕ, Bool, List, IsTrue, slice_get, Some, Contains, filter, not}
 use Rattle.race_log.specs.Points.{Point, MeetAt}
 use Rattle.race_log.specs.Netzer.{AtPlaces, ProgramOrder, Conflict, Either, Chain, Before, IsEdge, Chosen, OtherThan, EndingAfter}
 use Rattle.race_log.specs.ByCount.{IsInOrder, IsPointAt, Leads, IsEdgeBetween, IsTimesOf}

@@ -39,7 +39,7 @@ use system_calls::{Kernel, Plan, plan};
 /// the whole input being given. An ask is answered in steps: `call` plans its system call, if it is one;
 /// `pages` and `stream_room` find the memory that the answer needs; and `answer` answers it without
 /// memory.
-#[derive(Debug, Drop)]
+#[derive(Drop)]
 pub struct Machine {
     memory: Memory,
     reservations: Reservations,

@@ -95,7 +95,7 @@ impl Want {
 }
 
 /// A hart that asks: its state before the asking instruction, and what it asks.
-#[derive(Clone, Copy, Debug, PartialEq, Eq, Drop)]
+#[derive(Clone, Copy, Drop)]
 pub struct Ask {
     pub state: HartState,
     pub want: Want,

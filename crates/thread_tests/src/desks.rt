@@ -1,38 +1,61 @@
 //! A hart at a desk in memory.
+ghost use Rattle.std.specs.Prelude.{◌≡◌, ◌≤◌, []};
+
 use bn_base::{Image, Segment, Settings};
 use bn_outside::OpenGate;
 use hart_worker::{MemoryDesk, OwnPlace, drive};
 use rv_meaning::{DecodedImage, Want};
-use std::alloc::Global;
+use std::alloc::{AllocError, Global};
 use std::sync::Wait;
-use std::test::Fail;
+use std::test::*;
 
-// What a hart did that loads the word at 00020000 twice, where the two words are given: how many turns it
-// took, the two registers, and whether its last ask was a load.
-fn loads(rt: &impl Wait, alloc: Global) -> Result<(usize, u32, u32, bool), Fail> {
-    let settings = Settings::default();
+// The program that loads the word at 00020000 twice and stays where it is then.
+fn program(alloc: Global, settings: &Settings) -> Result<Image, AllocError>
+    requires { 131072 ≤ settings.now.memory }
+{
     let words = Vec::from_array(alloc, [0x00020437, 0x00042283, 0x00042303, 0x0000006f])?;
     let segment = Segment::new(0x10054, words, 4, true, false);
     let segments = Vec::from_array(alloc, [segment])?;
-    let image = Image::new(segments, 0x10054, &settings);
-    let code = DecodedImage::new(alloc, &image)?;
-    let mut desk = MemoryDesk::new(alloc, Vec::from_array(alloc, [7, 8])?);
-    let first = OwnPlace::first(&settings, &image, 0);
-    let last = drive(rt, &mut desk, 0, &code, &settings, first, &OpenGate)?;
-    let loaded = match desk.turns().last() {
+    Ok(Image::new(segments, 0x10054, settings))
+}
+
+// Whether the last ask at a desk was a load.
+fn ends_with_a_load(desk: &MemoryDesk) -> bool {
+    match desk.turns().last() {
         Some(row) => matches!(&row.ask.want, Want::Load { .. }),
         None => false,
-    };
+    }
+}
+
+// What a hart did with a program at a desk: how many turns it took, registers 5 and 6, and whether its last ask was
+// a load.
+fn done(
+    rt: &impl Wait,
+    alloc: Global,
+    image: &Image,
+    settings: &Settings,
+    mut desk: MemoryDesk,
+) -> Result<(usize, u32, u32, bool), AllocError>
+    requires { desk.turns.items ≡ [] }
+{
+    let code = DecodedImage::new(alloc, image)?;
+    let first = OwnPlace::first(settings, image, 0);
+    let last = drive(rt, &mut desk, 0, &code, settings, first, &OpenGate)?;
     let x = last.state.x.contents();
-    Ok((desk.turns().len(), x[5], x[6], loaded))
+    Ok((desk.turns().len(), x[5], x[6], ends_with_a_load(&desk)))
+}
+
+// The same of that program, where the two words are given.
+fn loads(rt: &impl Wait, alloc: Global) -> Result<(usize, u32, u32, bool), AllocError> {
+    let settings = Settings::default();
+    let image = program(alloc, &settings)?;
+    let words = Vec::from_array(alloc, [7, 8])?;
+    done(rt, alloc, &image, &settings, MemoryDesk::new(alloc, words))
 }
 
 #[test]
-fn a_hart_takes_the_words_that_its_desk_gives(rt: HostRuntime) -> Result<(), Fail> {
-    let (turns, first, second, loaded) = loads(&rt, rt.alloc())?;
-    assert_eq!(rt; turns, 2);
-    assert_eq!(rt; first, 7);
-    assert_eq!(rt; second, 8);
-    assert!(rt; loaded);
+fn a_hart_takes_the_words_that_its_desk_gives(rt: HostRuntime) -> Result<(), AllocError> {
+    let told = loads(&rt, rt.alloc())?;
+    assert!(rt; told == (2, 7, 8, true));
     Ok(())
 }

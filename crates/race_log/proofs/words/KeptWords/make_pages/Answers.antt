@@ -1,9 +1,57 @@
-use Rattle.std.proofs.Common.{arith}
-use Rattle.std.proofs.lemmas.Bool.{false≢true}
-use Rattle.race_log.proofs.PagesLemmas.{room_at}
+use Rattle.std.proofs.Common.{◌∙◌, ◌+◌, ◌-◌, ◌*◌, ◌/◌, ◌%◌, ◌==◌, cond, [], arith, ap, length, inl, inr}
+use Rattle.std.proofs.lemmas.Bool.{false≢true, cases_eq}
+use Rattle.race_log.specs.Slots.{word_in}
+use Rattle.race_log.specs.Words.{stretch_counts, page_of, place_of}
+use Rattle.race_log.proofs.PagesLemmas.{room_at, room_is, some_page}
 use Rattle.race_log.proofs.words.KeptWords.make_pages.Goals as goal
+
+pub returns-in_err-reach-clause-ready : goal.returns-in_err-reach-clause-ready
+returns-in_err-reach-clause-ready c all =
+    let old = c.args.self.now in
+    let last = c.args.first + 4 * (c.args.count - 1) in
+    let room = room_is (page_of old last) old.harts (all (c.args.count - 1) (omega arith)) in
+    let low = some_page old.pages.items (last / 256) old.harts room in
+    absurd (false≢true (c.in_err-reach.ensures.ready (omega (arith, low, old.pages.ok))))
+
+pub loop-number-init : goal.loop-number-init
+loop-number-init c =
+    let old = c.args.self.now in
+    let new = c.reach.new.self in
+    record {
+      harts = c.reach.ensures.harts;
+      stretches = c.reach.ensures.stretches;
+      same = λ w.
+          ap (λ s. cond (w % 4 == 0) (word_in (stretch_counts s) new.harts (page_of new w) (place_of new.harts w)) []) c.reach.ensures.stretches
+          ∙ (ap (λ harts. cond (w % 4 == 0) (word_in (stretch_counts old.stretches) harts (page_of new w) (place_of harts w)) []) c.reach.ensures.harts
+          ∙ ap (λ page. cond (w % 4 == 0) (word_in (stretch_counts old.stretches) old.harts page (place_of old.harts w)) []) (c.reach.ensures.same (w / 256)));
+      stays = λ w room.
+          ap (λ page. length page == 64 * (new.harts + 1)) (c.reach.ensures.same (w / 256))
+          ∙ (ap (λ harts. length (page_of old w) == 64 * (harts + 1)) c.reach.ensures.harts ∙ room);
+      count = c.in_ok-reach.ensures.count;
+      made = λ w low high. absurd (omega (arith, low, high));
+    }
 
 pub returns-in_err-make_page-clause-ready : goal.returns-in_err-make_page-clause-ready
 returns-in_err-make_page-clause-ready c all =
     absurd (false≢true (c.in_err-make_page.ensures.ready (λ w e. c.loop-number.invariant.stays w
     (room_at c.args.self.now c.args.first c.args.count c.loop-number.number w c.requires.aligned (omega arith) all (omega arith) (omega arith) e))))
+
+pub loop-number-preserved : goal.loop-number-preserved
+loop-number-preserved c =
+    let before = c.loop-number.invariant in
+    let e = c.make_page.ensures in
+    record {
+      harts = e.harts ∙ before.harts;
+      stretches = e.stretches ∙ before.stretches;
+      same = λ w. e.same w ∙ before.same w;
+      stays = λ w room. e.stays w (before.stays w room);
+      count = omega (arith, e.count, before.count);
+      made = λ w low high. elim (cases_eq (w / 256) c.loop-number.number) [
+        | inl is ↦ c.in_ok-make_page.ensures.room w is
+        | inr apart ↦ e.stays w (before.made w low (omega (arith, high, apart)))
+      ];
+    }
+
+pub returns-clause-room : goal.returns-clause-room
+returns-clause-room c = λ i low.
+    c.loop-number.invariant.made (c.args.first + 4 * i) (omega arith) (omega (arith, low, c.loop-number-test.false, c.loop-number.auto.number-end))

@@ -1,9 +1,49 @@
-use Rattle.std.proofs.Common.{◌∙◌, ◌+◌, ◌*◌, ◌/◌, ◌==◌, ◌<◌, ℕ, arith, sym, ap, slice_get, slice_set, length, inl, inr}
+use Rattle.std.proofs.Common.{◌≡◌, ◌∙◌, ◌+◌, ◌*◌, ◌/◌, ◌%◌, ◌==◌, ◌<◌, ℕ, cond, [], List, arith, sym, ap, subst, slice_get, slice_set, length, inl, inr}
 use Rattle.std.proofs.lemmas.Bool.{cases_eq}
-use Rattle.race_log.specs.Slots.{slots_of}
-use Rattle.race_log.specs.Words.{stretch_counts}
-use Rattle.race_log.proofs.PagesLemmas.{page_at, page_here, page_there, page_sum}
+use Rattle.race_log.specs.declared.slot.Slot.{Slot}
+use Rattle.race_log.specs.Slots.{word_in, slots_of, IsSettledPage}
+use Rattle.race_log.specs.Sweep.{uncovered}
+use Rattle.race_log.specs.Words.{stretch_counts, place_of}
+use Rattle.race_log.proofs.PagesLemmas.{page_at, page_here, page_there, page_sum, full_set, settled_page_set}
+use Rattle.race_log.proofs.SweepLemmas.{uncovered_where}
 use Rattle.race_log.proofs.words.KeptWords.sweep_page.Goals as goal
+
+pub invariant_of-self : goal.invariant_of-self
+invariant_of-self c =
+    let old = c.args.self.now in
+    let table = old.stretches.table.items in
+    let low : c.args.number < length old.pages.items = omega (arith, c.requires, old.pages.ok) in
+    let was = page_at old.pages.items c.args.number c.index_mut.result.now low c.index_mut.ensures.value in
+    let v = c.give_up_page.new.page in
+    let len = c.give_up_page.ensures.len in
+    record {
+      few = old.few;
+      few_pages = old.few_pages;
+      full = full_set old.harts old.pages.items c.args.number v low
+          (λ more. len ∙ subst (λ (xs : List Slot). 0 < length xs → length xs ≡ 64 * (old.harts + 1)) was (old.full c.args.number) (omega (arith, more, len))) old.full;
+      settled = settled_page_set table old.stretches.next old.pages.items c.args.number v low
+          (c.give_up_page.ensures.settled table old.stretches.next old.stretches.first old.stretches.first (subst (IsSettledPage table old.stretches.next) was (old.settled c.args.number))) old.settled;
+    }
+
+pub returns-clause-kept : goal.returns-clause-kept
+returns-clause-kept c = λ w e.
+    let old = c.args.self.now in
+    let counts = stretch_counts old.stretches in
+    let low : c.args.number < length old.pages.items = omega (arith, c.requires, old.pages.ok) in
+    let was = page_at old.pages.items c.args.number c.index_mut.result.now low c.index_mut.ensures.value in
+    let v = c.give_up_page.new.page in
+    let place = place_of old.harts w in
+    let there = ap (λ n. slots_of (slice_get old.pages.items n)) e ∙ was in
+    let here = ap (λ n. slots_of (slice_get (slice_set old.pages.items c.args.number v) n)) e ∙ page_here old.pages.items c.args.number v low in
+    uncovered_where c.args.known.now (w % 4 == 0) (word_in counts old.harts (slots_of (slice_get (slice_set old.pages.items c.args.number v) (w / 256))) place)
+    (word_in counts old.harts (slots_of (slice_get old.pages.items (w / 256))) place)
+    (ap (λ xs. word_in counts old.harts xs place) here
+    ∙ (c.give_up_page.ensures.kept counts (w / 4 % 64) (omega arith) ∙ sym (ap (λ xs. uncovered c.args.known.now (word_in counts old.harts xs place)) there)))
+
+pub returns-clause-others : goal.returns-clause-others
+returns-clause-others c = λ w far.
+    let old = c.args.self.now in
+    ap (λ xs. cond (w % 4 == 0) (word_in (stretch_counts old.stretches) old.harts xs (place_of old.harts w)) []) (page_there old.pages.items c.args.number (w / 256) c.give_up_page.new.page far)
 
 pub returns-clause-gone : goal.returns-clause-gone
 returns-clause-gone c =
