@@ -27,7 +27,7 @@ use system_calls::Plan;
 
 /// A cache for each hart. Contracts see what each of them keeps, and say by `AreCaches` which
 /// histories, one for each hart, they stand for. Only `new` takes memory.
-#[derive(Debug, Drop)]
+#[derive(Drop)]
 pub struct Caches {
     of: Vec<Cache>,
 }

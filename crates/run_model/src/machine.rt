@@ -39,7 +39,7 @@ use system_calls::{Kernel, Plan, plan};
 /// the whole input being given. An ask is answered in steps: `call` plans its system call, if it is one;
 /// `pages` and `stream_room` find the memory that the answer needs; and `answer` answers it without
 /// memory.
-#[derive(Debug, Drop)]
+#[derive(Drop)]
 pub struct Machine {
     memory: Memory,
     reservations: Reservations,
@@ -63,7 +63,7 @@ impl Model for Machine {
 }
 
 /// The two output streams of a machine.
-#[derive(Debug, Drop)]
+#[derive(Drop)]
 pub struct Streams {
     pub out: Vec<u8>,
     pub err: Vec<u8>,
