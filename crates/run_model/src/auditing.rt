@@ -72,9 +72,16 @@ fn file_of(alloc: Global, from: &Start, list: &[u8]) -> Result<Vec<u8>, TurnErro
     ensures whole { OnOk result (list_error from.now.settings from.now.image from.now.input.items list.now ≡ None) }
     ensures refused { IfErr result (λ e. (e ≡ OutOfMemory) ⊎ (list_error from.now.settings from.now.image from.now.input.items list.now ≡ Some e)) }
 {
-    let recorded = whole_run(alloc, from, list)?.into_recorded();
-    let file = from.log_file(alloc, &recorded.ring)?;
-    Ok(file)
+    match whole_run(alloc, from, list) {
+        Err(error) => Err(error),
+        Ok(plain) => {
+            let recorded = plain.into_recorded();
+            match from.log_file(alloc, &recorded.ring) {
+                Err(_) => Err(TurnError::OutOfMemory),
+                Ok(file) => Ok(file),
+            }
+        }
+    }
 }
 
 // Whether a log is this file, or where they differ first.
