@@ -1,11 +1,11 @@
 //! The race report.
-ghost use Rattle.std.specs.Prelude.{◌≡◌, ◌<◌, length, None};
+ghost use Rattle.std.specs.Prelude.{◌≡◌, ◌<◌, ℕ, length, None};
 ghost use Rattle.std.specs.Option.{option_map};
 ghost use Rattle.joint_replay.specs.declared.kinds.Next.TheVariants.{Hart, NoneReady};
-ghost use Rattle.joint_replay.specs.Joining.{choice};
+ghost use Rattle.joint_replay.specs.Joining.{Joining, choice};
 ghost use Rattle.joint_replay.specs.Calls.{state_at};
 ghost use Rattle.race_report.specs.Points.{asked_by};
-ghost use Rattle.race_report.specs.Reports.{IsReport, Tells, Stops, Advances, TakesRow, HasState, Gathers, joint_of};
+ghost use Rattle.race_report.specs.Reports.{IsReport, Tells, Stops, Advances, TakesRow, HasState, IsOnTheWay, Gathers, GathersRest, joint_of};
 
 use crate::calls::Asked;
 use crate::error::RaceError;
@@ -99,6 +99,29 @@ fn stuck(alloc: Global, joint: &mut Joint) -> RaceError
     }
 }
 
+// Takes all steps that are left, the lowest ready hart's first, and takes in all rows.
+fn gather_all(
+    alloc: Global,
+    joint: &mut Joint,
+    gathered: &mut Gathered,
+    most: u64,
+) -> Result<(), RaceError>
+    requires { (harts : ℕ) × (first : Joining) × IsOnTheWay harts most first joint.old gathered.old }
+    ensures { GathersRest most joint.old gathered.old result gathered.new }
+{
+    runs_go_by_steps();
+    'steps: loop {
+        match joint.next() {
+            Next::AllDone => return Ok(()),
+            Next::NoneReady => return Err(stuck(alloc, joint)),
+            Next::Hart(hart) => match advance(joint, gathered, hart, most) {
+                Ok(()) => (),
+                Err(error) => return Err(error),
+            },
+        }
+    }
+}
+
 // Takes all steps, the lowest ready hart's first, and takes in all rows.
 fn gather(alloc: Global, image: &Image, log: &KeptLog, most: u64) -> Result<Gathered, RaceError>
     ensures { Gathers log.now.head.settings.harts most (joint_of image.now log.now) result }
@@ -111,16 +134,9 @@ fn gather(alloc: Global, image: &Image, log: &KeptLog, most: u64) -> Result<Gath
         Ok(gathered) => gathered,
         Err(_) => return Err(RaceError::OutOfMemory),
     };
-    runs_go_by_steps();
-    'steps: loop {
-        match joint.next() {
-            Next::AllDone => return Ok(gathered),
-            Next::NoneReady => return Err(stuck(alloc, &mut joint)),
-            Next::Hart(hart) => match advance(&mut joint, &mut gathered, hart, most) {
-                Ok(()) => (),
-                Err(error) => return Err(error),
-            },
-        }
+    match gather_all(alloc, &mut joint, &mut gathered, most) {
+        Ok(()) => Ok(gathered),
+        Err(error) => Err(error),
     }
 }
 
