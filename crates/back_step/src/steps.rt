@@ -15,6 +15,21 @@ pub(crate) fn is_due(every: u64, position: u64, copies: u64) -> bool
     position % every == 0 && position / every == copies
 }
 
+// Puts a copy behind others.
+fn push_copy<'a>(joint: &Joint<'a>, copies: &mut Vec<Joint<'a>>) -> Result<(), AllocError>
+    ensures ok { OnOk result (copies.new.items ≡ copies.old.items ++ joint.now ∷ []) }
+    ensures err { OnErr result (copies.new.items ≡ copies.old.items) }
+{
+    copies.reserve(1)?;
+    match joint.copy() {
+        Err(error) => Err(error),
+        Ok(copy) => {
+            copies.push_reserved(copy);
+            Ok(())
+        }
+    }
+}
+
 /// Puts a copy behind others, where one is due.
 pub(crate) fn keep_copy<'a>(
     joint: &Joint<'a>,
@@ -25,9 +40,10 @@ pub(crate) fn keep_copy<'a>(
     ensures err { OnErr result (copies.new.items ≡ copies.old.items) }
 {
     if due {
-        copies.push(joint.copy()?)?;
+        push_copy(joint, copies)
+    } else {
+        Ok(())
     }
-    Ok(())
 }
 
 /// Puts an entry behind others, where there is room for it.
@@ -52,14 +68,27 @@ fn take(joint: &mut Joint, hart: HartId) -> Result<(), AllocError>
     }
 }
 
+// Takes these steps, each once. It fails only where memory is wanting.
+fn take_all(joint: &mut Joint, steps: &[Entry]) -> Result<(), AllocError>
+    requires { CanTake joint.old steps.now }
+    ensures { OnOk result (LeadsBy joint.old steps.now joint.new) }
+{
+    for at in 0..steps.len() {
+        take(joint, steps[at].hart)?;
+    }
+    Ok(())
+}
+
 /// Copies a joint replay, and takes these steps from there, each once.
 pub(crate) fn replay<'a>(copy: &Joint<'a>, steps: &[Entry]) -> Result<Joint<'a>, AllocError>
     requires { CanTake copy.now steps.now }
     ensures { IfOk result (λ joint. LeadsBy copy.now steps.now joint) }
 {
-    let mut joint = copy.copy()?;
-    for at in 0..steps.len() {
-        take(&mut joint, steps[at].hart)?;
+    match copy.copy() {
+        Err(error) => Err(error),
+        Ok(mut joint) => match take_all(&mut joint, steps) {
+            Err(error) => Err(error),
+            Ok(()) => Ok(joint),
+        },
     }
-    Ok(joint)
 }

@@ -23,7 +23,7 @@ const EV_CURRENT: u8 = 1;
 const EM_RISCV: u16 = 243;
 
 /// The ELF header (ELF, "ELF Header"): the fields that loading needs.
-#[derive(Clone, Copy, Debug, PartialEq, Eq, Drop)]
+#[derive(Clone, Copy, Drop)]
 pub struct FileHeader {
     /// The class of the file, 32-bit or other.
     pub class: u8,

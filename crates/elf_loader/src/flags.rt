@@ -5,7 +5,7 @@ ghost use Rattle.elf_loader.specs.Segments.{has_flag};
 use bitflags::{Flag, Flags, bitflag_items};
 
 /// A segment's permissions (ELF, "Segment Permissions"). Other bits stay, and mean nothing.
-#[derive(Clone, Copy, Debug, PartialEq, Eq)]
+#[derive(Clone, Copy)]
 pub struct SegmentFlags(u32);
 
 bitflag_items! {
@@ -39,7 +39,7 @@ impl Flags for SegmentFlags {
 }
 
 /// What a program asks of the processor (RISC-V ELF psABI, "File Header", `e_flags`).
-#[derive(Clone, Copy, Debug, PartialEq, Eq)]
+#[derive(Clone, Copy)]
 pub struct ProcessorFlags(u32);
 
 bitflag_items! {

@@ -20,7 +20,7 @@ const PT_INTERP: u32 = 3;
 const LOWEST: u32 = 4096;
 
 /// A program header (ELF, "Program Header"): the fields that loading needs.
-#[derive(Clone, Copy, Debug, Default, PartialEq, Eq, Drop)]
+#[derive(Clone, Copy, Default, Drop)]
 pub struct ProgramHeader {
     /// Its place in the table, counted from 0.
     pub place: u64,

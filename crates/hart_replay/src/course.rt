@@ -491,15 +491,18 @@ impl<'a> Course<'a> {
         ensures words { IfOk result (λ c. c.words.pages ≡ self.now.words.pages) }
         ensures rest { IfOk result (λ c. c ≡ record self.now { words = c.words }) }
     {
-        Ok(Course {
-            image: self.image.copy(),
-            hart: self.hart,
-            mark: self.mark,
-            state: self.state,
-            loads: self.loads.copy(),
-            conditionals: self.conditionals.copy(),
-            words: self.words.copy()?,
-            called: self.called,
-        })
+        match self.words.copy() {
+            Err(error) => Err(error),
+            Ok(words) => Ok(Course {
+                image: self.image.copy(),
+                hart: self.hart,
+                mark: self.mark,
+                state: self.state,
+                loads: self.loads.copy(),
+                conditionals: self.conditionals.copy(),
+                words,
+                called: self.called,
+            }),
+        }
     }
 }

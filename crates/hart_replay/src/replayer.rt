@@ -143,9 +143,12 @@ impl<'a> Replayer<'a> {
     pub fn copy(&self) -> Result<Replayer<'a>, AllocError>
         ensures { IfOk result (λ r. r ≡ self.now) }
     {
-        Ok(Replayer {
-            course: self.course.copy()?,
-            over: self.over,
-        })
+        match self.course.copy() {
+            Err(error) => Err(error),
+            Ok(course) => Ok(Replayer {
+                course,
+                over: self.over,
+            }),
+        }
     }
 }

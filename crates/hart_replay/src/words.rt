@@ -146,9 +146,10 @@ impl Words {
         ensures { IfOk result (λ w. w.pages ≡ self.now.pages) }
     {
         let alloc = *self.pages.allocator();
-        Ok(Words {
-            directory: self.directory.copy()?,
-            pages: Vec::from_clones(alloc, &self.pages)?,
-        })
+        let pages = Vec::from_clones(alloc, &self.pages)?;
+        match self.directory.copy() {
+            Err(error) => Err(error),
+            Ok(directory) => Ok(Words { directory, pages }),
+        }
     }
 }

@@ -1,5 +1,5 @@
 //! The joint replay of all retained intervals.
-ghost use Rattle.std.specs.Prelude.{◌≡◌, ◌<◌, ◌+◌, ◌==◌, ◌&&◌, not, [], ◌∷◌, length, take, replicate, slice_get, Some, None, IfOk, IfErr, MatchOption};
+ghost use Rattle.std.specs.Prelude.{◌≡◌, ◌<◌, ◌+◌, ◌==◌, ◌&&◌, ◌++◌, not, [], ◌∷◌, length, take, replicate, slice_get, Some, None, IfOk, IfErr, OnOk, MatchOption};
 ghost use Rattle.joint_replay.specs.declared.kinds.Readiness.TheVariants.{Ready};
 ghost use Rattle.joint_replay.specs.declared.error.JointError.TheVariants.{OutOfMemory};
 ghost use Rattle.joint_replay.specs.Points.{sources_into};
@@ -9,6 +9,7 @@ ghost use Rattle.joint_replay.specs.Calls.{Steps, state_at, IsHalted, IsReached}
 ghost use Rattle.joint_replay.specs.Together.{ArePassed, AreBegun};
 ghost use Rattle.joint_replay.specs.Sources.{edges_into};
 ghost use Rattle.joint_replay.specs.Sound.{IsSound};
+ghost use Rattle.joint_replay.specs.Lanes.{lane_of};
 
 use crate::error::JointError;
 use crate::kinds::{Coming, Next, Readiness, Stepped};
@@ -331,15 +332,34 @@ impl<'a> Joint<'a> {
     pub fn copy(&self) -> Result<Joint<'a>, AllocError>
         ensures { IfOk result (λ j. j ≡ self.now) }
     {
-        Ok(Joint {
-            image: self.image,
-            log: self.log,
-            harts: self.harts,
-            lanes: copy_lanes(&self.lanes)?,
-            met: Vec::from_slice(*self.met.allocator(), &self.met)?,
-            memory: self.memory.copy()?,
-            refused: self.refused,
-        })
+        let met = Vec::from_slice(*self.met.allocator(), &self.met)?;
+        let memory = self.memory.copy()?;
+        match copy_lanes(&self.lanes) {
+            Err(error) => Err(error),
+            Ok(lanes) => Ok(Joint {
+                image: self.image,
+                log: self.log,
+                harts: self.harts,
+                lanes,
+                met,
+                memory,
+                refused: self.refused,
+            }),
+        }
+    }
+}
+
+// Puts a hart that stands where another does behind some.
+fn push_copy<'a>(lane: &Lane<'a>, copies: &mut Vec<Lane<'a>>) -> Result<(), AllocError>
+    ensures { OnOk result (copies.new.items ≡ copies.old.items ++ lane.now ∷ []) }
+{
+    copies.reserve(1)?;
+    match lane.copy() {
+        Err(error) => Err(error),
+        Ok(copy) => {
+            copies.push_reserved(copy);
+            Ok(())
+        }
     }
 }
 
@@ -349,7 +369,7 @@ fn copy_lanes<'a>(lanes: &Vec<Lane<'a>>) -> Result<Vec<Lane<'a>>, AllocError>
 {
     let mut copies = Vec::new(*lanes.allocator());
     for hart in 0..lanes.len() {
-        copies.push(lanes[hart].copy()?)?;
+        push_copy(&lanes[hart], &mut copies)?;
     }
     Ok(copies)
 }
@@ -359,6 +379,28 @@ fn none_met(alloc: Global, harts: usize) -> Result<Vec<usize>, AllocError>
     ensures { IfOk result (λ met. met.items ≡ replicate harts 0) }
 {
     vec![in alloc; 0; harts]
+}
+
+// Puts a hart before its first step behind some.
+fn push_begun<'a>(
+    alloc: Global,
+    image: &'a Image,
+    log: &'a KeptLog,
+    hart: HartId,
+    lanes: &mut Vec<Lane<'a>>,
+) -> Result<(), AllocError>
+    requires { hart < log.now.head.settings.harts }
+    ensures { OnOk result (lanes.new.items
+        ≡ lanes.old.items ++ (record { program = image.now; records = log.now.records; hart = hart; lane = lane_of image.now log.now.records hart }) ∷ []) }
+{
+    lanes.reserve(1)?;
+    match Lane::begin(alloc, image, log, hart) {
+        Err(error) => Err(error),
+        Ok(lane) => {
+            lanes.push_reserved(lane);
+            Ok(())
+        }
+    }
 }
 
 // All harts before their first steps.
@@ -371,7 +413,7 @@ fn all_lanes<'a>(
 {
     let mut lanes = Vec::new(alloc);
     for hart in 0..log.head().settings.harts() {
-        lanes.push(Lane::begin(alloc, image, log, hart)?)?;
+        push_begun(alloc, image, log, hart, &mut lanes)?;
     }
     Ok(lanes)
 }

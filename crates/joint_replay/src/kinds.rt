@@ -5,7 +5,7 @@ ghost use Rattle.joint_replay.specs.Lanes.{count_of};
 use bn_base::{EndMark, HartId, Ic, Row};
 
 /// What comes next of a hart: an ordering point, a row, or the end of an interval.
-#[derive(Clone, Copy, Debug, PartialEq, Eq, Drop)]
+#[derive(Clone, Copy, Drop)]
 pub enum Coming {
     PassAt { ic: Ic },
     RowAt { ic: Ic },
@@ -26,7 +26,7 @@ impl Coming {
 }
 
 /// Whether a hart can take its next step.
-#[derive(Clone, Copy, Debug, PartialEq, Eq, Drop)]
+#[derive(Clone, Copy, Drop)]
 pub enum Readiness {
     Ready,
     /// An instruction of another hart has to be done first.
@@ -35,7 +35,7 @@ pub enum Readiness {
 }
 
 /// What a step did.
-#[derive(Clone, Copy, Debug, PartialEq, Eq, Drop)]
+#[derive(Clone, Copy, Drop)]
 pub enum Stepped {
     Passed {
         hart: HartId,
@@ -50,7 +50,7 @@ pub enum Stepped {
 }
 
 /// The lowest hart that is ready.
-#[derive(Clone, Copy, Debug, PartialEq, Eq, Drop)]
+#[derive(Clone, Copy, Drop)]
 pub enum Next {
     Hart(HartId),
     AllDone,

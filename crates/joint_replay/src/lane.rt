@@ -113,11 +113,14 @@ impl<'a> Course<'a> {
     fn copy(&self) -> Result<Course<'a>, AllocError>
         ensures { IfOk result (λ c. c ≡ self.now) }
     {
-        Ok(Course {
-            number: self.number,
-            replayer: self.replayer.copy()?,
-            faulted: self.faulted,
-        })
+        match self.replayer.copy() {
+            Err(error) => Err(error),
+            Ok(replayer) => Ok(Course {
+                number: self.number,
+                replayer,
+                faulted: self.faulted,
+            }),
+        }
     }
 }
 
@@ -257,16 +260,22 @@ impl<'a> Lane<'a> {
     pub(crate) fn copy(&self) -> Result<Lane<'a>, AllocError>
         ensures { IfOk result (λ l. l ≡ self.now) }
     {
-        Ok(Lane {
-            alloc: self.alloc,
-            image: self.image,
-            log: self.log,
-            hart: self.hart,
-            sources: self.sources.copy()?,
-            points: copy_points(&self.points)?,
-            course: copy_course(&self.course)?,
-            later: Vec::from_slice(self.alloc, &self.later)?,
-        })
+        let later = Vec::from_slice(self.alloc, &self.later)?;
+        let sources = self.sources.copy()?;
+        let points = copy_points(&self.points)?;
+        match copy_course(&self.course) {
+            Err(error) => Err(error),
+            Ok(course) => Ok(Lane {
+                alloc: self.alloc,
+                image: self.image,
+                log: self.log,
+                hart: self.hart,
+                sources,
+                points,
+                course,
+                later,
+            }),
+        }
     }
 }
 

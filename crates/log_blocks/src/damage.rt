@@ -44,7 +44,7 @@ impl From<AllocError> for SalvageError {
 }
 
 /// Why nothing is salvaged of a file.
-#[derive(Clone, Copy, Debug, PartialEq, Eq, Drop, Error)]
+#[derive(Clone, Copy, Debug, Drop, Error)]
 pub enum SalvageError {
     /// The head, or the records of the last good blocks, are refused.
     #[error("{0}")]

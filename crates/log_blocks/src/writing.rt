@@ -4,7 +4,8 @@ ghost use Rattle.std.specs.List.{flat_map, AllByRecursion};
 ghost use Rattle.log_record.specs.declared.record.Record.{Record};
 ghost use Rattle.log_record.specs.Spelling.{bytes_of, Fits};
 ghost use Rattle.log_order.specs.Content.{content};
-ghost use Rattle.log_file.specs.Layout.{settings_bytes, head_bytes2, file_bytes2};
+ghost use Rattle.le_numbers.specs.Numbers.{number_bytes};
+ghost use Rattle.log_file.specs.Layout.{magic, head_bytes2, file_bytes2};
 ghost use Rattle.log_file.specs.Blocks.{blocks_of, all_sealed};
 ghost use Rattle.log_blocks.specs.Pieces.{piece, piece_bytes};
 
@@ -20,44 +21,65 @@ use log_record::{Head, write};
 use record_list::RecordList;
 use std::alloc::{AllocError, Global};
 
-// The part of a head that both versions have, in room for so many bytes.
-#[tactic(auto, unfolding(log_file::specs::Layout::magic, log_file::specs::Layout::settings_bytes))]
-fn settings_part(alloc: Global, settings: &Settings, room: usize) -> Result<Vec<u8>, AllocError>
-    ensures { IfOk result (λ v. v.items ≡ settings_bytes 2 settings.now) }
+// Appends what begins each file, the version, and the settings up to the limit.
+#[tactic(auto, unfolding(log_file::specs::Layout::magic))]
+fn push_first(out: &mut Vec<u8>, settings: &Settings) -> Result<(), AllocError>
+    ensures { OnOk result (out.new.items ≡ out.old.items ++ (magic ++ number_bytes 4 2
+        ++ number_bytes 4 settings.now.harts ++ number_bytes 4 settings.now.interval ++ number_bytes 8 settings.now.limit)) }
 {
-    let mut out = Vec::with_capacity(alloc, room)?;
     out.extend_from_slice(MAGIC)?;
-    push_u32(&mut out, VERSION)?;
-    push_u32(&mut out, settings.harts() as u32)?;
-    push_u32(&mut out, settings.interval())?;
-    push_u64(&mut out, settings.limit())?;
-    push_u32(&mut out, settings.log_size())?;
-    push_u32(&mut out, settings.memory())?;
-    push_u32(&mut out, settings.sets())?;
-    push_u32(&mut out, settings.ways())?;
-    push_u32(&mut out, settings.line())?;
-    Ok(out)
+    push_u32(out, VERSION)?;
+    push_u32(out, settings.harts() as u32)?;
+    push_u32(out, settings.interval())?;
+    push_u64(out, settings.limit())
 }
 
-// The head before its digest.
-#[tactic(auto, unfolding(log_file::specs::Layout::head_bytes2))]
-fn head_part(
-    alloc: Global,
-    head: &Head,
+// Appends the settings from the log's size on that both versions have.
+fn push_sizes(out: &mut Vec<u8>, settings: &Settings) -> Result<(), AllocError>
+    ensures { OnOk result (out.new.items ≡ out.old.items ++ (number_bytes 4 settings.now.log_size ++ number_bytes 4 settings.now.memory
+        ++ number_bytes 4 settings.now.sets ++ number_bytes 4 settings.now.ways ++ number_bytes 4 settings.now.line)) }
+{
+    push_u32(out, settings.log_size())?;
+    push_u32(out, settings.memory())?;
+    push_u32(out, settings.sets())?;
+    push_u32(out, settings.ways())?;
+    push_u32(out, settings.line())
+}
+
+// Appends the format and the second level.
+fn push_second(out: &mut Vec<u8>, settings: &Settings) -> Result<(), AllocError>
+    ensures { OnOk result (out.new.items ≡ out.old.items ++ (number_bytes 4 settings.now.format
+        ++ number_bytes 4 settings.now.sets2 ++ number_bytes 4 settings.now.ways2)) }
+{
+    push_u32(out, settings.format() as u32)?;
+    push_u32(out, settings.second_sets())?;
+    push_u32(out, settings.second_ways())
+}
+
+// Appends what follows the settings: the program's digest, how many records were given up, and how many
+// bytes the kept ones have.
+fn push_rest(
+    out: &mut Vec<u8>,
+    digest: &[u8; 32],
     dropped: u64,
     size: u32,
-    room: usize,
-) -> Result<Vec<u8>, AllocError>
-    ensures { IfOk result (λ v. v.items ≡ head_bytes2 head.now dropped size) }
+) -> Result<(), AllocError>
+    ensures { OnOk result (out.new.items ≡ out.old.items ++ (digest.now ++ number_bytes 8 dropped ++ number_bytes 4 size)) }
 {
-    let mut out = settings_part(alloc, &head.settings, room)?;
-    push_u32(&mut out, head.settings.format() as u32)?;
-    push_u32(&mut out, head.settings.second_sets())?;
-    push_u32(&mut out, head.settings.second_ways())?;
-    out.extend_from_slice(&head.digest)?;
-    push_u64(&mut out, dropped)?;
-    push_u32(&mut out, size)?;
-    Ok(out)
+    out.extend_from_slice(digest)?;
+    push_u64(out, dropped)?;
+    push_u32(out, size)
+}
+
+// Appends the head before its digest.
+#[tactic(auto, unfolding(log_file::specs::Layout::head_bytes2, log_file::specs::Layout::settings_bytes))]
+fn push_head(out: &mut Vec<u8>, head: &Head, dropped: u64, size: u32) -> Result<(), AllocError>
+    ensures { OnOk result (out.new.items ≡ out.old.items ++ head_bytes2 head.now dropped size) }
+{
+    push_first(out, &head.settings)?;
+    push_sizes(out, &head.settings)?;
+    push_second(out, &head.settings)?;
+    push_rest(out, &head.digest, dropped, size)
 }
 
 // Appends a block: its records' bytes, how many records are before it, how many bytes behind it, and
@@ -121,7 +143,8 @@ pub fn write_file2(
     let _bound = head.settings.log_size();
     let size = records.len();
     let room = HEAD_SIZE + size + SEAL_SIZE * (1 + size / 3950);
-    let mut out = head_part(alloc, head, dropped, size as u32, room)?;
+    let mut out = Vec::with_capacity(alloc, room)?;
+    push_head(&mut out, head, dropped, size as u32)?;
     let digest = digest_of(&out);
     out.extend_from_slice(&digest)?;
     push_blocks(&mut out, &digest, dropped, records)?;

@@ -24,7 +24,7 @@ use log_record::laws::tags_tell_sizes;
 use log_record::{Head, Record, read_as, size};
 
 /// What is counted of a log.
-#[derive(Clone, Copy, Debug, PartialEq, Eq, Drop)]
+#[derive(Clone, Copy, Debug, Drop)]
 pub struct LogCounts {
     /// How many records it keeps.
     pub records: u64,
@@ -38,7 +38,7 @@ pub struct LogCounts {
 
 /// What a walk along records found: how many they are, how many of them are Headers, and the first
 /// of them that breaks a rule.
-#[derive(Clone, Copy, Debug, PartialEq, Eq, Drop)]
+#[derive(Clone, Copy, Drop)]
 pub struct Walked {
     records: u64,
     headers: u64,
@@ -46,7 +46,7 @@ pub struct Walked {
 }
 
 /// What is counted of records, and where they break the order first.
-#[derive(Clone, Copy, Debug, PartialEq, Eq, Drop)]
+#[derive(Clone, Copy, Drop)]
 pub struct Tally {
     /// What is counted of them.
     pub counts: LogCounts,

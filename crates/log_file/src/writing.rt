@@ -1,6 +1,7 @@
 // Writing a file.
-ghost use Rattle.std.specs.Prelude.{◌≡◌, ◌≤◌, ◌++◌, length, IfOk};
-ghost use Rattle.log_file.specs.Layout.{settings_bytes, signed_bytes, spelling};
+ghost use Rattle.std.specs.Prelude.{◌≡◌, ◌<◌, ◌≤◌, ◌++◌, ◌^◌, length, IfOk, OnOk};
+ghost use Rattle.le_numbers.specs.Numbers.{number_bytes};
+ghost use Rattle.log_file.specs.Layout.{magic, settings_bytes, signed_bytes, spelling};
 
 use crate::head::{DIGEST_SIZE, HEAD_SIZE, MAGIC, VERSION, digest_of};
 use bn_base::Settings;
@@ -8,23 +9,60 @@ use le_numbers::{push_u32, push_u64};
 use log_record::Head;
 use std::alloc::{AllocError, Global};
 
-#[tactic(auto, unfolding(crate::specs::Layout::magic, crate::specs::Layout::settings_bytes))]
+// Appends what begins each file, the version, and the settings up to the limit.
+#[tactic(auto, unfolding(crate::specs::Layout::magic))]
+fn push_first(out: &mut Vec<u8>, settings: &Settings) -> Result<(), AllocError>
+    ensures { OnOk result (out.new.items ≡ out.old.items ++ (magic ++ number_bytes 4 1
+        ++ number_bytes 4 settings.now.harts ++ number_bytes 4 settings.now.interval ++ number_bytes 8 settings.now.limit)) }
+{
+    out.extend_from_slice(MAGIC)?;
+    push_u32(out, VERSION)?;
+    push_u32(out, settings.harts() as u32)?;
+    push_u32(out, settings.interval())?;
+    push_u64(out, settings.limit())
+}
+
+// Appends the settings from the log's size on.
+fn push_sizes(out: &mut Vec<u8>, settings: &Settings) -> Result<(), AllocError>
+    ensures { OnOk result (out.new.items ≡ out.old.items ++ (number_bytes 4 settings.now.log_size ++ number_bytes 4 settings.now.memory
+        ++ number_bytes 4 settings.now.sets ++ number_bytes 4 settings.now.ways ++ number_bytes 4 settings.now.line)) }
+{
+    push_u32(out, settings.log_size())?;
+    push_u32(out, settings.memory())?;
+    push_u32(out, settings.sets())?;
+    push_u32(out, settings.ways())?;
+    push_u32(out, settings.line())
+}
+
 // The part of a head up to the settings, in room for so many bytes.
+#[tactic(auto, unfolding(crate::specs::Layout::settings_bytes))]
 fn settings_part(alloc: Global, settings: &Settings, room: usize) -> Result<Vec<u8>, AllocError>
     ensures { IfOk result (λ v. v.items ≡ settings_bytes 1 settings.now) }
 {
     let mut out = Vec::with_capacity(alloc, room)?;
-    out.extend_from_slice(MAGIC)?;
-    push_u32(&mut out, VERSION)?;
-    push_u32(&mut out, settings.harts() as u32)?;
-    push_u32(&mut out, settings.interval())?;
-    push_u64(&mut out, settings.limit())?;
-    push_u32(&mut out, settings.log_size())?;
-    push_u32(&mut out, settings.memory())?;
-    push_u32(&mut out, settings.sets())?;
-    push_u32(&mut out, settings.ways())?;
-    push_u32(&mut out, settings.line())?;
+    push_first(&mut out, settings)?;
+    push_sizes(&mut out, settings)?;
     Ok(out)
+}
+
+// Appends what stands between the settings and the last digest.
+fn push_rest(
+    out: &mut Vec<u8>,
+    head: &Head,
+    dropped: u64,
+    front: &[u8],
+    back: &[u8],
+) -> Result<(), AllocError>
+    requires { length (front.now ++ back.now) < 2 ^ 32 }
+    ensures { OnOk result (out.new.items ≡ out.old.items
+        ++ (head.now.digest ++ number_bytes 8 dropped ++ number_bytes 4 (length (front.now ++ back.now)) ++ (front.now ++ back.now))) }
+{
+    let size = front.len() + back.len();
+    out.extend_from_slice(&head.digest)?;
+    push_u64(out, dropped)?;
+    push_u32(out, size as u32)?;
+    out.extend_from_slice(front)?;
+    out.extend_from_slice(back)
 }
 
 /// The file of version 1 with this head, so many dropped records and the bytes of these kept ones,
@@ -44,11 +82,7 @@ pub fn write_file(
     let _bound = head.settings.log_size();
     let size = front.len() + back.len();
     let mut out = settings_part(alloc, &head.settings, HEAD_SIZE + size + DIGEST_SIZE)?;
-    out.extend_from_slice(&head.digest)?;
-    push_u64(&mut out, dropped)?;
-    push_u32(&mut out, size as u32)?;
-    out.extend_from_slice(front)?;
-    out.extend_from_slice(back)?;
+    push_rest(&mut out, head, dropped, front, back)?;
     let digest = digest_of(&out);
     out.extend_from_slice(&digest)?;
     Ok(out)

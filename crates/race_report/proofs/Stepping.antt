@@ -31,7 +31,7 @@ use Rattle.log_record.specs.declared.record.Record.{Record}
 use Rattle.race_report.specs.declared.race.Race.{Race}
 use Rattle.race_report.specs.Races.{races_of}
 use Rattle.race_report.specs.Found.{total}
-use Rattle.race_report.specs.Reports.{IsReport, Tells, Stops, TakesRow, Advances, HasState, IsOnTheWay, Gathers, joint_of}
+use Rattle.race_report.specs.Reports.{IsReport, Tells, Stops, TakesRow, Advances, HasState, IsOnTheWay, Gathers, GathersRest, GathersInto, joint_of}
 
 -- ---- a step that did no row
 
@@ -218,3 +218,8 @@ reported harts most count r g races items s e low f all =
     let here = s.1.gathered (let same = e in omega (arith, same, low)) in
     let size = total_is harts (points_of r.walk.taken) g here in
     (s.0, (omega (arith, size, e, low)), f ∙ all harts (points_of r.walk.taken) here)
+
+-- what the steps that are left give is what all give
+pub rest_into : (harts most : ℕ) (first now : Joining) (g : Gathered) (result : Result (Unit {0}) RaceError) (next : Gathered) → IsOnTheWay harts most first now g → GathersRest most now g result next → GathersInto harts most (run_all first) result next
+rest_into harts most first now g (Ok u) next w r = r harts first w
+rest_into harts most first now g (Err e) next w r = r harts first w

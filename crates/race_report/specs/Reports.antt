@@ -79,3 +79,13 @@ Gathers harts most r (Ok g) = (r.stopped ≡ None) × IsState harts most (points
 Gathers harts most r (Err (Joint e)) = (r.stopped ≡ Some e) × (e ≢ why.OutOfMemory)
 Gathers harts most r (Err (TooMany max)) = ⊥
 Gathers harts most r (Err OutOfMemory) = Unit {0}
+
+-- the same of the steps that are left, from wherever the way began
+abbrev pub GathersRest : ℕ → Joining → Gathered → Result (Unit {0}) RaceError → Gathered → Type 0
+GathersRest most now g (Ok u) next = (harts : ℕ) (first : Joining) → IsOnTheWay harts most first now g → Gathers harts most (run_all first) (Ok next)
+GathersRest most now g (Err e) next = (harts : ℕ) (first : Joining) → IsOnTheWay harts most first now g → Gathers harts most (run_all first) (Err e)
+
+-- ... of all steps of a joint replay
+abbrev pub GathersInto : ℕ → ℕ → Ran → Result (Unit {0}) RaceError → Gathered → Type 0
+GathersInto harts most r (Ok u) g = Gathers harts most r (Ok g)
+GathersInto harts most r (Err e) g = Gathers harts most r (Err e)

@@ -9,7 +9,7 @@ use bn_base::{Addr, HartState, Register, Row};
 
 /// What a hart's registers ask of a system call: its number (a7), and its first two arguments (a0
 /// and a1), which are a stream and a buffer.
-#[derive(Clone, Copy, Debug, PartialEq, Eq, Drop)]
+#[derive(Clone, Copy, Drop)]
 pub(crate) struct Asked {
     number: u32,
     stream: u32,

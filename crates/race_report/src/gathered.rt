@@ -35,13 +35,16 @@ impl Gathered {
         ensures { IfOk result (λ g. IsGathered settings.now.harts [] g) }
     {
         let harts = settings.harts();
+        let all = Track::new(alloc, harts)?;
+        let written = Track::new(alloc, harts)?;
+        let shadow = Shadow::new(alloc, settings)?;
         Ok(Gathered {
             harts,
             rows: Vec::new(alloc),
             owners: Vec::new(alloc),
-            all: Track::new(alloc, harts)?,
-            written: Track::new(alloc, harts)?,
-            shadow: Shadow::new(alloc, settings)?,
+            all,
+            written,
+            shadow,
             found: Found::new(alloc),
         })
     }

@@ -2,7 +2,7 @@
 use bn_base::Addr;
 
 /// A later place that is a race with some place, and the race's word.
-#[derive(Clone, Copy, Debug, PartialEq, Eq, Drop)]
+#[derive(Clone, Copy, Drop)]
 pub struct Meeting {
     pub second: u32,
     pub word: Addr,

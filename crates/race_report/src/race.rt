@@ -3,7 +3,7 @@ use bn_base::{Addr, Row};
 
 /// Two instructions of different harts that no synchronisation orders, and that access a common word
 /// which one of them writes.
-#[derive(Clone, Copy, Debug, PartialEq, Eq, Drop)]
+#[derive(Clone, Copy, Drop)]
 pub struct Race {
     /// The one that the joint replay does first.
     pub first: Row,

@@ -1,11 +1,12 @@
 //! The race report.
-ghost use Rattle.std.specs.Prelude.{◌≡◌, ◌<◌, length, None};
+ghost use Rattle.std.specs.Prelude.{◌≡◌, ◌<◌, [], ℕ, length, None};
 ghost use Rattle.std.specs.Option.{option_map};
 ghost use Rattle.joint_replay.specs.declared.kinds.Next.TheVariants.{Hart, NoneReady};
-ghost use Rattle.joint_replay.specs.Joining.{choice};
+ghost use Rattle.joint_replay.specs.Joining.{Joining, choice};
 ghost use Rattle.joint_replay.specs.Calls.{state_at};
 ghost use Rattle.race_report.specs.Points.{asked_by};
-ghost use Rattle.race_report.specs.Reports.{IsReport, Tells, Stops, Advances, TakesRow, HasState, Gathers, joint_of};
+ghost use Rattle.race_report.specs.Reports.{IsReport, Tells, Stops, Advances, TakesRow, HasState, IsOnTheWay, Gathers, GathersRest, GathersInto, joint_of};
+ghost use Rattle.race_report.specs.Gathering.{IsGathered};
 
 use crate::calls::Asked;
 use crate::error::RaceError;
@@ -99,28 +100,57 @@ fn stuck(alloc: Global, joint: &mut Joint) -> RaceError
     }
 }
 
-// Takes all steps, the lowest ready hart's first, and takes in all rows.
-fn gather(alloc: Global, image: &Image, log: &KeptLog, most: u64) -> Result<Gathered, RaceError>
-    ensures { Gathers log.now.head.settings.harts most (joint_of image.now log.now) result }
+// Takes all steps that are left, the lowest ready hart's first, and takes in all rows.
+fn gather_all(
+    alloc: Global,
+    joint: &mut Joint,
+    gathered: &mut Gathered,
+    most: u64,
+) -> Result<(), RaceError>
+    requires { (harts : ℕ) × (first : Joining) × IsOnTheWay harts most first joint.old gathered.old }
+    ensures { GathersRest most joint.old gathered.old result gathered.new }
 {
-    let mut joint = match Joint::begin(alloc, image, log) {
-        Ok(joint) => joint,
-        Err(_) => return Err(RaceError::OutOfMemory),
-    };
-    let mut gathered = match Gathered::new(alloc, &log.head().settings) {
-        Ok(gathered) => gathered,
-        Err(_) => return Err(RaceError::OutOfMemory),
-    };
     runs_go_by_steps();
     'steps: loop {
         match joint.next() {
-            Next::AllDone => return Ok(gathered),
-            Next::NoneReady => return Err(stuck(alloc, &mut joint)),
-            Next::Hart(hart) => match advance(&mut joint, &mut gathered, hart, most) {
+            Next::AllDone => return Ok(()),
+            Next::NoneReady => return Err(stuck(alloc, joint)),
+            Next::Hart(hart) => match advance(joint, gathered, hart, most) {
                 Ok(()) => (),
                 Err(error) => return Err(error),
             },
         }
+    }
+}
+
+// Takes all steps of the joint replay of a log, and takes in all rows, where none is taken in yet.
+fn gather_into(
+    alloc: Global,
+    image: &Image,
+    log: &KeptLog,
+    gathered: &mut Gathered,
+    most: u64,
+) -> Result<(), RaceError>
+    requires { IsGathered log.now.head.settings.harts [] gathered.old }
+    ensures { GathersInto log.now.head.settings.harts most (joint_of image.now log.now) result gathered.new }
+{
+    match Joint::begin(alloc, image, log) {
+        Err(_) => Err(RaceError::OutOfMemory),
+        Ok(mut joint) => gather_all(alloc, &mut joint, gathered, most),
+    }
+}
+
+// Takes all steps, the lowest ready hart's first, and takes in all rows.
+fn gather(alloc: Global, image: &Image, log: &KeptLog, most: u64) -> Result<Gathered, RaceError>
+    ensures { Gathers log.now.head.settings.harts most (joint_of image.now log.now) result }
+{
+    let mut gathered = match Gathered::new(alloc, &log.head().settings) {
+        Ok(gathered) => gathered,
+        Err(_) => return Err(RaceError::OutOfMemory),
+    };
+    match gather_into(alloc, image, log, &mut gathered, most) {
+        Ok(()) => Ok(gathered),
+        Err(error) => Err(error),
     }
 }
 

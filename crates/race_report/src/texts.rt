@@ -1,10 +1,11 @@
 //! The lines of a race report.
-ghost use Rattle.std.specs.Prelude.{◌≡◌, ◌++◌, OnOk, OnErr};
+ghost use Rattle.std.specs.Prelude.{◌≡◌, ◌++◌, codes, OnOk, OnErr};
+ghost use Rattle.rv_text.specs.Instructions.{hex8};
 ghost use Rattle.rv_text.specs.Texts.{BeginsWith};
 ghost use Rattle.race_report.specs.Texts.{place_text, race_text, count_text};
 
 use crate::race::Race;
-use bn_base::Row;
+use bn_base::{Addr, Row};
 use rv_text::{Text, write_row};
 use std::alloc::AllocError;
 
@@ -20,18 +21,34 @@ fn write_place(row: &Row, text: &mut Text) -> Result<(), AllocError>
     text.push_decimal(row.ic)
 }
 
+// The harts and counts of the points of a race, which may stop in the middle.
+fn write_places(race: &Race, text: &mut Text) -> Result<(), AllocError>
+    ensures ok { OnOk result (text.new ≡ text.old ++ (codes "race" ++ place_text race.now.first ++ place_text race.now.second)) }
+    ensures begins { BeginsWith text.old text.new }
+{
+    text.push_str("race")?;
+    write_place(&race.first, text)?;
+    write_place(&race.second, text)
+}
+
+// A word behind a space, and the end of the line, which may stop in the middle.
+fn write_word(word: Addr, text: &mut Text) -> Result<(), AllocError>
+    ensures ok { OnOk result (text.new ≡ text.old ++ (codes " " ++ hex8 word ++ codes "\n")) }
+    ensures begins { BeginsWith text.old text.new }
+{
+    text.push_str(" ")?;
+    text.push_hex8(word)?;
+    text.push_str("\n")
+}
+
 // The lines of a race, which may stop in the middle.
 #[tactic(auto, unfolding(crate::specs::Texts::race_text))]
 fn write_race_parts(race: &Race, text: &mut Text) -> Result<(), AllocError>
     ensures ok { OnOk result (text.new ≡ text.old ++ race_text race.now) }
     ensures begins { BeginsWith text.old text.new }
 {
-    text.push_str("race")?;
-    write_place(&race.first, text)?;
-    write_place(&race.second, text)?;
-    text.push_str(" ")?;
-    text.push_hex8(race.word)?;
-    text.push_str("\n")?;
+    write_places(race, text)?;
+    write_word(race.word, text)?;
     write_row(&race.first, text)?;
     write_row(&race.second, text)
 }

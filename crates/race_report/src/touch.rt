@@ -9,7 +9,7 @@ use rv_decode::{Name, decode};
 
 /// Aligned words one after another that an instruction reads or writes: the address of the first, and
 /// how many. After the last word of the address space the first one follows.
-#[derive(Clone, Copy, Debug, PartialEq, Eq, Drop)]
+#[derive(Clone, Copy, Drop)]
 pub(crate) struct Touch {
     pub(crate) first: Addr,
     pub(crate) count: u32,

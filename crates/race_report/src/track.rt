@@ -7,7 +7,7 @@ use hart_replay::Words;
 use std::alloc::{AllocError, Global};
 
 /// The place of an access, and the number of the entry of the hart's access of the word before it.
-#[derive(Clone, Copy, Debug, PartialEq, Eq, Drop)]
+#[derive(Clone, Copy, Drop)]
 pub(crate) struct Entry {
     pub(crate) place: u32,
     pub(crate) previous: Option<u32>,

@@ -1,5 +1,5 @@
 -- Lists that are followed turn by turn, and what is wrong with them.
-use Rattle.std.proofs.Common.{◌≡◌, ℕ, suc, ◌+◌, ◌-◌, ◌<◌, ◌≤◌, Bool, true, false, ◌&&◌, nat_lt, List, [], ◌∷◌, ◌++◌, length, get_or, take, drop, drop-cons, refl, sym, ◌∙◌, ap, arith}
+use Rattle.std.proofs.Common.{◌≡◌, ℕ, suc, ◌+◌, ◌-◌, ◌<◌, ◌≤◌, Bool, true, false, ◌&&◌, nat_lt, List, [], ◌∷◌, ◌++◌, length, get_or, take, drop, drop-cons, refl, sym, ◌∙◌, ap, subst, arith}
 use Rattle.std.specs.Prelude.{Option, Some, None}
 use Rattle.std.proofs.Math.Seq.{take-suc}
 use Rattle.std.proofs.lemmas.List.{take_all, drop_all}
@@ -82,3 +82,15 @@ pub lowest_none : (c : RawSettings) (run : Run) (k : ℕ) → c.harts ≤ k → 
 lowest_none c run k h =
     let p : c.harts - k ≡ 0 = omega (arith, h) in
     ap (λ (m : ℕ). unfinished (live_harts k m run.harts)) p
+
+-- ---- by the settings and the program that a machine keeps
+
+pub kept_run : (P : Run → Type 0) (s t : RawSettings) (i j : Program) (run : Run) (list : List ℕ) → s ≡ t → i ≡ j → P (run_from s i run list) → P (run_from t j run list)
+kept_run P s t i j run list e f x = subst (λ (c : RawSettings). P (run_from c j run list)) e (subst (λ (q : Program). P (run_from s q run list)) f x)
+
+pub kept_error : (s t u : RawSettings) (i j : Program) (run : Run) (list : List ℕ) (found answer : Option TurnError) → s ≡ t → i ≡ j → u ≡ s
+    → error_from s i run 0 list ≡ unfinished (live_harts 0 s.harts (run_from s i run list).harts)
+    → found ≡ unfinished (live_harts 0 u.harts (run_from s i run list).harts) → found ≡ answer → error_from t j run 0 list ≡ answer
+kept_error s t u i j run list found answer e f g legal told is =
+    ap (λ (c : RawSettings). error_from c j run 0 list) (sym e) ∙ ap (λ (q : Program). error_from s q run 0 list) (sym f) ∙ legal
+    ∙ ap (λ (c : RawSettings). unfinished (live_harts 0 c.harts (run_from s i run list).harts)) (sym g) ∙ sym told ∙ is

@@ -16,6 +16,7 @@ pub mod Begun
 pub mod Asked
 pub mod Firsts
 pub mod Beginning
+pub mod NewCaches
 pub mod OneTurn
 pub mod Ending
 pub mod FormatOne

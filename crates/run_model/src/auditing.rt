@@ -2,7 +2,7 @@
 ghost use Rattle.std.specs.Prelude.{◌≡◌, ◌⊎◌, ℕ, None, Some, IfOk, IfErr, OnOk};
 ghost use Rattle.run_model.specs.declared.error.TurnError.TheVariants.{OutOfMemory};
 ghost use Rattle.run_model.specs.Turn.{Run};
-ghost use Rattle.run_model.specs.Runs.{run_from, run_of, live_harts};
+ghost use Rattle.run_model.specs.Runs.{start, run_from, run_of, live_harts};
 ghost use Rattle.run_model.specs.Lists.{unfinished, error_from, list_error};
 ghost use Rattle.run_model.specs.Files.{file_of};
 ghost use Rattle.run_model.specs.Audits.{IsVerdict};
@@ -50,6 +50,29 @@ fn unfinished(plain: &Plain) -> Option<TurnError>
     None
 }
 
+// The turns of a list that leaves no hart live, on a machine before its first turn.
+fn follow_whole(
+    alloc: Global,
+    from: &Start,
+    plain: &mut Plain,
+    list: &[u8],
+) -> Result<(), TurnError>
+    requires run { IsRun (parts plain.old) (start from.now.settings from.now.image from.now.input.items) }
+    requires image { plain.old.start.image ≡ from.now.image }
+    requires settings { plain.old.start.settings ≡ from.now.settings }
+    ensures run { OnOk result (IsRun (parts plain.new) (run_of from.now.settings from.now.image from.now.input.items list.now)) }
+    ensures whole { OnOk result (list_error from.now.settings from.now.image from.now.input.items list.now ≡ None) }
+    ensures refused { IfErr result (λ e. (e ≡ OutOfMemory) ⊎ (list_error from.now.settings from.now.image from.now.input.items list.now ≡ Some e)) }
+    ensures settings { plain.new.start.settings ≡ from.now.settings }
+{
+    let code = DecodedImage::new(alloc, &from.image)?;
+    follow(&code, plain, list)?;
+    match unfinished(plain) {
+        Some(error) => Err(error),
+        None => Ok(()),
+    }
+}
+
 // The machine after the turns of a list that leaves no hart live.
 fn whole_run(alloc: Global, from: &Start, list: &[u8]) -> Result<Plain, TurnError>
     ensures run { IfOk result (λ p. IsRun (parts p) (run_of from.now.settings from.now.image from.now.input.items list.now)) }
@@ -57,13 +80,9 @@ fn whole_run(alloc: Global, from: &Start, list: &[u8]) -> Result<Plain, TurnErro
     ensures refused { IfErr result (λ e. (e ≡ OutOfMemory) ⊎ (list_error from.now.settings from.now.image from.now.input.items list.now ≡ Some e)) }
     ensures settings { IfOk result (λ p. p.start.settings ≡ from.now.settings) }
 {
-    let code = DecodedImage::new(alloc, &from.image)?;
     let mut plain = Plain::new(alloc, from)?;
-    follow(&code, &mut plain, list)?;
-    match unfinished(&plain) {
-        Some(error) => Err(error),
-        None => Ok(plain),
-    }
+    follow_whole(alloc, from, &mut plain, list)?;
+    Ok(plain)
 }
 
 // The log file of the run of a list that leaves no hart live.
@@ -72,9 +91,16 @@ fn file_of(alloc: Global, from: &Start, list: &[u8]) -> Result<Vec<u8>, TurnErro
     ensures whole { OnOk result (list_error from.now.settings from.now.image from.now.input.items list.now ≡ None) }
     ensures refused { IfErr result (λ e. (e ≡ OutOfMemory) ⊎ (list_error from.now.settings from.now.image from.now.input.items list.now ≡ Some e)) }
 {
-    let recorded = whole_run(alloc, from, list)?.into_recorded();
-    let file = from.log_file(alloc, &recorded.ring)?;
-    Ok(file)
+    match whole_run(alloc, from, list) {
+        Err(error) => Err(error),
+        Ok(plain) => {
+            let recorded = plain.into_recorded();
+            match from.log_file(alloc, &recorded.ring) {
+                Err(_) => Err(TurnError::OutOfMemory),
+                Ok(file) => Ok(file),
+            }
+        }
+    }
 }
 
 // Whether a log is this file, or where they differ first.

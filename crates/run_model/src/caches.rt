@@ -27,7 +27,7 @@ use system_calls::Plan;
 
 /// A cache for each hart. Contracts see what each of them keeps, and say by `AreCaches` which
 /// histories, one for each hart, they stand for. Only `new` takes memory.
-#[derive(Debug, Drop)]
+#[derive(Drop)]
 pub struct Caches {
     of: Vec<Cache>,
 }
@@ -136,10 +136,10 @@ fn access(caches: &mut [Cache], hart: HartId, span: Span) -> Warm
 }
 
 // Clears the bits of a hart's cache.
-fn clear(caches: &mut [Cache], hart: HartId)
-    requires hart { hart < length caches.old }
-    requires steps { steps_in caches.old hart < 2 ^ 42 }
-    ensures { IsSetTo hart Clear caches.old caches.new }
+fn clear(caches: &mut Vec<Cache>, hart: HartId)
+    requires hart { hart < length caches.old.items }
+    requires steps { steps_in caches.old.items hart < 2 ^ 42 }
+    ensures { IsSetTo hart Clear caches.old.items caches.new.items }
 {
     caches[hart as usize].clear_bits();
 }
@@ -206,7 +206,7 @@ impl Caches {
         ensures count { length self.new ≡ length self.old }
         ensures steps { (k : ℕ) → steps_in self.new k ≡ (if k == hart then steps_in self.old k + 1 else steps_in self.old k) }
     {
-        clear(self.of.as_mut_slice(), hart);
+        clear(&mut self.of, hart);
     }
 }
 

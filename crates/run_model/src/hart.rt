@@ -16,7 +16,7 @@ use rv_meaning::{Ask, Reply, absorb_in_place};
 pub const HEADER_SIZE: u64 = 146;
 
 /// A hart between two turns.
-#[derive(Clone, Copy, Debug, PartialEq, Eq, Drop)]
+#[derive(Clone, Copy, Drop)]
 pub struct Hart {
     /// Its state, as its last served ask left it.
     pub state: HartState,

@@ -63,7 +63,7 @@ impl Model for Machine {
 }
 
 /// The two output streams of a machine.
-#[derive(Debug, Drop)]
+#[derive(Drop)]
 pub struct Streams {
     pub out: Vec<u8>,
     pub err: Vec<u8>,

@@ -10,7 +10,7 @@ use system_calls::Plan;
 
 /// What comes after a hart's turn: its present interval goes on, or it ends for a reason, which has
 /// the code and the value of an [`EndMark`](bn_base::EndMark).
-#[derive(Clone, Copy, Debug, PartialEq, Eq, Drop)]
+#[derive(Clone, Copy, Drop)]
 pub enum Next {
     /// The interval goes on.
     GoesOn,

@@ -9,7 +9,7 @@ use rv_meaning::{Reply, Want};
 use system_calls::Plan;
 
 /// The aligned words that an instruction accesses: `count` of them from `first` on, read or written.
-#[derive(Clone, Copy, Debug, PartialEq, Eq, Drop)]
+#[derive(Clone, Copy, Drop)]
 pub struct Span {
     pub first: Addr,
     pub count: u32,

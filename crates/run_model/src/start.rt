@@ -13,7 +13,7 @@ use std::alloc::{AllocError, Global};
 
 /// What a recording begins with: the loaded program, the settings, the input, and the SHA-256 digest
 /// (FIPS 180-4) of the program's ELF file.
-#[derive(Debug, Drop)]
+#[derive(Drop)]
 pub struct Start {
     pub image: Image,
     pub settings: Settings,
@@ -47,10 +47,11 @@ impl Start {
         ensures input { IfOk result (λ s. s.input.items ≡ self.now.input.items) }
         ensures digest { IfOk result (λ s. s.digest ≡ self.now.digest) }
     {
+        let input = self.input.to_vec(alloc)?;
         Ok(Start {
             image: self.image.copy()?,
             settings: self.settings,
-            input: self.input.to_vec(alloc)?,
+            input,
             digest: self.digest,
         })
     }

@@ -164,10 +164,11 @@ impl Plain {
         ensures input { IfOk result (λ p. p.start.input.items ≡ from.now.input.items) }
         ensures digest { IfOk result (λ p. p.start.digest ≡ from.now.digest) }
     {
+        let start = from.copy(alloc)?;
         let machine = Machine::new(alloc, &from.image)?;
         let trace = Trace::new(alloc, &from.settings, &from.image)?;
         Ok(Plain {
-            start: from.copy(alloc)?,
+            start,
             machine,
             trace,
             turns: 0,

@@ -1,7 +1,7 @@
 //! What an audit finds.
 
 /// What an audit finds.
-#[derive(Clone, Copy, Debug, PartialEq, Eq, Drop)]
+#[derive(Clone, Copy, Drop)]
 pub enum Verdict {
     /// The bytes are those of the file.
     Agree,

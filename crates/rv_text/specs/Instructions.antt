@@ -79,6 +79,30 @@ operands R pc i = first_operand i.rd ++ register_operand i.rs1 ++ register_opera
 operands Bare pc i = []
 operands Atomic pc i = first_operand i.rd ++ atomic_operands (is_load_reserved i.name) i
 
+-- those ahead of the last one
+abbrev pub leading_operands : Format → Instruction → List ℕ
+leading_operands U i = first_operand i.rd
+leading_operands J i = first_operand i.rd
+leading_operands I i = first_operand i.rd
+leading_operands B i = first_operand i.rs1 ++ register_operand i.rs2
+leading_operands S i = first_operand i.rs2
+leading_operands Shift i = first_operand i.rd ++ register_operand i.rs1
+leading_operands R i = first_operand i.rd ++ register_operand i.rs1
+leading_operands Bare i = []
+leading_operands Atomic i = first_operand i.rd
+
+-- what follows them
+abbrev pub last_operands : Format → ℕ → Instruction → List ℕ
+last_operands U pc i = upper_operand i.imm
+last_operands J pc i = target_operand pc i.imm
+last_operands I pc i = immediate_operands (is_relative i.name) i
+last_operands B pc i = target_operand pc i.imm
+last_operands S pc i = offset_operand i.imm i.rs1
+last_operands Shift pc i = number_operand i.imm
+last_operands R pc i = register_operand i.rs2
+last_operands Bare pc i = []
+last_operands Atomic pc i = atomic_operands (is_load_reserved i.name) i
+
 -- the text of the instruction i at pc
 unfoldable pub instruction_text : ℕ → Instruction → List ℕ
 instruction_text pc i = mnemonic i.name ++ ordering i.aq i.rl ++ operands (format_of i.name) pc i

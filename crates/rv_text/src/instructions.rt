@@ -1,7 +1,7 @@
 //! The text of an instruction.
 ghost use Rattle.std.specs.Prelude.{◌≡◌, ◌++◌, ◌<◌, OnOk, OnErr};
 ghost use Rattle.rv_decode.specs.Seen.{seen};
-ghost use Rattle.rv_text.specs.Instructions.{is_relative, is_load_reserved, first_operand, register_operand, immediate_operands, atomic_operands, operands, instruction_text};
+ghost use Rattle.rv_text.specs.Instructions.{is_relative, is_load_reserved, first_operand, register_operand, immediate_operands, atomic_operands, leading_operands, last_operands, operands, instruction_text};
 ghost use Rattle.rv_text.specs.Texts.{BeginsWith};
 
 use crate::names::{mnemonic, ordering};
@@ -67,46 +67,45 @@ fn write_registers(first: u8, second: u8, text: &mut Text) -> Result<(), AllocEr
     write_register(second, text)
 }
 
+/// The operands of an instruction that stand ahead of its last one: registers.
+fn write_leading(format: Format, instr: &Instr, text: &mut Text) -> Result<(), AllocError>
+    ensures ok { OnOk result (text.new ≡ text.old ++ leading_operands format (seen instr.now)) }
+    ensures begins { BeginsWith text.old text.new }
+{
+    match format {
+        Format::U | Format::J | Format::I | Format::Atomic => write_first(instr.rd, text),
+        Format::S => write_first(instr.rs2, text),
+        Format::B => write_registers(instr.rs1, instr.rs2, text),
+        Format::Shift | Format::R => write_registers(instr.rd, instr.rs1, text),
+        Format::Bare => Ok(()),
+    }
+}
+
+/// What follows them, at `pc`.
+fn write_last(format: Format, instr: &Instr, pc: u32, text: &mut Text) -> Result<(), AllocError>
+    ensures ok { OnOk result (text.new ≡ text.old ++ last_operands format pc (seen instr.now)) }
+    ensures begins { BeginsWith text.old text.new }
+{
+    match format {
+        Format::U => write_upper(instr.imm, text),
+        Format::J | Format::B => write_target(pc, instr.imm, text),
+        Format::I => write_immediate(instr, text),
+        Format::S => write_offset(instr.imm, instr.rs1, text),
+        Format::Shift => write_number(instr.imm, text),
+        Format::R => write_register(instr.rs2, text),
+        Format::Bare => Ok(()),
+        Format::Atomic => write_atomic(instr, text),
+    }
+}
+
 /// The operands of an instruction at `pc`.
+#[tactic(auto, using(crate::proofs::Parted::operands_in_two))]
 fn write_operands(format: Format, instr: &Instr, pc: u32, text: &mut Text) -> Result<(), AllocError>
     ensures ok { OnOk result (text.new ≡ text.old ++ operands format pc (seen instr.now)) }
     ensures begins { BeginsWith text.old text.new }
 {
-    match format {
-        Format::U => {
-            write_first(instr.rd, text)?;
-            write_upper(instr.imm, text)
-        }
-        Format::J => {
-            write_first(instr.rd, text)?;
-            write_target(pc, instr.imm, text)
-        }
-        Format::I => {
-            write_first(instr.rd, text)?;
-            write_immediate(instr, text)
-        }
-        Format::B => {
-            write_registers(instr.rs1, instr.rs2, text)?;
-            write_target(pc, instr.imm, text)
-        }
-        Format::S => {
-            write_first(instr.rs2, text)?;
-            write_offset(instr.imm, instr.rs1, text)
-        }
-        Format::Shift => {
-            write_registers(instr.rd, instr.rs1, text)?;
-            write_number(instr.imm, text)
-        }
-        Format::R => {
-            write_registers(instr.rd, instr.rs1, text)?;
-            write_register(instr.rs2, text)
-        }
-        Format::Bare => Ok(()),
-        Format::Atomic => {
-            write_first(instr.rd, text)?;
-            write_atomic(instr, text)
-        }
-    }
+    write_leading(format, instr, text)?;
+    write_last(format, instr, pc, text)
 }
 
 /// The text of an instruction, which may stop in the middle.

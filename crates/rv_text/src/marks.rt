@@ -3,6 +3,7 @@ ghost use Rattle.std.specs.Prelude.{◌≡◌, ◌++◌, OnOk, OnErr, codes, dec
 ghost use Rattle.rv_text.specs.Marks.{mark_text, end_text};
 ghost use Rattle.rv_text.specs.Texts.{BeginsWith};
 
+use crate::rows::write_spaced;
 use crate::text::Text;
 use bn_base::EndMark;
 use std::alloc::AllocError;
@@ -16,8 +17,7 @@ fn write_mark_parts(mark: &EndMark, text: &mut Text) -> Result<(), AllocError>
     text.push_decimal(mark.ic)?;
     text.push_str(" ")?;
     text.push_str(mark.word())?;
-    text.push_str(" ")?;
-    text.push_hex8(mark.value)
+    write_spaced(mark.value, text)
 }
 
 /// The word for an end, the hart and the number of its interval.

@@ -1,5 +1,6 @@
 //! The operands of an instruction, one after another.
-ghost use Rattle.std.specs.Prelude.{◌≡◌, ◌++◌, ◌<◌, OnOk};
+ghost use Rattle.std.specs.Prelude.{◌≡◌, ◌++◌, ◌<◌, OnOk, codes};
+ghost use Rattle.rv_text.specs.Names.{register_name};
 ghost use Rattle.rv_text.specs.Instructions.{first_operand, register_operand, number_operand, offset_operand, memory_operand, target_operand, upper_operand};
 ghost use Rattle.rv_text.specs.Texts.{BeginsWith};
 
@@ -39,18 +40,26 @@ pub fn write_number(number: i32, text: &mut Text) -> Result<(), AllocError>
     text.push_signed_decimal(number)
 }
 
+/// A register in brackets, and what opens them.
+fn write_enclosed(opening: &str, register: u8, text: &mut Text) -> Result<(), AllocError>
+    requires { register < 32 }
+    ensures ok { OnOk result (text.new ≡ text.old ++ (opening.now ++ register_name register ++ codes ")")) }
+    ensures begins { BeginsWith text.old text.new }
+{
+    text.push_str(opening)?;
+    text.push_str(register_name(register))?;
+    text.push_str(")")
+}
+
 /// An operand that is the memory at an offset from a register.
-#[tactic(auto, unfolding(crate::specs::Instructions::offset_operand))]
+#[tactic(auto, unfolding(crate::specs::Instructions::offset_operand, crate::specs::Instructions::number_operand))]
 pub fn write_offset(offset: i32, register: u8, text: &mut Text) -> Result<(), AllocError>
     requires { register < 32 }
     ensures ok { OnOk result (text.new ≡ text.old ++ offset_operand offset register) }
     ensures begins { BeginsWith text.old text.new }
 {
-    text.push_str(",")?;
-    text.push_signed_decimal(offset)?;
-    text.push_str("(")?;
-    text.push_str(register_name(register))?;
-    text.push_str(")")
+    write_number(offset, text)?;
+    write_enclosed("(", register, text)
 }
 
 /// An operand that is the memory at a register.
@@ -60,9 +69,7 @@ pub fn write_memory(register: u8, text: &mut Text) -> Result<(), AllocError>
     ensures ok { OnOk result (text.new ≡ text.old ++ memory_operand register) }
     ensures begins { BeginsWith text.old text.new }
 {
-    text.push_str(",(")?;
-    text.push_str(register_name(register))?;
-    text.push_str(")")
+    write_enclosed(",(", register, text)
 }
 
 /// An operand that is the address at an offset from the pc, modulo 2^32.

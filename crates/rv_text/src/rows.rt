@@ -1,6 +1,7 @@
 //! The line of a row.
 ghost use Rattle.std.specs.Prelude.{◌≡◌, ◌++◌, ◌<◌, OnOk, OnErr, codes, option_map};
 ghost use Rattle.rv_decode.specs.Seen.{seen};
+ghost use Rattle.rv_text.specs.Instructions.{hex8};
 ghost use Rattle.rv_text.specs.Rows.{point_text, shown_word, shown_instruction, text_or_illegal, word_text, code_text, register_text, access_text, fault_text, effects_text, row_text};
 ghost use Rattle.rv_text.specs.Texts.{BeginsWith};
 
@@ -11,6 +12,15 @@ use bn_base::{Addr, Fault, HartId, Ic, Register, Row};
 use rv_decode::{Instr, decode};
 use std::alloc::AllocError;
 
+/// A number behind a space.
+pub(crate) fn write_spaced(number: u32, text: &mut Text) -> Result<(), AllocError>
+    ensures ok { OnOk result (text.new ≡ text.old ++ (codes " " ++ hex8 number)) }
+    ensures begins { BeginsWith text.old text.new }
+{
+    text.push_str(" ")?;
+    text.push_hex8(number)
+}
+
 /// The hart, its count and the pc.
 #[tactic(auto, unfolding(crate::specs::Rows::point_text))]
 fn write_point(hart: HartId, ic: Ic, pc: Addr, text: &mut Text) -> Result<(), AllocError>
@@ -20,8 +30,7 @@ fn write_point(hart: HartId, ic: Ic, pc: Addr, text: &mut Text) -> Result<(), Al
     text.push_decimal(u64::from(hart))?;
     text.push_str(" ")?;
     text.push_decimal(ic)?;
-    text.push_str(" ")?;
-    text.push_hex8(pc)
+    write_spaced(pc, text)
 }
 
 /// The word to show: none where the fetch faulted.
@@ -61,8 +70,7 @@ fn write_word(pc: Addr, word: u32, instr: Option<Instr>, text: &mut Text) -> Res
     ensures ok { OnOk result (text.new ≡ text.old ++ word_text pc word (option_map seen instr)) }
     ensures begins { BeginsWith text.old text.new }
 {
-    text.push_str(" ")?;
-    text.push_hex8(word)?;
+    write_spaced(word, text)?;
     text.push_str(" ")?;
     write_text(pc, instr, text)
 }
@@ -79,6 +87,24 @@ fn write_code(row: &Row, text: &mut Text) -> Result<(), AllocError>
     }
 }
 
+/// A value behind its sign of equality.
+fn write_value(value: u32, text: &mut Text) -> Result<(), AllocError>
+    ensures ok { OnOk result (text.new ≡ text.old ++ (codes "=" ++ hex8 value)) }
+    ensures begins { BeginsWith text.old text.new }
+{
+    text.push_str("=")?;
+    text.push_hex8(value)
+}
+
+/// A word behind a bar.
+fn write_barred(word: &str, text: &mut Text) -> Result<(), AllocError>
+    ensures ok { OnOk result (text.new ≡ text.old ++ (codes " | " ++ word.now)) }
+    ensures begins { BeginsWith text.old text.new }
+{
+    text.push_str(" | ")?;
+    text.push_str(word)
+}
+
 /// The register that was written and its new contents.
 #[tactic(auto, unfolding(crate::specs::Rows::register_text))]
 fn write_register(reg: Option<(Register, u32)>, text: &mut Text) -> Result<(), AllocError>
@@ -87,10 +113,8 @@ fn write_register(reg: Option<(Register, u32)>, text: &mut Text) -> Result<(), A
 {
     match reg {
         Some((register, value)) => {
-            text.push_str(" | ")?;
-            text.push_str(register_name(register.number()))?;
-            text.push_str("=")?;
-            text.push_hex8(value)
+            write_barred(register_name(register.number()), text)?;
+            write_value(value, text)
         }
         None => Ok(()),
     }
@@ -104,12 +128,9 @@ fn write_access(kind: &str, access: Option<(Addr, u32)>, text: &mut Text) -> Res
 {
     match access {
         Some((addr, value)) => {
-            text.push_str(" | ")?;
-            text.push_str(kind)?;
-            text.push_str(" ")?;
-            text.push_hex8(addr)?;
-            text.push_str("=")?;
-            text.push_hex8(value)
+            write_barred(kind, text)?;
+            write_spaced(addr, text)?;
+            write_value(value, text)
         }
         None => Ok(()),
     }
@@ -125,8 +146,7 @@ fn write_fault(fault: Option<(Fault, u32)>, text: &mut Text) -> Result<(), Alloc
         Some((kind, value)) => {
             text.push_str(" | fault ")?;
             text.push_str(kind.name())?;
-            text.push_str(" ")?;
-            text.push_hex8(value)
+            write_spaced(value, text)
         }
         None => Ok(()),
     }

@@ -4,7 +4,7 @@ use hart_replay::ReplayError;
 use thiserror::Error;
 
 /// Why the slice of a row can't be told.
-#[derive(Clone, Copy, Debug, PartialEq, Eq, Drop, Error)]
+#[derive(Clone, Copy, Debug, Drop, Error)]
 pub enum SliceError {
     /// The replay of the interval is refused.
     #[error("the replay is refused")]

@@ -4,7 +4,7 @@ use bn_base::{Addr, Ic, List, Register, Row};
 /// The backward slice of a row: what it stands on, within its interval.
 ///
 /// All lists ascend, without repeats.
-#[derive(Debug, Drop)]
+#[derive(Drop)]
 pub struct Slice {
     /// The row itself, the rows that it needs, those that these need, and so on.
     pub rows: List<Row>,

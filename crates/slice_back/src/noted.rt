@@ -2,7 +2,7 @@
 use bn_base::Row;
 
 /// A row, and the value of the first load that it took from the log, if it took one.
-#[derive(Clone, Copy, Debug, PartialEq, Eq, Drop)]
+#[derive(Clone, Copy, Drop)]
 pub struct Noted {
     pub row: Row,
     pub first_load: Option<u32>,

@@ -53,16 +53,23 @@ fn write_branches(rows: &[Row], text: &mut Text) -> Result<(), AllocError>
     Ok(())
 }
 
+// Appends all lines of a slice.
+fn write_slice(hart: u64, ic: Ic, slice: &Slice, text: &mut Text) -> Result<(), AllocError>
+    ensures { OnOk result (text.new ≡ text.old ++ slice_text hart ic slice.now) }
+{
+    write_head(hart, ic, text)?;
+    write_rows(slice.rows.as_slice(), text)?;
+    write_registers(slice.regs.as_slice(), text)?;
+    write_words(slice.words.as_slice(), text)?;
+    write_branches(slice.branches.as_slice(), text)
+}
+
 // The text of a slice.
 fn text_of(alloc: Global, hart: u64, ic: Ic, slice: &Slice) -> Result<Text, AllocError>
     ensures { IfOk result (λ text. text ≡ slice_text hart ic slice.now) }
 {
     let mut text = Text::new(alloc);
-    write_head(hart, ic, &mut text)?;
-    write_rows(slice.rows.as_slice(), &mut text)?;
-    write_registers(slice.regs.as_slice(), &mut text)?;
-    write_words(slice.words.as_slice(), &mut text)?;
-    write_branches(slice.branches.as_slice(), &mut text)?;
+    write_slice(hart, ic, slice, &mut text)?;
     Ok(text)
 }
 

@@ -2,7 +2,7 @@
 use bn_base::Addr;
 
 /// What a line asks for.
-#[derive(Clone, Copy, Debug, PartialEq, Eq, Drop)]
+#[derive(Clone, Copy, Drop)]
 pub enum Command {
     /// Nothing: the line is empty.
     Empty,

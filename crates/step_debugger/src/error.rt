@@ -2,7 +2,7 @@
 use joint_replay::JointError;
 
 /// Why a session of the debugger stopped before its end.
-#[derive(Debug, Drop)]
+#[derive(Drop)]
 pub enum DebugError {
     /// A read of the commands failed.
     ReadFault,

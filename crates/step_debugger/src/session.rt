@@ -21,7 +21,7 @@ use rv_text::Text;
 use std::alloc::{AllocError, Global};
 
 /// Whether a session goes on after a command.
-#[derive(Debug, Drop)]
+#[derive(Drop)]
 pub enum Ending {
     GoesOn,
     /// The command ended it.

@@ -8,7 +8,7 @@ use bn_base::{Addr, HARTS, HartId};
 use std::marker::Model;
 
 /// The aligned word that each hart has reserved, if it has one.
-#[derive(Debug, Drop)]
+#[derive(Drop)]
 pub(crate) struct Reservations {
     of: [Option<Addr>; HARTS],
     // Whether a hart made one so far. Before that there is nothing to end.

@@ -10,6 +10,6 @@ returns-clause-file c =
     let from = c.args.from.now in let list = c.args.list.now in
     let run = run_of from.settings from.image from.input.items list in
     let recorded = c.into_recorded-recorded in
-    let holds = subst (λ (r : Held). HoldsLog r run.stream) (sym recorded.ensures.ring) c.in_ok-whole_run.ensures.run.trace.log.holds in
-    let size = recorded.ensures.size ∙ ap (λ (s : RawSettings). s.log_size) c.in_ok-whole_run.ensures.settings in
-    c.in_ok-file.ensures ∙ file_is from.settings from.digest recorded.result.ring run holds size
+    let holds = subst (λ (r : Held). HoldsLog r run.stream) (sym recorded.ensures.ring) c.in-Ok.ensures.run.trace.log.holds in
+    let size = recorded.ensures.size ∙ ap (λ (s : RawSettings). s.log_size) c.in-Ok.ensures.settings in
+    c.in-Ok-log_file.ensures ∙ file_is from.settings from.digest recorded.result.ring run holds size

@@ -1,10 +1,10 @@
 use Rattle.std.proofs.Common.{take, drop}
 use Rattle.back_step.specs.Trails.{LeadsBy, CanTake}
-use Rattle.back_step.proofs.steps.replay.Given as goal
+use Rattle.back_step.proofs.steps.take_all.Given as goal
 
 -- the steps before are taken, and the others can be
 abbrev pub invariant-loop-at : goal.invariant-loop-at
 invariant-loop-at l = record {
-  led : LeadsBy l.copy (take l.at l.steps) l.joint;
+  led : LeadsBy l.fn.joint (take l.at l.steps) l.joint;
   rest : CanTake l.joint (drop l.at l.steps);
 }

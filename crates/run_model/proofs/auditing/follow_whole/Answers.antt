@@ -1,0 +1,26 @@
+use Rattle.std.proofs.Common.{None, Some, ap, inr}
+use Rattle.run_model.specs.declared.start.Start.{Start}
+use Rattle.run_model.specs.Turn.{Run}
+use Rattle.run_model.specs.Runs.{start}
+use Rattle.run_model.specs.Stands.Plain.{IsRun}
+use Rattle.run_model.specs.Stands.Turning.{parts}
+use Rattle.run_model.proofs.Followed.{kept_run, kept_error}
+use Rattle.run_model.proofs.auditing.follow_whole.Goals as goal
+
+pub returns-clause-run : goal.returns-clause-run
+returns-clause-run c =
+    let from = c.args.from.now in let p = c.args.plain.now in
+    kept_run (λ (r : Run). IsRun (parts c.follow.new.plain) r) p.start.settings from.settings p.start.image from.image (start from.settings from.image from.input.items) c.args.list.now
+    c.requires.settings c.requires.image (c.in_ok-follow.ensures.run _ c.requires.run)
+
+pub returns-clause-whole : goal.returns-clause-whole
+returns-clause-whole c =
+    let from = c.args.from.now in let p = c.args.plain.now in
+    kept_error p.start.settings from.settings c.follow.new.plain.start.settings p.start.image from.image (start from.settings from.image from.input.items) c.args.list.now c.unfinished.result None
+    c.requires.settings c.requires.image (ap (λ (s : Start). s.settings) c.follow.ensures.start) (c.in_ok-follow.ensures.legal _ c.requires.run) (c.unfinished.ensures _ (c.in_ok-follow.ensures.run _ c.requires.run)) c.in-None.is
+
+pub returns-in-Some-clause-refused : goal.returns-in-Some-clause-refused
+returns-in-Some-clause-refused c =
+    let from = c.args.from.now in let p = c.args.plain.now in
+    inr (kept_error p.start.settings from.settings c.follow.new.plain.start.settings p.start.image from.image (start from.settings from.image from.input.items) c.args.list.now c.unfinished.result (Some c.in-Some.error)
+    c.requires.settings c.requires.image (ap (λ (s : Start). s.settings) c.follow.ensures.start) (c.in_ok-follow.ensures.legal _ c.requires.run) (c.unfinished.ensures _ (c.in_ok-follow.ensures.run _ c.requires.run)) c.in-Some.is)
