@@ -24,10 +24,11 @@ pub fn made(
     }
 }
 
-/// The program of a file, with the settings of a line.
+/// A copy of the program of a file, with the settings of a line.
 pub fn loaded(alloc: Global, file: &[u8], words: &[&str]) -> anyhow::Result<Image> {
     let settings = checked(words)?;
-    Ok(load(alloc, file, &settings)?)
+    let image = load(alloc, file, &settings)?;
+    Ok(image.copy()?)
 }
 
 // Prints what stands at an address.

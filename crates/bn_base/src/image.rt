@@ -1,5 +1,5 @@
 // A program as loaded.
-ghost use Rattle.std.specs.Prelude.{◌≡◌, ◌≤◌, ◌%◌, ◌^◌, ℕ, true, Some, None, IfSome, MatchOption};
+ghost use Rattle.std.specs.Prelude.{◌≡◌, ◌≤◌, ◌%◌, ◌^◌, ℕ, true, Some, None, IfOk, IfSome, MatchOption};
 ghost use Rattle.std.specs.Bool.{Decides};
 ghost use Rattle.std.specs.Cmp.{and_per, on_per};
 ghost use Rattle.std.specs.Cmp.Lexicographic.{lists_per};
@@ -11,6 +11,7 @@ ghost use Rattle.bn_base.specs.Compared.{same_part, same_program};
 use crate::Addr;
 use crate::segment::Segment;
 use crate::settings::Settings;
+use std::alloc::AllocError;
 use std::marker::Model;
 
 /// A program as loaded, which no run changes. Its mapped addresses are 4,096 to the memory's size.
@@ -200,5 +201,21 @@ impl Image {
     {
         let stacks = 65_536 * self.harts as u32;
         self.heap_start().max(self.memory.saturating_sub(stacks))
+    }
+
+    /// An equal image.
+    pub fn copy(&self) -> Result<Image, AllocError>
+        ensures { IfOk result (λ i. i ≡ self.now) }
+    {
+        let mut segments = Vec::with_capacity(*self.segments.allocator(), self.segments.len())?;
+        for segment in &self.segments {
+            segments.push(segment.copy()?)?;
+        }
+        Ok(Image {
+            segments,
+            entry: self.entry,
+            memory: self.memory,
+            harts: self.harts,
+        })
     }
 }

@@ -1,5 +1,5 @@
 // A stretch of a program's memory.
-ghost use Rattle.std.specs.Prelude.{◌≡◌, ◌≤◌, ◌+◌, ◌*◌, ◌%◌, ◌^◌, ℕ, true, vec_len};
+ghost use Rattle.std.specs.Prelude.{◌≡◌, ◌≤◌, ◌+◌, ◌*◌, ◌%◌, ◌^◌, ℕ, true, vec_len, IfOk};
 ghost use Rattle.std.specs.Bool.{Decides};
 ghost use Rattle.std.specs.Cmp.Rules.{comparing};
 ghost use Rattle.std.proofs.Common.{rules};
@@ -7,6 +7,7 @@ ghost use Rattle.bn_base.specs.Programs.{Part, end_of, is_in, word_in};
 ghost use Rattle.bn_base.specs.Compared.{same_part};
 
 use crate::Addr;
+use std::alloc::AllocError;
 use std::marker::Model;
 
 /// A loadable segment of an ELF file in whole aligned words (ELF, "Program Header", PT_LOAD).
@@ -71,6 +72,19 @@ impl Segment {
             executable,
             writable,
         }
+    }
+
+    /// An equal segment.
+    pub fn copy(&self) -> Result<Segment, AllocError>
+        ensures { IfOk result (λ s. s ≡ self.now) }
+    {
+        Ok(Segment {
+            first: self.first,
+            words: self.words.clone()?,
+            count: self.count,
+            executable: self.executable,
+            writable: self.writable,
+        })
     }
 
     /// The address of its first word.
