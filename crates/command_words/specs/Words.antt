@@ -240,21 +240,29 @@ salvage_in rows = option_map (λ files. SalvageLine files.0 files.1) (pair_at (c
 abbrev pub demo_in : List Row → Option Line
 demo_in rows = option_map DemoLine (number_at (codes "seed") rows)
 
--- the line of the subcommand of this name, by what was found for its arguments
+-- the line of the subcommand of this name, by what was found for its arguments: one of the last four
+abbrev pub named_last : Text → List Row → Option Line
+named_last name rows = if bytes_eq name (codes "slice") then slice_in rows
+    else (if bytes_eq name (codes "convert") then convert_in rows
+    else (if bytes_eq name (codes "salvage") then salvage_in rows
+    else (if bytes_eq name (codes "demo") then demo_in rows
+    else None)))
+
+-- one of the last eight
+abbrev pub named_later : Text → List Row → Option Line
+named_later name rows = if bytes_eq name (codes "list") then list_in rows
+    else (if bytes_eq name (codes "check") then check_in rows
+    else (if bytes_eq name (codes "audit") then audit_in rows
+    else (if bytes_eq name (codes "races") then races_in rows
+    else named_last name rows)))
+
+-- any
 abbrev pub named : Text → List Row → Option Line
 named name rows = if bytes_eq name (codes "record") then record_in rows
     else (if bytes_eq name (codes "replay") then replay_in rows
     else (if bytes_eq name (codes "joint") then joint_in rows
     else (if bytes_eq name (codes "debug") then debug_in rows
-    else (if bytes_eq name (codes "list") then list_in rows
-    else (if bytes_eq name (codes "check") then check_in rows
-    else (if bytes_eq name (codes "audit") then audit_in rows
-    else (if bytes_eq name (codes "races") then races_in rows
-    else (if bytes_eq name (codes "slice") then slice_in rows
-    else (if bytes_eq name (codes "convert") then convert_in rows
-    else (if bytes_eq name (codes "salvage") then salvage_in rows
-    else (if bytes_eq name (codes "demo") then demo_in rows
-    else None)))))))))))
+    else named_later name rows)))
 
 abbrev pub line_in : Option (Text × List Row) → Option Line
 line_in None = None

@@ -2,7 +2,7 @@
 use bn_base::RawSettings;
 
 /// What a recording is to be.
-#[derive(Clone, Copy, Debug, PartialEq, Eq)]
+#[derive(Clone, Copy, Debug)]
 pub struct Recording<'a> {
     /// The settings as they were given, in range or not. Those that weren't given have their
     /// defaults.
@@ -22,7 +22,7 @@ pub struct Recording<'a> {
 }
 
 /// What a command line asks for.
-#[derive(Clone, Copy, Debug, PartialEq, Eq)]
+#[derive(Clone, Copy, Debug)]
 pub enum Command<'a> {
     /// Record a run.
     Record(Recording<'a>),

@@ -2,7 +2,7 @@
 ghost use Rattle.std.specs.Prelude.{◌≡◌, option_map, codes};
 ghost use Rattle.clap.specs.Words.{first_of, found_of, rows_of};
 ghost use Rattle.bn_base.specs.Ranges.{default_settings};
-ghost use Rattle.command_words.specs.Words.{seen, seen_recording, number_of, number_or, number_if, number_at, pair_at, place_at, flag_in, run_at, sizes_at, cache_at, second_at, settings_in, recording_in, record_in, replay_in, joint_in, debug_in, list_in, check_in, audit_in, races_in, slice_in, convert_in, salvage_in, demo_in, named};
+ghost use Rattle.command_words.specs.Words.{seen, seen_recording, number_of, number_or, number_if, number_at, pair_at, place_at, flag_in, run_at, sizes_at, cache_at, second_at, settings_in, recording_in, record_in, replay_in, joint_in, debug_in, list_in, check_in, audit_in, races_in, slice_in, convert_in, salvage_in, demo_in, named_last, named_later, named};
 
 use crate::commands::{Command, Recording};
 use bn_base::RawSettings;
@@ -271,7 +271,41 @@ fn demo_in<'a>(matches: &ArgMatches<'a>) -> Option<Command<'a>>
     Some(Command::Demo { seed })
 }
 
-// The command of the subcommand of this name, for whose arguments this was found.
+// The command of the subcommand of this name, for whose arguments this was found: one of the last four.
+fn named_last<'a>(name: &str, matches: &ArgMatches<'a>) -> Option<Command<'a>>
+    ensures { option_map seen result ≡ named_last name.now (rows_of (found_of matches.now)) }
+{
+    if name == "slice" {
+        slice_in(matches)
+    } else if name == "convert" {
+        convert_in(matches)
+    } else if name == "salvage" {
+        salvage_in(matches)
+    } else if name == "demo" {
+        demo_in(matches)
+    } else {
+        None
+    }
+}
+
+// The same, one of the last eight.
+fn named_later<'a>(name: &str, matches: &ArgMatches<'a>) -> Option<Command<'a>>
+    ensures { option_map seen result ≡ named_later name.now (rows_of (found_of matches.now)) }
+{
+    if name == "list" {
+        list_in(matches)
+    } else if name == "check" {
+        check_in(matches)
+    } else if name == "audit" {
+        audit_in(matches)
+    } else if name == "races" {
+        races_in(matches)
+    } else {
+        named_last(name, matches)
+    }
+}
+
+// The same, any.
 pub fn named<'a>(name: &str, matches: &ArgMatches<'a>) -> Option<Command<'a>>
     ensures { option_map seen result ≡ named name.now (rows_of (found_of matches.now)) }
 {
@@ -283,23 +317,7 @@ pub fn named<'a>(name: &str, matches: &ArgMatches<'a>) -> Option<Command<'a>>
         joint_in(matches)
     } else if name == "debug" {
         debug_in(matches)
-    } else if name == "list" {
-        list_in(matches)
-    } else if name == "check" {
-        check_in(matches)
-    } else if name == "audit" {
-        audit_in(matches)
-    } else if name == "races" {
-        races_in(matches)
-    } else if name == "slice" {
-        slice_in(matches)
-    } else if name == "convert" {
-        convert_in(matches)
-    } else if name == "salvage" {
-        salvage_in(matches)
-    } else if name == "demo" {
-        demo_in(matches)
     } else {
-        None
+        named_later(name, matches)
     }
 }

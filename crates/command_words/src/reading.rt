@@ -1,14 +1,15 @@
 // The words of a command line are read.
-ghost use Rattle.std.specs.Prelude.{◌≡◌, IfOk, Some, None, Err, option_map};
-ghost use Rattle.clap.specs.Words.{subcommand_rows_of};
+ghost use Rattle.std.specs.Prelude.{◌≡◌, ◌≢◌, ◌↔◌, IfErr, IfOk, Some, None, Err, option_map};
+ghost use Rattle.clap.specs.Words.{kind_of, subcommand_rows_of};
+ghost use Rattle.clap.specs.declared.error.kind.ErrorKind.TheVariants as kind;
 ghost use Rattle.command_words.specs.Words.{command_in, line_in, seen};
 
 use crate::commands::Command;
 use crate::definition::bugnet_command;
 use crate::error::WordsError;
 use crate::found::named;
-use clap::ArgMatches;
 use clap::error::ErrorKind;
+use clap::{ArgMatches, Error};
 use std::alloc::Global;
 
 fn matched<'a>(matches: &ArgMatches<'a>) -> Option<Command<'a>>
@@ -17,6 +18,27 @@ fn matched<'a>(matches: &ArgMatches<'a>) -> Option<Command<'a>>
     match matches.subcommand() {
         None => None,
         Some((name, found)) => named(name, found),
+    }
+}
+
+// What the matches of a line ask for.
+fn asked_by<'a>(matches: &ArgMatches<'a>) -> Result<Command<'a>, WordsError>
+    ensures taken { IfOk result (λ c. line_in (subcommand_rows_of matches.now) ≡ Some (seen c)) }
+    ensures refused { IfErr result (λ e. (e ≡ WordsError.Refused) × (line_in (subcommand_rows_of matches.now) ≡ None)) }
+{
+    match matched(matches) {
+        Some(asked) => Ok(asked),
+        None => Err(WordsError::Refused),
+    }
+}
+
+// Why a line has no matches.
+fn refusal_by(error: &Error) -> WordsError
+    ensures { result ≡ WordsError.Refused ↔ kind_of error.now ≢ kind.OutOfMemory }
+{
+    match error.kind() {
+        ErrorKind::OutOfMemory => WordsError::OutOfMemory,
+        _ => WordsError::Refused,
     }
 }
 
@@ -50,13 +72,7 @@ pub fn read_words<'a>(alloc: Global, words: &'a [String]) -> Result<Command<'a>,
 {
     let command = bugnet_command(alloc)?;
     match command.try_get_matches_from(words) {
-        Ok(matches) => match matched(&matches) {
-            Some(asked) => Ok(asked),
-            None => Err(WordsError::Refused),
-        },
-        Err(error) => match error.kind() {
-            ErrorKind::OutOfMemory => Err(WordsError::OutOfMemory),
-            _ => Err(WordsError::Refused),
-        },
+        Ok(matches) => asked_by(&matches),
+        Err(error) => Err(refusal_by(&error)),
     }
 }

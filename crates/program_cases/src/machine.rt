@@ -2,8 +2,26 @@
 use bn_outside::{Gate, MemorySink, MemorySource, MemoryStore};
 use bugnet::run;
 use std::alloc::{AllocError, Global};
+use std::mem::replace;
 use std::sync::Wait;
 use std::thread::Threads;
+
+// Puts a word behind others.
+fn add_word(alloc: Global, words: &mut Vec<String>, word: &str) -> Result<(), AllocError> {
+    let word = String::from_str(alloc, word)?;
+    words.push(word)?;
+    Ok(())
+}
+
+// The words of a call, behind the program's name.
+fn call_words(alloc: Global, words: &[&str]) -> Result<Vec<String>, AllocError> {
+    let mut owned = Vec::new(alloc);
+    add_word(alloc, &mut owned, "bugnet")?;
+    for word in words {
+        add_word(alloc, &mut owned, word)?;
+    }
+    Ok(owned)
+}
 
 /// What calls of the program meet and leave.
 #[derive(Drop)]
@@ -41,20 +59,46 @@ impl Machine {
     }
 
     /// The bytes of a file; none where it isn't there.
-    pub fn file(&self, name: &str) -> Result<Vec<u8>, AllocError> {
-        match self.store.bytes(name) {
-            Some(bytes) => bytes.to_vec(self.alloc),
-            None => Ok(Vec::new(self.alloc)),
-        }
+    pub fn bytes(&self, name: &str) -> &[u8] {
+        self.store.bytes(name).unwrap_or(&[])
     }
 
     // What the next call reads.
-    fn source(&mut self) -> Result<MemorySource, AllocError> {
-        let keys = self.keys.to_vec(self.alloc)?;
-        let failing = self.failing_keys.to_vec(self.alloc)?;
-        self.keys.clear();
-        self.failing_keys.clear();
-        Ok(MemorySource::new(keys, failing))
+    fn source(&mut self) -> MemorySource {
+        let keys = replace(&mut self.keys, Vec::new(self.alloc));
+        let failing = replace(&mut self.failing_keys, Vec::new(self.alloc));
+        MemorySource::new(keys, failing)
+    }
+
+    // Empties the outputs of the next call, of which writes fail.
+    fn clear(&mut self) {
+        let failing = replace(&mut self.failing, Vec::new(self.alloc));
+        self.out = MemorySink::new(self.alloc, failing);
+        let failing = replace(&mut self.failing_err, Vec::new(self.alloc));
+        self.err = MemorySink::new(self.alloc, failing);
+    }
+
+    // Calls the program with these words, and notes what of its input is left.
+    fn call<G: Gate, R: Threads + Wait + Sync>(
+        &mut self,
+        rt: &R,
+        words: &[String],
+        gate: &G,
+    ) -> u8 {
+        let mut input = self.source();
+        let some = !input.left().is_empty();
+        let status = run(
+            rt,
+            self.alloc,
+            words,
+            &mut self.store,
+            &mut input,
+            &mut self.out,
+            &mut self.err,
+            gate,
+        );
+        self.left = if some { Some(input.left().len()) } else { None };
+        status
     }
 
     /// Runs the program, with empty outputs.
@@ -64,30 +108,8 @@ impl Machine {
         words: &[&str],
         gate: &G,
     ) -> Result<u8, AllocError> {
-        let mut owned = Vec::new(self.alloc);
-        owned.push(String::from_str(self.alloc, "bugnet")?)?;
-        for word in words {
-            owned.push(String::from_str(self.alloc, word)?)?;
-        }
-        let failing = self.failing.to_vec(self.alloc)?;
-        self.failing.clear();
-        let failing_err = self.failing_err.to_vec(self.alloc)?;
-        self.failing_err.clear();
-        let mut input = self.source()?;
-        let some = !input.left().is_empty();
-        self.out = MemorySink::new(self.alloc, failing);
-        self.err = MemorySink::new(self.alloc, failing_err);
-        let status = run(
-            rt,
-            self.alloc,
-            &owned,
-            &mut self.store,
-            &mut input,
-            &mut self.out,
-            &mut self.err,
-            gate,
-        );
-        self.left = if some { Some(input.left().len()) } else { None };
-        Ok(status)
+        let words = call_words(self.alloc, words)?;
+        self.clear();
+        Ok(self.call(rt, &words, gate))
     }
 }

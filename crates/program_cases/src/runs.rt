@@ -1,4 +1,6 @@
 // The lines of a script that are about runs below the top call.
+ghost use Rattle.std.specs.Prelude.{◌≤◌};
+
 use crate::hex;
 use crate::serving::{run_plain, run_steps};
 use crate::whole_runs::{by_number, by_turns, with_list};
@@ -6,7 +8,40 @@ use crate::words::{code, harts, number};
 use bn_base::{HartId, Image, RawSettings, Segment, Settings};
 use bn_outside::{FullBook, LeanBook};
 use run_model::Start;
-use std::alloc::Global;
+use std::alloc::{AllocError, Global};
+use std::mem::replace;
+
+// The records of a run whose turns a number chooses, with their list or with a book of rows.
+fn run_seed<R: Print>(
+    rt: &R,
+    alloc: Global,
+    start: &Start,
+    verb: &str,
+    words: &[&str],
+) -> anyhow::Result<Vec<u8>> {
+    let seed = number(words.first())? as u64;
+    if verb == "seed" {
+        return by_number(rt, alloc, start, seed);
+    }
+    with_list(rt, alloc, start, seed)
+}
+
+// The records of a run whose turns the words of a line list.
+fn run_words<R: Print>(
+    rt: &R,
+    alloc: Global,
+    start: &Start,
+    verb: &str,
+    words: &[&str],
+) -> anyhow::Result<Vec<u8>> {
+    let list = harts(alloc, words)?;
+    run_list(rt, alloc, start, verb, &list)
+}
+
+// Records that are there.
+fn some(records: anyhow::Result<Vec<u8>>) -> anyhow::Result<Option<Vec<u8>>> {
+    Ok(Some(records?))
+}
 
 // The records of the run that a line says; none where it says no run.
 fn run<R: Print>(
@@ -17,24 +52,16 @@ fn run<R: Print>(
     words: &[&str],
 ) -> anyhow::Result<Option<Vec<u8>>> {
     if verb == "serve" {
-        return Ok(Some(run_steps(rt, alloc, start, FullBook::new(alloc), words)?));
+        some(run_steps(rt, alloc, start, FullBook::new(alloc), words))
+    } else if verb == "serve-lean" {
+        some(run_steps(rt, alloc, start, LeanBook, words))
+    } else if verb == "seed" || verb == "seed-listed" {
+        some(run_seed(rt, alloc, start, verb, words))
+    } else if verb == "plain" || verb == "turns" || verb == "turns-lean" {
+        some(run_words(rt, alloc, start, verb, words))
+    } else {
+        Ok(None)
     }
-    if verb == "serve-lean" {
-        return Ok(Some(run_steps(rt, alloc, start, LeanBook, words)?));
-    }
-    if verb == "seed" {
-        let seed = number(words.first())? as u64;
-        return Ok(Some(by_number(rt, alloc, start, seed)?));
-    }
-    if verb == "seed-listed" {
-        let seed = number(words.first())? as u64;
-        return Ok(Some(with_list(rt, alloc, start, seed)?));
-    }
-    if verb == "plain" || verb == "turns" || verb == "turns-lean" {
-        let list = harts(alloc, words)?;
-        return Ok(Some(run_list(rt, alloc, start, verb, &list)?));
-    }
-    Ok(None)
 }
 
 // The records of a run whose turns are listed.
@@ -78,19 +105,27 @@ impl Runs {
         }
     }
 
-    // What a run begins with. The code stands at 0x10054, and is at most 64 words long.
-    fn start(&self) -> anyhow::Result<Start> {
-        let settings = Settings::checked(&self.raw)?;
-        anyhow::ensure!(settings.memory() >= 0x20000, "a small memory");
+    // The program. The code stands at 0x10054, and is at most 64 words long.
+    fn image(&self, settings: &Settings) -> Result<Image, AllocError>
+        requires { 131072 ≤ settings.now.memory }
+    {
         let mut words = self.code.to_vec(self.alloc)?;
         words.truncate(64);
         let count = words.len() as u32;
         let segment = Segment::new(0x10054, words, count, true, false);
         let segments = Vec::from_array(self.alloc, [segment])?;
+        Ok(Image::new(segments, 0x10054, settings))
+    }
+
+    // What a run begins with.
+    fn start(&self) -> anyhow::Result<Start> {
+        let settings = Settings::checked(&self.raw)?;
+        anyhow::ensure!(settings.memory() >= 0x20000, "a small memory");
+        let input = self.input.to_vec(self.alloc)?;
         Ok(Start {
-            image: Image::new(segments, 0x10054, &settings),
+            image: self.image(&settings)?,
             settings,
-            input: self.input.to_vec(self.alloc)?,
+            input,
             digest: [0; 32],
         })
     }
@@ -136,13 +171,22 @@ impl Runs {
         Ok(true)
     }
 
+    // The records of the run that a line says; none where it says none.
+    fn records<R: Print>(
+        &self,
+        rt: &R,
+        verb: &str,
+        words: &[&str],
+    ) -> anyhow::Result<Option<Vec<u8>>> {
+        let start = self.start()?;
+        run(rt, self.alloc, &start, verb, words)
+    }
+
     // Does the run that a line says; false where it says none.
     fn begin<R: Print>(&mut self, rt: &R, verb: &str, words: &[&str]) -> anyhow::Result<bool> {
-        let start = self.start()?;
-        match run(rt, self.alloc, &start, verb, words)? {
+        match self.records(rt, verb, words)? {
             Some(records) => {
-                self.before = self.last.to_vec(self.alloc)?;
-                self.last = records;
+                self.before = replace(&mut self.last, records);
                 Ok(true)
             }
             None => Ok(false),

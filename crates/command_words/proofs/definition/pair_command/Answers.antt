@@ -1,0 +1,6 @@
+use Rattle.std.proofs.Common.{codes}
+use Rattle.command_words.specs.App.{log_app, word}
+use Rattle.command_words.proofs.definition.pair_command.Goals as goal
+
+pub returns : goal.returns
+returns c = c.add_argument.ensures (log_app c.args.name.now) (word (codes "elf")) c.log_command.ensures c.word.ensures
