@@ -1,21 +1,25 @@
 -- A hart that asks what it asks next.
-use Rattle.std.proofs.Common.{◌≡◌, ℕ, Bool, true, false, not, ◌||◌, refl, sym, ◌∙◌, ap}
+use Rattle.std.proofs.Common.{◌≡◌, ℕ, ◌<◌, List, length, Bool, true, false, not, ◌||◌, refl, sym, ◌∙◌, ap}
 use Rattle.std.proofs.lemmas.Option.{get_or_from_slice_get}
 use Rattle.rv_meaning.specs.declared.asks.Ask.{Ask}
 use Rattle.rv_meaning.specs.declared.asks.Reply.{Reply}
 use Rattle.run_model.specs.declared.hart.Hart.{Hart}
-use Rattle.run_model.specs.Stands.Harts.{hart_in, no_hart}
+use Rattle.run_model.specs.Stands.Harts.{AreHarts, hart_in, no_hart}
 use Rattle.run_model.specs.Stands.Plain.{PlainParts, IsRun}
 use Rattle.run_model.specs.Stands.Turning.{is_live}
 use Rattle.run_model.specs.Turn.{Run, ask_at, is_orderly}
 use Rattle.bus_core.specs.Bus.{Began, row, turn_row, served_reply, served_guarded}
 use Rattle.bus_core.proofs.Rows.{live_within}
 
--- a live hart is that of each run
-hart_is : (p : PlainParts) (run : Run) (k : ℕ) → IsRun p run → is_live p k ≡ true → hart_in p.trace.harts.items k ≡ run.harts k
-hart_is p run k is live = get_or_from_slice_get p.trace.harts.items k (run.harts k) no_hart (is.trace.harts k (live_within p.trace.harts.items k live))
+-- a hart of the list is that of each run
+pub hart_at : (hs : List Hart) (f : ℕ → Hart) (k : ℕ) → AreHarts hs f → k < length hs → hart_in hs k ≡ f k
+hart_at hs f k are within = get_or_from_slice_get hs k (f k) no_hart (are k within)
 
--- so is what it asks next, and that is orderly
+-- so is a live one
+hart_is : (p : PlainParts) (run : Run) (k : ℕ) → IsRun p run → is_live p k ≡ true → hart_in p.trace.harts.items k ≡ run.harts k
+hart_is p run k is live = hart_at p.trace.harts.items run.harts k is.trace.harts (live_within p.trace.harts.items k live)
+
+-- what it asks next is that of each run, and orderly
 pub ask_is : (p : PlainParts) (run : Run) (k : ℕ) (ask : Ask) → IsRun p run → is_live p k ≡ true → ask ≡ ask_at p.start.settings p.start.image (hart_in p.trace.harts.items k) → ask ≡ ask_at p.start.settings p.start.image (run.harts k)
 ask_is p run k ask is live e = e ∙ ap (λ (h : Hart). ask_at p.start.settings p.start.image h) (hart_is p run k is live)
 

@@ -5,7 +5,7 @@ use Rattle.bn_base.specs.Programs.{Program}
 use Rattle.bn_base.specs.declared.settings.RawSettings.{RawSettings}
 use Rattle.bn_outside.specs.declared.turn_row.TurnRow.{TurnRow}
 use Rattle.run_model.specs.declared.hart.Hart.{Hart}
-use Rattle.run_model.specs.Stands.Harts.{AreHarts, is_live_hart}
+use Rattle.run_model.specs.Stands.Harts.{AreHarts, hart_in, is_live_hart}
 use Rattle.run_model.specs.Runs.{is_live}
 use Rattle.run_model.specs.Turn.{Run, serve, is_orderly, dead}
 use Rattle.run_laws.specs.History.{after_rows, are_orderly, IsLawful}
@@ -40,6 +40,10 @@ not_both a b d o e ed eo ee = ee ∙ ap (λ (x : Bool). x || not o) ed ∙ ap (�
     by_both false true = refl
     by_both false false = refl
 
+pub second_of : (a b : Bool) → (a && b) ≡ true → b ≡ true
+second_of true b e = e
+second_of false b e = cc
+
 -- ---- live harts
 
 -- what is live stands in the list
@@ -48,6 +52,13 @@ live_within [] zero e = cc
 live_within [] (suc k) e = cc
 live_within (h ∷ hs) zero e = omega arith
 live_within (h ∷ hs) (suc k) e = omega (arith, live_within hs k e)
+
+-- and is the hart of its place
+pub live_there : (hs : List Hart) (k : ℕ) → is_live_hart (slice_get hs k) ≡ true → (hart_in hs k).live ≡ true
+live_there [] zero e = cc
+live_there [] (suc k) e = cc
+live_there (h ∷ hs) zero e = e
+live_there (h ∷ hs) (suc k) e = live_there hs k e
 
 below : (k n : ℕ) → k < n → nat_lt k n ≡ true
 below k n h = grind (arith, h)

@@ -3,14 +3,16 @@ ghost use Rattle.std.specs.Prelude.{◌≡◌, IfOk};
 ghost use Rattle.log_file.specs.declared.error.FileError.TheVariants.{OutOfMemory};
 ghost use Rattle.log_file.specs.Counts.{counts_of};
 ghost use Rattle.log_file.specs.Layout.{file_bytes};
-ghost use Rattle.demo_run.specs.Demonstration.{demo, demo_log, figures_of, demo_text};
+ghost use Rattle.demo_run.specs.Demonstration.{demo, demo_program, demo_log, figures_of, demo_text};
+ghost use Rattle.demo_run.specs.Starts.{IsRecordedRun};
 
 use crate::counting::count_rows;
 use crate::figures::Figures;
 use crate::joining::join;
 use crate::laws::demonstrations_are_recordings;
-use crate::recording::record;
+use crate::recording::{Recorded, record};
 use crate::starting::start_of;
+use bn_base::Image;
 use file_laws::logs_are_contents;
 use joint_laws::{own_logs_are_logs, recordings_run_to_the_end};
 use log_file::{FileError, LogCounts, count_file, read_file};
@@ -60,17 +62,31 @@ fn counts(file: &[u8], seed: u64) -> LogCounts
 fn figures(alloc: Global, seed: u64) -> Result<Figures, AllocError>
     ensures { IfOk result (λ figures. figures ≡ figures_of seed (demo seed)) }
 {
+    let start = start_of(alloc, seed)?;
+    let recorded = record(alloc, &start, seed)?;
+    replay(alloc, &start.image, &recorded, seed)
+}
+
+// The replays of a recording, counted with it.
+fn replay(
+    alloc: Global,
+    image: &Image,
+    recorded: &Recorded,
+    seed: u64,
+) -> Result<Figures, AllocError>
+    requires image { image.now ≡ demo_program seed }
+    requires recorded { IsRecordedRun seed recorded.now }
+    ensures { IfOk result (λ figures. figures ≡ figures_of seed (demo seed)) }
+{
     demonstrations_are_recordings();
     the_log_suffices();
     the_rows_of_an_interval_stand_together();
     own_logs_are_logs();
     recordings_run_to_the_end();
-    let start = start_of(alloc, seed)?;
-    let recorded = record(alloc, &start, seed)?;
     let log = read_back(alloc, &recorded.file, seed)?;
     let counts = counts(&recorded.file, seed);
-    let rows = count_rows(alloc, &start.image, &log)?;
-    let known = join(alloc, &start.image, &log)?;
+    let rows = count_rows(alloc, image, &log)?;
+    let known = join(alloc, image, &log)?;
     Ok(Figures {
         seed,
         turns: recorded.turns,

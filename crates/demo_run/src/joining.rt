@@ -51,6 +51,15 @@ fn known_bytes(alloc: Global, joint: &Joint) -> Result<Vec<u8>, AllocError>
     }
 }
 
+// The bytes of the words that are known after all steps.
+fn known_after(alloc: Global, joint: &mut Joint) -> Result<Vec<u8>, AllocError>
+    requires { (run_all joint.old).stopped ≡ None }
+    ensures { IfOk result (λ bytes. bytes.items ≡ flat_map word_bytes (run_all joint.old).walk.now.memory) }
+{
+    go_through(alloc, joint)?;
+    known_bytes(alloc, joint)
+}
+
 /// Replays all intervals of a log together, and gives the words that are known then by ascending
 /// address, each behind its address. The only error is want of memory.
 pub fn join(alloc: Global, image: &Image, log: &KeptLog) -> Result<Vec<u8>, AllocError>
@@ -59,9 +68,6 @@ pub fn join(alloc: Global, image: &Image, log: &KeptLog) -> Result<Vec<u8>, Allo
 {
     match Joint::begin(alloc, image, log) {
         Err(_) => Err(AllocError),
-        Ok(mut joint) => {
-            go_through(alloc, &mut joint)?;
-            known_bytes(alloc, &joint)
-        }
+        Ok(mut joint) => known_after(alloc, &mut joint),
     }
 }

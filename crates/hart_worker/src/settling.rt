@@ -1,11 +1,12 @@
 // What is left to do when all harts that ran by themselves have stopped.
-ghost use Rattle.std.specs.Prelude.{◌≡◌, ◌<◌, ◌++◌, ℕ, true, false, List, length, IfOk};
+ghost use Rattle.std.specs.Prelude.{◌≡◌, ◌<◌, ◌++◌, ℕ, true, false, List, length, OnOk, IfOk};
 ghost use mathlib.Core.List.{IsPrefix};
 ghost use Rattle.bn_outside.specs.declared.turn_row.TurnRow.{TurnRow};
+ghost use Rattle.run_laws.specs.Laws.{harts_of};
 ghost use Rattle.run_model.specs.Runs.{seeded};
 ghost use Rattle.bus_core.specs.Bus.{began_of};
 ghost use Rattle.hart_worker.specs.Closed.{IsClosed, IsOfRows};
-ghost use Rattle.hart_worker.specs.Lists.{HasTaken, is_finished};
+ghost use Rattle.hart_worker.specs.Lists.{HasTaken, is_finished, seeded_after};
 ghost use Rattle.hart_worker.specs.Threads.{AreWorked, DoAgree, IsThreaded, AreBySeed};
 
 use crate::comparing::{begins_with, compares};
@@ -28,7 +29,7 @@ pub fn settle<B: Book>(
     alloc: Global,
     code: &DecodedImage,
     from: &Start,
-    mut bus: Bus<B>,
+    bus: Bus<B>,
     worked: &[Result<Worked, AllocError>],
 ) -> Result<Closed<B>, AllocError>
     requires code { code.now ≡ from.now.image }
@@ -41,16 +42,60 @@ pub fn settle<B: Book>(
     ensures by_seed { IfOk result (λ c. B.tells ≡ true → AreBySeed (began_of from.now) bus.rows 0 (B.told c.book)) }
     ensures keeps { bus.began ≡ began_of from.now → DoAgree (began_of from.now) bus.rows worked.now → bus.halted ≡ false → B.tells ≡ true → IfOk result (λ c. IsPrefix bus.rows (B.told c.book)) }
 {
-    lists_go_on();
     if begins_with(&bus, from) && compares(&bus, from, worked) {
-        let _more = finish(alloc, code, &mut bus, 0)?;
-        let closed = close_own(from, bus);
-        if closed.finished {
-            return Ok(closed);
-        }
-        return again(alloc, from, closed.book);
+        return finish_own(alloc, code, from, bus);
     }
-    again(alloc, from, bus.close().book)
+    again(alloc, from, book_of(bus.close()))
+}
+
+// The run of a bus whose turns are each hart's own, finished by the turns of seed 0; where it was halted,
+// made again by these.
+fn finish_own<B: Book>(
+    alloc: Global,
+    code: &DecodedImage,
+    from: &Start,
+    mut bus: Bus<B>,
+) -> Result<Closed<B>, AllocError>
+    requires code { code.now ≡ from.now.image }
+    requires began { bus.began ≡ began_of from.now }
+    requires taken { B.tells ≡ true → bus.halted ≡ false → HasTaken B.tells bus (harts_of bus.rows) }
+    ensures finished { IfOk result (λ c. c.finished ≡ true) }
+    ensures size { IfOk result (λ c. c.ring.size ≡ from.now.settings.log_size) }
+    ensures of_rows { IfOk result (λ c. (rows : List TurnRow) × IsOfRows (began_of from.now) c rows) }
+    ensures run { IfOk result (λ c. B.tells ≡ true → IsThreaded (began_of from.now) c (B.told c.book)) }
+    ensures by_seed { IfOk result (λ c. B.tells ≡ true → AreBySeed (began_of from.now) bus.rows 0 (B.told c.book)) }
+    ensures keeps { B.tells ≡ true → bus.halted ≡ false → IfOk result (λ c. IsPrefix bus.rows (B.told c.book)) }
+{
+    lists_go_on();
+    finish_by_zero(alloc, code, &mut bus)?;
+    let closed = close_own(from, bus);
+    if closed.finished {
+        return Ok(closed);
+    }
+    again(alloc, from, book_of(closed))
+}
+
+// Turns chosen by the draws after seed 0, until no hart is live.
+fn finish_by_zero<B: Book>(
+    alloc: Global,
+    code: &DecodedImage,
+    bus: &mut Bus<B>,
+) -> Result<(), AllocError>
+    requires { code.now ≡ bus.old.began.image }
+    ensures taken { OnOk result ((list : List ℕ) → HasTaken B.tells bus.old list → HasTaken B.tells bus.new (list ++ seeded_after bus.old.began list 0)) }
+    ensures finished { OnOk result ((list : List ℕ) → HasTaken B.tells bus.old list → is_finished bus.new.began (list ++ seeded_after bus.old.began list 0) ≡ true) }
+    ensures began { bus.new.began ≡ bus.old.began }
+    ensures halted { bus.new.halted ≡ bus.old.halted }
+{
+    let _more = finish(alloc, code, bus, 0)?;
+    Ok(())
+}
+
+// The book that was handed over; all else is given up.
+fn book_of<B: Book>(closed: Closed<B>) -> B
+    ensures { result ≡ closed.book }
+{
+    closed.book
 }
 
 // What is handed over, after turns of which each hart's are its own.

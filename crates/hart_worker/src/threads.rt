@@ -1,5 +1,6 @@
 //! Runs whose harts are in threads of their own.
-ghost use Rattle.std.specs.Prelude.{◌≡◌, ◌<◌, ℕ, true, List, length, vec_len, slice_index_or, IfOk};
+ghost use Rattle.std.specs.Prelude.{◌≡◌, ◌<◌, ℕ, true, false, List, length, vec_len, slice_index_or, is_err, IfOk};
+ghost use Rattle.std.specs.List.{list_any};
 ghost use Rattle.bn_outside.specs.declared.turn_row.TurnRow.{TurnRow};
 ghost use Rattle.bus_core.specs.Bus.{began_of};
 ghost use Rattle.hart_worker.specs.Closed.{IsOfRows, HoldsContent};
@@ -42,14 +43,56 @@ pub fn run_threads<B: Book + Send, G: Gate, R: Threads + Wait + Sync>(
     logs_of_rows_are_contents();
     let _settings = from.settings.raw();
     let code = DecodedImage::new(alloc, &from.image)?;
-    let bus = Mutex::new(Bus::new(alloc, from, book)?);
-    let worked = run_workers(rt, alloc, &bus, &code, from, gate)?;
-    for one in &worked {
-        if one.is_err() {
-            return Err(AllocError);
-        }
+    let bus = Bus::new(alloc, from, book)?;
+    run_bus(rt, alloc, &code, from, bus, gate)
+}
+
+// The run of a bus, each hart in a thread of its own.
+fn run_bus<B: Book + Send, G: Gate, R: Threads + Wait + Sync>(
+    rt: &R,
+    alloc: Global,
+    code: &DecodedImage,
+    from: &Start,
+    bus: Bus<B>,
+    gate: &G,
+) -> Result<Closed<B>, AllocError>
+    requires { code.now ≡ from.now.image }
+    ensures finished { IfOk result (λ c. c.finished ≡ true) }
+    ensures size { IfOk result (λ c. c.ring.size ≡ from.now.settings.log_size) }
+    ensures of_rows { IfOk result (λ c. (rows : List TurnRow) × IsOfRows (began_of from.now) c rows) }
+    ensures run { IfOk result (λ c. B.tells ≡ true → IsThreaded (began_of from.now) c (B.told c.book)) }
+{
+    let bus = Mutex::new(bus);
+    let worked = run_all(rt, alloc, &bus, code, from, gate)?;
+    settle(alloc, code, from, bus.into_inner(), &worked)
+}
+
+// What each hart did; an error where one found no memory.
+fn run_all<B: Book + Send, G: Gate, R: Threads + Wait + Sync>(
+    rt: &R,
+    alloc: Global,
+    bus: &Mutex<Bus<B>>,
+    code: &DecodedImage,
+    from: &Start,
+    gate: &G,
+) -> Result<Vec<Result<Worked, AllocError>>, AllocError>
+    requires { code.now ≡ from.now.image }
+    ensures len { IfOk result (λ v. vec_len v ≡ from.now.settings.harts) }
+    ensures each { IfOk result (λ v. AreWorked (began_of from.now) v.items) }
+    ensures found { IfOk result (λ v. list_any is_err v.items ≡ false) }
+{
+    let worked = run_workers(rt, alloc, bus, code, from, gate)?;
+    if any_failed(&worked) {
+        return Err(AllocError);
     }
-    settle(alloc, &code, from, bus.into_inner(), &worked)
+    Ok(worked)
+}
+
+// Whether some hart found no memory.
+fn any_failed(worked: &[Result<Worked, AllocError>]) -> bool
+    ensures { result ≡ list_any is_err worked.now }
+{
+    worked.iter().any(|one| one.is_err())
 }
 
 // What each hart did, in a thread of its own.

@@ -1,5 +1,5 @@
 //! A hart in a thread of its own.
-ghost use Rattle.std.specs.Prelude.{◌≡◌, true, false, [], is_some, IfOk, IfSome, IfNone, OnErr, IsTrue};
+ghost use Rattle.std.specs.Prelude.{◌≡◌, true, false, [], ◌∷◌, ◌++◌, is_some, IfOk, IfSome, IfNone, OnOk, OnErr, IsTrue};
 ghost use Rattle.rv_meaning.specs.Orderly.{is_reply_to};
 ghost use Rattle.run_laws.specs.History.{IsOwn};
 ghost use Rattle.run_laws.specs.Laws.{place_over};
@@ -82,6 +82,23 @@ impl<'a, B: Book, R: Wait> LockedBus<'a, B, R> {
             over: false,
         }
     }
+
+    // Keeps the row of a turn, where the book tells its rows. Where memory is wanting, no hart is live any
+    // more.
+    fn keep(&mut self, row: TurnRow) -> Result<(), AllocError>
+        ensures told { OnOk result (B.tells ≡ true → self.new.mine.items ≡ self.old.mine.items ++ row ∷ []) }
+        ensures lean { OnOk result (B.tells ≡ false → self.new.mine.items ≡ self.old.mine.items) }
+        ensures over { self.new.over ≡ self.old.over }
+    {
+        if !self.tells {
+            return Ok(());
+        }
+        if self.mine.extend_from_slice(&[row]).is_err() {
+            self.bus.lock(self.rt).halt();
+            return Err(AllocError);
+        }
+        Ok(())
+    }
 }
 
 impl<B: Book, R: Wait> Desk for LockedBus<'_, B, R> {
@@ -97,18 +114,12 @@ impl<B: Book, R: Wait> Desk for LockedBus<'_, B, R> {
         let Some((reply, guarded)) = taken else {
             return Ok(None);
         };
-        if self.tells {
-            let row = TurnRow {
-                hart,
-                ask: *ask,
-                reply,
-                guarded,
-            };
-            if self.mine.extend_from_slice(&[row]).is_err() {
-                self.bus.lock(self.rt).halt();
-                return Err(AllocError);
-            }
-        }
+        self.keep(TurnRow {
+            hart,
+            ask: *ask,
+            reply,
+            guarded,
+        })?;
         Ok(Some((reply, guarded)))
     }
 }

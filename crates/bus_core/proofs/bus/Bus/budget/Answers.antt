@@ -1,0 +1,17 @@
+use Rattle.std.proofs.Common.{◌<◌, ◌∙◌, ap, subst, sym}
+use Rattle.run_model.specs.declared.hart.Hart.{Hart}
+use Rattle.run_model.specs.Stands.Turning.{parts}
+use Rattle.run_model.specs.Turn.{budget}
+use Rattle.bus_core.specs.Bus.{Seen, seen, IsState}
+use Rattle.bus_core.proofs.OwnTurn.{hart_at}
+use Rattle.bus_core.proofs.bus.Bus.budget.Goals as goal
+
+pub returns : goal.returns
+returns g c = λ run is.
+    let b = c.self.inside in
+    let p = parts b.plain in
+    let k = c.args.hart in
+    let at : IsState (seen p b.halted b.disordered (g.B.Book.told b.book)) run = subst (λ (x : Seen). IsState x run) (sym c.self.view_is) is in
+    let within = subst (λ n. k < n) (sym b.plain.fits.harts) (subst (λ (x : Seen). k < x.began.settings.harts) (sym c.self.view_is) c.requires) in
+    let same = hart_at p.trace.harts.items run.harts k at.harts within in
+    c.budget.ensures ∙ ap (λ (h : Hart). budget p.start.settings h) same ∙ ap (λ (x : Seen). budget x.began.settings (run.harts k)) c.self.view_is
