@@ -5,7 +5,7 @@ ghost use Rattle.bn_outside.specs.Files.{Files};
 ghost use Rattle.joint_replay.specs.declared.error.JointError.TheVariants.{Stuck};
 ghost use Rattle.joint_replay.specs.Joining.{run_all};
 ghost use Rattle.joint_replay.specs.Texts.{known_text, steps_text, memory_text, joint_text};
-ghost use Rattle.bugnet.specs.Joined.{position_text, positions_text, stuck_line, IsJoint};
+ghost use Rattle.bugnet.specs.Joined.{position_text, positions_text, stuck_line, ran_told, IsJoint};
 ghost use Rattle.bugnet.specs.Joinings.{told_of_joint, stop_of, RanAs, ToldEnd};
 ghost use Rattle.bugnet.specs.Outside.{GivesBy, IsPrinted, ResultCause, WithFiles, Sent, Gathered};
 ghost use Rattle.bugnet.specs.Run.{printing, Tells};
@@ -216,6 +216,30 @@ fn end<X: Sink>(alloc: Global, names: &Names, stopped: &Option<JointError>, err:
     }
 }
 
+// Prints a joint replay from where it stands.
+fn print_run<O: Sink, X: Sink>(
+    alloc: Global,
+    names: &Names,
+    joint: &mut Joint,
+    out: &mut O,
+    err: &mut X,
+) -> u8
+    ensures told { (files : Option Files) (had : Counts) → Tells names.now (ran_told names.now (run_all joint.old)) result (printing files had O.written O.faults X.written X.faults out.old err.old out.new err.new) }
+    ensures out_later { O.faults out.old ≤ O.faults out.new }
+    ensures err_later { X.faults err.old ≤ X.faults err.new }
+    ensures write { result ≡ 13 → Rose (O.faults out.old) (O.faults out.new) ⊎ Rose (X.faults err.old) (X.faults err.new) }
+    ensures words { result ≢ 2 }
+    ensures read { result ≢ 12 }
+    ensures failed { result ≢ 3 }
+    ensures missing { result ≢ 4 }
+    ensures long { result ≢ 5 }
+{
+    match send_joint(alloc, joint, out) {
+        Err(refusal) => refuse(alloc, names, &refusal, err),
+        Ok(stopped) => end(alloc, names, &stopped, err),
+    }
+}
+
 /// Prints the joint replay of a log: the lines of its steps, and then the known words.
 pub fn print_joint<O: Sink, X: Sink>(
     alloc: Global,
@@ -236,9 +260,6 @@ pub fn print_joint<O: Sink, X: Sink>(
 {
     match Joint::begin(alloc, &reading.image, &reading.log) {
         Err(_) => refuse(alloc, names, &Refusal::OutOfMemory, err),
-        Ok(mut joint) => match send_joint(alloc, &mut joint, out) {
-            Err(refusal) => refuse(alloc, names, &refusal, err),
-            Ok(stopped) => end(alloc, names, &stopped, err),
-        },
+        Ok(mut joint) => print_run(alloc, names, &mut joint, out, err),
     }
 }
