@@ -1,5 +1,5 @@
 // The joint replay of all intervals that a log keeps.
-ghost use Rattle.std.specs.Prelude.{◌≡◌, ◌≢◌, ◌≤◌, ◌⊎◌, ◌++◌, Option, Some, None, OnOk, IfOk};
+ghost use Rattle.std.specs.Prelude.{◌≡◌, ◌≢◌, ◌≤◌, ◌⊎◌, ◌++◌, [], Option, Some, None, OnOk, IfOk};
 ghost use Rattle.bn_outside.specs.Counts.{Counts, NoneFell, Rose};
 ghost use Rattle.bn_outside.specs.Files.{Files};
 ghost use Rattle.joint_replay.specs.declared.error.JointError.TheVariants.{Stuck};
@@ -51,8 +51,44 @@ fn stop_of(error: JointError) -> Result<Option<JointError>, Refusal>
     }
 }
 
-// Sends the lines of all steps, in blocks, and answers why the run stopped, if not with all harts
-// done.
+// Sends the lines of all steps, in blocks, of which none waits yet, and answers why the run stopped,
+// if not with all harts done.
+fn send_run<O: Sink>(
+    joint: &mut Joint,
+    lines: &mut RowLines,
+    text: &mut Text,
+    out: &mut O,
+) -> Result<Option<JointError>, Refusal>
+    requires { text.old ≡ [] }
+    ensures sent { let r = run_all joint.old in
+        Sent (O.written out.old) (O.written out.new) (O.faults out.old) (O.faults out.new) (steps_text r.walk.taken) (RanAs joint.old joint.new) result }
+    ensures later { O.faults out.old ≤ O.faults out.new }
+{
+    runs_go_on();
+    runs_end();
+    'steps: loop {
+        match joint.advance(lines, text) {
+            Ok(more) => {
+                if !more {
+                    match send(out, text) {
+                        Ok(()) => return Ok(None),
+                        Err(refusal) => return Err(refusal),
+                    }
+                }
+                match send_block(text, out) {
+                    Ok(()) => (),
+                    Err(refusal) => return Err(refusal),
+                }
+            }
+            Err(error) => match send(out, text) {
+                Ok(()) => return stop_of(error),
+                Err(refusal) => return Err(refusal),
+            },
+        }
+    }
+}
+
+// Sends the lines of all steps, and answers why the run stopped, if not with all harts done.
 fn send_steps<O: Sink>(
     alloc: Global,
     joint: &mut Joint,
@@ -62,30 +98,9 @@ fn send_steps<O: Sink>(
         Sent (O.written out.old) (O.written out.new) (O.faults out.old) (O.faults out.new) (steps_text r.walk.taken) (RanAs joint.old joint.new) result }
     ensures later { O.faults out.old ≤ O.faults out.new }
 {
-    runs_go_on();
-    runs_end();
     let mut text = Text::new(alloc);
     let mut lines = RowLines::new(alloc);
-    'steps: loop {
-        match joint.advance(&mut lines, &mut text) {
-            Ok(more) => {
-                if !more {
-                    match send(out, &text) {
-                        Ok(()) => return Ok(None),
-                        Err(refusal) => return Err(refusal),
-                    }
-                }
-                match send_block(&mut text, out) {
-                    Ok(()) => (),
-                    Err(refusal) => return Err(refusal),
-                }
-            }
-            Err(error) => match send(out, &text) {
-                Ok(()) => return stop_of(error),
-                Err(refusal) => return Err(refusal),
-            },
-        }
-    }
+    send_run(joint, &mut lines, &mut text, out)
 }
 
 // Puts the line of a known word behind what waits.

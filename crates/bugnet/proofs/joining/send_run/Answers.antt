@@ -8,7 +8,7 @@ use Rattle.bugnet.specs.Joinings.{RanAs}
 use Rattle.bugnet.specs.Outside.{Sent}
 use Rattle.bugnet.specs.declared.refusal.Refusal.{Refusal}
 use Rattle.bugnet.proofs.Joins.{Walks, walks-none, walks-done, walks-more, walks-stopped, walks-short, walks-ended}
-use Rattle.bugnet.proofs.joining.send_steps.Goals as goal
+use Rattle.bugnet.proofs.joining.send_run.Goals as goal
 
 pub steps-preserved : goal.steps-preserved
 steps-preserved g c =
@@ -46,7 +46,7 @@ pub steps-init : goal.steps-init
 steps-init g c =
     let known = g.O.Sink.written c.args.out.now in
     let faults = g.O.Sink.faults c.args.out.now in
-    subst (λ (t : List ℕ). Walks c.args.joint.now c.args.joint.now t known known faults faults) (sym c.new-text.ensures) (walks-none c.args.joint.now known faults)
+    subst (λ (t : List ℕ). Walks c.args.joint.now c.args.joint.now t known known faults faults) (sym c.requires) (walks-none c.args.joint.now known faults)
 
 pub returns-in-Ok-send-clause-sent : goal.returns-in-Ok-send-clause-sent
 returns-in-Ok-send-clause-sent g c =
