@@ -95,7 +95,7 @@ pub caused : (names : FileNames) (before now : Counts) (r : Refusal) (status : �
 caused names before now r status err_old err_new m n c (inl h) = by-files before now r status c h.0
 caused names before now r status err_old err_new m n c (inr h) = memory before now status h.0
 
-by-words : (before now : Counts) (names : FileNames) (r : Refusal) (status : ℕ) (err_old err_new : Option (List ℕ)) (m n : ℕ)
+pub by-words : (before now : Counts) (names : FileNames) (r : Refusal) (status : ℕ) (err_old err_new : Option (List ℕ)) (m n : ℕ)
     → status_of r ≡ 2 → ToldRefusal names r status err_old err_new m n → Causes before now status
 by-words before now names r status err_old err_new m n two (inl h) =
     plain before now status 2 (h.0 ∙ two) (λ e. omega (arith, e)) (λ e. omega (arith, e)) (λ e. omega (arith, e)) (λ e. omega (arith, e)) (λ e. omega (arith, e))
