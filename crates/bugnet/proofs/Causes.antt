@@ -1,13 +1,17 @@
 -- Which statuses a refused command can end with, by why it was refused.
-use Rattle.std.proofs.Common.{◌≡◌, ◌≢◌, ◌≤◌, ℕ, List, [], Option, Some, None, ◌∙◌, ap, subst, sym, arith, inl, inr}
+use Rattle.std.proofs.Common.{◌≡◌, ◌≢◌, ◌≤◌, ℕ, List, [], Option, Some, None, ◌∙◌, ap, subst, sym, arith, inl, inr, ◌⊎◌}
 use Rattle.std.specs.Prelude.{Result, Ok, Err}
 use Rattle.std.specs.Io.KnownBytes.{Appends}
 use Rattle.bn_outside.specs.Counts.{Counts, Rose}
 use Rattle.hart_replay.specs.declared.error.ReplayError.{ReplayError}
 use Rattle.hart_replay.specs.declared.error.ReplayError.TheVariants as replay
+use Rattle.joint_replay.specs.declared.error.JointError.{JointError}
+use Rattle.joint_replay.specs.declared.error.JointError.TheVariants.{Replay, Stuck}
+use Rattle.joint_replay.specs.declared.error.JointError.TheVariants as joint
 use Rattle.bugnet.specs.Names.{FileNames}
 use Rattle.bugnet.specs.Refusals.{status_of, replay_status}
-use Rattle.bugnet.specs.Outside.{ToldRefusal, RefusalCause, CauseBy}
+use Rattle.bugnet.specs.Outside.{SendStops, ToldRefusal, RefusalCause, CauseBy}
+use Rattle.bugnet.specs.Joinings.{ToldEnd}
 use Rattle.bugnet.specs.Run.{Call, IsByWords}
 use Rattle.bugnet.specs.declared.refusal.Refusal.{Refusal}
 use Rattle.bugnet.specs.declared.refusal.Refusal.TheVariants.{WordsRefused, OutOfRange, SameName, StoreFailed, Missing, TooLong, ElfRefused, LogRefused, ProgramDiffers, OutOfMemory, WriteFailed, ReplayStopped, ReadFailed, LineTooLong, CommandsTooLong, BookRefused, FileDiffers, NothingLeft, TooManyRaces, NoRow}
@@ -91,7 +95,7 @@ pub caused : (names : FileNames) (before now : Counts) (r : Refusal) (status : �
 caused names before now r status err_old err_new m n c (inl h) = by-files before now r status c h.0
 caused names before now r status err_old err_new m n c (inr h) = memory before now status h.0
 
-by-words : (before now : Counts) (names : FileNames) (r : Refusal) (status : ℕ) (err_old err_new : Option (List ℕ)) (m n : ℕ)
+pub by-words : (before now : Counts) (names : FileNames) (r : Refusal) (status : ℕ) (err_old err_new : Option (List ℕ)) (m n : ℕ)
     → status_of r ≡ 2 → ToldRefusal names r status err_old err_new m n → Causes before now status
 by-words before now names r status err_old err_new m n two (inl h) =
     plain before now status 2 (h.0 ∙ two) (λ e. omega (arith, e)) (λ e. omega (arith, e)) (λ e. omega (arith, e)) (λ e. omega (arith, e)) (λ e. omega (arith, e))
@@ -126,3 +130,82 @@ memory-words (Some x) names status k out (inl h) = (out, inr h)
 memory-words (Some x) names status k out (inr h) = (out, inr h)
 memory-words None names status k out (inl h) = λ e. omega (arith, e, h.0)
 memory-words None names status k out (inr h) = λ e. omega (arith, e, h.0)
+
+-- ---- where sending stopped
+
+-- the status isn't that of words, of a read or of a store, and that of a write comes where its count rose
+pub record Sends (before now status : ℕ) : Type 0 where
+  pub words : status ≢ 2
+  pub read : status ≢ 12
+  pub failed : status ≢ 3
+  pub missing : status ≢ 4
+  pub long : status ≢ 5
+  pub write : status ≡ 13 → Rose before now
+
+sends-high : (before now status n : ℕ) → status ≡ n → 6 ≤ n → n ≢ 12 → (n ≡ 13 → Rose before now) → Sends before now status
+sends-high before now status n is low d f = record {
+  words = λ e. omega (arith, e, is, low);
+  read = λ e. d (sym is ∙ e);
+  failed = λ e. omega (arith, e, is, low);
+  missing = λ e. omega (arith, e, is, low);
+  long = λ e. omega (arith, e, is, low);
+  write = λ e. f (sym is ∙ e);
+}
+
+pub sends-memory : (before now status : ℕ) → status ≡ 9 → Sends before now status
+sends-memory before now status h = sends-high before now status 9 h (omega arith) (λ e. omega (arith, e)) (λ e. absurd (omega (arith, e)))
+
+pub sends-told : (names : FileNames) (r : Refusal) (status : ℕ) (old new : Option (List ℕ)) (m n before now : ℕ) → SendStops before now r → ToldRefusal names r status old new m n → Sends before now status
+sends-told names r status old new m n before now s (inl h) = by r s h.0
+  where
+    by : (r : Refusal) → SendStops before now r → status ≡ status_of r → Sends before now status
+    by WordsRefused s h = absurd s
+    by (OutOfRange bad) s h = absurd s
+    by SameName s h = absurd s
+    by (StoreFailed role) s h = absurd s
+    by (Missing role) s h = absurd s
+    by (TooLong role) s h = absurd s
+    by (ElfRefused e) s h = absurd s
+    by (LogRefused e) s h = absurd s
+    by (ProgramDiffers kept found) s h = absurd s
+    by OutOfMemory s h = sends-memory before now status h
+    by WriteFailed s h = sends-high before now status 13 h (omega arith) (λ e. omega (arith, e)) (λ e. s)
+    by (ReplayStopped e) s h = absurd s
+    by ReadFailed s h = absurd s
+    by LineTooLong s h = absurd s
+    by CommandsTooLong s h = absurd s
+    by (BookRefused x) s h = absurd s
+    by (FileDiffers place) s h = absurd s
+    by NothingLeft s h = absurd s
+    by (TooManyRaces most) s h = absurd s
+    by (NoRow ic) s h = absurd s
+sends-told names r status old new m n before now s (inr h) = sends-memory before now status h.0
+
+-- a replay that stopped
+pub sends-replay : (names : FileNames) (e : ReplayError) (status : ℕ) (old new : Option (List ℕ)) (m n before now : ℕ) → ToldRefusal names (ReplayStopped e) status old new m n → Sends before now status
+sends-replay names e status old new m n before now (inl h) = sends-high before now status (replay_status e) h.0 (replay-high e).0 (replay-high e).2 (λ x. absurd ((replay-high e).1 x))
+sends-replay names e status old new m n before now (inr h) = sends-memory before now status h.0
+
+-- or that wasn't begun
+pub sends-absent : (names : FileNames) (e : ReplayError) (P : Type 0) (r : Refusal) (status : ℕ) (old new : Option (List ℕ)) (m n before now : ℕ) → ((r ≡ ReplayStopped e) × P) ⊎ (r ≡ OutOfMemory)
+    → ToldRefusal names r status old new m n → Sends before now status
+sends-absent names e P r status old new m n before now (inl h) told =
+    sends-replay names e status old new m n before now (subst (λ (x : Refusal). ToldRefusal names x status old new m n) h.0 told)
+sends-absent names e P r status old new m n before now (inr h) told =
+    sends-told names OutOfMemory status old new m n before now tt (subst (λ (x : Refusal). ToldRefusal names x status old new m n) h told)
+
+-- the end of a joint replay
+pub sends-end : (names : FileNames) (o : Option JointError) (status : ℕ) (old new : Option (List ℕ)) (m n before now : ℕ) → ToldEnd names o status old new m n → Sends before now status
+sends-end names None status old new m n before now (inl h) = record {
+  words = λ e. omega (arith, e, h.0);
+  read = λ e. omega (arith, e, h.0);
+  failed = λ e. omega (arith, e, h.0);
+  missing = λ e. omega (arith, e, h.0);
+  long = λ e. omega (arith, e, h.0);
+  write = λ e. absurd (omega (arith, e, h.0));
+}
+sends-end names (Some (Replay e)) status old new m n before now (inl h) =
+    sends-high before now status (replay_status e) h.0 (replay-high e).0 (replay-high e).2 (λ x. absurd ((replay-high e).1 x))
+sends-end names (Some (Stuck ps)) status old new m n before now (inl h) = sends-high before now status 15 h.0 (omega arith) (λ e. omega (arith, e)) (λ e. absurd (omega (arith, e)))
+sends-end names (Some joint.OutOfMemory) status old new m n before now (inl h) = sends-memory before now status h.0
+sends-end names o status old new m n before now (inr h) = sends-memory before now status h.0

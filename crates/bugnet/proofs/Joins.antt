@@ -189,13 +189,19 @@ ran-ends names r stopped status k same out files h = inl (record {
 })
 
 -- a refusal that stopped it
-ran-stopped : (names : FileNames) (r : Ran) (why : Refusal) (status : ℕ) (k : Call) → AppendsPart k.old.out k.new.out (joint_text r) × SendStops k.old.out_faults k.new.out_faults why → WhereTold k.old.files k.new.files SameFiles
+pub ran-stopped : (names : FileNames) (r : Ran) (why : Refusal) (status : ℕ) (k : Call) → AppendsPart k.old.out k.new.out (joint_text r) × SendStops k.old.out_faults k.new.out_faults why → WhereTold k.old.files k.new.files SameFiles
     → ToldRefusal names why status k.old.err k.new.err k.old.err_faults k.new.err_faults → Tells names (ran_told names r) status k
 ran-stopped names r why status k h files told =
     stopped-told names (ran_told names r) why status k (subst (λ (t : List ℕ). AppendsPart k.old.out k.new.out t) (ran-out names r) h.0, h.1) (kept names r k files) told
 
-back : (names : FileNames) (reading : JointReading) (j : Joining) (status : ℕ) (k : Call) → j ≡ joined reading.log reading.image → Tells names (ran_told names (run_all j)) status k → Tells names (told_of_joint names reading) status k
-back names reading j status k e h = subst (λ (x : Joining). Tells names (ran_told names (run_all x)) status k) e h
+-- all was sent, and the end was told
+pub run-ended : (names : FileNames) (r : Ran) (stopped : Option JointError) (status : ℕ) (k : Call) → stopped ≡ r.stopped → Appends k.old.out k.new.out (joint_text r) → WhereTold k.old.files k.new.files SameFiles
+    → ToldEnd names stopped status k.old.err k.new.err k.old.err_faults k.new.err_faults → Tells names (ran_told names r) status k
+run-ended names r stopped status k same out files (inl h) = ran-ends names r stopped status k same out files h
+run-ended names r stopped status k same out files (inr h) = ran-stopped names r OutOfMemory status k (part-whole k.old.out k.new.out (joint_text r) out, tt) files (inl h)
+
+pub joint-told : (names : FileNames) (reading : JointReading) (j : Joining) (status : ℕ) (k : Call) → j ≡ joined reading.log reading.image → Tells names (ran_told names (run_all j)) status k → Tells names (told_of_joint names reading) status k
+joint-told names reading j status k e h = subst (λ (x : Joining). Tells names (ran_told names (run_all x)) status k) e h
 
 -- there was no memory to begin
 pub joint-unbegun : (names : FileNames) (reading : JointReading) (status : ℕ) (k : Call) → k.new.out ≡ k.old.out → WhereTold k.old.files k.new.files SameFiles
@@ -203,16 +209,3 @@ pub joint-unbegun : (names : FileNames) (reading : JointReading) (status : ℕ) 
 joint-unbegun names reading status k same files told =
     let r : Ran = run_all (joined reading.log reading.image) in
     ran-stopped names r OutOfMemory status k (subst (λ (o : Option (List ℕ)). AppendsPart k.old.out o (joint_text r)) (sym same) (part-none k.old.out (joint_text r)), tt) files told
-
--- sending stopped
-pub joint-stopped : (names : FileNames) (reading : JointReading) (j : Joining) (why : Refusal) (status : ℕ) (k : Call) → j ≡ joined reading.log reading.image
-    → AppendsPart k.old.out k.new.out (joint_text (run_all j)) × SendStops k.old.out_faults k.new.out_faults why → WhereTold k.old.files k.new.files SameFiles
-    → ToldRefusal names why status k.old.err k.new.err k.old.err_faults k.new.err_faults → Tells names (told_of_joint names reading) status k
-joint-stopped names reading j why status k e h files told = back names reading j status k e (ran-stopped names (run_all j) why status k h files told)
-
--- all was sent, and the end was told
-pub joint-ended : (names : FileNames) (reading : JointReading) (j : Joining) (stopped : Option JointError) (status : ℕ) (k : Call) → j ≡ joined reading.log reading.image → stopped ≡ (run_all j).stopped
-    → Appends k.old.out k.new.out (joint_text (run_all j)) → WhereTold k.old.files k.new.files SameFiles → ToldEnd names stopped status k.old.err k.new.err k.old.err_faults k.new.err_faults → Tells names (told_of_joint names reading) status k
-joint-ended names reading j stopped status k e same out files (inl h) = back names reading j status k e (ran-ends names (run_all j) stopped status k same out files h)
-joint-ended names reading j stopped status k e same out files (inr h) =
-    back names reading j status k e (ran-stopped names (run_all j) OutOfMemory status k (part-whole k.old.out k.new.out (joint_text (run_all j)) out, tt) files (inl h))

@@ -1,6 +1,6 @@
 -- What a command answers after its loads.
 use Rattle.std.proofs.Common.{◌≡◌, ℕ, ◌≤◌, ◌<◌, length, List, [], ◌++◌, Option, Some, None, ◌∙◌, ap, subst, sym, refl, arith, true, false, Bool, nat_lt, inl, inr, ◌⊎◌, Vec, Global}
-use Rattle.std.specs.Prelude.{Result, Ok, Err, IsSomeAnd, codes, is_some, option_map}
+use Rattle.std.specs.Prelude.{Result, Ok, Err, IfOk, IsSomeAnd, codes, is_some, option_map}
 use Rattle.std.specs.Str.{bytes_eq}
 use Rattle.std.proofs.lemmas.Slice.Eq.{bytes_eq-Decides}
 use Rattle.std.proofs.lemmas.Bool.Decides.{nat_tests}
@@ -26,12 +26,12 @@ use Rattle.bugnet.specs.Commands.{is_clash, Either, IsByFile, WithFile, IsByLog,
 use Rattle.bugnet.specs.Recordings.{IsRun}
 use Rattle.bugnet.specs.declared.manner.Manner.{Manner}
 use Rattle.bugnet.specs.Answers.{names_in, manner_of, name_refusal, setting_refusal, IsAnswer}
-use Rattle.bugnet.specs.Outside.{WithFiles, FetchTells, LogTells, ProgramTells, Gives, unless, without, GivesTo, GivesOf, GivesBy, RefusalCause, CauseBy, told_of}
+use Rattle.bugnet.specs.Outside.{WithFiles, FetchTells, LogTells, ProgramTells, Gives, unless, without, GivesTo, GivesOf, GivesBy, RefusalCause, ResultCause, CauseBy, told_of}
 use Rattle.bugnet.specs.declared.names.Role.{Role}
 use Rattle.bugnet.specs.declared.names.Role.TheVariants.{Input}
 use Rattle.bugnet.specs.declared.answer.Answer.{Answer}
 use Rattle.bugnet.specs.declared.refusal.Refusal.{Refusal}
-use Rattle.bugnet.specs.declared.refusal.Refusal.TheVariants.{Missing, TooLong, OutOfRange}
+use Rattle.bugnet.specs.declared.refusal.Refusal.TheVariants.{Missing, TooLong, OutOfRange, SameName}
 
 -- the first or the second by what the test says
 pub on_true : (b : Bool) (A B : Type 0) → b ≡ true → A → Either b A B
@@ -286,3 +286,40 @@ record-answers known names r how has result e m input h =
     subst (λ (n : FileNames). WithFiles known (λ files. GivesBy names (λ f. IsRecord f n s.settings (manner_of s) (is_some s.input)) files result)) e
     (subst (λ (b : Bool). WithFiles known (λ files. GivesBy names (λ f. IsRecord f names s.settings (manner_of s) b) files result)) there
     (subst (λ (x : Manner). WithFiles known (λ files. GivesBy names (λ f. IsRecord f names s.settings x has) files result)) m h))
+
+-- by the names that a line says
+pub by-names : (known : Option Files) (names own : FileNames) (Is : FileNames → Files → Told → Type 0) (result : Result Answer Refusal) → names ≡ own
+    → WithFiles known (λ files. GivesBy names (Is names) files result) → WithFiles known (λ files. GivesBy names (Is own) files result)
+by-names known names own Is result e h = subst (λ (n : FileNames). WithFiles known (λ files. GivesBy names (Is n) files result)) e h
+
+pub by-origin : (names own : FileNames) (before now : Counts) (result : Result Answer Refusal) → names ≡ own
+    → CauseBy (name_refusal (bytes_eq names.origin names.log)) before now result → CauseBy (name_refusal (bytes_eq own.origin own.log)) before now result
+by-origin names own before now result e h = subst (λ (n : FileNames). CauseBy (name_refusal (bytes_eq n.origin n.log)) before now result) e h
+
+-- nothing is said of what was made
+pub ok-any : {A E : Type 0} (result : Result A E) → IfOk result (λ (a : A). Unit {0})
+ok-any (Ok a) = tt
+ok-any (Err e) = tt
+
+-- LOG and BOOK are one name
+pub name-clashes : (known : Option Files) (names : FileNames) (c : RawSettings) (how : Manner) (has clash : Bool) → clash ≡ true
+    → WithFiles known (λ files. GivesBy names (λ f. IsByNames clash f names c how has) files (Err SameName))
+name-clashes None names c how has clash e = tt
+name-clashes (Some files) names c how has clash e = inr (subst (λ (b : Bool). IsByNames b files names c how has (refused names SameName)) (sym e) refl)
+
+pub name-cause : (clash : Bool) (before now : Counts) → clash ≡ true → CauseBy {A = Answer} (name_refusal clash) before now (Err SameName)
+name-cause clash before now e = subst (λ (b : Bool). CauseBy {A = Answer} (name_refusal b) before now (Err SameName)) (sym e) (refl, refl)
+
+-- or they are two
+pub names-apart : (known : Option Files) (names : FileNames) (c : RawSettings) (how : Manner) (has clash : Bool) (result : Result Answer Refusal) → clash ≡ false
+    → WithFiles known (λ files. GivesBy names (λ f. IsByNames false f names c how has) files result) → WithFiles known (λ files. GivesBy names (λ f. IsByNames clash f names c how has) files result)
+names-apart known names c how has clash result e h = subst (λ (b : Bool). WithFiles known (λ files. GivesBy names (λ f. IsByNames b f names c how has) files result)) (sym e) h
+
+pub apart-cause : (clash : Bool) (before now : Counts) (result : Result Answer Refusal) → clash ≡ false → ResultCause before now result → CauseBy (name_refusal clash) before now result
+apart-cause clash before now result e h = subst (λ (b : Bool). CauseBy (name_refusal b) before now result) (sym e) h
+
+-- a setting is out of range
+pub bad-cause : (c : RawSettings) (clash : Bool) (before now : Counts) (bad : BadSetting) → checked_by (first_bad c) c ≡ Err bad
+    → CauseBy {A = Answer} (setting_refusal (first_bad c) clash) before now (Err (OutOfRange bad))
+bad-cause c clash before now bad e =
+    subst (λ (o : Option BadSetting). CauseBy {A = Answer} (setting_refusal o clash) before now (Err (OutOfRange bad))) (sym (bad-one (first_bad c) c bad e)) (refl, refl)

@@ -56,6 +56,34 @@ fn begin(alloc: Global, reading: &Reading) -> Result<Begun<'_>, Refusal>
     }
 }
 
+// Prints an interval whose replay was begun.
+fn print_begun<O: Sink, X: Sink>(
+    alloc: Global,
+    names: &Names,
+    reading: &Reading,
+    mark: &EndMark,
+    replayer: &mut Replayer,
+    out: &mut O,
+    err: &mut X,
+) -> u8
+    requires { IsBegun reading.now replayer.old mark.now }
+    ensures told { (files : Option Files) (had : Counts) → Tells names.now (told_of_reading names.now reading.now) result (printing files had O.written O.faults X.written X.faults out.old err.old out.new err.new) }
+    ensures out_later { O.faults out.old ≤ O.faults out.new }
+    ensures err_later { X.faults err.old ≤ X.faults err.new }
+    ensures write { result ≡ 13 → Rose (O.faults out.old) (O.faults out.new) ⊎ Rose (X.faults err.old) (X.faults err.new) }
+    ensures words { result ≢ 2 }
+    ensures read { result ≢ 12 }
+    ensures failed { result ≢ 3 }
+    ensures missing { result ≢ 4 }
+    ensures long { result ≢ 5 }
+{
+    match send_interval(alloc, reading.hart, reading.interval, mark, replayer, out) {
+        Ok(Ending::Done) => 0,
+        Ok(Ending::Stopped(error)) => refuse(alloc, names, &Refusal::ReplayStopped(error), err),
+        Err(refusal) => refuse(alloc, names, &refusal, err),
+    }
+}
+
 // Prints an interval.
 fn print_interval<O: Sink, X: Sink>(
     alloc: Global,
@@ -78,20 +106,7 @@ fn print_interval<O: Sink, X: Sink>(
         Err(refusal) => refuse(alloc, names, &refusal, err),
         Ok(mut begun) => {
             let mark = begun.mark;
-            match send_interval(
-                alloc,
-                reading.hart,
-                reading.interval,
-                &mark,
-                &mut begun.replayer,
-                out,
-            ) {
-                Ok(Ending::Done) => 0,
-                Ok(Ending::Stopped(error)) => {
-                    refuse(alloc, names, &Refusal::ReplayStopped(error), err)
-                }
-                Err(refusal) => refuse(alloc, names, &refusal, err),
-            }
+            print_begun(alloc, names, reading, &mark, &mut begun.replayer, out, err)
         }
     }
 }

@@ -1,6 +1,8 @@
 // A session of the debugger over the joint replay of all intervals that a log keeps.
 ghost use Rattle.std.specs.Prelude.{◌≡◌, ◌≢◌, ◌≤◌, ◌⊎◌, true};
 ghost use Rattle.bn_outside.specs.Counts.{Rose, NoneFell};
+ghost use Rattle.back_step.specs.Traces.{at_start};
+ghost use Rattle.joint_replay.specs.Joining.{Joining};
 ghost use Rattle.bugnet.specs.Joined.{joined};
 ghost use Rattle.bugnet.specs.Sessions.{is_begun};
 ghost use Rattle.bugnet.specs.Steps.{ToldStop, DebugsPair, DebugsNamed};
@@ -34,6 +36,29 @@ fn end<X: Sink>(alloc: Global, names: &Names, error: &DebugError, err: &mut X) -
     }
 }
 
+// Makes a session over a joint replay that stands at its start.
+fn debug_trail<I: Source, O: Sink, X: Sink>(
+    alloc: Global,
+    names: &Names,
+    trail: &mut Trail,
+    input: &mut I,
+    out: &mut O,
+    err: &mut X,
+) -> u8
+    ensures told { (first : Joining) → trail.old.trace ≡ at_start first → DebugsPair names.now first result (I.left input.old) (I.left input.new) (I.faults input.old) (I.faults input.new)
+        O.written O.faults X.written X.faults out.old err.old out.new err.new }
+    ensures begun { is_begun result ≡ true }
+    ensures write { result ≡ 13 → Rose (O.faults out.old) (O.faults out.new) ⊎ Rose (X.faults err.old) (X.faults err.new) }
+    ensures read_later { I.faults input.old ≤ I.faults input.new }
+    ensures out_later { O.faults out.old ≤ O.faults out.new }
+    ensures err_later { X.faults err.old ≤ X.faults err.new }
+{
+    match debug(alloc, trail, input, out) {
+        Ok(()) => 0,
+        Err(error) => end(alloc, names, &error, err),
+    }
+}
+
 // Makes a session of a log with its program.
 fn debug_pair<I: Source, O: Sink, X: Sink>(
     alloc: Global,
@@ -53,10 +78,7 @@ fn debug_pair<I: Source, O: Sink, X: Sink>(
 {
     match Trail::begin(alloc, &reading.image, &reading.log, COPY_EVERY) {
         Err(_) => refuse(alloc, names, &Refusal::OutOfMemory, err),
-        Ok(mut trail) => match debug(alloc, &mut trail, input, out) {
-            Ok(()) => 0,
-            Err(error) => end(alloc, names, &error, err),
-        },
+        Ok(mut trail) => debug_trail(alloc, names, &mut trail, input, out, err),
     }
 }
 

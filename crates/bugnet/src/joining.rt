@@ -1,11 +1,11 @@
 // The joint replay of all intervals that a log keeps.
-ghost use Rattle.std.specs.Prelude.{◌≡◌, ◌≢◌, ◌≤◌, ◌⊎◌, ◌++◌, Option, Some, None, OnOk, IfOk};
+ghost use Rattle.std.specs.Prelude.{◌≡◌, ◌≢◌, ◌≤◌, ◌⊎◌, ◌++◌, [], Option, Some, None, OnOk, IfOk};
 ghost use Rattle.bn_outside.specs.Counts.{Counts, NoneFell, Rose};
 ghost use Rattle.bn_outside.specs.Files.{Files};
 ghost use Rattle.joint_replay.specs.declared.error.JointError.TheVariants.{Stuck};
 ghost use Rattle.joint_replay.specs.Joining.{run_all};
 ghost use Rattle.joint_replay.specs.Texts.{known_text, steps_text, memory_text, joint_text};
-ghost use Rattle.bugnet.specs.Joined.{position_text, positions_text, stuck_line, IsJoint};
+ghost use Rattle.bugnet.specs.Joined.{position_text, positions_text, stuck_line, ran_told, IsJoint};
 ghost use Rattle.bugnet.specs.Joinings.{told_of_joint, stop_of, RanAs, ToldEnd};
 ghost use Rattle.bugnet.specs.Outside.{GivesBy, IsPrinted, ResultCause, WithFiles, Sent, Gathered};
 ghost use Rattle.bugnet.specs.Run.{printing, Tells};
@@ -51,8 +51,44 @@ fn stop_of(error: JointError) -> Result<Option<JointError>, Refusal>
     }
 }
 
-// Sends the lines of all steps, in blocks, and answers why the run stopped, if not with all harts
-// done.
+// Sends the lines of all steps, in blocks, of which none waits yet, and answers why the run stopped,
+// if not with all harts done.
+fn send_run<O: Sink>(
+    joint: &mut Joint,
+    lines: &mut RowLines,
+    text: &mut Text,
+    out: &mut O,
+) -> Result<Option<JointError>, Refusal>
+    requires { text.old ≡ [] }
+    ensures sent { let r = run_all joint.old in
+        Sent (O.written out.old) (O.written out.new) (O.faults out.old) (O.faults out.new) (steps_text r.walk.taken) (RanAs joint.old joint.new) result }
+    ensures later { O.faults out.old ≤ O.faults out.new }
+{
+    runs_go_on();
+    runs_end();
+    'steps: loop {
+        match joint.advance(lines, text) {
+            Ok(more) => {
+                if !more {
+                    match send(out, text) {
+                        Ok(()) => return Ok(None),
+                        Err(refusal) => return Err(refusal),
+                    }
+                }
+                match send_block(text, out) {
+                    Ok(()) => (),
+                    Err(refusal) => return Err(refusal),
+                }
+            }
+            Err(error) => match send(out, text) {
+                Ok(()) => return stop_of(error),
+                Err(refusal) => return Err(refusal),
+            },
+        }
+    }
+}
+
+// Sends the lines of all steps, and answers why the run stopped, if not with all harts done.
 fn send_steps<O: Sink>(
     alloc: Global,
     joint: &mut Joint,
@@ -62,30 +98,9 @@ fn send_steps<O: Sink>(
         Sent (O.written out.old) (O.written out.new) (O.faults out.old) (O.faults out.new) (steps_text r.walk.taken) (RanAs joint.old joint.new) result }
     ensures later { O.faults out.old ≤ O.faults out.new }
 {
-    runs_go_on();
-    runs_end();
     let mut text = Text::new(alloc);
     let mut lines = RowLines::new(alloc);
-    'steps: loop {
-        match joint.advance(&mut lines, &mut text) {
-            Ok(more) => {
-                if !more {
-                    match send(out, &text) {
-                        Ok(()) => return Ok(None),
-                        Err(refusal) => return Err(refusal),
-                    }
-                }
-                match send_block(&mut text, out) {
-                    Ok(()) => (),
-                    Err(refusal) => return Err(refusal),
-                }
-            }
-            Err(error) => match send(out, &text) {
-                Ok(()) => return stop_of(error),
-                Err(refusal) => return Err(refusal),
-            },
-        }
-    }
+    send_run(joint, &mut lines, &mut text, out)
 }
 
 // Puts the line of a known word behind what waits.
@@ -216,6 +231,30 @@ fn end<X: Sink>(alloc: Global, names: &Names, stopped: &Option<JointError>, err:
     }
 }
 
+// Prints a joint replay from where it stands.
+fn print_run<O: Sink, X: Sink>(
+    alloc: Global,
+    names: &Names,
+    joint: &mut Joint,
+    out: &mut O,
+    err: &mut X,
+) -> u8
+    ensures told { (files : Option Files) (had : Counts) → Tells names.now (ran_told names.now (run_all joint.old)) result (printing files had O.written O.faults X.written X.faults out.old err.old out.new err.new) }
+    ensures out_later { O.faults out.old ≤ O.faults out.new }
+    ensures err_later { X.faults err.old ≤ X.faults err.new }
+    ensures write { result ≡ 13 → Rose (O.faults out.old) (O.faults out.new) ⊎ Rose (X.faults err.old) (X.faults err.new) }
+    ensures words { result ≢ 2 }
+    ensures read { result ≢ 12 }
+    ensures failed { result ≢ 3 }
+    ensures missing { result ≢ 4 }
+    ensures long { result ≢ 5 }
+{
+    match send_joint(alloc, joint, out) {
+        Err(refusal) => refuse(alloc, names, &refusal, err),
+        Ok(stopped) => end(alloc, names, &stopped, err),
+    }
+}
+
 /// Prints the joint replay of a log: the lines of its steps, and then the known words.
 pub fn print_joint<O: Sink, X: Sink>(
     alloc: Global,
@@ -236,9 +275,6 @@ pub fn print_joint<O: Sink, X: Sink>(
 {
     match Joint::begin(alloc, &reading.image, &reading.log) {
         Err(_) => refuse(alloc, names, &Refusal::OutOfMemory, err),
-        Ok(mut joint) => match send_joint(alloc, &mut joint, out) {
-            Err(refusal) => refuse(alloc, names, &refusal, err),
-            Ok(stopped) => end(alloc, names, &stopped, err),
-        },
+        Ok(mut joint) => print_run(alloc, names, &mut joint, out, err),
     }
 }

@@ -1,5 +1,5 @@
 // What a command prints.
-ghost use Rattle.std.specs.Prelude.{◌≡◌, ◌≢◌, ◌≤◌, ◌⊎◌, ◌++◌, ℕ, Option, drop, IfErr, OnErr};
+ghost use Rattle.std.specs.Prelude.{◌≡◌, ◌≢◌, ◌≤◌, ◌⊎◌, ◌++◌, ℕ, [], Option, drop, IfErr, OnErr};
 ghost use Rattle.bn_outside.specs.Counts.{Counts, Rose};
 ghost use Rattle.bn_outside.specs.Files.{Files};
 ghost use Rattle.bn_outside.specs.Streams.{AppendsShort};
@@ -162,7 +162,37 @@ fn ending_of(error: ReplayError) -> Result<Ending, Refusal>
     }
 }
 
-// Sends the rows that are left of a replay, in blocks.
+// Sends the rows that are left of a replay, in blocks, of which none waits yet.
+fn send_left<O: Sink>(
+    replayer: &mut Replayer,
+    lines: &mut RowLines,
+    text: &mut Text,
+    out: &mut O,
+) -> Result<Ending, Refusal>
+    requires { text.old ≡ [] }
+    ensures sent { let r = replayer.old.left in
+        Sent (O.written out.old) (O.written out.new) (O.faults out.old) (O.faults out.new) (rows_text r.rows) (EndsAs r.outcome) result }
+    ensures later { O.faults out.old ≤ O.faults out.new }
+{
+    'rows: loop {
+        match replayer.step() {
+            Ok(Some(row)) => match gather_row(lines, text, &row, out) {
+                Ok(()) => (),
+                Err(refusal) => return Err(refusal),
+            },
+            Ok(None) => match send(out, text) {
+                Ok(()) => return Ok(Ending::Done),
+                Err(refusal) => return Err(refusal),
+            },
+            Err(error) => match send(out, text) {
+                Ok(()) => return ending_of(error),
+                Err(refusal) => return Err(refusal),
+            },
+        }
+    }
+}
+
+// Sends the rows that are left of a replay.
 fn send_rows<O: Sink>(
     alloc: Global,
     replayer: &mut Replayer,
@@ -174,22 +204,7 @@ fn send_rows<O: Sink>(
 {
     let mut text = Text::new(alloc);
     let mut lines = RowLines::new(alloc);
-    'rows: loop {
-        match replayer.step() {
-            Ok(Some(row)) => match gather_row(&mut lines, &mut text, &row, out) {
-                Ok(()) => (),
-                Err(refusal) => return Err(refusal),
-            },
-            Ok(None) => match send(out, &text) {
-                Ok(()) => return Ok(Ending::Done),
-                Err(refusal) => return Err(refusal),
-            },
-            Err(error) => match send(out, &text) {
-                Ok(()) => return ending_of(error),
-                Err(refusal) => return Err(refusal),
-            },
-        }
-    }
+    send_left(replayer, &mut lines, &mut text, out)
 }
 
 // Sends the line before the rows.

@@ -1,3 +1,5 @@
+use Rattle.std.proofs.Common.{inl}
+use Rattle.bugnet.proofs.Causes.{sends-told}
 use Rattle.bugnet.specs.Outside.{told_of_recording, saved_of}
 use Rattle.bugnet.proofs.Asks.{unsaved-saves}
 use Rattle.bugnet.proofs.Prints.{appends-nothing}
@@ -22,3 +24,36 @@ returns-in-Err-send_bytes-2-clause-told g c =
 pub returns-in-Err-clause-saves : goal.returns-in-Err-clause-saves
 returns-in-Err-clause-saves g c =
     unsaved-saves (saved_of c.args.recording.now) c.args.names.now _ _ (g.S.Store.counts c.args.store.now) (g.S.Store.counts c.save.new.store) c.in-Err.refusal c.refuse.result _ _ _ _ _ _ _ c.in-Err.ensures.told c.refuse.ensures.told c.in-Err.ensures.few
+
+pub returns-in-Err-send_bytes-clause-words : goal.returns-in-Err-send_bytes-clause-words
+returns-in-Err-send_bytes-clause-words g c = (sends-told c.args.names.now c.in-Err-send_bytes.refusal c.refuse-in-Err-send_bytes.result _ _ _ _ _ _ c.in-Err-send_bytes.ensures.sent.1 c.refuse-in-Err-send_bytes.ensures.told).words
+
+pub returns-in-Err-send_bytes-clause-read : goal.returns-in-Err-send_bytes-clause-read
+returns-in-Err-send_bytes-clause-read g c = (sends-told c.args.names.now c.in-Err-send_bytes.refusal c.refuse-in-Err-send_bytes.result _ _ _ _ _ _ c.in-Err-send_bytes.ensures.sent.1 c.refuse-in-Err-send_bytes.ensures.told).read
+
+pub returns-in-Err-send_bytes-clause-failed : goal.returns-in-Err-send_bytes-clause-failed
+returns-in-Err-send_bytes-clause-failed g c = λ e. absurd ((sends-told c.args.names.now c.in-Err-send_bytes.refusal c.refuse-in-Err-send_bytes.result _ _ _ _ _ _ c.in-Err-send_bytes.ensures.sent.1 c.refuse-in-Err-send_bytes.ensures.told).failed e)
+
+pub returns-in-Err-send_bytes-clause-missing : goal.returns-in-Err-send_bytes-clause-missing
+returns-in-Err-send_bytes-clause-missing g c = (sends-told c.args.names.now c.in-Err-send_bytes.refusal c.refuse-in-Err-send_bytes.result _ _ _ _ _ _ c.in-Err-send_bytes.ensures.sent.1 c.refuse-in-Err-send_bytes.ensures.told).missing
+
+pub returns-in-Err-send_bytes-clause-long : goal.returns-in-Err-send_bytes-clause-long
+returns-in-Err-send_bytes-clause-long g c = (sends-told c.args.names.now c.in-Err-send_bytes.refusal c.refuse-in-Err-send_bytes.result _ _ _ _ _ _ c.in-Err-send_bytes.ensures.sent.1 c.refuse-in-Err-send_bytes.ensures.told).long
+
+pub returns-in-Err-send_bytes-clause-write : goal.returns-in-Err-send_bytes-clause-write
+returns-in-Err-send_bytes-clause-write g c = λ e. inl ((sends-told c.args.names.now c.in-Err-send_bytes.refusal c.refuse-in-Err-send_bytes.result _ _ _ _ _ _ c.in-Err-send_bytes.ensures.sent.1 c.refuse-in-Err-send_bytes.ensures.told).write e)
+
+pub returns-in-Err-send_bytes-2-clause-words : goal.returns-in-Err-send_bytes-2-clause-words
+returns-in-Err-send_bytes-2-clause-words g c = (sends-told c.args.names.now c.in-Err-send_bytes-2.refusal c.refuse-in-Err-send_bytes-2.result _ _ _ _ _ _ c.in-Err-send_bytes-2.ensures.sent.1 c.refuse-in-Err-send_bytes-2.ensures.told).words
+
+pub returns-in-Err-send_bytes-2-clause-read : goal.returns-in-Err-send_bytes-2-clause-read
+returns-in-Err-send_bytes-2-clause-read g c = (sends-told c.args.names.now c.in-Err-send_bytes-2.refusal c.refuse-in-Err-send_bytes-2.result _ _ _ _ _ _ c.in-Err-send_bytes-2.ensures.sent.1 c.refuse-in-Err-send_bytes-2.ensures.told).read
+
+pub returns-in-Err-send_bytes-2-clause-failed : goal.returns-in-Err-send_bytes-2-clause-failed
+returns-in-Err-send_bytes-2-clause-failed g c = λ e. absurd ((sends-told c.args.names.now c.in-Err-send_bytes-2.refusal c.refuse-in-Err-send_bytes-2.result _ _ _ _ _ _ c.in-Err-send_bytes-2.ensures.sent.1 c.refuse-in-Err-send_bytes-2.ensures.told).failed e)
+
+pub returns-in-Err-send_bytes-2-clause-missing : goal.returns-in-Err-send_bytes-2-clause-missing
+returns-in-Err-send_bytes-2-clause-missing g c = (sends-told c.args.names.now c.in-Err-send_bytes-2.refusal c.refuse-in-Err-send_bytes-2.result _ _ _ _ _ _ c.in-Err-send_bytes-2.ensures.sent.1 c.refuse-in-Err-send_bytes-2.ensures.told).missing
+
+pub returns-in-Err-send_bytes-2-clause-long : goal.returns-in-Err-send_bytes-2-clause-long
+returns-in-Err-send_bytes-2-clause-long g c = (sends-told c.args.names.now c.in-Err-send_bytes-2.refusal c.refuse-in-Err-send_bytes-2.result _ _ _ _ _ _ c.in-Err-send_bytes-2.ensures.sent.1 c.refuse-in-Err-send_bytes-2.ensures.told).long

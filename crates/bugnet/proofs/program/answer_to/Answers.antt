@@ -2,8 +2,13 @@ use Rattle.std.proofs.Common.{◌≡◌, ap, inr}
 use Rattle.demo_run.specs.Demonstration.{demo_text}
 use Rattle.bugnet.specs.Names.{FileNames}
 use Rattle.bugnet.specs.Told.{Told, refused, printed}
+use Rattle.bugnet.specs.Commands.{IsReplay, IsList, IsCheck}
+use Rattle.bugnet.specs.Joined.{IsJoint}
+use Rattle.bugnet.specs.Racing.{IsRaces}
+use Rattle.bugnet.specs.Slicing.{IsSlice}
+use Rattle.bugnet.specs.Renewing.{IsConvert, IsSalvage}
 use Rattle.bugnet.specs.declared.refusal.Refusal.TheVariants.{WordsRefused}
-use Rattle.bugnet.proofs.Loads.{record-answers, gives-any}
+use Rattle.bugnet.proofs.Loads.{record-answers, gives-any, by-names, by-origin, ok-any}
 use Rattle.bugnet.proofs.Tells.{with-any}
 use Rattle.bugnet.proofs.program.answer_to.Goals as goal
 
@@ -19,3 +24,171 @@ returns-in-Demo-clause-told g c =
 
 pub returns-in-Demo-clause-cause : goal.returns-in-Demo-clause-cause
 returns-in-Demo-clause-cause g c = rw c.in-Demo.is (c.demonstrate.ensures.own _ _)
+
+pub returns-in-Replay-clause-told : goal.returns-in-Replay-clause-told
+returns-in-Replay-clause-told g c =
+    rw c.in-Replay.is
+    (by-names (g.S.Store.files c.args.store.now) c.args.names.now _ (λ n f. IsReplay f n c.in-Replay.hart c.in-Replay.interval) c.replay_files.result (rw c.in-Replay.is at c.requires.named) c.replay_files.ensures.told)
+
+pub returns-in-Replay-clause-cause : goal.returns-in-Replay-clause-cause
+returns-in-Replay-clause-cause g c =
+    rw c.in-Replay.is c.replay_files.ensures.cause
+
+pub returns-in-Replay-clause-records : goal.returns-in-Replay-clause-records
+returns-in-Replay-clause-records g c =
+    rw c.in-Replay.is (ok-any c.replay_files.result)
+
+pub returns-in-Replay-clause-prints : goal.returns-in-Replay-clause-prints
+returns-in-Replay-clause-prints g c =
+    λ read. c.replay_files.ensures.prints
+
+pub returns-in-Replay-clause-bytes : goal.returns-in-Replay-clause-bytes
+returns-in-Replay-clause-bytes g c =
+    rw c.in-Replay.is (ok-any c.replay_files.result)
+
+pub returns-in-Joint-clause-told : goal.returns-in-Joint-clause-told
+returns-in-Joint-clause-told g c =
+    rw c.in-Joint.is
+    (by-names (g.S.Store.files c.args.store.now) c.args.names.now _ (λ n f. IsJoint f n) c.join_files.result (rw c.in-Joint.is at c.requires.named) c.join_files.ensures.told)
+
+pub returns-in-Joint-clause-cause : goal.returns-in-Joint-clause-cause
+returns-in-Joint-clause-cause g c =
+    rw c.in-Joint.is c.join_files.ensures.cause
+
+pub returns-in-Joint-clause-records : goal.returns-in-Joint-clause-records
+returns-in-Joint-clause-records g c =
+    rw c.in-Joint.is (ok-any c.join_files.result)
+
+pub returns-in-Joint-clause-prints : goal.returns-in-Joint-clause-prints
+returns-in-Joint-clause-prints g c =
+    λ read. c.join_files.ensures.prints
+
+pub returns-in-Joint-clause-bytes : goal.returns-in-Joint-clause-bytes
+returns-in-Joint-clause-bytes g c =
+    rw c.in-Joint.is (ok-any c.join_files.result)
+
+pub returns-in-List-clause-told : goal.returns-in-List-clause-told
+returns-in-List-clause-told g c =
+    rw c.in-List.is
+    (by-names (g.S.Store.files c.args.store.now) c.args.names.now _ (λ n f. IsList f n) c.list_files.result (rw c.in-List.is at c.requires.named) c.list_files.ensures.told)
+
+pub returns-in-List-clause-cause : goal.returns-in-List-clause-cause
+returns-in-List-clause-cause g c =
+    rw c.in-List.is c.list_files.ensures.cause
+
+pub returns-in-List-clause-records : goal.returns-in-List-clause-records
+returns-in-List-clause-records g c =
+    rw c.in-List.is (ok-any c.list_files.result)
+
+pub returns-in-List-clause-prints : goal.returns-in-List-clause-prints
+returns-in-List-clause-prints g c =
+    λ read. c.list_files.ensures.prints
+
+pub returns-in-List-clause-bytes : goal.returns-in-List-clause-bytes
+returns-in-List-clause-bytes g c =
+    rw c.in-List.is (ok-any c.list_files.result)
+
+pub returns-in-Check-clause-told : goal.returns-in-Check-clause-told
+returns-in-Check-clause-told g c =
+    rw c.in-Check.is
+    (by-names (g.S.Store.files c.args.store.now) c.args.names.now _ (λ n f. IsCheck f n) c.check_files.result (rw c.in-Check.is at c.requires.named) c.check_files.ensures.told)
+
+pub returns-in-Check-clause-cause : goal.returns-in-Check-clause-cause
+returns-in-Check-clause-cause g c =
+    rw c.in-Check.is c.check_files.ensures.cause
+
+pub returns-in-Check-clause-records : goal.returns-in-Check-clause-records
+returns-in-Check-clause-records g c =
+    rw c.in-Check.is (ok-any c.check_files.result)
+
+pub returns-in-Check-clause-prints : goal.returns-in-Check-clause-prints
+returns-in-Check-clause-prints g c =
+    λ read. c.check_files.ensures.prints
+
+pub returns-in-Check-clause-bytes : goal.returns-in-Check-clause-bytes
+returns-in-Check-clause-bytes g c =
+    rw c.in-Check.is (ok-any c.check_files.result)
+
+pub returns-in-Audit-clause-cause : goal.returns-in-Audit-clause-cause
+returns-in-Audit-clause-cause g c =
+    rw c.in-Audit.is c.audit_files.ensures.cause
+
+pub returns-in-Audit-clause-records : goal.returns-in-Audit-clause-records
+returns-in-Audit-clause-records g c =
+    rw c.in-Audit.is (ok-any c.audit_files.result)
+
+pub returns-in-Audit-clause-prints : goal.returns-in-Audit-clause-prints
+returns-in-Audit-clause-prints g c =
+    λ read. c.audit_files.ensures.prints
+
+pub returns-in-Audit-clause-bytes : goal.returns-in-Audit-clause-bytes
+returns-in-Audit-clause-bytes g c =
+    rw c.in-Audit.is (ok-any c.audit_files.result)
+
+pub returns-in-Races-clause-told : goal.returns-in-Races-clause-told
+returns-in-Races-clause-told g c =
+    rw c.in-Races.is
+    (by-names (g.S.Store.files c.args.store.now) c.args.names.now _ (λ n f. IsRaces f n c.in-Races.max) c.race_files.result (rw c.in-Races.is at c.requires.named) c.race_files.ensures.told)
+
+pub returns-in-Races-clause-cause : goal.returns-in-Races-clause-cause
+returns-in-Races-clause-cause g c =
+    rw c.in-Races.is c.race_files.ensures.cause
+
+pub returns-in-Races-clause-records : goal.returns-in-Races-clause-records
+returns-in-Races-clause-records g c =
+    rw c.in-Races.is (ok-any c.race_files.result)
+
+pub returns-in-Races-clause-prints : goal.returns-in-Races-clause-prints
+returns-in-Races-clause-prints g c =
+    λ read. c.race_files.ensures.prints
+
+pub returns-in-Races-clause-bytes : goal.returns-in-Races-clause-bytes
+returns-in-Races-clause-bytes g c =
+    rw c.in-Races.is (ok-any c.race_files.result)
+
+pub returns-in-Slice-clause-told : goal.returns-in-Slice-clause-told
+returns-in-Slice-clause-told g c =
+    rw c.in-Slice.is
+    (by-names (g.S.Store.files c.args.store.now) c.args.names.now _ (λ n f. IsSlice f n c.in-Slice.hart c.in-Slice.interval c.in-Slice.ic) c.slice_files.result (rw c.in-Slice.is at c.requires.named) c.slice_files.ensures.told)
+
+pub returns-in-Slice-clause-cause : goal.returns-in-Slice-clause-cause
+returns-in-Slice-clause-cause g c =
+    rw c.in-Slice.is c.slice_files.ensures.cause
+
+pub returns-in-Slice-clause-records : goal.returns-in-Slice-clause-records
+returns-in-Slice-clause-records g c =
+    rw c.in-Slice.is (ok-any c.slice_files.result)
+
+pub returns-in-Slice-clause-prints : goal.returns-in-Slice-clause-prints
+returns-in-Slice-clause-prints g c =
+    λ read. c.slice_files.ensures.prints
+
+pub returns-in-Slice-clause-bytes : goal.returns-in-Slice-clause-bytes
+returns-in-Slice-clause-bytes g c =
+    rw c.in-Slice.is (ok-any c.slice_files.result)
+
+pub returns-in-Convert-clause-told : goal.returns-in-Convert-clause-told
+returns-in-Convert-clause-told g c =
+    rw c.in-Convert.is
+    (by-names (g.S.Store.files c.args.store.now) c.args.names.now _ (λ n f. IsConvert f n) c.convert_files.result (rw c.in-Convert.is at c.requires.named) c.convert_files.ensures.told)
+
+pub returns-in-Convert-clause-cause : goal.returns-in-Convert-clause-cause
+returns-in-Convert-clause-cause g c =
+    rw c.in-Convert.is (by-origin c.args.names.now _ (g.S.Store.counts c.args.store.now) (g.S.Store.counts c.convert_files.new.store) c.convert_files.result (rw c.in-Convert.is at c.requires.named) c.convert_files.ensures.cause)
+
+pub returns-in-Convert-clause-bytes : goal.returns-in-Convert-clause-bytes
+returns-in-Convert-clause-bytes g c =
+    rw c.in-Convert.is (ok-any c.convert_files.result)
+
+pub returns-in-Salvage-clause-told : goal.returns-in-Salvage-clause-told
+returns-in-Salvage-clause-told g c =
+    rw c.in-Salvage.is
+    (by-names (g.S.Store.files c.args.store.now) c.args.names.now _ (λ n f. IsSalvage f n) c.salvage_files.result (rw c.in-Salvage.is at c.requires.named) c.salvage_files.ensures.told)
+
+pub returns-in-Salvage-clause-cause : goal.returns-in-Salvage-clause-cause
+returns-in-Salvage-clause-cause g c =
+    rw c.in-Salvage.is (by-origin c.args.names.now _ (g.S.Store.counts c.args.store.now) (g.S.Store.counts c.salvage_files.new.store) c.salvage_files.result (rw c.in-Salvage.is at c.requires.named) c.salvage_files.ensures.cause)
+
+pub returns-in-Salvage-clause-bytes : goal.returns-in-Salvage-clause-bytes
+returns-in-Salvage-clause-bytes g c =
+    rw c.in-Salvage.is (ok-any c.salvage_files.result)

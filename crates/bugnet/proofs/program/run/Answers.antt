@@ -15,7 +15,7 @@ use Rattle.bugnet.proofs.Debugs.{debugs-early, not-read}
 use Rattle.bugnet.proofs.Asks.{line-none, memory-saves}
 use Rattle.bugnet.proofs.Prints.{appends-nothing}
 use Rattle.bugnet.proofs.Tells.{refusal-answers, memory-names, with-any, answers-keep, answers-few}
-use Rattle.bugnet.proofs.Causes.{memory-words}
+use Rattle.bugnet.proofs.Causes.{by-words, caused, memory-words}
 use Rattle.bugnet.proofs.Suffices.{prints-run}
 use Rattle.bugnet.proofs.Jointly.{prints-jointly}
 use Rattle.bugnet.proofs.Agrees.{call-audits}
@@ -209,3 +209,27 @@ pub returns-in-Ok-clause-audited : goal.returns-in-Ok-clause-audited
 returns-in-Ok-clause-audited g c =
     let k = call (g.S.Store.files) (g.S.Store.counts) (g.O.Sink.written) (g.O.Sink.faults) (g.X.Sink.written) (g.X.Sink.faults) c.args.store.now c.args.out.now c.args.err.now c.obey.new.store c.obey.new.out c.obey.new.err in
     call-audits c.audits_agree.ensures (command_in c.args.words.now) c.obey.result k (returns-in-Ok-clause-told g c)
+
+pub returns-in-Err-Refused-clause-failed : goal.returns-in-Err-Refused-clause-failed
+returns-in-Err-Refused-clause-failed g c = (by-words (g.S.Store.counts c.args.store.now) (g.S.Store.counts c.args.store.now) c.none.result WordsRefused c.refuse.result _ _ _ _ refl c.refuse.ensures.told).three
+
+pub returns-in-Err-OutOfMemory-clause-failed : goal.returns-in-Err-OutOfMemory-clause-failed
+returns-in-Err-OutOfMemory-clause-failed g c = (caused c.none-in-Err-OutOfMemory.result (g.S.Store.counts c.args.store.now) (g.S.Store.counts c.args.store.now) OutOfMemory c.refuse-in-Err-OutOfMemory.result _ _ _ _ tt c.refuse-in-Err-OutOfMemory.ensures.told).causes.three
+
+pub returns-in-Err-Refused-clause-missing : goal.returns-in-Err-Refused-clause-missing
+returns-in-Err-Refused-clause-missing g c = (by-words (g.S.Store.counts c.args.store.now) (g.S.Store.counts c.args.store.now) c.none.result WordsRefused c.refuse.result _ _ _ _ refl c.refuse.ensures.told).four
+
+pub returns-in-Err-OutOfMemory-clause-missing : goal.returns-in-Err-OutOfMemory-clause-missing
+returns-in-Err-OutOfMemory-clause-missing g c = (caused c.none-in-Err-OutOfMemory.result (g.S.Store.counts c.args.store.now) (g.S.Store.counts c.args.store.now) OutOfMemory c.refuse-in-Err-OutOfMemory.result _ _ _ _ tt c.refuse-in-Err-OutOfMemory.ensures.told).causes.four
+
+pub returns-in-Err-Refused-clause-long : goal.returns-in-Err-Refused-clause-long
+returns-in-Err-Refused-clause-long g c = (by-words (g.S.Store.counts c.args.store.now) (g.S.Store.counts c.args.store.now) c.none.result WordsRefused c.refuse.result _ _ _ _ refl c.refuse.ensures.told).five
+
+pub returns-in-Err-OutOfMemory-clause-long : goal.returns-in-Err-OutOfMemory-clause-long
+returns-in-Err-OutOfMemory-clause-long g c = (caused c.none-in-Err-OutOfMemory.result (g.S.Store.counts c.args.store.now) (g.S.Store.counts c.args.store.now) OutOfMemory c.refuse-in-Err-OutOfMemory.result _ _ _ _ tt c.refuse-in-Err-OutOfMemory.ensures.told).causes.five
+
+pub returns-in-Err-Refused-clause-write : goal.returns-in-Err-Refused-clause-write
+returns-in-Err-Refused-clause-write g c = λ e. absurd ((by-words (g.S.Store.counts c.args.store.now) (g.S.Store.counts c.args.store.now) c.none.result WordsRefused c.refuse.result _ _ _ _ refl c.refuse.ensures.told).write e)
+
+pub returns-in-Err-OutOfMemory-clause-write : goal.returns-in-Err-OutOfMemory-clause-write
+returns-in-Err-OutOfMemory-clause-write g c = λ e. absurd ((caused c.none-in-Err-OutOfMemory.result (g.S.Store.counts c.args.store.now) (g.S.Store.counts c.args.store.now) OutOfMemory c.refuse-in-Err-OutOfMemory.result _ _ _ _ tt c.refuse-in-Err-OutOfMemory.ensures.told).causes.write e)

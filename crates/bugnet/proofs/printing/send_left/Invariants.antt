@@ -1,6 +1,6 @@
 use Rattle.std.proofs.Common.{length}
 use Rattle.bugnet.proofs.Rows.{Stands}
-use Rattle.bugnet.proofs.printing.send_rows.Given as goal
+use Rattle.bugnet.proofs.printing.send_left.Given as goal
 
 abbrev pub invariant-rows : goal.invariant-rows
 invariant-rows g l = Stands l.fn.replayer.left l.replayer.left l.text (g.O.Sink.written l.fn.out) (g.O.Sink.written l.out) (g.O.Sink.faults l.fn.out) (g.O.Sink.faults l.out)

@@ -1,4 +1,4 @@
-use Rattle.std.proofs.Common.{Bool, sym, subst}
+use Rattle.std.proofs.Common.{ℕ, List, Bool, sym, subst, arith}
 use Rattle.std.specs.Prelude.{Result, Ok, Err, Option}
 use Rattle.joint_replay.specs.declared.error.JointError.{JointError}
 use Rattle.joint_replay.specs.Joining.{run_all}
@@ -7,8 +7,8 @@ use Rattle.joint_replay.specs.Runs.{Advances}
 use Rattle.bugnet.specs.Joinings.{RanAs}
 use Rattle.bugnet.specs.Outside.{Sent}
 use Rattle.bugnet.specs.declared.refusal.Refusal.{Refusal}
-use Rattle.bugnet.proofs.Joins.{walks-more, walks-stopped, walks-short, walks-ended}
-use Rattle.bugnet.proofs.joining.send_steps.Goals as goal
+use Rattle.bugnet.proofs.Joins.{Walks, walks-none, walks-done, walks-more, walks-stopped, walks-short, walks-ended}
+use Rattle.bugnet.proofs.joining.send_run.Goals as goal
 
 pub steps-preserved : goal.steps-preserved
 steps-preserved g c =
@@ -41,3 +41,30 @@ returns-in-Err-send-2-clause-sent g c =
     walks-short c.args.joint.now c.steps.joint c.steps.text c.advance.new.out
     (g.O.Sink.written c.args.out.now) (g.O.Sink.written c.steps.out) (g.O.Sink.written c.send-in-Err.new.sink) (g.O.Sink.faults c.args.out.now) (g.O.Sink.faults c.steps.out) (g.O.Sink.faults c.send-in-Err.new.sink) c.in-Err-send-2.refusal
     c.in-Err.ensures.0 c.steps.invariant c.in-Err-send-2.ensures.sent
+
+pub steps-init : goal.steps-init
+steps-init g c =
+    let known = g.O.Sink.written c.args.out.now in
+    let faults = g.O.Sink.faults c.args.out.now in
+    subst (λ (t : List ℕ). Walks c.args.joint.now c.args.joint.now t known known faults faults) (sym c.requires) (walks-none c.args.joint.now known faults)
+
+pub returns-in-Ok-send-clause-sent : goal.returns-in-Ok-send-clause-sent
+returns-in-Ok-send-clause-sent g c =
+    walks-done c.runs_end.ensures c.args.joint.now c.steps.joint c.advance.new.self c.steps.text c.advance.new.out
+    (g.O.Sink.written c.args.out.now) (g.O.Sink.written c.steps.out) (g.O.Sink.written c.send.new.sink) (g.O.Sink.faults c.args.out.now) (g.O.Sink.faults c.steps.out) (g.O.Sink.faults c.send.new.sink)
+    (subst (λ (b : Bool). Advances c.steps.joint (Ok b) c.advance.new.self c.steps.text c.advance.new.out) c.if-not-more.true c.in-Ok.ensures) c.steps.invariant c.in-Ok-send.ensures.sent.0 c.send.ensures.later
+
+pub returns-in-Ok-send-clause-later : goal.returns-in-Ok-send-clause-later
+returns-in-Ok-send-clause-later g c = omega (arith, c.steps.invariant.sent.later, c.send.ensures.later)
+
+pub returns-in-Err-send-clause-later : goal.returns-in-Err-send-clause-later
+returns-in-Err-send-clause-later g c = omega (arith, c.steps.invariant.sent.later, c.send.ensures.later)
+
+pub returns-in-Err-send_block-clause-later : goal.returns-in-Err-send_block-clause-later
+returns-in-Err-send_block-clause-later g c = omega (arith, c.steps.invariant.sent.later, c.send_block.ensures.later)
+
+pub returns-in-Ok-send-2-clause-later : goal.returns-in-Ok-send-2-clause-later
+returns-in-Ok-send-2-clause-later g c = omega (arith, c.steps.invariant.sent.later, c.send-in-Err.ensures.later)
+
+pub returns-in-Err-send-2-clause-later : goal.returns-in-Err-send-2-clause-later
+returns-in-Err-send-2-clause-later g c = omega (arith, c.steps.invariant.sent.later, c.send-in-Err.ensures.later)

@@ -1,4 +1,4 @@
-use Rattle.std.proofs.Common.{◌≡◌, Option, sym, subst}
+use Rattle.std.proofs.Common.{◌≡◌, ℕ, List, Option, sym, subst}
 use Rattle.std.specs.Prelude.{Result, Ok, Some, None}
 use Rattle.bn_base.specs.declared.row.Row.{Row}
 use Rattle.hart_replay.specs.Coming.{Stepped}
@@ -7,8 +7,8 @@ use Rattle.bugnet.specs.Printed.{outcome_of}
 use Rattle.bugnet.specs.Outside.{Sent}
 use Rattle.bugnet.specs.declared.printing.Ending.{Ending}
 use Rattle.bugnet.specs.declared.refusal.Refusal.{Refusal}
-use Rattle.bugnet.proofs.Rows.{stands-more, stands-stopped, stands-sent, stands-short, stands-done, stands-refused}
-use Rattle.bugnet.proofs.printing.send_rows.Goals as goal
+use Rattle.bugnet.proofs.Rows.{Stands, stands-none, stands-more, stands-stopped, stands-sent, stands-short, stands-done, stands-refused}
+use Rattle.bugnet.proofs.printing.send_left.Goals as goal
 
 pub rows-preserved : goal.rows-preserved
 rows-preserved g c =
@@ -48,3 +48,10 @@ pub returns-in-Err-send-2-clause-sent : goal.returns-in-Err-send-2-clause-sent
 returns-in-Err-send-2-clause-sent g c =
     stands-short c.args.replayer.now.left c.rows.replayer.left c.rows.text (g.O.Sink.written c.args.out.now) (g.O.Sink.written c.rows.out) (g.O.Sink.written c.send-in-Err.new.sink)
     (g.O.Sink.faults c.args.out.now) (g.O.Sink.faults c.rows.out) (g.O.Sink.faults c.send-in-Err.new.sink) c.in-Err-send-2.refusal c.rows.invariant c.in-Err-send-2.ensures.sent
+
+pub rows-init : goal.rows-init
+rows-init g c =
+    let left = c.args.replayer.now.left in
+    let known = g.O.Sink.written c.args.out.now in
+    let faults = g.O.Sink.faults c.args.out.now in
+    subst (λ (t : List ℕ). Stands left left t known known faults faults) (sym c.requires) (stands-none left known faults)
