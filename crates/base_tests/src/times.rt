@@ -1,4 +1,4 @@
-use vector_time::Times;
+use race_log::Times;
 
 #[test]
 fn merged_times_cover_what_either_covered(rt: HostRuntime) {

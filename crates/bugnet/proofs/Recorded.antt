@@ -9,7 +9,7 @@ use Rattle.bn_outside.specs.declared.turn_row.TurnRow.{TurnRow}
 use Rattle.log_file.specs.Layout.{saved_bytes}
 use Rattle.log_record.specs.Spelling.{total}
 use Rattle.log_record.specs.declared.record.Record.{Record}
-use Rattle.log_ring.specs.Kept.{kept, HoldsLog}
+use Rattle.log_record.specs.Kept.{kept, HoldsLog}
 use Rattle.run_model.specs.Files.{kept_of, dropped_of, content_of}
 use Rattle.run_model.specs.Turn.{Run}
 use Rattle.run_model.specs.Runs.{start, run_of}

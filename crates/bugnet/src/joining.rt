@@ -19,8 +19,7 @@ use bn_base::{HartId, Ic};
 use bn_outside::{Sink, Store, send_all};
 use joint_replay::laws::{runs_end, runs_go_on};
 use joint_replay::{Joint, JointError, write_known};
-use row_lines::RowLines;
-use rv_text::Text;
+use rv_text::{RowLines, Text};
 use std::alloc::{AllocError, Global};
 
 /// Loads a log and a program, and replays all intervals of the log together.

@@ -6,8 +6,7 @@ ghost use Rattle.bugnet.specs.Texts.{mark_in};
 ghost use Rattle.bugnet.specs.Logs.{mark_or, mark_of, mark_from};
 
 use bn_base::{EndMark, HartId};
-use log_record::Record;
-use record_list::RecordList;
+use log_record::{Record, RecordList};
 
 // The mark of a hart's End.
 #[tactic(auto, using(crate::proofs::Marks::mark_of_load, crate::proofs::Marks::mark_of_ok, crate::proofs::Marks::mark_of_failed))]

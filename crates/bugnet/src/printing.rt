@@ -21,10 +21,8 @@ use bn_outside::{Sink, send_all};
 use hart_replay::{ReplayError, Replayer};
 use log_file::LogCounts;
 use log_order::KeptLog;
-use log_record::Record;
-use record_list::RecordList;
-use row_lines::RowLines;
-use rv_text::{Text, write_end};
+use log_record::{Record, RecordList};
+use rv_text::{RowLines, Text, write_end};
 use std::alloc::Global;
 
 // How many bytes of a text wait at least before they are sent.

@@ -7,7 +7,7 @@ use Rattle.run_model.specs.declared.start.Start.{Start}
 use Rattle.run_model.specs.Stands.Plain.{PlainParts, IsRun, everyone}
 use Rattle.run_model.specs.Turn.{Run, serve, is_orderly, halted}
 use Rattle.run_model.specs.Stands.Turning.{is_live}
-use Rattle.log_ring.specs.Kept.{Held, HoldsLog}
+use Rattle.log_record.specs.Kept.{Held, HoldsLog}
 use Rattle.race_log.specs.Noted.{NotesDecide}
 use Rattle.run_laws.specs.History.{after_rows, are_orderly}
 use Rattle.bus_core.specs.Bus.{seen, IsState, IsHistory, IsLogged, AreTold, began_of, first_run, run_after, halted_if, row}

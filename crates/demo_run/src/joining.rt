@@ -10,8 +10,7 @@ use joint_replay::laws::{runs_end, runs_go_on};
 use joint_replay::{Joint, JointError};
 use le_numbers::push_u32;
 use log_order::KeptLog;
-use row_lines::RowLines;
-use rv_text::Text;
+use rv_text::{RowLines, Text};
 use std::alloc::{AllocError, Global};
 
 // Takes all steps, the lowest ready hart's first. No line of them is kept.

@@ -19,7 +19,7 @@ use Rattle.log_record.specs.declared.record.Record.{Record}
 use Rattle.log_record.specs.Spelling.{Fits, total}
 use Rattle.log_order.specs.Content.{IsContent}
 use Rattle.log_order.specs.Order.{broken_by}
-use Rattle.log_ring.specs.Kept.{kept}
+use Rattle.log_record.specs.Kept.{kept}
 use Rattle.run_model.specs.declared.hart.Hart.{Hart}
 use Rattle.run_model.specs.declared.next.Next.{Next}
 use Rattle.run_model.specs.declared.span.Span.{Span}

@@ -24,7 +24,7 @@ use Rattle.log_record.specs.declared.record.Record.TheVariants.{End}
 use Rattle.log_record.specs.Spelling.{Fits, is_mark, is_marked, total}
 use Rattle.log_order.specs.Content.{IsContent}
 use Rattle.log_order.specs.Order.{broken_by}
-use Rattle.log_ring.specs.Kept.{Held, kept}
+use Rattle.log_record.specs.Kept.{Held, kept}
 use Rattle.run_model.specs.declared.hart.Hart.{Hart}
 use Rattle.run_model.specs.declared.next.Next.{Next}
 use Rattle.run_model.specs.declared.next.Next.TheVariants.{GoesOn, NewInterval, HartOver, RunOver}

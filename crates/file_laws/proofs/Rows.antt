@@ -17,7 +17,7 @@ use Rattle.log_order.specs.Rules.{fresh, is_over}
 use Rattle.log_order.specs.Order.{after_all, terms_of, late_edge, broken, broken_by}
 use Rattle.log_order.specs.Suffix.{Keeps, IsEarly, EndsLast}
 use Rattle.log_order.specs.Weak.{AreWeak}
-use Rattle.log_ring.specs.Kept.{Held, HoldsLog, kept}
+use Rattle.log_record.specs.Kept.{Held, HoldsLog, kept}
 use Rattle.run_model.specs.declared.hart.Hart.{Hart}
 use Rattle.run_model.specs.Turn.{Run, Served, serve, serve_disorderly, served_if, is_orderly}
 use Rattle.run_model.specs.Runs.{is_live, any_live}

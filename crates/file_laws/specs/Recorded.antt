@@ -7,7 +7,7 @@ use Rattle.bn_base.specs.declared.settings.RawSettings.{RawSettings}
 use Rattle.bn_outside.specs.declared.turn_row.TurnRow.{TurnRow}
 use Rattle.log_record.specs.declared.record.Record.{Record}
 use Rattle.log_record.specs.Spelling.{Fits}
-use Rattle.log_ring.specs.Kept.{Held, HoldsLog}
+use Rattle.log_record.specs.Kept.{Held, HoldsLog}
 use Rattle.log_order.specs.declared.view.HartView.{HartView}
 use Rattle.log_order.specs.Order.{after_all, terms_of}
 use Rattle.log_order.specs.Rules.{fresh}

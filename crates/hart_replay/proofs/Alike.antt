@@ -14,7 +14,7 @@ use Rattle.rv_meaning.specs.declared.asks.Want.TheVariants.{Load, Store, LoadRes
 use Rattle.rv_meaning.specs.declared.asks.Reply.{Reply}
 use Rattle.rv_meaning.specs.declared.asks.Reply.TheVariants.{Word, Stored, Answer, Over}
 use Rattle.rv_meaning.specs.declared.asks.Reply.TheVariants as replies
-use Rattle.hart_rows.specs.Rows.{row_of, call_row, fault_row, at_address, known}
+use Rattle.rv_meaning.specs.Rows.{row_of, call_row, fault_row, at_address, known}
 use Rattle.hart_replay.specs.declared.error.ReplayError.TheVariants.{RecordsLeft, EndDiffers, ScMissing}
 use Rattle.hart_replay.specs.Replay.{Outcome, Done, Refused, Replayed, Next, On, Stop, logged, taken_from, slot, or_else, word_for, missing, after_ask, after_sc, ask_step, one_step, left_over, found, finish, fault_end, ended, call_reason}
 use Rattle.hart_replay.specs.Coming.{with_rows, without_rows, to_come}

@@ -12,9 +12,9 @@ use Rattle.rv_meaning.specs.Orderly.{is_cut, passes}
 use Rattle.rv_meaning.specs.declared.asks.Ask.{Ask}
 use Rattle.rv_meaning.specs.declared.asks.Want.{Want}
 use Rattle.rv_meaning.specs.declared.asks.Want.TheVariants.{Load, Store, LoadReserved, StoreConditional, Amo, System, Cut, Faulted}
-use Rattle.hart_rows.specs.Rows.{fault_row, row_of}
-use Rattle.hart_rows.specs.Lookups.{fetched}
-use Rattle.hart_rows.specs.declared.fetched.Fetched.{Fetched}
+use Rattle.rv_meaning.specs.Rows.{fault_row, row_of}
+use Rattle.rv_meaning.specs.Lookups.{fetched}
+use Rattle.rv_meaning.specs.declared.fetched.Fetched.{Fetched}
 use Rattle.hart_replay.specs.declared.error.ReplayError.{ReplayError}
 use Rattle.hart_replay.specs.declared.error.ReplayError.TheVariants.{EndDiffers}
 use Rattle.hart_replay.specs.Replay.{Refused, Replayed, Interval, Position, Next, On, Outcome, ended, fault_end, finish, found, left_over, one_step, ask_step}

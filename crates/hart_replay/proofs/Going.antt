@@ -13,7 +13,7 @@ use Rattle.rv_meaning.specs.declared.asks.Want.TheVariants.{Store, StoreConditio
 use Rattle.rv_meaning.specs.declared.asks.Reply.{Reply}
 use Rattle.rv_meaning.specs.declared.asks.Reply.TheVariants.{Word, Stored}
 use Rattle.rv_meaning.specs.declared.asks.Reply.TheVariants as replies
-use Rattle.hart_rows.specs.Rows.{row_of, at_address, known}
+use Rattle.rv_meaning.specs.Rows.{row_of, at_address, known}
 use Rattle.hart_replay.specs.declared.course.Course.{Course}
 use Rattle.hart_replay.specs.declared.error.ReplayError.{ReplayError}
 use Rattle.hart_replay.specs.declared.error.ReplayError.TheVariants.{LoadMissing, ScMissing, OutOfMemory}

@@ -5,7 +5,7 @@ use Rattle.std.proofs.lemmas.Bool.{eq-eqb, cases_lt}
 use Rattle.std.proofs.lemmas.Bool.Decides.{eqb_tells}
 use Rattle.bn_base.specs.declared.row.Row.{Row}
 use Rattle.rv_meaning.specs.Words.{aligned}
-use Rattle.hart_rows.specs.Rows.{at_address, known}
+use Rattle.rv_meaning.specs.Rows.{at_address, known}
 use Rattle.hart_replay.specs.Replay.{or_else}
 use Rattle.hart_replay.specs.Pages.{Frame, word_at}
 use Rattle.hart_replay.specs.Sides.{word_count, word_row, rows_below}

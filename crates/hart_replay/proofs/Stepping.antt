@@ -14,7 +14,7 @@ use Rattle.rv_meaning.specs.declared.asks.Want.TheVariants.{Load, Store, LoadRes
 use Rattle.rv_meaning.specs.declared.asks.Reply.{Reply}
 use Rattle.rv_meaning.specs.declared.asks.Reply.TheVariants.{Word, Stored, Answer, Over}
 use Rattle.rv_meaning.specs.declared.asks.Reply.TheVariants as replies
-use Rattle.hart_rows.specs.Rows.{row_of, call_row, fault_row}
+use Rattle.rv_meaning.specs.Rows.{row_of, call_row, fault_row}
 use Rattle.hart_replay.specs.declared.error.ReplayError.TheVariants.{EndDiffers, ScMissing}
 use Rattle.hart_replay.specs.Replay.{Outcome, Refused, Replayed, Interval, Position, Next, On, Stop, missing, after_ask, after_sc, ask_step, one_step, found, call_reason, steps, finish, onto, left_over, fault_end, ended, first, interval_from, Logged, puts, nothing, interval_of, replayed_in}
 use Rattle.hart_replay.specs.Codes.{CodeOf}

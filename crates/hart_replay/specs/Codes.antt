@@ -1,8 +1,8 @@
 -- A program with look-ups that are kept.
 use Rattle.std.specs.Prelude.{◌≡◌, ℕ, List, slice_get, Some}
 use Rattle.bn_base.specs.Programs.{Program, code_at}
-use Rattle.hart_rows.specs.Lookups.{destination}
-use Rattle.hart_rows.specs.Rows.{instruction_in}
+use Rattle.rv_meaning.specs.Lookups.{destination}
+use Rattle.rv_meaning.specs.Rows.{instruction_in}
 use Rattle.hart_replay.specs.declared.code.Lookup.{Lookup}
 
 -- the program

@@ -4,7 +4,7 @@ use Rattle.bn_base.specs.declared.row.Row.{Row}
 use Rattle.rv_meaning.specs.Execute.{after}
 use Rattle.rv_meaning.specs.declared.asks.Reply.{Reply}
 use Rattle.rv_meaning.specs.declared.asks.Want.{Want}
-use Rattle.hart_rows.specs.Rows.{row_of}
+use Rattle.rv_meaning.specs.Rows.{row_of}
 use Rattle.hart_replay.specs.declared.course.Course.{Course}
 use Rattle.hart_replay.specs.declared.error.ReplayError.{ReplayError}
 use Rattle.hart_replay.specs.Replay.{Outcome, Replayed, Interval, Position, Next, ask_step, one_step, left_over, ended}

@@ -14,7 +14,7 @@ use Rattle.rv_meaning.specs.declared.asks.Want.TheVariants.{Load, Store, LoadRes
 use Rattle.rv_meaning.specs.declared.asks.Reply.{Reply}
 use Rattle.rv_meaning.specs.declared.asks.Reply.TheVariants.{Word, Stored, Answer, Over}
 use Rattle.rv_meaning.specs.declared.asks.Reply.TheVariants as replies
-use Rattle.hart_rows.specs.Rows.{row_of, call_row, fault_row, known}
+use Rattle.rv_meaning.specs.Rows.{row_of, call_row, fault_row, known}
 use Rattle.log_record.specs.declared.record.Record.{Record}
 use Rattle.log_record.specs.declared.record.Record.TheVariants.{Header, FirstLoad, ScOk, ScFailed, Edge, End}
 use Rattle.hart_replay.specs.declared.error.ReplayError.{ReplayError}

@@ -6,7 +6,7 @@ use Rattle.bn_base.specs.declared.row.Row.{Row}
 use Rattle.bn_base.specs.declared.state.HartState.{HartState}
 use Rattle.rv_meaning.specs.Execute.{count_up}
 use Rattle.rv_meaning.specs.Words.{aligned}
-use Rattle.hart_rows.specs.Rows.{known}
+use Rattle.rv_meaning.specs.Rows.{known}
 use Rattle.bn_base.specs.declared.fault.Fault.{Fault}
 use Rattle.rv_meaning.specs.declared.asks.Reply.{Reply}
 use Rattle.rv_meaning.specs.declared.asks.Reply.TheVariants.{Answer, Over}

@@ -1,11 +1,11 @@
 //! The program of a replay, with what its code words decode to.
 ghost use Rattle.std.specs.Prelude.{◌≡◌, ◌/◌, ◌%◌};
 ghost use Rattle.bn_base.specs.Programs.{Program};
-ghost use Rattle.hart_rows.specs.Lookups.{fetched};
+ghost use Rattle.rv_meaning.specs.Lookups.{fetched};
 ghost use Rattle.hart_replay.specs.Codes.{IsLookup, AreLookups};
 
 use bn_base::{Addr, HartId, HartState, Image, Register};
-use hart_rows::Fetched;
+use rv_meaning::Fetched;
 use std::alloc::{AllocError, Global};
 use std::marker::Model;
 

@@ -3,8 +3,8 @@ ghost use Rattle.std.specs.Prelude.{◌≡◌, ◌<◌, ◌/◌, ◌==◌, ◌&&
 ghost use Rattle.rv_meaning.specs.Execute.{after};
 ghost use Rattle.rv_meaning.specs.Orderly.{is_reply_to, is_aligned, is_cut, passes};
 ghost use Rattle.rv_meaning.specs.declared.asks.Want.TheVariants.{Load, LoadReserved, Amo, Store, StoreConditional, System};
-ghost use Rattle.hart_rows.specs.Rows.{call_row};
-ghost use Rattle.hart_rows.specs.Lookups.{fetched};
+ghost use Rattle.rv_meaning.specs.Rows.{call_row};
+ghost use Rattle.rv_meaning.specs.Lookups.{fetched};
 ghost use Rattle.hart_replay.specs.declared.error.ReplayError.TheVariants.{LoadMissing, EndDiffers, OutOfMemory};
 ghost use Rattle.hart_replay.specs.Replay.{call_reason, found};
 ghost use Rattle.hart_replay.specs.Pages.{word_at};
@@ -18,10 +18,9 @@ use crate::pending::{Conditionals, Loads};
 use crate::words::Words;
 use bn_base::end_mark::{CALL, EXIT, FAULT, GROUP, LENGTH};
 use bn_base::{Addr, EndMark, Fault, HartId, HartState, Register, Row};
-use hart_rows::Fetched;
 use rv_meaning::{
-    AmoOp, Reply, Want, absorb_in_place, each_instruction_is_counted_or_asks, quiet_run_in_place,
-    stored_word,
+    AmoOp, Fetched, Reply, Want, absorb_in_place, each_instruction_is_counted_or_asks,
+    quiet_run_in_place, stored_word,
 };
 use std::alloc::AllocError;
 

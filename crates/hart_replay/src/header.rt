@@ -5,8 +5,7 @@ ghost use Rattle.hart_replay.specs.Replay.{interval_of};
 ghost use Rattle.hart_replay.specs.Starts.{started, found_in};
 
 use bn_base::{HartId, HartState};
-use log_record::Record;
-use record_list::RecordList;
+use log_record::{Record, RecordList};
 
 /// The start of an interval: its hart and state, and the place of the record after its Header.
 #[derive(Drop)]

@@ -4,7 +4,7 @@ ghost use Rattle.hart_replay.specs.Scans.{loads_in, conditionals_in, due, met, I
 
 use crate::scan::{count_conditionals, count_loads, next_conditional, next_load};
 use bn_base::HartId;
-use record_list::RecordList;
+use log_record::RecordList;
 use std::marker::Model;
 
 /// The first loads of a hart's interval that are still to be met, and the number of loading

@@ -4,8 +4,7 @@ ghost use Rattle.hart_replay.specs.Replay.{Logged, put};
 ghost use Rattle.hart_replay.specs.Scans.{loads_in, conditionals_in, mark_in, in_front, scanned, mark_or};
 
 use bn_base::{EndMark, HartId};
-use log_record::Record;
-use record_list::RecordList;
+use log_record::{Record, RecordList};
 
 // What a record says of the first loads of a hart's interval: nothing, or that there are no more,
 // or one.

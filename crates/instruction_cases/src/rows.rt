@@ -2,7 +2,7 @@
 use crate::texts::print_text;
 use crate::words::{low, number_or, word};
 use bn_base::{Fault, HartState, Image, Register, Registers, Row};
-use hart_rows::Fetched;
+use rv_meaning::Fetched;
 use rv_text::{Text, write_row};
 use std::alloc::Global;
 

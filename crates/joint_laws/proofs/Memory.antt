@@ -6,7 +6,7 @@ use Rattle.bn_base.specs.Programs.{Program}
 use Rattle.bn_base.specs.declared.row.Row.{Row}
 use Rattle.bn_base.specs.declared.state.HartState.{HartState}
 use Rattle.rv_meaning.specs.Words.{aligned}
-use Rattle.hart_rows.specs.Rows.{at_address}
+use Rattle.rv_meaning.specs.Rows.{at_address}
 use Rattle.log_record.specs.declared.record.Record.{Record}
 use Rattle.race_log.specs.Points.{Point, Touches, Writes}
 use Rattle.elf_loader.specs.Laws.{LoadedProgramsAreImages}

@@ -3,7 +3,7 @@ use Rattle.std.proofs.Common.{◌≡◌, ℕ, zero, suc, ◌+◌, ◌<◌, ◌�
 use Rattle.std.proofs.lemmas.Bool.{eq-eqb, ne_eqb}
 use Rattle.std.proofs.lemmas.Bool.Decides.{eqb_tells}
 use Rattle.rv_meaning.specs.Words.{aligned}
-use Rattle.hart_rows.specs.Rows.{at_address}
+use Rattle.rv_meaning.specs.Rows.{at_address}
 use Rattle.log_record.specs.declared.record.Record.{Record}
 use Rattle.joint_replay.specs.Lanes.{Item, Passing, Doing, Ending}
 use Rattle.joint_replay.specs.Memory.{Bytes, filled, has_byte, known_after, word_after, put_word, put_access, forget, memory_after, word_in}

@@ -11,7 +11,7 @@ use Rattle.rv_meaning.specs.declared.asks.Want.TheVariants.{Load, Store, LoadRes
 use Rattle.rv_meaning.specs.declared.asks.Reply.{Reply}
 use Rattle.rv_meaning.specs.declared.asks.Reply.TheVariants.{Word, Stored, Answer, Over}
 use Rattle.rv_meaning.specs.declared.asks.Reply.TheVariants as replies
-use Rattle.hart_rows.specs.Rows.{row_of, call_row}
+use Rattle.rv_meaning.specs.Rows.{row_of, call_row}
 use Rattle.hart_replay.specs.declared.error.ReplayError.{ReplayError}
 use Rattle.hart_replay.specs.declared.error.ReplayError.TheVariants.{LoadMissing, ScMissing, EndDiffers}
 use Rattle.hart_replay.specs.Replay.{Outcome, Done, Refused, Interval, Position, Next, On, Stop, one_step, ask_step, after_ask, after_sc, missing, word_for, slot, found, call_reason}

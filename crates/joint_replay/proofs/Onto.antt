@@ -7,7 +7,7 @@ use Rattle.bn_base.specs.declared.state.HartState.{HartState}
 use Rattle.rv_meaning.specs.Execute.{Step, Quiet, Asks, step, count_up}
 use Rattle.rv_meaning.specs.declared.asks.Want.{Want}
 use Rattle.rv_meaning.specs.declared.asks.Want.TheVariants.{Load, Store, LoadReserved, StoreConditional, Amo, System, Cut, Faulted}
-use Rattle.hart_rows.specs.Rows.{fault_row}
+use Rattle.rv_meaning.specs.Rows.{fault_row}
 use Rattle.log_record.specs.declared.record.Record.{Record}
 use Rattle.hart_replay.specs.declared.error.ReplayError.TheVariants.{EndDiffers}
 use Rattle.hart_replay.specs.Replay.{Refused, Replayed, Interval, Position, Next, On, Stop, one_step, ended, fault_end, finish, left_over, found, onto, steps, first, replayed_in}

@@ -4,8 +4,7 @@ ghost use Rattle.log_record.specs.declared.record.Record.{Record};
 ghost use Rattle.joint_replay.specs.Points.{is_below, first_count, insert, insert_if, points_below, ordering_points, or_first};
 
 use bn_base::{HartId, Ic};
-use log_record::Record;
-use record_list::RecordList;
+use log_record::{Record, RecordList};
 use std::alloc::{AllocError, Global};
 use std::collections::BTreeSet;
 

@@ -10,8 +10,7 @@ use crate::kinds::Next;
 use crate::laws::{runs_end, runs_go_on};
 use crate::texts::write_step_by;
 use bn_base::HartId;
-use row_lines::RowLines;
-use rv_text::Text;
+use rv_text::{RowLines, Text};
 
 impl<'a> Joint<'a> {
     // Why no hart is ready.

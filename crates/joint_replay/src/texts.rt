@@ -6,8 +6,7 @@ ghost use Rattle.joint_replay.specs.Texts.{pass_text, known_text, stepped_text};
 
 use crate::kinds::Stepped;
 use bn_base::{Addr, HartId, Ic};
-use row_lines::RowLines;
-use rv_text::{Text, write_end, write_row};
+use rv_text::{RowLines, Text, write_end, write_row};
 use std::alloc::AllocError;
 
 // A count behind a space, and the end of the line.

@@ -22,8 +22,7 @@ use le_numbers::read_u64;
 use log_file::{FileError, LogCounts, tally_of};
 use log_order::KeptLog;
 use log_record::laws::{records_fit_later_versions, tags_tell_sizes};
-use log_record::{Head, Record, write};
-use record_list::RecordList;
+use log_record::{Head, Record, RecordList, write};
 use std::alloc::Global;
 
 // Whether a record is a Header.

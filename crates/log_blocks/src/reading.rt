@@ -25,9 +25,8 @@ use le_numbers::laws::{numbers_have_their_width, read_numbers_are_written};
 use le_numbers::{read_u32, read_u64};
 use log_file::FileError;
 use log_order::KeptLog;
-use log_record::Head;
 use log_record::laws::tags_tell_sizes;
-use record_list::RecordList;
+use log_record::{Head, RecordList};
 use std::alloc::Global;
 
 // The log of records that are in their blocks.

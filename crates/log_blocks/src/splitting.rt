@@ -8,8 +8,7 @@ ghost use Rattle.log_blocks.specs.File.{IsSplitError};
 use crate::damage::Damage;
 use log_file::FileError;
 use log_file::splitting::count;
-use log_record::read_as;
-use record_list::RecordList;
+use log_record::{RecordList, read_as};
 use std::alloc::Global;
 
 /// The records of a log of this format whose bytes these are. The error tells the first place where

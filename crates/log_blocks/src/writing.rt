@@ -17,8 +17,7 @@ use le_numbers::{push_u32, push_u64};
 use log_file::head::{MAGIC, digest_of};
 use log_order::KeptLog;
 use log_record::laws::records_fit_later_versions;
-use log_record::{Head, write};
-use record_list::RecordList;
+use log_record::{Head, RecordList, write};
 use std::alloc::{AllocError, Global};
 
 // Appends what begins each file, the version, and the settings up to the limit.

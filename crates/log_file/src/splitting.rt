@@ -7,8 +7,7 @@ ghost use Rattle.log_file.specs.File.{IsSplitError};
 
 use crate::error::FileError;
 use log_record::laws::tags_tell_sizes;
-use log_record::{read, size};
-use record_list::RecordList;
+use log_record::{RecordList, read, size};
 use std::alloc::Global;
 
 /// How many records these bytes are, by the tags alone. Bytes that are no records are counted up to the

@@ -6,8 +6,7 @@ ghost use Rattle.log_order.specs.Order.{broken_by};
 ghost use Rattle.log_order.specs.Content.{content, IsContent};
 
 use crate::walk::{OrderBreak, broken_by};
-use log_record::Head;
-use record_list::RecordList;
+use log_record::{Head, RecordList};
 use std::marker::Model;
 
 /// What a log says: its head, how many records were given up before those that it keeps, and these

@@ -8,8 +8,7 @@ ghost use Rattle.log_order.specs.Order.{has_source, step, Steps, after_all, is_l
 
 use crate::view::{HartView, Terms};
 use bn_base::{HARTS, Settings};
-use log_record::Record;
-use record_list::RecordList;
+use log_record::{Record, RecordList};
 
 /// Where the order of records is broken first, and by which rule.
 #[derive(Clone, Copy, Debug, PartialEq, Eq, Drop)]

@@ -1,15 +1,22 @@
-// The records of a log, and their bytes.
+//! The records of a log and their bytes, lists of them in little memory, and a ring that keeps the latest
+//! whole ones.
 #![tactic(auto)]
 
 pub mod bytes;
+mod entry;
 pub mod head;
+pub mod keeping;
 pub mod laws;
+pub mod list;
 pub mod reading;
 pub mod record;
+pub mod ring;
 pub mod writing;
 
 pub use bytes::Bytes;
 pub use head::Head;
+pub use list::RecordList;
 pub use reading::{read, read_as, size};
 pub use record::Record;
+pub use ring::Ring;
 pub use writing::write;

@@ -1,7 +1,6 @@
 use bn_base::Settings;
 use log_order::{KeptLog, OrderBreak};
-use log_record::Head;
-use record_list::RecordList;
+use log_record::{Head, RecordList};
 use std::alloc::Global;
 use std::test::*;
 

@@ -1,8 +1,8 @@
 -- The times in one access of a shadow.
 use Rattle.std.proofs.Common.{◌≡◌, ◌≢◌, ℕ, ◌+◌, ◌-◌, ◌<◌, Bool, true, false, ◌==◌, refl, inl, inr, arith, sym, ap, ◌∙◌, slice_get, slice_set, slice_index_or, if◌then◌else◌, nat_lt}
 use Rattle.std.proofs.lemmas.Option.{slice_get_read}
-use Rattle.vector_time.specs.declared.times.Times.{Times}
-use Rattle.vector_time.specs.Times.{count_of}
+use Rattle.race_log.specs.declared.times.Times.{Times}
+use Rattle.race_log.specs.Times.{count_of}
 use Rattle.race_log.specs.declared.mode.Mode.{Mode}
 use Rattle.race_log.specs.declared.shadow.Shadow.{Shadow}
 use Rattle.race_log.specs.Kept.{is_write}

@@ -3,7 +3,7 @@ use Rattle.std.proofs.Common.{◌≡◌, ◌≢◌, ℕ, ◌+◌, ◌<◌, ◌�
 use Rattle.std.proofs.lemmas.Option.{slice_get-get_or}
 use Rattle.std.proofs.lemmas.Bool.{false≢true, cases_eq}
 use Rattle.std.proofs.lemmas.List.{get_or-set_same, get_or-set_other}
-use Rattle.vector_time.specs.Times.{count_of}
+use Rattle.race_log.specs.Times.{count_of}
 use Rattle.race_log.specs.declared.stretches.Stretch.{Stretch}
 use Rattle.race_log.specs.Slots.{counts_of, is_marked, is_settled, AreSettledNow}
 use Rattle.race_log.proofs.PageLemmas.{get_here, get_there}

@@ -1,7 +1,7 @@
 -- What a shadow notes, as plain data.
 use Rattle.std.specs.Prelude.{◌≡◌, ℕ, Bool, List, map, Vec}
 use Rattle.std.specs.Global.{Global}
-use Rattle.vector_time.specs.declared.times.Times.{Times}
+use Rattle.race_log.specs.declared.times.Times.{Times}
 use Rattle.race_log.specs.declared.shadow.Shadow.{Shadow}
 use Rattle.race_log.specs.declared.slot.Slot.{Slot}
 use Rattle.race_log.specs.declared.stretches.Stretch.{Stretch}

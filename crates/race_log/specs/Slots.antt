@@ -2,7 +2,7 @@
 use Rattle.std.specs.Prelude.{◌≡◌, ℕ, zero, suc, ◌+◌, ◌-◌, ◌*◌, ◌<◌, ◌==◌, nat_lt, Bool, false, ◌||◌, cond, IsTrue, if◌then◌else◌}
 use Rattle.std.specs.Prelude.{List, [], ◌∷◌, ◌++◌, length, slice_get, slice_index, Option, Some, None, Vec}
 use Rattle.std.specs.Global.{Global}
-use Rattle.vector_time.specs.Times.{count_of}
+use Rattle.race_log.specs.Times.{count_of}
 use Rattle.race_log.specs.declared.mode.Mode.{Mode}
 use Rattle.race_log.specs.declared.mode.Mode.TheVariants.{Read, Write}
 use Rattle.race_log.specs.declared.slot.Slot.{Slot}

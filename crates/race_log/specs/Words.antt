@@ -1,7 +1,7 @@
 -- Kept accesses by word.
 use Rattle.std.specs.Prelude.{◌≡◌, ◌≢◌, ℕ, ◌+◌, ◌*◌, ◌/◌, ◌%◌, ◌<◌, ◌==◌, Bool, not, ◌&&◌, List, [], cond, length, nat_lt, slice_get, slice_index, Option, Some, None, IsTrue}
-use Rattle.vector_time.specs.declared.times.Times.{Times}
-use Rattle.vector_time.specs.Times.{count_of}
+use Rattle.race_log.specs.declared.times.Times.{Times}
+use Rattle.race_log.specs.Times.{count_of}
 use Rattle.race_log.specs.declared.mode.Mode.{Mode}
 use Rattle.race_log.specs.declared.slot.Slot.{Slot}
 use Rattle.race_log.specs.declared.stretches.Stretches.{Stretches}

@@ -6,6 +6,7 @@
 //! is before another where a chain of program order and conflicts leads from the one to the other. An edge is recorded
 //! for two conflicting points exactly where no third point is after the one and before the other.
 //!
+//! `Times` are vector times: for each hart, how many of its points come before a point of the run.
 //! `Shadow` takes in the accesses of a run one by one and answers the edges into each. The laws say what the edges are
 //! good for; each is the contract of a function that does nothing. Small runs with their edges worked out stand as
 //! contracts too.
@@ -22,6 +23,7 @@ mod slot;
 mod stretches;
 mod sweep;
 mod sweeping;
+mod times;
 mod words;
 
 pub use edges::Edges;
@@ -37,3 +39,4 @@ pub use laws::{
 };
 pub use mode::Mode;
 pub use shadow::Shadow;
+pub use times::Times;

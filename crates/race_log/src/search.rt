@@ -1,16 +1,16 @@
 ghost use Rattle.std.specs.Prelude.{◌≡◌, ◌+◌, ◌*◌, ◌<◌, ◌≤◌, ◌^◌, ◌%◌, ℕ, true, None, length, slice_get};
-ghost use Rattle.vector_time.specs.Times.{count_of};
+ghost use Rattle.race_log.specs.Times.{count_of};
 ghost use Rattle.bn_base.specs.declared.settings.TheConstants.{HARTS};
 ghost use Rattle.race_log.specs.Search.{gathered, latest, newer, sources, counts_after};
 ghost use Rattle.race_log.specs.Slots.{kept_here, write_in, read_in, reads_in, word_in, found_as};
 ghost use Rattle.race_log.specs.Words.{kept_in, stretch_counts};
 
+use crate::Times;
 use crate::edges::Edges;
 use crate::mode::Mode;
 use crate::slot::{Found, Slot};
 use crate::words::KeptWords;
 use bn_base::{Addr, HartId};
-use vector_time::Times;
 
 // Whether the turn is later than the best one's, if there is one.
 fn is_newer(best: &Option<Found>, turn: u64) -> bool

@@ -4,6 +4,7 @@ ghost use Rattle.std.specs.Option.{ForSome};
 ghost use Rattle.bn_base.specs.declared.settings.TheConstants.{HARTS};
 ghost use Rattle.race_log.specs.Words.{HasRoom, ArePresent};
 
+use crate::Times;
 use crate::edges::Edges;
 use crate::mode::Mode;
 use crate::search::find_sources;
@@ -11,7 +12,6 @@ use crate::sweep::{has_bit, least_with};
 use crate::words::KeptWords;
 use bn_base::{Addr, HartId, Ic, Settings};
 use std::alloc::{AllocError, Global};
-use vector_time::Times;
 
 /// What each hart knows of the others' points, and what is kept of each word's accesses.
 #[derive(Drop)]
@@ -36,7 +36,7 @@ pub struct Shadow {
 }
 
 impl Shadow {
-    ghost use Rattle.vector_time.specs.Times.{count_of};
+    ghost use Rattle.race_log.specs.Times.{count_of};
     ghost use Rattle.race_log.specs.Points.{Point};
     ghost use Rattle.race_log.specs.Tests.{sources_into};
     ghost use Rattle.race_log.specs.ByCount.{IsLatestPoint, IsTimesOf};

@@ -2,9 +2,9 @@ ghost use Rattle.std.specs.Prelude.{◌≡◌, ◌≢◌, ◌<◌, ◌≤◌, �
 ghost use Rattle.bn_base.specs.declared.settings.TheConstants.{HARTS};
 ghost use Rattle.race_log.specs.Slots.{is_settled, AreSettledNow};
 
+use crate::Times;
 use bn_base::{HARTS, HartId, Ic};
 use std::alloc::{AllocError, Global};
-use vector_time::Times;
 
 /// A stretch of a hart: its points from one edge into the hart up to the next, in which it learns of no
 /// point of another hart.
@@ -31,7 +31,7 @@ pub struct Stretches {
 }
 
 impl Stretches {
-    ghost use Rattle.vector_time.specs.Times.{count_of};
+    ghost use Rattle.race_log.specs.Times.{count_of};
     ghost use Rattle.race_log.specs.Slots.{counts_past, is_marked};
     ghost use Rattle.race_log.specs.Words.{stretch_counts, stretch_of, present_counts, has_stretch};
 

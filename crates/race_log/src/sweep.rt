@@ -4,12 +4,12 @@ ghost use Rattle.bn_base.specs.declared.settings.TheConstants.{HARTS};
 ghost use Rattle.race_log.specs.declared.mode.Mode.{Mode};
 ghost use Rattle.race_log.specs.declared.slot.Slot.{Slot};
 ghost use Rattle.race_log.specs.Slots.{kept_here, write_in, read_in, reads_in, word_in, StaysSettled};
-ghost use Rattle.vector_time.specs.Times.{count_of};
+ghost use Rattle.race_log.specs.Times.{count_of};
 ghost use Rattle.race_log.specs.Sweep.{has_bit, is_covered, uncovered, GivesUp, sum_below};
 
+use crate::Times;
 use crate::slot::Slot;
 use bn_base::{HartId, Ic};
-use vector_time::Times;
 
 /// Whether a set of harts, one bit for each, has the hart.
 pub fn has_bit(set: u16, hart: HartId) -> bool

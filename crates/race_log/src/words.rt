@@ -2,13 +2,13 @@ ghost use Rattle.std.specs.Prelude.{◌≡◌, ◌+◌, ◌*◌, ◌/◌, ◌%�
 ghost use Rattle.bn_base.specs.declared.settings.TheConstants.{HARTS};
 ghost use Rattle.race_log.specs.Slots.{AreFull, AreSettled};
 
+use crate::Times;
 use crate::mode::Mode;
 use crate::page::{keep_in, make_slots, mark_page};
 use crate::slot::Slot;
 use crate::stretches::Stretches;
 use bn_base::{Addr, HartId, Ic};
 use std::alloc::{AllocError, Global};
-use vector_time::Times;
 
 /// The bytes of memory whose words have their slots in one page: 64 words.
 const PAGE_BYTES: u32 = 256;
@@ -33,7 +33,7 @@ pub struct KeptWords {
 }
 
 impl KeptWords {
-    ghost use Rattle.vector_time.specs.Times.{count_of};
+    ghost use Rattle.race_log.specs.Times.{count_of};
     ghost use Rattle.race_log.specs.Words.{page_of, place_of, kept_in, kept_now, kept_of_slot, stretch_counts, present_counts, has_stretch, has_room, HasPages, HasRoom, KeepsAccess};
     ghost use Rattle.race_log.specs.Kept.{Replaces};
     ghost use Rattle.race_log.specs.Slots.{slots_of, is_settled};

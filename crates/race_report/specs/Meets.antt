@@ -2,7 +2,7 @@
 use Rattle.std.specs.Prelude.{◌≡◌, ◌<◌, ◌++◌, ◌%◌, ℕ, List}
 use Rattle.bn_base.specs.declared.row.Row.{Row}
 use Rattle.bn_base.specs.declared.state.HartState.{HartState}
-use Rattle.vector_time.specs.Times.{count_of}
+use Rattle.race_log.specs.Times.{count_of}
 use Rattle.race_report.specs.declared.calls.Asked.{Asked}
 use Rattle.race_report.specs.declared.found.Found.{Found}
 use Rattle.race_report.specs.declared.gathered.Gathered.{Gathered}

@@ -1,7 +1,7 @@
 //! The races of a point with the points before it.
 ghost use Rattle.std.specs.Prelude.{◌≡◌, ◌<◌, ◌≤◌, ◌%◌, ◌^◌, true, false, ℕ, List, length, OnOk};
 ghost use Rattle.bn_base.specs.declared.settings.TheConstants.{HARTS};
-ghost use Rattle.vector_time.specs.Times.{count_of};
+ghost use Rattle.race_log.specs.Times.{count_of};
 ghost use Rattle.race_report.specs.Points.{words_from};
 ghost use Rattle.race_report.specs.Tracks.{AreBelow, noted};
 ghost use Rattle.race_report.specs.Found.{met_all, uncovered};
@@ -12,8 +12,8 @@ use crate::found::Found;
 use crate::touch::Touch;
 use crate::track::Track;
 use bn_base::{Addr, HartId};
+use race_log::Times;
 use std::alloc::AllocError;
-use vector_time::Times;
 
 /// A point: its hart and place, and how many of each hart's points are ordered before it.
 #[derive(Clone, Copy)]

@@ -16,8 +16,7 @@ use bn_base::{HartId, Image, List, Row};
 use joint_replay::laws::runs_go_by_steps;
 use joint_replay::{Joint, JointError, Next, Stepped};
 use log_order::KeptLog;
-use row_lines::RowLines;
-use rv_text::Text;
+use rv_text::{RowLines, Text};
 use std::alloc::Global;
 
 // How an error of the joint replay is told.

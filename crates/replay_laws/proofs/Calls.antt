@@ -15,7 +15,7 @@ use Rattle.system_calls.specs.declared.effect.Plan.{Plan}
 use Rattle.system_calls.specs.declared.effect.Plan.TheVariants as plans
 use Rattle.system_calls.specs.Calls.{plan_of}
 use Rattle.system_calls.specs.Laws.{is_end, ExitsAloneEnd}
-use Rattle.hart_rows.specs.Rows.{call_row}
+use Rattle.rv_meaning.specs.Rows.{call_row}
 use Rattle.hart_replay.specs.Replay.{Interval, Position, Logged, puts, system_step, call_reason, found}
 use Rattle.hart_replay.specs.Replay.{Next as Goal}
 use Rattle.hart_replay.specs.Replay.{On, Stop, Refused}

@@ -7,7 +7,7 @@ use Rattle.bn_base.specs.declared.end_mark.EndMark.{EndMark}
 use Rattle.bn_base.specs.declared.fault.Fault.{Fault}
 use Rattle.bn_base.specs.declared.row.Row.{Row}
 use Rattle.bn_base.specs.declared.state.HartState.{HartState}
-use Rattle.hart_rows.specs.Rows.{row_of, fault_row}
+use Rattle.rv_meaning.specs.Rows.{row_of, fault_row}
 use Rattle.rv_meaning.specs.Access.{stored_word, amo_result}
 use Rattle.rv_meaning.specs.Execute.{Quiet, Asks, step, count_up}
 use Rattle.rv_meaning.specs.Execute.{Step}

@@ -11,7 +11,7 @@ use Rattle.bn_base.specs.declared.fault.Fault.{Fault}
 use Rattle.bn_base.specs.declared.fault.Fault.TheVariants as faults
 use Rattle.rv_meaning.specs.Execute.{Quiet, Asks, step}
 use Rattle.rv_meaning.specs.declared.asks.Want.TheVariants.{Faulted}
-use Rattle.hart_rows.specs.Rows.{fault_row}
+use Rattle.rv_meaning.specs.Rows.{fault_row}
 use Rattle.hart_replay.specs.Replay.{Interval, Position, Replayed, Outcome, Logged, taken_from, left_over, ended, finish, found, fault_end}
 use Rattle.hart_replay.specs.Replay.{Done, Refused}
 use Rattle.hart_replay.specs.declared.error.ReplayError.TheVariants.{RecordsLeft, EndDiffers}

@@ -12,7 +12,7 @@ use Rattle.rv_meaning.specs.Execute.{Step, Quiet, Asks, step}
 use Rattle.rv_meaning.specs.Orderly.{is_cut}
 use Rattle.rv_meaning.specs.declared.asks.Ask.{Ask}
 use Rattle.rv_meaning.specs.declared.asks.Want.{Want}
-use Rattle.hart_rows.specs.Rows.{row_of}
+use Rattle.rv_meaning.specs.Rows.{row_of}
 use Rattle.std.specs.Prelude.{None}
 use Rattle.run_model.specs.declared.hart.Hart.{Hart}
 use Rattle.run_model.specs.Machine.{answer, call_of}

@@ -14,7 +14,7 @@ use Rattle.rv_meaning.specs.declared.asks.Want.TheVariants.{Load, Store, LoadRes
 use Rattle.system_calls.specs.Laws.{ExitsAloneEnd}
 use Rattle.system_calls.specs.declared.effect.Plan.{Plan}
 use Rattle.system_calls.specs.declared.effect.Plan.TheVariants as plans
-use Rattle.hart_rows.specs.Rows.{row_of}
+use Rattle.rv_meaning.specs.Rows.{row_of}
 use Rattle.run_model.specs.declared.hart.Hart.{Hart}
 use Rattle.run_model.specs.declared.next.Next.{Next}
 use Rattle.run_model.specs.declared.next.Next.TheVariants.{GoesOn, NewInterval, HartOver, RunOver}

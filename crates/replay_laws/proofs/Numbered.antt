@@ -13,7 +13,7 @@ use Rattle.rv_meaning.specs.Execute.{Step, Quiet, Asks, step}
 use Rattle.rv_meaning.specs.declared.asks.Want.{Want}
 use Rattle.rv_meaning.specs.declared.asks.Want.TheVariants.{Load, Store, LoadReserved, StoreConditional, Amo, System, Cut, Faulted}
 use Rattle.rv_meaning.specs.declared.asks.Reply.{Reply}
-use Rattle.hart_rows.specs.Rows.{row_of}
+use Rattle.rv_meaning.specs.Rows.{row_of}
 use Rattle.run_model.specs.declared.hart.Hart.{Hart}
 use Rattle.run_model.specs.declared.next.Next.{Next}
 use Rattle.run_model.specs.declared.next.Next.TheVariants.{GoesOn, NewInterval, HartOver, RunOver}

@@ -19,7 +19,7 @@ use Rattle.rv_meaning.specs.declared.asks.Want.TheVariants.{Load, Store, LoadRes
 use Rattle.first_load_bits.specs.Events.{Event}
 use Rattle.first_load_bits.specs.Stands.{geometry_of}
 use Rattle.first_load_bits.specs.Warm.{warm}
-use Rattle.hart_rows.specs.Rows.{known, fault_row}
+use Rattle.rv_meaning.specs.Rows.{known, fault_row}
 use Rattle.hart_replay.specs.Replay.{Interval, Position, Logged, Replayed, puts, steps, onto}
 use Rattle.hart_replay.specs.Replay.{Done}
 use Rattle.run_model.specs.declared.hart.Hart.{Hart}

@@ -25,7 +25,7 @@ use Rattle.first_load_bits.specs.Warm.{warm}
 use Rattle.first_load_bits.specs.declared.warm.Warm.{Warm}
 use Rattle.first_load_bits.specs.declared.warm.Warm.TheVariants as answers
 use Rattle.log_record.specs.declared.record.Record.TheVariants.{FirstLoad}
-use Rattle.hart_rows.specs.Rows.{row_of, known, at_address}
+use Rattle.rv_meaning.specs.Rows.{row_of, known, at_address}
 use Rattle.hart_replay.specs.Replay.{Interval, Position, Logged, Replayed, Next, put, puts, logged, logged_from, or_else, steps, ask_step, finish, onto, missing, after_ask, word_for, slot, after_sc}
 use Rattle.hart_replay.specs.Replay.{On, Stop, Refused}
 use Rattle.hart_replay.specs.declared.error.ReplayError.TheVariants.{ScMissing}

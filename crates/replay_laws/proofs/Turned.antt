@@ -21,7 +21,7 @@ use Rattle.system_calls.specs.declared.effect.Plan.{Plan}
 use Rattle.first_load_bits.specs.Events.{Event}
 use Rattle.first_load_bits.specs.Stands.{geometry_of}
 use Rattle.first_load_bits.specs.Warm.{warm}
-use Rattle.hart_rows.specs.Rows.{known, fault_row}
+use Rattle.rv_meaning.specs.Rows.{known, fault_row}
 use Rattle.hart_replay.specs.Replay.{Interval, Position, Logged, puts, steps, onto}
 use Rattle.hart_replay.specs.Replay.{Done}
 use Rattle.run_model.specs.declared.hart.Hart.{Hart}

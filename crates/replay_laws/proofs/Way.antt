@@ -11,7 +11,7 @@ use Rattle.rv_meaning.specs.declared.asks.Ask.{Ask}
 use Rattle.rv_meaning.specs.declared.asks.Want.{Want}
 use Rattle.rv_meaning.specs.declared.asks.Want.TheVariants.{Cut}
 use Rattle.system_calls.specs.Laws.{ExitsAloneEnd}
-use Rattle.hart_rows.specs.Rows.{row_of, known}
+use Rattle.rv_meaning.specs.Rows.{row_of, known}
 use Rattle.hart_replay.specs.Replay.{Interval, Position, Replayed, Next, steps, finish, ask_step, onto}
 use Rattle.hart_replay.specs.Replay.{On, Stop}
 use Rattle.run_model.specs.Rows.{quiet_rows}

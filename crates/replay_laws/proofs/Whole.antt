@@ -13,7 +13,7 @@ use Rattle.rv_meaning.specs.Orderly.{is_cut, passes, orderly}
 use Rattle.rv_meaning.specs.declared.asks.Want.{Want}
 use Rattle.system_calls.specs.Laws.{ExitsAloneEnd}
 use Rattle.log_record.specs.declared.record.Record.{Record}
-use Rattle.log_ring.specs.Kept.{kept}
+use Rattle.log_record.specs.Kept.{kept}
 use Rattle.hart_replay.specs.Replay.{Interval, interval_of, interval_from, replayed_in}
 use Rattle.run_model.specs.declared.hart.Hart.{Hart}
 use Rattle.run_model.specs.declared.next.Next.{Next}

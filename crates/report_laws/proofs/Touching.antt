@@ -6,7 +6,7 @@ use Rattle.bn_base.specs.declared.fault.Fault.{Fault}
 use Rattle.bn_base.specs.declared.row.Row.{Row}
 use Rattle.bn_base.specs.declared.state.HartState.{HartState}
 use Rattle.elf_loader.specs.Laws.{LoadedProgramsAreImages}
-use Rattle.hart_rows.specs.Rows.{at_address}
+use Rattle.rv_meaning.specs.Rows.{at_address}
 use Rattle.race_log.specs.Kept.{accesses_from, access_point, is_write}
 use Rattle.race_log.specs.Points.{Point, Access}
 use Rattle.race_log.specs.declared.mode.Mode.{Mode}

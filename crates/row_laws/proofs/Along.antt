@@ -13,7 +13,7 @@ use Rattle.rv_meaning.specs.declared.asks.Want.{Want}
 use Rattle.rv_meaning.specs.declared.asks.Want.TheVariants.{Load, Store, LoadReserved, StoreConditional, Amo, System, Cut, Faulted}
 use Rattle.system_calls.specs.declared.effect.Plan.{Plan}
 use Rattle.system_calls.specs.declared.effect.Plan.TheVariants as plans
-use Rattle.hart_rows.specs.Rows.{row_of, call_row}
+use Rattle.rv_meaning.specs.Rows.{row_of, call_row}
 use Rattle.hart_replay.specs.Coming.{after_row, reply_in}
 use Rattle.run_model.specs.Machine.{Machine, answer_call, answer_sc, is_reserved, planned}
 use Rattle.run_model.specs.Rows.{quiet_rows, want_rows, turn_rows, sc_store, answered_reg}

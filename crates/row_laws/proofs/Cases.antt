@@ -11,7 +11,7 @@ use Rattle.rv_meaning.specs.declared.asks.Ask.{Ask}
 use Rattle.rv_meaning.specs.declared.asks.Want.{Want}
 use Rattle.rv_meaning.specs.declared.asks.Want.TheVariants.{Load, Store, LoadReserved, StoreConditional, Amo, System, Cut, Faulted}
 use Rattle.rv_meaning.specs.declared.asks.Reply.{Reply}
-use Rattle.hart_rows.specs.Rows.{row_of}
+use Rattle.rv_meaning.specs.Rows.{row_of}
 use Rattle.hart_replay.specs.Coming.{after_row}
 use Rattle.run_model.specs.Rows.{quiet_rows, want_rows}
 use Rattle.run_model.specs.Turn.{Run, budget}

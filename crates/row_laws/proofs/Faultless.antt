@@ -6,7 +6,7 @@ use Rattle.bn_base.specs.declared.settings.RawSettings.{RawSettings}
 use Rattle.bn_base.specs.declared.state.HartState.{HartState}
 use Rattle.rv_meaning.specs.declared.asks.Want.{Want}
 use Rattle.rv_meaning.specs.declared.asks.Want.TheVariants.{Load, Store, LoadReserved, StoreConditional, Amo, System, Cut, Faulted}
-use Rattle.hart_rows.specs.Rows.{fault_row}
+use Rattle.rv_meaning.specs.Rows.{fault_row}
 use Rattle.run_model.specs.Machine.{Machine}
 use Rattle.row_laws.specs.Laws.{RowsThatTellHaveNoFault}
 use Rattle.row_laws.specs.Words.{word_told}

@@ -13,7 +13,7 @@ use Rattle.rv_meaning.specs.declared.asks.Want.{Want}
 use Rattle.rv_meaning.specs.declared.asks.Want.TheVariants.{System, Cut}
 use Rattle.system_calls.specs.declared.effect.Plan.{Plan}
 use Rattle.system_calls.specs.declared.effect.Plan.TheVariants as plans
-use Rattle.hart_rows.specs.Rows.{call_row}
+use Rattle.rv_meaning.specs.Rows.{call_row}
 use Rattle.race_log.specs.Kept.{access_point, accesses_from}
 use Rattle.race_log.specs.Points.{Access, Writes}
 use Rattle.race_log.specs.declared.mode.Mode.TheVariants.{Write}

@@ -14,7 +14,7 @@ use Rattle.rv_meaning.specs.declared.asks.Want.{Want}
 use Rattle.rv_meaning.specs.declared.asks.Want.TheVariants.{Load, Store, LoadReserved, StoreConditional, Amo, System, Cut, Faulted}
 use Rattle.system_calls.specs.declared.effect.Plan.{Plan}
 use Rattle.system_calls.specs.declared.effect.Plan.TheVariants as plans
-use Rattle.hart_rows.specs.Rows.{row_of, call_row, fault_row, written, instruction_at}
+use Rattle.rv_meaning.specs.Rows.{row_of, call_row, fault_row, written, instruction_at}
 use Rattle.hart_replay.specs.Coming.{after_row}
 use Rattle.run_model.specs.Machine.{Machine, answer_call, planned}
 use Rattle.run_model.specs.Rows.{sc_store, answered_reg}

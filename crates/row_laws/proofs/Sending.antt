@@ -15,7 +15,7 @@ use Rattle.system_calls.specs.Calls.{read_plan, write_plan, plan_of, all_bytes, 
 use Rattle.system_calls.specs.declared.effect.Plan.{Plan}
 use Rattle.system_calls.specs.declared.effect.Plan.TheVariants as plans
 use Rattle.system_calls.specs.declared.kernel.Kernel.{Kernel}
-use Rattle.hart_rows.specs.Rows.{call_row}
+use Rattle.rv_meaning.specs.Rows.{call_row}
 use Rattle.race_log.specs.Kept.{access_point}
 use Rattle.race_log.specs.declared.mode.Mode.TheVariants.{Read}
 use Rattle.run_model.specs.Machine.{Machine, answer_call, call_of, planned, kernel_of, word_count}

@@ -13,7 +13,7 @@ use Rattle.rv_meaning.specs.Words.{aligned}
 use Rattle.rv_meaning.specs.declared.asks.Want.{Want}
 use Rattle.rv_meaning.specs.declared.asks.Want.TheVariants.{Load, Store, LoadReserved, StoreConditional, Amo, System, Cut, Faulted}
 use Rattle.bus_memory.specs.Contents.{updated}
-use Rattle.hart_rows.specs.Rows.{row_of, call_row, fault_row, at_address}
+use Rattle.rv_meaning.specs.Rows.{row_of, call_row, fault_row, at_address}
 use Rattle.race_log.specs.Points.{Point}
 use Rattle.run_model.specs.Machine.{Machine, answer_sc, is_reserved}
 use Rattle.run_model.specs.Rows.{sc_store, answered_reg}

@@ -16,7 +16,7 @@ use Rattle.rv_meaning.specs.declared.asks.Want.{Want}
 use Rattle.rv_meaning.specs.declared.asks.Want.TheVariants.{Load, Store, LoadReserved, StoreConditional, Amo, System, Cut, Faulted}
 use Rattle.system_calls.specs.declared.effect.Plan.{Plan}
 use Rattle.system_calls.specs.declared.effect.Plan.TheVariants as plans
-use Rattle.hart_rows.specs.Rows.{row_of, call_row, at_address}
+use Rattle.rv_meaning.specs.Rows.{row_of, call_row, at_address}
 use Rattle.race_log.specs.Kept.{access_point, accesses_from, is_write}
 use Rattle.race_log.specs.Points.{Point, Access, Writes}
 use Rattle.race_log.specs.declared.mode.Mode.TheVariants.{Read, Write}

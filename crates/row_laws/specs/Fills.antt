@@ -4,7 +4,7 @@ use Rattle.bn_base.specs.Programs.{Program, code_at}
 use Rattle.bn_base.specs.declared.row.Row.{Row}
 use Rattle.bn_base.specs.declared.settings.RawSettings.{RawSettings}
 use Rattle.bn_base.specs.declared.state.HartState.{HartState}
-use Rattle.hart_rows.specs.Rows.{at_address}
+use Rattle.rv_meaning.specs.Rows.{at_address}
 use Rattle.race_log.specs.Kept.{access_point}
 use Rattle.race_log.specs.Points.{Point, Writes}
 use Rattle.race_log.specs.declared.mode.Mode.TheVariants.{Write}

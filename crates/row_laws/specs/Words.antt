@@ -3,7 +3,7 @@ use Rattle.std.specs.Prelude.{◌≡◌, ℕ, ◌+◌, List, [], ◌∷◌, ◌+
 use Rattle.bn_base.specs.Programs.{Program}
 use Rattle.bn_base.specs.declared.row.Row.{Row}
 use Rattle.bn_base.specs.declared.settings.RawSettings.{RawSettings}
-use Rattle.hart_rows.specs.Rows.{at_address}
+use Rattle.rv_meaning.specs.Rows.{at_address}
 use Rattle.race_log.specs.Points.{Point}
 use Rattle.run_model.specs.Turn.{Run, turn}
 use Rattle.run_model.specs.Runs.{run_of}

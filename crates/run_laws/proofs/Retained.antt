@@ -24,7 +24,7 @@ use Rattle.race_log.specs.Tests.{sources_into}
 use Rattle.log_record.specs.declared.record.Record.{Record}
 use Rattle.log_record.specs.declared.record.Record.TheVariants.{Header, FirstLoad, Edge, End}
 use Rattle.log_record.specs.Spelling.{total}
-use Rattle.log_ring.specs.Kept.{kept}
+use Rattle.log_record.specs.Kept.{kept}
 use Rattle.run_model.specs.declared.hart.Hart.{Hart}
 use Rattle.run_model.specs.declared.next.Next.{Next}
 use Rattle.run_model.specs.declared.next.Next.TheVariants.{GoesOn, NewInterval, HartOver, RunOver}

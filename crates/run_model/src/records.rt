@@ -3,7 +3,7 @@ ghost use Rattle.std.specs.Prelude.{◌≡◌, ◌≤◌, ◌<◌, ◌+◌, ◌*
 ghost use Rattle.log_record.specs.declared.record.Record.{Record};
 ghost use Rattle.log_record.specs.declared.record.Record.TheVariants.{End};
 ghost use Rattle.log_record.specs.Spelling.{bytes_of, is_mark, is_marked};
-ghost use Rattle.log_ring.specs.Kept.{held};
+ghost use Rattle.log_record.specs.Kept.{held};
 ghost use Rattle.run_model.specs.Turn.{edges_from, load_record, sc_record, header, mark, next_records};
 ghost use Rattle.run_model.specs.Stands.Logs.{taken, Took, IsLog, is_marked_next};
 
@@ -11,8 +11,7 @@ use crate::log::Log;
 use crate::next::Next;
 use bn_base::{EndMark, HartId, HartState, Ic};
 use first_load_bits::Warm;
-use log_record::Record;
-use log_ring::Ring;
+use log_record::{Record, Ring};
 use race_log::Edges;
 use rv_meaning::Reply;
 use std::alloc::{AllocError, Global};

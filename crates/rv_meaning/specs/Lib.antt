@@ -6,3 +6,5 @@ pub mod Told
 pub mod WordStates
 pub mod Held
 pub mod Ahead
+pub mod Rows
+pub mod Lookups

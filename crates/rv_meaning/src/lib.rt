@@ -1,4 +1,5 @@
-//! The meaning of the instructions of RV32IMA.
+//! The meaning of the instructions of RV32IMA, and the rows of instructions: what each did to the registers
+//! and to memory.
 #![tactic(auto)]
 
 mod access;
@@ -6,6 +7,7 @@ mod ahead;
 mod amo;
 mod asks;
 mod fetch;
+mod fetched;
 mod interpreter;
 mod laws;
 mod moves;
@@ -18,6 +20,7 @@ pub use access::{is_aligned, loaded_value, stored_word};
 pub use ahead::DecodedImage;
 pub use amo::AmoOp;
 pub use asks::{Ask, Reply, Want};
+pub use fetched::Fetched;
 pub use interpreter::{quiet_run, quiet_run_in_place};
 pub use laws::{each_ask_is_orderly, each_instruction_is_counted_or_asks, registers_stay_words};
 pub use replies::{absorb, absorb_in_place};

@@ -1,1 +1,3 @@
 pub mod Parted
+mod Joined
+mod Counted

@@ -3,3 +3,4 @@ pub mod Instructions
 pub mod Rows
 pub mod Marks
 pub mod Texts
+pub mod Lines

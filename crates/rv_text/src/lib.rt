@@ -4,9 +4,16 @@
 //! their names in the calling convention and no pseudo-instruction; [`write_row`] appends one line
 //! for what an instruction did. [`write_mark`] and [`write_end`] tell how an interval ended. All
 //! append to a [`Text`].
+//!
+//! [`RowLines`] writes the lines of many rows fast: the same line for a row, from kept texts of the code that
+//! it wrote last, so that an instruction which is done again is not spelled again.
 #![tactic(auto)]
 
+mod code;
+mod counts;
+mod effects;
 mod instructions;
+mod lines;
 mod marks;
 mod names;
 mod operands;
@@ -14,6 +21,7 @@ mod rows;
 mod text;
 
 pub use instructions::write_instr;
+pub use lines::RowLines;
 pub use marks::{write_end, write_mark};
 pub use names::register_name;
 pub use rows::write_row;

@@ -13,7 +13,7 @@ use Rattle.rv_meaning.specs.declared.asks.Reply.TheVariants.{Answer, Over}
 use Rattle.rv_meaning.specs.declared.asks.Want.{Want}
 use Rattle.rv_meaning.specs.declared.asks.Want.TheVariants.{Load, Store, LoadReserved, StoreConditional, Amo, System, Cut, Faulted}
 use Rattle.std.proofs.lemmas.Bool.Decides.{eqb_tells}
-use Rattle.hart_rows.specs.Rows.{instruction_in, row_of, known}
+use Rattle.rv_meaning.specs.Rows.{instruction_in, row_of, known}
 use Rattle.hart_replay.specs.Replay.{Interval, Position, logged, or_else, word_for}
 use Rattle.hart_replay.specs.Sides.{call_reg, call_answer}
 use Rattle.hart_replay.specs.Scans.{Pending, due}

@@ -13,7 +13,7 @@ use Rattle.rv_meaning.specs.Access.{loaded_value}
 use Rattle.rv_meaning.specs.Execute.{Step, Quiet, Asks, step, fetched, executed, after}
 use Rattle.rv_meaning.specs.declared.asks.Want.{Want}
 use Rattle.rv_meaning.specs.declared.asks.Want.TheVariants.{Load, Store, LoadReserved, StoreConditional, Amo, System, Cut, Faulted}
-use Rattle.hart_rows.specs.Rows.{instruction_in, written}
+use Rattle.rv_meaning.specs.Rows.{instruction_in, written}
 use Rattle.hart_replay.specs.Replay.{Interval, Position}
 use Rattle.hart_replay.specs.Sides.{call_reg}
 use Rattle.slice_back.specs.Uses.{is_call, is_of}

@@ -9,7 +9,7 @@ use Rattle.rv_decode.specs.Table.{Instruction, decoded}
 use Rattle.rv_meaning.specs.Execute.{Step, Quiet, Asks, step, fetched, executed}
 use Rattle.rv_meaning.specs.declared.asks.Want.{Want}
 use Rattle.rv_meaning.specs.declared.asks.Want.TheVariants.{Faulted}
-use Rattle.hart_rows.specs.Rows.{instruction_in, fault_row}
+use Rattle.rv_meaning.specs.Rows.{instruction_in, fault_row}
 use Rattle.hart_replay.specs.Replay.{Interval, Position}
 use Rattle.hart_replay.specs.Scans.{Pending}
 use Rattle.slice_back.specs.declared.noted.Noted.{Noted}

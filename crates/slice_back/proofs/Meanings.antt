@@ -14,7 +14,7 @@ use Rattle.rv_meaning.specs.declared.asks.Want.{Want}
 use Rattle.rv_meaning.specs.declared.asks.Want.TheVariants.{Load, Store, LoadReserved, StoreConditional, Amo, System, Cut, Faulted}
 use Rattle.rv_meaning.specs.declared.amo.AmoOp.{AmoOp}
 use Rattle.rv_meaning.specs.declared.amo.AmoOp.TheVariants as ops
-use Rattle.hart_rows.specs.Rows.{written}
+use Rattle.rv_meaning.specs.Rows.{written}
 use Rattle.slice_back.specs.Uses.{is_call, is_part_store}
 
 -- ---- what an instruction is, by its name

@@ -13,7 +13,7 @@ use Rattle.rv_meaning.specs.Access.{loaded_value, stored_word, amo_result}
 use Rattle.rv_meaning.specs.Execute.{Step, step, executed, fetched, meaning, after, reg}
 use Rattle.rv_meaning.specs.declared.asks.Want.{Want}
 use Rattle.rv_meaning.specs.declared.asks.Want.TheVariants.{Load, Store, LoadReserved, StoreConditional, Amo, System, Cut, Faulted}
-use Rattle.hart_rows.specs.Rows.{instruction_in, written}
+use Rattle.rv_meaning.specs.Rows.{instruction_in, written}
 use Rattle.hart_replay.specs.Sides.{call_reg}
 use Rattle.slice_back.specs.Uses.{is_call, reads}
 use Rattle.slice_back.specs.Agreeing.{bare, address_of}

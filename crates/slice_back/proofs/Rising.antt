@@ -14,7 +14,7 @@ use Rattle.rv_meaning.specs.declared.asks.Ask.{Ask}
 use Rattle.rv_meaning.specs.declared.asks.Want.{Want}
 use Rattle.rv_meaning.specs.declared.asks.Want.TheVariants.{Load, Store, LoadReserved, StoreConditional, Amo, System, Cut, Faulted}
 use Rattle.rv_meaning.specs.declared.asks.Reply.TheVariants.{Word, Stored, Answer, Over}
-use Rattle.hart_rows.specs.Rows.{row_of, call_row, fault_row}
+use Rattle.rv_meaning.specs.Rows.{row_of, call_row, fault_row}
 use Rattle.hart_replay.specs.Replay.{Outcome, Done, Refused, Replayed, Interval, Position, Next, On, Stop, word_for, missing, after_ask, after_sc, slot, call_reason, found, ask_step, one_step, steps, interval_of, replayed_in, first}
 use Rattle.hart_replay.specs.Scans.{Pending}
 use Rattle.hart_replay.specs.declared.error.ReplayError.{ReplayError}

@@ -7,7 +7,7 @@ use Rattle.bn_base.specs.declared.row.Row.{Row}
 use Rattle.rv_meaning.specs.Execute.{Step, Quiet, Asks, step}
 use Rattle.rv_meaning.specs.declared.asks.Want.{Want}
 use Rattle.rv_meaning.specs.declared.asks.Want.TheVariants.{Load, Store, LoadReserved, StoreConditional, Amo, System, Cut, Faulted}
-use Rattle.hart_rows.specs.Rows.{fault_row}
+use Rattle.rv_meaning.specs.Rows.{fault_row}
 use Rattle.hart_replay.specs.Replay.{Refused, Replayed, Interval, Position, Next, On, Stop, one_step, steps, finish, onto, left_over, found, fault_end, ended}
 use Rattle.hart_replay.specs.Scans.{Pending}
 use Rattle.hart_replay.specs.declared.error.ReplayError.TheVariants.{EndDiffers}

@@ -6,7 +6,7 @@ use Rattle.bn_base.specs.declared.row.Row.{Row}
 use Rattle.rv_meaning.specs.Words.{aligned}
 use Rattle.rv_meaning.specs.declared.asks.Want.{Want}
 use Rattle.rv_meaning.specs.declared.asks.Want.TheVariants.{Load, Store, LoadReserved, StoreConditional, Amo, System, Cut, Faulted}
-use Rattle.hart_rows.specs.Rows.{instruction_in, known, at_address}
+use Rattle.rv_meaning.specs.Rows.{instruction_in, known, at_address}
 use Rattle.hart_replay.specs.Replay.{Interval, Position, word_for}
 use Rattle.hart_replay.specs.Scans.{Pending}
 use Rattle.slice_back.specs.declared.noted.Noted.{Noted}

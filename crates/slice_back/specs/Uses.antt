@@ -6,7 +6,7 @@ use Rattle.rv_decode.specs.Table.{Instruction}
 use Rattle.rv_decode.specs.declared.name.Name.{Name}
 use Rattle.rv_decode.specs.declared.name.Name.TheVariants.{Beq, Bne, Blt, Bge, Bltu, Bgeu, Jalr, Sb, Sh, Ecall}
 use Rattle.rv_meaning.specs.Words.{aligned}
-use Rattle.hart_rows.specs.Rows.{instruction_in}
+use Rattle.rv_meaning.specs.Rows.{instruction_in}
 use Rattle.slice_back.specs.declared.noted.Noted.{Noted}
 
 -- ---- registers

@@ -6,8 +6,7 @@ ghost use Rattle.hart_replay.specs.Scans.{loads_in, scanned, due, met};
 ghost use Rattle.slice_back.specs.FirstLoads.{loads_of, begun, loads_behind, AreLoadsOf};
 
 use bn_base::HartId;
-use log_record::Record;
-use record_list::RecordList;
+use log_record::{Record, RecordList};
 use std::alloc::{AllocError, Global};
 use std::marker::Model;
 

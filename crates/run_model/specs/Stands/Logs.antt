@@ -2,7 +2,7 @@
 use Rattle.std.specs.Prelude.{◌≡◌, ℕ, ◌+◌, List, Bool, true}
 use Rattle.log_record.specs.declared.record.Record.{Record}
 use Rattle.log_record.specs.Spelling.{is_mark, total}
-use Rattle.log_ring.specs.Kept.{HoldsLog}
+use Rattle.log_record.specs.Kept.{HoldsLog}
 pub use Rattle.run_model.specs.Stands.Taken.{taken}
 use Rattle.run_model.specs.declared.log.Log.{Log}
 use Rattle.run_model.specs.declared.next.Next.{Next}

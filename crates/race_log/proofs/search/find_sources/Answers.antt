@@ -1,5 +1,5 @@
 use Rattle.std.proofs.Common.{◌∙◌, sym, ap, ◌++◌, ◌≡◌, ◌-◌, ℕ, arith, append_assoc, append-nil, length-append, length, max}
-use Rattle.vector_time.specs.Times.{count_of}
+use Rattle.race_log.specs.Times.{count_of}
 use Rattle.race_log.specs.Search.{gathered, merged}
 use Rattle.race_log.specs.Slots.{kept_by}
 use Rattle.race_log.specs.Words.{kept_in, stretch_counts}

@@ -1,5 +1,5 @@
 use Rattle.std.proofs.Common.{◌+◌, ◌*◌, ◌-◌, ◌≡◌, ◌∙◌, ap, ap₂, sym, arith}
-use Rattle.vector_time.specs.Times.{count_of}
+use Rattle.race_log.specs.Times.{count_of}
 use Rattle.race_log.specs.Search.{gathered, latest}
 use Rattle.race_log.specs.Slots.{found_as, word_in}
 use Rattle.race_log.specs.Words.{kept_in, stretch_counts}

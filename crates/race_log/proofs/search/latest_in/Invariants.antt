@@ -1,5 +1,5 @@
 use Rattle.std.proofs.Common.{◌≡◌, ◌+◌, ◌*◌, ◌-◌, None}
-use Rattle.vector_time.specs.Times.{count_of}
+use Rattle.race_log.specs.Times.{count_of}
 use Rattle.race_log.specs.Search.{latest, gathered}
 use Rattle.race_log.specs.Slots.{found_as}
 use Rattle.race_log.specs.Words.{kept_in, stretch_counts}

@@ -1,8 +1,8 @@
 use Rattle.std.proofs.Common.{◌≡◌, sym, ◌∙◌, ap, ℕ, slice_get, List, Option, Some, refl}
 use Rattle.std.proofs.lemmas.Option.{slice_get_read}
 use Rattle.bn_base.specs.Programs.{code_at}
-use Rattle.hart_rows.specs.Lookups.{destination, fetched}
-use Rattle.hart_rows.specs.Rows.{instruction_in}
+use Rattle.rv_meaning.specs.Lookups.{destination, fetched}
+use Rattle.rv_meaning.specs.Rows.{instruction_in}
 use Rattle.hart_replay.specs.Codes.{CodeOf}
 use Rattle.hart_replay.specs.declared.code.Lookup.{Lookup}
 use Rattle.hart_replay.proofs.code.Code.fetch.Goals as goal

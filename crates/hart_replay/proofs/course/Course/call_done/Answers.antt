@@ -1,6 +1,6 @@
 use Rattle.std.proofs.Common.{ℕ, Bool, true, false, Option, Some, None, ap, sym, ◌∙◌}
 use Rattle.std.proofs.lemmas.Bool.{eq-eqb, ne_eqb}
-use Rattle.hart_rows.specs.Rows.{call_row}
+use Rattle.rv_meaning.specs.Rows.{call_row}
 use Rattle.hart_replay.proofs.course.Course.call_done.Goals as goal
 
 pub returns-then-reason-eq-CALL-clause-row : goal.returns-then-reason-eq-CALL-clause-row

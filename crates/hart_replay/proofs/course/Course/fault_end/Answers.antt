@@ -4,7 +4,7 @@ use Rattle.hart_replay.specs.Coming.{without_rows}
 use Rattle.hart_replay.specs.Sides.{outcome_of}
 use Rattle.hart_replay.specs.Courses.{interval_of_course, position_of}
 use Rattle.bn_base.specs.Programs.{Program}
-use Rattle.hart_rows.specs.Lookups.{fetched}
+use Rattle.rv_meaning.specs.Lookups.{fetched}
 use Rattle.hart_replay.proofs.Codes.{run_of}
 use Rattle.hart_replay.proofs.Asked.{end_missed, end_met, end_other}
 use Rattle.hart_replay.proofs.course.Course.fault_end.Goals as goal

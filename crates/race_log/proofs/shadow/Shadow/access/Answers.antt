@@ -1,6 +1,6 @@
 use Rattle.std.proofs.Common.{◌≡◌, ◌+◌, ◌-◌, ◌*◌, ◌/◌, ◌==◌, ℕ, length, IsTrue, ltb-true, ◌∙◌, arith, refl, sym, ap, inl, inr, Option, Some, None, slice_get, slice_set, Contains, ◌↔◌, subst}
 use Rattle.std.proofs.lemmas.Bool.{cases_eq}
-use Rattle.vector_time.specs.Times.{count_of}
+use Rattle.race_log.specs.Times.{count_of}
 use Rattle.race_log.specs.Kept.{is_write, access_point, after}
 use Rattle.race_log.specs.Points.{Point}
 use Rattle.race_log.specs.ByCount.{IsPointAt, IsEdgeBetween}

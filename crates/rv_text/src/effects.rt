@@ -1,0 +1,94 @@
+//! What an instruction changed or read.
+ghost use Rattle.std.specs.Prelude.{◌≡◌, ◌<◌, ◌++◌, OnOk, codes};
+ghost use Rattle.rv_text.specs.Rows.{register_text};
+ghost use Rattle.rv_text.specs.Texts.{BeginsWith};
+ghost use Rattle.rv_text.specs.Lines.{labelled, label_text, changes_text};
+
+use crate::Text;
+use bn_base::{Addr, Register, Row};
+use std::alloc::AllocError;
+
+// The name of a register, behind ` | ` and with `=` behind it.
+#[tactic(auto, unfolding(crate::specs::Names::register_name, crate::specs::Lines::label_text))]
+fn label_of(register: u8) -> &'static str
+    requires { register < 32 }
+    ensures { result.now ≡ label_text register }
+{
+    match register {
+        0 => " | zero=",
+        1 => " | ra=",
+        2 => " | sp=",
+        3 => " | gp=",
+        4 => " | tp=",
+        5 => " | t0=",
+        6 => " | t1=",
+        7 => " | t2=",
+        8 => " | s0=",
+        9 => " | s1=",
+        10 => " | a0=",
+        11 => " | a1=",
+        12 => " | a2=",
+        13 => " | a3=",
+        14 => " | a4=",
+        15 => " | a5=",
+        16 => " | a6=",
+        17 => " | a7=",
+        18 => " | s2=",
+        19 => " | s3=",
+        20 => " | s4=",
+        21 => " | s5=",
+        22 => " | s6=",
+        23 => " | s7=",
+        24 => " | s8=",
+        25 => " | s9=",
+        26 => " | s10=",
+        27 => " | s11=",
+        28 => " | t3=",
+        29 => " | t4=",
+        30 => " | t5=",
+        _ => " | t6=",
+    }
+}
+
+// The register that was written and its new contents. It may stop in the middle.
+#[tactic(auto, unfolding(crate::specs::Rows::register_text, crate::specs::Lines::label_text))]
+fn write_register(reg: Option<(Register, u32)>, text: &mut Text) -> Result<(), AllocError>
+    ensures ok { OnOk result (text.new ≡ text.old ++ register_text reg) }
+    ensures begins { BeginsWith text.old text.new }
+{
+    match reg {
+        Some((register, value)) => {
+            text.push_str(label_of(register.number()))?;
+            text.push_hex8(value)
+        }
+        None => Ok(()),
+    }
+}
+
+// An access behind its label: the address and the whole word. It may stop in the middle.
+#[tactic(auto, unfolding(crate::specs::Lines::labelled))]
+fn write_access(label: &str, access: Option<(Addr, u32)>, text: &mut Text) -> Result<(), AllocError>
+    ensures ok { OnOk result (text.new ≡ text.old ++ labelled label.now access) }
+    ensures begins { BeginsWith text.old text.new }
+{
+    match access {
+        Some((addr, value)) => {
+            text.push_str(label)?;
+            text.push_hex8(addr)?;
+            text.push_str("=")?;
+            text.push_hex8(value)
+        }
+        None => Ok(()),
+    }
+}
+
+/// Appends what the instruction of a row changed or read. It may stop in the middle.
+#[tactic(auto, unfolding(crate::specs::Lines::changes_text))]
+pub fn write_changes(row: &Row, text: &mut Text) -> Result<(), AllocError>
+    ensures ok { OnOk result (text.new ≡ text.old ++ changes_text row.now.reg row.now.load row.now.store) }
+    ensures begins { BeginsWith text.old text.new }
+{
+    write_register(row.reg, text)?;
+    write_access(" | load ", row.load, text)?;
+    write_access(" | store ", row.store, text)
+}

@@ -1,0 +1,116 @@
+//! Lines of rows, one after another.
+ghost use Rattle.std.specs.Prelude.{◌≡◌, ◌++◌, ◌/◌, ◌%◌, Some, None, OnOk, OnErr, codes};
+ghost use Rattle.rv_text.specs.Rows.{row_text};
+ghost use Rattle.rv_text.specs.Texts.{BeginsWith};
+ghost use Rattle.rv_text.specs.Lines.{count_text, place_text, joined_text};
+
+use crate::code::{CodeText, write_place};
+use crate::counts::CountText;
+use crate::effects::write_changes;
+use crate::{Text, write_row};
+use bn_base::{Addr, Row};
+use std::alloc::{AllocError, Global};
+
+/// How many texts are kept.
+const KEPT: usize = 1024;
+
+/// Writes lines of rows, and keeps the texts of their code: of the pcs that have the same place in a
+/// table of 1,024, the latest with its word. Of the last hart and count it keeps all but a digit.
+///
+/// The table takes some 40 KiB, and some 50 bytes more for each text in it. Where memory is wanting
+/// for it, less is kept or nothing.
+#[derive(Drop)]
+pub struct RowLines {
+    count: CountText,
+    kept: Vec<CodeText>,
+}
+
+// The place of an address in the table.
+fn place_of(pc: Addr) -> usize
+    ensures { result ≡ pc / 4 % 1024 }
+{
+    (pc / 4) as usize % KEPT
+}
+
+// A table of no texts: 1,024, or as many as there is memory for.
+fn empty_table(alloc: Global) -> Vec<CodeText> {
+    let mut kept = Vec::new(alloc);
+    'places: for _place in 0..KEPT {
+        if kept.push(CodeText::none(alloc)).is_err() {
+            break 'places;
+        }
+    }
+    kept
+}
+
+impl RowLines {
+    /// A writer that keeps no text yet.
+    pub fn new(alloc: Global) -> RowLines {
+        RowLines {
+            count: CountText::none(alloc),
+            kept: empty_table(alloc),
+        }
+    }
+
+    // The text of a pc and a word, by the table. It may stop in the middle.
+    fn write_code(&mut self, pc: Addr, word: u32, text: &mut Text) -> Result<(), AllocError>
+        ensures ok { OnOk result (text.new ≡ text.old ++ place_text pc word) }
+        ensures begins { BeginsWith text.old text.new }
+    {
+        let place = place_of(pc);
+        if place < self.kept.len() {
+            return self.kept[place].write(pc, word, text);
+        }
+        write_place(pc, word, text)
+    }
+
+    // The line of a row with this word, in its parts. It may stop in the middle.
+    #[tactic(auto, unfolding(crate::specs::Lines::joined_text))]
+    fn write_parts(&mut self, row: &Row, word: u32, text: &mut Text) -> Result<(), AllocError>
+        ensures ok { OnOk result (text.new ≡ text.old ++ joined_text row.now word) }
+        ensures begins { BeginsWith text.old text.new }
+    {
+        self.count.write(row.hart, row.ic, text)?;
+        self.write_code(row.pc, word, text)?;
+        write_changes(row, text)?;
+        text.push_str("\n")
+    }
+
+    // The line of a row that has this word and no fault. It may stop in the middle.
+    fn write_line(&mut self, row: &Row, word: u32, text: &mut Text) -> Result<(), AllocError>
+        requires { (row.now.fault ≡ None) × (row.now.word ≡ Some word) }
+        ensures ok { OnOk result (text.new ≡ text.old ++ row_text row.now) }
+        ensures begins { BeginsWith text.old text.new }
+    {
+        self.write_parts(row, word, text)
+    }
+
+    // The same; where memory is wanting the text is as before.
+    fn write_whole(&mut self, row: &Row, word: u32, text: &mut Text) -> Result<(), AllocError>
+        requires { (row.now.fault ≡ None) × (row.now.word ≡ Some word) }
+        ensures ok { OnOk result (text.new ≡ text.old ++ row_text row.now) }
+        ensures err { OnErr result (text.new ≡ text.old) }
+    {
+        let mark = text.len();
+        let written = self.write_line(row, word, text);
+        if written.is_err() {
+            text.truncate(mark);
+        }
+        written
+    }
+
+    /// Appends the line of a row, the same as `rv_text`'s `write_row` does. Where memory is wanting
+    /// the text is as before.
+    pub fn write_row(&mut self, row: &Row, text: &mut Text) -> Result<(), AllocError>
+        ensures ok { OnOk result (text.new ≡ text.old ++ row_text row.now) }
+        ensures err { OnErr result (text.new ≡ text.old) }
+    {
+        match row.fault {
+            None => match row.word {
+                Some(word) => self.write_whole(row, word, text),
+                None => write_row(row, text),
+            },
+            Some(_) => write_row(row, text),
+        }
+    }
+}
