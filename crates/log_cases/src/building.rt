@@ -119,9 +119,9 @@ fn block_of(alloc: Global, files: &Files, words: &[&str]) -> anyhow::Result<Vec<
     Ok(block(alloc, head, records, before, number(&numbers, 3))?)
 }
 
-// Appends all bytes of the files that a line names from its third word on.
-fn push_files(bytes: &mut Vec<u8>, files: &Files, words: &[&str]) -> Result<(), AllocError> {
-    for name in words.iter().skip(2) {
+// Appends all bytes of files.
+fn push_files(bytes: &mut Vec<u8>, files: &Files, names: &[&str]) -> Result<(), AllocError> {
+    for name in names {
         bytes.extend_from_slice(files.bytes(name))?;
     }
     Ok(())
@@ -130,7 +130,7 @@ fn push_files(bytes: &mut Vec<u8>, files: &Files, words: &[&str]) -> Result<(), 
 // All bytes of the files that a line names from its third word on.
 fn joined(alloc: Global, files: &Files, words: &[&str]) -> anyhow::Result<Vec<u8>> {
     let mut bytes = Vec::new(alloc);
-    push_files(&mut bytes, files, words)?;
+    push_files(&mut bytes, files, words.get(2..).unwrap_or(&[]))?;
     Ok(bytes)
 }
 

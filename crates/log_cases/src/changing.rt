@@ -55,6 +55,7 @@ fn change(alloc: Global, file: &mut Vec<u8>, verb: &str, words: &[&str]) -> anyh
         "set" => set(alloc, file, words),
         "flip" => flip(file, words),
         "cut" => cut(file, words),
+        "take" => Ok(()),
         _ => Err(anyhow::anyhow!("no line of cases: {verb}")),
     }
 }
@@ -66,10 +67,8 @@ pub fn changed(
     verb: &str,
     words: &[&str],
 ) -> anyhow::Result<Vec<u8>> {
-    if verb == "take" {
-        return Ok(files.bytes(word(words, 2)).to_vec(alloc)?);
-    }
-    let mut file = files.bytes(word(words, 1)).to_vec(alloc)?;
+    let place = if verb == "take" { 2 } else { 1 };
+    let mut file = files.bytes(word(words, place)).to_vec(alloc)?;
     change(alloc, &mut file, verb, words)?;
     Ok(file)
 }

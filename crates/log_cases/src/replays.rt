@@ -11,8 +11,8 @@ pub fn program(alloc: Global, code: &[u32]) -> Result<Image, AllocError> {
     let mut words = code.to_vec(alloc)?;
     words.truncate(64);
     let count = words.len() as u32;
-    let segment = Segment::new(0x10054, words, count, true, false);
-    let segments = Vec::from_array(alloc, [segment])?;
+    let mut segments = Vec::new(alloc);
+    segments.push(Segment::new(0x10054, words, count, true, false))?;
     Ok(Image::new(segments, 0x10054, &Settings::default()))
 }
 
@@ -61,6 +61,11 @@ fn print_replay<R: Print>(rt: &R, alloc: Global, replayer: &mut Replayer) -> any
     print_end(rt, outcome, replayer.step())
 }
 
+// Prints why there is no replay.
+fn print_refusal<R: Print>(rt: &R, error: ReplayError) -> anyhow::Result<()> {
+    Ok(println!(rt; "{error:?}")?)
+}
+
 /// Prints an interval's rows, how it ends, and what a further step says.
 pub fn print_interval<R: Print>(
     rt: &R,
@@ -71,6 +76,6 @@ pub fn print_interval<R: Print>(
 ) -> anyhow::Result<()> {
     match Replayer::begin(alloc, image, log, number(numbers, 0), number(numbers, 1)) {
         Ok(mut replayer) => print_replay(rt, alloc, &mut replayer),
-        Err(error) => Ok(println!(rt; "{error:?}")?),
+        Err(error) => print_refusal(rt, error),
     }
 }

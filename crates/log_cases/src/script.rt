@@ -6,6 +6,7 @@ use crate::logs::{told, written};
 use crate::reports::reported;
 use crate::words::{code, word, words_of};
 use std::alloc::{AllocError, Global};
+use std::io;
 
 /// What a case has made so far.
 #[derive(Drop)]
@@ -105,8 +106,14 @@ impl Case {
         }
     }
 
-    /// Does what a line of the script says.
-    pub fn step<R: Print>(&mut self, rt: &R, line: &str) -> anyhow::Result<()> {
+    /// Does what a line that was read says.
+    pub fn take<R: Print>(&mut self, rt: &R, line: io::Result<String>) -> anyhow::Result<()> {
+        let line = line?;
+        self.step(rt, &line)
+    }
+
+    // Does what a line of the script says.
+    fn step<R: Print>(&mut self, rt: &R, line: &str) -> anyhow::Result<()> {
         let words = words_of(self.alloc, line)?;
         self.obey(rt, line, &words)
     }

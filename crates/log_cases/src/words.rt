@@ -21,9 +21,9 @@ fn push_number(numbers: &mut Vec<u64>, word: &str) -> anyhow::Result<()> {
     Ok(numbers.push(number)?)
 }
 
-// Appends the numbers of the words from a place on.
-fn push_numbers(numbers: &mut Vec<u64>, words: &[&str], place: usize) -> anyhow::Result<()> {
-    for word in words.iter().skip(place) {
+// Appends the numbers of words.
+fn push_numbers(numbers: &mut Vec<u64>, words: &[&str]) -> anyhow::Result<()> {
+    for word in words {
         push_number(numbers, word)?;
     }
     Ok(())
@@ -32,7 +32,7 @@ fn push_numbers(numbers: &mut Vec<u64>, words: &[&str], place: usize) -> anyhow:
 /// The words from a place on, as numbers.
 pub fn numbers(alloc: Global, words: &[&str], place: usize) -> anyhow::Result<Vec<u64>> {
     let mut numbers = Vec::new(alloc);
-    push_numbers(&mut numbers, words, place)?;
+    push_numbers(&mut numbers, words.get(place..).unwrap_or(&[]))?;
     Ok(numbers)
 }
 
@@ -47,9 +47,9 @@ fn push_code(code: &mut Vec<u32>, digits: &str) -> anyhow::Result<()> {
     Ok(code.push(word)?)
 }
 
-// Appends the code words of all words but the first.
+// Appends the code words of words.
 fn push_codes(code: &mut Vec<u32>, words: &[&str]) -> anyhow::Result<()> {
-    for word in words.iter().skip(1) {
+    for word in words {
         push_code(code, word)?;
     }
     Ok(())
@@ -58,6 +58,6 @@ fn push_codes(code: &mut Vec<u32>, words: &[&str]) -> anyhow::Result<()> {
 /// Code words from their digits, the most significant first.
 pub fn code(alloc: Global, words: &[&str]) -> anyhow::Result<Vec<u32>> {
     let mut code = Vec::new(alloc);
-    push_codes(&mut code, words)?;
+    push_codes(&mut code, words.get(1..).unwrap_or(&[]))?;
     Ok(code)
 }
