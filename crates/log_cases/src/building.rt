@@ -16,20 +16,14 @@ pub fn push_number(bytes: &mut Vec<u8>, width: usize, number: u64) -> Result<(),
 
 // The tag of a kind of records.
 fn tag_of(verb: &str) -> Option<u8> {
-    if verb == "header" {
-        Some(1)
-    } else if verb == "first-load" {
-        Some(2)
-    } else if verb == "sc-ok" {
-        Some(3)
-    } else if verb == "sc-failed" {
-        Some(4)
-    } else if verb == "edge" {
-        Some(5)
-    } else if verb == "end" {
-        Some(6)
-    } else {
-        None
+    match verb {
+        "header" => Some(1),
+        "first-load" => Some(2),
+        "sc-ok" => Some(3),
+        "sc-failed" => Some(4),
+        "edge" => Some(5),
+        "end" => Some(6),
+        _ => None,
     }
 }
 
@@ -48,20 +42,52 @@ fn width_of(tag: u8, place: usize) -> usize {
     }
 }
 
-// The bytes of a record; a Header's last registers may be left out.
-fn record_of(alloc: Global, tag: u8, numbers: &[u64]) -> Result<Vec<u8>, AllocError> {
-    let mut bytes = Vec::new(alloc);
-    bytes.push(tag)?;
+// Appends the numbers of a record behind its tag.
+fn push_numbers(bytes: &mut Vec<u8>, tag: u8, numbers: &[u64]) -> Result<(), AllocError> {
     for (place, number) in numbers.iter().enumerate() {
-        push_number(&mut bytes, width_of(tag, place), *number)?;
+        push_number(bytes, width_of(tag, place), *number)?;
     }
+    Ok(())
+}
+
+// Appends the bytes of a record; a Header's last registers may be left out.
+fn push_record(bytes: &mut Vec<u8>, tag: u8, numbers: &[u64]) -> Result<(), AllocError> {
+    bytes.push(tag)?;
+    push_numbers(bytes, tag, numbers)?;
     if tag == 1 {
-        bytes.resize(146, 0)?;
+        return bytes.resize(146, 0);
     }
+    Ok(())
+}
+
+// The record of a tag that a line says.
+fn record_of(alloc: Global, tag: u8, words: &[&str]) -> anyhow::Result<Vec<u8>> {
+    let numbers = numbers(alloc, words, 2)?;
+    let mut bytes = Vec::new(alloc);
+    push_record(&mut bytes, tag, &numbers)?;
     Ok(bytes)
 }
 
-// A block behind a head, sealed: its records' bytes, and the first two numbers behind them.
+// The bytes that a line spells.
+fn spelled(alloc: Global, words: &[&str]) -> anyhow::Result<Vec<u8>> {
+    Ok(hex::decode(alloc, word(words, 2))?)
+}
+
+// Appends what stands behind the records of a block: its first two numbers, and the records' length.
+fn push_counts(bytes: &mut Vec<u8>, before: u64, left: u64, length: u64) -> Result<(), AllocError> {
+    push_number(bytes, 8, before)?;
+    push_number(bytes, 4, left)?;
+    push_number(bytes, 4, length)
+}
+
+// Appends the seal of a block behind a head, whose bytes are these.
+fn push_seal(alloc: Global, head: &[u8], bytes: &mut Vec<u8>) -> Result<(), AllocError> {
+    let mut signed = part(head, 104, 136).to_vec(alloc)?;
+    signed.extend_from_slice(bytes)?;
+    bytes.extend_from_slice(&digest_of(&signed))
+}
+
+// A block behind a head, sealed: its records' bytes, and the two numbers behind them.
 fn block(
     alloc: Global,
     head: &[u8],
@@ -70,46 +96,53 @@ fn block(
     left: u64,
 ) -> Result<Vec<u8>, AllocError> {
     let mut bytes = records.to_vec(alloc)?;
-    push_number(&mut bytes, 8, before)?;
-    push_number(&mut bytes, 4, left)?;
-    push_number(&mut bytes, 4, records.len() as u64)?;
-    let mut signed = part(head, 104, 136).to_vec(alloc)?;
-    signed.extend_from_slice(&bytes)?;
-    bytes.extend_from_slice(&digest_of(&signed))?;
+    push_counts(&mut bytes, before, left, records.len() as u64)?;
+    push_seal(alloc, head, &mut bytes)?;
     Ok(bytes)
+}
+
+// The bytes of a file from a number up to the next.
+fn range<'a>(file: &'a [u8], numbers: &[u64]) -> &'a [u8] {
+    part(
+        file,
+        number(numbers, 0) as usize,
+        number(numbers, 1) as usize,
+    )
 }
 
 // The block that a line says.
 fn block_of(alloc: Global, files: &Files, words: &[&str]) -> anyhow::Result<Vec<u8>> {
     let numbers = numbers(alloc, words, 4)?;
-    let from = number(&numbers, 0) as usize;
-    let end = number(&numbers, 1) as usize;
-    let records = part(files.bytes(word(words, 3)), from, end);
+    let records = range(files.bytes(word(words, 3)), &numbers);
     let head = files.bytes(word(words, 2));
-    Ok(block(
-        alloc,
-        head,
-        records,
-        number(&numbers, 2),
-        number(&numbers, 3),
-    )?)
+    let before = number(&numbers, 2);
+    Ok(block(alloc, head, records, before, number(&numbers, 3))?)
+}
+
+// Appends all bytes of files.
+fn push_files(bytes: &mut Vec<u8>, files: &Files, names: &[&str]) -> Result<(), AllocError> {
+    for name in names {
+        bytes.extend_from_slice(files.bytes(name))?;
+    }
+    Ok(())
 }
 
 // All bytes of the files that a line names from its third word on.
-fn joined(alloc: Global, files: &Files, words: &[&str]) -> Result<Vec<u8>, AllocError> {
+fn joined(alloc: Global, files: &Files, words: &[&str]) -> anyhow::Result<Vec<u8>> {
     let mut bytes = Vec::new(alloc);
-    for name in words.iter().skip(2) {
-        bytes.extend_from_slice(files.bytes(name))?;
-    }
+    push_files(&mut bytes, files, words.get(2..).unwrap_or(&[]))?;
     Ok(bytes)
 }
 
 // The part of a file that a line says.
 fn part_of(alloc: Global, files: &Files, words: &[&str]) -> anyhow::Result<Vec<u8>> {
     let numbers = numbers(alloc, words, 3)?;
-    let from = number(&numbers, 0) as usize;
-    let end = number(&numbers, 1) as usize;
-    Ok(part(files.bytes(word(words, 2)), from, end).to_vec(alloc)?)
+    Ok(range(files.bytes(word(words, 2)), &numbers).to_vec(alloc)?)
+}
+
+// The digest of the file that a line names.
+fn digest(alloc: Global, files: &Files, words: &[&str]) -> anyhow::Result<Vec<u8>> {
+    Ok(digest_of(files.bytes(word(words, 2))).to_vec(alloc)?)
 }
 
 /// The bytes that a line puts behind those of a file; none where it puts none.
@@ -118,23 +151,16 @@ pub fn built(
     files: &Files,
     verb: &str,
     words: &[&str],
-) -> anyhow::Result<Option<Vec<u8>>> {
+) -> Option<anyhow::Result<Vec<u8>>> {
     if let Some(tag) = tag_of(verb) {
-        let numbers = numbers(alloc, words, 2)?;
-        return Ok(Some(record_of(alloc, tag, &numbers)?));
+        return Some(record_of(alloc, tag, words));
     }
-    if verb == "bytes" {
-        Ok(Some(hex::decode(alloc, word(words, 2))?))
-    } else if verb == "part" {
-        Ok(Some(part_of(alloc, files, words)?))
-    } else if verb == "join" {
-        Ok(Some(joined(alloc, files, words)?))
-    } else if verb == "digest" {
-        let digest = digest_of(files.bytes(word(words, 2)));
-        Ok(Some(digest.to_vec(alloc)?))
-    } else if verb == "block" {
-        Ok(Some(block_of(alloc, files, words)?))
-    } else {
-        Ok(None)
+    match verb {
+        "bytes" => Some(spelled(alloc, words)),
+        "part" => Some(part_of(alloc, files, words)),
+        "join" => Some(joined(alloc, files, words)),
+        "digest" => Some(digest(alloc, files, words)),
+        "block" => Some(block_of(alloc, files, words)),
+        _ => None,
     }
 }

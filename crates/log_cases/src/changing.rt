@@ -2,61 +2,73 @@
 use crate::building::push_number;
 use crate::files::Files;
 use crate::words::{number, numbers, word};
-use std::alloc::Global;
+use std::alloc::{AllocError, Global};
 
-// A file with these bytes in place of its own from a place on.
-fn patched(mut file: Vec<u8>, place: u64, bytes: &[u8]) -> Vec<u8> {
+// Puts bytes in place of a file's own from a place on.
+fn patch(file: &mut [u8], place: u64, bytes: &[u8]) {
     for (byte, new) in file.iter_mut().skip(place as usize).zip(bytes) {
         *byte = *new;
     }
-    file
 }
 
-// A file with a number in place of its bytes from a place on.
-fn with_number(alloc: Global, file: Vec<u8>, numbers: &[u64]) -> anyhow::Result<Vec<u8>> {
+// Puts a number in place of a file's bytes from a place on: the place, its width, and the number.
+fn patch_number(alloc: Global, file: &mut [u8], numbers: &[u64]) -> Result<(), AllocError> {
     let mut bytes = Vec::new(alloc);
     push_number(&mut bytes, number(numbers, 1) as usize, number(numbers, 2))?;
-    Ok(patched(file, number(numbers, 0), &bytes))
+    patch(file, number(numbers, 0), &bytes);
+    Ok(())
 }
 
-// A file whose byte at a place has the other lowest bit.
-fn flipped(mut file: Vec<u8>, place: u64) -> Vec<u8> {
-    for byte in file.iter_mut().skip(place as usize).take(1) {
+// Puts a number into a file as a line says.
+fn set(alloc: Global, file: &mut [u8], words: &[&str]) -> anyhow::Result<()> {
+    let numbers = numbers(alloc, words, 2)?;
+    Ok(patch_number(alloc, file, &numbers)?)
+}
+
+// Puts the bytes of a line in place of a file's own.
+fn put(alloc: Global, file: &mut [u8], words: &[&str]) -> anyhow::Result<()> {
+    let place = word(words, 2).parse::<u64>()?;
+    let bytes = hex::decode(alloc, word(words, 3))?;
+    patch(file, place, &bytes);
+    Ok(())
+}
+
+// Gives the byte at a line's place the other lowest bit.
+fn flip(file: &mut [u8], words: &[&str]) -> anyhow::Result<()> {
+    let place = word(words, 2).parse::<usize>()?;
+    if let Some(byte) = file.get_mut(place) {
         *byte ^= 1;
     }
-    file
+    Ok(())
 }
 
-// A file with the bytes of a line in place of its own.
-fn with_bytes(alloc: Global, file: Vec<u8>, words: &[&str]) -> anyhow::Result<Vec<u8>> {
-    let bytes = hex::decode(alloc, word(words, 3))?;
-    Ok(patched(file, word(words, 2).parse::<u64>()?, &bytes))
+// Leaves the first bytes of a file alone, as many as a line says.
+fn cut(file: &mut Vec<u8>, words: &[&str]) -> anyhow::Result<()> {
+    file.truncate(word(words, 2).parse::<usize>()?);
+    Ok(())
 }
 
-/// The file that a line makes in place of one; none where it makes none.
+// Changes a file as a line says.
+fn change(alloc: Global, file: &mut Vec<u8>, verb: &str, words: &[&str]) -> anyhow::Result<()> {
+    match verb {
+        "put" => put(alloc, file, words),
+        "set" => set(alloc, file, words),
+        "flip" => flip(file, words),
+        "cut" => cut(file, words),
+        "take" => Ok(()),
+        _ => Err(anyhow::anyhow!("no line of cases: {verb}")),
+    }
+}
+
+/// The file that a line makes in place of one.
 pub fn changed(
     alloc: Global,
     files: &Files,
     verb: &str,
     words: &[&str],
-) -> anyhow::Result<Option<Vec<u8>>> {
-    if verb == "take" {
-        return Ok(Some(files.bytes(word(words, 2)).to_vec(alloc)?));
-    }
-    let mut file = files.bytes(word(words, 1)).to_vec(alloc)?;
-    if verb == "put" {
-        return Ok(Some(with_bytes(alloc, file, words)?));
-    }
-    if verb == "set" {
-        let numbers = numbers(alloc, words, 2)?;
-        return Ok(Some(with_number(alloc, file, &numbers)?));
-    }
-    if verb == "flip" {
-        return Ok(Some(flipped(file, word(words, 2).parse::<u64>()?)));
-    }
-    if verb == "cut" {
-        file.truncate(word(words, 2).parse::<usize>()?);
-        return Ok(Some(file));
-    }
-    Ok(None)
+) -> anyhow::Result<Vec<u8>> {
+    let place = if verb == "take" { 2 } else { 1 };
+    let mut file = files.bytes(word(words, place)).to_vec(alloc)?;
+    change(alloc, &mut file, verb, words)?;
+    Ok(file)
 }

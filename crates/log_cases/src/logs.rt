@@ -1,28 +1,47 @@
 // What is read, salvaged and counted of a file, and files that are written.
 use crate::files::Files;
 use crate::words::word;
-use log_blocks::{read_file, salvage, write_file2, write_log2};
+use log_blocks::{Damage, SalvageError, read_file, salvage, write_file2, write_log2};
 use log_file::{count_file, write_file};
 use log_order::KeptLog;
 use log_record::Head;
 use std::alloc::Global;
 
+// Prints how many records a log that was read or salvaged has, and how many it lost.
+fn print_kept<R: Print>(rt: &R, verb: &str, kept: usize, dropped: u64) -> anyhow::Result<()> {
+    Ok(println!(rt; "{verb} {kept} behind {dropped}")?)
+}
+
+// Prints why there is no log.
+fn print_damage<R: Print>(rt: &R, damage: Damage) -> anyhow::Result<()> {
+    Ok(println!(rt; "read {damage:?}")?)
+}
+
+// Prints why nothing is salvaged.
+fn print_loss<R: Print>(rt: &R, error: SalvageError) -> anyhow::Result<()> {
+    Ok(println!(rt; "salvaged {error:?}")?)
+}
+
 // Prints how many records a log has, or why there is none.
 fn print_read<R: Print>(rt: &R, alloc: Global, bytes: &[u8]) -> anyhow::Result<()> {
     match read_file(alloc, bytes) {
-        Ok(log) => println!(rt; "read {} behind {}", log.records().len(), log.dropped())?,
-        Err(damage) => println!(rt; "read {damage:?}")?,
+        Ok(log) => print_kept(rt, "read", log.records().len(), log.dropped()),
+        Err(damage) => print_damage(rt, damage),
     }
-    Ok(())
 }
 
 // Prints how many records are salvaged, or why none is.
 fn print_salvaged<R: Print>(rt: &R, alloc: Global, bytes: &[u8]) -> anyhow::Result<()> {
     match salvage(alloc, bytes) {
-        Ok(log) => println!(rt; "salvaged {} behind {}", log.records().len(), log.dropped())?,
-        Err(error) => println!(rt; "salvaged {error:?}")?,
+        Ok(log) => print_kept(rt, "salvaged", log.records().len(), log.dropped()),
+        Err(error) => print_loss(rt, error),
     }
-    Ok(())
+}
+
+// Prints what is read, and what is salvaged.
+fn print_both<R: Print>(rt: &R, alloc: Global, bytes: &[u8]) -> anyhow::Result<()> {
+    print_read(rt, alloc, bytes)?;
+    print_salvaged(rt, alloc, bytes)
 }
 
 // Prints what is counted of a file of version 1.
@@ -34,41 +53,39 @@ fn print_counts<R: Print>(rt: &R, bytes: &[u8]) -> anyhow::Result<()> {
     Ok(())
 }
 
+// Prints bytes in a line.
+fn print_line<R: Print>(rt: &R, bytes: &[u8]) -> anyhow::Result<()> {
+    for byte in bytes {
+        print!(rt; "{byte:02x}")?;
+    }
+    Ok(println!(rt; "")?)
+}
+
 // Prints bytes, 32 a line.
 fn print_bytes<R: Print>(rt: &R, bytes: &[u8]) -> anyhow::Result<()> {
     for line in bytes.chunks(32) {
-        for byte in line {
-            print!(rt; "{byte:02x}")?;
-        }
-        println!(rt; "")?;
+        print_line(rt, line)?;
     }
     Ok(())
 }
 
-/// Prints what a line wants to know of a file; false where it wants nothing.
+/// Prints what a line wants to know of a file; none where it wants nothing.
 pub fn told<R: Print>(
     rt: &R,
     alloc: Global,
     files: &Files,
     verb: &str,
     words: &[&str],
-) -> anyhow::Result<bool> {
+) -> Option<anyhow::Result<()>> {
     let bytes = files.bytes(word(words, 1));
-    if verb == "read" {
-        print_read(rt, alloc, bytes)?;
-    } else if verb == "salvage" {
-        print_salvaged(rt, alloc, bytes)?;
-    } else if verb == "tell" {
-        print_read(rt, alloc, bytes)?;
-        print_salvaged(rt, alloc, bytes)?;
-    } else if verb == "count" {
-        print_counts(rt, bytes)?;
-    } else if verb == "show" {
-        print_bytes(rt, bytes)?;
-    } else {
-        return Ok(false);
+    match verb {
+        "read" => Some(print_read(rt, alloc, bytes)),
+        "salvage" => Some(print_salvaged(rt, alloc, bytes)),
+        "tell" => Some(print_both(rt, alloc, bytes)),
+        "count" => Some(print_counts(rt, bytes)),
+        "show" => Some(print_bytes(rt, bytes)),
+        _ => None,
     }
-    Ok(true)
 }
 
 // The file of version 1 of a head with these records, and so many dropped.
@@ -106,31 +123,46 @@ fn with_head(
     }
 }
 
+// The file of version 2 of a log.
+fn converted(alloc: Global, log: &KeptLog) -> anyhow::Result<Vec<u8>> {
+    Ok(write_log2(alloc, log)?)
+}
+
 // The file of version 2 of what is salvaged of some bytes.
 fn rescued(alloc: Global, bytes: &[u8]) -> anyhow::Result<Vec<u8>> {
     match salvage(alloc, bytes) {
-        Ok(log) => Ok(write_log2(alloc, &log)?),
+        Ok(log) => converted(alloc, &log),
         Err(error) => Err(anyhow::anyhow!("not salvaged: {error}")),
+    }
+}
+
+// The file that a line writes of a log.
+fn of_log(alloc: Global, files: &Files, log: &KeptLog, words: &[&str]) -> anyhow::Result<Vec<u8>> {
+    if word(words, 0) == "convert" {
+        converted(alloc, log)
+    } else {
+        with_head(alloc, files, log, words)
     }
 }
 
 // The file that a line writes of what is read of another.
 fn rewritten(alloc: Global, files: &Files, words: &[&str]) -> anyhow::Result<Vec<u8>> {
     match read_file(alloc, files.bytes(word(words, 2))) {
-        Ok(log) if word(words, 0) == "convert" => Ok(write_log2(alloc, &log)?),
-        Ok(log) => with_head(alloc, files, &log, words),
+        Ok(log) => of_log(alloc, files, &log, words),
         Err(damage) => Err(anyhow::anyhow!("not read: {damage}")),
     }
 }
 
 /// The file that a line writes of another log; none where it writes none.
-pub fn written(alloc: Global, files: &Files, words: &[&str]) -> anyhow::Result<Option<Vec<u8>>> {
-    let verb = word(words, 0);
-    if verb == "rescue" {
-        Ok(Some(rescued(alloc, files.bytes(word(words, 2)))?))
-    } else if verb == "write1" || verb == "write2" || verb == "convert" {
-        Ok(Some(rewritten(alloc, files, words)?))
-    } else {
-        Ok(None)
+pub fn written(
+    alloc: Global,
+    files: &Files,
+    verb: &str,
+    words: &[&str],
+) -> Option<anyhow::Result<Vec<u8>>> {
+    match verb {
+        "rescue" => Some(rescued(alloc, files.bytes(word(words, 2)))),
+        "write1" | "write2" | "convert" => Some(rewritten(alloc, files, words)),
+        _ => None,
     }
 }

@@ -1,30 +1,22 @@
-// Slices and race reports of logs.
+// Replays, slices and race reports of logs.
 use crate::files::Files;
-use crate::replays::{print_text, program};
+use crate::replays::{print_interval, print_text, program};
 use crate::words::{number, numbers, word};
 use bn_base::Image;
-use log_blocks::read_file;
+use log_blocks::{Damage, read_file};
 use log_order::KeptLog;
-use race_report::{report, write_count, write_race};
-use rv_text::{Text, write_row};
-use slice_back::{Slice, slice, write_branch, write_head, write_register, write_word};
-use std::alloc::{AllocError, Global};
+use race_report::{RaceError, races_text};
+use slice_back::slice_text;
+use std::alloc::Global;
 
-// The lines of a slice behind its head: rows, registers, words and branches.
-fn write_parts(told: &Slice, text: &mut Text) -> Result<(), AllocError> {
-    for row in told.rows.as_slice() {
-        write_row(row, text)?;
-    }
-    for found in told.regs.as_slice() {
-        write_register(found.0, found.1, text)?;
-    }
-    for found in told.words.as_slice() {
-        write_word(found.0, found.1, found.2, text)?;
-    }
-    for row in told.branches.as_slice() {
-        write_branch(row, text)?;
-    }
-    Ok(())
+// Prints why there is no log.
+fn print_damage<R: Print>(rt: &R, damage: Damage) -> anyhow::Result<()> {
+    Ok(println!(rt; "no log: {damage}")?)
+}
+
+// Prints why there is no race report.
+fn print_refusal<R: Print>(rt: &R, error: &RaceError) -> anyhow::Result<()> {
+    Ok(println!(rt; "{error:?}")?)
 }
 
 // Prints the slice of a row, or why there is none.
@@ -35,15 +27,16 @@ fn print_slice<R: Print>(
     log: &KeptLog,
     numbers: &[u64],
 ) -> anyhow::Result<()> {
-    let hart = number(numbers, 0);
-    let ic = number(numbers, 2);
-    match slice(alloc, image, log, hart, number(numbers, 1), ic) {
-        Ok(told) => {
-            let mut text = Text::new(alloc);
-            write_head(hart, ic, &mut text)?;
-            write_parts(&told, &mut text)?;
-            print_text(rt, &text)
-        }
+    let interval = number(numbers, 1);
+    match slice_text(
+        alloc,
+        image,
+        log,
+        number(numbers, 0),
+        interval,
+        number(numbers, 2),
+    ) {
+        Ok(text) => print_text(rt, &text),
         Err(error) => Ok(println!(rt; "{error:?}")?),
     }
 }
@@ -56,37 +49,53 @@ fn print_races<R: Print>(
     log: &KeptLog,
     max: u64,
 ) -> anyhow::Result<()> {
-    match report(alloc, image, log, max) {
-        Ok(races) => {
-            let mut text = Text::new(alloc);
-            for race in races.as_slice() {
-                write_race(race, &mut text)?;
-            }
-            write_count(races.as_slice().len() as u64, &mut text)?;
-            print_text(rt, &text)
-        }
-        Err(error) => Ok(println!(rt; "{error:?}")?),
+    match races_text(alloc, image, log, max) {
+        Ok(text) => print_text(rt, &text),
+        Err(error) => print_refusal(rt, &error),
     }
 }
 
-/// Prints the report of a log that a line wants; false where it wants none.
+// Prints the report of a log that a line wants.
+fn report_log<R: Print>(
+    rt: &R,
+    alloc: Global,
+    image: &Image,
+    log: &KeptLog,
+    verb: &str,
+    numbers: &[u64],
+) -> anyhow::Result<()> {
+    match verb {
+        "replay" => print_interval(rt, alloc, image, log, numbers),
+        "slice" => print_slice(rt, alloc, image, log, numbers),
+        _ => print_races(rt, alloc, image, log, number(numbers, 0)),
+    }
+}
+
+// Prints the report of a log of these bytes that a line wants.
+fn report_bytes<R: Print>(
+    rt: &R,
+    alloc: Global,
+    image: &Image,
+    bytes: &[u8],
+    verb: &str,
+    numbers: &[u64],
+) -> anyhow::Result<()> {
+    match read_file(alloc, bytes) {
+        Ok(log) => report_log(rt, alloc, image, &log, verb, numbers),
+        Err(damage) => print_damage(rt, damage),
+    }
+}
+
+/// Prints the replay, the slice or else the races of a log, as a line says.
 pub fn reported<R: Print>(
     rt: &R,
     alloc: Global,
     files: &Files,
     code: &[u32],
     words: &[&str],
-) -> anyhow::Result<bool> {
-    let verb = word(words, 0);
-    if verb != "slice" && verb != "races" {
-        return Ok(false);
-    }
+) -> anyhow::Result<()> {
     let numbers = numbers(alloc, words, 2)?;
     let image = program(alloc, code)?;
-    match read_file(alloc, files.bytes(word(words, 1))) {
-        Ok(log) if verb == "slice" => print_slice(rt, alloc, &image, &log, &numbers)?,
-        Ok(log) => print_races(rt, alloc, &image, &log, number(&numbers, 0))?,
-        Err(damage) => println!(rt; "no log: {damage}")?,
-    }
-    Ok(true)
+    let bytes = files.bytes(word(words, 1));
+    report_bytes(rt, alloc, &image, bytes, word(words, 0), &numbers)
 }
