@@ -1,7 +1,9 @@
 -- What several reads or writes in turn do, and what one read does.
-use Rattle.std.proofs.Common.{◌≡◌, ◌+◌, ◌≤◌, ◌<◌, ℕ, List, [], ◌∷◌, ◌++◌, append-nil, length, take, drop, Option, Some, None, append_assoc, ap, ◌∙◌, sym, arith, length-append, length-drop}
+use Rattle.std.proofs.Common.{◌≡◌, ◌+◌, ◌≤◌, ◌<◌, ℕ, List, [], ◌∷◌, ◌++◌, append-nil, length, take, drop, Option, Some, None, append_assoc, ap, ◌∙◌, sym, arith, length-append, length-drop, inl, inr}
 use Rattle.std.proofs.lemmas.List.{length-take-le, take_at, drop-drop, take-append-drop}
+use Rattle.std.specs.Prelude.{IfSome}
 use Rattle.std.specs.Io.KnownBytes.{Appends, Consumes, IsAtEnd}
+use Rattle.bn_outside.specs.Counts.{Rose}
 use Rattle.bn_outside.specs.Streams.{ConsumesAll, EndsExactly}
 
 -- one addition after another
@@ -30,6 +32,18 @@ consumes_all (Some a) (Some b) (Some c) x buffer n p q e zero room =
     rest : (y z : List ℕ) → y ++ z ≡ [] → z ≡ []
     rest [] z h = h
     rest (y ∷ ys) z h = cc
+
+-- with a read's piece more than a limit came, so more were left before all reads
+pub more_left : (a b c : Option (List ℕ)) (x y : List ℕ) (n limit : ℕ) → Consumes a b x → Consumes b c y → n ≡ length x → limit < n + length y → IfSome a (λ left. limit < length left)
+more_left None b c x y n limit p q e h = tt
+more_left (Some a) None c x y n limit p q e h = absurd p
+more_left (Some a) (Some b) None x y n limit p q e h = absurd q
+more_left (Some a) (Some b) (Some c) x y n limit p q e h = omega (arith, ap length p, ap length q, length-append x b, length-append y c, e, h)
+
+-- a count that never fell rose over all calls where it rose in the last
+pub rose_last : (a b c : ℕ) → a ≤ b → Rose b c → Rose a c
+rose_last a b c h (inl r) = inl (omega (arith, h, r))
+rose_last a b c h (inr r) = inr r
 
 -- a read's piece, and what is left after it, are what was left before
 pub source_gives : (bytes buffer piece : List ℕ) (at n m : ℕ) → at + n ≤ length bytes → m ≡ n → piece ≡ take m (drop at bytes)

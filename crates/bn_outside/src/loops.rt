@@ -1,5 +1,5 @@
 // The loops over a sink and a source. Each turn takes at least one byte.
-ghost use Rattle.std.specs.Prelude.{◌≡◌, ◌≤◌, ◌<◌, ◌+◌, ◌++◌, ℕ, List, IfOk, IfSome, OnOk, OnErr, Err, vec_len, length};
+ghost use Rattle.std.specs.Prelude.{◌≡◌, ◌≢◌, ◌≤◌, ◌<◌, ◌+◌, ◌++◌, ℕ, List, IfOk, IfSome, OnOk, OnErr, Err, vec_len, length};
 ghost use Rattle.std.specs.Io.KnownBytes.{Appends};
 ghost use Rattle.bn_outside.specs.Counts.{Rose};
 ghost use Rattle.bn_outside.specs.Streams.{AppendsPart, AppendsShort, ConsumesAll, ConsumesPart};
@@ -71,6 +71,28 @@ fn gather(bytes: &mut Vec<u8>, piece: &[u8], expected: usize) -> Result<(), Allo
     bytes.extend_from_slice(piece)
 }
 
+// Puts a piece behind what was read, where both are at most `limit` together.
+fn gather_within(
+    bytes: &mut Vec<u8>,
+    piece: &[u8],
+    expected: usize,
+    limit: usize,
+) -> Result<(), ReadError>
+    requires { vec_len bytes.old ≤ limit }
+    ensures items { OnOk result (bytes.new.items ≡ bytes.old.items ++ piece.now) }
+    ensures len { OnOk result (vec_len bytes.new ≡ vec_len bytes.old + length piece.now) }
+    ensures within { OnOk result (vec_len bytes.new ≤ limit) }
+    ensures long { result ≡ Err read_error.TooLong → limit < vec_len bytes.old + length piece.now }
+    ensures wanting { result ≡ Err read_error.OutOfMemory → vec_len bytes.old + length piece.now ≤ limit }
+    ensures works { result ≢ Err read_error.Failed }
+{
+    if piece.len() > limit - bytes.len() {
+        return Err(ReadError::TooLong);
+    }
+    gather(bytes, piece, expected.min(limit))?;
+    Ok(())
+}
+
 /// Reads all bytes that a source has left, where they are at most `limit`.
 ///
 /// So many bytes are expected: room for them, or for `limit` where that is less, is made once, when
@@ -104,9 +126,6 @@ pub fn read_to_end<I: Source>(
         if count == 0 {
             return Ok(bytes);
         }
-        if count > limit - bytes.len() {
-            return Err(ReadError::TooLong);
-        }
-        gather(&mut bytes, &piece[..count], expected.min(limit))?;
+        gather_within(&mut bytes, &piece[..count], expected, limit)?;
     }
 }

@@ -64,6 +64,22 @@ impl MemorySource {
     {
         &self.bytes[self.at..]
     }
+
+    // Moves the bytes that one read may take to the front of `buffer`, and answers how many.
+    fn give(&mut self, buffer: &mut [u8]) -> usize
+        ensures bound { result ≤ length buffer.new }
+        ensures count { result ≡ min self.old.most (min (length buffer.old) (length self.old.left)) }
+        ensures moved { self.old.left ≡ take result buffer.new ++ self.new.left }
+        ensures end { EndsExactly (Some self.old.left) result buffer.new }
+        ensures rest { buffer.new ≡ take result self.old.left ++ drop result buffer.old }
+        ensures after { self.new ≡ record self.old { left = drop result self.old.left } }
+    {
+        let left = self.bytes.len() - self.at;
+        let count = self.most.min(buffer.len().min(left));
+        buffer[..count].copy_from_slice(&self.bytes[self.at..self.at + count]);
+        self.at += count;
+        count
+    }
 }
 
 impl Source for MemorySource {
@@ -100,10 +116,6 @@ impl Source for MemorySource {
             self.faults = self.faults.saturating_add(1);
             return Err(Failed);
         }
-        let left = self.bytes.len() - self.at;
-        let count = self.most.min(buffer.len().min(left));
-        buffer[..count].copy_from_slice(&self.bytes[self.at..self.at + count]);
-        self.at += count;
-        Ok(count)
+        Ok(self.give(buffer))
     }
 }

@@ -1,5 +1,5 @@
 // A store in memory.
-ghost use Rattle.std.specs.Prelude.{◌≡◌, ◌≤◌, ◌↔◌, Some, Err, IfOk, OnOk, OnErr, option_map, vec_len};
+ghost use Rattle.std.specs.Prelude.{◌≡◌, ◌≤◌, ◌↔◌, Some, Err, IfOk, IsTrue, OnOk, OnErr, option_map, vec_len};
 ghost use Rattle.bn_outside.specs.Counts.{NoneFell, LoadCause, SaveCause, counted};
 ghost use Rattle.bn_outside.specs.Calls.{NextFails, after_call};
 ghost use Rattle.bn_outside.specs.Files.{LoadTells, SameElsewhere};
@@ -77,6 +77,45 @@ impl MemoryStore {
             None => None,
         }
     }
+
+    // What a load comes to, where it fails or not: nothing is counted yet.
+    fn found(
+        &self,
+        fails: bool,
+        alloc: Global,
+        name: &str,
+        limit: usize,
+    ) -> Result<Vec<u8>, LoadError>
+        ensures bound { IfOk result (λ bytes. vec_len bytes ≤ limit) }
+        ensures told { LoadTells (files_in self.now.entries name.now) limit result }
+        ensures fails { (result ≡ Err LoadError.Failed) ↔ IsTrue fails }
+    {
+        if fails {
+            return Err(LoadError::Failed);
+        }
+        let Some(bytes) = self.bytes(name) else {
+            return Err(LoadError::Missing);
+        };
+        if bytes.len() > limit {
+            return Err(LoadError::TooLong);
+        }
+        Ok(bytes.to_vec(alloc)?)
+    }
+
+    // Counts what a load came to.
+    fn count_load(&mut self, loaded: &Result<Vec<u8>, LoadError>)
+        ensures later { NoneFell self.old.counts self.new.counts }
+        ensures cause { LoadCause self.old.counts self.new.counts loaded.now }
+        ensures rest { self.new ≡ record self.old { counts = counts_after_load loaded.now self.old.counts } }
+    {
+        match loaded {
+            Err(LoadError::Missing) => self.misses = self.misses.saturating_add(1),
+            Err(LoadError::TooLong) => self.longs = self.longs.saturating_add(1),
+            Err(LoadError::Failed) => self.faults = self.faults.saturating_add(1),
+            Err(LoadError::OutOfMemory) => {}
+            Ok(_) => {}
+        }
+    }
 }
 
 impl Store for MemoryStore {
@@ -101,19 +140,10 @@ impl Store for MemoryStore {
           counts = counts_after_load result self.old.counts;
         } }
     {
-        if self.calls.next_fails() {
-            self.faults = self.faults.saturating_add(1);
-            return Err(LoadError::Failed);
-        }
-        let Some(bytes) = self.bytes(name) else {
-            self.misses = self.misses.saturating_add(1);
-            return Err(LoadError::Missing);
-        };
-        if bytes.len() > limit {
-            self.longs = self.longs.saturating_add(1);
-            return Err(LoadError::TooLong);
-        }
-        Ok(bytes.to_vec(alloc)?)
+        let fails = self.calls.next_fails();
+        let loaded = self.found(fails, alloc, name, limit);
+        self.count_load(&loaded);
+        loaded
     }
 
     fn save(&mut self, name: &str, bytes: &[u8]) -> Result<(), SaveError>
