@@ -1,6 +1,6 @@
 // Bytes that are put behind those of a file.
 use crate::files::Files;
-use crate::words::{number, numbers, word};
+use crate::words::{number, numbers, rest, word};
 use log_file::head::digest_of;
 use std::alloc::{AllocError, Global};
 
@@ -130,7 +130,7 @@ fn push_files(bytes: &mut Vec<u8>, files: &Files, names: &[&str]) -> Result<(), 
 // All bytes of the files that a line names from its third word on.
 fn joined(alloc: Global, files: &Files, words: &[&str]) -> anyhow::Result<Vec<u8>> {
     let mut bytes = Vec::new(alloc);
-    push_files(&mut bytes, files, words.get(2..).unwrap_or(&[]))?;
+    push_files(&mut bytes, files, rest(words, 2))?;
     Ok(bytes)
 }
 

@@ -15,6 +15,11 @@ pub fn word<'a>(words: &[&'a str], place: usize) -> &'a str {
     words.get(place).copied().unwrap_or("")
 }
 
+/// The words from a place on.
+pub fn rest<'a>(words: &'a [&'a str], place: usize) -> &'a [&'a str] {
+    words.get(place..).unwrap_or(&[])
+}
+
 // Appends the number of a word.
 fn push_number(numbers: &mut Vec<u64>, word: &str) -> anyhow::Result<()> {
     let number = word.parse::<u64>()?;
@@ -32,7 +37,7 @@ fn push_numbers(numbers: &mut Vec<u64>, words: &[&str]) -> anyhow::Result<()> {
 /// The words from a place on, as numbers.
 pub fn numbers(alloc: Global, words: &[&str], place: usize) -> anyhow::Result<Vec<u64>> {
     let mut numbers = Vec::new(alloc);
-    push_numbers(&mut numbers, words.get(place..).unwrap_or(&[]))?;
+    push_numbers(&mut numbers, rest(words, place))?;
     Ok(numbers)
 }
 
@@ -58,6 +63,6 @@ fn push_codes(code: &mut Vec<u32>, words: &[&str]) -> anyhow::Result<()> {
 /// Code words from their digits, the most significant first.
 pub fn code(alloc: Global, words: &[&str]) -> anyhow::Result<Vec<u32>> {
     let mut code = Vec::new(alloc);
-    push_codes(&mut code, words.get(1..).unwrap_or(&[]))?;
+    push_codes(&mut code, rest(words, 1))?;
     Ok(code)
 }
