@@ -58,9 +58,8 @@ impl Registers {
     pub fn put(&mut self, register: Register, value: u32)
         ensures { self.new ≡ put_reg register value self.old }
     {
-        let number = register.number() as usize;
-        if number != 0 {
-            self.contents[number] = value;
-        }
+        // (without a branch on the register: x0 gets its 0 back after each write)
+        self.contents[register.number() as usize] = value;
+        self.contents[0] = 0;
     }
 }

@@ -5,8 +5,10 @@ use Rattle.rv_meaning.specs.declared.asks.Reply.{Reply}
 use Rattle.bn_outside.specs.declared.turn_row.TurnRow.{TurnRow}
 use Rattle.run_model.specs.declared.start.Start.{Start}
 use Rattle.run_model.specs.Stands.Plain.{PlainParts, IsRun, everyone}
-use Rattle.run_model.specs.Turn.{Run, serve, is_orderly, halted}
+use Rattle.run_model.specs.Turn.{Run, serve, turn, ask_at, is_orderly, halted}
 use Rattle.run_model.specs.Stands.Turning.{is_live}
+use Rattle.run_model.specs.Stands.Harts.{hart_in}
+use Rattle.bus_core.proofs.OwnTurn.{ask_is, own_orderly, or_not_true}
 use Rattle.log_record.specs.Kept.{Held, HoldsLog}
 use Rattle.race_log.specs.Noted.{NotesDecide}
 use Rattle.run_laws.specs.History.{after_rows, are_orderly}
@@ -48,6 +50,34 @@ pub history_more : (p q : PlainParts) (h d d' o : Bool) (rows : List TurnRow) (k
     → IsHistory p h d rows → IsHistory q h d' (rows ++ row k ask reply guarded ∷ [])
 history_more p q true d d' o rows k ask reply guarded len live s ed is = absurd (false_true (none_is_live p.trace.harts.items (after_rows p.start.settings p.start.image (first_run (began_of p.start)) rows).harts k is.run.trace.harts live))
 history_more p q false d d' o rows k ask reply guarded len live s ed is = row_more p q d d' o rows k ask reply guarded len live s ed is
+
+-- a turn more, in which the hart asked what it asks next
+row_turned : (p q : PlainParts) (d : Bool) (rows : List TurnRow) (k : ℕ) (ask : Ask) → length p.trace.harts.items ≡ p.start.settings.harts → is_live p k ≡ true → q.start ≡ p.start
+    → is_orderly p.start.settings p.start.image (hart_in p.trace.harts.items k) ask ≡ true → ask ≡ ask_at p.start.settings p.start.image (hart_in p.trace.harts.items k)
+    → ((run : Run) → IsRun p run → IsRun q (turn p.start.settings p.start.image run k)) → IsHistory p false d rows → (rs : List TurnRow) × IsHistory q false d rs
+row_turned p q d rows k ask len live same o asks turns h =
+    let c = p.start.settings in let i = p.start.image in
+    let first = first_run (began_of p.start) in
+    let run : Run = after_rows c i first rows in
+    let reply = (serve c i run k ask).reply in
+    let guarded = (serve c i run k ask).guarded in
+    let r : TurnRow = row k ask reply guarded in
+    let asked : ask ≡ ask_at c i (run.harts k) = ask_is p run k ask h.run live asks in
+    let after : IsRun q (serve c i run k ask).run = subst (λ (a : Ask). IsRun q (serve c i run k a).run) (sym asked) (turns run h.run) in
+    (rows ++ r ∷ [], record {
+      told = subst (λ (t : Start). AreTold (began_of t) d (rows ++ r ∷ [])) (sym same) (record {
+        lawful = lawful_snoc c i first rows r h.told.lawful (live_as c run p.trace.harts.items k h.run.trace.harts len live) refl refl;
+        orderly = not_both (are_orderly c i first rows) (is_orderly c i (run.harts k) ask) d true d h.told.orderly (own_orderly p run k ask h.run live o) (or_not_true d) ∙ sym (ap not (orderly_snoc c i first rows r));
+      });
+      run = subst (λ (t : Start). IsRun q (run_after (began_of t) false (rows ++ r ∷ []))) (sym same)
+          (subst (λ (x : Run). IsRun q x) (sym (after_snoc c i first rows r)) after);
+    })
+
+pub history_turned : (p q : PlainParts) (h d : Bool) (rows : List TurnRow) (k : ℕ) (ask : Ask) → length p.trace.harts.items ≡ p.start.settings.harts → is_live p k ≡ true → q.start ≡ p.start
+    → is_orderly p.start.settings p.start.image (hart_in p.trace.harts.items k) ask ≡ true → ask ≡ ask_at p.start.settings p.start.image (hart_in p.trace.harts.items k)
+    → ((run : Run) → IsRun p run → IsRun q (turn p.start.settings p.start.image run k)) → IsHistory p h d rows → (rs : List TurnRow) × IsHistory q h d rs
+history_turned p q true d rows k ask len live same o asks turns is = absurd (false_true (none_is_live p.trace.harts.items (after_rows p.start.settings p.start.image (first_run (began_of p.start)) rows).harts k is.run.trace.harts live))
+history_turned p q false d rows k ask len live same o asks turns is = row_turned p q d rows k ask len live same o asks turns is
 
 -- ---- other changes
 

@@ -1,5 +1,5 @@
 // A turn of a hart in the bus's own place: its quiet instructions, and what it asks after them.
-ghost use Rattle.std.specs.Prelude.{◌≡◌, ◌<◌, ◌+◌, ◌∷◌, ◌++◌, [], true, IsTrue, OnOk, OnErr};
+ghost use Rattle.std.specs.Prelude.{◌≡◌, ◌<◌, ◌+◌, ◌∷◌, ◌++◌, [], true, false, IsTrue, OnOk, OnErr};
 ghost use Rattle.run_model.specs.Turn.{Run, ask_at, is_orderly};
 ghost use Rattle.run_model.specs.Stands.Harts.{hart_in};
 ghost use Rattle.run_model.specs.Stands.Turning.{parts};
@@ -28,6 +28,25 @@ fn ask_next(plain: &Plain, code: &DecodedImage, hart: HartId, ask: &mut Ask)
 }
 
 impl<B: Book> Bus<B> {
+    // As `take_turn`, where books of this type tell no rows.
+    fn take_untold(&mut self, code: &DecodedImage, hart: HartId) -> Result<(), AllocError>
+        requires live { is_live self.old hart ≡ true }
+        requires code { code.now ≡ self.old.began.image }
+        requires untold { B.tells ≡ false }
+        ensures state { OnOk result ((run : Run) → IsState self.old run → IsState self.new (turned_run self.old.began run hart)) }
+        ensures refused { OnErr result ((run : Run) → IsState self.old run → IsState self.new run) }
+        ensures kept { self.new.rows ≡ self.old.rows }
+        ensures turns { OnOk result (self.new.turns ≡ self.old.turns + 1) }
+        ensures began { self.new.began ≡ self.old.began }
+        ensures halted { self.new.halted ≡ self.old.halted }
+        ensures disordered { self.new.disordered ≡ self.old.disordered }
+    {
+        notes_decide();
+        each_ask_is_orderly();
+        self.plain.turn_ahead(code, hart)?;
+        Ok(())
+    }
+
     /// The next turn of a live hart, which does its quiet instructions up to its first ask: the ask is
     /// served as [`serve`](Bus::serve) does, and the book has the row. A hart's own ask is orderly, so that
     /// no test of it is made. `code` is the program that the run began with.
@@ -47,6 +66,9 @@ impl<B: Book> Bus<B> {
         ensures disordered { self.new.disordered ≡ self.old.disordered }
     {
         notes_decide();
+        if self.book.rows().is_none() {
+            return self.take_untold(code, hart);
+        }
         let mut turn = TurnRow {
             hart,
             ask: Ask {

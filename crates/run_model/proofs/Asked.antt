@@ -56,7 +56,7 @@ all_less c (suc n) f g each = omega (arith, each n (omega arith), all_less c n f
 
 -- ---- with no guard
 
-as_it_is : (c : RawSettings) (i : Program) (t : Trace) (turns k : ℕ) (ask : Ask) → IsTraceFit c t turns → k < c.harts → (hart_in t.harts.items k).live ≡ true → IsTrue (is_orderly c i (hart_in t.harts.items k) ask)
+pub as_it_is : (c : RawSettings) (i : Program) (t : Trace) (turns k : ℕ) (ask : Ask) → IsTraceFit c t turns → k < c.harts → (hart_in t.harts.items k).live ≡ true → IsTrue (is_orderly c i (hart_in t.harts.items k) ask)
     → IsAsked c i t turns k ask
 as_it_is c i t turns k ask fit within live ordered =
     let one = fit.each k within in
@@ -88,7 +88,7 @@ if_false b x y e = ap (λ (t : Bool). if t then x else y) e
 pub eqb_same : (k : ℕ) → (k == k) ≡ true
 eqb_same k = grind arith
 
-other_stays : (c : RawSettings) (old new : Trace) (j k : ℕ) → hart_in new.harts.items j ≡ hart_in old.harts.items j → steps_in new.caches j ≡ steps_in old.caches j → new.shadow ≡ old.shadow → IsHartFit c old j → IsHartFit c new j
+pub other_stays : (c : RawSettings) (old new : Trace) (j k : ℕ) → hart_in new.harts.items j ≡ hart_in old.harts.items j → steps_in new.caches j ≡ steps_in old.caches j → new.shadow ≡ old.shadow → IsHartFit c old j → IsHartFit c new j
 other_stays c old new j k at steps shadow one = record {
   fit = subst (λ (h : Hart). IsRested c h) (sym at) one.fit;
   steps = omega (arith, one.steps, steps, ap (λ (h : Hart). h.state.ic) at, ap (λ (h : Hart). h.number) at);

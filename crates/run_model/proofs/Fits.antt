@@ -72,7 +72,7 @@ pub fit_after : (c : RawSettings) (h : Hart) (asked bytes : ℕ) (s : HartState)
     → IsRested c (hart_after next s (skipped_after (warmth c load es) h.skipped) bytes h)
 fit_after c h asked bytes s next span load es some fit on = fit_by next c h asked s span load _ bytes some fit on (skip_bound load c h asked s.ic next span es fit on)
 
-left_live : (c : RawSettings) (h : Hart) → h.live ≡ true → turns_left c h ≡ c.limit - h.state.ic + 1
+pub left_live : (c : RawSettings) (h : Hart) → h.live ≡ true → turns_left c h ≡ c.limit - h.state.ic + 1
 left_live c h live = ap (λ (b : Bool). elim b [ true ↦ c.limit - h.state.ic + 1 | false ↦ 0 ]) live
 
 -- fewer turns are left
@@ -125,10 +125,10 @@ fit_start c k s e some = record {
 some_more : (c : RawSettings) (h : Hart) (s : HartState) (bytes : ℕ) → 1 ≤ c.interval → s.ic < c.limit → 0 < budget c (anew s bytes h)
 some_more c h s bytes some below = grind (arith, common_steps)
 
-lt_is : (a b : ℕ) → a < b → nat_lt a b ≡ true
+pub lt_is : (a b : ℕ) → a < b → nat_lt a b ≡ true
 lt_is a b e = grind arith
 
-le_is : (a b : ℕ) → a ≤ b → nat_le a b ≡ true
+pub le_is : (a b : ℕ) → a ≤ b → nat_le a b ≡ true
 le_is a b e = grind arith
 
 -- its count is below the limit
@@ -146,7 +146,7 @@ counted_by c i h s (System number args) cut e = (in_budget c h s.ic (both _ _ e)
 counted_by c i h s Cut cut e = cc
 counted_by c i h s (Faulted kind value) cut e = (in_budget c h s.ic (both _ _ e).0, (both _ _ e).1)
 
-both_is : (a b : Bool) → a ≡ true → b ≡ true → (a && b) ≡ true
+pub both_is : (a b : Bool) → a ≡ true → b ≡ true → (a && b) ≡ true
 both_is a b e f = rw (e, f) refl
 
 orderly_anew : (c : RawSettings) (i : Program) (h : Hart) (s : HartState) (want : Want) (bytes : ℕ) → is_cut want ≡ false → 0 < budget c (anew s bytes h) → passes i want ≡ true

@@ -28,3 +28,4 @@ pub mod LogFile
 pub mod AuditsWorked
 pub mod Verdicts
 pub mod Dropping
+pub mod InPlace

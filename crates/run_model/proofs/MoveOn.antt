@@ -50,7 +50,7 @@ budget_interval c h = grind (arith, common_steps)
 pub budget_limit : (c : RawSettings) (h : Hart) → budget c h ≤ c.limit - h.state.ic
 budget_limit c h = grind (arith, common_steps)
 
-some_budget : (c : RawSettings) (h : Hart) → 0 < c.interval - (h.state.ic - h.begun) → 0 < c.limit - h.state.ic → 0 < budget c h
+pub some_budget : (c : RawSettings) (h : Hart) → 0 < c.interval - (h.state.ic - h.begun) → 0 < c.limit - h.state.ic → 0 < budget c h
 some_budget c h a b = grind (arith, common_steps)
 
 one_up : (n : ℕ) → n < 2 ^ 63 → count_up n ≡ n + 1

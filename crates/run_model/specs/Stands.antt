@@ -9,3 +9,4 @@ pub mod EachCache
 pub mod Turning
 pub mod First
 pub mod Tracing
+pub mod InPlace

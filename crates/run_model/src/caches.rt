@@ -184,7 +184,7 @@ impl Caches {
     }
 
     // Takes in an access of the hart's own.
-    fn take_access(&mut self, hart: HartId, span: Span) -> Warm
+    pub(crate) fn take_access(&mut self, hart: HartId, span: Span) -> Warm
         requires hart { hart < length self.old }
         requires steps { steps_in self.old hart < 2 ^ 42 }
         requires addresses { span.first + 4 * span.count ≤ 2 ^ 32 }

@@ -5,12 +5,13 @@ ghost use Rattle.rv_meaning.specs.Orderly.{is_reply_to};
 ghost use Rattle.run_model.specs.Runs.{start_hart};
 ghost use Rattle.run_model.specs.Counts.{anew};
 ghost use Rattle.run_model.specs.Turn.{budget, hart_after, mark, stopped, dead, skipped_after};
+ghost use Rattle.run_model.specs.Stands.InPlace.{ask_here};
 
 use crate::next::Next;
 use bn_base::end_mark::STOPPED;
 use bn_base::{EndMark, HartId, HartState, Ic, Settings};
 use first_load_bits::Warm;
-use rv_meaning::{Ask, Reply, absorb_in_place};
+use rv_meaning::{Ask, Reply, Want, absorb_in_place};
 
 /// How many bytes a Header has.
 pub const HEADER_SIZE: u64 = 146;
@@ -67,6 +68,15 @@ impl Hart {
     {
         self.state = ask.state;
         absorb_in_place(&mut self.state, &ask.want, reply);
+    }
+
+    /// The reply to what it asks in its present state gives its next state.
+    #[inline(always)]
+    pub fn absorb_here(&mut self, want: &Want, reply: Reply)
+        requires { IsTrue (is_reply_to want.now reply) }
+        ensures { self.new ≡ record self.old { state = absorbed (ask_here self.old want.now) reply } }
+    {
+        absorb_in_place(&mut self.state, want, reply);
     }
 
     /// Takes in what comes after its turn, its state being the one after the reply; the log took so

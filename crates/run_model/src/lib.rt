@@ -16,6 +16,7 @@ mod log;
 mod machine;
 mod next;
 mod plain;
+mod quick;
 mod race;
 mod records;
 mod span;

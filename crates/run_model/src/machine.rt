@@ -1,5 +1,5 @@
 //! The machine that all harts share, as it runs.
-ghost use Rattle.std.specs.Prelude.{◌≡◌, ◌≤◌, ◌<◌, ◌+◌, ◌*◌, ◌/◌, ◌^◌, ◌==◌, ℕ, IsTrue, List, length, slice_index, vec_len, IfOk, OnOk, Option, None, Some};
+ghost use Rattle.std.specs.Prelude.{◌≡◌, ◌≤◌, ◌<◌, ◌+◌, ◌*◌, ◌/◌, ◌^◌, ◌==◌, ℕ, IsTrue, true, List, length, slice_index, vec_len, IfOk, OnOk, Option, None, Some};
 ghost use Rattle.bn_base.specs.Programs.{Program};
 ghost use Rattle.bn_base.specs.declared.settings.TheConstants.{HARTS};
 ghost use Rattle.rv_meaning.specs.Orderly.{passes, is_reply_to};
@@ -324,7 +324,14 @@ impl Machine {
         self.reservations.end_others(hart, addr);
     }
 
-    fn store(&mut self, hart: HartId, addr: Addr, width: u8, value: u32) -> Reply
+    /// Whether the page of the word that has the byte at an address is made, so that the word can be written.
+    pub(crate) fn is_made(&self, addr: Addr) -> bool
+        ensures { result ≡ true → IsSpanReady self.now.memory (span (aligned addr) 1 Write) }
+    {
+        self.memory.has_page(addr / 4 * 4)
+    }
+
+    pub(crate) fn store(&mut self, hart: HartId, addr: Addr, width: u8, value: u32) -> Reply
         requires word { IsSpanReady self.old.memory (span (aligned addr) 1 Write) }
         requires width { IsTrue (is_aligned addr width) }
         ensures answer { (input : List ℕ) → IsAnswer input self.old self.new result (λ m. answer_store addr width value hart m) }

@@ -35,6 +35,7 @@ impl Next {
 
     /// What comes after the turn of a hart which leaves its count at `ic`, by its want, the system
     /// call that is planned for it, if one is, and the reply.
+    #[inline(always)]
     pub fn of(
         settings: &Settings,
         call: Option<Plan>,
@@ -52,6 +53,7 @@ impl Next {
     }
 
     // A hart's count at the limit ends it; else an interval that is full ends.
+    #[inline(always)]
     fn counted(settings: &Settings, hart: &Hart, ic: Ic) -> Next
         ensures { result ≡ counted settings.now hart.now ic }
     {
@@ -92,6 +94,7 @@ impl Next {
     }
 
     // A fault ends the run.
+    #[inline(always)]
     fn after_access(settings: &Settings, hart: &Hart, want: &Want, ic: Ic) -> Next
         ensures { result ≡ after_access settings.now hart.now want.now ic }
     {

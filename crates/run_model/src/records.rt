@@ -1,7 +1,7 @@
 // The records of a turn, and the log that takes them.
 ghost use Rattle.std.specs.Prelude.{◌≡◌, ◌≤◌, ◌<◌, ◌+◌, ◌*◌, ◌^◌, ◌∷◌, ◌++◌, [], ℕ, List, length, take, IsTrue, IfOk};
 ghost use Rattle.log_record.specs.declared.record.Record.{Record};
-ghost use Rattle.log_record.specs.declared.record.Record.TheVariants.{End};
+ghost use Rattle.log_record.specs.declared.record.Record.TheVariants.{End, FirstLoad};
 ghost use Rattle.log_record.specs.Spelling.{bytes_of, is_mark, is_marked};
 ghost use Rattle.log_record.specs.Kept.{held};
 ghost use Rattle.run_model.specs.Turn.{edges_from, load_record, sc_record, header, mark, next_records};
@@ -89,6 +89,20 @@ pub fn append_edges(log: &mut Log, hart: HartId, ic: Ic, edges: &Edges)
     }
 }
 
+// Appends a FirstLoad.
+#[inline(never)]
+fn append_first_load(log: &mut Log, hart: HartId, skipped: u32, word: u32)
+    requires room { taken log.old.ring + 1 < 2 ^ 56 }
+    ensures holds { (rs : List Record) → IsLog log.old rs → IsLog log.new (rs ++ FirstLoad hart skipped word ∷ []) }
+    ensures took { Took log.old 1 log.new }
+{
+    log.append(&Record::FirstLoad {
+        hart,
+        skip: skipped,
+        value: word,
+    });
+}
+
 /// Appends a FirstLoad, where the word of a loading access wasn't warm.
 pub fn append_load(log: &mut Log, load: Option<Warm>, hart: HartId, skipped: u32, word: u32)
     requires room { taken log.old.ring + 1 < 2 ^ 56 }
@@ -96,11 +110,7 @@ pub fn append_load(log: &mut Log, load: Option<Warm>, hart: HartId, skipped: u32
     ensures took { Took log.old (length (load_record load hart skipped word)) log.new }
 {
     if let Some(Warm::Cold) = load {
-        log.append(&Record::FirstLoad {
-            hart,
-            skip: skipped,
-            value: word,
-        });
+        append_first_load(log, hart, skipped, word);
     }
 }
 
@@ -118,6 +128,7 @@ pub fn append_conditional(log: &mut Log, reply: Reply, hart: HartId)
 }
 
 /// Appends the End of an interval.
+#[inline(never)]
 pub fn append_end(log: &mut Log, hart: HartId, ic: Ic, reason: u8, value: u32)
     requires marked { IsTrue (is_mark 2 (mark ic reason value)) }
     requires room { taken log.old.ring + 1 < 2 ^ 56 }
@@ -131,6 +142,7 @@ pub fn append_end(log: &mut Log, hart: HartId, ic: Ic, reason: u8, value: u32)
 }
 
 /// Appends the Header of the interval that a hart begins in a state.
+#[inline(never)]
 pub fn append_header(log: &mut Log, hart: HartId, number: u64, state: &HartState)
     requires room { taken log.old.ring + 1 < 2 ^ 56 }
     ensures holds { (rs : List Record) → IsLog log.old rs → IsLog log.new (rs ++ header hart number state.now ∷ []) }

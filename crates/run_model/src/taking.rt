@@ -7,7 +7,7 @@ ghost use Rattle.run_model.specs.Stands.Turning.{parts, is_live};
 
 use crate::plain::Plain;
 use bn_base::HartId;
-use rv_meaning::{Ask, DecodedImage, each_ask_is_orderly, quiet_run};
+use rv_meaning::{Ask, DecodedImage, Want, each_ask_is_orderly, quiet_run};
 use std::alloc::AllocError;
 
 impl Plain {
@@ -33,14 +33,35 @@ impl Plain {
         ensures refused { OnErr result ((run : Run) → IsRun (parts self.old) run → IsRun (parts self.new) run) }
         ensures start { self.new.start ≡ self.old.start }
     {
-        let before = &self.trace.harts[hart as usize];
-        let budget = before.budget(&self.start.settings);
-        let mut state = before.state;
-        let want = code.quiet_run_in_place(&mut state, budget);
+        each_ask_is_orderly();
+        let before = *self.state(hart);
+        let want = self.trace.move_on(&self.start.settings, code, hart);
+        match want {
+            Want::Load {
+                addr,
+                width,
+                signed,
+                rd,
+            } => {
+                if self.ready_load(hart, addr) {
+                    self.apply_load(hart, addr, width, signed, rd);
+                    return Ok(());
+                }
+            }
+            Want::Store { addr, width, value } => {
+                if self.ready_store(hart, addr) {
+                    self.apply_store(hart, addr, width, value);
+                    return Ok(());
+                }
+            }
+            _ => {}
+        }
+        let state = self.trace.put_back(hart, before);
         self.take_asked(hart, &Ask { state, want })
     }
 
     // The turn of a live hart that asks this next.
+    #[inline(never)]
     fn take_asked(&mut self, hart: HartId, ask: &Ask) -> Result<(), AllocError>
         requires live { is_live (parts self.old) hart ≡ true }
         requires asked { ask.now ≡ ask_at self.old.start.settings self.old.start.image (hart_in self.old.trace.harts.items hart) }

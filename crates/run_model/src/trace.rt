@@ -205,7 +205,7 @@ impl Trace {
     }
 
     // Clears the bits of a hart's cache, where it begins an interval.
-    fn begin(&mut self, hart: HartId, next: Next)
+    pub(crate) fn begin(&mut self, hart: HartId, next: Next)
         requires caches { hart < length self.old.caches }
         requires steps { steps_in self.old.caches hart < 2 ^ 42 }
         ensures caches { (c : RawSettings) (call : Option Plan) (span : Option Span) (events : ℕ → List Event) →

@@ -73,7 +73,7 @@ impl Plain {
     }
 
     // How many bytes of records there are from a hart's present Header on.
-    fn since_header(&self, hart: HartId) -> u64
+    pub(crate) fn since_header(&self, hart: HartId) -> u64
         requires { hart < self.now.start.settings.harts }
         ensures run { (run : Run) → IsRun (parts self.now) run → result ≡ bytes_since run hart }
         ensures few { result < 2 ^ 63 }

@@ -1,0 +1,106 @@
+use Rattle.std.proofs.Common.{◌≡◌, ◌<◌, ◌≤◌, ◌-◌, ◌^◌, ℕ, ◌+◌, true, false, List, subst, sym, ◌∙◌, ap, arith, refl, Bool}
+use Rattle.std.specs.Prelude.{IsTrue}
+use Rattle.std.proofs.lemmas.Grind.{common_steps}
+use Rattle.rv_meaning.specs.declared.asks.Ask.{Ask}
+use Rattle.bn_base.specs.declared.settings.RawSettings.{RawSettings}
+use Rattle.bn_outside.specs.declared.turn_row.TurnRow.{TurnRow}
+use Rattle.run_model.specs.declared.start.Start.{Start}
+use Rattle.run_model.specs.declared.hart.Hart.{Hart}
+use Rattle.run_model.specs.Stands.Plain.{IsRun}
+use Rattle.run_model.specs.Stands.Harts.{hart_in}
+use Rattle.run_model.specs.Stands.Turning.{parts}
+use Rattle.run_model.specs.Turn.{Run, turn, ask_at, budget, is_orderly}
+use Rattle.bus_core.specs.Bus.{Seen, seen, IsState, IsHistory, began_of, run_after, turned_run, is_live}
+use Rattle.bus_core.proofs.History.{history_turned, history_same, run_is, state_is}
+use Rattle.bus_core.proofs.Rows.{live_within}
+use Rattle.bus_core.proofs.Serves.{served_turns, on_err}
+use Rattle.bus_core.proofs.bus.Bus.take_untold.Goals as goal
+
+within_limit : (c : RawSettings) (h : Hart) → budget c h ≤ c.limit - h.state.ic
+within_limit c h = grind (arith, common_steps)
+
+pub turn_ahead-requires-clause-live : goal.turn_ahead-requires-clause-live
+turn_ahead-requires-clause-live g c = subst (λ (x : Seen). is_live x c.args.hart ≡ true) (sym c.self.view_is) c.requires.live
+
+pub turn_ahead-requires-clause-code : goal.turn_ahead-requires-clause-code
+turn_ahead-requires-clause-code g c = c.requires.code ∙ ap (λ (x : Seen). x.began.image) (sym c.self.view_is)
+
+pub invariant_of-self : goal.invariant_of-self
+invariant_of-self g c =
+    let b = c.self.inside in
+    let p = parts b.plain in let q = parts c.turn_ahead.new.self in
+    let s = c.self.invariant.some in
+    record {
+      told = λ t. history_same p q b.halted b.disordered (g.B.Book.told b.book) c.turn_ahead.ensures.start c.in_err-turn_ahead.ensures.refused (c.self.invariant.told t);
+      some = (s.0, history_same p q b.halted b.disordered s.0 c.turn_ahead.ensures.start c.in_err-turn_ahead.ensures.refused s.1);
+    }
+
+pub invariant_of-self-2 : goal.invariant_of-self-2
+invariant_of-self-2 g c =
+    let b = c.self.inside in
+    let p = parts b.plain in let q = parts c.turn_ahead.new.self in
+    let k = c.args.hart in
+    let h : Hart = hart_in p.trace.harts.items k in
+    let s = c.self.invariant.some in
+    let live = subst (λ (x : Seen). is_live x k ≡ true) (sym c.self.view_is) c.requires.live in
+    let within : k < p.start.settings.harts = subst (λ n. k < n) b.plain.fits.harts (live_within p.trace.harts.items k live) in
+    let ask : Ask = ask_at p.start.settings p.start.image h in
+    let o : IsTrue (is_orderly p.start.settings p.start.image h ask) = c.each_ask_is_orderly.ensures.orderly p.start.image (budget p.start.settings h) h.state (omega (arith, within_limit p.start.settings h, (b.plain.fits.each k within).fit.fit.limit, b.plain.fits.settings.limit_high)) in
+    record {
+      told = λ t. absurd (apart t c.requires.untold);
+      some = history_turned p q b.halted b.disordered s.0 k ask b.plain.fits.harts live c.turn_ahead.ensures.start o refl c.in_ok-turn_ahead.ensures.run s.1;
+    }
+  where
+    apart : {b : Bool} → b ≡ true → b ≡ false → ⊥
+    apart t f = cc
+
+pub returns-in_err-turn_ahead-clause-refused : goal.returns-in_err-turn_ahead-clause-refused
+returns-in_err-turn_ahead-clause-refused g c =
+    let b = c.self.inside in
+    let p = parts b.plain in let q = parts c.turn_ahead.new.self in let told = g.B.Book.told b.book in
+    on_err c.from_residual.result _ (λ run is.
+    let at : IsState (seen p b.halted b.disordered told) run = subst (λ (x : Seen). IsState x run) (sym c.self.view_is) is in
+    state_is q b.halted b.disordered told run (c.in_err-turn_ahead.ensures.refused run (run_is c.notes_decide.ensures p b.halted b.disordered told run at)))
+
+pub returns-clause-state : goal.returns-clause-state
+returns-clause-state g c = λ run is.
+    let b = c.self.inside in
+    let p = parts b.plain in let q = parts c.turn_ahead.new.self in let told = g.B.Book.told b.book in
+    let k = c.args.hart in
+    let at : IsState (seen p b.halted b.disordered told) run = subst (λ (x : Seen). IsState x run) (sym c.self.view_is) is in
+    let from = run_is c.notes_decide.ensures p b.halted b.disordered told run at in
+    subst (λ (x : Seen). IsState (seen q b.halted b.disordered told) (turned_run x.began run k)) c.self.view_is
+    (state_is q b.halted b.disordered told (turned_run (began_of p.start) run k) (c.in_ok-turn_ahead.ensures.run run from))
+
+pub returns-clause-turns : goal.returns-clause-turns
+returns-clause-turns g c =
+    let b = c.self.inside in
+    let p = parts b.plain in
+    let s = c.self.invariant.some in
+    let run = run_after (began_of p.start) b.halted s.0 in
+    (c.in_ok-turn_ahead.ensures.run run s.1.run).turns ∙ served_turns p.start.settings p.start.image run c.args.hart (ask_at p.start.settings p.start.image (run.harts c.args.hart))
+    ∙ ap (λ (n : ℕ). n + 1) (sym s.1.run.turns ∙ ap (λ (x : Seen). x.turns) c.self.view_is)
+
+pub returns-in_err-turn_ahead-clause-kept : goal.returns-in_err-turn_ahead-clause-kept
+returns-in_err-turn_ahead-clause-kept g c = ap (λ (x : Seen). x.rows) c.self.view_is
+
+pub returns-clause-kept : goal.returns-clause-kept
+returns-clause-kept g c = ap (λ (x : Seen). x.rows) c.self.view_is
+
+pub returns-in_err-turn_ahead-clause-began : goal.returns-in_err-turn_ahead-clause-began
+returns-in_err-turn_ahead-clause-began g c = ap (λ (t : Start). began_of t) c.turn_ahead.ensures.start ∙ ap (λ (x : Seen). x.began) c.self.view_is
+
+pub returns-clause-began : goal.returns-clause-began
+returns-clause-began g c = ap (λ (t : Start). began_of t) c.turn_ahead.ensures.start ∙ ap (λ (x : Seen). x.began) c.self.view_is
+
+pub returns-in_err-turn_ahead-clause-halted : goal.returns-in_err-turn_ahead-clause-halted
+returns-in_err-turn_ahead-clause-halted g c = ap (λ (x : Seen). x.halted) c.self.view_is
+
+pub returns-clause-halted : goal.returns-clause-halted
+returns-clause-halted g c = ap (λ (x : Seen). x.halted) c.self.view_is
+
+pub returns-in_err-turn_ahead-clause-disordered : goal.returns-in_err-turn_ahead-clause-disordered
+returns-in_err-turn_ahead-clause-disordered g c = ap (λ (x : Seen). x.disordered) c.self.view_is
+
+pub returns-clause-disordered : goal.returns-clause-disordered
+returns-clause-disordered g c = ap (λ (x : Seen). x.disordered) c.self.view_is

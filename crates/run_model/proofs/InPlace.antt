@@ -1,0 +1,364 @@
+-- A turn whose quiet instructions are done in the hart's own place.
+use Rattle.std.proofs.Common.{◌≡◌, ◌≢◌, ℕ, zero, suc, ◌+◌, ◌-◌, ◌*◌, ◌<◌, ◌≤◌, ◌==◌, ◌++◌, Bool, true, false, List, [], length, sym, ◌∙◌, ap, subst, arith, refl, inl, inr}
+use Rattle.std.specs.Prelude.{IsTrue, slice_set, slice_get, Option, Some, None, nat_le, nat_lt, ◌&&◌}
+use Rattle.std.proofs.lemmas.List.{get_or-set_same, get_or-set_other, length-set, set-set, set-get_or}
+use Rattle.std.proofs.lemmas.Bool.Decides.{eqb_tells}
+use Rattle.bn_base.specs.Programs.{Program}
+use Rattle.bn_base.specs.declared.settings.RawSettings.{RawSettings}
+use Rattle.bn_base.specs.declared.state.HartState.{HartState}
+use Rattle.first_load_bits.specs.Stands.{Contents}
+use Rattle.rv_meaning.specs.Orderly.{is_cut, passes}
+use Rattle.rv_meaning.specs.Execute.{absorbed}
+use Rattle.rv_meaning.specs.declared.asks.Ask.{Ask}
+use Rattle.rv_meaning.specs.declared.asks.Want.{Want}
+use Rattle.rv_meaning.specs.declared.asks.Reply.{Reply}
+use Rattle.rv_meaning.specs.declared.asks.Want.TheVariants.{Load, Store}
+use Rattle.race_log.specs.declared.shadow.Shadow.{Shadow}
+use Rattle.race_log.specs.Stands.{Stands, lasts, next_turn, next_count, harts_of}
+use Rattle.log_record.specs.declared.record.Record.{Record}
+use Rattle.log_record.specs.Spelling.{total}
+use Rattle.run_model.specs.declared.hart.Hart.{Hart}
+use Rattle.run_model.specs.declared.log.Log.{Log}
+use Rattle.run_model.specs.declared.next.Next.{Next}
+use Rattle.run_model.specs.declared.next.Next.TheVariants.{GoesOn, NewInterval, HartOver, RunOver}
+use Rattle.run_model.specs.declared.trace.Trace.{Trace}
+use Rattle.run_model.specs.Machine.{answer}
+use Rattle.run_model.specs.Turn.{Run, budget, is_orderly, serve_call, span_of, counted, next_of, point_of, edge_records, load_record, sc_record, next_records, run_over_records, warmth, loading, word_before, hart_after, harts_after, other_after, skipped_after, events_after, is_guarded, bytes_since}
+use Rattle.run_model.specs.Counts.{IsFit, IsRested, turns_left}
+use Rattle.run_model.specs.Stands.EachCache.{steps_in, AreCaches}
+use Rattle.run_model.specs.Stands.Harts.{AreHarts, hart_in, no_hart, all_left}
+use Rattle.run_model.specs.Stands.InPlace.{ask_here, in_state, moved_harts, moved_run, IsMoved}
+use Rattle.run_model.specs.Stands.Logs.{taken, IsLog}
+use Rattle.run_model.specs.Stands.Plain.{IsTraceFit, IsHartFit, IsTrace, IsSwept, everyone, IsRun, PlainParts}
+use Rattle.run_model.specs.Stands.Parts.{MachineParts, IsMachine}
+use Rattle.run_model.specs.declared.start.Start.{Start}
+use Rattle.run_model.proofs.Fits.{counted_by, guarded_below, left_live, both_is, le_is, lt_is}
+use Rattle.run_model.proofs.MoveOn.{budget_interval, some_budget}
+use Rattle.run_model.proofs.Asked.{all_less, eqb_same, other_stays, if_false}
+use Rattle.run_model.proofs.Owns.{hart_of_run}
+use Rattle.run_model.proofs.Stopping.{own_set, with_own}
+
+-- ---- the hart that was moved on
+
+within_interval : (c : RawSettings) (h : Hart) (ic : ℕ) → h.begun ≤ h.state.ic → h.state.ic ≤ h.begun + c.interval → ic < h.state.ic + budget c h → ic < h.begun + c.interval
+within_interval c h ic low high below = omega (arith, low, high, below, budget_interval c h)
+
+some_left : (c : RawSettings) (h : Hart) (s : HartState) → h.begun ≤ s.ic → s.ic < h.begun + c.interval → s.ic < c.limit → 0 < budget c (in_state s h)
+some_left c h s begun inside below = some_budget c (in_state s h) (omega (arith, begun, inside)) (omega (arith, below))
+
+pub record IsOn (c : RawSettings) (i : Program) (h : Hart) (s : HartState) (want : Want) : Type 0 where
+  pub from : h.state.ic ≤ s.ic
+  pub rested : IsRested c (in_state s h)
+  pub orderly : IsTrue (is_orderly c i (in_state s h) (ask_here (in_state s h) want))
+  pub left : turns_left c (in_state s h) ≤ turns_left c h
+
+orderly_on : (c : RawSettings) (i : Program) (h : Hart) (s : HartState) (want : Want) → is_cut want ≡ false → 0 < budget c (in_state s h) → passes i want ≡ true
+    → is_orderly c i (in_state s h) (record { state = s; want = want }) ≡ true
+orderly_on c i h s want cut some pass =
+    rw (cut, pass, le_is s.ic s.ic (omega arith), lt_is s.ic (s.ic + budget c (in_state s h)) (omega (arith, some))) refl
+
+pub moved_on : (c : RawSettings) (i : Program) (h : Hart) (s : HartState) (want : Want) → IsRested c h → h.live ≡ true → is_cut want ≡ false → IsTrue (is_orderly c i h (record { state = s; want = want })) → IsOn c i h s want
+moved_on c i h s want rested live cut o =
+    let fit = rested.fit in
+    let by = counted_by c i h s want cut o in
+    let below = guarded_below c h s.ic fit by.0 in
+    let inside = within_interval c h s.ic (omega (arith, fit.skipped)) fit.interval by.0.below in
+    record {
+      from = by.0.from;
+      rested = record {
+        fit = record {
+          number = omega (arith, rested.number live, by.0.from);
+          skipped = omega (arith, fit.skipped, by.0.from);
+          interval = omega (arith, inside);
+          limit = omega (arith, below);
+          unfilled = λ p. inside;
+        };
+        number = λ p. omega (arith, rested.number live, by.0.from);
+      };
+      orderly = orderly_on c i h s want cut (some_left c h s (omega (arith, fit.skipped, by.0.from)) inside below) by.1;
+      left = omega (arith, left_live c h live, left_live c (in_state s h) live, by.0.from);
+    }
+
+pub own_moved : (old new : Trace) (k : ℕ) (s : HartState) → IsMoved k s old new → k < length old.harts.items → hart_in new.harts.items k ≡ in_state s (hart_in old.harts.items k)
+own_moved old new k s m within =
+    ap (λ (xs : List Hart). hart_in xs k) m.harts ∙ get_or-set_same old.harts.items k (in_state s (hart_in old.harts.items k)) no_hart within
+
+pub other_moved : (old new : Trace) (k j : ℕ) (s : HartState) → IsMoved k s old new → j ≢ k → hart_in new.harts.items j ≡ hart_in old.harts.items j
+other_moved old new k j s m differ =
+    ap (λ (xs : List Hart). hart_in xs j) m.harts ∙ get_or-set_other old.harts.items k j (in_state s (hart_in old.harts.items k)) no_hart differ
+
+own_fits : (c : RawSettings) (i : Program) (old new : Trace) (k : ℕ) (s : HartState) (want : Want) → IsMoved k s old new → hart_in new.harts.items k ≡ in_state s (hart_in old.harts.items k) → (hart_in old.harts.items k).live ≡ true
+    → IsHartFit c old k → IsOn c i (hart_in old.harts.items k) s want → IsHartFit c new k
+own_fits c i old new k s want m at live one on =
+    let ic : (hart_in new.harts.items k).state.ic ≡ s.ic = ap (λ (h : Hart). h.state.ic) at in
+    let number : (hart_in new.harts.items k).number ≡ (hart_in old.harts.items k).number = ap (λ (h : Hart). h.number) at in
+    record {
+      fit = subst (λ (h : Hart). IsRested c h) (sym at) on.rested;
+      steps = omega (arith, one.steps, ap (λ (cs : List Contents). steps_in cs k) m.caches, ic, number, on.from);
+      count = omega (arith, one.count, ap (λ (x : Shadow). next_count x k) m.shadow, ic, on.from);
+      lasting = λ e. subst (λ (x : Shadow). lasts x k ≡ true) (sym m.shadow) (one.lasting live);
+    }
+
+pub moved_fit : (c : RawSettings) (i : Program) (old new : Trace) (turns k : ℕ) (s : HartState) (want : Want) → IsTraceFit c old turns → k < c.harts → (hart_in old.harts.items k).live ≡ true
+    → is_cut want ≡ false → IsTrue (is_orderly c i (hart_in old.harts.items k) (record { state = s; want = want })) → IsMoved k s old new → IsTraceFit c new turns
+moved_fit c i old new turns k s want fit within live cut o m =
+    let h : Hart = hart_in old.harts.items k in
+    let f : ℕ → Hart = hart_in old.harts.items in
+    let g : ℕ → Hart = hart_in new.harts.items in
+    let one = fit.each k within in
+    let on = moved_on c i h s want one.fit live cut o in
+    let at : g k ≡ in_state s h = own_moved old new k s m (omega (arith, within, fit.harts)) in
+    let no_more : (j : ℕ) → j < c.harts → turns_left c (g j) ≤ turns_left c (f j) = λ j below. elim (eqb_tells j k) [
+      | inl p ↦ subst (λ (n : ℕ). turns_left c (g n) ≤ turns_left c (f n)) (sym p.1) (subst (λ (x : Hart). turns_left c x ≤ turns_left c h) (sym at) on.left)
+      | inr p ↦ subst (λ (x : Hart). turns_left c x ≤ turns_left c (f j)) (sym (other_moved old new k j s m p.1)) (omega arith)
+    ] in
+    record {
+      settings = fit.settings;
+      few = fit.few;
+      harts = ap (λ (xs : List Hart). length xs) m.harts ∙ length-set old.harts.items k (in_state s h) ∙ fit.harts;
+      caches = ap (λ (cs : List Contents). length cs) m.caches ∙ fit.caches;
+      shadow = ap harts_of m.shadow ∙ fit.shadow;
+      each = λ j below. elim (eqb_tells j k) [
+        | inl p ↦ subst (λ (n : ℕ). IsHartFit c new n) (sym p.1) (own_fits c i old new k s want m at live one on)
+        | inr p ↦ other_stays c old new j k (other_moved old new k j s m p.1) (ap (λ (cs : List Contents). steps_in cs j) m.caches) m.shadow (fit.each j below)
+      ];
+      turn = omega (arith, fit.turn, ap next_turn m.shadow);
+      left = omega (arith, all_less c c.harts f g no_more, fit.left);
+      log = omega (arith, fit.log, ap (λ (l : Log). taken l.ring) m.log);
+      log_size = ap (λ (l : Log). l.ring.size) m.log ∙ fit.log_size;
+    }
+
+pub moved_is : (c : RawSettings) (old new : Trace) (run : Run) (k : ℕ) (s : HartState) → k < length old.harts.items → IsMoved k s old new → IsTrace c old run → IsTrace c new (moved_run run k s)
+moved_is c old new run k s within m is =
+    let there : hart_in old.harts.items k ≡ run.harts k = hart_of_run old.harts.items k run.harts is.harts within in
+    let set = own_set old.harts.items k (in_state s (hart_in old.harts.items k)) run.harts is.harts within in
+    let named = subst (λ (y : Hart). AreHarts (slice_set old.harts.items k (in_state s (hart_in old.harts.items k))) (with_own k (in_state s y) run.harts)) there set in
+    record {
+      harts = subst (λ (xs : List Hart). AreHarts xs (moved_harts run.harts k s)) (sym m.harts) named;
+      caches = subst (λ (cs : List Contents). AreCaches c cs run.events) (sym m.caches) is.caches;
+      shadow = subst (λ (x : Shadow). Stands run.points everyone x) (sym m.shadow) is.shadow;
+      log = subst (λ (l : Log). IsLog l run.stream) (sym m.log) is.log;
+      bytes = ap (λ (l : Log). l.bytes) m.log ∙ is.bytes;
+    }
+
+-- ---- the hart that was put back
+
+-- from one to the other the race log may have found memory, and given up what all live harts know of; all else is the same
+pub record IsLike (old new : Trace) : Type 0 where
+  pub harts : new.harts.items ≡ old.harts.items
+  pub caches : new.caches ≡ old.caches
+  pub shadow : IsSwept old.shadow new.shadow old.harts.items
+  pub log : new.log ≡ old.log
+
+pub like_fit : (c : RawSettings) (old new : Trace) (turns : ℕ) → IsTraceFit c old turns → IsLike old new → IsTraceFit c new turns
+like_fit c old new turns fit like = record {
+  settings = fit.settings;
+  few = fit.few;
+  harts = ap (λ (xs : List Hart). length xs) like.harts ∙ fit.harts;
+  caches = ap (λ (cs : List Contents). length cs) like.caches ∙ fit.caches;
+  shadow = like.shadow.harts ∙ fit.shadow;
+  each = λ k below.
+      let one = fit.each k below in
+      let at : hart_in new.harts.items k ≡ hart_in old.harts.items k = ap (λ (xs : List Hart). hart_in xs k) like.harts in
+      record {
+        fit = subst (λ (h : Hart). IsRested c h) (sym at) one.fit;
+        steps = omega (arith, one.steps, ap (λ (cs : List Contents). steps_in cs k) like.caches, ap (λ (h : Hart). h.state.ic) at, ap (λ (h : Hart). h.number) at);
+        count = omega (arith, one.count, like.shadow.counts k, ap (λ (h : Hart). h.state.ic) at);
+        lasting = λ e. let was : (hart_in old.harts.items k).live ≡ true = sym (ap (λ (h : Hart). h.live) at) ∙ e in like.shadow.lasting k (omega (arith, below, fit.harts)) was (one.lasting was);
+      };
+  turn = omega (arith, fit.turn, like.shadow.turn);
+  left = omega (arith, fit.left, ap (λ (xs : List Hart). all_left c c.harts (hart_in xs)) like.harts);
+  log = omega (arith, fit.log, ap (λ (l : Log). taken l.ring) like.log);
+  log_size = ap (λ (l : Log). l.ring.size) like.log ∙ fit.log_size;
+}
+
+pub like_trace : (c : RawSettings) (old new : Trace) (run : Run) → IsTrace c old run → IsLike old new → IsTrace c new run
+like_trace c old new run is like = record {
+  harts = subst (λ (xs : List Hart). AreHarts xs run.harts) (sym like.harts) is.harts;
+  caches = subst (λ (cs : List Contents). AreCaches c cs run.events) (sym like.caches) is.caches;
+  shadow = like.shadow.stands run.points is.shadow;
+  log = subst (λ (l : Log). IsLog l run.stream) (sym like.log) is.log;
+  bytes = ap (λ (l : Log). l.bytes) like.log ∙ is.bytes;
+}
+
+-- the lists of harts: hart k set, and set back
+set_back : (hs : List Hart) (k : ℕ) (a : Hart) (s : HartState) → k < length hs → s ≡ (hart_in hs k).state → hart_in (slice_set hs k a) k ≡ a → in_state s a ≡ in_state s (hart_in hs k)
+    → slice_set (slice_set hs k a) k (in_state s (hart_in (slice_set hs k a) k)) ≡ hs
+set_back hs k a s within es at ea =
+    ap (λ (y : Hart). slice_set (slice_set hs k a) k (in_state s y)) at
+    ∙ ap (λ (y : Hart). slice_set (slice_set hs k a) k y) (ea ∙ ap (λ (z : HartState). in_state z (hart_in hs k)) es)
+    ∙ set-set hs k a (hart_in hs k)
+    ∙ set-get_or hs k no_hart
+
+-- moved on, what the race log has may have changed, and put back
+pub back : (old on aside new : Trace) (k : ℕ) (s before : HartState) → k < length old.harts.items → before ≡ (hart_in old.harts.items k).state → IsMoved k s old on → IsLike on aside → IsMoved k before aside new → IsLike old new
+back old on aside new k s before within eb m like put =
+    let h : Hart = hart_in old.harts.items k in
+    let items : aside.harts.items ≡ slice_set old.harts.items k (in_state s h) = like.harts ∙ m.harts in
+    let at : hart_in (slice_set old.harts.items k (in_state s h)) k ≡ in_state s h = get_or-set_same old.harts.items k (in_state s h) no_hart within in
+    record {
+      harts = put.harts ∙ ap (λ (xs : List Hart). slice_set xs k (in_state before (hart_in xs k))) items ∙ set_back old.harts.items k (in_state s h) before within eb at refl;
+      caches = put.caches ∙ like.caches ∙ m.caches;
+      shadow = swept_back old on aside new k s within m like put;
+      log = put.log ∙ like.log ∙ m.log;
+    }
+  where
+    live_same : (old on : Trace) (k j : ℕ) (s : HartState) → k < length old.harts.items → IsMoved k s old on → (hart_in old.harts.items j).live ≡ true → (hart_in on.harts.items j).live ≡ true
+    live_same old on k j s within m live = elim (eqb_tells j k) [
+      | inl p ↦ subst (λ (n : ℕ). (hart_in on.harts.items n).live ≡ true) (sym p.1) (ap (λ (h : Hart). h.live) (own_moved old on k s m within) ∙ subst (λ (n : ℕ). (hart_in old.harts.items n).live ≡ true) p.1 live)
+      | inr p ↦ ap (λ (h : Hart). h.live) (other_moved old on k j s m p.1) ∙ live
+    ]
+    swept_back : (old on aside new : Trace) (k : ℕ) (s : HartState) {before : HartState} → k < length old.harts.items → IsMoved k s old on → IsLike on aside → IsMoved k before aside new → IsSwept old.shadow new.shadow old.harts.items
+    swept_back old on aside new k s within m like put =
+        let there : IsSwept old.shadow aside.shadow on.harts.items = subst (λ (x : Shadow). IsSwept x aside.shadow on.harts.items) m.shadow like.shadow in
+        let all : IsSwept old.shadow new.shadow on.harts.items = subst (λ (x : Shadow). IsSwept old.shadow x on.harts.items) (sym put.shadow) there in
+        record {
+          stands = all.stands;
+          harts = all.harts;
+          turn = all.turn;
+          counts = all.counts;
+          lasting = λ j below live was. all.lasting j (omega (arith, below, ap (λ (xs : List Hart). length xs) m.harts, length-set old.harts.items k (in_state s (hart_in old.harts.items k)))) (live_same old on k j s within m live) was;
+        }
+
+-- from one to the other, of a machine and what a hart wants, at most the race log has changed
+pub record IsAside (on : Trace) (start : Start) (machine : MachineParts) (turns : ℕ) (want : Want) (start' : Start) (machine' : MachineParts) (trace' : Trace) (turns' : ℕ) (want' : Want) : Type 0 where
+  pub start_is : start' ≡ start
+  pub machine_is : machine' ≡ machine
+  pub turns_is : turns' ≡ turns
+  pub want_is : want' ≡ want
+  pub like : IsLike on trace'
+
+-- a race log is swept from itself
+pub like_itself : (t : Trace) → IsLike t t
+like_itself t = record { harts = refl; caches = refl; shadow = record { stands = λ points e. e; harts = refl; turn = refl; counts = λ k. refl; lasting = λ k below live e. e }; log = refl }
+
+-- ---- the turn of the run in which the hart was moved on is that of the run
+
+-- what comes next after an access ends no run
+none_over : (c : RawSettings) (h : Hart) (ic k n : ℕ) (f : ℕ → Hart) → run_over_records (counted c h ic) k n f ≡ []
+none_over c h ic k n f = by (nat_le c.limit ic) (nat_le c.interval (ic - h.begun))
+  where
+    by : (a b : Bool) → run_over_records (elim a as (λ x. Next) [ true ↦ HartOver 7 0 | false ↦ elim b as (λ x. Next) [ true ↦ NewInterval 1 0 | false ↦ GoesOn ] ]) k n f ≡ []
+    by true b = refl
+    by false true = refl
+    by false false = refl
+
+none_stop : (c : RawSettings) (h : Hart) (ic : ℕ) (x : Hart) → other_after (counted c h ic) x ≡ x
+none_stop c h ic x = by (nat_le c.limit ic) (nat_le c.interval (ic - h.begun))
+  where
+    by : (a b : Bool) → other_after (elim a as (λ y. Next) [ true ↦ HartOver 7 0 | false ↦ elim b as (λ y. Next) [ true ↦ NewInterval 1 0 | false ↦ GoesOn ] ]) x ≡ x
+    by true b = refl
+    by false true = refl
+    by false false = refl
+
+own_same : (next : Next) (s to : HartState) (skipped bytes : ℕ) (h : Hart) → hart_after next to skipped bytes (in_state s h) ≡ hart_after next to skipped bytes h
+own_same GoesOn s to skipped bytes h = refl
+own_same (NewInterval reason value) s to skipped bytes h = refl
+own_same (HartOver reason value) s to skipped bytes h = refl
+own_same (RunOver reason value) s to skipped bytes h = refl
+
+pub moved_own : (f : ℕ → Hart) (k : ℕ) (s : HartState) → moved_harts f k s k ≡ in_state s (f k)
+moved_own f k s = ap (λ (b : Bool). elim b as (λ x. Hart) [ true ↦ in_state s (f k) | false ↦ f k ]) (eqb_same k)
+
+-- the harts after, of harts that are the same but for hart k
+same_after : (b : Bool) (next : Next) (own a x : Hart) → ((y : Hart) → other_after next y ≡ y)
+    → elim b as (λ z. Hart) [ true ↦ own | false ↦ other_after next (elim b as (λ z. Hart) [ true ↦ a | false ↦ x ]) ] ≡ elim b as (λ z. Hart) [ true ↦ own | false ↦ other_after next x ]
+same_after true next own a x stays = refl
+same_after false next own a x stays = refl
+
+pub served_moved : (c : RawSettings) (t : Trace) (run : Run) (k : ℕ) (s : HartState) (a w : ℕ) (g : Bool) (rd : ℕ)
+    → IsTrace c t (serve_call c (moved_run run k s) k (record { state = s; want = Load a w g rd }) false None).run → IsTrace c t (serve_call c run k (record { state = s; want = Load a w g rd }) false None).run
+served_moved c t run k s a w g rd is =
+    let h : Hart = run.harts k in
+    let ask : Ask = record { state = s; want = Load a w g rd } in
+    let reply : Reply = (answer c None run.machine k ask).reply in
+    let to : HartState = absorbed ask reply in
+    let load = warmth c (loading ask.want) (run.events k) in
+    let point = point_of k s.ic run.turns (span_of None ask.want reply) in
+    let next : Hart → Next = λ (y : Hart). counted c y to.ic in
+    let recs : Hart → List Record → List Record = λ (y : Hart) (o : List Record). edge_records point run.points ++ (load_record load k y.skipped (word_before run.machine.memory (loading ask.want)) ++ (sc_record reply k ++ (next_records (next y) k y.number to ++ o))) in
+    let f : ℕ → Hart = moved_harts run.harts k s in
+    let e : f k ≡ in_state s h = moved_own run.harts k s in
+    let same : recs (f k) (run_over_records (next (f k)) k c.harts f) ≡ recs h (run_over_records (next h) k c.harts run.harts) =
+        ap (λ (y : Hart). recs y (run_over_records (next y) k c.harts f)) e ∙ ap (λ (o : List Record). recs h o) (none_over c h to.ic k c.harts f ∙ sym (none_over c h to.ic k c.harts run.harts)) in
+    let bytes = run.bytes + total (recs h (run_over_records (next h) k c.harts run.harts)) in
+    let own : hart_after (next (f k)) to (skipped_after load (f k).skipped) (run.bytes + total (recs (f k) (run_over_records (next (f k)) k c.harts f))) (f k) ≡ hart_after (next h) to (skipped_after load h.skipped) bytes h =
+        ap (λ (n : List Record). hart_after (next (f k)) to (skipped_after load (f k).skipped) (run.bytes + total n) (f k)) same
+        ∙ ap (λ (y : Hart). hart_after (next y) to (skipped_after load y.skipped) bytes y) e
+        ∙ own_same (next h) s to (skipped_after load h.skipped) bytes h in
+    let all : AreHarts t.harts.items (harts_after (next h) k (hart_after (next h) to (skipped_after load h.skipped) bytes h) f) =
+        subst (λ (y : Hart). AreHarts t.harts.items (harts_after (next h) k y f)) own
+        (subst (λ (y : Hart). AreHarts t.harts.items (harts_after (next y) k (hart_after (next (f k)) to (skipped_after load (f k).skipped) (run.bytes + total (recs (f k) (run_over_records (next (f k)) k c.harts f))) (f k)) f)) e is.harts) in
+    record {
+      harts = λ j below. all j below ∙ ap Some (same_after (j == k) (next h) _ (in_state s h) (run.harts j) (none_stop c h to.ic));
+      caches = subst (λ (y : Hart). AreCaches c t.caches (events_after (next y) k None (span_of None ask.want reply) run.events)) e is.caches;
+      shadow = is.shadow;
+      log = subst (λ (rs : List Record). IsLog t.log (run.stream ++ rs)) same is.log;
+      bytes = is.bytes ∙ ap (λ (rs : List Record). run.bytes + total rs) same;
+    }
+
+pub served_run : (q : PlainParts) (c : RawSettings) (run : Run) (k : ℕ) (s : HartState) (a w : ℕ) (g : Bool) (rd : ℕ) → q.start.settings ≡ c
+    → IsRun q (serve_call c (moved_run run k s) k (record { state = s; want = Load a w g rd }) false None).run → IsRun q (serve_call c run k (record { state = s; want = Load a w g rd }) false None).run
+served_run q c run k s a w g rd e is = record {
+  machine = is.machine;
+  trace = subst (λ (x : RawSettings). IsTrace x q.trace (serve_call c run k (record { state = s; want = Load a w g rd }) false None).run) (sym e)
+      (served_moved c q.trace run k s a w g rd (subst (λ (x : RawSettings). IsTrace x q.trace (serve_call c (moved_run run k s) k (record { state = s; want = Load a w g rd }) false None).run) e is.trace));
+  turns = is.turns;
+}
+
+pub stands_on : (old new : PlainParts) (run : Run) → new.start ≡ old.start → new.machine ≡ old.machine → new.turns ≡ old.turns → IsMachine old.start.input.items old.machine run.machine → IsTrace old.start.settings new.trace run → old.turns ≡ run.turns → IsRun new run
+stands_on old new run es em et machine trace turns = record {
+  machine = subst (λ (x : Start). IsMachine x.input.items new.machine run.machine) (sym es) (subst (λ (x : MachineParts). IsMachine old.start.input.items x run.machine) (sym em) machine);
+  trace = subst (λ (x : Start). IsTrace x.settings new.trace run) (sym es) trace;
+  turns = et ∙ turns;
+}
+
+pub unguarded_moved : (c : RawSettings) (run : Run) (k : ℕ) (s : HartState) (a w : ℕ) (g : Bool) (rd : ℕ) → ((c.format == 2) && nat_lt c.log_size (2 * bytes_since (moved_run run k s) k)) ≡ false → is_guarded c run k (Load a w g rd) ≡ false
+unguarded_moved c run k s a w g rd e =
+    subst (λ (y : Hart). ((c.format == 2) && nat_lt c.log_size (2 * (146 + (run.bytes - y.headed)))) ≡ false) (moved_own run.harts k s) e
+
+-- ---- the same of a store
+
+pub stored_moved : (c : RawSettings) (t : Trace) (run : Run) (k : ℕ) (s : HartState) (a w v : ℕ)
+    → IsTrace c t (serve_call c (moved_run run k s) k (record { state = s; want = Store a w v }) false None).run → IsTrace c t (serve_call c run k (record { state = s; want = Store a w v }) false None).run
+stored_moved c t run k s a w v is =
+    let h : Hart = run.harts k in
+    let ask : Ask = record { state = s; want = Store a w v } in
+    let reply : Reply = (answer c None run.machine k ask).reply in
+    let to : HartState = absorbed ask reply in
+    let load = warmth c (loading ask.want) (run.events k) in
+    let point = point_of k s.ic run.turns (span_of None ask.want reply) in
+    let next : Hart → Next = λ (y : Hart). counted c y to.ic in
+    let recs : Hart → List Record → List Record = λ (y : Hart) (o : List Record). edge_records point run.points ++ (load_record load k y.skipped (word_before run.machine.memory (loading ask.want)) ++ (sc_record reply k ++ (next_records (next y) k y.number to ++ o))) in
+    let f : ℕ → Hart = moved_harts run.harts k s in
+    let e : f k ≡ in_state s h = moved_own run.harts k s in
+    let same : recs (f k) (run_over_records (next (f k)) k c.harts f) ≡ recs h (run_over_records (next h) k c.harts run.harts) =
+        ap (λ (y : Hart). recs y (run_over_records (next y) k c.harts f)) e ∙ ap (λ (o : List Record). recs h o) (none_over c h to.ic k c.harts f ∙ sym (none_over c h to.ic k c.harts run.harts)) in
+    let bytes = run.bytes + total (recs h (run_over_records (next h) k c.harts run.harts)) in
+    let own : hart_after (next (f k)) to (skipped_after load (f k).skipped) (run.bytes + total (recs (f k) (run_over_records (next (f k)) k c.harts f))) (f k) ≡ hart_after (next h) to (skipped_after load h.skipped) bytes h =
+        ap (λ (n : List Record). hart_after (next (f k)) to (skipped_after load (f k).skipped) (run.bytes + total n) (f k)) same
+        ∙ ap (λ (y : Hart). hart_after (next y) to (skipped_after load y.skipped) bytes y) e
+        ∙ own_same (next h) s to (skipped_after load h.skipped) bytes h in
+    let all : AreHarts t.harts.items (harts_after (next h) k (hart_after (next h) to (skipped_after load h.skipped) bytes h) f) =
+        subst (λ (y : Hart). AreHarts t.harts.items (harts_after (next h) k y f)) own
+        (subst (λ (y : Hart). AreHarts t.harts.items (harts_after (next y) k (hart_after (next (f k)) to (skipped_after load (f k).skipped) (run.bytes + total (recs (f k) (run_over_records (next (f k)) k c.harts f))) (f k)) f)) e is.harts) in
+    record {
+      harts = λ j below. all j below ∙ ap Some (same_after (j == k) (next h) _ (in_state s h) (run.harts j) (none_stop c h to.ic));
+      caches = subst (λ (y : Hart). AreCaches c t.caches (events_after (next y) k None (span_of None ask.want reply) run.events)) e is.caches;
+      shadow = is.shadow;
+      log = subst (λ (rs : List Record). IsLog t.log (run.stream ++ rs)) same is.log;
+      bytes = is.bytes ∙ ap (λ (rs : List Record). run.bytes + total rs) same;
+    }
+
+pub stored_run : (q : PlainParts) (c : RawSettings) (run : Run) (k : ℕ) (s : HartState) (a w v : ℕ) → q.start.settings ≡ c
+    → IsRun q (serve_call c (moved_run run k s) k (record { state = s; want = Store a w v }) false None).run → IsRun q (serve_call c run k (record { state = s; want = Store a w v }) false None).run
+stored_run q c run k s a w v e is = record {
+  machine = is.machine;
+  trace = subst (λ (x : RawSettings). IsTrace x q.trace (serve_call c run k (record { state = s; want = Store a w v }) false None).run) (sym e)
+      (stored_moved c q.trace run k s a w v (subst (λ (x : RawSettings). IsTrace x q.trace (serve_call c (moved_run run k s) k (record { state = s; want = Store a w v }) false None).run) e is.trace));
+  turns = is.turns;
+}
+
+pub unguarded_stored : (c : RawSettings) (run : Run) (k : ℕ) (s : HartState) (a w v : ℕ) → ((c.format == 2) && nat_lt c.log_size (2 * bytes_since (moved_run run k s) k)) ≡ false → is_guarded c run k (Store a w v) ≡ false
+unguarded_stored c run k s a w v e =
+    subst (λ (y : Hart). ((c.format == 2) && nat_lt c.log_size (2 * (146 + (run.bytes - y.headed)))) ≡ false) (moved_own run.harts k s) e

@@ -1,0 +1,69 @@
+use Rattle.std.proofs.Common.{◌≡◌, ◌∙◌, ◌++◌, List, length, refl, sym, subst, ap, length-set}
+use Rattle.std.specs.Prelude.{Vec, None}
+use Rattle.std.specs.Global.{Global}
+use Rattle.rv_meaning.specs.Execute.{absorbed}
+use Rattle.log_record.specs.declared.record.Record.{Record}
+use Rattle.run_model.specs.declared.hart.Hart.{Hart}
+use Rattle.run_model.specs.declared.log.Log.{Log}
+use Rattle.run_model.specs.declared.next.Next.{Next}
+use Rattle.run_model.specs.Stands.EachCache.{AreCaches}
+use Rattle.run_model.specs.Stands.Harts.{AreHarts, hart_in}
+use Rattle.run_model.specs.Stands.InPlace.{ask_here}
+use Rattle.run_model.specs.Stands.Logs.{IsLog}
+use Rattle.run_model.specs.Turn.{events_after, harts_after, hart_after, skipped_after, next_of, next_records}
+use Rattle.run_model.proofs.Owns.{hart_at, own_after}
+use Rattle.run_model.proofs.Stopping.{with_own, own_set, others_then, ends_are}
+use Rattle.run_model.proofs.trace.Trace.finish_here.Goals as goal
+
+pub returns-clause-harts : goal.returns-clause-harts
+returns-clause-harts c f are =
+    let hs = c.args.self.now.harts.items in
+    let k = c.args.hart in
+    let x = c.index_mut-own.result.now in
+    let h = hart_in hs k in
+    let want = c.args.want.now in
+    let s = absorbed (ask_here h want) c.args.reply in
+    let t = c.take_turn_here-next in
+    let there : x ≡ h = hart_at hs k x c.requires.hart c.index_mut-own.ensures.value in
+    let m = next_of c.args.settings.now None h want c.args.reply s.ic in
+    let next : t.result ≡ m = subst (λ (y : Hart). t.result ≡ next_of c.args.settings.now None y want c.args.reply (absorbed (ask_here y want) c.args.reply).ic) there t.ensures.next in
+    let new = c.end_others.new.log.bytes in
+    let here : t.new.own ≡ hart_after t.result s (skipped_after c.args.load h.skipped) t.new.log.bytes h = subst (λ (y : Hart). t.new.own ≡ hart_after t.result (absorbed (ask_here y want) c.args.reply) (skipped_after c.args.load y.skipped) t.new.log.bytes y) there t.ensures.own in
+    let taken_in = subst (λ (l : Log). t.new.own ≡ hart_after t.result s (skipped_after c.args.load h.skipped) l.bytes h) (sym c.begin.ensures.log) here in
+    let own = own_after c.args.load h h t.new.own s t.result m c.begin.new.self.log.bytes new refl next taken_in (c.end_others.ensures.headed s (skipped_after c.args.load h.skipped) h) in
+    let set = subst (λ (v : Vec Hart Global). AreHarts v.items (with_own k t.new.own f)) (sym c.begin.ensures.harts) (own_set hs k t.new.own f are c.requires.hart) in
+    let then_others = others_then t.result c.end_others.new.harts.items k t.new.own f (c.end_others.ensures.harts (with_own k t.new.own f) set) in
+    subst (λ (y : Hart). AreHarts c.end_others.new.harts.items (harts_after m k y f)) own
+    (subst (λ (n : Next). AreHarts c.end_others.new.harts.items (harts_after n k t.new.own f)) next then_others)
+
+pub returns-clause-holds : goal.returns-clause-holds
+returns-clause-holds c f rs are held =
+    let hs = c.args.self.now.harts.items in
+    let k = c.args.hart in
+    let x = c.index_mut-own.result.now in
+    let h = hart_in hs k in
+    let want = c.args.want.now in
+    let s = absorbed (ask_here h want) c.args.reply in
+    let t = c.take_turn_here-next in
+    let there : x ≡ h = hart_at hs k x c.requires.hart c.index_mut-own.ensures.value in
+    let m = next_of c.args.settings.now None h want c.args.reply s.ic in
+    let next : t.result ≡ m = subst (λ (y : Hart). t.result ≡ next_of c.args.settings.now None y want c.args.reply (absorbed (ask_here y want) c.args.reply).ic) there t.ensures.next in
+    let set = subst (λ (v : Vec Hart Global). AreHarts v.items (with_own k t.new.own f)) (sym c.begin.ensures.harts) (own_set hs k t.new.own f are c.requires.hart) in
+    let count = ap (λ (v : Vec Hart Global). length v.items) c.begin.ensures.harts ∙ length-set hs k t.new.own in
+    let here : IsLog t.new.log (rs ++ next_records t.result k h.number s) = subst (λ (y : Hart). IsLog t.new.log (rs ++ next_records t.result k y.number (absorbed (ask_here y want) c.args.reply))) there (t.ensures.holds rs held) in
+    let taken_in = subst (λ (l : Log). IsLog l (rs ++ next_records t.result k h.number s)) (sym c.begin.ensures.log) here in
+    subst (λ (ys : List Record). IsLog c.end_others.new.log ys) (ends_are t.result m k h h t.new.own s hs c.begin.new.self.harts.items f rs next refl count)
+    (c.end_others.ensures.holds (with_own k t.new.own f) (rs ++ next_records t.result k h.number s) set taken_in)
+
+pub returns-clause-caches : goal.returns-clause-caches
+returns-clause-caches c s span events are =
+    let hs = c.args.self.now.harts.items in
+    let x = c.index_mut-own.result.now in
+    let h = hart_in hs c.args.hart in
+    let want = c.args.want.now in
+    let t = c.take_turn_here-next in
+    let there : x ≡ h = hart_at hs c.args.hart x c.requires.hart c.index_mut-own.ensures.value in
+    let m = next_of c.args.settings.now None h want c.args.reply (absorbed (ask_here h want) c.args.reply).ic in
+    let next : t.result ≡ m = subst (λ (y : Hart). t.result ≡ next_of c.args.settings.now None y want c.args.reply (absorbed (ask_here y want) c.args.reply).ic) there t.ensures.next in
+    subst (λ (n : Next). AreCaches s c.begin.new.self.caches (events_after n c.args.hart None span events)) next
+    (c.begin.ensures.caches s None span events are)

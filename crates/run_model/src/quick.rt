@@ -1,0 +1,374 @@
+// The turn of a hart that loads, its quiet instructions being done in its own place.
+ghost use Rattle.std.specs.Prelude.{is_some, ◌&&◌, nat_lt, ◌≡◌, ◌≤◌, ◌<◌, ◌+◌, ◌-◌, ◌^◌, ◌++◌, ◌==◌, ◌≢◌, ℕ, List, length, IsTrue, true, false, Option, Some, None, ◌*◌, if◌then◌else◌};
+ghost use Rattle.bn_base.specs.declared.settings.RawSettings.{RawSettings};
+ghost use Rattle.bn_base.specs.declared.settings.TheConstants.{HARTS};
+ghost use Rattle.rv_meaning.specs.Execute.{absorbed};
+ghost use Rattle.rv_meaning.specs.Orderly.{is_reply_to};
+ghost use Rattle.first_load_bits.specs.Events.{Event};
+ghost use Rattle.log_record.specs.declared.record.Record.{Record};
+ghost use Rattle.race_log.specs.Points.{Point};
+ghost use Rattle.race_log.specs.Stands.{Stands, harts_of, lasting_of, lasts, next_turn, next_count};
+ghost use Rattle.run_model.specs.declared.hart.Hart.{Hart};
+ghost use Rattle.run_model.specs.declared.next.Next.TheVariants.{GoesOn};
+ghost use Rattle.run_model.specs.declared.span.Span.{Span};
+ghost use Rattle.rv_meaning.specs.Words.{aligned};
+ghost use Rattle.rv_meaning.specs.declared.asks.Want.TheVariants.{Load, Store};
+ghost use Rattle.rv_meaning.specs.Orderly.{is_aligned};
+ghost use Rattle.race_log.specs.declared.mode.Mode.TheVariants.{Read, Write};
+ghost use Rattle.run_model.specs.Stands.Plain.{IsRun, IsSwept};
+ghost use Rattle.run_model.specs.Stands.Turning.{parts};
+ghost use Rattle.bn_base.specs.Programs.{may_load};
+ghost use Rattle.rv_meaning.specs.declared.asks.Want.{Want};
+ghost use Rattle.run_model.specs.Turn.{Run, span, ask_at, is_orderly, is_guarded, bytes_since, serve_call};
+ghost use Rattle.run_model.specs.Turn.{next_of, next_records, hart_after, warmth, point_of, points_after, edge_records, load_record, events_after, skipped_after};
+ghost use Rattle.run_model.specs.Stands.Harts.{AreHarts, hart_in};
+ghost use Rattle.run_model.specs.Stands.Logs.{taken, IsLog, is_marked_next};
+ghost use Rattle.run_model.specs.Stands.Tracing.{CachesGoOn, next_by, harts_by, with_ends};
+ghost use Rattle.run_model.specs.Stands.EachCache.{AreCaches, steps_in};
+ghost use Rattle.run_model.specs.Stands.InPlace.{ask_here, IsMoved};
+ghost use Rattle.run_model.specs.Stands.Parts.{IsSpanReady};
+ghost use Rattle.run_model.specs.Stands.Plain.{everyone, IsRaceReady, count_after, clears};
+
+use crate::hart::{Hart, skipped_after};
+use crate::harts::end_others;
+use crate::log::Log;
+use crate::next::Next;
+use crate::race::record_access;
+use crate::laws::each_turn_moves_on;
+use crate::plain::Plain;
+use crate::records::{append_load, append_next};
+use crate::span::Span;
+use crate::trace::Trace;
+use bn_base::{Addr, HartId, HartState, Ic, Register, Settings};
+use first_load_bits::Warm;
+use race_log::Mode;
+use rv_meaning::{DecodedImage, Reply, Want};
+
+// As `take_turn`, where the hart's own state is the one that it asks in, and no call is planned.
+#[inline(always)]
+fn take_turn_here(
+    settings: &Settings,
+    own: &mut Hart,
+    log: &mut Log,
+    hart: HartId,
+    want: &Want,
+    reply: Reply,
+    load: Option<Warm>,
+) -> Next
+    requires fits { IsTrue (is_reply_to want.now reply) }
+    requires number { own.old.number < 2 ^ 62 }
+    requires skipped { own.old.skipped < 2 ^ 32 - 1 }
+    requires marked { IsTrue (is_marked_next (next_of settings.now None own.old want.now reply (absorbed (ask_here own.old want.now) reply).ic)) }
+    requires room { taken log.old.ring + 2 < 2 ^ 56 }
+    ensures next { result ≡ next_of settings.now None own.old want.now reply (absorbed (ask_here own.old want.now) reply).ic }
+    ensures own { own.new ≡ hart_after result (absorbed (ask_here own.old want.now) reply) (skipped_after load own.old.skipped) log.new.bytes own.old }
+    ensures holds { (rs : List Record) → IsLog log.old rs → IsLog log.new (rs ++ next_records result hart own.old.number (absorbed (ask_here own.old want.now) reply)) }
+    ensures took { taken log.new.ring ≤ taken log.old.ring + 2 }
+    ensures size { log.new.ring.size ≡ log.old.ring.size }
+{
+    let skipped = skipped_after(load, own.skipped);
+    own.absorb_here(want, reply);
+    let next = Next::of(settings, None, own, want, reply, own.state.ic);
+    append_next(log, next, hart, own.number, &own.state);
+    own.take(next, skipped, log.bytes);
+    next
+}
+
+impl Trace {
+    // A hart does its quiet instructions, in its own place, up to what it asks.
+    #[inline(always)]
+    pub(crate) fn move_on(&mut self, settings: &Settings, code: &DecodedImage, hart: HartId) -> Want
+        requires { hart < length self.old.harts.items }
+        ensures want { result ≡ (ask_at settings.now code.now (hart_in self.old.harts.items hart)).want }
+        ensures moved { IsMoved hart (ask_at settings.now code.now (hart_in self.old.harts.items hart)).state self.old self.new }
+    {
+        let own = &mut self.harts[hart as usize];
+        let budget = own.budget(settings);
+        code.quiet_run_in_place(&mut own.state, budget)
+    }
+
+    // Puts a hart back in an earlier state. The answer is the one that it was in.
+    pub(crate) fn put_back(&mut self, hart: HartId, before: HartState) -> HartState
+        requires { hart < length self.old.harts.items }
+        ensures state { result ≡ (hart_in self.old.harts.items hart).state }
+        ensures moved { IsMoved hart before self.old self.new }
+    {
+        let own = &mut self.harts[hart as usize];
+        let state = own.state;
+        own.state = before;
+        state
+    }
+
+    // As `finish`, where the hart's own state is the one that it asks in, and no call is planned.
+    #[inline(always)]
+    pub(crate) fn finish_here(
+        &mut self,
+        settings: &Settings,
+        hart: HartId,
+        want: &Want,
+        reply: Reply,
+        load: Option<Warm>,
+    ) -> Next
+        requires hart { hart < length self.old.harts.items }
+        requires few { length self.old.harts.items ≤ HARTS }
+        requires caches { hart < length self.old.caches }
+        requires steps { steps_in self.old.caches hart < 2 ^ 42 }
+        requires fits { IsTrue (is_reply_to want.now reply) }
+        requires number { (hart_in self.old.harts.items hart).number < 2 ^ 62 }
+        requires skipped { (hart_in self.old.harts.items hart).skipped < 2 ^ 32 - 1 }
+        requires marked { IsTrue (is_marked_next (next_by settings.now None self.old.harts.items hart (ask_here (hart_in self.old.harts.items hart) want.now) reply)) }
+        requires room { taken self.old.log.ring + 18 < 2 ^ 56 }
+        ensures harts { (f : ℕ → Hart) → AreHarts self.old.harts.items f →
+            AreHarts self.new.harts.items (harts_by settings.now None self.old.harts.items hart (ask_here (hart_in self.old.harts.items hart) want.now) reply load self.new.log.bytes f) }
+        ensures holds { (f : ℕ → Hart) (rs : List Record) → AreHarts self.old.harts.items f → IsLog self.old.log rs →
+            IsLog self.new.log (with_ends settings.now None self.old.harts.items hart (ask_here (hart_in self.old.harts.items hart) want.now) reply f rs) }
+        ensures caches { (c : RawSettings) (span : Option Span) (events : ℕ → List Event) →
+            CachesGoOn c (next_by settings.now None self.old.harts.items hart (ask_here (hart_in self.old.harts.items hart) want.now) reply) hart None span events self.old.caches self.new.caches }
+        ensures len { length self.new.harts.items ≡ length self.old.harts.items }
+        ensures count { length self.new.caches ≡ length self.old.caches }
+        ensures steps { (k : ℕ) → steps_in self.new.caches k ≡
+            (if k == hart then steps_in self.old.caches k + clears (next_by settings.now None self.old.harts.items hart (ask_here (hart_in self.old.harts.items hart) want.now) reply) else steps_in self.old.caches k) }
+        ensures shadow { self.new.shadow ≡ self.old.shadow }
+        ensures took { taken self.new.log.ring ≤ taken self.old.log.ring + 18 }
+        ensures size { self.new.log.ring.size ≡ self.old.log.ring.size }
+    {
+        let own = &mut self.harts[hart as usize];
+        let next = take_turn_here(settings, own, &mut self.log, hart, want, reply, load);
+        self.begin(hart, next);
+        end_others(&mut self.harts, &mut self.log, hart, next);
+        next
+    }
+
+    // Takes in the word that a hart's instruction of this count loads: its Edges and its FirstLoad are
+    // appended, and the cache touched. The answer is how the word was just before.
+    #[inline(always)]
+    pub(crate) fn access_load(&mut self, turn: u64, hart: HartId, ic: Ic, span: Span, word: u32) -> Warm
+        requires hart { hart < length self.old.harts.items }
+        requires caches { hart < length self.old.caches }
+        requires shadow { hart < harts_of self.old.shadow }
+        requires few { harts_of self.old.shadow ≤ HARTS }
+        requires ic { ic < 2 ^ 41 }
+        requires steps { steps_in self.old.caches hart < 2 ^ 42 }
+        requires ready { IsRaceReady self.old.shadow (Some span) }
+        requires turns { next_turn self.old.shadow ≤ turn }
+        requires counts { next_count self.old.shadow hart ≤ ic }
+        requires lasting { IsTrue (lasts self.old.shadow hart) }
+        requires room { taken self.old.log.ring + 17 < 2 ^ 56 }
+        ensures load { (c : RawSettings) (events : ℕ → List Event) → AreCaches c self.old.caches events → Some result ≡ warmth c (Some span.first) (events hart) }
+        ensures caches { (c : RawSettings) (events : ℕ → List Event) → AreCaches c self.old.caches events → AreCaches c self.new.caches (events_after GoesOn hart None (Some span) events) }
+        ensures shadow { (points : List Point) → Stands points everyone self.old.shadow → Stands (points_after (point_of hart ic turn (Some span)) points) everyone self.new.shadow }
+        ensures holds { (points : List Point) (rs : List Record) → Stands points everyone self.old.shadow → IsLog self.old.log rs →
+            IsLog self.new.log (rs ++ edge_records (point_of hart ic turn (Some span)) points ++ load_record (Some result) hart (hart_in self.old.harts.items hart).skipped word) }
+        ensures harts { self.new.harts ≡ self.old.harts }
+        ensures count { length self.new.caches ≡ length self.old.caches }
+        ensures steps { (k : ℕ) → steps_in self.new.caches k ≡ (if k == hart then steps_in self.old.caches k + 1 else steps_in self.old.caches k) }
+        ensures shadow_harts { harts_of self.new.shadow ≡ harts_of self.old.shadow }
+        ensures lasting { lasting_of self.new.shadow ≡ lasting_of self.old.shadow }
+        ensures turn { next_turn self.new.shadow ≤ turn + 1 }
+        ensures next { next_count self.new.shadow hart ≤ count_after (Some span) ic (next_count self.old.shadow hart) }
+        ensures others { (h : ℕ) → h ≢ hart → next_count self.new.shadow h ≡ next_count self.old.shadow h }
+        ensures took { taken self.new.log.ring ≤ taken self.old.log.ring + 17 }
+        ensures size { self.new.log.ring.size ≡ self.old.log.ring.size }
+    {
+        record_access(&mut self.shadow, &mut self.log, hart, ic, turn, Some(span));
+        let warm = self.caches.take_access(hart, span);
+        let skipped = self.harts[hart as usize].skipped;
+        append_load(&mut self.log, Some(warm), hart, skipped, word);
+        warm
+    }
+
+    // Takes in the word that a hart's instruction of this count stores, or stores a part of, which loads it: its
+    // Edges and its FirstLoad are appended, and the caches touched and dropped. The answer is how a loaded word
+    // was just before.
+    #[inline(always)]
+    pub(crate) fn access_store(
+        &mut self,
+        turn: u64,
+        hart: HartId,
+        ic: Ic,
+        span: Span,
+        whole: bool,
+        word: u32,
+    ) -> Option<Warm>
+        requires hart { hart < length self.old.harts.items }
+        requires caches { hart < length self.old.caches }
+        requires shadow { hart < harts_of self.old.shadow }
+        requires few { harts_of self.old.shadow ≤ HARTS }
+        requires ic { ic < 2 ^ 41 }
+        requires steps { steps_in self.old.caches hart < 2 ^ 42 }
+        requires ready { IsRaceReady self.old.shadow (Some span) }
+        requires turns { next_turn self.old.shadow ≤ turn }
+        requires counts { next_count self.old.shadow hart ≤ ic }
+        requires lasting { IsTrue (lasts self.old.shadow hart) }
+        requires room { taken self.old.log.ring + 17 < 2 ^ 56 }
+        ensures load { (c : RawSettings) (events : ℕ → List Event) → AreCaches c self.old.caches events → result ≡ (elim whole [ true ↦ None | false ↦ warmth c (Some span.first) (events hart) ]) }
+        ensures loading { is_some result ≡ true → whole ≡ false }
+        ensures caches { (c : RawSettings) (events : ℕ → List Event) → AreCaches c self.old.caches events → AreCaches c self.new.caches (events_after GoesOn hart None (Some span) events) }
+        ensures shadow { (points : List Point) → Stands points everyone self.old.shadow → Stands (points_after (point_of hart ic turn (Some span)) points) everyone self.new.shadow }
+        ensures holds { (points : List Point) (rs : List Record) → Stands points everyone self.old.shadow → IsLog self.old.log rs →
+            IsLog self.new.log (rs ++ edge_records (point_of hart ic turn (Some span)) points ++ load_record result hart (hart_in self.old.harts.items hart).skipped word) }
+        ensures harts { self.new.harts ≡ self.old.harts }
+        ensures count { length self.new.caches ≡ length self.old.caches }
+        ensures steps { (k : ℕ) → steps_in self.new.caches k ≡ (if k == hart then steps_in self.old.caches k + 1 else steps_in self.old.caches k) }
+        ensures shadow_harts { harts_of self.new.shadow ≡ harts_of self.old.shadow }
+        ensures lasting { lasting_of self.new.shadow ≡ lasting_of self.old.shadow }
+        ensures turn { next_turn self.new.shadow ≤ turn + 1 }
+        ensures next { next_count self.new.shadow hart ≤ count_after (Some span) ic (next_count self.old.shadow hart) }
+        ensures others { (h : ℕ) → h ≢ hart → next_count self.new.shadow h ≡ next_count self.old.shadow h }
+        ensures took { taken self.new.log.ring ≤ taken self.old.log.ring + 17 }
+        ensures size { self.new.log.ring.size ≡ self.old.log.ring.size }
+    {
+        record_access(&mut self.shadow, &mut self.log, hart, ic, turn, Some(span));
+        let warm = self.caches.take_access(hart, span);
+        let skipped = self.harts[hart as usize].skipped;
+        let load = if whole { None } else { Some(warm) };
+        append_load(&mut self.log, load, hart, skipped, word);
+        load
+    }
+}
+
+impl Plain {
+    // Whether a hart's ask that isn't a cut is guarded.
+    #[inline(always)]
+    fn guards(&self, hart: HartId) -> bool
+        requires { hart < self.now.start.settings.harts }
+        ensures run { (run : Run) → IsRun (parts self.now) run → result ≡ (self.now.start.settings.format == 2) && nat_lt self.now.start.settings.log_size (2 * bytes_since run hart) }
+    {
+        self.start.settings.format() == 2
+            && u64::from(self.start.settings.log_size()) < 2 * self.since_header(hart)
+    }
+
+    /// Whether the race log is ready for a hart's load from an address, and the load isn't guarded. It finds the
+    /// memory that the race log needs; all else stays as it is.
+    #[inline(always)]
+    pub(crate) fn ready_load(&mut self, hart: HartId, addr: Addr) -> bool
+        requires hart { hart < self.old.start.settings.harts }
+        requires loads { IsTrue (may_load self.old.start.image addr) }
+        ensures ready { result ≡ true → IsRaceReady self.new.trace.shadow (Some (span (aligned addr) 1 Read)) }
+        ensures unguarded { result ≡ true → (run : Run) → IsRun (parts self.old) run → (self.old.start.settings.format == 2) && nat_lt self.old.start.settings.log_size (2 * bytes_since run hart) ≡ false }
+        ensures shadow { IsSwept self.old.trace.shadow self.new.trace.shadow self.old.trace.harts.items }
+        ensures harts { self.new.trace.harts ≡ self.old.trace.harts }
+        ensures caches { self.new.trace.caches ≡ self.old.trace.caches }
+        ensures log { self.new.trace.log ≡ self.old.trace.log }
+        ensures machine { self.new.machine ≡ self.old.machine }
+        ensures turns { self.new.turns ≡ self.old.turns }
+        ensures start { self.new.start ≡ self.old.start }
+    {
+        let _memory = self.start.image.memory();
+        if self.guards(hart) {
+            return false;
+        }
+        let words = Span {
+            first: addr / 4 * 4,
+            count: 1,
+            mode: Mode::Read,
+        };
+        match self.trace.reserve(Some(words)) {
+            Ok(()) => true,
+            Err(_) => false,
+        }
+    }
+
+    /// Answers the load that a live hart asks for in its present state, once the race log is ready for it,
+    /// and takes its turn. The ask isn't guarded. It takes no memory.
+    #[inline(always)]
+    pub(crate) fn apply_load(&mut self, hart: HartId, addr: Addr, width: u8, signed: bool, rd: Register)
+        requires hart { hart < self.old.start.settings.harts }
+        requires live { (hart_in self.old.trace.harts.items hart).live ≡ true }
+        requires orderly { IsTrue (is_orderly self.old.start.settings self.old.start.image (hart_in self.old.trace.harts.items hart) (ask_here (hart_in self.old.trace.harts.items hart) (Load addr width signed rd))) }
+        requires race { IsRaceReady self.old.trace.shadow (Some (span (aligned addr) 1 Read)) }
+        ensures run { (run : Run) → IsRun (parts self.old) run → IsRun (parts self.new) (serve_call self.old.start.settings run hart (ask_here (hart_in self.old.trace.harts.items hart) (Load addr width signed rd)) false None).run }
+        ensures start { self.new.start ≡ self.old.start }
+    {
+        each_turn_moves_on();
+        let want = Want::Load {
+            addr,
+            width,
+            signed,
+            rd,
+        };
+        let word = self.machine.word_before(&self.start.image, &want);
+        let reply = Reply::Word(word);
+        let ic = self.trace.harts[hart as usize].state.ic;
+        let words = Span {
+            first: addr / 4 * 4,
+            count: 1,
+            mode: Mode::Read,
+        };
+        let warm = self.trace.access_load(self.turns, hart, ic, words, word);
+        let next = self
+            .trace
+            .finish_here(&self.start.settings, hart, &want, reply, Some(warm));
+        self.trace.forget(next);
+        self.turns += 1;
+    }
+
+    /// Whether a hart's store to an address needs no memory, and isn't guarded. It finds the memory that the race
+    /// log needs; all else stays as it is.
+    #[inline(always)]
+    pub(crate) fn ready_store(&mut self, hart: HartId, addr: Addr) -> bool
+        requires hart { hart < self.old.start.settings.harts }
+        requires stores { IsTrue (may_load self.old.start.image addr) }
+        ensures ready { result ≡ true → IsRaceReady self.new.trace.shadow (Some (span (aligned addr) 1 Write)) }
+        ensures page { result ≡ true → IsSpanReady self.new.machine.memory (span (aligned addr) 1 Write) }
+        ensures unguarded { result ≡ true → (run : Run) → IsRun (parts self.old) run → (self.old.start.settings.format == 2) && nat_lt self.old.start.settings.log_size (2 * bytes_since run hart) ≡ false }
+        ensures shadow { IsSwept self.old.trace.shadow self.new.trace.shadow self.old.trace.harts.items }
+        ensures harts { self.new.trace.harts ≡ self.old.trace.harts }
+        ensures caches { self.new.trace.caches ≡ self.old.trace.caches }
+        ensures log { self.new.trace.log ≡ self.old.trace.log }
+        ensures machine { self.new.machine ≡ self.old.machine }
+        ensures turns { self.new.turns ≡ self.old.turns }
+        ensures start { self.new.start ≡ self.old.start }
+    {
+        let _memory = self.start.image.memory();
+        if self.guards(hart) || !self.machine.is_made(addr) {
+            return false;
+        }
+        let words = Span {
+            first: addr / 4 * 4,
+            count: 1,
+            mode: Mode::Write,
+        };
+        match self.trace.reserve(Some(words)) {
+            Ok(()) => true,
+            Err(_) => false,
+        }
+    }
+
+    /// Answers the store that a live hart asks for in its present state, once all is ready for it, and takes its
+    /// turn. The ask isn't guarded. It takes no memory.
+    #[inline(always)]
+    pub(crate) fn apply_store(&mut self, hart: HartId, addr: Addr, width: u8, value: u32)
+        requires hart { hart < self.old.start.settings.harts }
+        requires live { (hart_in self.old.trace.harts.items hart).live ≡ true }
+        requires orderly { IsTrue (is_orderly self.old.start.settings self.old.start.image (hart_in self.old.trace.harts.items hart) (ask_here (hart_in self.old.trace.harts.items hart) (Store addr width value))) }
+        requires width { IsTrue (is_aligned addr width) }
+        requires race { IsRaceReady self.old.trace.shadow (Some (span (aligned addr) 1 Write)) }
+        requires page { IsSpanReady self.old.machine.memory (span (aligned addr) 1 Write) }
+        ensures run { (run : Run) → IsRun (parts self.old) run → IsRun (parts self.new) (serve_call self.old.start.settings run hart (ask_here (hart_in self.old.trace.harts.items hart) (Store addr width value)) false None).run }
+        ensures start { self.new.start ≡ self.old.start }
+    {
+        each_turn_moves_on();
+        let want = Want::Store {
+            addr,
+            width,
+            value,
+        };
+        let word = self.machine.word_before(&self.start.image, &want);
+        let reply = self.machine.store(hart, addr, width, value);
+        let ic = self.trace.harts[hart as usize].state.ic;
+        let words = Span {
+            first: addr / 4 * 4,
+            count: 1,
+            mode: Mode::Write,
+        };
+        let load = self
+            .trace
+            .access_store(self.turns, hart, ic, words, width == 4, word);
+        let next = self
+            .trace
+            .finish_here(&self.start.settings, hart, &want, reply, load);
+        self.trace.forget(next);
+        self.turns += 1;
+    }
+}
