@@ -27,16 +27,10 @@ use Rattle.bugnet.specs.Saves.{IsRecorded, input_by, HoldsBytes}
 
 -- ---- answers
 
--- the program file of a lean recording without a seed is bytes
-abbrev pub HasProgram : (lean : Bool) → Option ℕ → Option (List ℕ) → Type 0
-HasProgram true None there = HoldsBytes there
-HasProgram true (Some seed) there = Unit {0}
-HasProgram false seed there = Unit {0}
-
--- so is the log of a line that loads one
+-- the log of a line that loads one is bytes
 abbrev pub HasBytes : Option Line → Files → Type 0
 HasBytes None files = Unit {0}
-HasBytes (Some (RecordLine r)) files = HasProgram r.lean r.seed (files r.elf)
+HasBytes (Some (RecordLine r)) files = Unit {0}
 HasBytes (Some (ReplayLine log elf hart interval)) files = HoldsBytes (files log)
 HasBytes (Some (JointLine log elf)) files = HoldsBytes (files log)
 HasBytes (Some (DebugLine log elf)) files = HoldsBytes (files log)
@@ -106,24 +100,9 @@ CanDo (ConvertLine log copy) files = (bytes_eq log copy ≡ false) × HasContent
 CanDo (SalvageLine log copy) files = (bytes_eq log copy ≡ false) × HasSecond (files log)
 CanDo (DemoLine seed) files = Unit {0}
 
--- what a line that can be done needs for an answer: a program file that is bytes
-abbrev pub HasElfBytes : Line → Files → Type 0
-HasElfBytes (RecordLine r) files = HasProgram r.lean r.seed (files r.elf)
-HasElfBytes (ReplayLine log elf hart interval) files = Unit {0}
-HasElfBytes (JointLine log elf) files = Unit {0}
-HasElfBytes (DebugLine log elf) files = Unit {0}
-HasElfBytes (ListLine log) files = Unit {0}
-HasElfBytes (CheckLine log) files = Unit {0}
-HasElfBytes (AuditLine log elf book input) files = Unit {0}
-HasElfBytes (RacesLine log elf most) files = Unit {0}
-HasElfBytes (SliceLine log elf hart interval ic) files = Unit {0}
-HasElfBytes (ConvertLine log copy) files = Unit {0}
-HasElfBytes (SalvageLine log copy) files = Unit {0}
-HasElfBytes (DemoLine seed) files = Unit {0}
-
 -- there is an answer, and each answer is that of a command that is done
 pub record CanBeDone (line : Line) (files : Files) : Type 0 where
-  pub answer : HasElfBytes line files → (what : Told) × IsAnswer (Some line) files what
+  pub answer : (what : Told) × IsAnswer (Some line) files what
   pub done : (told : Told) → IsAnswer (Some line) files told → IsRecorded told.status
 
 abbrev pub EachCanBeDone : Type 0

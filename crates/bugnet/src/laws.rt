@@ -23,14 +23,11 @@ use log_blocks::readings::{
     salvages_are_unique, whole_files_are_salvaged,
 };
 use replay_laws::{ends_suffice, the_log_suffices, the_rows_of_an_interval_stand_together};
-use run_laws::{
-    faults_are_kept, kept_records_are_an_end, own_asks_are_orderly, own_rows_are_turns,
-    turns_are_lawful, turns_are_own,
-};
+use run_laws::{faults_are_kept, kept_records_are_an_end, own_asks_are_orderly};
 use run_model::verdicts_are_unique;
 
 /// No words have two answers, whatever the files are; but a recording without a seed has one for each
-/// list of turns, and of a lean one without a seed nothing is said.
+/// list of turns, and of a lean one without a seed, which saves no list, nothing is said.
 pub fn one_answer()
     ensures { OneAnswer }
 {
@@ -118,15 +115,11 @@ pub fn salvaged_logs_say_ends()
     files_are_read();
 }
 
-/// Words and files have an answer, where what the files hold is bytes.
+/// Words and files have an answer, if what a log file holds is bytes.
 pub fn each_has_an_answer()
     ensures { EachHasAnAnswer }
 {
     seeds_are_whole();
-    logs_are_contents();
-    turns_are_lawful();
-    turns_are_own();
-    own_rows_are_turns();
     files_are_read_or_refused();
     files_are_salvaged_or_refused();
 }
@@ -141,9 +134,6 @@ pub fn each_can_be_done()
     whole_runs_have_no_error();
     one_answer();
     seeds_are_whole();
-    turns_are_lawful();
-    turns_are_own();
-    own_rows_are_turns();
     ends_suffice();
     the_rows_of_an_interval_stand_together();
     logs_are_contents();

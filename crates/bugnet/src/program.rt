@@ -37,7 +37,7 @@ use crate::slicing::slice_files;
 use bn_outside::{Gate, Sink, Source, Store};
 use command_words::{Command, Recording, WordsError, read_words};
 use file_laws::logs_are_contents;
-use log_blocks::laws::{files_have_their_size, saved_files_keep_to_the_limit};
+use log_blocks::laws::saved_files_keep_to_the_limit;
 use log_blocks::readings::{files_are_read, readings_are_unique};
 use std::alloc::Global;
 use std::sync::Wait;
@@ -172,8 +172,6 @@ fn perform<S: Store, O: Sink, X: Sink, G: Gate, R: Threads + Wait + Sync>(
     seeds_are_whole();
     files_keep_to_their_size();
     logs_are_contents();
-    log_file::laws::files_have_their_size();
-    files_have_their_size();
     match answer_to(rt, alloc, command, names, store, gate) {
         Err(refusal) => refuse(alloc, names, &refusal, err),
         Ok(answer) => act(alloc, names, &answer, store, out, err),
@@ -244,10 +242,11 @@ fn obey<S: Store, I: Source, O: Sink, X: Sink, G: Gate, R: Threads + Wait + Sync
 /// ELF, loads FILE, which else is empty, runs the program, saves the log under LOG and the list of turns
 /// under BOOK, writes the program's stream 1 to out, and its stream 2 and one line to err.
 ///
-/// With a seed its number chooses the turns, on the caller's thread. Without one each hart runs in a
-/// thread of its own, and the gate is called around its turns. Which turns come then isn't told; they
-/// are legal and finished, and the list under BOOK is theirs. A lean recording keeps no list and saves
-/// nothing under BOOK, which then may be LOG's name.
+/// With a seed its number chooses the turns, on the caller's thread, and so are the turns of one hart alone
+/// taken, which have one order. Without a seed each of several harts runs in a thread of its own, and the
+/// gate is called around its turns. Which turns come then isn't told; they are legal and finished, and the
+/// list under BOOK is theirs. A lean recording keeps no list and saves nothing under BOOK, which then may be
+/// LOG's name.
 ///
 /// | status | comes |
 /// |---|---|
@@ -310,11 +309,10 @@ pub fn run<S: Store, I: Source, O: Sink, X: Sink, G: Gate, R: Threads + Wait + S
     // have `convert` and `salvage`; a refused one at most so often, and no other command saves.
     ensures saves { LineSaves (command_in words.now) result (S.saves store.old) (S.saves store.new) }
 
-    // A recording leaves under BOOK its turns, legal and finished, where there is a seed those that it
-    // chooses, and under LOG the file of their run, in the version of its format: its records have at most
-    // log-size bytes, and it has 124 more in version 1, in version 2 136 and 48 a block. The status says how
-    // the run ended. A lean one leaves BOOK as it was, and under LOG the file of what a log can say, within
-    // its size; where there is a seed that of the run that it chooses.
+    // A recording leaves under LOG the file of the run of a legal and finished list of turns, with a seed of
+    // the list that it chooses, in the version of its format: its records have at most log-size bytes, and
+    // the file has 124 more in version 1, in version 2 136 and 48 a block. The status says how that run
+    // ended. BOOK has the list; only a lean recording leaves BOOK as it was.
     ensures recorded { LeavesRun (command_in words.now) result (S.files store.old) (S.files store.new) }
 
     // Only `debug` reads commands, and only once its files are loaded and tested. What they make it tell

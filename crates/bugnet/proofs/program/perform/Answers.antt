@@ -9,7 +9,6 @@ use Rattle.bugnet.proofs.Prints.{appends-nothing}
 use Rattle.bugnet.proofs.Tells.{refusal-answers, answer-answers, tells-from}
 use Rattle.bugnet.proofs.Causes.{refusal-causes, refusal-words, answer-words}
 use Rattle.bugnet.proofs.Leaves.{leaves-none, told-apart, call-leaves}
-use Rattle.bugnet.proofs.Sizes.{SizeLaws}
 use Rattle.bugnet.proofs.program.perform.Goals as goal
 
 pub returns-in-Err-clause-told : goal.returns-in-Err-clause-told
@@ -59,8 +58,7 @@ returns-in-Err-clause-recorded g c =
 pub returns-in-Ok-clause-recorded : goal.returns-in-Ok-clause-recorded
 returns-in-Ok-clause-recorded g c =
     let k = call (g.S.Store.files) (g.S.Store.counts) (g.O.Sink.written) (g.O.Sink.faults) (g.X.Sink.written) (g.X.Sink.faults) c.args.store.now c.args.out.now c.args.err.now c.act.new.store c.act.new.out c.act.new.err in
-    let sizes : SizeLaws = record { first = c.files_have_their_size.ensures; second = c.files_have_their_size-2.ensures } in
-    call-leaves c.seeds_are_whole.ensures c.files_keep_to_their_size.ensures c.logs_are_contents.ensures sizes (seen c.args.command.now) c.act.result k c.in-Ok.ensures.bytes (returns-in-Ok-clause-told g c)
+    call-leaves c.seeds_are_whole.ensures c.files_keep_to_their_size.ensures c.logs_are_contents.ensures (seen c.args.command.now) c.act.result k c.in-Ok.ensures.bytes (returns-in-Ok-clause-told g c)
 
 pub returns-in-Err-clause-saves : goal.returns-in-Err-clause-saves
 returns-in-Err-clause-saves g c =

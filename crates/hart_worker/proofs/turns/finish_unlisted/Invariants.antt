@@ -1,0 +1,15 @@
+use Rattle.std.proofs.Common.{◌≡◌, ◌-◌, ℕ, List}
+use Rattle.run_model.specs.Runs.{most_turns}
+use Rattle.hart_worker.specs.Lists.{HasTaken}
+use Rattle.hart_worker.proofs.Taken.{IsDrawn}
+use Rattle.hart_worker.proofs.turns.finish_unlisted.Given as goal
+
+abbrev pub invariant-drawing : goal.invariant-drawing
+invariant-drawing g l = record {
+  began : l.bus.began ≡ l.initial.bus.began;
+  halted : l.bus.halted ≡ l.initial.bus.halted;
+  drawn : (list : List ℕ) → HasTaken g.B.Book.tells l.initial.bus list → (rest : List ℕ) × IsDrawn g.B.Book.tells l.initial.bus.began list l.fn.seed l.bus l.state rest;
+}
+
+abbrev pub decreases-drawing : goal.decreases-drawing
+decreases-drawing g l = most_turns l.bus.began.settings - l.bus.turns
