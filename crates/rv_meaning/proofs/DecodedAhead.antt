@@ -10,7 +10,8 @@ use Rattle.bn_base.specs.declared.state.HartState.{HartState}
 use Rattle.rv_decode.specs.Seen.{seen}
 use Rattle.rv_decode.specs.Table.{Instruction, decoded}
 use Rattle.rv_decode.specs.declared.instr.Instr.{Instr}
-use Rattle.rv_meaning.specs.Ahead.{decoded_word, IsAhead, IsBelowEnd}
+use Rattle.rv_meaning.specs.Ahead.{IsAhead, IsBelowEnd}
+use Rattle.rv_meaning.specs.Rows.{instruction_in}
 use Rattle.rv_meaning.specs.Execute.{fetched, executed, step, meaning}
 
 -- the same list of the same program
@@ -19,15 +20,15 @@ ahead_in i j a os xs p e h = subst (λ (n : Program). IsAhead n a xs) p (subst (
 
 -- the entry of a place
 pub ahead_at : (i : Program) (a k : ℕ) (os : List (Option Instr)) (o : Option Instr) → IsAhead i a os → k < length os → o ≡ slice_index_or os k o
-    → option_map seen o ≡ decoded_word (code_at i (a + 4 * k))
+    → option_map seen o ≡ instruction_in (code_at i (a + 4 * k))
 ahead_at i a k [] o h below e = grind arith
 ahead_at i a zero (x ∷ os) o h below e =
     let place : a ≡ a + 4 * 0 = omega arith in
-    subst (λ (n : ℕ). option_map seen o ≡ decoded_word (code_at i n)) place
-    (subst (λ (y : Option Instr). option_map seen y ≡ decoded_word (code_at i a)) (sym e) h.0)
+    subst (λ (n : ℕ). option_map seen o ≡ instruction_in (code_at i n)) place
+    (subst (λ (y : Option Instr). option_map seen y ≡ instruction_in (code_at i a)) (sym e) h.0)
 ahead_at i a (suc k) (x ∷ os) o h below e =
     let place : a + 4 + 4 * k ≡ a + 4 * suc k = omega arith in
-    subst (λ (n : ℕ). option_map seen o ≡ decoded_word (code_at i n)) place (ahead_at i (a + 4) k os o h.1 (omega (arith, below)) e)
+    subst (λ (n : ℕ). option_map seen o ≡ instruction_in (code_at i n)) place (ahead_at i (a + 4) k os o h.1 (omega (arith, below)) e)
 
 -- the rotation of 32 bits to the right by 2
 rotated : (x : ℕ) → x < 2 ^ 32 → bit_or (x / 2 ^ 2) (x * 2 ^ 30 % 2 ^ 32) ≡ x % 4 * 2 ^ 30 + x / 4
@@ -41,18 +42,18 @@ place_of a pc x k n p q e f below end = omega (arith, p, q, e, f, below, end)
 
 -- the entry of an address
 pub ahead_of : (i : Program) (a pc k : ℕ) (os : List (Option Instr)) (o : Option Instr) → IsAhead i a os → IsBelowEnd a os → a < 2 ^ 32 → pc < 2 ^ 32
-    → k ≡ rotate_right w32 ((pc + (2 ^ 32 - a)) % 2 ^ 32) 2 → k < length os → o ≡ slice_index_or os k o → option_map seen o ≡ decoded_word (code_at i pc)
+    → k ≡ rotate_right w32 ((pc + (2 ^ 32 - a)) % 2 ^ 32) 2 → k < length os → o ≡ slice_index_or os k o → option_map seen o ≡ instruction_in (code_at i pc)
 ahead_of i a pc k os o h end p q f below e =
     let x : ℕ = (pc + (2 ^ 32 - a)) % 2 ^ 32 in
     let place = place_of a pc x k (length os) p q refl (f ∙ rotated x (mod-lt (pc + (2 ^ 32 - a)) (omega arith))) below end in
-    subst (λ (n : ℕ). option_map seen o ≡ decoded_word (code_at i n)) place (ahead_at i a k os o h below e)
+    subst (λ (n : ℕ). option_map seen o ≡ instruction_in (code_at i n)) place (ahead_at i a k os o h below e)
 
 -- one entry more
 pub ahead_more : (i : Program) (a addr : ℕ) (os : List (Option Instr)) (o : Option Instr) → IsAhead i a os → addr ≡ a + 4 * length os
-    → option_map seen o ≡ decoded_word (code_at i addr) → IsAhead i a (os ++ o ∷ [])
+    → option_map seen o ≡ instruction_in (code_at i addr) → IsAhead i a (os ++ o ∷ [])
 ahead_more i a addr [] o h place e =
     let here : addr ≡ a = omega (arith, place) in
-    (subst (λ (n : ℕ). option_map seen o ≡ decoded_word (code_at i n)) here e, tt)
+    (subst (λ (n : ℕ). option_map seen o ≡ instruction_in (code_at i n)) here e, tt)
 ahead_more i a addr (x ∷ os) o h place e = (h.0, ahead_more i (a + 4) addr os o h.1 (omega (arith, place)) e)
 
 -- and one address more
@@ -69,13 +70,13 @@ pub below_end_more : (a addr : ℕ) (os more : List (Option Instr)) (o : Option 
 below_end_more a addr os more o e place below = let one = place_more a addr (addr + 4) os more o e place refl in omega (arith, one, below)
 
 -- the step, by what the word at the pc decodes to
-pub ahead_step : (i : Program) (s : HartState) (d : Instruction) → decoded_word (code_at i s.pc) ≡ Some d → meaning d.name i d s ≡ step i s
+pub ahead_step : (i : Program) (s : HartState) (d : Instruction) → instruction_in (code_at i s.pc) ≡ Some d → meaning d.name i d s ≡ step i s
 ahead_step i s d e = by_word (code_at i s.pc) e
   where
     by_instruction : (o : Option Instruction) (w : ℕ) → o ≡ Some d → meaning d.name i d s ≡ executed o w i s
     by_instruction o w e = ap (λ (p : Option Instruction). executed p w i s) (sym e)
 
-    by_word : (o : Option ℕ) → decoded_word o ≡ Some d → meaning d.name i d s ≡ fetched o i s
+    by_word : (o : Option ℕ) → instruction_in o ≡ Some d → meaning d.name i d s ≡ fetched o i s
     by_word None e = cc
     by_word (Some w) e = by_instruction (decoded w) w e
 

@@ -6,8 +6,9 @@
 ghost use Rattle.std.specs.Prelude.{◌≡◌, true, Some, is_some, IfOk, IfSome, OnErr};
 ghost use Rattle.bn_base.specs.Programs.{Program, code_at, part_at};
 ghost use Rattle.rv_decode.specs.Seen.{seen};
-ghost use Rattle.rv_meaning.specs.Ahead.{decoded_word, IsAhead, IsBelowEnd, start_of, starts_in_code};
+ghost use Rattle.rv_meaning.specs.Ahead.{IsAhead, IsBelowEnd, start_of, starts_in_code};
 ghost use Rattle.rv_meaning.specs.Execute.{ask_of};
+ghost use Rattle.rv_meaning.specs.Rows.{instruction_in};
 
 use crate::asks::Want;
 use crate::interpreter::quiet_run_in_place;
@@ -93,7 +94,7 @@ fn put_back(state: &mut HartState, pc: Addr, ic: Ic)
 fn instr_at(instrs: &[Option<Instr>], first: Addr, pc: Addr) -> Option<&Instr>
     requires { IsBelowEnd first instrs.now }
     ensures { (i : Program) → IsAhead i first instrs.now
-        → IfSome result (λ d. decoded_word (code_at i pc) ≡ Some (seen d.now)) }
+        → IfSome result (λ d. instruction_in (code_at i pc) ≡ Some (seen d.now)) }
 {
     // One test is enough: the rotation moves the lowest two bits of the distance to the top, so a pc
     // below `first` or between two words gets a place past the end.
