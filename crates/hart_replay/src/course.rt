@@ -411,8 +411,7 @@ impl<'a> Course<'a> {
         ensures same { (self.new.image ≡ self.old.image) × (self.new.hart ≡ self.old.hart) × (self.new.mark ≡ self.old.mark) }
     {
         each_instruction_is_counted_or_asks();
-        let image = self.image.image();
-        match quiet_run_in_place(image, &mut self.state, 1) {
+        match self.image.step(&mut self.state) {
             Want::Cut => {
                 self.called = false;
                 Ok(here.row(&self.state.x, None, None))
