@@ -114,6 +114,7 @@ impl<'a> Code<'a> {
     }
 
     /// The instruction that a hart in this state does next.
+    #[inline(always)]
     pub(crate) fn fetch(&mut self, hart: HartId, state: &HartState) -> Fetched
         ensures value { result ≡ fetched hart self.old.now state.now }
         ensures same { self.new ≡ self.old }
@@ -132,6 +133,7 @@ impl<'a> Code<'a> {
 
     /// Does the instruction at the pc of a state, as [`quiet_run_in_place`] with a budget of 1. It need
     /// not be decoded again where its look-up is kept, as after a `fetch` there.
+    #[inline(always)]
     pub(crate) fn step(&self, state: &mut HartState) -> Want
         ensures { record { state = state.new; want = result } ≡ ask_of self.now.now 1 state.old }
     {
@@ -145,6 +147,7 @@ impl<'a> Code<'a> {
     }
 
     // The same where it isn't kept. It is from then on.
+    #[inline(never)]
     fn look_up(&mut self, hart: HartId, state: &HartState) -> Fetched
         ensures value { result ≡ fetched hart self.old.now state.now }
         ensures same { self.new ≡ self.old }

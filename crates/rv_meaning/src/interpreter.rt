@@ -49,6 +49,7 @@ pub fn quiet_run_in_place(image: &Image, state: &mut HartState, budget: u64) -> 
 
 /// Does the instruction at the pc, which is decoded already: as [`quiet_run_in_place`] with a budget
 /// of 1.
+#[inline(always)]
 pub fn step_in_place(instr: &Instr, image: &Image, state: &mut HartState) -> Want
     requires { instruction_at image.now state.old ≡ Some (seen instr.now) }
     ensures { record { state = state.new; want = result } ≡ ask_of image.now 1 state.old }
