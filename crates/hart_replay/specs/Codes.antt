@@ -1,6 +1,7 @@
 -- A program with look-ups that are kept.
-use Rattle.std.specs.Prelude.{◌≡◌, ℕ, List, slice_get, Some}
+use Rattle.std.specs.Prelude.{◌≡◌, ℕ, List, slice_get, Some, option_map}
 use Rattle.bn_base.specs.Programs.{Program, code_at}
+use Rattle.rv_decode.specs.Seen.{seen}
 use Rattle.rv_meaning.specs.Lookups.{destination}
 use Rattle.rv_meaning.specs.Rows.{instruction_in}
 use Rattle.hart_replay.specs.declared.code.Lookup.{Lookup}
@@ -9,9 +10,11 @@ use Rattle.hart_replay.specs.declared.code.Lookup.{Lookup}
 pub record CodeOf : Type 0 where
   pub now : Program
 
--- what is kept of an address is its code word in the program, and the register that its instruction writes
+-- what is kept of an address is its code word in the program, the register that its instruction writes, and the
+-- instruction
 abbrev pub IsLookup : Program → Lookup → Type 0
-IsLookup i l = (l.word ≡ code_at i l.pc) × (l.rd ≡ destination (instruction_in (code_at i l.pc)))
+IsLookup i l =
+    (l.word ≡ code_at i l.pc) × (l.rd ≡ destination (instruction_in (code_at i l.pc))) × (option_map seen l.instr ≡ instruction_in (code_at i l.pc))
 
 abbrev pub AreLookups : Program → List Lookup → Type 0
 AreLookups i ls = (n : ℕ) (l : Lookup) → slice_get ls n ≡ Some l → IsLookup i l

@@ -1,29 +1,35 @@
 //! The program of a replay, with what its code words decode to.
-ghost use Rattle.std.specs.Prelude.{◌≡◌, ◌/◌, ◌%◌};
+ghost use Rattle.std.specs.Prelude.{◌≡◌, ◌/◌, ◌%◌, option_map};
 ghost use Rattle.bn_base.specs.Programs.{Program};
+ghost use Rattle.rv_decode.specs.Seen.{seen};
+ghost use Rattle.rv_meaning.specs.Execute.{ask_of};
 ghost use Rattle.rv_meaning.specs.Lookups.{fetched};
+ghost use Rattle.rv_meaning.specs.Rows.{instruction_in};
 ghost use Rattle.hart_replay.specs.Codes.{IsLookup, AreLookups};
 
 use bn_base::{Addr, HartId, HartState, Image, Register};
-use rv_meaning::Fetched;
+use rv_decode::{Instr, decode};
+use rv_meaning::{Fetched, Want, quiet_run_in_place, step_in_place};
 use std::alloc::{AllocError, Global};
 use std::marker::Model;
 
 /// How many look-ups are kept.
 const KEPT: usize = 1024;
 
-/// What was looked up at an address: the code word, and the register that its instruction writes.
+/// What was looked up at an address: the code word, the register that its instruction writes, and the
+/// instruction.
 #[derive(Clone, Copy, Drop)]
 struct Lookup {
     pc: Addr,
     word: Option<u32>,
     rd: Option<Register>,
+    instr: Option<Instr>,
 }
 
 /// A program, and what was looked up last at the addresses of its code: of those that have the same
 /// place in a table of 1,024, the latest. Contracts see the program.
 ///
-/// The table takes 16 KiB, once there is a look-up to keep. Where memory is wanting nothing is kept.
+/// The table takes 32 KiB, once there is a look-up to keep. Where memory is wanting nothing is kept.
 #[derive(Drop)]
 pub(crate) struct Code<'a> {
     image: &'a Image,
@@ -49,8 +55,16 @@ impl Lookup {
             pc: 1,
             word: None,
             rd: None,
+            instr: None,
         }
     }
+}
+
+// The instruction that a word decodes to, if there is one.
+fn instruction(word: Option<u32>) -> Option<Instr>
+    ensures { option_map seen result ≡ instruction_in word }
+{
+    decode(word?)
 }
 
 // The place of an address in the table.
@@ -100,6 +114,7 @@ impl<'a> Code<'a> {
     }
 
     /// The instruction that a hart in this state does next.
+    #[inline(always)]
     pub(crate) fn fetch(&mut self, hart: HartId, state: &HartState) -> Fetched
         ensures value { result ≡ fetched hart self.old.now state.now }
         ensures same { self.new ≡ self.old }
@@ -116,7 +131,23 @@ impl<'a> Code<'a> {
         }
     }
 
+    /// Does the instruction at the pc of a state, as [`quiet_run_in_place`] with a budget of 1. It need
+    /// not be decoded again where its look-up is kept, as after a `fetch` there.
+    #[inline(always)]
+    pub(crate) fn step(&self, state: &mut HartState) -> Want
+        ensures { record { state = state.new; want = result } ≡ ask_of self.now.now 1 state.old }
+    {
+        match self.kept.get(place_of(state.pc)) {
+            Some(kept) if kept.pc == state.pc => match &kept.instr {
+                Some(instr) => step_in_place(instr, self.image, state),
+                None => quiet_run_in_place(self.image, state, 1),
+            },
+            _ => quiet_run_in_place(self.image, state, 1),
+        }
+    }
+
     // The same where it isn't kept. It is from then on.
+    #[inline(never)]
     fn look_up(&mut self, hart: HartId, state: &HartState) -> Fetched
         ensures value { result ≡ fetched hart self.old.now state.now }
         ensures same { self.new ≡ self.old }
@@ -126,6 +157,7 @@ impl<'a> Code<'a> {
             pc: here.pc,
             word: here.word,
             rd: here.rd,
+            instr: instruction(here.word),
         };
         make_table(&mut self.kept);
         keep(&mut self.kept, place_of(here.pc), lookup);

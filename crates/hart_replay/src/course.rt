@@ -101,6 +101,7 @@ impl<'a> Course<'a> {
     }
 
     // Does an asking instruction, which got this reply, and gives its row.
+    #[inline(always)]
     fn done(
         &mut self,
         here: &Fetched,
@@ -120,6 +121,7 @@ impl<'a> Course<'a> {
     }
 
     // Does an asking instruction whose row tells a word, as `done`, and keeps the word.
+    #[inline(always)]
     fn keep(
         &mut self,
         here: &Fetched,
@@ -208,6 +210,7 @@ impl<'a> Course<'a> {
     }
 
     // Does the instruction at the pc, which asks this.
+    #[inline(always)]
     fn ask(&mut self, here: &Fetched, want: &Want) -> Result<Row, ReplayError>
         requires here { here.now ≡ fetched self.old.hart self.old.image.now self.old.state }
         requires asks { (is_cut want.now ≡ false) × IsTrue (passes self.old.image.now want.now) }
@@ -241,6 +244,7 @@ impl<'a> Course<'a> {
         }
     }
 
+    #[inline(always)]
     fn load(
         &mut self,
         here: &Fetched,
@@ -342,6 +346,7 @@ impl<'a> Course<'a> {
     }
 
     // A store of a word needs none of the log.
+    #[inline(always)]
     fn store(
         &mut self,
         here: &Fetched,
@@ -394,6 +399,7 @@ impl<'a> Course<'a> {
 
     /// Does the next instruction before the mark's count, and gives its row. On an error the state
     /// is as before.
+    #[inline(always)]
     pub(crate) fn go_on(&mut self) -> Result<Row, ReplayError>
         requires { self.old.state.ic < self.old.mark.ic }
         ensures answer { CourseDoes self.old (next_of self.old) result self.new }
@@ -404,6 +410,7 @@ impl<'a> Course<'a> {
     }
 
     // The same, where the instruction is looked up.
+    #[inline(always)]
     fn go_on_at(&mut self, here: &Fetched) -> Result<Row, ReplayError>
         requires here { here.now ≡ fetched self.old.hart self.old.image.now self.old.state }
         requires count { self.old.state.ic < self.old.mark.ic }
@@ -411,8 +418,7 @@ impl<'a> Course<'a> {
         ensures same { (self.new.image ≡ self.old.image) × (self.new.hart ≡ self.old.hart) × (self.new.mark ≡ self.old.mark) }
     {
         each_instruction_is_counted_or_asks();
-        let image = self.image.image();
-        match quiet_run_in_place(image, &mut self.state, 1) {
+        match self.image.step(&mut self.state) {
             Want::Cut => {
                 self.called = false;
                 Ok(here.row(&self.state.x, None, None))

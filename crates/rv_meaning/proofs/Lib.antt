@@ -3,3 +3,4 @@ pub mod Orderly
 pub mod WordsKept
 pub mod Held
 pub mod DecodedAhead
+pub mod MaskedStore

@@ -1,6 +1,5 @@
 //! What the accesses to memory give and leave.
-ghost use Rattle.std.specs.Prelude.{◌≡◌, ◌<◌, ◌^◌, ◌⊎◌, IsTrue};
-ghost use Rattle.rv_meaning.specs.Words.{sign_extend, with_bytes};
+ghost use Rattle.std.specs.Prelude.{◌≡◌, ◌<◌, ◌==◌, if◌then◌else◌, IsTrue};
 ghost use Rattle.rv_meaning.specs.Access.{loaded_value, stored_word};
 ghost use Rattle.rv_meaning.specs.Orderly.{is_aligned};
 
@@ -18,20 +17,16 @@ pub fn is_aligned(addr: Addr, width: u8) -> bool
     }
 }
 
-// The byte `n`, sign-extended.
-fn extend_byte(n: u32) -> u32
-    requires { n < 2 ^ 8 }
-    ensures { result ≡ sign_extend 8 n }
+// How many bits of a word an access of this width leaves out: 24 for a byte, 16 for a halfword.
+fn bits_outside(width: u8) -> u32
+    ensures value { result ≡ (if width == 1 then 24 else (if width == 2 then 16 else 0)) }
+    ensures below_word { result < 32 }
 {
-    if n < 128 { n } else { n + 0xffff_ff00 }
-}
-
-// The halfword `n`, sign-extended.
-fn extend_half(n: u32) -> u32
-    requires { n < 2 ^ 16 }
-    ensures { result ≡ sign_extend 16 n }
-{
-    if n < 32768 { n } else { n + 0xffff_0000 }
+    match width {
+        1 => 24,
+        2 => 16,
+        _ => 0,
+    }
 }
 
 /// What a load gives: the byte, halfword or word at the address, `word` being the aligned word
@@ -39,39 +34,13 @@ fn extend_half(n: u32) -> u32
 pub fn loaded_value(addr: Addr, width: u8, signed: bool, word: u32) -> u32
     ensures { result ≡ loaded_value addr width signed word }
 {
-    let low = word >> (addr % 4 * 8);
-    match width {
-        1 if signed => extend_byte(low % 256),
-        1 => low % 256,
-        2 if signed => extend_half(low % 65536),
-        2 => low % 65536,
-        _ => low,
-    }
-}
-
-// The word with its byte of that place replaced by the lowest byte of the value.
-fn with_byte(place: u32, value: u32, word: u32) -> u32
-    requires { place < 4 }
-    ensures { result ≡ with_bytes place 1 value word }
-{
-    let byte = value % 256;
-    match place {
-        0 => word / 256 * 256 + byte,
-        1 => word / 65536 * 65536 + byte * 256 + word % 256,
-        2 => word / 16777216 * 16777216 + byte * 65536 + word % 65536,
-        _ => byte * 16777216 + word % 16777216,
-    }
-}
-
-// The word with its lower or upper half replaced by the lowest two bytes of the value.
-fn with_half(place: u32, value: u32, word: u32) -> u32
-    requires { (place ≡ 0) ⊎ (place ≡ 2) }
-    ensures { result ≡ with_bytes place 2 value word }
-{
-    let half = value % 65536;
-    match place {
-        0 => word / 65536 * 65536 + half,
-        _ => half * 65536 + word % 65536,
+    // Shifts serve every width alike: a branch on the width would often be mispredicted.
+    let outside = bits_outside(width);
+    let top = (word >> (addr % 4 * 8)) << outside;
+    if signed {
+        (top.cast_signed() >> outside).cast_unsigned()
+    } else {
+        top >> outside
     }
 }
 
@@ -81,9 +50,7 @@ pub fn stored_word(addr: Addr, width: u8, value: u32, word: u32) -> u32
     requires { IsTrue (is_aligned addr width) }
     ensures { result ≡ stored_word addr width value word }
 {
-    match width {
-        1 => with_byte(addr % 4, value, word),
-        2 => with_half(addr % 4, value, word),
-        _ => value,
-    }
+    let mask = u32::MAX >> bits_outside(width);
+    let place = addr % 4 * 8;
+    (word & !(mask << place)) | ((value & mask) << place)
 }

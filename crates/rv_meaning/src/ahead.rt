@@ -4,14 +4,14 @@
 //! [`DecodedImage`] of it once; what does single instructions or short stretches calls
 //! [`quiet_run_in_place`], which needs no memory.
 ghost use Rattle.std.specs.Prelude.{◌≡◌, true, Some, is_some, IfOk, IfSome, OnErr};
-ghost use Rattle.bn_base.specs.Programs.{code_at, part_at};
+ghost use Rattle.bn_base.specs.Programs.{Program, code_at, part_at};
 ghost use Rattle.rv_decode.specs.Seen.{seen};
-ghost use Rattle.rv_meaning.specs.Ahead.{decoded_word, IsAhead, start_of, starts_in_code};
+ghost use Rattle.rv_meaning.specs.Ahead.{IsAhead, IsBelowEnd, start_of, starts_in_code};
 ghost use Rattle.rv_meaning.specs.Execute.{ask_of};
+ghost use Rattle.rv_meaning.specs.Rows.{instruction_in};
 
 use crate::asks::Want;
 use crate::interpreter::quiet_run_in_place;
-use crate::moves::count_up;
 use crate::steps::step;
 use bn_base::{Addr, HartState, Ic, Image};
 use rv_decode::{Instr, decode};
@@ -36,13 +36,14 @@ pub struct DecodedImage<'a> {
 
 impl<'a> Model for DecodedImage<'a> {
     ghost use Rattle.bn_base.specs.Programs.{Program};
-    ghost use Rattle.rv_meaning.specs.Ahead.{IsAhead};
+    ghost use Rattle.rv_meaning.specs.Ahead.{IsAhead, IsBelowEnd};
 
     ghost Value = { Program };
 
     ghost view = { λ d. d.image.now };
 
-    ghost invariant = { λ d. IsAhead d.image.now d.first d.instrs.items };
+    ghost invariant = { λ d. IsAhead d.image.now d.first d.instrs.items
+        × IsBelowEnd d.first d.instrs.items };
 }
 
 // What the code words from `first` on decode to, at most `count` of them.
@@ -53,6 +54,7 @@ fn decoded_from(
     count: u32,
 ) -> Result<Vec<Option<Instr>>, AllocError>
     ensures ahead { IfOk result (λ v. IsAhead image.now first v.items) }
+    ensures below { IfOk result (λ v. IsBelowEnd first v.items) }
     ensures wanting { OnErr result (is_some (code_at image.now first) ≡ true) }
 {
     let mut instrs = Vec::new(alloc);
@@ -80,12 +82,26 @@ fn start_of(image: &Image) -> Addr
     }
 }
 
-// Puts pc and count, which a run keeps in variables, back into its state.
+// Puts pc and count into a state.
 fn put_back(state: &mut HartState, pc: Addr, ic: Ic)
     ensures { state.new ≡ record state.old { pc = pc; ic = ic } }
 {
     state.pc = pc;
     state.ic = ic;
+}
+
+// The instruction at a pc, if it is among those decoded from `first` on.
+fn instr_at(instrs: &[Option<Instr>], first: Addr, pc: Addr) -> Option<&Instr>
+    requires { IsBelowEnd first instrs.now }
+    ensures { (i : Program) → IsAhead i first instrs.now
+        → IfSome result (λ d. instruction_in (code_at i pc) ≡ Some (seen d.now)) }
+{
+    // One test is enough: the rotation moves the lowest two bits of the distance to the top, so a pc
+    // below `first` or between two words gets a place past the end.
+    match instrs.get(pc.wrapping_sub(first).rotate_right(2) as usize) {
+        None => None,
+        Some(instr) => instr.as_ref(),
+    }
 }
 
 impl<'a> DecodedImage<'a> {
@@ -117,44 +133,35 @@ impl<'a> DecodedImage<'a> {
         })
     }
 
-    // The instruction at a pc, where it is decoded.
-    fn instr(&self, pc: Addr) -> Option<&Instr>
-        ensures { IfSome result (λ d. decoded_word (code_at self.now pc) ≡ Some (seen d.now)) }
-    {
-        if pc < self.first || (pc - self.first) % 4 != 0 {
-            return None;
-        }
-        match self.instrs.get(((pc - self.first) / 4) as usize) {
-            None => None,
-            Some(instr) => instr.as_ref(),
-        }
-    }
-
     /// As [`quiet_run_in_place`] of its program, and faster where the code is decoded. The state is
     /// changed in place, up to the instruction that asks; the reply to the want goes to
     /// [`absorb_in_place`](crate::absorb_in_place).
     pub fn quiet_run_in_place(&self, state: &mut HartState, budget: u64) -> Want
         ensures { record { state = state.new; want = result } ≡ ask_of self.now budget state.old }
     {
+        // What stays the same is kept in variables: else each write to the state makes the compiler
+        // read it again. The count is added once, when the run ends.
+        let image = self.image;
+        let first = self.first;
+        let instrs = self.instrs.as_slice();
+        let ic = state.ic;
         let mut want = Want::Cut;
         let mut pc = state.pc;
-        let mut ic = state.ic;
         for done in 0..budget {
-            match self.instr(pc) {
+            match instr_at(instrs, first, pc) {
                 None => {
-                    put_back(state, pc, ic);
-                    return quiet_run_in_place(self.image, state, budget - done);
+                    put_back(state, pc, ic.saturating_add(done));
+                    return quiet_run_in_place(image, state, budget - done);
                 }
                 Some(instr) => {
-                    if !step(instr, self.image, &mut pc, &mut state.x, &mut want) {
-                        put_back(state, pc, ic);
+                    if !step(instr, image, &mut pc, &mut state.x, &mut want) {
+                        put_back(state, pc, ic.saturating_add(done));
                         return want;
                     }
-                    ic = count_up(ic);
                 }
             }
         }
-        put_back(state, pc, ic);
+        put_back(state, pc, ic.saturating_add(budget));
         Want::Cut
     }
 }

@@ -1,14 +1,16 @@
 //! The quiet instructions of a hart, up to what it asks.
-ghost use Rattle.std.specs.Prelude.{◌≡◌, ◌<◌, ◌≤◌, ◌+◌, ◌-◌, ◌^◌, IsTrue};
+ghost use Rattle.std.specs.Prelude.{◌≡◌, ◌<◌, ◌≤◌, ◌+◌, ◌-◌, ◌^◌, Some, IsTrue};
+ghost use Rattle.rv_decode.specs.Seen.{seen};
 ghost use Rattle.rv_meaning.specs.Execute.{ask_of};
 ghost use Rattle.rv_meaning.specs.Orderly.{orderly};
+ghost use Rattle.rv_meaning.specs.Rows.{instruction_at};
 
 use crate::asks::{Ask, Want};
 use crate::fetch::{code_segment, code_word};
 use crate::moves::count_up;
 use crate::steps::step;
 use bn_base::{Fault, HartState, Image};
-use rv_decode::decode;
+use rv_decode::{Instr, decode};
 
 /// As [`quiet_run`], but changes the state in place and gives the want alone, which saves copies
 /// where a hart runs and asks many times.
@@ -42,6 +44,21 @@ pub fn quiet_run_in_place(image: &Image, state: &mut HartState, budget: u64) -> 
             },
         }
     }
+    Want::Cut
+}
+
+/// Does the instruction at the pc, which is decoded already: as [`quiet_run_in_place`] with a budget
+/// of 1.
+#[inline(always)]
+pub fn step_in_place(instr: &Instr, image: &Image, state: &mut HartState) -> Want
+    requires { instruction_at image.now state.old ≡ Some (seen instr.now) }
+    ensures { record { state = state.new; want = result } ≡ ask_of image.now 1 state.old }
+{
+    let mut want = Want::Cut;
+    if !step(instr, image, &mut state.pc, &mut state.x, &mut want) {
+        return want;
+    }
+    state.ic = count_up(state.ic);
     Want::Cut
 }
 

@@ -21,6 +21,6 @@ pub use ahead::DecodedImage;
 pub use amo::AmoOp;
 pub use asks::{Ask, Reply, Want};
 pub use fetched::Fetched;
-pub use interpreter::{quiet_run, quiet_run_in_place};
+pub use interpreter::{quiet_run, quiet_run_in_place, step_in_place};
 pub use laws::{each_ask_is_orderly, each_instruction_is_counted_or_asks, registers_stay_words};
 pub use replies::{absorb, absorb_in_place};
