@@ -138,6 +138,7 @@ impl Cache {
     }
 
     // Takes a line out of the second level, and gives its bits, none set where it isn't there.
+    #[inline(never)]
     fn take_below(&mut self, line: u32) -> u16
         ensures bits { IsBitsBelow self.old line result }
         ensures out { IsTakenBelow self.old line self.new }
@@ -253,14 +254,25 @@ impl Cache {
 
     /// Drops the line that has the byte at an address from both levels, with the bits of all its words. A line that isn't
     /// listed or below stays so.
+    #[inline(always)]
     pub fn drop_line(&mut self, addr: Addr)
         ensures stands { (es : List Event) → StandsFor self.old es → StandsFor self.new (Drop addr ∷ es) }
         ensures geometry { self.new.geometry ≡ self.old.geometry }
         ensures steps { self.new.steps ≡ self.old.steps }
     {
         let line = self.line_of(addr);
-        self.take_below(line);
+        self.leave_below(line);
         self.take_listed(line);
+    }
+
+    // Takes a line out of the second level, if there is one.
+    #[inline(always)]
+    fn leave_below(&mut self, line: u32)
+        ensures { IsTakenBelow self.old line self.new }
+    {
+        if self.width_below != 0 {
+            self.take_below(line);
+        }
     }
 
     // Takes a line out of the first level.
