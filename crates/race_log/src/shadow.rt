@@ -163,7 +163,15 @@ impl Shadow {
 
     // Takes in an access of one hart among any number.
     #[inline(never)]
-    fn take_in_among(&mut self, hart: HartId, ic: Ic, turn: u64, first: Addr, count: u32, mode: Mode)
+    fn take_in_among(
+        &mut self,
+        hart: HartId,
+        ic: Ic,
+        turn: u64,
+        first: Addr,
+        count: u32,
+        mode: Mode,
+    )
         requires hart { hart < harts_of self.old }
         requires ic { ic < 2 ^ 41 }
         requires aligned { first % 4 ≡ 0 }
