@@ -1,8 +1,8 @@
 -- What a cache of two levels stands for after an event.
-use Rattle.std.proofs.Common.{◌≡◌, ◌≢◌, ℕ, ◌+◌, ◌*◌, ◌^◌, ◌<◌, ◌≤◌, Bool, true, false, List, [], ◌∷◌, length, length-take, All, ◌-◌, get_or, set, take, drop, map, bit_or, is_some, ◌==◌, ◌↔◌, if◌then◌else◌, refl, sym, ◌∙◌, ap, ap₂, arith, subst, inl, inr}
+use Rattle.std.proofs.Common.{◌≡◌, ◌≢◌, ℕ, ◌%◌, ◌+◌, ◌*◌, ◌^◌, ◌<◌, ◌≤◌, Bool, true, false, List, [], ◌∷◌, length, length-take, All, ◌-◌, get_or, set, take, drop, map, bit_or, is_some, ◌==◌, ◌↔◌, if◌then◌else◌, refl, sym, ◌∙◌, ap, ap₂, arith, subst, inl, inr}
 use Rattle.std.proofs.lemmas.Bool.{eq-eqb}
 use Rattle.std.proofs.lemmas.Bool.Decides.{eqb_tells}
-use Rattle.std.proofs.lemmas.Nat.{mod_below}
+use Rattle.std.proofs.lemmas.Nat.{mod_below, one_shl}
 use Rattle.std.specs.Int.{bit_at}
 use Rattle.first_load_bits.specs.declared.way.Way.{Way}
 use Rattle.first_load_bits.specs.declared.warm.Warm.{Warm}
@@ -10,14 +10,15 @@ use Rattle.first_load_bits.specs.Events.{Geometry, Event, line_of, set_of, secon
 use Rattle.first_load_bits.specs.Events.{Touch, Drop, Clear}
 use Rattle.first_load_bits.specs.Warm.{warm}
 use Rattle.first_load_bits.specs.Lines.{Line, put, lost, put_in, put_lost, taken_out, all_but, cleared, bits_of, bits_known, touched_line, levels, lines_below, in_front, place_of}
-use Rattle.first_load_bits.specs.Ways.{line_in, known_bits, given_up, has_line, latest_first, IsPlaceFor}
+use Rattle.first_load_bits.specs.Ways.{line_in, known_bits, given_up, has_line, latest_first, HasLine, IsPlaceFor}
 use Rattle.first_load_bits.specs.Stands.{Level, Contents, StandsFor, lines_of, first_level, second_level}
 use Rattle.first_load_bits.specs.Cached.{AreKept}
-use Rattle.first_load_bits.specs.Steps.{IsBitsBelow, IsTakenBelow, IsTakenListed, IsFallen, with_ways, with_ways_below}
+use Rattle.first_load_bits.specs.Steps.{IsListed, IsTouch, IsBitsBelow, IsTakenBelow, IsTakenListed, IsFallen, with_ways, with_ways_below}
+use Rattle.first_load_bits.proofs.Warmth.{warm_is}
 use Rattle.first_load_bits.proofs.Order.{length-lines_below}
 use Rattle.first_load_bits.proofs.Latest.{latest_nil}
 use Rattle.first_load_bits.proofs.Bits.{bits_law, nothing}
-use Rattle.first_load_bits.proofs.Standing.{IsRead, changed, lines_later, put_keeps, bits_absent, put_goes, put_loses, put_knows, clear_goes, new_lines}
+use Rattle.first_load_bits.proofs.Standing.{IsRead, changed, lines_later, put_keeps, bits_absent, put_goes, put_loses, put_knows, known_read, clear_goes, new_lines}
 
 -- ---- a set's list after a step depends on its list before
 
@@ -66,13 +67,13 @@ known_now c a l first i place below ws w es f h =
     ∙ (ap₂ (λ xs m. elim (is_some (in_front l xs)) as (λ b. ℕ) [ true ↦ bits_of l xs | false ↦ m ]) (h.sets (set_of g l) f.read.below) (f.below_is ∙ bits_below c l es f.sets h)
     ∙ ap (λ k. bits_known g k (levels g es)) f.line_is)
 
-pub touch_answers : (c : Contents) (a l first i place below : ℕ) (ws : List Way) (w : Way) (es : List Event) → 0 < c.geometry.ways → IsFound c a l first i place below ws w → StandsFor c es
+touch_answers : (c : Contents) (a l first i place below : ℕ) (ws : List Way) (w : Way) (es : List Event) → 0 < c.geometry.ways → IsFound c a l first i place below ws w → StandsFor c es
     → (bit_at (known_bits c.generation l below w) place == 1) ≡ warm c.geometry a es
 touch_answers c a l first i place below ws w es some f h =
     ap₂ (λ m p. bit_at m p == 1) (known_now c a l first i place below ws w es f h) f.place_is ∙ bits_law c.geometry a es some
 
 -- an answer by a test says Warm exactly where the test holds
-pub answer_says : (b : Bool) (r : Warm) → r ≡ (if b then Warm.Warm else Warm.Cold) → ((r ≡ Warm.Warm) ↔ (b ≡ true))
+answer_says : (b : Bool) (r : Warm) → r ≡ (if b then Warm.Warm else Warm.Cold) → ((r ≡ Warm.Warm) ↔ (b ≡ true))
 answer_says true r e = (λ h. refl, λ h. e)
 answer_says false r e = (λ h. cc, λ h. cc)
 
@@ -152,7 +153,7 @@ pub record IsTouched (now x r : Contents) (a l first i place below : ℕ) (ws : 
   pub below_is : IsBitsBelow now l below
   pub fallen : IsFallen (touched_cache x (first + i) (touched_way x l place below w) x.ways_below) l w r
 
-pub found_by : (now x r : Contents) (a l first i place below : ℕ) (ws : List Way) (w : Way) → IsTouched now x r a l first i place below ws w → IsFound now a l first i place below ws w
+found_by : (now x r : Contents) (a l first i place below : ℕ) (ws : List Way) (w : Way) → IsTouched now x r a l first i place below ws w → IsFound now a l first i place below ws w
 found_by now x r a l first i place below ws w t = record {
   sets = subst (λ (y : Contents). HasSets y) t.taken.same t.sets;
   kept = subst (λ (y : Contents). AreKept (first_level y)) t.taken.same t.kept;
@@ -164,7 +165,7 @@ found_by now x r a l first i place below ws w t = record {
   below_is = t.below_is;
 }
 
-pub touch_goes : (now x r : Contents) (a l first i place below : ℕ) (ws : List Way) (w : Way) (es : List Event) → IsTouched now x r a l first i place below ws w → StandsFor now es → StandsFor r (Touch a ∷ es)
+touch_goes : (now x r : Contents) (a l first i place below : ℕ) (ws : List Way) (w : Way) (es : List Event) → IsTouched now x r a l first i place below ws w → StandsFor now es → StandsFor r (Touch a ∷ es)
 touch_goes now x r a l first i place below ws w es t h =
     subst (λ (y : Contents). StandsFor y (Touch a ∷ es)) (sym after)
     (touch_stands now a l first i place below ws w x.ways_below r.ways_below es (found_by now x r a l first i place below ws w t)
@@ -177,6 +178,23 @@ touch_goes now x r a l first i place below ws w es t h =
 
     after : r ≡ touched_cache now (first + i) (touched_way now l place below w) r.ways_below
     after = fell.same
+
+-- so the touch does all that is said of one, if its answer is the bit that was known of the word
+pub touch_is : (now x r : Contents) (a l first i place below : ℕ) (ws : List Way) (w : Way) (told : Warm) → 0 < now.geometry.ways
+    → IsTouched now x r a l first i place below ws w → told ≡ (if bit_at (known_bits now.generation l below w) place == 1 then Warm.Warm else Warm.Cold) → IsTouch now a told r
+touch_is now x r a l first i place below ws w told some t e = record {
+  answer = answered;
+  history = λ es h.
+      let says = answer_says (warm now.geometry a es) told (answered es h) in
+      let is = warm_is now.geometry a es some in
+      (λ k. is.0 (says.0 k), λ k. says.1 (is.1 k));
+  stands = λ es h. touch_goes now x r a l first i place below ws w es t h;
+  geometry = ap (λ (y : Contents). y.geometry) t.fallen.same ∙ ap (λ (y : Contents). y.geometry) t.taken.same;
+  steps = ap (λ (y : Contents). y.steps) t.fallen.same ∙ ap (λ (y : Contents). y.steps + 1) t.taken.same;
+}
+  where
+    answered : (es : List Event) → StandsFor now es → told ≡ (if warm now.geometry a es then Warm.Warm else Warm.Cold)
+    answered es h = e ∙ ap (λ b. if b then Warm.Warm else Warm.Cold) (touch_answers now a l first i place below ws w es some (found_by now x r a l first i place below ws w t) h)
 
 -- ---- what the code reads of a level; now is the cache as its callers see it
 
@@ -197,6 +215,45 @@ read_second c now l first ways seen some f n w = record {
   below = mod_below l c.geometry.sets2 some;
   ways_are = ap (λ (ws : List Way). take (first + c.geometry.ways2 - first) (drop first ws)) w;
 }
+
+-- the mask that is written
+pub mask_is : (known given place : ℕ) → place < 16 → known ≡ given → bit_or known (1 * 2 ^ place % 2 ^ 16) ≡ bit_or given (2 ^ place)
+mask_is known given place h e = ap₂ bit_or e (one_shl place 16 h)
+
+-- a touch of a line that a way has, without a second level
+pub listed_is : (x : Contents) (a l first i place : ℕ) (w : Way) (told : Warm) → 0 < x.geometry.ways → 0 < x.geometry.sets → x.geometry.sets2 ≡ 0 → AreKept (first_level x) → AreKept (second_level x)
+    → IsListed x a first i → l ≡ line_of x.geometry a → place ≡ place_of x.geometry a → w ≡ get_or x.ways (first + i) w
+    → told ≡ (if bit_at (line_in x.generation w).bits place == 1 then Warm.Warm else Warm.Cold)
+    → IsTouch x a told (touched_cache x (first + i) (touched_way x l place 0 w) x.ways_below)
+listed_is x a l first i place w told some sets none kept kept_below listed line_is place_is way e =
+    touch_is x x (touched_cache x (first + i) (touched_way x l place 0 w) x.ways_below) a l first i place 0 ws w told some (record {
+      taken = record { same = refl; lines = λ k m. absurd (nowhere k m) };
+      sets = has;
+      kept = kept;
+      kept_below = kept_below;
+      read = read;
+      at = inl at;
+      way = way;
+      line_is = line_is;
+      place_is = place_is;
+      below_is = sym (ap (λ n. bits_of l (latest_first x.generation x.steps (take n (drop (set_of (second_of x.geometry) l * x.geometry.ways2) x.ways_below)))) listed.alone ∙ ap (bits_of l) (latest_nil x.generation x.steps));
+      fallen = record { same = refl; lines = λ k m. absurd (nowhere k m) };
+    }) (e ∙ ap (λ m. if bit_at m place == 1 then Warm.Warm else Warm.Cold) (known_read (first_level x) l first i 0 ws w read at way))
+  where
+    ws : List Way
+    ws = take (first + x.geometry.ways - first) (drop first x.ways)
+
+    nowhere : (k : ℕ) → k < x.geometry.sets2 → ⊥
+    nowhere k m = omega (arith, m, none)
+
+    has : HasSets x
+    has m = let alone = listed.alone in absurd (omega (arith, m, alone))
+
+    read : IsRead (first_level x) l first ws
+    read = read_first x x l first x.ways refl sets (listed.first_is ∙ ap (λ k. set_of x.geometry k * x.geometry.ways) (sym line_is)) listed.within refl
+
+    at : HasLine l i ws
+    at = subst (λ k. HasLine k i ws) (sym line_is) listed.has
 
 -- a place within what is read of the second level shows that it has ways
 pub some_ways : (first n at : ℕ) (ways : List Way) → at < length (take (first + n - first) (drop first ways)) → 0 < n

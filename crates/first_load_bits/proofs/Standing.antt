@@ -248,6 +248,13 @@ bits_read c l first i ws w h r at e =
     ap (λ (v : Way). (line_in c.generation v).bits) (sym (way_read c l first i ws w w r (line_inside c l first i ws r at) e))
     ∙ bits_there_are c.generation c.steps l w (ways_of c s) i (h.apart s r.below) (old_enough c s h) (has_there c l first i ws r at)
 
+-- and they are all that is known of the line, whatever else is
+pub known_read : (c : Level) (l first i others : ℕ) (ws : List Way) (w : Way) → IsRead c l first ws → HasLine l i ws → w ≡ get_or c.ways (first + i) w
+    → (line_in c.generation w).bits ≡ known_bits c.generation l others w
+known_read c l first i others ws w r at e =
+    let has : has_line l w ≡ true = subst (λ (v : Way). has_line l v ≡ true) (way_read c l first i ws w w r (line_inside c l first i ws r at) e) ((has_there c l first i ws r at).1 w) in
+    sym (ap (λ b. elim b as (λ x. ℕ) [ true ↦ (line_in c.generation w).bits | false ↦ others ]) has)
+
 pub bits_absent : (c : Level) (l first : ℕ) (ws : List Way) → IsRead c l first ws → All (λ w. has_line l w ≡ false) ws → 0 ≡ bits_of l (lines_of c (set_of c.geometry l))
 bits_absent c l first ws r none =
     let s = set_of c.geometry l in

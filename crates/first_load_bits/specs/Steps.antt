@@ -1,10 +1,31 @@
 -- The steps by which a cache takes in a touch or a drop.
-use Rattle.std.specs.Prelude.{ℕ, ◌<◌, ◌≡◌, List}
+use Rattle.std.specs.Prelude.{ℕ, ◌+◌, ◌-◌, ◌*◌, ◌<◌, ◌≤◌, ◌≡◌, ◌↔◌, ◌∷◌, List, length, take, drop, if◌then◌else◌}
 use Rattle.first_load_bits.specs.declared.way.Way.{Way}
-use Rattle.first_load_bits.specs.Events.{set_of, second_of}
+use Rattle.first_load_bits.specs.declared.warm.Warm.{Warm}
+use Rattle.first_load_bits.specs.declared.warm.Warm.TheVariants as Answer
+use Rattle.first_load_bits.specs.Events.{Event, line_of, set_of, second_of}
+use Rattle.first_load_bits.specs.Events.{Touch}
+use Rattle.first_load_bits.specs.History.{IsWarm}
+use Rattle.first_load_bits.specs.Warm.{warm}
 use Rattle.first_load_bits.specs.Lines.{bits_of, put_in, put_lost, taken_out}
-use Rattle.first_load_bits.specs.Ways.{line_in, given_up}
-use Rattle.first_load_bits.specs.Stands.{Contents, lines_of, first_level, second_level}
+use Rattle.first_load_bits.specs.Ways.{HasLine, line_in, given_up}
+use Rattle.first_load_bits.specs.Stands.{Contents, StandsFor, lines_of, first_level, second_level}
+
+-- the word at address a is touched, and answered is whether it was warm
+pub record IsTouch (old : Contents) (a : ℕ) (told : Warm) (new : Contents) : Type 0 where
+  pub answer : (es : List Event) → StandsFor old es → told ≡ (if warm old.geometry a es then Answer.Warm else Answer.Cold)
+  pub history : (es : List Event) → StandsFor old es → ((told ≡ Answer.Warm) ↔ IsWarm old.geometry a es)
+  pub stands : (es : List Event) → StandsFor old es → StandsFor new (Touch a ∷ es)
+  pub geometry : new.geometry ≡ old.geometry
+  pub steps : new.steps ≡ old.steps + 1
+
+-- there is no second level, and of the ways of the set of address a, of which this is the place of the first, number i has
+-- its line
+pub record IsListed (c : Contents) (a first i : ℕ) : Type 0 where
+  pub alone : c.geometry.ways2 ≡ 0
+  pub first_is : first ≡ set_of c.geometry (line_of c.geometry a) * c.geometry.ways
+  pub within : first + c.geometry.ways ≤ length c.ways
+  pub has : HasLine (line_of c.geometry a) i (take (first + c.geometry.ways - first) (drop first c.ways))
 
 -- the bits of a line in its second set
 abbrev pub IsBitsBelow : Contents → ℕ → ℕ → Type 0

@@ -7,7 +7,7 @@ ghost use Rattle.first_load_bits.specs.Warm.{warm};
 ghost use Rattle.first_load_bits.specs.Stands.{StandsFor, geometry_of};
 ghost use Rattle.first_load_bits.specs.Lines.{place_of};
 ghost use Rattle.first_load_bits.specs.Ways.{empty_way};
-ghost use Rattle.first_load_bits.specs.Steps.{IsBitsBelow, IsTakenBelow, IsPutBelow, IsFallen, IsTakenListed};
+ghost use Rattle.first_load_bits.specs.Steps.{IsListed, IsTouch, IsBitsBelow, IsTakenBelow, IsPutBelow, IsFallen, IsTakenListed};
 
 use crate::warm::{Warm, answer};
 use crate::way::{Way, bits, find, has_other, known_bits, place_for};
@@ -138,6 +138,7 @@ impl Cache {
     }
 
     // Takes a line out of the second level, and gives its bits, none set where it isn't there.
+    #[inline(never)]
     fn take_below(&mut self, line: u32) -> u16
         ensures bits { IsBitsBelow self.old line result }
         ensures out { IsTakenBelow self.old line self.new }
@@ -171,6 +172,7 @@ impl Cache {
     /// Touches the word that has the byte at an address, and tells whether it was warm just before: whether, since some
     /// touch of it after the last clear, the cache held its line at every moment. Its line takes the way that it has, or
     /// else an empty one of its set, or the one that was touched longest ago, whose line falls to the second level.
+    #[inline(always)]
     pub fn touch(&mut self, addr: Addr) -> Warm
         requires { self.old.steps < 2 ^ 42 }
         ensures answer { (es : List Event) → StandsFor self.old es → result ≡ (if warm self.old.geometry addr es then Warm.Warm else Warm.Cold) }
@@ -178,6 +180,44 @@ impl Cache {
         ensures stands { (es : List Event) → StandsFor self.old es → StandsFor self.new (Touch addr ∷ es) }
         ensures geometry { self.new.geometry ≡ self.old.geometry }
         ensures steps { self.new.steps ≡ self.old.steps + 1 }
+    {
+        if self.width_below != 0 {
+            return self.touch_anew(addr);
+        }
+        let line = self.line_of(addr);
+        let first = self.first_way(line);
+        match find(&self.ways[first..first + self.width], line) {
+            Some(at) => self.touch_listed(addr, first, at),
+            None => self.touch_anew(addr),
+        }
+    }
+
+    // Touches a word whose line a way has, at this place in its set, if there is no second level.
+    #[inline(always)]
+    fn touch_listed(&mut self, addr: Addr, first: usize, at: usize) -> Warm
+        requires steps { self.old.steps < 2 ^ 42 }
+        requires listed { IsListed self.old addr first at }
+        ensures { IsTouch self.old addr result self.new }
+    {
+        let line = self.line_of(addr);
+        let place = self.place_of(addr);
+        let old = self.ways[first + at];
+        let bits = bits(&old, self.generation);
+        self.steps += 1;
+        self.ways[first + at] = Way {
+            line,
+            mask: bits | (1 << place),
+            age: self.steps,
+            generation: self.generation,
+        };
+        answer(bits, place)
+    }
+
+    // Touches a word whatever the levels have of its line.
+    #[inline(never)]
+    fn touch_anew(&mut self, addr: Addr) -> Warm
+        requires { self.old.steps < 2 ^ 42 }
+        ensures { IsTouch self.old addr result self.new }
     {
         let line = self.line_of(addr);
         let place = self.place_of(addr);
@@ -214,14 +254,25 @@ impl Cache {
 
     /// Drops the line that has the byte at an address from both levels, with the bits of all its words. A line that isn't
     /// listed or below stays so.
+    #[inline(always)]
     pub fn drop_line(&mut self, addr: Addr)
         ensures stands { (es : List Event) → StandsFor self.old es → StandsFor self.new (Drop addr ∷ es) }
         ensures geometry { self.new.geometry ≡ self.old.geometry }
         ensures steps { self.new.steps ≡ self.old.steps }
     {
         let line = self.line_of(addr);
-        self.take_below(line);
+        self.leave_below(line);
         self.take_listed(line);
+    }
+
+    // Takes a line out of the second level, if there is one.
+    #[inline(always)]
+    fn leave_below(&mut self, line: u32)
+        ensures { IsTakenBelow self.old line self.new }
+    {
+        if self.width_below != 0 {
+            self.take_below(line);
+        }
     }
 
     // Takes a line out of the first level.

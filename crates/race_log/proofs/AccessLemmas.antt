@@ -1,5 +1,5 @@
 -- The times in one access of a shadow.
-use Rattle.std.proofs.Common.{◌≡◌, ◌≢◌, ℕ, ◌+◌, ◌-◌, ◌<◌, Bool, true, false, ◌==◌, refl, inl, inr, arith, sym, ap, ◌∙◌, slice_get, slice_set, slice_index_or, if◌then◌else◌, nat_lt}
+use Rattle.std.proofs.Common.{◌≡◌, ◌≢◌, ℕ, ◌+◌, ◌-◌, ◌<◌, Bool, true, false, ◌==◌, refl, inl, inr, arith, sym, ap, ◌∙◌, slice_index_or, subst, if◌then◌else◌, nat_lt}
 use Rattle.std.proofs.lemmas.Option.{slice_get_read}
 use Rattle.race_log.specs.declared.times.Times.{Times}
 use Rattle.race_log.specs.Times.{count_of}
@@ -8,10 +8,9 @@ use Rattle.race_log.specs.declared.shadow.Shadow.{Shadow}
 use Rattle.race_log.specs.Kept.{is_write}
 use Rattle.race_log.specs.Search.{gathered, counts_after}
 use Rattle.race_log.specs.Slots.{counts_past}
-use Rattle.race_log.specs.Stands.{harts_of, times_of, next_count, kept_of}
+use Rattle.race_log.specs.Stands.{harts_of, times_of, next_count, kept_of, TakesIn}
 use Rattle.race_log.specs.Words.{counts_at}
 use Rattle.race_log.proofs.BoolFacts.{known, same_number, other_number}
-use Rattle.race_log.proofs.Steps.{counts_here, counts_there}
 
 -- what is read of the times is the hart's
 pub read_times : (s : Shadow) (hart : ℕ) (t : Times) → hart < harts_of s → t ≡ slice_index_or s.times.items hart t → times_of s hart ≡ count_of t
@@ -38,16 +37,14 @@ here x y h g e = let t : (h == g) ≡ true = grind arith in rw t
 there : {X : Type 0} (x y : X) (h g : ℕ) → (h == g) ≡ false → (if h == g then x else y) ≡ y
 there x y h g e = rw e
 
--- the lowest counts of next accesses, with the hart's times put in
-pub counts_set : (s : Shadow) (hart count : ℕ) (t : Times) → hart < harts_of s → (y : ℕ) → count_of t hart ≡ (if hart == hart then count + 1 else y)
-    → (h : ℕ) → counts_at (slice_get (slice_set s.times.items hart t) h) h ≡ (if h == hart then count + 1 else next_count s h)
-counts_set s hart count t low y set h = elim (known (h == hart)) [
+-- the lowest counts of next accesses, after one is taken in
+pub counts_taken : (s t : Shadow) (hart count turn first n : ℕ) (mode : Mode) → TakesIn hart count turn first n mode s t
+    → (h : ℕ) → next_count t h ≡ (if h == hart then count + 1 else next_count s h)
+counts_taken s t hart count turn first n mode taken h = elim (known (h == hart)) [
   | inl same ↦
-      let is = same_number h hart same in
-      rw is (counts_here s.times.items hart t (omega (arith, low, s.each_hart, s.times.ok)) hart ∙ (set ∙ (here (count + 1) y hart hart refl
-      ∙ sym (here (count + 1) (next_count s hart) hart hart refl))))
-  | inr apart ↦
-      counts_there s.times.items hart h t (other_number h hart apart) h ∙ sym (there (count + 1) (next_count s h) h hart apart)
+      subst (λ k. next_count t k ≡ (if k == hart then count + 1 else next_count s k)) (sym (same_number h hart same))
+      (taken.own hart ∙ (here (count + 1) _ hart hart refl ∙ sym (here (count + 1) (next_count s hart) hart hart refl)))
+  | inr apart ↦ taken.others h (other_number h hart apart) h ∙ sym (there (count + 1) (next_count s h) h hart apart)
 ]
 
 -- the times that are kept by the present stretch are those after the point

@@ -1,12 +1,14 @@
 -- What a shadow knows and keeps of the points so far.
-use Rattle.std.specs.Prelude.{◌≡◌, ℕ, ◌+◌, ◌*◌, ◌<◌, Bool, not, ◌&&◌, ◌||◌, nat_lt, List, length, slice_get, Option, Some, None, All}
+use Rattle.std.specs.Prelude.{◌≡◌, ◌≢◌, ℕ, ◌+◌, ◌-◌, ◌*◌, ◌<◌, ◌≤◌, ◌==◌, if◌then◌else◌, Bool, not, ◌&&◌, ◌||◌, nat_lt, List, length, slice_get, Option, Some, None, All}
 use Rattle.race_log.specs.declared.shadow.Shadow.{Shadow}
+use Rattle.race_log.specs.declared.mode.Mode.{Mode}
 use Rattle.race_log.specs.Points.{Point}
 use Rattle.race_log.specs.ByCount.{IsInOrder}
 use Rattle.race_log.specs.Holds.{OwnUpTo, CountsOf}
-use Rattle.race_log.specs.Kept.{Kept, Suffices}
+use Rattle.race_log.specs.Kept.{Kept, Suffices, is_write}
+use Rattle.race_log.specs.Search.{sources, counts_after, gathered}
 use Rattle.race_log.specs.Sweep.{has_bit, all_below, held_below}
-use Rattle.race_log.specs.Words.{kept_in, counts_at}
+use Rattle.race_log.specs.Words.{kept_in, counts_at, KeepsAccess}
 
 -- a number past the turn, where there is one
 abbrev pub past_turn : Option ℕ → ℕ
@@ -79,3 +81,23 @@ pub record Stands (run : List Point) (live : ℕ → Bool) (s : Shadow) : Type 0
   pub past : All (λ p. p.turn < next_turn s) run
   pub own : (hart : ℕ) → hart < harts_of s → CountsOf run (OwnUpTo run hart) (times_of s hart)
   pub kept : (word : ℕ) → Suffices run (is_live s live) word (kept_of s word)
+
+-- The shadow takes in the hart's access at this count and turn: the sources of its edges are found among what is kept, the
+-- hart's times take in theirs, and one access is kept, with these times, if there are other harts.
+pub record TakesIn (hart count turn first n : ℕ) (mode : Mode) (old new : Shadow) : Type 0 where
+  pub edges : edges_of new ≡ sources hart (is_write mode) (harts_of old - 1) (times_of old hart) (gathered (kept_of old) first n)
+  pub few : length (edges_of new) < harts_of old
+  pub own : (h : ℕ) → times_of new hart h ≡ (if h == hart then count + 1 else counts_after hart (is_write mode) (harts_of old - 1) (times_of old hart) (gathered (kept_of old) first n) h)
+  pub others : (other : ℕ) → other ≢ hart → (h : ℕ) → times_of new other h ≡ times_of old other h
+  pub one : Kept
+  pub at_turn : one.turn ≡ turn
+  pub by_hart : one.hart ≡ hart
+  pub at_count : one.ic ≡ count
+  pub with_mode : one.mode ≡ mode
+  pub with_times : (h : ℕ) → one.times h ≡ times_of new hart h
+  pub many : 1 < harts_of old → KeepsAccess one first n (kept_of old) (kept_of new)
+  pub alone : harts_of old ≤ 1 → (w : ℕ) → kept_of new w ≡ kept_of old w
+  pub harts : harts_of new ≡ harts_of old
+  pub lasting : lasting_of new ≡ lasting_of old
+  pub turns : next_turn new ≡ turn + 1
+  pub reserved : reserved_range new ≡ None

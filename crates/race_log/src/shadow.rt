@@ -43,7 +43,7 @@ impl Shadow {
     ghost use Rattle.race_log.specs.Laws.{AreSources};
     ghost use Rattle.race_log.specs.Kept.{access_point, after};
     ghost use Rattle.race_log.specs.Sweep.{has_bit, is_covered, accessed_below};
-    ghost use Rattle.race_log.specs.Stands.{Stands, KnowsSame, harts_of, lasting_of, lasts, next_turn, next_count, times_of, kept_of, words_of, held_of, is_known, reserved_range, edges_of};
+    ghost use Rattle.race_log.specs.Stands.{Stands, KnowsSame, harts_of, lasting_of, lasts, next_turn, next_count, times_of, kept_of, words_of, held_of, is_known, reserved_range, edges_of, TakesIn};
 
     /// Knows of no point and keeps nothing.
     pub fn new(alloc: Global, settings: &Settings) -> Result<Shadow, AllocError>
@@ -76,6 +76,7 @@ impl Shadow {
     ///
     /// Want of memory is the only error, and comes only where that room isn't made yet. After it
     /// all is as before.
+    #[inline(always)]
     pub fn reserve(&mut self, first: Addr, count: u32) -> Result<(), AllocError>
         requires aligned { first % 4 ≡ 0 }
         requires range { first + 4 * count ≤ 2 ^ 32 }
@@ -93,6 +94,7 @@ impl Shadow {
 
     /// Takes in the hart's instruction at the count `ic`, done in this turn, which reads or writes `count` words from
     /// `first`; [`Shadow::edges`] then has the edges into it. The hart's bit was clear at no sweep so far.
+    #[inline(always)]
     pub fn access(&mut self, hart: HartId, ic: Ic, turn: u64, first: Addr, count: u32, mode: Mode)
         requires hart { hart < harts_of self.old }
         requires ic { ic < 2 ^ 41 }
@@ -123,6 +125,59 @@ impl Shadow {
         ensures turn { next_turn self.new ≡ turn + 1 }
         ensures counts { (h : ℕ) → next_count self.new h ≡ (if h == hart then ic + 1 else next_count self.old h) }
         ensures reserved { reserved_range self.new ≡ None }
+    {
+        self.take_in(hart, ic, turn, first, count, mode);
+    }
+
+    // Takes in an access. One hart alone has no other to learn from, and nothing is kept for others.
+    #[inline(always)]
+    fn take_in(&mut self, hart: HartId, ic: Ic, turn: u64, first: Addr, count: u32, mode: Mode)
+        requires hart { hart < harts_of self.old }
+        requires ic { ic < 2 ^ 41 }
+        requires aligned { first % 4 ≡ 0 }
+        requires range { first + 4 * count ≤ 2 ^ 32 }
+        requires reserved { reserved_range self.old ≡ Some (first, count) }
+        ensures { TakesIn hart ic turn first count mode self.old self.new }
+    {
+        if self.harts == 1 {
+            self.take_in_alone(hart, ic, turn);
+        } else {
+            self.take_in_among(hart, ic, turn, first, count, mode);
+        }
+    }
+
+    // Takes in an access of one hart alone.
+    #[inline(always)]
+    fn take_in_alone(&mut self, hart: HartId, ic: Ic, turn: u64)
+        requires hart { hart < harts_of self.old }
+        requires ic { ic < 2 ^ 41 }
+        requires alone { harts_of self.old ≡ 1 }
+        ensures { (first count : ℕ) (mode : Mode) → TakesIn hart ic turn first count mode self.old self.new }
+    {
+        self.edges.clear();
+        self.times[hart as usize].set(hart, ic + 1);
+        self.last_turn = Some(turn);
+        self.reserved = None;
+        self.since = self.since.saturating_add(1);
+    }
+
+    // Takes in an access of one hart among any number.
+    #[inline(never)]
+    fn take_in_among(
+        &mut self,
+        hart: HartId,
+        ic: Ic,
+        turn: u64,
+        first: Addr,
+        count: u32,
+        mode: Mode,
+    )
+        requires hart { hart < harts_of self.old }
+        requires ic { ic < 2 ^ 41 }
+        requires aligned { first % 4 ≡ 0 }
+        requires range { first + 4 * count ≤ 2 ^ 32 }
+        requires reserved { reserved_range self.old ≡ Some (first, count) }
+        ensures { TakesIn hart ic turn first count mode self.old self.new }
     {
         let times = &mut self.times[hart as usize];
         find_sources(

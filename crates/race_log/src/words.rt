@@ -72,6 +72,7 @@ impl KeptWords {
     }
 
     /// Makes room for an access of `count` words from `first`. What is kept stays, and so does room.
+    #[inline(always)]
     pub fn make_room(&mut self, first: Addr, count: u32) -> Result<(), AllocError>
         requires aligned { first % 4 ≡ 0 }
         requires range { first + 4 * count ≤ 2 ^ 32 }
@@ -85,6 +86,22 @@ impl KeptWords {
         if self.harts < 2 {
             return Ok(());
         }
+        self.make_room_for_many(first, count)
+    }
+
+    // Makes room for an access if there are several harts.
+    #[inline(never)]
+    fn make_room_for_many(&mut self, first: Addr, count: u32) -> Result<(), AllocError>
+        requires many { 1 < self.old.harts }
+        requires aligned { first % 4 ≡ 0 }
+        requires range { first + 4 * count ≤ 2 ^ 32 }
+        ensures harts { self.new.harts ≡ self.old.harts }
+        ensures same { (w : ℕ) → kept_in self.new w ≡ kept_in self.old w }
+        ensures present { (g h : ℕ) → present_counts self.new.stretches g h ≡ present_counts self.old.stretches g h }
+        ensures room { OnOk result (HasRoom self.new first count) }
+        ensures stays { (f n : ℕ) → HasRoom self.old f n → HasRoom self.new f n }
+        ensures ready { HasRoom self.old first count → IsOk result }
+    {
         self.make_pages(first, count)?;
         self.look_through();
         self.stretches.make_room()

@@ -1,26 +1,18 @@
-use Rattle.std.proofs.Common.{◌≡◌, ◌+◌, ◌-◌, ◌*◌, ◌/◌, ◌==◌, ℕ, length, IsTrue, ltb-true, ◌∙◌, arith, refl, sym, ap, inl, inr, Option, Some, None, slice_get, slice_set, Contains, ◌↔◌, subst}
-use Rattle.std.proofs.lemmas.Bool.{cases_eq}
-use Rattle.race_log.specs.Times.{count_of}
-use Rattle.race_log.specs.Kept.{is_write, access_point, after}
+use Rattle.race_log.specs.Stands.{times_of}
+use Rattle.race_log.proofs.AccessLemmas.{counts_taken}
+use Rattle.std.proofs.Common.{◌∙◌, refl, sym, Contains, ◌↔◌, subst}
+use Rattle.race_log.specs.Kept.{access_point, after}
 use Rattle.race_log.specs.Points.{Point}
 use Rattle.race_log.specs.ByCount.{IsPointAt, IsEdgeBetween}
-use Rattle.race_log.specs.Search.{gathered, sources}
-use Rattle.race_log.specs.Slots.{slots_of}
-use Rattle.race_log.specs.Words.{kept_in, kept_now, present_counts, KeepsAccess, counts_at}
-use Rattle.race_log.proofs.AccessLemmas.{read_times, set_times, counts_set, times_kept, set_apart, not_less}
 use Rattle.race_log.proofs.Known.{listed_exactly}
-use Rattle.race_log.proofs.Steps.{now_in_order, found_edges, stands_after, new_times, counts_here, counts_there}
+use Rattle.race_log.proofs.Steps.{now_in_order, found_edges, stands_after, new_times}
 use Rattle.race_log.proofs.shadow.Shadow.access.Goals as goal
 
 pub returns-clause-edges : goal.returns-clause-edges
 returns-clause-edges c = λ run live lives stands.
-    let known = read_times c.args.self.now c.args.hart c.index_mut-times.result.now c.requires.hart c.index_mut-times.ensures.value in
-    let kept = gathered (kept_in c.args.self.now.words) c.args.first c.args.count in
-    c.find_sources.ensures.sources
-    ∙ (ap (λ w. sources c.args.hart w (c.args.self.now.harts - 1) (count_of c.index_mut-times.result.now) kept) c.is_write.ensures
-    ∙ (ap (λ counts. sources c.args.hart (is_write c.args.mode) (c.args.self.now.harts - 1) counts kept) (sym known)
+    c.take_in.ensures.edges
     ∙ found_edges run c.args.hart c.args.ic c.args.turn c.args.first c.args.count c.args.mode live c.args.self.now stands
-    c.requires.hart c.requires.counts c.requires.turns c.requires.lasting lives))
+    c.requires.hart c.requires.counts c.requires.turns c.requires.lasting lives
 
 pub returns-clause-exact : goal.returns-clause-exact
 returns-clause-exact c = λ run live lives stands h i.
@@ -31,79 +23,17 @@ returns-clause-exact c = λ run live lives stands h i.
     c.requires.hart c.requires.counts c.requires.turns c.requires.lasting lives) h i)
 
 pub returns-clause-times : goal.returns-clause-times
-returns-clause-times c = λ run live lives stands h i.
-    let known = read_times c.args.self.now c.args.hart c.index_mut-times.result.now c.requires.hart c.index_mut-times.ensures.value in
-    let set = set_times c.args.self.now c.args.hart c.args.ic c.args.first c.args.count c.args.mode c.index_mut-times.result.now c.set.new.self known
-    c.find_sources.new.times c.is_write.result c.is_write.ensures c.find_sources.ensures.counts c.set.ensures in
+returns-clause-times c = λ run live lives stands.
     new_times run c.args.hart c.args.ic c.args.turn c.args.first c.args.count c.args.mode live c.args.self.now stands
-    c.requires.hart c.requires.counts c.requires.turns c.requires.lasting lives (counts_at (slice_get (slice_set c.args.self.now.times.items c.args.hart c.set.new.self) c.args.hart))
-    (λ g. counts_here c.args.self.now.times.items c.args.hart c.set.new.self (omega (arith, c.requires.hart, c.args.self.now.each_hart, c.args.self.now.times.ok)) g ∙ set g) h i
+    c.requires.hart c.requires.counts c.requires.turns c.requires.lasting lives (times_of c.take_in.new.self c.args.hart) c.take_in.ensures.own
 
 pub returns-clause-stands : goal.returns-clause-stands
 returns-clause-stands c = λ run live lives stands.
-    let known = read_times c.args.self.now c.args.hart c.index_mut-times.result.now c.requires.hart c.index_mut-times.ensures.value in
-    let set = set_times c.args.self.now c.args.hart c.args.ic c.args.first c.args.count c.args.mode c.index_mut-times.result.now c.set.new.self known
-    c.find_sources.new.times c.is_write.result c.is_write.ensures c.find_sources.ensures.counts c.set.ensures in
-    let kept : kept_in c.go_on.new.self ≡ kept_in c.args.self.now.words = λ i w. c.go_on.ensures.kept w i in
-    let k = kept_now c.go_on.new.self.stretches c.args.mode c.args.hart c.args.turn (c.args.ic + 1) in
+    let t = c.take_in.ensures in
     stands_after run c.args.hart c.args.ic c.args.turn c.args.first c.args.count c.args.mode live c.args.self.now stands
-    c.requires.hart c.requires.counts c.requires.turns c.requires.lasting lives (count_of c.set.new.self) set _ k
-    refl refl refl
-    (λ h. counts_here c.args.self.now.times.items c.args.hart c.set.new.self (omega (arith, c.requires.hart, c.args.self.now.each_hart, c.args.self.now.times.ok)) h)
-    (λ other apart h. counts_there c.args.self.now.times.items c.args.hart other c.set.new.self apart h)
-    refl refl (omega arith) refl
-    (times_kept c.args.hart (c.args.ic + 1) (present_counts c.go_on.new.self.stretches c.args.hart) (count_of c.find_sources.new.times) (count_of c.set.new.self) c.set.ensures c.go_on.ensures.own)
-    (λ more. subst (λ f. KeepsAccess k c.args.first c.args.count f (kept_in c.keep.new.self)) kept
-    (c.keep.ensures.many (omega (arith, more, c.args.self.now.same_harts, c.go_on.ensures.harts))))
-    (λ one w. c.keep.ensures.alone (omega (arith, one, c.args.self.now.same_harts, c.go_on.ensures.harts)) w ∙ c.go_on.ensures.kept w)
-
-pub returns-clause-others : goal.returns-clause-others
-returns-clause-others c = λ other apart h.
-    counts_there c.args.self.now.times.items c.args.hart other c.set.new.self apart h
+    c.requires.hart c.requires.counts c.requires.turns c.requires.lasting lives (times_of c.take_in.new.self c.args.hart) t.own c.take_in.new.self t.one
+    t.harts t.lasting t.turns (λ h. refl) t.others t.at_turn t.by_hart t.at_count t.with_mode t.with_times t.many t.alone
 
 pub returns-clause-counts : goal.returns-clause-counts
 returns-clause-counts c = λ h.
-    counts_set c.args.self.now c.args.hart c.args.ic c.set.new.self c.requires.hart _ (c.set.ensures c.args.hart) h
-
-pub invariant_of-self : goal.invariant_of-self
-invariant_of-self c =
-    let old = c.args.self.now in
-    record {
-      same_harts = c.keep.ensures.harts ∙ (c.go_on.ensures.harts ∙ old.same_harts);
-      some_hart = old.some_hart;
-      few_harts = old.few_harts;
-      each_hart = old.each_hart;
-      present = λ g h low apart. subst (λ s. present_counts s g h ≡ counts_at (slice_get (slice_set old.times.items c.args.hart c.set.new.self) g) h) (sym c.keep.ensures.stretches)
-          (elim (cases_eq g c.args.hart) [
-            | inl same ↦
-                subst (λ k. present_counts c.go_on.new.self.stretches k h ≡ counts_at (slice_get (slice_set old.times.items c.args.hart c.set.new.self) k) h) (sym same)
-                (c.go_on.ensures.own h (λ e. apart (e ∙ sym same))
-                ∙ sym (counts_here old.times.items c.args.hart c.set.new.self (omega (arith, c.requires.hart, old.each_hart, old.times.ok)) h))
-            | inr other ↦
-                c.go_on.ensures.others g other h ∙ (old.present g h low apart ∙ sym (counts_there old.times.items c.args.hart g c.set.new.self other h))
-          ]);
-      room = λ r is. absurd (none is);
-    }
-  where
-    none : {r : ℕ × ℕ} → ◌≡◌ {A = Option (ℕ × ℕ)} None (Some r) → ⊥
-    none e = cc
-
-pub go_on-requires-clause-room : goal.go_on-requires-clause-room
-go_on-requires-clause-room c = λ learns.
-    let some = ltb-true 0 c.count.result learns in
-    (c.args.self.now.room (c.args.first, c.args.count) c.requires.reserved).stretch
-    (omega (arith, some, c.count.ensures, c.find_sources.ensures.few, c.args.self.now.same_harts))
-
-pub go_on-requires-clause-same : goal.go_on-requires-clause-same
-go_on-requires-clause-same c = λ none h apart.
-    let known = read_times c.args.self.now c.args.hart c.index_mut-times.result.now c.requires.hart c.index_mut-times.ensures.value in
-    let empty = sym c.count.ensures ∙ not_less c.count.result none in
-    c.args.self.now.present c.args.hart h c.requires.hart apart
-    ∙ (ap (λ (f : ℕ → ℕ). f h) known ∙ (sym (c.find_sources.ensures.none empty h)
-    ∙ sym (set_apart c.args.hart (c.args.ic + 1) (count_of c.find_sources.new.times) (count_of c.set.new.self) c.set.ensures h apart)))
-
-pub keep-requires-clause-pages : goal.keep-requires-clause-pages
-keep-requires-clause-pages c = λ more i low.
-    let was = (c.args.self.now.room (c.args.first, c.args.count) c.requires.reserved).pages (omega (arith, more, c.go_on.ensures.harts)) in
-    subst (λ p. IsTrue (length (slots_of (slice_get p.items ((c.args.first + 4 * i) / 256))) == 64 * (c.go_on.new.self.harts + 1))) (sym c.go_on.ensures.pages)
-    (subst (λ n. IsTrue (length (slots_of (slice_get c.args.self.now.words.pages.items ((c.args.first + 4 * i) / 256))) == 64 * (n + 1))) (sym c.go_on.ensures.harts) (was i low))
+    counts_taken c.args.self.now c.take_in.new.self c.args.hart c.args.ic c.args.turn c.args.first c.args.count c.args.mode c.take_in.ensures h

@@ -1,7 +1,7 @@
 use Rattle.std.proofs.Common.{◌∙◌, ◌/◌, ◌%◌, slice_get, ◌==◌, cond, [], ap}
 use Rattle.race_log.specs.Slots.{word_in, slots_of}
 use Rattle.race_log.specs.Words.{stretch_counts, page_of, place_of}
-use Rattle.race_log.proofs.words.KeptWords.make_room.Goals as goal
+use Rattle.race_log.proofs.words.KeptWords.make_room_for_many.Goals as goal
 
 pub returns-clause-same : goal.returns-clause-same
 returns-clause-same c = λ w.
