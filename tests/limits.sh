@@ -1,7 +1,7 @@
 #!/usr/bin/env bash
-# Gives the program files of just their greatest length and of a byte more, and saves a file past the limit that the
-# system sets to a process's files: tests/limits.sh PROGRAM. The long files take no room on the disk. BOOK takes a
-# gigabyte of memory for two seconds.
+# Gives the program files of just their greatest length and of a byte more, saves a file past the limit that the
+# system sets to a process's files, and saves over files that were loaded: tests/limits.sh PROGRAM. The long files take
+# no room on the disk. BOOK takes a gigabyte of memory for two seconds.
 set -u
 top=$(cd "$(dirname "$0")/.." && pwd)
 program=$(readlink -f "$1")
@@ -47,5 +47,15 @@ fi
 for name in LOG3 BOOK3 NEW; do
     [ ! -e $name ] || { echo "$name was begun" && failures=$((failures + 1)); }
 done
+
+# A file that was loaded stays as it is, whatever name leads to it.
+echo input >INPUT && mkdir IN && ln -s ../ELF IN/SOFT && ln ELF HARD
+sha256sum ELF INPUT LOG >before
+for name in ELF ./ELF IN/../ELF "$work/ELF" IN/SOFT HARD INPUT ./INPUT; do
+    answers 3 "bugnet: store failed: $name" record --seed 1 --harts 2 --limit 2000 --input INPUT ELF "$name" BOOK3
+done
+answers 3 "bugnet: store failed: IN/SOFT" record --seed 1 --harts 2 --limit 2000 ELF LOG3 IN/SOFT
+answers 3 "bugnet: store failed: ./LOG" convert LOG ./LOG
+sha256sum --quiet -c before || failures=$((failures + 1))
 echo "$failures ended otherwise"
 [ $failures = 0 ]

@@ -7,6 +7,7 @@
 
 mod file_store;
 mod limits;
+mod loaded_files;
 mod streams;
 #[cfg(test)]
 mod tests;

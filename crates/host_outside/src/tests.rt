@@ -9,8 +9,9 @@ use bn_outside::{Failed, LoadError, SaveError, Source, Store, read_to_end, send_
 use std::alloc::{AllocError, Global};
 use std::env::{Env, FillError};
 use std::fs::Files;
+use std::os::unix::fs::symlink;
 use std::test::Fail;
-use std::{env, fs, process};
+use std::{env, fs, io, process};
 
 // A load through the bound, which tells of the bytes that they are these.
 fn loads<S: Store>(alloc: Global, store: &mut S, name: &str, limit: usize, bytes: &[u8]) -> bool {
@@ -47,7 +48,7 @@ fn name_in(alloc: Global, folder: &str, word: &str, process: u32) -> Result<Stri
 
 // Whether a longer file is saved, and a shorter one in its place that is kept; whether it is missing once it was
 // removed; and whether a folder is refused.
-fn replaced<R: Files>(rt: &R, alloc: Global, name: &str, folder: &str) -> [bool; 5] {
+fn replaced<R: Files + AllocGlobal>(rt: &R, alloc: Global, name: &str, folder: &str) -> [bool; 5] {
     let mut store = FileStore::new(rt);
     let longer = store.save(name, b"a longer text") == Ok(());
     let kept = is_kept(alloc, &mut store, name, b"text");
@@ -72,7 +73,7 @@ fn files_are_saved_whole_and_loaded_within_the_limit(rt: HostRuntime) -> Result<
 }
 
 // Whether these bytes are kept in a file, and it is removed.
-fn kept_and_removed<R: Files>(rt: &R, alloc: Global, name: &str, bytes: &[u8]) -> bool
+fn kept_and_removed<R: Files + AllocGlobal>(rt: &R, alloc: Global, name: &str, bytes: &[u8]) -> bool
     requires { 0 < length bytes.now }
 {
     let mut store = FileStore::new(rt);
@@ -93,6 +94,90 @@ fn a_file_of_several_pieces_is_loaded_whole(rt: HostRuntime) -> Result<(), Fail>
     let well = kept_and_removed(&rt, rt.alloc(), name.as_str(), &bytes);
     assert!(rt; well);
     Ok(())
+}
+
+// Makes a folder with a file of six bytes, two links to it, and a folder.
+fn make_links<R: Files + AllocGlobal>(rt: &R, folder: &str) -> io::Result<()> {
+    let alloc = rt.alloc();
+    let file = format!(in alloc; "{folder}/FILE")?;
+    let inner = format!(in alloc; "{folder}/inner")?;
+    let soft = format!(in alloc; "{folder}/inner/soft")?;
+    let hard = format!(in alloc; "{folder}/hard")?;
+    fs::create_dir(rt, folder)?;
+    fs::create_dir(rt, inner.as_str())?;
+    fs::write(rt, file.as_str(), b"loaded")?;
+    symlink(rt, "../FILE", soft.as_str())?;
+    fs::hard_link(rt, file.as_str(), hard.as_str())
+}
+
+// Whether a store that loaded a file refuses to save it by another spelling of its name, and the file stays.
+fn is_spared<R: Files + AllocGlobal>(
+    rt: &R,
+    folder: &str,
+    spelling: &str,
+) -> Result<bool, AllocError> {
+    let alloc = rt.alloc();
+    let name = format!(in alloc; "{folder}/FILE")?;
+    let spelled = format!(in alloc; "{folder}/{spelling}")?;
+    let mut store = FileStore::new(rt);
+    Ok(
+        loads(alloc, &mut store, name.as_str(), 6, b"loaded")
+            && store.save(spelled.as_str(), b"saved") == Err(SaveError::Failed)
+            && loads(alloc, &mut store, name.as_str(), 6, b"loaded"),
+    )
+}
+
+// Whether each spelling is refused.
+fn each_is_spared<R: Files + AllocGlobal>(rt: &R, folder: &str) -> Result<[bool; 5], AllocError> {
+    Ok([
+        is_spared(rt, folder, "FILE")?,
+        is_spared(rt, folder, "./FILE")?,
+        is_spared(rt, folder, "inner/../FILE")?,
+        is_spared(rt, folder, "inner/soft")?,
+        is_spared(rt, folder, "hard")?,
+    ])
+}
+
+// Whether a store that loaded another file saves this one, and a store that loaded none does.
+fn others_are_saved<R: Files + AllocGlobal>(rt: &R, folder: &str) -> Result<[bool; 3], AllocError> {
+    let alloc = rt.alloc();
+    let name = format!(in alloc; "{folder}/FILE")?;
+    let other = format!(in alloc; "{folder}/OTHER")?;
+    let mut store = FileStore::new(rt);
+    let loaded = loads(alloc, &mut store, name.as_str(), 6, b"loaded");
+    let saved = is_kept(alloc, &mut store, other.as_str(), b"saved");
+    let anew = FileStore::new(rt).save(name.as_str(), b"anew") == Ok(());
+    Ok([loaded, saved, anew])
+}
+
+#[test]
+fn a_save_never_destroys_what_was_loaded(rt: HostRuntime) -> Result<(), Fail> {
+    let temporary = env::temp_dir(&rt)?;
+    let folder = name_in(
+        rt.alloc(),
+        temporary.as_str(),
+        "spelled",
+        process::id(rt.process()),
+    )?;
+    make_links(&rt, folder.as_str())?;
+    let spared = each_is_spared(&rt, folder.as_str())?;
+    let others = others_are_saved(&rt, folder.as_str())?;
+    fs::remove_dir_all(&rt, folder.as_str())?;
+    assert_eq!(rt; spared, [true; 5]);
+    assert_eq!(rt; others, [true; 3]);
+    Ok(())
+}
+
+// Whether what keeps no bytes is loaded and then saved.
+fn stream_is_saved<R: Files + AllocGlobal>(rt: &R, alloc: Global, name: &str) -> bool {
+    let mut store = FileStore::new(rt);
+    loads(alloc, &mut store, name, 0, b"") && store.save(name, b"text") == Ok(())
+}
+
+#[test]
+fn a_stream_is_loaded_and_then_saved(rt: HostRuntime) {
+    let saved = stream_is_saved(&rt, rt.alloc(), "/dev/null");
+    assert!(rt; saved);
 }
 
 // Whether a source gives the first byte of a text, and then its others.

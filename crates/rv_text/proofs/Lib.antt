@@ -1,3 +1,4 @@
 pub mod Parted
 mod Joined
 mod Counted
+mod HexDigits

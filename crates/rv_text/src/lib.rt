@@ -11,6 +11,7 @@
 
 mod code;
 mod counts;
+mod digits;
 mod effects;
 mod instructions;
 mod lines;

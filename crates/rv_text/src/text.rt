@@ -3,6 +3,7 @@ ghost use Rattle.std.specs.Prelude.{false, ◌≡◌, ◌<◌, ◌++◌, [], ◌
 ghost use Rattle.std.specs.Fmt.{signed_decimal, digits};
 ghost use Rattle.rv_text.specs.Instructions.{hex8};
 
+use crate::digits::eight_digits;
 use std::alloc::{AllocError, Global};
 use std::marker::Model;
 
@@ -100,16 +101,11 @@ impl Text {
     }
 
     /// Appends a number as eight hexadecimal digits.
-    #[tactic(auto, unfolding(crate::specs::Instructions::hex8))]
     pub fn push_hex8(&mut self, n: u32) -> Result<(), AllocError>
         ensures ok { OnOk result (self.new ≡ self.old ++ hex8 n) }
         ensures err { OnErr result (self.new ≡ self.old) }
     {
-        let mut digits = [0u8; 8];
-        match hex::encode_to_slice(n.to_be_bytes().as_slice(), &mut digits) {
-            Ok(()) => self.push_bytes(&digits),
-            Err(_) => unreachable!(),
-        }
+        self.push_bytes(&eight_digits(n))
     }
 
     /// Appends a number in hexadecimal without leading zeros.
