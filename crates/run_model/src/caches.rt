@@ -56,6 +56,7 @@ fn drop_word(cache: &mut Cache, first: Addr, place: u32)
 }
 
 // Drops the lines of so many words from the first on, each line once.
+#[inline(never)]
 fn drop_words(cache: &mut Cache, first: Addr, count: u32)
     requires { first + 4 * count ≤ 2 ^ 32 }
     ensures stands { (es : List Event) → StandsFor cache.old es → StandsFor cache.new (drops first count es) }
@@ -67,7 +68,23 @@ fn drop_words(cache: &mut Cache, first: Addr, count: u32)
     }
 }
 
+// Drops the lines of so many words; nearly always it is one word.
+#[inline(always)]
+fn drop_few(cache: &mut Cache, first: Addr, count: u32)
+    requires { first + 4 * count ≤ 2 ^ 32 }
+    ensures stands { (es : List Event) → StandsFor cache.old es → StandsFor cache.new (drops first count es) }
+    ensures geometry { cache.new.geometry ≡ cache.old.geometry }
+    ensures steps { cache.new.steps ≡ cache.old.steps }
+{
+    if count == 1 {
+        cache.drop_line(first);
+    } else {
+        drop_words(cache, first, count);
+    }
+}
+
 // Drops the lines of what is written from a cache, unless it is spared.
+#[inline(always)]
 fn drop_unless(cache: &mut Cache, spared: bool, first: Addr, count: u32)
     requires { first + 4 * count ≤ 2 ^ 32 }
     ensures stands { (es : List Event) → StandsFor cache.old es → StandsFor cache.new (elim spared [ true ↦ es | false ↦ drops first count es ]) }
@@ -75,7 +92,7 @@ fn drop_unless(cache: &mut Cache, spared: bool, first: Addr, count: u32)
     ensures steps { cache.new.steps ≡ cache.old.steps }
 {
     if !spared {
-        drop_words(cache, first, count);
+        drop_few(cache, first, count);
     }
 }
 
@@ -100,6 +117,7 @@ fn drop_from_each(caches: &mut [Cache], spared: Option<HartId>, first: Addr, cou
 }
 
 // Drops the lines of what is written from all caches but the one that is spared.
+#[inline(never)]
 fn drop_written(caches: &mut [Cache], spared: Option<HartId>, span: Span)
     requires { span.first + 4 * span.count ≤ 2 ^ 32 }
     ensures { IsDropped spared (dropped span) (length caches.old) caches.old caches.new }
@@ -110,7 +128,20 @@ fn drop_written(caches: &mut [Cache], spared: Option<HartId>, span: Span)
     }
 }
 
+// Drops the lines of what a hart writes from the caches of the others, if there are others.
+#[inline(always)]
+fn drop_from_others(caches: &mut [Cache], hart: HartId, span: Span)
+    requires hart { hart < length caches.old }
+    requires addresses { span.first + 4 * span.count ≤ 2 ^ 32 }
+    ensures { IsDropped (Some hart) (dropped span) (length caches.old) caches.old caches.new }
+{
+    if caches.len() > 1 {
+        drop_written(caches, Some(hart), span);
+    }
+}
+
 // Touches the word at an address in a hart's cache.
+#[inline(always)]
 fn touch(caches: &mut [Cache], hart: HartId, addr: Addr) -> Warm
     requires hart { hart < length caches.old }
     requires steps { steps_in caches.old hart < 2 ^ 42 }
@@ -121,6 +152,7 @@ fn touch(caches: &mut [Cache], hart: HartId, addr: Addr) -> Warm
 }
 
 // Takes in an access of the hart's own.
+#[inline(always)]
 fn access(caches: &mut [Cache], hart: HartId, span: Span) -> Warm
     requires hart { hart < length caches.old }
     requires steps { steps_in caches.old hart < 2 ^ 42 }
@@ -131,7 +163,7 @@ fn access(caches: &mut [Cache], hart: HartId, span: Span) -> Warm
     ensures steps { (k : ℕ) → steps_in caches.new k ≡ (if k == hart then steps_in caches.old k + 1 else steps_in caches.old k) }
 {
     let warm = touch(caches, hart, span.first);
-    drop_written(caches, Some(hart), span);
+    drop_from_others(caches, hart, span);
     warm
 }
 
@@ -184,6 +216,7 @@ impl Caches {
     }
 
     // Takes in an access of the hart's own.
+    #[inline(always)]
     pub(crate) fn take_access(&mut self, hart: HartId, span: Span) -> Warm
         requires hart { hart < length self.old }
         requires steps { steps_in self.old hart < 2 ^ 42 }

@@ -52,6 +52,7 @@ impl Hart {
     }
 
     /// How many instructions it may do before its next cut: as many as are left of its interval, and of its limit.
+    #[inline(always)]
     pub fn budget(&self, settings: &Settings) -> u64
         ensures { result ≡ budget settings.now self.now }
     {
@@ -81,6 +82,7 @@ impl Hart {
 
     /// Takes in what comes after its turn, its state being the one after the reply; the log took so
     /// many bytes by now.
+    #[inline(always)]
     pub fn take(&mut self, next: Next, skipped: u32, bytes: u64)
         requires { self.old.number < 2 ^ 64 - 1 }
         ensures { self.new ≡ hart_after next self.old.state skipped bytes self.old }
@@ -142,6 +144,7 @@ impl Hart {
 
 /// How many loading accesses were skipped since the last logged one, after one more: whether its word
 /// was warm just before, if there was one.
+#[inline(always)]
 pub fn skipped_after(load: Option<Warm>, skipped: u32) -> u32
     requires { skipped < 2 ^ 32 - 1 }
     ensures { result ≡ skipped_after load skipped }

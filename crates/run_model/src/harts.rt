@@ -32,6 +32,7 @@ fn stop_one(hart: &mut Hart, log: &mut Log, number: HartId, own: HartId)
 }
 
 // Stops all harts but one, and appends their Ends.
+#[inline(never)]
 fn stop_others(harts: &mut Vec<Hart>, log: &mut Log, own: HartId)
     requires few { length harts.old.items ≤ HARTS }
     requires room { taken log.old.ring + HARTS < 2 ^ 56 }
@@ -47,6 +48,7 @@ fn stop_others(harts: &mut Vec<Hart>, log: &mut Log, own: HartId)
 }
 
 /// Where a turn ends the run, the other harts are stopped and their Ends appended.
+#[inline(always)]
 pub fn end_others(harts: &mut Vec<Hart>, log: &mut Log, own: HartId, next: Next)
     requires few { length harts.old.items ≤ HARTS }
     requires room { taken log.old.ring + HARTS < 2 ^ 56 }

@@ -112,6 +112,7 @@ impl Machine {
     }
 
     /// The word of a loading access as it is before it, 0 where there is none.
+    #[inline(always)]
     pub fn word_before(&self, image: &Image, want: &Want) -> u32
         requires size { size_of self.now ≡ image.now.memory }
         requires passes { IsTrue (passes image.now want.now) }

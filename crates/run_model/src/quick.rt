@@ -39,7 +39,7 @@ use crate::plain::Plain;
 use crate::records::{append_load, append_next};
 use crate::span::Span;
 use crate::trace::Trace;
-use bn_base::{Addr, HartId, HartState, Ic, Register, Settings};
+use bn_base::{Addr, HartId, HartState, Ic, Register, Registers, Settings};
 use first_load_bits::Warm;
 use race_log::Mode;
 use rv_meaning::{DecodedImage, Reply, Want};
@@ -88,14 +88,14 @@ impl Trace {
     }
 
     // Puts a hart back in an earlier state. The answer is the one that it was in.
-    pub(crate) fn put_back(&mut self, hart: HartId, before: HartState) -> HartState
+    pub(crate) fn put_back(&mut self, hart: HartId, pc: Addr, x: &Registers, ic: Ic) -> HartState
         requires { hart < length self.old.harts.items }
         ensures state { result ≡ (hart_in self.old.harts.items hart).state }
-        ensures moved { IsMoved hart before self.old self.new }
+        ensures moved { IsMoved hart (record { pc = pc; x = x.now; ic = ic }) self.old self.new }
     {
         let own = &mut self.harts[hart as usize];
         let state = own.state;
-        own.state = before;
+        own.state = HartState { pc, x: *x, ic };
         state
     }
 

@@ -18,6 +18,7 @@ use race_log::Shadow;
 
 /// The race log takes in the words that a hart's instruction `ic` accesses in this turn, and the log
 /// the Edges into it.
+#[inline(always)]
 pub fn record_access(
     shadow: &mut Shadow,
     log: &mut Log,
@@ -51,6 +52,7 @@ pub fn record_access(
 }
 
 /// The race log gives up the accesses that all live harts know of, if the walk is due.
+#[inline(never)]
 pub fn sweep_known(shadow: &mut Shadow, harts: &[Hart])
     requires few { length harts.now ≤ HARTS }
     requires harts { harts_of shadow.old ≡ length harts.now }

@@ -61,6 +61,7 @@ impl Log {
 }
 
 // Appends the Edge into instruction `ic` of a hart from source number `i`.
+#[inline(never)]
 fn append_edge(log: &mut Log, hart: HartId, ic: Ic, edges: &Edges, i: usize)
     requires there { i < length edges.now }
     requires room { taken log.old.ring < 2 ^ 56 }
@@ -79,6 +80,7 @@ fn append_edge(log: &mut Log, hart: HartId, ic: Ic, edges: &Edges, i: usize)
 }
 
 /// Appends the Edges into instruction `ic` of a hart, at most 16.
+#[inline(always)]
 pub fn append_edges(log: &mut Log, hart: HartId, ic: Ic, edges: &Edges)
     requires room { taken log.old.ring + length edges.now < 2 ^ 56 }
     ensures holds { (rs : List Record) → IsLog log.old rs → IsLog log.new (rs ++ edges_from hart ic edges.now) }
@@ -104,6 +106,7 @@ fn append_first_load(log: &mut Log, hart: HartId, skipped: u32, word: u32)
 }
 
 /// Appends a FirstLoad, where the word of a loading access wasn't warm.
+#[inline(always)]
 pub fn append_load(log: &mut Log, load: Option<Warm>, hart: HartId, skipped: u32, word: u32)
     requires room { taken log.old.ring + 1 < 2 ^ 56 }
     ensures holds { (rs : List Record) → IsLog log.old rs → IsLog log.new (rs ++ load_record load hart skipped word) }
@@ -159,6 +162,7 @@ pub fn append_header(log: &mut Log, hart: HartId, number: u64, state: &HartState
 
 /// Appends the End of an interval that a turn ends, and the Header of the one that it begins, by its
 /// number.
+#[inline(always)]
 pub fn append_next(log: &mut Log, next: Next, hart: HartId, number: u64, state: &HartState)
     requires marked { IsTrue (is_marked_next next) }
     requires room { taken log.old.ring + 2 < 2 ^ 56 }

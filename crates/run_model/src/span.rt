@@ -94,6 +94,7 @@ impl Span {
 
 /// The aligned word that a loading access reads: a load, LR, AMO, or a store of a byte or halfword,
 /// which keeps the rest of its word.
+#[inline(always)]
 pub fn loading(want: &Want) -> Option<Addr>
     ensures { result ≡ loading want.now }
 {

@@ -34,7 +34,11 @@ impl Plain {
         ensures start { self.new.start ≡ self.old.start }
     {
         each_ask_is_orderly();
-        let before = *self.state(hart);
+        // Three copies in place of one of the whole, which would be a call.
+        let before = self.state(hart);
+        let pc = before.pc;
+        let x = before.x;
+        let ic = before.ic;
         let want = self.trace.move_on(&self.start.settings, code, hart);
         match want {
             Want::Load {
@@ -56,7 +60,7 @@ impl Plain {
             }
             _ => {}
         }
-        let state = self.trace.put_back(hart, before);
+        let state = self.trace.put_back(hart, pc, &x, ic);
         self.take_asked(hart, &Ask { state, want })
     }
 

@@ -90,6 +90,7 @@ fn take_turn(
 impl Trace {
     /// Finds the memory that the race log needs to take in an access of these words. All stays as it is,
     /// also on `Err`, and want of memory is the only error.
+    #[inline(always)]
     pub fn reserve(&mut self, span: Option<Span>) -> Result<(), AllocError>
         requires { AreAddresses span }
         ensures ready { OnOk result (IsRaceReady self.new.shadow span) }
@@ -205,6 +206,7 @@ impl Trace {
     }
 
     // Clears the bits of a hart's cache, where it begins an interval.
+    #[inline(always)]
     pub(crate) fn begin(&mut self, hart: HartId, next: Next)
         requires caches { hart < length self.old.caches }
         requires steps { steps_in self.old.caches hart < 2 ^ 42 }
@@ -267,6 +269,7 @@ impl Trace {
     }
 
     /// Where an interval ended, the race log gives up the accesses that all live harts know of, if the walk is due.
+    #[inline(always)]
     pub fn forget(&mut self, next: Next)
         requires few { length self.old.harts.items ≤ HARTS }
         requires shadow { harts_of self.old.shadow ≡ length self.old.harts.items }
