@@ -63,15 +63,17 @@ row_turned p q d rows k ask len live same o asks turns h =
     let guarded = (serve c i run k ask).guarded in
     let r : TurnRow = row k ask reply guarded in
     let asked : ask ≡ ask_at c i (run.harts k) = ask_is p run k ask h.run live asks in
-    let after : IsRun q (serve c i run k ask).run = subst (λ (a : Ask). IsRun q (serve c i run k a).run) (sym asked) (turns run h.run) in
-    (rows ++ r ∷ [], record {
-      told = subst (λ (t : Start). AreTold (began_of t) d (rows ++ r ∷ [])) (sym same) (record {
-        lawful = lawful_snoc c i first rows r h.told.lawful (live_as c run p.trace.harts.items k h.run.trace.harts len live) refl refl;
-        orderly = not_both (are_orderly c i first rows) (is_orderly c i (run.harts k) ask) d true d h.told.orderly (own_orderly p run k ask h.run live o) (or_not_true d) ∙ sym (ap not (orderly_snoc c i first rows r));
-      });
-      run = subst (λ (t : Start). IsRun q (run_after (began_of t) false (rows ++ r ∷ []))) (sym same)
-          (subst (λ (x : Run). IsRun q x) (sym (after_snoc c i first rows r)) after);
-    })
+    let after : IsRun q (serve c i run k ask).run = subst (λ (a : Ask). IsRun q (serve c i run k a).run) (sym asked) (turns run h.run) in (
+      rows ++ r ∷ [],
+      record {
+        told = subst (λ (t : Start). AreTold (began_of t) d (rows ++ r ∷ [])) (sym same) (record {
+          lawful = lawful_snoc c i first rows r h.told.lawful (live_as c run p.trace.harts.items k h.run.trace.harts len live) refl refl;
+          orderly = not_both (are_orderly c i first rows) (is_orderly c i (run.harts k) ask) d true d h.told.orderly (own_orderly p run k ask h.run live o) (or_not_true d) ∙ sym (ap not (orderly_snoc c i first rows r));
+        });
+        run = subst (λ (t : Start). IsRun q (run_after (began_of t) false (rows ++ r ∷ []))) (sym same)
+            (subst (λ (x : Run). IsRun q x) (sym (after_snoc c i first rows r)) after);
+      },
+    )
 
 pub history_turned : (p q : PlainParts) (h d : Bool) (rows : List TurnRow) (k : ℕ) (ask : Ask) → length p.trace.harts.items ≡ p.start.settings.harts → is_live p k ≡ true → q.start ≡ p.start
     → is_orderly p.start.settings p.start.image (hart_in p.trace.harts.items k) ask ≡ true → ask ≡ ask_at p.start.settings p.start.image (hart_in p.trace.harts.items k)

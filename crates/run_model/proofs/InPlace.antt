@@ -208,6 +208,7 @@ back old on aside new k s before within eb m like put =
       | inl p ↦ subst (λ (n : ℕ). (hart_in on.harts.items n).live ≡ true) (sym p.1) (ap (λ (h : Hart). h.live) (own_moved old on k s m within) ∙ subst (λ (n : ℕ). (hart_in old.harts.items n).live ≡ true) p.1 live)
       | inr p ↦ ap (λ (h : Hart). h.live) (other_moved old on k j s m p.1) ∙ live
     ]
+
     swept_back : (old on aside new : Trace) (k : ℕ) (s : HartState) {before : HartState} → k < length old.harts.items → IsMoved k s old on → IsLike on aside → IsMoved k before aside new → IsSwept old.shadow new.shadow old.harts.items
     swept_back old on aside new k s within m like put =
         let there : IsSwept old.shadow aside.shadow on.harts.items = subst (λ (x : Shadow). IsSwept x aside.shadow on.harts.items) m.shadow like.shadow in
@@ -280,15 +281,15 @@ served_moved c t run k s a w g rd is =
     let f : ℕ → Hart = moved_harts run.harts k s in
     let e : f k ≡ in_state s h = moved_own run.harts k s in
     let same : recs (f k) (run_over_records (next (f k)) k c.harts f) ≡ recs h (run_over_records (next h) k c.harts run.harts) =
-        ap (λ (y : Hart). recs y (run_over_records (next y) k c.harts f)) e ∙ ap (λ (o : List Record). recs h o) (none_over c h to.ic k c.harts f ∙ sym (none_over c h to.ic k c.harts run.harts)) in
+    ap (λ (y : Hart). recs y (run_over_records (next y) k c.harts f)) e ∙ ap (λ (o : List Record). recs h o) (none_over c h to.ic k c.harts f ∙ sym (none_over c h to.ic k c.harts run.harts)) in
     let bytes = run.bytes + total (recs h (run_over_records (next h) k c.harts run.harts)) in
     let own : hart_after (next (f k)) to (skipped_after load (f k).skipped) (run.bytes + total (recs (f k) (run_over_records (next (f k)) k c.harts f))) (f k) ≡ hart_after (next h) to (skipped_after load h.skipped) bytes h =
-        ap (λ (n : List Record). hart_after (next (f k)) to (skipped_after load (f k).skipped) (run.bytes + total n) (f k)) same
-        ∙ ap (λ (y : Hart). hart_after (next y) to (skipped_after load y.skipped) bytes y) e
-        ∙ own_same (next h) s to (skipped_after load h.skipped) bytes h in
+    ap (λ (n : List Record). hart_after (next (f k)) to (skipped_after load (f k).skipped) (run.bytes + total n) (f k)) same
+    ∙ ap (λ (y : Hart). hart_after (next y) to (skipped_after load y.skipped) bytes y) e
+    ∙ own_same (next h) s to (skipped_after load h.skipped) bytes h in
     let all : AreHarts t.harts.items (harts_after (next h) k (hart_after (next h) to (skipped_after load h.skipped) bytes h) f) =
-        subst (λ (y : Hart). AreHarts t.harts.items (harts_after (next h) k y f)) own
-        (subst (λ (y : Hart). AreHarts t.harts.items (harts_after (next y) k (hart_after (next (f k)) to (skipped_after load (f k).skipped) (run.bytes + total (recs (f k) (run_over_records (next (f k)) k c.harts f))) (f k)) f)) e is.harts) in
+    subst (λ (y : Hart). AreHarts t.harts.items (harts_after (next h) k y f)) own
+    (subst (λ (y : Hart). AreHarts t.harts.items (harts_after (next y) k (hart_after (next (f k)) to (skipped_after load (f k).skipped) (run.bytes + total (recs (f k) (run_over_records (next (f k)) k c.harts f))) (f k)) f)) e is.harts) in
     record {
       harts = λ j below. all j below ∙ ap Some (same_after (j == k) (next h) _ (in_state s h) (run.harts j) (none_stop c h to.ic));
       caches = subst (λ (y : Hart). AreCaches c t.caches (events_after (next y) k None (span_of None ask.want reply) run.events)) e is.caches;
@@ -333,15 +334,15 @@ stored_moved c t run k s a w v is =
     let f : ℕ → Hart = moved_harts run.harts k s in
     let e : f k ≡ in_state s h = moved_own run.harts k s in
     let same : recs (f k) (run_over_records (next (f k)) k c.harts f) ≡ recs h (run_over_records (next h) k c.harts run.harts) =
-        ap (λ (y : Hart). recs y (run_over_records (next y) k c.harts f)) e ∙ ap (λ (o : List Record). recs h o) (none_over c h to.ic k c.harts f ∙ sym (none_over c h to.ic k c.harts run.harts)) in
+    ap (λ (y : Hart). recs y (run_over_records (next y) k c.harts f)) e ∙ ap (λ (o : List Record). recs h o) (none_over c h to.ic k c.harts f ∙ sym (none_over c h to.ic k c.harts run.harts)) in
     let bytes = run.bytes + total (recs h (run_over_records (next h) k c.harts run.harts)) in
     let own : hart_after (next (f k)) to (skipped_after load (f k).skipped) (run.bytes + total (recs (f k) (run_over_records (next (f k)) k c.harts f))) (f k) ≡ hart_after (next h) to (skipped_after load h.skipped) bytes h =
-        ap (λ (n : List Record). hart_after (next (f k)) to (skipped_after load (f k).skipped) (run.bytes + total n) (f k)) same
-        ∙ ap (λ (y : Hart). hart_after (next y) to (skipped_after load y.skipped) bytes y) e
-        ∙ own_same (next h) s to (skipped_after load h.skipped) bytes h in
+    ap (λ (n : List Record). hart_after (next (f k)) to (skipped_after load (f k).skipped) (run.bytes + total n) (f k)) same
+    ∙ ap (λ (y : Hart). hart_after (next y) to (skipped_after load y.skipped) bytes y) e
+    ∙ own_same (next h) s to (skipped_after load h.skipped) bytes h in
     let all : AreHarts t.harts.items (harts_after (next h) k (hart_after (next h) to (skipped_after load h.skipped) bytes h) f) =
-        subst (λ (y : Hart). AreHarts t.harts.items (harts_after (next h) k y f)) own
-        (subst (λ (y : Hart). AreHarts t.harts.items (harts_after (next y) k (hart_after (next (f k)) to (skipped_after load (f k).skipped) (run.bytes + total (recs (f k) (run_over_records (next (f k)) k c.harts f))) (f k)) f)) e is.harts) in
+    subst (λ (y : Hart). AreHarts t.harts.items (harts_after (next h) k y f)) own
+    (subst (λ (y : Hart). AreHarts t.harts.items (harts_after (next y) k (hart_after (next (f k)) to (skipped_after load (f k).skipped) (run.bytes + total (recs (f k) (run_over_records (next (f k)) k c.harts f))) (f k)) f)) e is.harts) in
     record {
       harts = λ j below. all j below ∙ ap Some (same_after (j == k) (next h) _ (in_state s h) (run.harts j) (none_stop c h to.ic));
       caches = subst (λ (y : Hart). AreCaches c t.caches (events_after (next y) k None (span_of None ask.want reply) run.events)) e is.caches;

@@ -1,4 +1,6 @@
-// The turn of a hart that loads, its quiet instructions being done in its own place.
+//! Turns that are a load or a store, done in the hart's own place: its quiet instructions change its state there, and
+//! no ask is copied. A turn that would need memory for its machine, or that a guard cuts, puts the state back and goes the
+//! way of all other turns.
 ghost use Rattle.std.specs.Prelude.{is_some, ◌&&◌, nat_lt, ◌≡◌, ◌≤◌, ◌<◌, ◌+◌, ◌-◌, ◌^◌, ◌++◌, ◌==◌, ◌≢◌, ℕ, List, length, IsTrue, true, false, Option, Some, None, ◌*◌, if◌then◌else◌};
 ghost use Rattle.bn_base.specs.declared.settings.RawSettings.{RawSettings};
 ghost use Rattle.bn_base.specs.declared.settings.TheConstants.{HARTS};
@@ -31,11 +33,11 @@ ghost use Rattle.run_model.specs.Stands.Plain.{everyone, IsRaceReady, count_afte
 
 use crate::hart::{Hart, skipped_after};
 use crate::harts::end_others;
+use crate::laws::each_turn_moves_on;
 use crate::log::Log;
 use crate::next::Next;
-use crate::race::record_access;
-use crate::laws::each_turn_moves_on;
 use crate::plain::Plain;
+use crate::race::record_access;
 use crate::records::{append_load, append_next};
 use crate::span::Span;
 use crate::trace::Trace;
@@ -142,7 +144,14 @@ impl Trace {
     // Takes in the word that a hart's instruction of this count loads: its Edges and its FirstLoad are
     // appended, and the cache touched. The answer is how the word was just before.
     #[inline(always)]
-    pub(crate) fn access_load(&mut self, turn: u64, hart: HartId, ic: Ic, span: Span, word: u32) -> Warm
+    pub(crate) fn access_load(
+        &mut self,
+        turn: u64,
+        hart: HartId,
+        ic: Ic,
+        span: Span,
+        word: u32,
+    ) -> Warm
         requires hart { hart < length self.old.harts.items }
         requires caches { hart < length self.old.caches }
         requires shadow { hart < harts_of self.old.shadow }
@@ -272,7 +281,14 @@ impl Plain {
     /// Answers the load that a live hart asks for in its present state, once the race log is ready for it,
     /// and takes its turn. The ask isn't guarded. It takes no memory.
     #[inline(always)]
-    pub(crate) fn apply_load(&mut self, hart: HartId, addr: Addr, width: u8, signed: bool, rd: Register)
+    pub(crate) fn apply_load(
+        &mut self,
+        hart: HartId,
+        addr: Addr,
+        width: u8,
+        signed: bool,
+        rd: Register,
+    )
         requires hart { hart < self.old.start.settings.harts }
         requires live { (hart_in self.old.trace.harts.items hart).live ≡ true }
         requires orderly { IsTrue (is_orderly self.old.start.settings self.old.start.image (hart_in self.old.trace.harts.items hart) (ask_here (hart_in self.old.trace.harts.items hart) (Load addr width signed rd))) }
@@ -349,11 +365,7 @@ impl Plain {
         ensures start { self.new.start ≡ self.old.start }
     {
         each_turn_moves_on();
-        let want = Want::Store {
-            addr,
-            width,
-            value,
-        };
+        let want = Want::Store { addr, width, value };
         let word = self.machine.word_before(&self.start.image, &want);
         let reply = self.machine.store(hart, addr, width, value);
         let ic = self.trace.harts[hart as usize].state.ic;

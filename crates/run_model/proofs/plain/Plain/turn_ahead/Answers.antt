@@ -83,7 +83,7 @@ returns-then-ready_load-clause-run c run is =
     let there : h ≡ run.harts k = hart_of_run p.trace.harts.items k run.harts is.trace.harts live.0 in
     let on : IsTrace settings c.move_on-want.new.self (moved_run run k s) = moved_is settings p.trace c.move_on-want.new.self run k s live.0 moved is.trace in
     let unguarded = unguarded_moved settings run k s c.in-Load.addr c.in-Load.width c.in-Load.signed c.in-Load.rd
-        (c.if-ready_load.ensures.unguarded refl (moved_run run k s) (record { machine = is.machine; trace = on; turns = is.turns })) in
+    (c.if-ready_load.ensures.unguarded refl (moved_run run k s) (record { machine = is.machine; trace = on; turns = is.turns })) in
     let ready : IsTrace settings r.trace (moved_run run k s) = swept_trace settings c.move_on-want.new.self r.trace (moved_run run k s) on c.ready_load.ensures.shadow c.ready_load.ensures.harts c.ready_load.ensures.caches c.ready_load.ensures.log in
     let is_ready : IsRun (parts r) (moved_run run k s) = stands_on (parts p) (parts r) (moved_run run k s) c.ready_load.ensures.start c.ready_load.ensures.machine c.ready_load.ensures.turns is.machine ready is.turns in
     let done = c.apply_load.ensures.run (moved_run run k s) is_ready in
@@ -96,7 +96,6 @@ returns-then-ready_load-clause-run c run is =
     let ordered = subst (λ (y : Hart). IsTrue (is_orderly settings p.start.image y asked)) there own in
     subst (λ (x : Run). IsRun (parts new) x) (turn_is settings p.start.image run k asked None ea refl ordered)
     (subst (λ (b : Bool). IsRun (parts new) (serve_call settings run k asked b None).run) (sym unguarded) served)
-
 
 pub invariant_of-self-in-Store-1 : goal.invariant_of-self-in-Store-1
 invariant_of-self-in-Store-1 c =
@@ -186,7 +185,7 @@ returns-then-ready_store-clause-run c run is =
     let there : h ≡ run.harts k = hart_of_run p.trace.harts.items k run.harts is.trace.harts live.0 in
     let on : IsTrace settings c.move_on-want.new.self (moved_run run k s) = moved_is settings p.trace c.move_on-want.new.self run k s live.0 moved is.trace in
     let unguarded = unguarded_stored settings run k s c.in-Store.addr c.in-Store.width c.in-Store.value
-        (c.if-ready_store.ensures.unguarded refl (moved_run run k s) (record { machine = is.machine; trace = on; turns = is.turns })) in
+    (c.if-ready_store.ensures.unguarded refl (moved_run run k s) (record { machine = is.machine; trace = on; turns = is.turns })) in
     let ready : IsTrace settings r.trace (moved_run run k s) = swept_trace settings c.move_on-want.new.self r.trace (moved_run run k s) on c.ready_store.ensures.shadow c.ready_store.ensures.harts c.ready_store.ensures.caches c.ready_store.ensures.log in
     let is_ready : IsRun (parts r) (moved_run run k s) = stands_on (parts p) (parts r) (moved_run run k s) c.ready_store.ensures.start c.ready_store.ensures.machine c.ready_store.ensures.turns is.machine ready is.turns in
     let done = c.apply_store.ensures.run (moved_run run k s) is_ready in
@@ -199,7 +198,6 @@ returns-then-ready_store-clause-run c run is =
     let ordered = subst (λ (y : Hart). IsTrue (is_orderly settings p.start.image y asked)) there own in
     subst (λ (x : Run). IsRun (parts new) x) (turn_is settings p.start.image run k asked None ea refl ordered)
     (subst (λ (b : Bool). IsRun (parts new) (serve_call settings run k asked b None).run) (sym unguarded) served)
-
 
 pub put_back-state-requires : goal.put_back-state-requires
 put_back-state-requires c =
