@@ -98,8 +98,7 @@ pub enum Answer {
     Agreed,
     /// A log that was made of another is saved, and what it has is counted.
     Renewed(NewLog),
-    /// The lines of a demonstration.
-    /// A text that is made already.
+    /// A text that is made already: the lines of a demonstration, of races or of a slice.
     Shown(Text),
     /// The joint replay of a log stopped.
     Halted(JointError),
