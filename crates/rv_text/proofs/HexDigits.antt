@@ -1,5 +1,5 @@
 -- Eight hexadecimal digits in a word of 64 bits, one a byte, and their characters.
-use Rattle.std.proofs.Common.{◌≡◌, ℕ, ◌+◌, ◌-◌, ◌*◌, ◌/◌, ◌%◌, ◌^◌, ◌<◌, ◌==◌, true, List, [], ◌∷◌, map, reverse, slice_index, ◌∙◌, ap, refl, arith}
+use Rattle.std.proofs.Common.{◌≡◌, ℕ, ◌+◌, ◌-◌, ◌*◌, ◌/◌, ◌%◌, ◌^◌, ◌<◌, ◌==◌, true, List, [], ◌∷◌, map, slice_index, ◌∙◌, ap, refl, arith}
 use Rattle.std.specs.Prelude.{bit_and}
 use Rattle.std.specs.Int.{w64, to_be_bytes}
 use Rattle.std.specs.List.{AllByRecursion}
@@ -77,7 +77,7 @@ digits_apart a b c d e f g h (la, (lb, (lc, (ld, (le, (lf, (lg, (lh, _)))))))) =
     let bytes : ℕ = side_by_side 16 ((a + b * 2 ^ 4) ∷ (c + d * 2 ^ 4) ∷ (e + f * 2 ^ 4) ∷ (g + h * 2 ^ 4) ∷ []) in
     let shifted : bytes / 2 ^ 4 ≡ side_by_side 16 ((b + c * 2 ^ 12) ∷ (d + e * 2 ^ 12) ∷ (f + g * 2 ^ 12) ∷ h ∷ []) = omega arith in
     let upper : bit_and (bytes / 2 ^ 4) 0x000f000f000f000f
-        ≡ side_by_side 16 ((b + c * 2 ^ 12) % 2 ^ 4 ∷ (d + e * 2 ^ 12) % 2 ^ 4 ∷ (f + g * 2 ^ 12) % 2 ^ 4 ∷ h % 2 ^ 4 ∷ []) =
+    ≡ side_by_side 16 ((b + c * 2 ^ 12) % 2 ^ 4 ∷ (d + e * 2 ^ 12) % 2 ^ 4 ∷ (f + g * 2 ^ 12) % 2 ^ 4 ∷ h % 2 ^ 4 ∷ []) =
     ap (λ z. bit_and z 0x000f000f000f000f) shifted
     ∙ masked 16 4 (omega arith) ((b + c * 2 ^ 12) ∷ (d + e * 2 ^ 12) ∷ (f + g * 2 ^ 12) ∷ h ∷ []) (omega arith, (omega arith, (omega arith, (omega arith, tt)))) in
     omega (arith, upper)
@@ -87,7 +87,7 @@ apart : (a b c d e f g h : ℕ) → AllByRecursion IsDigit (a ∷ b ∷ c ∷ d 
     → digits_of (bytes_of (halves_of (side_by_side 4 (a ∷ b ∷ c ∷ d ∷ e ∷ f ∷ g ∷ h ∷ [])))) ≡ side_by_side 8 (a ∷ b ∷ c ∷ d ∷ e ∷ f ∷ g ∷ h ∷ [])
 apart a b c d e f g h (la, (lb, (lc, (ld, (le, (lf, (lg, (lh, end)))))))) =
     let halves : halves_of (side_by_side 4 (a ∷ b ∷ c ∷ d ∷ e ∷ f ∷ g ∷ h ∷ []))
-        ≡ a + b * 2 ^ 4 + (c + d * 2 ^ 4) * 2 ^ 8 + (e + f * 2 ^ 4 + (g + h * 2 ^ 4) * 2 ^ 8) * 2 ^ 32 = omega arith in
+    ≡ a + b * 2 ^ 4 + (c + d * 2 ^ 4) * 2 ^ 8 + (e + f * 2 ^ 4 + (g + h * 2 ^ 4) * 2 ^ 8) * 2 ^ 32 = omega arith in
     ap (λ z. digits_of (bytes_of z)) halves
     ∙ ap digits_of (bytes_apart (a + b * 2 ^ 4) (c + d * 2 ^ 4) (e + f * 2 ^ 4) (g + h * 2 ^ 4) (omega arith) (omega arith) (omega arith) (omega arith))
     ∙ digits_apart a b c d e f g h (la, (lb, (lc, (ld, (le, (lf, (lg, (lh, end))))))))
