@@ -1,4 +1,4 @@
-"""The rows of `joint` as numbers: 18 bytes a row in arrays, read in one pass.
+"""The rows of `joint` as numbers: 18 bytes a row and 12 a call or return, in arrays, read in one pass.
 
 Row numbers begin with 1; 0 stands for no row. Beside the arrays the reader keeps two entries for each word of memory
 that a row touched, and one for each pair of a load's and a store's code."""
@@ -7,10 +7,12 @@ import time
 from array import array
 
 from calls import CallTree
-from instruction import A1, A7, AMO, CALL, LOAD, STORE, Instruction
+from instruction import A0, A1, A7, AMO, CALL, JUMP, LOAD, STORE, Instruction
 from program import Output
 
-OFFSET, LOADS, STORES, UNSTORED, CHANGED, FAULTS = 3, 4, 8, 16, 32, 64      # a row's flags; OFFSET is a byte's in its word
+# A row's flags. OFFSET: the byte of its word. UNSTORED: no row stored what it loads. CHANGED: a `read` call did since the
+# last row. KEEPS: it stores what it loads, as a lock's spinning does.
+OFFSET, LOADS, STORES, UNSTORED, CHANGED, FAULTS, KEEPS = 3, 4, 8, 16, 32, 64, 128
 READ_CALL = b"0000003f"
 
 
@@ -36,6 +38,7 @@ class Trace:
     d1, d2  the rows that wrote its first and second register; dm: the row that stored the word that it accesses
     pairs   {load's code << 32 | 1 + store's code, 0 if there is none: how many rows}
     reads   [(row, hart, address, bytes)] of the `read` calls
+    jumps   the rows of calls and returns; jump_a0: a0 there, which is an argument or a result; jump_writer: its writer
     runs    {hart: (rows, counts)}, an entry for each time that a hart's rows begin again
     last    {hart: its last row}; final: {hart: its registers at the end}
     fault   (row, hart, name, value, instruction), or None"""
@@ -45,6 +48,7 @@ class Trace:
         self.code, self.codes = {}, []
         self.pc, self.hart, self.flags = array("I", [0]), array("B", [0]), array("B", [0])
         self.d1, self.d2, self.dm = array("I", [0]), array("I", [0]), array("I", [0])
+        self.jumps, self.jump_a0, self.jump_writer = array("I"), array("I"), array("I")
         self.pairs, self.reads, self.fault, self.regs = {}, [], None, None
         self.writer_of, self.held = {}, {}      # address of a word: its last writer's row, its value
         self.tree = CallTree()
@@ -100,7 +104,7 @@ class Trace:
 
     def handlers(self):
         """What each kind of instruction does beside its registers: a function that gives dm and flags, or None."""
-        known = {LOAD: self.load, STORE: self.store, AMO: self.atomic, CALL: self.system_call}
+        known = {LOAD: self.load, STORE: self.store, AMO: self.atomic, CALL: self.system_call, JUMP: self.jump}
         return [known.get(kind) for kind in range(8)]
 
     def new_instruction(self, key):
@@ -146,7 +150,7 @@ class Trace:
                 word = int(told[6:14], 16)
                 if not flag & LOADS:
                     writer = self.writer_of.get(word, 0)
-                flag |= STORES
+                flag |= STORES | (KEEPS if flag & LOADS and self.held[word] == told[15:] else 0)
                 self.writer_of[word], self.held[word] = n, told[15:]
         return writer, flag
 
@@ -154,6 +158,13 @@ class Trace:
         values = hart.values
         if len(parts) > 1 and values[A7][-8:] == READ_CALL and parts[1][-8:] < b"80000000":
             self.reads.append((n, hart.number, int(values[A1][-8:], 16), int(parts[1][-8:], 16)))
+        return 0, 0
+
+    def jump(self, n, hart, ins, _parts):
+        if ins.call or ins.ret:
+            self.jumps.append(n)
+            self.jump_a0.append(int(hart.values[A0][-8:], 16))
+            self.jump_writer.append(hart.writers[A0])
         return 0, 0
 
     def fault_row(self, n, hart, ins, told):
