@@ -69,7 +69,7 @@ class Blocks:
     def is_given(self, address, argument):
         part = self.elf.part_of(address)
         return (address % 4 == 0 and LOWEST <= address < self.trace.log.memory and not (part and not part[2] & 2)
-                and not 0 <= address - argument < NEAR)
+                and abs(address - argument) >= NEAR)
 
     def givers(self, found):
         """The functions whose addresses come again only after a call with them."""

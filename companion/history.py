@@ -4,13 +4,14 @@ A search by cost. A step along a value costs 1. A step along an address costs 12
 allocator's own loop buries everything. What decided that the row was reached at all costs more still."""
 import heapq
 
-from instruction import AMO, BRANCH, CALL, JUMP, STORE
-from rows import FAULTS, KEEPS, LOADS
+from instruction import AMO, BRANCH, CALL, JUMP
+from rows import FAULTS, KEEPS, LOADS, STORES
 
 MOST_ROWS = 200000          # the search is cut off there: it keeps two entries a row
 ADDRESS = 12
 DECISION = 14               # a branch before the row
 DECIDING_ROWS, MOST_BRANCHES = 300, 24
+STORES_ANOTHER = "amoswap", "sc."       # atomics whose stored word owes nothing to the loaded one
 FAR = 1000                  # a store so many rows before its load is far
 
 
@@ -72,12 +73,12 @@ class History:
         ins, flag = trace.code_of(n), trace.flags[n]
         if flag & FAULTS:                       # its address is the bad value
             self.step(trace.d1[n], price + 1, n, "address")
-        elif flag & LOADS:
+        elif flag & LOADS and not (ins.name.startswith(STORES_ANOTHER) and self.parent.get(n, ("", ""))[1] == "memory"):
             self.loaded(n, price)
             if ins.kind == AMO:
                 self.step(trace.d2[n], price + 1, n, "value")
             self.step(trace.d1[n], price + ADDRESS, n, "address")
-        elif ins.kind == STORE:
+        elif flag & STORES:
             self.step(trace.d2[n], price + 1, n, "value")
             self.step(trace.d1[n], price + ADDRESS, n, "address")
         elif ins.kind not in (CALL, JUMP):      # a call's result comes from outside, a return address is a constant

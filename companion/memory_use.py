@@ -44,6 +44,7 @@ class MemoryUse:
         found = Suspect(kind, item.load, item.store, item.cost)
         found.guilty = guilty
         found.sign(worth, words)
+        item.shown = False                      # this one tells of both its rows
         return [found]
 
     def unwritten(self, item, block):

@@ -113,7 +113,7 @@ def data_words(facts, n):
 def distance(item):
     if item.cost < ADDRESS:
         return "%s of value from the fault" % counted(item.cost, "step")
-    return "behind an address or a branch (cost %d)" % item.cost
+    return "behind an address or a branch (at a cost of %d)" % item.cost
 
 
 def value_part(facts, most):

@@ -16,7 +16,6 @@ from suspect import Suspect, rank
 from text import counted, number
 
 OTHER_HART, NARROW, RACE, OTHER_FUNCTION, RARITY = 8, 12, 6, 3, 5
-FRAME_OVER_DATA = 6         # a stack frame was stored over what is loaded as data
 NEAR_STORE = 6              # what a near store is worth less
 MOST_LOOKED_AT = 60         # pairs of loads and stores whose rows are read
 SIZES = {1: "bytes", 2: "halves"}, {2: "half", 4: "word"}
@@ -65,8 +64,8 @@ class Ranking:
         stored, loaded = trace.code_of(store), trace.code_of(load)
         if stored.kind == STORE and loaded.kind != AMO and stored.width < loaded.width:
             item.sign(NARROW, "stored as %s, loaded as a %s" % (SIZES[0][stored.width], SIZES[1][loaded.width]))
-        if stored.kind == STORE and stored.rs1 == SP and loaded.rs1 != SP and item.cost >= 1 and trace.d1[load]:
-            item.why.append("stored by the stack's pointer, loaded by another")
+        if load in self.history.decided:
+            item.why.append("it decided the way to here")
         self.judge_rarity(item)
         old = trace.dm[store]
         if old and stored.kind == STORE:
