@@ -6,6 +6,7 @@ address again and again with no such call between is a look-up, and no giver."""
 import bisect
 
 LOWEST, NEAR, LARGEST = 4096, 1024, 1 << 16
+HEADER = 4                  # bytes before a block that are surely its allocator's
 STEPS = 600                 # so many rows are looked at for the block that a pointer came from
 
 
@@ -18,7 +19,7 @@ class Block:
 
 
 class Blocks:
-    """by_address   {address: the blocks that were given out there, in order}
+    """by_address   {address: the blocks that were given out there, in order}; addresses: these, sorted
     arguments    {address: [(row, function)] of the calls with it, in order}
     taker        {giver: taker}"""
 
@@ -31,6 +32,7 @@ class Blocks:
             if block.giver in givers:
                 self.by_address.setdefault(block.address, []).append(block)
                 self.writers.setdefault(writer, []).append(block)
+        self.addresses = sorted(self.by_address)
         self.collect_arguments()
         self.taker = self.takers()
 
@@ -125,6 +127,14 @@ class Blocks:
                     seen.add(source)
                     todo.append(source)
         return best
+
+    def is_over(self, block, address, row):
+        """Whether an address that a row accessed is in another block, handed out behind this one, or in its header."""
+        place = bisect.bisect_right(self.addresses, block.address)
+        if place == len(self.addresses) or self.addresses[place] - HEADER > address:
+            return False
+        others = [other for other in self.by_address[self.addresses[place]] if other.back < row and other.giver == block.giver]
+        return bool(others) and not self.given_back(others[-1], others[-1].back, row)
 
     def sources(self, n):
         """The rows that a row's value comes from."""

@@ -17,6 +17,7 @@ class Facts:
     places   functions and lines
     start    the row that is asked of: the fault's, or a hart's last load
     starts   it, and others that the history begins with
+    hangs    whether `starts` are the loads of a loop
     texts    {row: (text, node of the calls, whether earlier calls are unknown)} of the rows fetched so far
     notes    lines for the end of a report"""
 
@@ -35,6 +36,7 @@ class Facts:
             raise CompanionError("the log holds no row of any hart (see `list`)", NO_INTERVAL)
         self.starts = self.find_starts(row)
         self.start = self.starts[0]
+        self.hangs = not row and not self.trace.fault and bool(self.trace.flags[self.start] & LOADS)
         self.faulted = bool(self.trace.fault and self.trace.fault[0] == self.start)
         self.last = self.trace.last_rows(self.start, LAST_ROWS)
         self.fetch(self.last + list(self.trace.last.values()))

@@ -23,16 +23,16 @@ class History:
     decided  the rows that stand behind the start only by a branch
     cut      whether the search was cut off"""
 
-    def __init__(self, trace, starts):
+    def __init__(self, trace, starts, most=MOST_ROWS):
         """`starts` are the rows that are asked of; the first is the one that the report is about."""
-        self.trace, self.start = trace, starts[0]
+        self.trace, self.start, self.most = trace, starts[0], most
         self.cost, self.parent, self.far, self.before = {}, {}, {}, []
         self.decided = set()
         self.cut, self.heap = False, []
         for row in starts:
             self.cost[row] = 0
             heapq.heappush(self.heap, (0, -row, row))
-        for row in starts[1:]:
+        for row in set(starts) - {self.start}:
             self.parent[row] = self.start, "the loop"
         self.decisions()
         self.search()
@@ -63,7 +63,7 @@ class History:
             if price > self.cost[n]:
                 continue
             done += 1
-            if done > MOST_ROWS:
+            if done > self.most:
                 self.cut = True
                 break
             self.visit(n, price)
@@ -110,6 +110,12 @@ class History:
             row = source
         steps.append((self.start, "start"))
         return steps[::-1]
+
+    def root(self, row):
+        """Which of the rows that the history begins with a row stands behind."""
+        while row in self.parent and self.parent[row][1] != "the loop":
+            row = self.parent[row][0]
+        return row
 
     def lines(self, places):
         """The values by source line: (hart, place, rows, latest row, least cost), nearest first."""

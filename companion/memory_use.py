@@ -3,9 +3,12 @@
 Both rows of a suspect, a load and the store that it got, have a pointer; each pointer came from a block that a giver
 handed out (blocks.py). Whether it is the same block says what went wrong."""
 from blocks import Blocks
+from history import History
+from lost import lost_bits, narrowings
 from suspect import Suspect
 
 GIVEN_BACK, NEVER_WRITTEN, OVER_THE_END = 16, 14, 10
+SIZE_ROWS = 2000            # rows of a size's history
 
 
 class MemoryUse:
@@ -24,17 +27,39 @@ class MemoryUse:
         loaded = self.blocks.behind(trace.d1[item.load], address)
         if loaded is None:
             return []
+        if self.blocks.is_over(loaded, address, item.load):
+            return self.over_the_end(item, loaded, "the load reads")
         if item.store < loaded.call:
             return self.unwritten(item, loaded)
         stored = self.blocks.behind(trace.d1[item.store], address)
-        if stored is None or stored.giver != loaded.giver or stored is loaded:
+        if stored is None:
             return []
-        if stored.call > loaded.call:
+        if self.blocks.is_over(stored, address, item.store):
+            return self.over_the_end(item, stored, "the store wrote")
+        if stored.giver == loaded.giver and stored.address == loaded.address and stored.call > loaded.call:
             return self.given_back(item, loaded, stored)
-        if stored.address < loaded.address:
-            item.sign(OVER_THE_END, "it went over the end of its block, into another")
-            item.extra.append(("the block that it began in was given out by", stored.call))
         return []
+
+    def over_the_end(self, item, block, words):
+        """An access outside of its block. Its size is suspect, so what the giver was asked for has a history of its own."""
+        if (item.guilty, block.call) not in self.told:
+            self.told.add((item.guilty, block.call))
+            item.sign(OVER_THE_END, "%s over the end of its block, into another" % words)
+            item.extra.append(("that block was given out in", block.call))
+        size = self.trace.jump_writer[self.trace.jump_at(block.call)]
+        if not size or ("size", size) in self.told:
+            return []
+        self.told.add(("size", size))
+        history = History(self.trace, [size], SIZE_ROWS)
+        rows = narrowings(self.trace, history)
+        self.facts.fetch([n for found in rows for n in found])
+        found = lost_bits(self.facts, history, rows)
+        for suspect in found:
+            suspect.why.append("it is behind the size of a block that was too small")
+            suspect.cost += item.cost
+            suspect.score += item.cost - OVER_THE_END
+            suspect.extra.append(("the block was given out in", block.call))
+        return found
 
     def suspect(self, kind, item, guilty, worth, words):
         """A suspect once for each row that is guilty."""

@@ -3,39 +3,37 @@ from suspect import Suspect
 from text import number
 
 DEEP = 500                  # calls
-LATEST_CALLS = 6
+ASKED_FROM, ASKED_CALLS = 250, 64   # deeper than a sound program goes, and before the stack can have damaged anything
 COST = 2
 
 
 def find_recursion(facts):
-    """(suspects, rows): the call that the stack has most often, and what its latest calls were given."""
-    trace, tree = facts.trace, facts.trace.tree
-    deepest = max((facts.texts[n][1] for n in facts.last if n in facts.texts), key=lambda node: tree.depth[node], default=0)
-    if tree.depth[deepest] < DEEP:
+    """(suspects, rows): the call that the stack has most often, and what calls in its middle were given."""
+    trace = facts.trace
+    calls = live_calls(trace, trace.hart[facts.start])
+    if len(calls) < DEEP:
         return [], []
-    times, node = {}, deepest
-    while node:
-        times[tree.call_pc[node]] = times.get(tree.call_pc[node], 0) + 1
-        node = tree.parent[node]
+    times = {}
+    for at in calls:
+        pc = trace.code_of(trace.jumps[at]).pc
+        times[pc] = times.get(pc, 0) + 1
     place = max(times, key=lambda pc: times[pc])
-    if times[place] * 4 < tree.depth[deepest]:
+    if times[place] * 4 < len(calls):
         return [], []
-    calls = latest_calls(trace, place, trace.hart[facts.start])
-    if not calls:
-        return [], []
-    suspect = Suspect("calls", trace.jumps[calls[0]], trace.jumps[calls[0]], COST)
-    suspect.why.append("the stack is %s calls deep, and %s of them are this one" %
-                       (number(tree.depth[deepest]), number(times[place])))
-    return [suspect], [trace.jump_writer[at] for at in calls if trace.jump_writer[at]]
+    latest = max(trace.jumps[at] for at in calls if trace.code_of(trace.jumps[at]).pc == place)
+    suspect = Suspect("calls", latest, latest, COST)
+    suspect.why.append("the stack is %s calls deep, and %s of them are this one" % (number(len(calls)), number(times[place])))
+    asked = calls[ASKED_FROM:ASKED_FROM + ASKED_CALLS]
+    return [suspect], [trace.jump_writer[at] for at in asked if trace.jump_writer[at]]
 
 
-def latest_calls(trace, place, hart):
-    """Which of the trace's calls are of a hart at an address, the latest ones."""
-    found = []
-    for at in range(len(trace.jumps) - 1, -1, -1):
-        n = trace.jumps[at]
-        if trace.code_of(n).pc == place and trace.hart[n] == hart:
-            found.append(at)
-            if len(found) == LATEST_CALLS:
-                break
-    return found
+def live_calls(trace, hart):
+    """The calls of a hart that haven't returned, outermost first, as places among the trace's jumps."""
+    calls = []
+    for at, n in enumerate(trace.jumps):
+        if trace.hart[n] == hart:
+            if trace.code_of(n).call:
+                calls.append(at)
+            elif calls:
+                calls.pop()
+    return calls

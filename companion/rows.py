@@ -194,6 +194,10 @@ class Trace:
         n = rows[at] + count - counts[at]
         return n if n <= self.last[hart] and self.hart[n] == hart else 0
 
+    def jump_at(self, n):
+        """Which of the jumps a row is."""
+        return bisect.bisect_left(self.jumps, n)
+
     def code_of(self, n):
         return self.codes[self.pc[n]]
 

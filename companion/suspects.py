@@ -16,6 +16,8 @@ from suspect import Suspect, rank
 from text import counted, number
 
 OTHER_HART, NARROW, RACE, OTHER_FUNCTION, RARITY = 8, 12, 6, 3, 5
+CLOSES, CLOSE = 4, 3        # the store that closed a circle, and how near to the loop its load is
+SYMPTOM = 8                 # a stack that has grown into data is a consequence of its depth
 NEAR_STORE = 6              # what a near store is worth less
 MOST_LOOKED_AT = 60         # pairs of loads and stores whose rows are read
 SIZES = {1: "bytes", 2: "halves"}, {2: "half", 4: "word"}
@@ -44,17 +46,30 @@ class Ranking:
         far = self.history.far
         places.fetch({trace.code_of(n).pc for key in far for n in key} |
                      {trace.code_of(trace.dm[store]).pc for _, store in far if trace.dm[store]})
+        closing = self.closing_pair()
         for (load, store), price in far.items():
             key = (places.line(trace.code_of(load).pc), places.line(trace.code_of(store).pc),
                    trace.hart[store] != trace.hart[load])
             item = groups.get(key)
-            if item is None or (price, -load) < (item.cost, -item.load):
+            pair = load, store
+            if item is None or pair == closing or ((item.load, item.store) != closing and (price, -load) < (item.cost, -item.load)):
                 groups[key] = Suspect("store", load, store, price)
                 groups[key].rows = item.rows if item else 0
             groups[key].rows += 1
         for item in groups.values():
             self.judge(item)
+            if (item.load, item.store) == closing:
+                item.sign(CLOSES, "the latest store that the loop or the calls follow: it may have closed a circle")
         return list(groups.values())
+
+    def closing_pair(self):
+        """What a loop or a recursion follows is often a circle: the latest far store in it closed it. With its load."""
+        loop, latest = set(self.facts.loop), (0, 0)
+        for (load, store), price in self.history.far.items():
+            if (price <= CLOSE and (store, load) > latest and self.history.is_far(load, store) and
+                    self.history.root(load) in loop):
+                latest = store, load
+        return latest[1], latest[0]
 
     def judge(self, item):
         """The signs of a load and its store."""
@@ -64,6 +79,8 @@ class Ranking:
         stored, loaded = trace.code_of(store), trace.code_of(load)
         if stored.kind == STORE and loaded.kind != AMO and stored.width < loaded.width:
             item.sign(NARROW, "stored as %s, loaded as a %s" % (SIZES[0][stored.width], SIZES[1][loaded.width]))
+        if self.facts.recursion and stored.rs1 == SP and loaded.rs1 != SP:
+            item.sign(-SYMPTOM, "the stack has grown into this data")
         if load in self.history.decided:
             item.why.append("it decided the way to here")
         self.judge_rarity(item)

@@ -28,16 +28,19 @@ OPTIONS = {"--names": True, "--row": True, "--more": False, "--html": True}
 class Analysis(Facts):
     """Facts, and what follows from them:
 
+    recursion, loop         a call that calls itself, and the rows that a loop or a recursion follows
     history, suspects
     races, races_note       what `races` lists, and why nothing if so
     lines                   the history by source lines
     origin                  what it took from before the rows"""
 
-    def __init__(self, log_name, elf_name, names=None, row=None):
+    def __init__(self, log_name, elf_name, names=None, row=None, races=None):
+        """`races` are (races, races_note) if they are known."""
         super().__init__(log_name, elf_name, names, row)
-        self.recursion, further = find_recursion(self)
-        self.history = History(self.trace, self.starts + [n for n in further if n != self.start])
-        self.races, self.races_note = race_pairs(self)
+        self.recursion, given = find_recursion(self)
+        self.loop = self.starts[0 if self.hangs else 1:] + [n for n in given if n != self.start]
+        self.history = History(self.trace, self.starts + self.loop)
+        self.races, self.races_note = races or race_pairs(self)
         pairs = {frozenset(((a, b), (c, d))) for a, b, c, d, _ in self.races}
         self.suspects = Ranking(self, self.history, pairs).found
         self.lines = self.history.lines(self.places)
