@@ -7,7 +7,7 @@ import importlib
 import os
 import sys
 
-from errors import NO_MEMORY, REFUSED, UNREADABLE, UNWRITABLE, CompanionError
+from errors import MISSING, NO_MEMORY, REFUSED, UNREADABLE, UNWRITABLE, CompanionError
 
 # Each word's module has a docstring, which is its help, and main(words), which gives the exit status.
 WORDS = {
@@ -67,6 +67,9 @@ def guarded(words):
     except MemoryError:
         say("out of memory")
         return NO_MEMORY
+    except FileNotFoundError as error:
+        say("missing: %s" % error.filename)
+        return MISSING
     except OSError as error:
         say("%s: %s" % (error.filename or "a file", error.strerror or error))
         return UNREADABLE

@@ -3,10 +3,9 @@
 Calls are a tree, which all harts share: a node is the place of a call made in another node; node 0 is the outermost.
 A return goes to the nearest node whose call it returns behind; one that fits none changes nothing, and so do longjmp,
 hand-made returns and tail calls."""
-import time
 from array import array
 
-from instruction import RA
+from instruction import RA, Instruction
 from program import Output
 
 
@@ -15,7 +14,7 @@ class CallTree:
 
     def __init__(self):
         self.parent, self.call_pc, self.depth = array("I", [0]), array("I", [0]), array("I", [0])
-        self.child, self.seconds = {}, 0.0      # {node above << 32 | place of the call: node}
+        self.child = {}                         # {node above << 32 | place of the call: node}
 
     def called(self, node, pc):
         key = node << 32 | pc
@@ -45,33 +44,39 @@ class CallTree:
             first, node = self.call_pc[node], self.parent[node]
         return found, more, first
 
+    def walk(self, log, elf_name, code):
+        """Of each row: its number, its hart's state before it, its instruction and its line. `code` is added to."""
+        # A hart's state: its node, its return address, whether its first row isn't its run's first.
+        harts = {b"%d" % hart: [0, item[6][RA], item[2] > 0] for hart, item in log.first_intervals().items()}
+        n = 0
+        with Output("joint", log.name, elf_name) as lines:
+            for line in lines:
+                words = line[:-1].split(b" ", 2)
+                mine = harts.get(words[0])
+                if mine is None:                # the end of an interval, or a word of memory
+                    continue
+                n += 1
+                key = words[2].partition(b" | ")[0]
+                ins = code.get(key)
+                if ins is None:
+                    ins = code[key] = Instruction(len(code), key)
+                yield n, mine, ins, line
+                if ins.call or ins.ret or ins.rd == RA:
+                    self.follow(mine, ins, line)
+
     def second_pass(self, trace, wanted):
         """{row: (its text, its node, whether calls from before the rows are unknown)} of the wanted rows."""
         wanted, got = sorted(set(wanted)), {}
         if not wanted:
             return got
-        began = time.time()
-        first = trace.log.first_intervals()
-        # Of each hart: its node, its return address, whether its first row isn't its run's first.
-        harts = {b"%d" % hart: [0, item[6][RA], item[2] > 0] for hart, item in first.items()}
         goals = iter(wanted)
-        goal, code, n = next(goals), trace.code, 0
-        with Output("joint", trace.log.name, trace.elf_name) as lines:
-            for line in lines:
-                words = line[:-1].split(b" ", 2)
-                mine = harts.get(words[0])
-                if mine is None:                # the end of an interval
-                    continue
-                n += 1
-                ins = code[words[2].partition(b" | ")[0]]
-                if n == goal:
-                    got[n] = (line[:-1].decode("ascii", "replace"), mine[0], mine[2])
-                    goal = next(goals, 0)
-                    if not goal:
-                        break
-                if ins.call or ins.ret or ins.rd == RA:
-                    self.follow(mine, ins, line)
-        self.seconds = time.time() - began
+        goal = next(goals)
+        for n, mine, _, line in self.walk(trace.log, trace.elf_name, trace.code):
+            if n == goal:
+                got[n] = (line[:-1].decode("ascii", "replace"), mine[0], mine[2])
+                goal = next(goals, 0)
+                if not goal:
+                    break
         return got
 
     def follow(self, mine, ins, line):

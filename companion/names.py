@@ -94,8 +94,8 @@ def filter_input(elf):
         out.flush()
         if not piece:
             break
-    if rest:
-        out.write(rows.line(rest + b"\n"))
+    if rest:                                    # a last line without an end gets none
+        out.write(rows.line(rest + b"\n")[:-1])
     return 0
 
 

@@ -24,8 +24,10 @@ def came_from(facts, n):
     for row, hart, start, size in reversed(facts.trace.reads):
         if row < n and start <= address | 3 and address & ~3 < start + size:
             return "a read call filled it (hart %d, count %s)" % (hart, number(facts.trace.count_of(row)))
-    first = facts.elf.word(address)
-    if value == (first or 0):
+    rest = facts.trace.writers(n)[1]            # the bytes that no row stored
+    mask = sum(255 << 8 * i for i in range(4) if rest >> i & 1)
+    value &= mask
+    if value == (facts.elf.word(address) or 0) & mask:
         kind = "the program file" if value else "zero from the start: never stored"
         return kind + " (or stored before the log)" if dropped else kind
     return "stored before the log" if dropped else "no row tells"

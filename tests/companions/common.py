@@ -49,6 +49,31 @@ def record(name, elf, *words):
     return log
 
 
+def named_examples():
+    """The folder with the examples' files with names and lines, or None if there is no compiler."""
+    folder = path("names")
+    if not os.path.exists(folder):
+        os.mkdir(folder)
+        try:
+            subprocess.run([os.path.join(EXAMPLES, "build.sh"), path("built"), folder], check=True,
+                           stdout=subprocess.DEVNULL, stderr=subprocess.DEVNULL)
+        except (OSError, subprocess.CalledProcessError):
+            return None
+    return folder if os.listdir(folder) else None
+
+
+def crash(name):
+    """Records one of the crashing programs: (log, elf)."""
+    with open(os.path.join(CRASHES, "cases.txt")) as file:
+        words = next(line.split() for line in file if line.startswith(name + " "))
+    elf = os.path.join(CRASHES, name + ".elf")
+    return record(name, elf, "--harts", words[2], "--seed", words[3], "--limit", words[4]), elf
+
+
+def example(name):
+    return os.path.join(EXAMPLES, name + ".elf")
+
+
 def output(*words):
     """What a command of the program prints."""
     return subprocess.run([PROGRAM] + list(words), stdout=subprocess.PIPE, stderr=subprocess.DEVNULL).stdout

@@ -9,7 +9,7 @@ import os
 import re
 import sys
 
-from common import CRASHES, check, companion, finish, record
+from common import CRASHES, check, companion, crash, finish
 
 FIRST = 3
 LEAST = {"known": 5 / 6, "kept": 4 / 6, "all": 10 / 12}
@@ -33,13 +33,11 @@ def rank_of(line, text):
 def main(groups):
     found = {"all": [0, 0]}
     with open(os.path.join(CRASHES, "cases.txt")) as file:
-        cases = [line.split() for line in file if line.strip() and line[0] != "#"]
-    for name, group, harts, seed, limit, _ in cases:
+        cases = [line.split()[:2] for line in file if line.strip() and line[0] != "#"]
+    for name, group in cases:
         if groups and group not in groups:
             continue
-        elf = os.path.join(CRASHES, name + ".elf")
-        log = record(name, elf, "--harts", harts, "--seed", seed, "--limit", limit)
-        status, text, err = companion("why", log, elf, "--more")
+        status, text, err = companion("why", *crash(name), "--more")
         place = rank_of(guilty_line(name), text)
         print("        %-6s %-20s %s" % (group, name, "suspect %d" % place if place else "not among the suspects"))
         if status:
