@@ -8,7 +8,7 @@ import struct
 import subprocess
 import sys
 
-from common import COMPANION, PROGRAM, check, companion, crash, example, finish, path, record, refused
+from common import COMPANION, CRASHES, PROGRAM, check, companion, crash, example, finish, path, record, refused
 
 sys.path.insert(0, COMPANION)
 from elf import Elf                             # noqa: E402
@@ -56,9 +56,9 @@ def logs(log, elf):
         refused("%s: an unknown option" % word, 2, "unknown", word, log, elf, "--what")
         refused("%s: --names that is no ELF" % word, 6, "no 32-bit", word, log, elf, "--names", path("text"))
     subprocess.run([PROGRAM, "record", "--seed", "1", "--log-size", "16384", "--interval", "10000000", "--sets", "1",
-                    "--ways", "1", "--line", "1", example("wild_store"), path("none.log"), path("none.book")], stdout=subprocess.PIPE, stderr=subprocess.PIPE)
-    refused("why: a log that kept no interval", 14, "holds no row", "why", path("none.log"), example("wild_store"))
-    refused("bucket: a log that kept no interval", 14, "holds no", "bucket", path("none.log"), example("wild_store"))
+                    "--ways", "1", "--line", "1", "--limit", "60000", os.path.join(CRASHES, "hang.elf"), path("none.log"), path("none.book")], stdout=subprocess.PIPE, stderr=subprocess.PIPE)
+    refused("why: a log that kept no interval", 14, "holds no row", "why", path("none.log"), os.path.join(CRASHES, "hang.elf"))
+    refused("bucket: a log that kept no interval", 14, "holds no", "bucket", path("none.log"), os.path.join(CRASHES, "hang.elf"))
     refused("why: a row that isn't there", 14, "no row 0:99999999", "why", log, elf, "--row", "0:99999999")
     refused("why: --row without a count", 2, "HART:COUNT", "why", log, elf, "--row", "7")
     refused("why: a page that can't be saved", 4, "missing", "why", log, elf, "--html", path("nowhere/page.html"))
