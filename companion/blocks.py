@@ -5,7 +5,11 @@ function that is called with such an address before the giver returns it again (
 address again and again with no such call between is a look-up, and no giver."""
 import bisect
 
+from elf import WRITABLE
+from rows import LOADS, STORES
+
 LOWEST, NEAR, LARGEST = 4096, 1024, 1 << 16
+MOST_JUMPS = 500000         # so many of the latest calls and returns are looked at, which bounds the memory
 HEADER = 4                  # bytes before a block that are surely its allocator's
 STEPS = 600                 # so many rows are looked at for the block that a pointer came from
 
@@ -26,6 +30,7 @@ class Blocks:
     def __init__(self, trace, elf):
         self.trace, self.elf = trace, elf
         self.by_address, self.arguments, self.writers = {}, {}, {}
+        self.first = max(0, len(trace.jumps) - MOST_JUMPS)
         found = self.matched()
         givers = self.givers(found)
         for block, writer in found:
@@ -39,7 +44,8 @@ class Blocks:
     def matched(self):
         """[(block, the row that wrote the address into a0)] of all calls that return an address of data."""
         trace, stacks, found = self.trace, {}, []
-        for at, n in enumerate(trace.jumps):
+        for at in range(self.first, len(trace.jumps)):
+            n = trace.jumps[at]
             stack = stacks.setdefault(trace.hart[n], [])
             if trace.code_of(n).call:
                 stack.append(at)
@@ -70,13 +76,14 @@ class Blocks:
 
     def is_given(self, address, argument):
         part = self.elf.part_of(address)
-        return (address % 4 == 0 and LOWEST <= address < self.trace.log.memory and not (part and not part[2] & 2)
+        return (address % 4 == 0 and LOWEST <= address < self.trace.log.memory and not (part and not part[2] & WRITABLE)
                 and abs(address - argument) >= NEAR)
 
     def givers(self, found):
         """The functions whose addresses come again only after a call with them."""
         latest, again, alone, calls = {}, {}, {}, {}
-        for at, n in enumerate(self.trace.jumps):
+        for at in range(self.first, len(self.trace.jumps)):
+            n = self.trace.jumps[at]
             if self.trace.code_of(n).call:
                 calls.setdefault(self.trace.jump_a0[at], []).append(n)
         for block, _ in found:
@@ -93,7 +100,8 @@ class Blocks:
 
     def collect_arguments(self):
         trace = self.trace
-        for at, n in enumerate(trace.jumps):
+        for at in range(self.first, len(trace.jumps)):
+            n = trace.jumps[at]
             if trace.jump_a0[at] in self.by_address and trace.code_of(n).call:
                 self.arguments.setdefault(trace.jump_a0[at], []).append((n, self.entry(n)))
 
@@ -139,9 +147,9 @@ class Blocks:
     def sources(self, n):
         """The rows that a row's value comes from."""
         trace = self.trace
-        if trace.flags[n] & 4:
+        if trace.flags[n] & LOADS:
             return trace.writers(n)[0]
-        if trace.flags[n] & 8:
+        if trace.flags[n] & STORES:
             return [trace.d2[n]]
         return [trace.d1[n], trace.d2[n]] if trace.code_of(n).rd else []
 

@@ -39,7 +39,6 @@ class Facts:
         self.hangs = not row and not self.trace.fault and bool(self.trace.flags[self.start] & LOADS)
         self.faulted = bool(self.trace.fault and self.trace.fault[0] == self.start)
         self.last = self.trace.last_rows(self.start, LAST_ROWS)
-        self.fetch(self.last + list(self.trace.last.values()))
 
     def find_starts(self, row):
         trace = self.trace

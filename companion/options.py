@@ -33,6 +33,6 @@ def parse(words, known, names, form):
 
 def whole(text, low, high, what):
     """The number that a word says, if it is one from `low` to `high`."""
-    if not (text.isascii() and text.isdigit() and len(text) < 20 and low <= int(text) <= high):
+    if not (text.isascii() and text.isdigit() and len(text) < 21 and low <= int(text) <= high):
         raise CompanionError("%s has to be a number from %d to %d, not %r" % (what, low, high, text), REFUSED)
     return int(text)

@@ -2,14 +2,18 @@
 from text import number
 
 LARGEST_LOG = 1 << 28
+MOST_LOADS = 400
 
 
-def origins(facts, history, most=400):
-    """{(words, place): (how many loads, the nearest)} of the history's loads from before the rows. It reads their texts."""
-    nearest = sorted(history.before, key=lambda n: history.cost[n])[:most]
-    facts.fetch(nearest)
+def nearest_before(history):
+    """The loads of what no row stored, nearest to the fault first."""
+    return sorted(history.before, key=lambda n: history.cost[n])[:MOST_LOADS]
+
+
+def origins(facts, history):
+    """{(words, place): (how many loads, the nearest)} of the history's loads from before the rows, once they are fetched."""
     found = {}
-    for n in nearest:
+    for n in nearest_before(history):
         key = came_from(facts, n), facts.where(n)
         times, first = found.get(key, (0, n))
         found[key] = times + 1, first

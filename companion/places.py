@@ -9,7 +9,7 @@ from text import clean
 TOOLS = ("riscv64-unknown-elf-addr2line", "riscv64-linux-gnu-addr2line", "llvm-addr2line")
 MARK = 0xffffffff           # asked behind each address: its echo tells that the answer before it is whole
 AT_ONCE = 100               # so many questions fit into a pipe, whatever the answers' length
-MOST_FRAMES = 64
+MOST_FRAMES, LONGEST_LINE = 64, 1 << 16
 LARGEST_SOURCE = 4 << 20
 # A hostile ELF can name any file as its source: only what looks like one is opened.
 SOURCES = (".c", ".h", ".s", ".S", ".cc", ".cpp", ".cxx", ".hpp", ".hh", ".inc", ".rs", ".zig", ".adb", ".f90", ".go")
@@ -18,12 +18,12 @@ SOURCES = (".c", ".h", ".s", ".S", ".cc", ".cpp", ".cxx", ".hpp", ".hh", ".inc",
 class Tool:
     """One addr2line, or None for `process` if there is none or it ended."""
 
-    def __init__(self, elf_name, tools):
-        self.name, self.process = "", None
+    def __init__(self, elf, tools):
+        self.elf, self.name, self.process = elf, "", None
         for name in tools:
             try:
                 self.process = subprocess.Popen(
-                    [name, "-a", "-f", "-i", "-e", os.path.abspath(elf_name)], bufsize=0, stdin=subprocess.PIPE,
+                    [name, "-a", "-f", "-i", "-e", os.path.abspath(elf.name)], bufsize=0, stdin=subprocess.PIPE,
                     stdout=subprocess.PIPE, stderr=subprocess.DEVNULL)
                 self.lines, self.name = os.fdopen(os.dup(self.process.stdout.fileno()), "rb"), name
                 if self.ask([MARK]):
@@ -44,9 +44,9 @@ class Tool:
         return got
 
     def line(self):
-        line = self.lines.readline()
-        if not line:
-            raise ValueError("addr2line ended")
+        line = self.lines.readline(LONGEST_LINE)
+        if not line.endswith(b"\n"):
+            raise ValueError("addr2line ended, or says what is no name")
         return line.decode("utf-8", "replace").rstrip("\r\n")
 
     def frames(self, address):
@@ -58,7 +58,9 @@ class Tool:
         while echo(function) != MARK:
             path, _, line = self.line().split(" (")[0].rpartition(":")
             if (function != "??" or path != "??") and len(found) < MOST_FRAMES:
-                found.append((clean(function), clean(path), int(line) if line.isdigit() else 0))
+                # $x and the like are marks for disassemblers, which LLVM's tool takes for functions.
+                name = self.elf.function_name(address) if function[:1] == "$" else clean(function)
+                found.append((name, clean(path), int(line) if line.isascii() and line.isdigit() else 0))
             function = self.line()
         self.line()                             # of the mark itself: ?? and ??:0
         self.line()
@@ -84,7 +86,7 @@ class Places:
 
     def __init__(self, elf, tools=TOOLS):
         self.elf, self.kept, self.texts = elf, {}, {}
-        self.addr2line = Tool(elf.name, tools)
+        self.addr2line = Tool(elf, tools)
         self.tool = self.addr2line.name         # empty if there is none
 
     def fetch(self, pcs):

@@ -5,7 +5,7 @@ from instruction import NAMES
 from origins import advice
 from text import as_text, counted, number, short
 
-SUSPECTS, MORE_SUSPECTS, LINES, MORE_LINES, ORIGINS, MORE_ORIGINS, RACES, MORE_RACES = 5, 12, 10, 40, 6, 20, 5, 12
+SUSPECTS, MORE_SUSPECTS, LINES, MORE_LINES, ORIGINS, MORE_ORIGINS = 5, 12, 10, 40, 6, 20
 ROW_WIDTH, TEXT_WIDTH, MOST_CALLS = 84, 78, 9
 SUSPECTS_HEAD = ("SUSPECTS, likeliest first (a load and the store that it got; what a call did to the memory; "
                  "arithmetic that lost bits)")
@@ -26,7 +26,7 @@ def report(facts, more=False):
               ("FROM BEFORE: loads behind it that no row of the log stored",
                origin_lines(facts, MORE_ORIGINS if more else ORIGINS))]
     if facts.log.harts > 1:
-        parts.append(race_part(facts, MORE_RACES if more else RACES))
+        parts.append(race_part(facts))
     return parts + [("", last_lines(facts))]
 
 
@@ -133,15 +133,9 @@ def origin_lines(facts, most):
     return (said or ["nothing: all values behind it come from constants"]) + advice(facts.log)
 
 
-def race_part(facts, most):
-    groups = {}
-    for first, count, second, other, address in facts.races:
-        rows = facts.trace.row_of(first, count), facts.trace.row_of(second, other)
-        if all(rows):
-            key = facts.line(rows[0]), facts.line(rows[1]), facts.named.data_name(address) or "%08x" % address
-            groups[key] = groups.get(key, 0) + 1
-    said = ["%5s  %s  and  %s  %s" % ((number(times),) + key) for key, times in sorted(groups.items(), key=lambda x: -x[1])[:most]]
-    return "RACES: %s" % (facts.races_note or counted(len(facts.races), "pair") + ", by lines"), said or ["none"]
+def race_part(facts):
+    said = "%s; `zelkuma race` groups them" % counted(len(facts.races), "pair") if facts.races else "none"
+    return "RACES", [facts.races_note or said]
 
 
 def last_lines(facts):

@@ -24,9 +24,10 @@ SIZES = {1: "bytes", 2: "halves"}, {2: "half", 4: "word"}
 
 
 class Ranking:
-    """found: the suspects, likeliest first. It needs the rows' texts, and asks `facts` for them all at once."""
+    """found: the suspects, likeliest first. It needs the texts of rows, and `further` rows are fetched with them, since
+    each time that texts are fetched costs a pass over all rows."""
 
-    def __init__(self, facts, history, races=()):
+    def __init__(self, facts, history, races, further):
         self.facts, self.trace, self.places = facts, facts.trace, facts.places
         self.history, self.races = history, races
         self.loads = {}                         # a load's code: how many rows
@@ -35,7 +36,7 @@ class Ranking:
         stores = sorted(self.stores(), key=rank)
         looked_at = stores[:MOST_LOOKED_AT]
         narrow = narrowings(self.trace, history)
-        facts.fetch([n for item in looked_at for n in (item.load, item.store)] + [n for rows in narrow for n in rows])
+        facts.fetch(further + [n for item in looked_at for n in (item.load, item.store)] + [n for rows in narrow for n in rows])
         memory = MemoryUse(facts, history)
         found = [suspect for item in looked_at for suspect in memory.judge(item)]
         self.found = sorted(stores + found + lost_bits(facts, history, narrow) + facts.recursion, key=rank)

@@ -15,10 +15,10 @@ import sys
 from facts import Facts, race_pairs
 from history import History
 from options import parse
-from origins import origins
+from origins import nearest_before, origins
 from page import page
 from recursion import find_recursion
-from report import report
+from report import MORE_LINES, MORE_SUSPECTS, report
 from suspects import Ranking
 
 FORM = "why LOG ELF [--names ELF] [--row HART:COUNT] [--more] [--html FILE]"
@@ -42,10 +42,11 @@ class Analysis(Facts):
         self.history = History(self.trace, self.starts + self.loop)
         self.races, self.races_note = races or race_pairs(self)
         pairs = {frozenset(((a, b), (c, d))) for a, b, c, d, _ in self.races}
-        self.suspects = Ranking(self, self.history, pairs).found
         self.lines = self.history.lines(self.places)
-        self.fetch([line[3] for line in self.lines[:40]] +
-                   [n for item in self.suspects[:12] for n in [item.load, item.store, item.guilty] + [row for _, row in item.extra]])
+        shown = self.last + list(self.trace.last.values()) + [line[3] for line in self.lines[:MORE_LINES]]
+        self.suspects = Ranking(self, self.history, pairs, shown + nearest_before(self.history)).found
+        self.fetch([n for item in self.suspects[:MORE_SUSPECTS]
+                    for n in [item.load, item.store, item.guilty] + [row for _, row in item.extra]])
         self.origin = origins(self, self.history)
 
 

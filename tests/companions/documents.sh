@@ -1,0 +1,15 @@
+#!/usr/bin/env bash
+# Runs the examples of the companions' pages with the words of the companions beside those of the program.
+set -u
+top=$(cd "$(dirname "$0")/../.." && pwd)
+work=$(mktemp -d)
+trap 'rm -rf "$work"' EXIT
+cat >"$work/zelkuma" <<END
+#!/usr/bin/env bash
+case \${1:-} in
+names | why | race | view | gdb | bucket | seeds) exec python3 "$top/companion" "\$@" ;;
+*) exec "$ZELKUMA_PROGRAM" "\$@" ;;
+esac
+END
+chmod +x "$work/zelkuma"
+"$top/tests/documents.py" "$work/zelkuma" "$top/docs/WHY.md"
