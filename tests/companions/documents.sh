@@ -2,6 +2,7 @@
 # Runs the examples of the companions' pages with the words of the companions beside those of the program.
 set -u
 top=$(cd "$(dirname "$0")/../.." && pwd)
+export ZELKUMA_PROGRAM=${ZELKUMA_PROGRAM:-$top/crates/bugnet_main/out/bugnet_main}
 work=$(mktemp -d)
 trap 'rm -rf "$work"' EXIT
 cat >"$work/zelkuma" <<END
