@@ -141,7 +141,8 @@ class Blocks:
         place = bisect.bisect_right(self.addresses, block.address)
         if place == len(self.addresses) or self.addresses[place] - HEADER > address:
             return False
-        others = [other for other in self.by_address[self.addresses[place]] if other.back < row and other.giver == block.giver]
+        others = [other for other in self.by_address[self.addresses[place]]
+                  if other.back < row and other.giver == block.giver]
         return bool(others) and not self.given_back(others[-1], others[-1].back, row)
 
     def sources(self, n):

@@ -6,6 +6,7 @@ from log import Log
 from options import whole
 from places import Places
 from rows import LOADS, Trace
+from text import clean
 
 LAST_ROWS = 12
 LOOP_ROWS, MOST_LOADS = 300, 12         # what a hart did last, if it didn't fault
@@ -29,11 +30,14 @@ class Facts:
         if names and not self.named.loads_the_same(self.elf):
             self.notes.append("--names: its segments differ from the recorded program's; names may be wrong")
         self.places = Places(self.named)
-        if not self.places.tool:
+        if not self.named.symbols:
+            self.notes.append("%s has no names: --names takes the same program with its names" % clean(self.named.name))
+        elif not self.places.tool:
             self.notes.append("no addr2line was found: there are the names of symbols, and no lines")
         self.trace = Trace(self.log, elf_name)
         if not self.trace.last:
-            raise CompanionError("the log holds no row of any hart (see `list`)", NO_INTERVAL)
+            raise CompanionError("the log holds no row: the records of a hart's last interval passed its --log-size %d; "
+                                 "--format 2 keeps the interval of a crash" % self.log.size, NO_INTERVAL)
         self.starts = self.find_starts(row)
         self.start = self.starts[0]
         self.hangs = not row and not self.trace.fault and bool(self.trace.flags[self.start] & LOADS)

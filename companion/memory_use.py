@@ -81,7 +81,8 @@ class MemoryUse:
         """The block that the store used was handed out after the load's, and has the same memory."""
         rows = self.blocks.given_back(loaded, loaded.back, stored.call)
         if rows:
-            return self.suspect("back", item, rows[-1], GIVEN_BACK, "the memory was given back, given out again, and still used")
+            return self.suspect("back", item, rows[-1], GIVEN_BACK,
+                                "the memory was given back, given out again, and still used")
         # Nobody gave it back between: it was given back twice before, and so given out twice.
         before = self.blocks.given_back(loaded, 0, loaded.call)
         if len(before) < 2:

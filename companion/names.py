@@ -13,6 +13,7 @@ from elf import Elf
 from errors import MISSING, CompanionError
 from options import parse
 from places import Places
+from text import clean
 
 FORM = "names ELF [NAME | FILE:LINE]..."
 CHUNK = 1 << 16
@@ -102,6 +103,8 @@ def filter_input(elf):
 def main(words):
     names, _ = parse(words, {}, range(1, 1000), FORM)
     elf = Elf(names[0])
+    if not elf.symbols:
+        sys.stderr.write("zelkuma: %s has no names: it is stripped\n" % clean(os.path.basename(elf.name)))
     if len(names) == 1:
         return filter_input(elf)
     for name in names[1:]:

@@ -22,7 +22,8 @@ def find_recursion(facts):
         return [], []
     latest = max(trace.jumps[at] for at in calls if trace.code_of(trace.jumps[at]).pc == place)
     suspect = Suspect("calls", latest, latest, COST)
-    suspect.why.append("the stack is %s calls deep, and %s of them are this one" % (number(len(calls)), number(times[place])))
+    suspect.why.append("the stack is %s calls deep, and %s of them are this one" %
+                       (number(len(calls)), number(times[place])))
     asked = calls[ASKED_FROM:ASKED_FROM + ASKED_CALLS]
     return [suspect], [trace.jump_writer[at] for at in asked if trace.jump_writer[at]]
 

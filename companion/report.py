@@ -42,8 +42,8 @@ def head_lines(facts):
     elif facts.asked:
         said = ["Asked of hart %d at count %s (not the fault)" % (hart, count)]
     else:
-        said = ["No hart faulted: " + facts.ends(), "Below is %s of hart %d." %
-                ("the last load (what it waits for, if it hangs)" if facts.log.ends[hart][1] == "limit" else "the last row", hart)]
+        what = "the last load (what it waits for, if it hangs)" if facts.hangs else "the last row"
+        said = ["No hart faulted: " + facts.ends(), "Below is %s of hart %d." % (what, hart)]
         said += ["hart %d is in %s" % (each, facts.where(n)) for each, n in sorted(trace.last.items())]
     source = facts.source(at)
     return said + ["%s %s%s" % (verb, facts.where(at), ":  " + source if source else "")]
@@ -69,9 +69,8 @@ def row_lines(facts):
 
 
 def suspect_lines(facts, most):
-    shown = [item for item in facts.suspects if item.shown] or facts.suspects
     said = []
-    for place, item in enumerate(shown[:most], 1):
+    for place, item in enumerate(facts.shown[:most], 1):
         said += one_suspect(facts, place, item)
     return said or ["none: no row of the log stored the value"]
 
@@ -83,7 +82,8 @@ def one_suspect(facts, place, item):
     if item.kind in STORED:
         said += ["   " + did(facts, item.store, STORED[item.kind]), "      " + short(facts.text(item.store))]
     if item.kind not in ("lost", "calls"):
-        said += ["   " + did(facts, item.load, "loaded it in"), "      " + short(facts.text(item.load)) + data_words(facts, item.load)]
+        said += ["   " + did(facts, item.load, "loaded it in"),
+                 "      " + short(facts.text(item.load)) + data_words(facts, item.load)]
     times = " (%s such pairs)" % number(item.rows) if item.rows > 1 else ""
     return said + ["   because: " + "; ".join([distance(item)] + item.why) + times]
 
@@ -118,13 +118,13 @@ def distance(item):
 
 def value_part(facts, most):
     history = facts.history
-    said = ["%-6s %-36s %7s rows  latest %s" % ("hart %d" % hart, short(place, 36), number(times),
-                                               short(facts.text(n), TEXT_WIDTH) or "count %s" % number(facts.trace.count_of(n)))
+    said = ["%-6s %-36s %7s rows  latest %s" % ("hart %d" % hart, short(place, 36), number(times), short(facts.text(n), TEXT_WIDTH))
             for hart, place, times, n, _ in facts.lines[:most]]
     if len(facts.lines) > most:
         said.append("       .. %s (--more) .." % counted(len(facts.lines) - most, "more place"))
-    return ("VALUES: %s of %s rows stand behind it%s, by place, nearest first" %
-            (number(len(history.cost) - len(history.decided)), number(facts.trace.rows), " (cut off there)" if history.cut else ""), said)
+    rows = number(len(history.cost) - len(history.decided))
+    head = "VALUES: %s of %s rows stand behind it%s, by place, nearest first"
+    return head % (rows, number(facts.trace.rows), " (cut off there)" if history.cut else ""), said
 
 
 def origin_lines(facts, most):

@@ -36,7 +36,8 @@ class Ranking:
         stores = sorted(self.stores(), key=rank)
         looked_at = stores[:MOST_LOOKED_AT]
         narrow = narrowings(self.trace, history)
-        facts.fetch(further + [n for item in looked_at for n in (item.load, item.store)] + [n for rows in narrow for n in rows])
+        facts.fetch(further + [n for item in looked_at for n in (item.load, item.store)] +
+                    [n for rows in narrow for n in rows])
         memory = MemoryUse(facts, history)
         found = [suspect for item in looked_at for suspect in memory.judge(item)]
         self.found = sorted(stores + found + lost_bits(facts, history, narrow) + facts.recursion, key=rank)
@@ -53,7 +54,8 @@ class Ranking:
                    trace.hart[store] != trace.hart[load])
             item = groups.get(key)
             pair = load, store
-            if item is None or pair == closing or ((item.load, item.store) != closing and (price, -load) < (item.cost, -item.load)):
+            nearer = item is None or ((item.load, item.store) != closing and (price, -load) < (item.cost, -item.load))
+            if nearer or pair == closing:
                 groups[key] = Suspect("store", load, store, price)
                 groups[key].rows = item.rows if item else 0
             groups[key].rows += 1

@@ -29,7 +29,7 @@ class Analysis(Facts):
     """Facts, and what follows from them:
 
     recursion, loop         a call that calls itself, and the rows that a loop or a recursion follows
-    history, suspects
+    history, suspects       and `shown`, those of them that the report tells
     races, races_note       what `races` lists, and why nothing if so
     lines                   the history by source lines
     origin                  what it took from before the rows"""
@@ -45,7 +45,8 @@ class Analysis(Facts):
         self.lines = self.history.lines(self.places)
         shown = self.last + list(self.trace.last.values()) + [line[3] for line in self.lines[:MORE_LINES]]
         self.suspects = Ranking(self, self.history, pairs, shown + nearest_before(self.history)).found
-        self.fetch([n for item in self.suspects[:MORE_SUSPECTS]
+        self.shown = [item for item in self.suspects if item.shown] or self.suspects
+        self.fetch([n for item in self.shown[:MORE_SUSPECTS]
                     for n in [item.load, item.store, item.guilty] + [row for _, row in item.extra]])
         self.origin = origins(self, self.history)
 

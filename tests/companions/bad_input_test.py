@@ -8,7 +8,8 @@ import struct
 import subprocess
 import sys
 
-from common import COMPANION, CRASHES, PROGRAM, check, companion, crash, example, finish, path, record, refused
+from common import (COMPANION, CRASHES, PROGRAM, check, companion, crash, example, finish, need_addr2line, path, record,
+                    refused)
 
 sys.path.insert(0, COMPANION)
 from elf import Elf                             # noqa: E402
@@ -55,10 +56,12 @@ def logs(log, elf):
         refused("%s: too few words" % word, 2, "the words are", word, log)
         refused("%s: an unknown option" % word, 2, "unknown", word, log, elf, "--what")
         refused("%s: --names that is no ELF" % word, 6, "no 32-bit", word, log, elf, "--names", path("text"))
+    hang, none = os.path.join(CRASHES, "hang.elf"), path("none.log")
     subprocess.run([PROGRAM, "record", "--seed", "1", "--log-size", "16384", "--interval", "10000000", "--sets", "1",
-                    "--ways", "1", "--line", "1", "--limit", "60000", os.path.join(CRASHES, "hang.elf"), path("none.log"), path("none.book")], stdout=subprocess.PIPE, stderr=subprocess.PIPE)
-    refused("why: a log that kept no interval", 14, "holds no row", "why", path("none.log"), os.path.join(CRASHES, "hang.elf"))
-    refused("bucket: a log that kept no interval", 14, "holds no", "bucket", path("none.log"), os.path.join(CRASHES, "hang.elf"))
+                    "--ways", "1", "--line", "1", "--limit", "60000", hang, none, path("none.book")],
+                   stdout=subprocess.PIPE, stderr=subprocess.PIPE)
+    refused("why: a log that kept no interval", 14, "passed its --log-size 16384", "why", none, hang)
+    refused("bucket: a log that kept no interval", 14, "holds no", "bucket", none, hang)
     refused("why: a row that isn't there", 14, "no row 0:99999999", "why", log, elf, "--row", "0:99999999")
     refused("why: --row without a count", 2, "HART:COUNT", "why", log, elf, "--row", "7")
     refused("why: a page that can't be saved", 4, "missing", "why", log, elf, "--html", path("nowhere/page.html"))
@@ -101,6 +104,22 @@ def hostile_elf(elf):
     check("300 damaged ELF files: read or refused", not bad, bad[:3])
 
 
+def hostile_log():
+    """Records of any bytes under a good digest: what the program takes, `why` takes, and what it refuses, `why` refuses."""
+    with open(path("two.log"), "rb") as file:
+        good = file.read()
+    draw, seen = random.Random(7), {}
+    for _ in range(25):
+        data = bytearray(good[:-32])
+        for _ in range(draw.randrange(1, 4)):
+            data[draw.randrange(HEAD, len(data))] = draw.choice((0, 1, 255, draw.randrange(256)))
+        status, _, err = companion("why", write("bad.log", bytes(data) + hashlib.sha256(data).digest()), example("counter"))
+        seen[status] = seen.get(status, 0) + 1
+        if status not in (0, 7, 14, 15) or err.count("\n") > (status > 0):
+            check("a forged log is refused or explained", False, (status, err))
+    check("25 forged logs: explained or refused, by status %s" % seen, len(seen) > 1)
+
+
 def hostile_names(log, elf):
     with open(elf, "rb") as file:
         data = file.read()
@@ -120,10 +139,12 @@ def hostile_names(log, elf):
 
 
 def main():
+    need_addr2line()
     log, elf = crash("use_after_free")
     logs(log, elf)
     closed_pipe(log, elf)
     hostile_elf(elf)
+    hostile_log()
     hostile_names(log, elf)
     finish()
 

@@ -1,6 +1,6 @@
 #!/usr/bin/env python3
 """`bucket`: one line, the same for the same cause."""
-from common import CRASHES, check, companion, crash, example, finish, record
+from common import CRASHES, check, companion, crash, example, finish, need_addr2line, record
 
 
 def bucket(log, elf, *more):
@@ -9,6 +9,7 @@ def bucket(log, elf, *more):
 
 
 def main():
+    need_addr2line()
     ring = CRASHES + "/race_ring.elf"
     lines = {bucket(record("ring" + seed, ring, "--harts", "2", "--seed", seed), ring) for seed in ("3", "5", "8")}
     check("three schedules, one line", len(lines) == 1 and min(lines).startswith("LoadOutside other_harts race_ring.c:51 "), lines)

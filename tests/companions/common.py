@@ -2,6 +2,7 @@
 
 The program is $ZELKUMA_PROGRAM. Each test file ends with `finish()`, which prints 'N passed, N failed'."""
 import os
+import shutil
 import subprocess
 import sys
 import tempfile
@@ -12,6 +13,7 @@ PROGRAM = os.environ.get("ZELKUMA_PROGRAM", os.path.join(TOP, "crates", "bugnet_
 COMPANION = os.path.join(TOP, "companion")
 EXAMPLES = os.path.join(TOP, "examples")
 CRASHES = os.path.join(TOP, "tests", "crashes")
+TOOLS = "riscv64-unknown-elf-addr2line", "riscv64-linux-gnu-addr2line", "llvm-addr2line"
 scratch = tempfile.TemporaryDirectory()
 counts = {True: 0, False: 0}
 os.environ["ZELKUMA_PROGRAM"] = PROGRAM
@@ -47,6 +49,13 @@ def record(name, elf, *words):
     if not os.path.exists(log):
         sys.exit("no recording of %s: %s" % (elf, done.stderr.decode()))
     return log
+
+
+def need_addr2line():
+    """Ends a test file, with a line, if no tool tells lines of addresses."""
+    if not any(shutil.which(tool) for tool in TOOLS):
+        skip(os.path.basename(sys.argv[0]), "none of %s is there" % ", ".join(TOOLS))
+        finish()
 
 
 def named_examples():

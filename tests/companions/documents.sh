@@ -3,6 +3,10 @@
 set -u
 top=$(cd "$(dirname "$0")/../.." && pwd)
 export ZELKUMA_PROGRAM=${ZELKUMA_PROGRAM:-$top/crates/bugnet_main/out/bugnet_main}
+if ! command -v riscv64-unknown-elf-addr2line riscv64-linux-gnu-addr2line llvm-addr2line >/dev/null; then
+    echo "skipped documents.sh: the pages show lines, and there is no addr2line"
+    exit 0
+fi
 work=$(mktemp -d)
 trap 'rm -rf "$work"' EXIT
 cat >"$work/zelkuma" <<END

@@ -2,7 +2,7 @@
 """`names`: a filter over what the program prints, and addresses of names."""
 import resource
 
-from common import check, companion, crash, example, finish, output
+from common import check, companion, crash, example, finish, need_addr2line, output
 
 ROWS, LEAST = 1000000, 300000
 
@@ -41,8 +41,9 @@ def without_tool(log, elf):
     row = b"0 0 00010074 00002197 auipc gp,0x2 | gp=00012074\n"
     status, text, err = companion("names", elf, given=row, environment={"PATH": "/nowhere"})
     check("without addr2line there are symbols", status == 0 and text.endswith("| _start\n"), text + err)
-    status, text, _ = companion("names", example("tills"), given=row)
-    check("a stripped file adds nothing", status == 0 and text.encode() == row, text)
+    status, text, err = companion("names", example("tills"), given=row)
+    check("a stripped file adds nothing, and that is said",
+          status == 0 and text.encode() == row and err == "zelkuma: tills.elf has no names: it is stripped\n", text + err)
 
 
 def speed_test(log, elf):
@@ -56,6 +57,7 @@ def speed_test(log, elf):
 
 
 def main():
+    need_addr2line()
     log, elf = crash("use_after_free")
     filter_tests(log, elf)
     address_tests(elf)

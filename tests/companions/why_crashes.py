@@ -9,7 +9,7 @@ import os
 import re
 import sys
 
-from common import CRASHES, check, companion, crash, finish
+from common import CRASHES, check, companion, crash, finish, need_addr2line
 
 FIRST = 3
 LEAST = {"known": 5 / 6, "kept": 4 / 6, "all": 10 / 12}
@@ -31,6 +31,7 @@ def rank_of(line, text):
 
 
 def main(groups):
+    need_addr2line()
     found = {"all": [0, 0]}
     with open(os.path.join(CRASHES, "cases.txt")) as file:
         cases = [line.split()[:2] for line in file if line.strip() and line[0] != "#"]

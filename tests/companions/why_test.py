@@ -3,7 +3,7 @@
 import re
 import sys
 
-from common import COMPANION, check, companion, crash, example, finish, named_examples, output, path, record, skip
+from common import COMPANION, check, companion, crash, example, finish, need_addr2line, named_examples, output, path, record, skip
 
 sys.path.insert(0, COMPANION)
 import why                                      # noqa: E402  (its analysis is compared with `slice`)
@@ -75,7 +75,8 @@ def other_forms():
     other = companion("why", log, elf, "--names", example("sort"))[1]
     check("--names of another program is told", "its segments differ" in other, other[-300:])
     status, text, _ = companion("why", record("bare", example("tills"), "--seed", "1", "--harts", "2"), example("tills"))
-    check("a stripped program: addresses", status == 0 and "In 00010194" in text, text[:600])
+    check("a stripped program: addresses, and --names is told", status == 0 and "In 00010194" in text and
+          "has no names: --names takes" in text, text[:600])
     log = record("harts", example("counter"), "--harts", "16", "--seed", "3", "--log-size", "16384", "--limit", "3000")
     status, text, err = companion("why", log, example("counter"))
     check("16 harts with dropped records", status == 0 and "VALUES" in text, err)
@@ -90,6 +91,7 @@ def hang():
 
 
 def main():
+    need_addr2line()
     names = named_examples()
     if names:
         known_causes(names)
