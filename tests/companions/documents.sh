@@ -17,4 +17,8 @@ names | why | race | view | gdb | bucket | seeds) exec python3 "$top/companion" 
 esac
 END
 chmod +x "$work/zelkuma"
-"$top/tests/documents.py" "$work/zelkuma" "$top/docs/WHY.md"
+pages=()
+for page in WHY VIEW GDB; do
+    [ -f "$top/docs/$page.md" ] && pages+=("$top/docs/$page.md")
+done
+"$top/tests/documents.py" "$work/zelkuma" "${pages[@]}"

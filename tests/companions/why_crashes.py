@@ -5,13 +5,15 @@
 
 The shares are printed, and stand in docs/GUIDE.md. It fails if they fall under what is asked for: ten of twelve of all
 programs, four of six of those that the ranking wasn't tuned on."""
+import filecmp
 import os
 import re
+import subprocess
 import sys
 
-from common import CRASHES, check, companion, crash, finish, need_addr2line
+from common import CRASHES, check, companion, crash, finish, need_addr2line, path, skip
 
-FIRST = 3
+FIRST, COMPILER = 3, "12.2.0"
 LEAST = {"known": 5 / 6, "kept": 4 / 6, "all": 10 / 12}
 
 
@@ -30,8 +32,24 @@ def rank_of(line, text):
     return 0
 
 
+def kept_files():
+    """The ELF files that are kept are what the sources give, if the compiler is the one that built them."""
+    try:
+        version = subprocess.run(["riscv64-unknown-elf-gcc", "-dumpfullversion"], stdout=subprocess.PIPE).stdout.decode().strip()
+    except OSError:
+        version = "no"
+    if version != COMPILER:
+        skip("whether the kept ELF files are those of the sources", "they were built by GCC %s, here is %s" % (COMPILER, version))
+        return
+    subprocess.run([os.path.join(CRASHES, "build.sh"), path("crashes")], check=True)
+    other = [name for name in sorted(os.listdir(path("crashes")))
+             if not filecmp.cmp(os.path.join(CRASHES, name), os.path.join(path("crashes"), name), False)]
+    check("the kept ELF files are those of the sources", os.listdir(path("crashes")) and not other, other)
+
+
 def main(groups):
     need_addr2line()
+    kept_files()
     found = {"all": [0, 0]}
     with open(os.path.join(CRASHES, "cases.txt")) as file:
         cases = [line.split()[:2] for line in file if line.strip() and line[0] != "#"]
