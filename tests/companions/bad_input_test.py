@@ -14,9 +14,10 @@ from common import (COMPANION, CRASHES, PROGRAM, check, companion, crash, exampl
 sys.path.insert(0, COMPANION)
 from elf import Elf                             # noqa: E402
 from errors import CompanionError               # noqa: E402
+from log import EDGE, HEADER, SIZES             # noqa: E402
 from places import Places                       # noqa: E402
 
-HEADER_BYTES, HEAD = 146, 92
+HEAD = 92                                       # the bytes before the records in a log of version 1
 
 
 def write(name, data):
@@ -32,12 +33,11 @@ def stuck_log():
     with open(path("two.log"), "rb") as file:
         data = file.read()
     records, out, at = data[HEAD:-32], b"", 0
-    sizes = {1: HEADER_BYTES, 2: 10, 3: 2, 4: 2, 5: 19, 6: 15}
     while at < len(records):
-        size = sizes[records[at]]
+        size = SIZES[records[at]]
         out += records[at:at + size]
-        if records[at] == 1:
-            out += struct.pack("<BBQBQ", 5, records[at + 1], 0, 1 - records[at + 1], 30)
+        if records[at] == HEADER:
+            out += struct.pack("<BBQBQ", EDGE, records[at + 1], 0, 1 - records[at + 1], 30)
         at += size
     data = data[:88] + struct.pack("<I", len(out)) + out
     return write("stuck.log", data + hashlib.sha256(data).digest())
