@@ -1,0 +1,19 @@
+"""Runs the functions of a test whose names begin with `case_`."""
+import sys
+import traceback
+
+
+def run_cases(names, *given):
+    """Runs each with what is given; returns the exit status. A case may return how many it stands for."""
+    passed = failed = 0
+    for name, case in sorted(names.items()):
+        if not name.startswith("case_"):
+            continue
+        try:
+            passed += case(*given) or 1
+        except Exception:  # a case that ends early has failed, whatever ended it
+            traceback.print_exc(file=sys.stdout)
+            print(f"failed: {name}")
+            failed += 1
+    print(f"{passed} passed, {failed} failed")
+    return 1 if failed or not passed else 0
