@@ -74,7 +74,7 @@ class Recordings:
 
     def __enter__(self):
         self._scratch = tempfile.TemporaryDirectory()
-        self.folder = self._scratch.name
+        self.folder, self._count = self._scratch.name, 0
         return self
 
     def __exit__(self, *_):
@@ -88,9 +88,10 @@ class Recordings:
             file.write(data)
         return self.path(name)
 
-    def record(self, elf, *options, name="log"):
+    def record(self, elf, *options):
         """Records a program by seed 1 unless the options name another one; returns (LOG, ELF)."""
-        log = self.path(name)
+        self._count += 1
+        log = self.path(f"{os.path.basename(elf)}.{self._count}.log")
         seed = [] if "--seed" in options else ["--seed", "1"]
         words = [PROGRAM, "record", *seed, *options, "--", elf, log, self.path("book")]
         done = subprocess.run(words, stdout=subprocess.DEVNULL, stderr=subprocess.PIPE)
@@ -98,7 +99,7 @@ class Recordings:
         return log, elf
 
     def example(self, example, *options):
-        return self.record(os.path.join(TOP, "examples", example + ".elf"), *options, name=f"{example}.log")
+        return self.record(os.path.join(TOP, "examples", example + ".elf"), *options)
 
     def words(self, name, words, *options, data=b""):
-        return self.record(self.write(name + ".elf", elf_of(words, data)), *options, name=f"{name}.log")
+        return self.record(self.write(name + ".elf", elf_of(words, data)), *options)
