@@ -17,6 +17,7 @@ Companions show; the program proves. What gdb shows is what `debug` says of the 
 import socket
 import sys
 
+from bridge.fills import Fills
 from bridge.memory import Memory
 from bridge.packets import PacketStream
 from bridge.server import Server
@@ -42,12 +43,12 @@ def wait_for_gdb(port):
     return peer
 
 
-def serve(session, memory, peer, options):
+def serve(log, elf, session, peer, options):
     """Serves the connection, or what reads and writes this process's own input and output."""
     source, sink = (peer.fileno(),) * 2 if peer else (sys.stdin.fileno(), sys.stdout.fileno())
+    stream, fills = PacketStream(source, sink, "--trace" in options), Fills(session.steps)
     try:
-        stream = PacketStream(source, sink, "--trace" in options)
-        Server(session, memory, stream).serve("--end" in options)
+        Server(session, Memory(log, elf, session, fills), fills, stream).serve("--end" in options)
     except (EOFError, ConnectionError):  # gdb has left
         pass
 
@@ -58,12 +59,11 @@ def main(words):
     log, elf = Log(log), Elf(elf)
     session = Session(log, elf)
     try:
-        memory = Memory(log, elf, session)
         if port is None:
-            serve(session, memory, None, options)
+            serve(log, elf, session, None, options)
         else:
             with wait_for_gdb(port) as peer:
-                serve(session, memory, peer, options)
+                serve(log, elf, session, peer, options)
     finally:
         session.close()
     return 0

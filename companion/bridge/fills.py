@@ -1,4 +1,5 @@
 """What `read` calls filled: no row tells these bytes, but the registers at the call tell where they are."""
+import bisect
 import re
 
 ECALL = re.compile(rb"^(\d+) .* ecall \| a0=([0-9a-f]{8})$")
@@ -7,19 +8,20 @@ LONGEST = 4096  # bytes that a `read` moves at most; a larger result is an error
 
 
 class Fills:
-    """The `read` calls among the steps from the log's first record on. The log must have dropped nothing."""
+    """The `read` calls among the steps whose registers the rows tell: all of them, if the log dropped nothing."""
 
     def __init__(self, steps):
         self._steps = steps
         self._seen = 0  # the steps before this place have been looked through
-        self._earliest = {}  # (address, length): the place of the first such fill
+        self._places, self._ranges = [], []  # of the fills: where, and what, as (address, length)
         self._calls = {}  # by hart: the place of its latest call, and a7 and a1 there
         steps.when_cut.append(self._forget)
 
     def _forget(self, place):
         """Forgets the calls from a place on."""
         self._seen = min(self._seen, place)
-        self._earliest = {fill: at for fill, at in self._earliest.items() if at < place}
+        kept = bisect.bisect_left(self._places, place)
+        del self._places[kept:], self._ranges[kept:]
         self._calls = {hart: call for hart, call in self._calls.items() if call[0] < place}
 
     def _register(self, hart, name, start, end, value):
@@ -37,27 +39,31 @@ class Fills:
         """Takes the call at a place."""
         found = ECALL.match(self._steps.lines.line(place))
         hart, result = int(found[1]), int(found[2], 16)
-        start, number, address = self._calls.get(hart, (0, 0, 0))
+        start, number, address = self._calls.get(hart, (0, None, None))
         number = self._register(hart, b"a7", start, place, number)
         address = self._register(hart, b"a1", start, place, address)
         self._calls[hart] = place, number, address
-        if number == READ and 0 < result <= LONGEST:
-            self._earliest.setdefault((address, result), place)
+        if number == READ and address is not None and 0 < result <= LONGEST:
+            self._places.append(place)
+            self._ranges.append((address, result))
 
     def _look(self, end):
         """Looks through the steps before a place."""
         is_call = [(b" ecall | a0=", ECALL.match)]
-        while True:
+        while self._seen < end:
             place = self._steps.lines.find(is_call, self._seen, end)
             if place is None:
-                break
-            self._take(place)
-            self._seen = place + 1
-        self._seen = max(self._seen, end)
+                self._seen = end
+            else:
+                self._take(place)
+                self._seen = place + 1
 
-    def touch(self, address, place):
-        """Says whether a call before a place filled a byte of the word at an address."""
-        if place > self._seen:
-            self._look(place)
-        return any(first < address + 4 and address < first + length and at < place
-                   for (first, length), at in self._earliest.items())
+    def find(self, first, length, start, end, last=False):
+        """Returns the place of the first call in [start, end), or the last, that filled one of these bytes."""
+        self._look(end)
+        low, high = (bisect.bisect_left(self._places, place) for place in (start, end))
+        for i in range(high - 1, low - 1, -1) if last else range(low, high):
+            address, filled = self._ranges[i]
+            if address < first + length and first < address + filled:
+                return self._places[i]
+        return None

@@ -12,8 +12,6 @@ Case 3 needs the whole past, so it holds for no log that has dropped records. Al
 import bisect
 import struct
 
-from bridge.fills import Fills
-
 LOWEST = 4096  # no address below is mapped
 BATCH = 256  # words asked for at once
 
@@ -21,10 +19,9 @@ BATCH = 256  # words asked for at once
 class Memory:
     """Reads memory for gdb, which takes what is known from an address on."""
 
-    def __init__(self, log, elf, session):
-        self._session, self._elf = session, elf
-        self._size = log.memory
-        self._fills = Fills(session.steps) if log.dropped == 0 else None
+    def __init__(self, log, elf, session, fills):
+        self._session, self._elf, self._fills = session, elf, fills
+        self._size, self._is_whole = log.memory, log.dropped == 0
         self._borders = sorted({border for address, size, *_ in elf.parts for border in (address, address + size)})
 
     def _is_mapped(self, address):
@@ -32,7 +29,9 @@ class Memory:
 
     def _first_word(self, address):
         """Returns a word's value at the start, if it is still that, else None."""
-        if self._fills is None or not self._is_mapped(address) or self._fills.touch(address, self._session.at):
+        if not self._is_whole or not self._is_mapped(address):
+            return None
+        if self._fills.find(address, 4, 0, self._session.at) is not None:
             return None
         # A segment can end within a word; the bytes behind it are 0.
         body = b"".join(self._elf.bytes_at(address + i, 1) or b"\0" for i in range(4))

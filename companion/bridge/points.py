@@ -8,13 +8,14 @@ FEW = 16  # watched bytes up to which each address is looked for by itself, whic
 WATCH_KINDS = {"2": ("watch", (b"| store ",)), "3": ("rwatch", (b"| load ",)),
                "4": ("awatch", (b"| load ", b"| store "))}
 BREAK_KINDS = ("0", "1")
+WRITE_KINDS = ("2", "4")
 
 Hit = namedtuple("Hit", "place hart")
 Watch = namedtuple("Watch", "kind first length")
 
 
 def _touches(line, watch):
-    """Says whether a row accesses one of the watched bytes in a watched way."""
+    """Says whether a row loads or stores one of the watched bytes, if that is watched."""
     size = SIZES.get(line.split(b" ", 5)[4], 4)
     for word in WATCH_KINDS[watch.kind][1]:
         at = line.find(word)
@@ -32,8 +33,8 @@ def _hart_of(line):
 class Points:
     """What is set. Setting a point twice, or taking out one that isn't set, changes nothing."""
 
-    def __init__(self, steps):
-        self._steps = steps
+    def __init__(self, steps, fills):
+        self._steps, self._fills = steps, fills
         self.breaks, self._watches = set(), []
 
     def change(self, is_set, kind, address, length):
@@ -76,13 +77,26 @@ class Points:
             for address in range(max(0, watch.first - 3), watch.first + watch.length):
                 yield b"%s%08x=" % (word, address), accepts
 
+    def _next_fill(self, watch, start, end, last, only):
+        """The same of what `read` calls filled, which are writes."""
+        if watch.kind not in WRITE_KINDS:
+            return None
+        while True:
+            found = self._fills.find(watch.first, watch.length, start, end, last)
+            if found is None or only in (None, self._steps.hart_at(found)):
+                return found
+            start, end = (start, found) if last else (found + 1, end)
+
     def next_watch(self, start, end, last=False, only=None):
         """Returns the first step in [start, end) that makes a watched access, or the last one."""
         patterns = [pattern for watch in self._watches for pattern in self._patterns(watch, only)]
-        return self._steps.lines.find(patterns, start, end, last)
+        found = [self._steps.lines.find(patterns, start, end, last)]
+        found += [self._next_fill(watch, start, end, last, only) for watch in self._watches]
+        return (max if last else min)([place for place in found if place is not None], default=None)
 
     def watch_at(self, place):
         """Returns what gdb is told of the watchpoint that the row at a place meets."""
         line = self._steps.lines.line(place)
-        watch = next(watch for watch in self._watches if _touches(line, watch))
+        watch = next(watch for watch in self._watches if _touches(line, watch)
+                     or self._next_fill(watch, place, place + 1, False, None) is not None)
         return f"{WATCH_KINDS[watch.kind][0]}:{watch.first:x};"

@@ -33,9 +33,9 @@ def _numbers(text):
 class Server:
     """One session with gdb."""
 
-    def __init__(self, session, memory, stream):
+    def __init__(self, session, memory, fills, stream):
         self._session, self._memory, self._stream = session, memory, stream
-        self._points = Points(session.steps)
+        self._points = Points(session.steps, fills)
         self._motion = Motion(session, self._points, stream.is_interrupted)
         self._threads = Threads(session)
         self._last_stop = ""

@@ -49,6 +49,7 @@ class Session:
         self.pcs = sorted({row.pc for row in rows})
         self.words = sorted({at[0] & ~3 for row in rows for at in (row.load, row.store) if at})
         self.stores = sorted({(row.store[0], size(row)) for row in rows if row.store})
+        self.stores += sorted({fill[1:] for fill in reference.fills})
         self.breaks, self.watches, self.tally = set(), set(), {}
 
     # What is set
@@ -160,8 +161,9 @@ class Session:
             assert not self.watched(row), row
 
     def watched(self, row):
-        return row.store and any(first < row.store[0] + size(row) and row.store[0] < first + length
-                                 for first, length in self.watches)
+        written = self.reference.fills_at(row) + ([(row.store[0], size(row))] if row.store else [])
+        return any(first < begin + count and begin < first + length
+                   for begin, count in written for first, length in self.watches)
 
     def is_stop(self, stop, passed):
         """The stop of a way is at a breakpoint, at a watched store, at a fault or at an end."""

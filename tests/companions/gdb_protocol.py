@@ -266,6 +266,23 @@ def case_07_two_that_meet(recordings):
     assert client.close() == 0
 
 
+def case_07_what_a_read_fills(recordings):
+    """A `read` call writes, so it is a watched access, in both directions."""
+    code = [lui(A1, DATA), addi(A1, A1, 6), addi(A2, 0, 5), addi(A0, 0, 0), addi(A7, 0, 63), ECALL,
+            store(A2, A1, 2), *EXIT]
+    log, elf = recordings.words("filled", code, "--input", recordings.write("input", b"hello world"))
+    client = Watcher(log, elf)
+    for kind, first, expected in (("2", DATA + 5, []), ("2", DATA + 6, [5]), ("4", DATA + 10, [5, 6]),
+                                  ("2", DATA + 11, [6]), ("3", DATA + 6, [])):
+        client.watch = f"{kind},{first:x},1"
+        client.toggle(True)
+        forward, backward = stops_of(client, "vCont;c", "bc")
+        assert forward == [(count, first) for count in expected], (first, forward)
+        assert backward == [(count + 1, first) for count in reversed(expected)], (first, backward)
+        client.toggle(False)
+    assert client.close() == 0
+
+
 def case_08_a_store_that_changes_nothing(recordings):
     log, elf = recordings.words("same", watch_program())
     client = Client(log, elf)

@@ -98,6 +98,10 @@ class Reference:
             return []
         return [((row.hart, row.count), state[11], int(result[1], 16))]
 
+    def fills_at(self, row):
+        """Returns the (address, length) that a row's `read` call filled, in a list."""
+        return [fill[1:] for fill in self.fills if fill[0] == (row.hart, row.count)]
+
     def taken(self, counts):
         """Returns the rows before these counts, in the order of `joint`."""
         return [row for row in self.rows if row.count < counts.get(row.hart, 0) and not row.fault]
@@ -112,8 +116,8 @@ class Reference:
             for at in (row.load, row.store):
                 if at and at[0] & ~3 == address:
                     value, touched = struct.pack("<I", at[1]), True
-            for place, first, length in self.fills:
-                if place == (row.hart, row.count) and first < address + 4 and address < first + length:
+            for first, length in self.fills_at(row):
+                if first < address + 4 and address < first + length:
                     value, touched = None, True
         if touched or self.dropped or not 4096 <= address < self.memory:
             return value
