@@ -20,7 +20,7 @@ from reference import Reference, size
 
 TRAP = 5
 ROUNDS = 60
-MOVES = "step step step range go go back back back go_back go_back".split()
+MOVES = "step step step range go go back back back_among_stops go_back go_back".split()
 CHANGES = "set_break clear_break set_watch clear_watch choose".split()
 
 
@@ -139,6 +139,14 @@ class Session:
 
     def back(self, hart):
         return self.without_stops("bs", hart)
+
+    def back_among_stops(self, hart):
+        """A step back that others' stops may end before."""
+        begin = self.client.counts()
+        self.ok(f"Hg{hart + 1:x}")
+        stop = Stop(self.client("bs"))
+        self.passes_nothing(self.client.counts(), begin, stop.hart if stop.watch is None else None)
+        return stop
 
     def go_back(self, hart):
         self.back(hart)
