@@ -16,8 +16,7 @@ sys.path.insert(0, os.path.join(os.path.dirname(os.path.abspath(__file__)), "gdb
 
 from cases import Skipped, run_cases
 from client import COMPANION, TOP
-from gdb_protocol import FAULTS
-from recordings import T2, Recordings, addi
+from recordings import FAULTS, T2, Recordings, addi
 from reference import run
 
 GDB, COMPILER = "gdb-multiarch", "riscv64-unknown-elf-gcc"

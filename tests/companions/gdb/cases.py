@@ -7,6 +7,11 @@ class Skipped(Exception):
     """Why a case can't be tried here."""
 
 
+def chosen(names, words):
+    """Returns the names that have one of these words, or all."""
+    return {name: case for name, case in names.items() if not words or any(word in name for word in words)}
+
+
 def run_cases(names, *given):
     """Runs each with what is given; returns the exit status. A case may return how many it stands for."""
     passed = failed = 0

@@ -58,6 +58,24 @@ def branch_unless_equal(one, other, offset):
 
 EXIT = (addi(A7, 0, 93), ECALL)
 
+# Each fault: gdb's number of its signal, and words whose last one faults.
+SEGV, ILL, BUS, TRAP = 11, 4, 10, 5
+FAULTS = {
+    "Illegal": (ILL, [NO_INSTRUCTION]),
+    "Breakpoint": (TRAP, [EBREAK]),
+    "FetchOutside": (SEGV, [jump_to(0)]),
+    "TargetMisaligned": (BUS, [lui(T0, FIRST), jump_to(T0, 2)]),
+    "LoadOutside": (SEGV, [load(T1, 0)]),
+    "LoadMisaligned": (BUS, [lui(T0, DATA), load(T1, T0, 1)]),
+    "StoreOutside": (SEGV, [store(0, 0)]),
+    "StoreMisaligned": (BUS, [lui(T0, DATA), store(0, T0, 2)]),
+    "StoreReadOnly": (SEGV, [lui(T0, FIRST), store(0, T0, FIRST & 0xfff)]),
+}
+
+
+def pc_of(index):
+    return FIRST + 4 * index
+
 
 def elf_of(words, data=b""):
     """Returns an ELF with these words as read-only code, and a page of data that begins with these bytes."""

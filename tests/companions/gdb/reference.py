@@ -126,3 +126,13 @@ class Reference:
     def _first_byte(self, address):
         return next((data[address - first] for first, data, _ in self.segments
                      if first <= address < first + len(data)), 0)
+
+
+def agrees(client, reference):
+    """The registers of all harts are those that `debug` tells by itself."""
+    for hart, count in client.counts().items():
+        expected = reference.states[hart, count]
+        found = client.registers(hart)
+        assert found == expected, (hart, count, found, expected)
+        for number in (0, 2, 10, 32):
+            assert client(f"p{number:x}") == found[number].to_bytes(4, "little").hex()
