@@ -137,6 +137,24 @@ def case_dropped(names):
     return compare("dropped", "| " + bridge(log, kept), elf)
 
 
+def case_all_examples(names):
+    """To the end of each and back to its start, with call stacks at both."""
+    for example, end, options in (
+            ("wild_store", "SIGSEGV", []), ("tills", "SIGSEGV", ["--harts", "2"]),
+            ("hand_over", "SIGSEGV", ["--harts", "2", "--seed", "3"]), ("lock", "history", ["--harts", "2"]),
+            ("counter", "history", ["--harts", "8", "--limit", "500"]), ("sort", "history", ["--limit", "50000"]),
+            ("two_locks", "history", ["--harts", "2", "--seed", "8", "--limit", "2000"]),
+            ("word_count", "history", ["--input", os.path.join(TOP, "LICENSE")])):
+        elf = names.of(example)
+        log, kept = names.recordings.example(example, *options)
+        answers = talk("| " + bridge(log, kept), ["continue", "bt", "info threads", "reverse-continue", "bt",
+                                                  "monitor at"], elf)
+        assert end in answers[1] and "#0 " in answers[2] and "hart 0 count " in answers[3], (example, answers)
+        assert "No more reverse-execution history" in answers[4] and "#0 _start ()" in answers[5], (example, answers)
+        assert re.search(r"at 0 of \d+ known", answers[6]), (example, answers)
+    return 8
+
+
 def case_faults_without_names(names):
     for name, (signal, words) in FAULTS.items():
         log, elf = names.recordings.words(name, [addi(T2, 0, 1), *words])
