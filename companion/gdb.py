@@ -46,7 +46,7 @@ def wait_for_gdb(port):
 def serve(log, elf, session, peer, options):
     """Serves the connection, or what reads and writes this process's own input and output."""
     source, sink = (peer.fileno(),) * 2 if peer else (sys.stdin.fileno(), sys.stdout.fileno())
-    stream, fills = PacketStream(source, sink, "--trace" in options), Fills(session.steps)
+    stream, fills = PacketStream(source, sink, "--trace" in options), Fills(session.steps, log)
     try:
         Server(session, Memory(log, elf, session, fills), fills, stream).serve("--end" in options)
     except (EOFError, ConnectionError):  # gdb has left

@@ -4,14 +4,17 @@ import re
 
 ECALL = re.compile(rb"^(\d+) .* ecall \| a0=([0-9a-f]{8})$")
 READ = 63  # the call's number, in a7
+NUMBER, ADDRESS = 17, 11  # a7 and a1
 LONGEST = 4096  # bytes that a `read` moves at most; a larger result is an error's number
 
 
 class Fills:
-    """The `read` calls among the steps whose registers the rows tell: all of them, if the log dropped nothing."""
+    """The `read` calls among the steps. Where no row tells a register, a hart's first Header does."""
 
-    def __init__(self, steps):
+    def __init__(self, steps, log):
         self._steps = steps
+        self._begin = {hart: (0, registers[NUMBER], registers[ADDRESS])
+                       for hart, (*_, registers) in log.first_intervals().items()}
         self._seen = 0  # the steps before this place have been looked through
         self._places, self._ranges = [], []  # of the fills: where, and what, as (address, length)
         self._calls = {}  # by hart: the place of its latest call, and a7 and a1 there
@@ -39,11 +42,11 @@ class Fills:
         """Takes the call at a place."""
         found = ECALL.match(self._steps.lines.line(place))
         hart, result = int(found[1]), int(found[2], 16)
-        start, number, address = self._calls.get(hart, (0, None, None))
+        start, number, address = self._calls.get(hart, self._begin[hart])
         number = self._register(hart, b"a7", start, place, number)
         address = self._register(hart, b"a1", start, place, address)
         self._calls[hart] = place, number, address
-        if number == READ and address is not None and 0 < result <= LONGEST:
+        if number == READ and 0 < result <= LONGEST:
             self._places.append(place)
             self._ranges.append((address, result))
 
@@ -58,12 +61,16 @@ class Fills:
                 self._take(place)
                 self._seen = place + 1
 
-    def find(self, first, length, start, end, last=False):
-        """Returns the place of the first call in [start, end), or the last, that filled one of these bytes."""
+    def between(self, start, end):
+        """Returns the fills in [start, end): the place of each, with its address and length."""
         self._look(end)
         low, high = (bisect.bisect_left(self._places, place) for place in (start, end))
-        for i in range(high - 1, low - 1, -1) if last else range(low, high):
-            address, filled = self._ranges[i]
+        return zip(self._places[low:high], self._ranges[low:high])
+
+    def find(self, first, length, start, end, last=False):
+        """Returns the place of the first call in [start, end), or the last, that filled one of these bytes."""
+        fills = list(self.between(start, end))
+        for place, (address, filled) in reversed(fills) if last else fills:
             if address < first + length and first < address + filled:
-                return self._places[i]
+                return place
         return None

@@ -86,6 +86,18 @@ class KeptLines:
         text, offset = self._texts[piece], self._offset(piece, number)
         return bytes(text[offset:text.index(b"\n", offset)])
 
+    def text(self, start, end):
+        """Returns the lines [start, end) with the ends of all."""
+        parts, at = [], start
+        while at < end:
+            piece = self._piece_of(at)
+            limit = min(end, self._end_of(piece))
+            text = self._texts[piece]
+            stop = len(text) if limit == self._end_of(piece) else self._offset(piece, limit)
+            parts.append(text[self._offset(piece, at):stop])
+            at = limit
+        return b"".join(parts)
+
     def cut(self, number):
         """Keeps the first so many lines."""
         while self._starts and self._starts[-1] >= number:

@@ -1,16 +1,21 @@
 """Memory as it is known at a place of the session.
 
-A byte is known in one of three cases, tried in this order:
+A byte is known in one of four cases, tried in this order:
 
 1. It lies in a read-only segment: no run can change it.
 2. A row so far loaded or stored its word, and no `read` call has filled the word since: `debug` tells it.
 3. The log has dropped nothing, and no row so far touched the word, nor did a `read` call fill a byte
    of it: then it is what it was at the start, which is the ELF's bytes, or 0 outside of the segments.
+4. All harts have a state, and of the known steps ahead the first that touches its word loads it: then
+   the word has that value already.
 
-Case 3 needs the whole past, so it holds for no log that has dropped records. All else is unknown.
+Case 3 needs the whole past, so it holds for no log that has dropped records. Case 4 needs all steps in
+between, so no hart may be in an interval that the log has lost. All else is unknown.
 """
 import bisect
 import struct
+
+from bridge.future import Future
 
 LOWEST = 4096  # no address below is mapped
 BATCH = 256  # words asked for at once
@@ -22,6 +27,7 @@ class Memory:
     def __init__(self, log, elf, session, fills):
         self._session, self._elf, self._fills = session, elf, fills
         self._size, self._is_whole = log.memory, log.dropped == 0
+        self._future = Future(session.steps, fills)
         self._borders = sorted({border for address, size, *_ in elf.parts for border in (address, address + size)})
 
     def _is_mapped(self, address):
@@ -37,6 +43,10 @@ class Memory:
         body = b"".join(self._elf.bytes_at(address + i, 1) or b"\0" for i in range(4))
         return int.from_bytes(body, "little")
 
+    def _later_word(self, address):
+        """Returns a word's value as the steps ahead tell it, else None."""
+        return self._future.word(address, self._session.at) if self._session.all_have_states() else None
+
     def _words(self, first, count):
         """Returns words from an aligned address on, up to the first that isn't known."""
         found = []
@@ -44,8 +54,8 @@ class Memory:
             wanted = min(BATCH, count - len(found))
             addresses = [first + 4 * (len(found) + i) for i in range(wanted)]
             for address, value in zip(addresses, self._session.words(addresses)):
-                if value is None:
-                    value = self._first_word(address)
+                value = self._first_word(address) if value is None else value
+                value = self._later_word(address) if value is None else value
                 if value is None:
                     return found
                 found.append(value)

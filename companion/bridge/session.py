@@ -71,6 +71,10 @@ class Session:
         """Returns the harts that have a state."""
         return [hart for hart, position in sorted(self.positions.items()) if position and position.pc is not None]
 
+    def all_have_states(self):
+        """Says whether no hart is in an interval that the log has lost."""
+        return all(position is None or position.pc is not None for position in self.positions.values())
+
     def pc(self, hart):
         position = self.positions.get(hart)
         return position.pc if position else None

@@ -35,7 +35,9 @@ def logs(recordings):
                                     load(T1, 0)], "--harts", "3", "--interval", "30", "--limit", "400", "--format", "2")
     reads = [lui(A1, DATA), addi(A1, A1, 6), addi(A2, 0, 5), addi(A0, 0, 0), addi(A7, 0, 63), ECALL, load(T0, A1, 2),
              store(A2, A1, 1, kind=0), branch_unless_equal(A0, 0, -28), *EXIT]
-    yield recordings.words("reads", reads, "--input", recordings.write("input", bytes(range(23))), data=b"\x11" * 20)
+    for harts in ("1", "2"):
+        yield recordings.words("reads", reads, "--input", recordings.write("input", bytes(range(97))), "--harts", harts,
+                               data=b"\x11" * 20)
     yield recordings.example("counter", "--harts", "4", "--log-size", "16384", "--interval", "64", "--limit", "3000")
 
 
@@ -197,6 +199,9 @@ class Session:
         for address in self.random.sample(self.words, min(2, len(self.words))) + [DATA + 4 * self.random.randrange(8)]:
             expected = self.reference.word(counts, address)
             found = self.client(f"m{address:x},4")
+            if expected is None and found != "E0e":  # then the steps ahead that the bridge knows tell it
+                expected = self.reference.later_word(counts, address)
+                self.tally["later"] = self.tally.get("later", 0) + 1
             assert found == ("E0e" if expected is None else expected.hex()), (hex(address), found, expected, counts)
 
     def play(self):
@@ -235,7 +240,7 @@ def main(words):
                     tally[kind] = tally.get(kind, 0) + count
             seed += 1
     print("sessions", sessions, *(f"{kind} {count}" for kind, count in sorted(tally.items())))
-    assert all(tally.get(kind) for kind in ("begin", "break", "end", "fault", "watch"))
+    assert all(tally.get(kind) for kind in ("begin", "break", "end", "fault", "later", "watch"))
     print(f"{sessions} passed, 0 failed")
 
 

@@ -91,6 +91,27 @@ def case_03_memory_that_a_read_filled(recordings):
     assert client.close() == 0
 
 
+def case_03_memory_that_is_loaded_later(recordings):
+    """Once the steps ahead are known, what they load is known here, up to a store or another `read`."""
+    code = [lui(A1, DATA), addi(A2, 0, 8), addi(A7, 0, 63), ECALL, load(T0, A1, 1, kind=4), store(A2, A1, 4),
+            load(T0, A1, 4), addi(A0, 0, 0), ECALL, load(T0, A1), load(T0, A1, 4), *EXIT]
+    log, elf = recordings.words("later", code, "--input", recordings.write("input", b"firstly;then one"))
+    client = Client(log, elf)
+    words = [f"m{DATA:x},4", f"m{DATA + 4:x},4"]
+    first, second = b"firs".hex(), b"then".hex()
+    for _ in range(4):
+        client("vCont;s:1")
+    assert [client(word) for word in words] == ["E0e", "E0e"]
+    client("vCont;c")
+    assert [client(word) for word in words] == [second, b" one".hex()]
+    client(f"Z0,{pc_of(4):x},4")
+    assert Stop(client("bc")).pc == pc_of(4)
+    assert [client(word) for word in words] == [first, "E0e"]  # the second is stored to before it is loaded
+    client("bs")
+    assert [client(word) for word in words] == ["00000000", "00000000"]
+    assert client.close() == 0
+
+
 def case_03_memory_of_a_log_that_dropped_records(recordings):
     log, elf = recordings.example("wild_store", "--log-size", "16384", "--interval", "500", "--sets", "1", "--ways",
                                   "1", "--line", "1", "--format", "2")

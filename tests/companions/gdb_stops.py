@@ -202,6 +202,24 @@ def case_09_who_may_report(recordings):
         assert client.close() == 0
 
 
+def case_09_back_over_what_others_did(recordings):
+    """A step back of hart 0 goes back over hart 1's rows since, and stops at a breakpoint of these."""
+    log, elf = recordings.example("counter", "--harts", "2", "--limit", "200")
+    client, reference = Client(log, elf), Reference(log, elf)
+    for packet in ["vCont;s:1"] * 3 + ["vCont;s:2"] * 3:
+        client(packet)
+    first = reference.by_count[1, 0].pc
+    client(f"Z0,{first:x},4")
+    assert client("Hg1") == "OK"
+    stop = Stop(client("bs"))
+    assert (stop.hart, stop.pc, client.counts()) == (1, first, {0: 3, 1: 0}), stop.text
+    client(f"z0,{first:x},4")
+    for packet in ["vCont;s:2"] * 3 + ["Hg1"]:
+        client(packet)
+    assert Stop(client("bs")).hart == 0 and client.counts() == {0: 2, 1: 0}
+    assert client.close() == 0
+
+
 def case_10_arrival_behind_the_last_row(recordings):
     """A hart that the crash of another one stopped stands at a breakpoint where it has no row."""
     log, elf = recordings.example("tills", "--harts", "2", "--format", "2")

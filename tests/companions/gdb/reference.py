@@ -123,6 +123,21 @@ class Reference:
             return value
         return bytes(self._first_byte(address + i) for i in range(4))
 
+    def later_word(self, counts, address):
+        """Returns the bytes that the first row after these counts loads, if it touches the word, else None."""
+        if any(hart not in counts for hart in self.harts):
+            return None  # that hart's accesses aren't in the log yet
+        for row in self.rows:
+            if row.count < counts[row.hart] or row.fault:
+                continue
+            if row.load and row.load[0] & ~3 == address:
+                return struct.pack("<I", row.load[1])
+            if row.store and row.store[0] & ~3 == address:
+                return None
+            if any(first < address + 4 and address < first + length for first, length in self.fills_at(row)):
+                return None
+        return None
+
     def _first_byte(self, address):
         return next((data[address - first] for first, data, _ in self.segments
                      if first <= address < first + len(data)), 0)
