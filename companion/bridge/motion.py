@@ -127,8 +127,8 @@ class Motion:
         place = self._steps.row_before(hart, at)
         if place is not None and place < self.base:
             place = None
-        low = self.base if place is None else place
-        hit = self._points.next_break(low + 1, at, True, only)
+        low, first_break = (self.base, self.base) if place is None else (place, place + 1)
+        hit = self._points.next_break(first_break, at, True, only)
         if hit is None and place is not None:
             hit = Hit(place, hart)
         return self._back_to(hit, self._points.next_watch(low, at, True, only), hart)

@@ -53,7 +53,7 @@ class Session:
         self.stores = sorted({(row.store[0], size(row)) for row in rows if row.store})
         self.stores += sorted({fill[1:] for fill in reference.fills})
         filled = [word for _, address, _ in reference.fills for word in (address & ~3, address + 3 & ~3)]
-        self.unsure = filled or (self.words if reference.dropped else [DATA])
+        self.unsure = sorted(set(filled or self.words))[:6] if filled or reference.dropped else []
         self.breaks, self.watches, self.tally = set(), set(), {}
 
     # What is set
@@ -198,7 +198,7 @@ class Session:
         counts = self.client.counts()
         for hart, count in counts.items():
             assert self.client.registers(hart) == self.reference.states[hart, count], (hart, count)
-        for address in self.random.sample(self.words, min(2, len(self.words))) + [self.random.choice(self.unsure)]:
+        for address in self.random.sample(self.words, min(2, len(self.words))) + self.unsure:
             expected = self.reference.word(counts, address)
             found = self.client(f"m{address:x},4")
             if expected is None and found != "E0e":  # then the steps ahead that the bridge knows tell it
