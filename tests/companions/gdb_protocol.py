@@ -12,7 +12,8 @@ import sys
 sys.path.insert(0, os.path.join(os.path.dirname(os.path.abspath(__file__)), "gdb"))
 
 from cases import chosen, run_cases
-from client import COMPANION, TOP, Client, Stop
+from client import Client, Stop
+from common import COMPANION, EXAMPLES
 from recordings import (A0, A1, A2, A7, DATA, ECALL, EXIT, FAULTS, FIRST, SEGV, T0, T1, T2, TRAP, Recordings, addi,
                         load, lui, pc_of, store)
 from reference import Reference, agrees, run
@@ -198,7 +199,7 @@ def refusal(*words, **settings):
 
 def case_15_refusals(recordings):
     log, elf = recordings.example("wild_store")
-    other = os.path.join(TOP, "examples", "sort.elf")
+    other = os.path.join(EXAMPLES, "sort.elf")
     status, line = refusal(log, other)
     assert status == 8 and "program differs" in line
     assert refusal(recordings.path("none"), elf)[0] == 4

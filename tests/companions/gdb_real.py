@@ -15,7 +15,7 @@ import sys
 sys.path.insert(0, os.path.join(os.path.dirname(os.path.abspath(__file__)), "gdb"))
 
 from cases import Skipped, run_cases
-from client import COMPANION, TOP
+from common import COMPANION, EXAMPLES, TOP
 from recordings import FAULTS, T2, Recordings, addi
 from reference import run
 
@@ -79,13 +79,13 @@ class Names:
             return
         if not shutil.which(COMPILER):
             raise Skipped(f"{COMPILER} isn't installed")
-        build = [os.path.join(TOP, "examples", "build.sh"), self.recordings.path("built"), self._folder]
+        build = [os.path.join(EXAMPLES, "build.sh"), self.recordings.path("built"), self._folder]
         subprocess.run(build, check=True, stdout=subprocess.DEVNULL)
 
     def of(self, example):
         """Returns the example with names, if it is the kept one but for these."""
         self._compile()
-        kept, built = os.path.join(TOP, "examples", example), self.recordings.path("built/" + example)
+        kept, built = os.path.join(EXAMPLES, example), self.recordings.path("built/" + example)
         with open(kept + ".elf", "rb") as one, open(built + ".elf", "rb") as other:
             if one.read() != other.read():
                 raise Skipped(f"this {COMPILER} makes another {example}.elf")
@@ -93,10 +93,9 @@ class Names:
 
     def without_optimisation(self, example):
         self._compile()
-        path, examples = self.recordings.path(example + ".O0.elf"), os.path.join(TOP, "examples")
-        library = os.path.join(examples, "lib")
+        path, library = self.recordings.path(example + ".O0.elf"), os.path.join(EXAMPLES, "lib")
         sources = [os.path.join(library, "start.S"), os.path.join(library, "machine.c"),
-                   os.path.join(examples, example + ".c")]
+                   os.path.join(EXAMPLES, example + ".c")]
         subprocess.run([COMPILER, *FLAGS, "-O0", "-I", library, "-T", os.path.join(library, "program.ld"), "-o", path,
                         *sources], check=True)
         return path

@@ -13,10 +13,9 @@ import time
 sys.path.insert(0, os.path.join(os.path.dirname(os.path.abspath(__file__)), "gdb"))
 
 from cases import Skipped, run_cases
-from client import COMPANION, TOP
-from recordings import PROGRAM, Recordings
+from common import COMPANION, EXAMPLES, PROGRAM
+from recordings import Recordings
 
-EXAMPLES = os.path.join(TOP, "examples")
 SEEDS = [sys.executable, COMPANION, "seeds"]
 HAND_OVER = os.path.join(EXAMPLES, "hand_over.elf")
 CRASHES, NOT_FOUND = 3, 22  # the lowest seed by which hand_over crashes; no seed was found

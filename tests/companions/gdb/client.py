@@ -5,8 +5,8 @@ import struct
 import subprocess
 import sys
 
-TOP = os.path.dirname(os.path.dirname(os.path.dirname(os.path.dirname(os.path.abspath(__file__)))))
-COMPANION = os.path.join(TOP, "companion")
+from common import COMPANION
+
 # The same session with less room for commands than the program has.
 SMALL_ROOM = ("import sys; sys.path.insert(0, %r); import bridge.process, gdb; bridge.process.FULL = %d; "
               "sys.exit(gdb.main(sys.argv[1:]))")

@@ -5,17 +5,10 @@ import subprocess
 import sys
 import tempfile
 
-from client import COMPANION, TOP
+from common import EXAMPLES, PROGRAM
 
-sys.path.append(COMPANION)
-from errors import CompanionError
-from program import path
-
-try:
-    PROGRAM = path()
-except CompanionError as error:
-    sys.exit(f"{sys.argv[0]}: {error}")
-os.environ["ZELKUMA_PROGRAM"] = PROGRAM
+if not os.access(PROGRAM, os.X_OK):
+    sys.exit(f"{sys.argv[0]}: {PROGRAM} is no program; ZELKUMA_PROGRAM names one")
 CODE, DATA, DATA_SIZE = 0x10000, 0x20000, 4096
 FIRST = CODE + 116  # where the code begins, behind the headers
 
@@ -117,7 +110,7 @@ class Recordings:
         return log, elf
 
     def example(self, example, *options):
-        return self.record(os.path.join(TOP, "examples", example + ".elf"), *options)
+        return self.record(os.path.join(EXAMPLES, example + ".elf"), *options)
 
     def words(self, name, words, *options, data=b""):
         return self.record(self.write(name + ".elf", elf_of(words, data)), *options)
