@@ -39,35 +39,45 @@ class Server:
         self._motion = Motion(session, self._points, stream.is_interrupted)
         self._threads = Threads(session)
         self._last_stop = ""
-        # By the packet's beginning, the longest first: what is given the rest of it.
-        self._answers = sorted({
+        self._whole, self._begun = self._packets(), self._packets_with_more()
+
+    def _packets(self):
+        """Returns what answers packets that are one word."""
+        threads, motion = self._threads, self._motion
+        return {
+            "?": lambda: self._last_stop,
+            "g": self._registers,
+            "qC": lambda: f"QC{threads.shown + 1:x}",
+            "qfThreadInfo": lambda: "m" + threads.listed(),
+            "qsThreadInfo": lambda: "l",
+            "qAttached": lambda: "1",
+            "vCont?": lambda: "vCont;c;C;s;S;r",
+            "s": lambda: self._stopped(motion.step(*threads.moving())),
+            "c": lambda: self._stopped(motion.go(*threads.moving())),
+            "bs": lambda: self._stopped(motion.step_back(*threads.moving())),
+            "bc": lambda: self._stopped(motion.go_back(threads.moving()[0])),
+        }
+
+    def _packets_with_more(self):
+        """Returns what answers packets that begin so; it is given the rest. Signals to pass on are ignored."""
+        whole = self._packets()
+        return {
             "qSupported": lambda _: FEATURES,
             "qXfer:features:read:target.xml:": self._description,
-            "qfThreadInfo": lambda _: "m" + self._threads.listed(),
-            "qsThreadInfo": lambda _: "l",
             "qThreadExtraInfo,": self._about_thread,
-            "qC": lambda _: f"QC{self._threads.shown + 1:x}",
-            "qAttached": lambda _: "1",
             "qRcmd,": self._monitor,
-            "?": lambda _: self._last_stop,
-            "g": lambda _: self._registers(),
+            "vCont;": self._resume,
             "p": self._register,
             "m": self._read_memory,
             "H": self._choose_thread,
             "T": self._is_alive,
             "Z": lambda text: self._change_point(True, text),
             "z": lambda text: self._change_point(False, text),
-            "vCont?": lambda _: "vCont;c;C;s;S;r",
-            "vCont;": self._resume,
-            "s": lambda _: self._stopped(self._motion.step(*self._threads.moving())),
-            "S": lambda _: self._stopped(self._motion.step(*self._threads.moving())),
-            "c": lambda _: self._stopped(self._motion.go(*self._threads.moving())),
-            "C": lambda _: self._stopped(self._motion.go(*self._threads.moving())),
-            "bs": lambda _: self._stopped(self._motion.step_back(*self._threads.moving())),
-            "bc": lambda _: self._stopped(self._motion.go_back(self._threads.moving()[0])),
+            "S": lambda _: whole["s"](),
+            "C": lambda _: whole["c"](),
             # A recorded run can't be changed.
             "G": lambda _: REFUSED, "P": lambda _: REFUSED, "M": lambda _: REFUSED, "X": lambda _: REFUSED,
-        }.items(), key=lambda item: -len(item[0]))
+        }
 
     # What is asked
 
@@ -150,7 +160,9 @@ class Server:
     def answer(self, packet):
         """Returns the answer to a packet."""
         try:
-            for begin, answer in self._answers:
+            if packet in self._whole:
+                return self._whole[packet]()
+            for begin, answer in self._begun.items():
                 if packet.startswith(begin):
                     return answer(packet[len(begin):])
         except (ValueError, IndexError):  # no packet of gdb
