@@ -142,7 +142,7 @@ class Session:
         """Takes steps of a hart that aren't known. Nothing is known behind them."""
         taken = self.steps.add(hart, self._step(hart, count))
         if not taken:
-            raise CompanionError(f"replay: hart {hart} takes no step at count {self.positions[hart].count}", STUCK)
+            raise CompanionError(f"replay: hart {hart} takes no step, as this log says that it does", STUCK)
         self.at += taken
         if self.pc(hart) is not None and not self.left(hart):
             self.steps.arrivals[hart] = self.at, self.pc(hart)

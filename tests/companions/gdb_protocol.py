@@ -3,9 +3,11 @@
 
     gdb_protocol.py [CASE..]     all cases, or those with these words in their names
 """
+import hashlib
 import os
 import re
 import socket
+import struct
 import subprocess
 import sys
 
@@ -208,6 +210,27 @@ def case_15_refusals(recordings):
     assert refusal(recordings.write("empty", b""), elf)[0] == 7
     assert refusal(log)[0] == 2 and refusal(log, elf, "--port", "70000")[0] == 2
     assert refusal(log, elf, "--nothing")[0] == 2
+
+
+def case_15_a_log_whose_harts_wait_for_each_other(recordings):
+    """The program takes its records, and refuses it when no hart can go on."""
+    log, elf = recordings.example("counter", "--harts", "2", "--limit", "20")
+    with open(log, "rb") as file:
+        data = file.read()[:-32]
+    edges = b"".join(struct.pack("<BBQBQ", 5, hart, 5, 1 - hart, 9) for hart in (0, 1))
+    headers = 92 + 2 * 146
+    size, = struct.unpack_from("<I", data, 88)
+    data = data[:88] + struct.pack("<I", size + len(edges)) + data[92:headers] + edges + data[headers:]
+    stuck = recordings.write("stuck", data + hashlib.sha256(data).digest())
+    client = Client(stuck, elf)
+    client.send("vCont;c")
+    try:
+        client.receive()
+    except EOFError as error:
+        assert "wait for each other" in str(error) and str(error).count("\n") == 1, str(error)
+    else:
+        raise AssertionError("it went on")
+    assert client.process.wait(timeout=20) == 15
 
 
 def case_16_port_of_this_machine_alone(recordings):
