@@ -1,6 +1,8 @@
 #!/usr/bin/env python3
 """Tries `zelkuma gdb` by the real gdb-multiarch, whose answers are compared with `gdb/sessions`.
 
+    gdb_real.py [CASE..]     all cases, or those with these words in their names
+
 Where gdb isn't installed nothing is tried, and so with the sessions that need names where the
 compiler isn't there, or makes other programs of the examples than those that are kept. It says so.
 """
@@ -14,7 +16,7 @@ import sys
 
 sys.path.insert(0, os.path.join(os.path.dirname(os.path.abspath(__file__)), "gdb"))
 
-from cases import Skipped, run_cases
+from cases import Skipped, chosen, run_cases
 from common import COMPANION, EXAMPLES, TOP
 from recordings import FAULTS, T2, Recordings, addi
 from reference import run
@@ -129,6 +131,13 @@ def case_port(names):
     return done
 
 
+def case_input(names):
+    elf = names.of("word_count")
+    log, kept = names.recordings.example("word_count", "--input", names.recordings.write(
+        "input", b"hello world\nabc def\n"))
+    return compare("word_count", "| " + bridge(log, kept), elf)
+
+
 def case_dropped(names):
     elf = names.of("counter")
     log, kept = names.recordings.example("counter", "--harts", "4", "--log-size", "16384", "--interval", "64",
@@ -197,4 +206,4 @@ if __name__ == "__main__":
         print(f"skipped: {GDB} isn't installed")
         sys.exit(0)
     with Recordings() as scratch:
-        sys.exit(run_cases(dict(globals()), Names(scratch)))
+        sys.exit(run_cases(chosen(globals(), sys.argv[1:]), Names(scratch)))
