@@ -8,6 +8,7 @@
     points      breakpoints and watchpoints
     memory      what is known of memory at a place
     fills       what `read` calls wrote
+    future      what the known steps ahead tell of memory
     session     where the harts stand, and the way to a place
     steps       the steps that are known
     lines       their text, and the search in it
@@ -41,8 +42,9 @@ These are what gdb 13 was found to need, and what breaks if one is changed:
 
 What doesn't work
 -----------------
-- What a `read` call put is unknown until a row loads it. A watchpoint sees the call, but no bytes.
-- In a log that dropped records a word is unknown until a row touches it, so `bt` may end early.
+- What a `read` call put is unknown, unless a known step loads it later. So is, in a log that dropped
+  records, what no known step touches: `bt` may end early. Both get better once `continue` was at the
+  end, since all steps are known then.
 - Nothing can be written: a recorded run can't be changed. `call f()` is refused too.
 - Going back moves all harts, whatever `scheduler-locking` says: there is one past.
 - Of two rows that the log doesn't order, the bridge's order says nothing about the run's.
