@@ -30,10 +30,10 @@ class Motion:
     def begin(self):
         """Goes to the first place at which a hart has a state."""
         while not self._session.live():
-            run = self._session.next_run(None, 1)
-            if run is None:
+            steps = self._session.next_steps(None, 1)
+            if steps is None:
                 break
-            self._session.extend(*run)
+            self._session.extend(*steps)
         self.base = self._session.at
         return Stop(self.first_hart())
 
@@ -78,10 +78,10 @@ class Motion:
                 return stop
             session.go_to(self._steps.count)
             start = session.at
-            run = session.next_run(hart, chunk, alone)
-            if run is None:
+            steps = session.next_steps(hart, chunk, alone)
+            if steps is None:
                 return self._end(hart, alone)
-            session.extend(*run)
+            session.extend(*steps)
             chunk = min(LARGEST_CHUNK, chunk * 2)
             if self._is_interrupted():
                 return Stop(hart, INTERRUPTED)

@@ -129,7 +129,7 @@ class Session:
         lost = self.positions[hart] is None or self.positions[hart].pc is None
         return hart, 1 if lost else max(1, min(most, self.left(hart), MOST))
 
-    def next_run(self, first, most, alone=False):
+    def next_steps(self, first, most, alone=False):
         """Returns which hart steps next, and how often, or None where nothing is left. The first hart
         does, or what it waits for; if it has none left and isn't alone, the lowest other hart."""
         others = [] if alone else [hart for hart in sorted(self.intervals) if hart != first]
@@ -153,9 +153,9 @@ class Session:
         if self.at < self.steps.count and self.steps.hart_at(self.at) != hart:
             self.steps.cut(self.at)
         if self.at < self.steps.count:
-            self.go_to(min(self.at + most, self.steps.run_end(self.at)))
+            self.go_to(min(self.at + most, self.steps.span_end(self.at)))
             return
-        runner, count = self.next_run(hart, most, alone=True)
+        runner, count = self.next_steps(hart, most, alone=True)
         self.extend(runner, count)
 
     def go_to(self, place):
@@ -169,7 +169,7 @@ class Session:
             self._before_positions(self._process.ask(f"back {count}", "where"))
             self.at -= count
         while self.at < place:
-            count = min(MOST, min(self.steps.run_end(self.at), place) - self.at)
+            count = min(MOST, min(self.steps.span_end(self.at), place) - self.at)
             self._step(self.steps.hart_at(self.at), count)
             self.at += count
 

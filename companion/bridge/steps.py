@@ -11,11 +11,11 @@ ANSWERS = (b"w", b"d")  # `waits` and `done`, which can end an answer to `step`,
 
 
 class Steps:
-    """Lines of steps, and whose they are: a *run* is a row of steps of one hart."""
+    """Lines of steps, and whose they are: a *span* is consecutive steps of one hart."""
 
     def __init__(self):
         self.lines = KeptLines()
-        self._runs, self._owners = [], []  # the places where runs begin, and their harts
+        self._spans, self._owners = [], []  # the places where spans begin, and their harts
         self._ends = {}  # by hart: the places of its `end` lines
         self.arrivals = {}  # by hart that has no step left: the place of its arrival, and its pc
         self.when_cut = []  # functions that are told the place from which on steps are forgotten
@@ -32,7 +32,7 @@ class Steps:
         count = text.count(b"\n")
         if count:
             if not self._owners or self._owners[-1] != hart:
-                self._runs.append(self.count)
+                self._spans.append(self.count)
                 self._owners.append(hart)
             ends = re.finditer(rb"^end ", text, re.M) if b"end " in text else ()
             places = [self.count + text.count(b"\n", 0, end.start()) for end in ends]
@@ -47,8 +47,8 @@ class Steps:
         for tell in self.when_cut:
             tell(place)
         self.lines.cut(place)
-        kept = bisect.bisect_left(self._runs, place)
-        del self._runs[kept:], self._owners[kept:]
+        kept = bisect.bisect_left(self._spans, place)
+        del self._spans[kept:], self._owners[kept:]
         for places in self._ends.values():
             del places[bisect.bisect_left(places, place):]
         self.arrivals = {hart: arrival for hart, arrival in self.arrivals.items() if arrival[0] <= place}
@@ -57,28 +57,28 @@ class Steps:
         """Returns how many intervals of a hart have ended before a place."""
         return bisect.bisect_left(self._ends.get(hart, []), place)
 
-    def _run_at(self, place):
-        return bisect.bisect_right(self._runs, place) - 1
+    def _span_at(self, place):
+        return bisect.bisect_right(self._spans, place) - 1
 
     def hart_at(self, place):
-        return self._owners[self._run_at(place)]
+        return self._owners[self._span_at(place)]
 
-    def run_end(self, place):
-        """Returns where the run ends that a step belongs to."""
-        run = self._run_at(place) + 1
-        return self._runs[run] if run < len(self._runs) else self.count
+    def span_end(self, place):
+        """Returns where the span ends that a step belongs to."""
+        span = self._span_at(place) + 1
+        return self._spans[span] if span < len(self._spans) else self.count
 
     def is_row(self, place):
         return self.lines.line(place)[:1].isdigit()  # else `end` or `pass`
 
     def row_before(self, hart, place):
         """Returns the place of a hart's latest row before a place, or None."""
-        run, end = bisect.bisect_left(self._runs, place) - 1, place
-        while run >= 0:
-            begin = self._runs[run]
-            if self._owners[run] == hart:
+        span, end = bisect.bisect_left(self._spans, place) - 1, place
+        while span >= 0:
+            begin = self._spans[span]
+            if self._owners[span] == hart:
                 found = next((at for at in range(end - 1, begin - 1, -1) if self.is_row(at)), None)
                 if found is not None:
                     return found
-            run, end = run - 1, begin
+            span, end = span - 1, begin
         return None
