@@ -17,7 +17,7 @@ import sys
 sys.path.insert(0, os.path.join(os.path.dirname(os.path.abspath(__file__)), "gdb"))
 
 from cases import Skipped, chosen, run_cases
-from common import COMPANION, EXAMPLES, TOP
+from common import COMPANION, EXAMPLES, TOP, crash
 from recordings import FAULTS, T2, Recordings, addi
 from reference import run
 
@@ -136,6 +136,11 @@ def case_input(names):
     log, kept = names.recordings.example("word_count", "--input", names.recordings.write(
         "input", b"hello world\nabc def\n"))
     return compare("word_count", "| " + bridge(log, kept), elf)
+
+
+def case_names_of_the_recorded_file(_):
+    log, elf = crash("use_after_free")
+    return compare("use_after_free", "| " + bridge(log, elf), elf)
 
 
 def case_dropped(names):
