@@ -17,7 +17,7 @@ from cases import chosen, run_cases
 from client import Client, Stop
 from common import COMPANION, EXAMPLES
 from recordings import (A0, A1, A2, A7, DATA, ECALL, EXIT, FAULTS, FIRST, SEGV, T0, T1, T2, TRAP, Recordings, addi,
-                        load, lui, pc_of, store)
+                        branch_unless_equal, load, lui, pc_of, store)
 from reference import Reference, agrees, run
 
 INTERRUPTED = 2  # gdb's number of SIGINT
@@ -112,6 +112,21 @@ def case_03_memory_that_is_loaded_later(recordings):
     assert [client(word) for word in words] == [first, "E0e"]  # the second is stored to before it is loaded
     client("bs")
     assert [client(word) for word in words] == ["00000000", "00000000"]
+    assert client.close() == 0
+
+
+def case_03_memory_that_a_read_filled_in_another_order(recordings):
+    """Hart 0 reads twice. Once its steps are forgotten and taken again, its calls are told anew."""
+    code = [branch_unless_equal(A0, 0, 32), lui(A1, DATA), addi(A2, 0, 4), addi(A7, 0, 63), ECALL, addi(A1, A1, 16),
+            addi(A0, 0, 0), ECALL, *EXIT]
+    log, elf = recordings.words("twice", code, "--harts", "2", "--input", recordings.write("input", b"onceonce"))
+    client, words = Client(log, elf), [f"m{DATA:x},4", f"m{DATA + 16:x},4"]
+    assert Stop(client("vCont;c")).end == "end" and [client(word) for word in words] == ["E0e", "E0e"]
+    assert Stop(client("bc")).end == "begin" and [client(word) for word in words] == ["00000000", "00000000"]
+    client("vCont;s:2")
+    for _ in range(5):
+        client("vCont;s:1")
+    assert [client(word) for word in words] == ["E0e", "00000000"]
     assert client.close() == 0
 
 
