@@ -130,6 +130,23 @@ def case_03_memory_that_a_read_filled_in_another_order(recordings):
     assert client.close() == 0
 
 
+def case_03_memory_that_is_loaded_later_in_another_order(recordings):
+    """Both orders of the harts have a place 11, behind another call of hart 0's."""
+    code = [branch_unless_equal(A0, 0, 48), lui(A1, DATA), addi(A2, 0, 4), addi(A7, 0, 63), ECALL, load(T0, A1),
+            addi(A0, 0, 0), addi(T1, 0, 1), ECALL, load(T0, A1), *EXIT, *[addi(T1, T1, 1)] * 2, *EXIT]
+    log, elf = recordings.words("orders", code, "--harts", "2", "--input", recordings.write("input", b"one.two."))
+    client = Client(log, elf)
+    assert Stop(client("vCont;c")).end == "end"
+    for stop, before, text in ((9, [], b"two."), (5, ["bc"] + ["vCont;s:2"] * 5 + ["Hg1"], b"one.")):
+        for packet in before:
+            client(packet)
+        client(f"Z0,{pc_of(stop):x},4")
+        assert Stop(client("vCont;c" if before else "bc")).pc == pc_of(stop)
+        assert client.monitor("at").startswith("at 11 of ") and client(f"m{DATA:x},4") == text.hex()
+        client(f"z0,{pc_of(stop):x},4")
+    assert client.close() == 0
+
+
 def case_03_memory_of_a_log_that_dropped_records(recordings):
     log, elf = recordings.example("wild_store", "--log-size", "16384", "--interval", "500", "--sets", "1", "--ways",
                                   "1", "--line", "1", "--format", "2")
