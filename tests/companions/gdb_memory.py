@@ -12,7 +12,7 @@ from cases import chosen, run_cases
 from client import Client, Stop
 from recordings import (A0, A1, A2, A7, DATA, ECALL, EXIT, FIRST, SEGV, T0, T1, Recordings, addi, branch_unless_equal,
                         load, lui, pc_of, store)
-from reference import Reference
+from reference import Reference, agrees
 
 
 def case_03_memory(recordings):
@@ -115,6 +115,22 @@ def case_03_memory_of_a_log_that_dropped_records(recordings):
     assert reference.dropped and client("m11000,4") == "E0e" and client("m10354,4") != "E0e"
     assert Stop(client("vCont;c")).signal == SEGV
     assert client("m115e4,4") == bytes.fromhex("6e657472")[::-1].hex()
+    assert client.close() == 0
+
+
+def case_03_harts_whose_steps_were_lost(recordings):
+    """While a hart isn't in the log yet, its stores aren't told: so what is loaded later says nothing of now."""
+    log, elf = recordings.example("counter", "--harts", "4", "--log-size", "16384", "--interval", "64", "--limit",
+                                  "3000")
+    client, reference = Client(log, elf), Reference(log, elf)
+    words = sorted({row.load[0] for row in reference.rows if row.load})[:8]
+    assert Stop(client("vCont;c")).end == "end" and Stop(client("bc")).end == "begin"
+    assert any("not in the log yet" in client.about(hart) for hart in client.harts())
+    assert all(client(f"m{word & ~3:x},4") == "E0e" for word in words)
+    while any("not in the log yet" in client.about(hart) for hart in client.harts()):
+        client("vCont;s:1;c")
+    assert Stop(client("vCont;c")).end == "end"
+    agrees(client, reference)
     assert client.close() == 0
 
 

@@ -217,6 +217,9 @@ def case_09_back_over_what_others_did(recordings):
     for packet in ["vCont;s:2"] * 3 + ["Hg1"]:
         client(packet)
     assert Stop(client("bs")).hart == 0 and client.counts() == {0: 2, 1: 0}
+    assert client(f"Z0,{first:x},4") == "OK" and client("Hg2") == "OK"
+    stop = Stop(client("bs"))  # hart 1 has no row to go back over, but hart 0 comes to the breakpoint
+    assert (stop.hart, stop.end, client.counts()) == (0, None, {0: 0, 1: 0}), stop.text
     assert client.close() == 0
 
 
