@@ -3,11 +3,15 @@
 
 tests/documents.py [--write] PROGRAM DOCUMENT..
 
-An example is a fenced block whose first line begins with '$ '. Each line '$ WORDS' is given to a bash,
-with the lines '> WORDS' behind it; the lines up to the next one are what out and err have to gain. All
-examples of a document run in one bash, one after another, in a folder with PROGRAM as ./zelkuma, examples/,
+An example has one of two forms. The first can be pasted: a block ```sh has commands, and a block ```text right
+after it what out and err have to get from them; without such a block that is nothing. The second is a block without
+a word whose first line begins with '$ '. Each line '$ WORDS' is given to a bash, with the lines '> WORDS' behind it;
+the lines up to the next one are what out and err have to get.
+
+All examples of a document run in one bash, one after another, in a folder with PROGRAM as ./zelkuma, examples/,
 tests/crashes/ and LICENSE, and with another folder for /tmp/. A line '...' stands for any lines. Not run is a
-block behind a line '<!-- not run -->'. With --write the document gets what was printed, where it differs.
+block behind a line '<!-- not run -->', nor one behind '<!-- needs NAME -->' if there is no command or file NAME,
+which is said. With --write the document gets what was printed, where it differs.
 """
 import os
 import re
@@ -20,22 +24,58 @@ TOP = os.path.dirname(os.path.dirname(os.path.realpath(__file__)))
 END = "\x01"
 
 
-def examples_in(text):
-    """Returns the places of the blocks' lines in the document, and each block's commands with what they have to print."""
-    found = []
-    for block in re.finditer(r"^```\n(\$ .*?)^```$", text, re.M | re.S):
-        if text[: block.start()].rstrip().endswith("<!-- not run -->"):
-            continue
-        steps = []
-        for line in block[1].splitlines(True):
-            if line.startswith("$ "):
-                steps.append([line[2:], ""])
-            elif line.startswith("> ") and not steps[-1][1]:
-                steps[-1][0] += line[2:]
-            else:
-                steps[-1][1] += line
-        found.append((block.span(1), steps))
-    return found
+class Step:
+    """Commands, what they have to print, and where in the document that stands; `fence` is put around it if it is new."""
+
+    def __init__(self, command, wanted, start, fence=False):
+        self.command, self.wanted, self.start, self.fence = command, wanted, start, fence
+
+    def text_of(self, printed):
+        return f"\n```text\n{printed}```\n" if self.fence and printed else printed
+
+
+def is_run(before, name):
+    """Whether the block that comes after this text is run. Says what it needs, if that isn't there."""
+    before = before.rstrip()
+    needs = re.search(r"<!-- needs (\S+) -->$", before)
+    if needs and not shutil.which(needs[1]) and not os.path.exists(needs[1]):
+        print(f"{name}: skipped, since there is no {needs[1]}: line {before.count(chr(10)) + 2}")
+        return False
+    return not before.endswith("<!-- not run -->")
+
+
+def session_steps(block):
+    """The steps of a block in which commands begin with '$ '."""
+    steps, at = [], block.start(2)
+    for line in block[2].splitlines(True):
+        at += len(line)
+        if line.startswith("$ "):
+            steps.append(Step(line[2:], "", at))
+        elif line.startswith("> ") and not steps[-1].wanted:
+            steps[-1].command += line[2:]
+            steps[-1].start = at
+        else:
+            steps[-1].wanted += line
+    return steps
+
+
+def pasted_step(block, text):
+    """The step of a block that can be pasted."""
+    printed = re.compile(r"\n```text\n(.*?)^```$", re.M | re.S).match(text, block.end() + 1)
+    if printed:
+        return Step(block[2], printed[1], printed.start(1))
+    return Step(block[2], "", block.end() + 1, fence=True)
+
+
+def examples_in(name, text):
+    """Returns the steps of all examples of a document."""
+    steps = []
+    for block in re.finditer(r"^```(\w*)\n(.*?)^```$", text, re.M | re.S):
+        if block[1] == "sh" and is_run(text[: block.start()], name):
+            steps.append(pasted_step(block, text))
+        elif not block[1] and block[2].startswith("$ ") and is_run(text[: block.start()], name):
+            steps += session_steps(block)
+    return steps
 
 
 def printed_by(commands, program, room):
@@ -48,7 +88,7 @@ def printed_by(commands, program, room):
     shutil.copy(f"{TOP}/LICENSE", f"{room}/top")
     script = "".join(f"{it.replace('/tmp/', f'{room}/tmp/')}__status=$?; echo '{END}'; (exit $__status)\n" for it in commands)
     how = {"cwd": f"{room}/top", "stdin": subprocess.DEVNULL, "stdout": subprocess.PIPE, "stderr": subprocess.STDOUT}
-    ran = subprocess.run(["bash", "-c", script], **how, timeout=300)
+    ran = subprocess.run(["bash", "-c", script], **how, timeout=900)
     said = ran.stdout.decode(errors="replace").replace(f"{room}/tmp/", "/tmp/")
     return said.split(f"{END}\n")[:-1]
 
@@ -61,26 +101,22 @@ def fits(wanted, printed):
 def try_document(name, program, writes):
     with open(name, encoding="utf-8") as it:
         text = it.read()
-    examples = examples_in(text)
-    commands = [command for _, steps in examples for command, _ in steps]
+    steps = examples_in(name, text)
     with tempfile.TemporaryDirectory() as room:
-        printed = printed_by(commands, os.path.realpath(program), room)
-    failed, at = 0, 0
-    made, kept = "", 0
-    for (start, end), steps in examples:
-        made, kept = made + text[kept:start], end
-        for command, wanted in steps:
-            got = printed[at] if at < len(printed) else "(nothing: the examples before ended the shell)\n"
-            at += 1
-            is_well = fits(wanted, got)
-            made += "$ " + "> ".join(command.splitlines(True)) + (wanted if is_well else got)
-            if not is_well and not writes:
-                failed += 1
-                print(f"{name}: {command}says\n{wanted}and it prints\n{got}")
+        printed = printed_by([it.command for it in steps], os.path.realpath(program), room)
+    printed += ["(nothing: the examples before ended the shell)\n"] * (len(steps) - len(printed))
+    failed, made, kept = 0, "", 0
+    for step, got in zip(steps, printed):
+        is_well = fits(step.wanted, got)
+        made += text[kept : step.start] + (step.wanted if is_well else step.text_of(got))
+        kept = step.start + len(step.wanted)
+        if not is_well and not writes:
+            failed += 1
+            print(f"{name}: {step.command}says\n{step.wanted}and it prints\n{got}")
     if writes:
         with open(name, "w", encoding="utf-8") as it:
             it.write(made + text[kept:])
-    print(f"{name}: {at} commands, {failed} print something else")
+    print(f"{name}: {len(steps)} commands, {failed} print something else")
     return failed
 
 
