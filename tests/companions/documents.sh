@@ -1,5 +1,5 @@
 #!/usr/bin/env bash
-# Runs the examples of the companions' pages with the words of the companions beside those of the program.
+# Runs the examples of README, the guide and the companions' pages with the words of the companions beside those of the program.
 set -u
 top=$(cd "$(dirname "$0")/../.." && pwd)
 export ZELKUMA_PROGRAM=${ZELKUMA_PROGRAM:-$top/crates/bugnet_main/out/bugnet_main}
@@ -17,8 +17,5 @@ names | why | race | view | gdb | bucket | seeds) exec python3 "$top/companion" 
 esac
 END
 chmod +x "$work/zelkuma"
-pages=()
-for page in WHY VIEW GDB; do
-    [ -f "$top/docs/$page.md" ] && pages+=("$top/docs/$page.md")
-done
+pages=("$top/README.md" "$top"/docs/{GUIDE,WHY,VIEW,GDB}.md)
 "$top/tests/documents.py" "$work/zelkuma" "${pages[@]}"
