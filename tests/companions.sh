@@ -1,10 +1,10 @@
 #!/usr/bin/env bash
-# Tries the companions on the shipped program: tests/companions.sh [PROGRAM [CASE..]]. A case is a file of
-# tests/companions; without one all are run. Each says what it skips, and why. The last line is 'N passed, N failed'.
+# Tries the companions: tests/companions.sh [PROGRAM [CASE..]]. Without PROGRAM it is the one that the companions find
+# by themselves. A case is a file of tests/companions; without one all are run. Each says what it skips, and why. The last line is 'N passed, N failed'.
 set -u
 top=$(cd "$(dirname "$0")/.." && pwd)
-program=${1:-${ZELKUMA_PROGRAM:-$top/crates/bugnet_main/out/bugnet_main}}
-[ -x "$program" ] || { echo "companions: $program is no program" >&2; exit 1; }
+program=${1:-$(cd "$top/companion" && python3 -B -c 'import program; print(program.path())' 2>/dev/null)}
+[ -x "$program" ] || { echo "companions: there is no program ${program:-in this repository}" >&2; exit 1; }
 ZELKUMA_PROGRAM=$(readlink -f "$program")
 export ZELKUMA_PROGRAM
 [ $# -gt 0 ] && shift
