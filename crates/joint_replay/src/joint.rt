@@ -96,6 +96,7 @@ impl<'a> Joint<'a> {
     }
 
     // The step, where none was refused yet.
+    #[inline(always)]
     fn take(&mut self, hart: HartId) -> Result<Stepped, JointError>
         requires there { hart < length self.old.lanes }
         requires ready { readiness self.old hart ≡ Ready }

@@ -90,6 +90,7 @@ impl<'a> Course<'a> {
 
 impl<'a> Course<'a> {
     /// The next row; `None` where the interval ended as its log says.
+    #[inline(always)]
     fn step(&mut self) -> Result<Option<Did>, ReplayError>
         ensures { CourseSteps self.old result self.new }
     {
@@ -227,6 +228,7 @@ impl<'a> Lane<'a> {
 
 impl<'a> Lane<'a> {
     /// Takes the hart's next step, of which there has to be one.
+    #[inline(always)]
     pub(crate) fn step(&mut self) -> Result<Moved, ReplayError>
         requires { is_some (coming_of self.old.lane) ≡ true }
         ensures { LaneSteps self.old result self.new }
@@ -300,6 +302,8 @@ fn copy_course<'a>(course: &Option<Course<'a>>) -> Result<Option<Course<'a>>, Al
 }
 
 // Begins the next one of the hart's intervals, which are given last first.
+#[cold]
+#[inline(never)]
 fn next_course<'a>(
     alloc: Global,
     image: &'a Image,

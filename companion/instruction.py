@@ -1,0 +1,54 @@
+"""What an instruction reads and writes, from its word. One object for each address and word of a log."""
+ALU, LOAD, STORE, AMO, CALL, BRANCH, JUMP, NONE = range(8)
+NAMES = ("zero ra sp gp tp t0 t1 t2 s0 s1 a0 a1 a2 a3 a4 a5 a6 a7 s2 s3 s4 s5 s6 s7 s8 s9 s10 s11 "
+         "t3 t4 t5 t6").split()
+RA, SP, A0, A1, A2, A7 = 1, 2, 10, 11, 12, 17
+LINKS = (1, 5)                              # the registers that calls put a return address into
+# The opcode of each kind: the low seven bits of a word.
+OP_LOAD, OP_STORE, OP_AMO, OP_BRANCH, OP_SYSTEM, OP_JAL, OP_JALR = 0x03, 0x23, 0x2f, 0x63, 0x73, 0x6f, 0x67
+OP_IMMEDIATE, OP_REGISTER, OP_LUI, OP_AUIPC = 0x13, 0x33, 0x37, 0x17
+
+
+class Instruction:
+    """at      its number among those of the log
+    kind    one of the eight above; rd, rs1, rs2 are 0 if it has none
+    width   the bytes that it accesses
+    call, ret, move     a jump that links, a return, a plain copy of a register"""
+    __slots__ = ("at", "pc", "word", "text", "kind", "rd", "rs1", "rs2", "width", "call", "ret", "move", "name")
+
+    def __init__(self, at, key):
+        """`key` is the row's address, word and text."""
+        words = key.split(b" ", 2)
+        self.at, self.pc = at, int(words[0], 16)
+        self.text = words[2].decode("ascii", "replace") if len(words) > 2 else "-"
+        self.name = self.text.split(" ")[0]
+        self.kind, self.rd, self.rs1, self.rs2, self.width = NONE, 0, 0, 0, 4
+        self.call = self.ret = self.move = False
+        self.word = 0
+        if words[1] != b"--------" and self.text not in ("illegal", "-"):
+            self.word = int(words[1], 16)
+            self.decode()
+
+    def decode(self):
+        word = self.word
+        low, f3 = word & 127, word >> 12 & 7
+        rd, rs1, rs2 = word >> 7 & 31, word >> 15 & 31, word >> 20 & 31
+        if low == OP_LOAD:
+            self.kind, self.rd, self.rs1, self.width = LOAD, rd, rs1, 1 << (f3 & 3)
+        elif low == OP_STORE:
+            self.kind, self.rs1, self.rs2, self.width = STORE, rs1, rs2, 1 << f3
+        elif low == OP_AMO:
+            self.kind, self.rd, self.rs1, self.rs2 = AMO, rd, rs1, rs2
+        elif low == OP_BRANCH:
+            self.kind, self.rs1, self.rs2 = BRANCH, rs1, rs2
+        elif low == OP_SYSTEM:
+            self.kind, self.rd, self.rs1, self.rs2 = CALL, A0, A1, A2
+        elif low in (OP_JAL, OP_JALR):
+            self.kind, self.rd, self.rs1 = JUMP, rd, rs1 if low == OP_JALR else 0
+            self.call = rd in LINKS
+            self.ret = low == OP_JALR and rd == 0 and rs1 in LINKS
+        elif low in (OP_IMMEDIATE, OP_REGISTER, OP_LUI, OP_AUIPC):
+            self.kind, self.rd = ALU, rd
+            self.rs1 = rs1 if low in (OP_IMMEDIATE, OP_REGISTER) else 0
+            self.rs2 = rs2 if low == OP_REGISTER else 0
+            self.move = low == OP_IMMEDIATE and f3 == 0 and word >> 20 == 0

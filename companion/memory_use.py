@@ -1,0 +1,93 @@
+"""How memory that functions hand out was used: after it was given back, before it was written, over its end.
+
+Both rows of a suspect, a load and the store that it got, have a pointer; each pointer came from a block that a giver
+handed out (blocks.py). Whether it is the same block says what went wrong."""
+from blocks import Blocks
+from history import History
+from lost import lost_bits, narrowings
+from suspect import Suspect
+
+GIVEN_BACK, NEVER_WRITTEN, OVER_THE_END = 16, 14, 10
+SIZE_ROWS = 2000            # rows of a size's history
+
+
+class MemoryUse:
+    def __init__(self, facts, history):
+        self.facts, self.trace, self.history = facts, facts.trace, history
+        self.blocks = Blocks(facts.trace, facts.elf)
+        self.told = set()
+
+    def judge(self, item):
+        """The suspects that a load and its store are: none, or one of a kind that names the call."""
+        trace = self.trace
+        where = self.facts.memory_of(item.load, "load")
+        if where is None or not self.blocks.by_address:
+            return []
+        address = where[0]
+        loaded = self.blocks.behind(trace.d1[item.load], address)
+        if loaded is None:
+            return []
+        if self.blocks.is_over(loaded, address, item.load):
+            return self.over_the_end(item, loaded, "the load reads")
+        if item.store < loaded.call:
+            return self.unwritten(item, loaded)
+        stored = self.blocks.behind(trace.d1[item.store], address)
+        if stored is None:
+            return []
+        if self.blocks.is_over(stored, address, item.store):
+            return self.over_the_end(item, stored, "the store wrote")
+        if stored.giver == loaded.giver and stored.address == loaded.address and stored.call > loaded.call:
+            return self.given_back(item, loaded, stored)
+        return []
+
+    def over_the_end(self, item, block, words):
+        """An access outside of its block. Its size is suspect, so what the giver was asked for has a history of its own."""
+        if (item.guilty, block.call) not in self.told:
+            self.told.add((item.guilty, block.call))
+            item.sign(OVER_THE_END, "%s over the end of its block, into another" % words)
+            item.extra.append(("that block was given out in", block.call))
+        size = self.trace.jump_writer[self.trace.jump_at(block.call)]
+        if not size or ("size", size) in self.told:
+            return []
+        self.told.add(("size", size))
+        history = History(self.trace, [size], SIZE_ROWS)
+        rows = narrowings(self.trace, history)
+        self.facts.fetch([n for found in rows for n in found])
+        found = lost_bits(self.facts, history, rows)
+        for suspect in found:
+            suspect.why.append("it is behind the size of a block that was too small")
+            suspect.cost += item.cost
+            suspect.score += item.cost - OVER_THE_END
+            suspect.extra.append(("the block was given out in", block.call))
+        return found
+
+    def suspect(self, kind, item, guilty, worth, words):
+        """A suspect once for each row that is guilty."""
+        if (kind, guilty) in self.told:
+            return []
+        self.told.add((kind, guilty))
+        found = Suspect(kind, item.load, item.store, item.cost)
+        found.guilty = guilty
+        found.sign(worth, words)
+        item.shown = False                      # this one tells of both its rows
+        return [found]
+
+    def unwritten(self, item, block):
+        """The load's block was handed out after the store."""
+        return self.suspect("unwritten", item, block.call, NEVER_WRITTEN,
+                            "nothing wrote the word since the block was given out: it has old bytes")
+
+    def given_back(self, item, loaded, stored):
+        """The block that the store used was handed out after the load's, and has the same memory."""
+        rows = self.blocks.given_back(loaded, loaded.back, stored.call)
+        if rows:
+            return self.suspect("back", item, rows[-1], GIVEN_BACK,
+                                "the memory was given back, given out again, and still used")
+        # Nobody gave it back between: it was given back twice before, and so given out twice.
+        before = self.blocks.given_back(loaded, 0, loaded.call)
+        if len(before) < 2:
+            return []
+        found = self.suspect("back", item, before[-2], GIVEN_BACK, "the memory was given back twice, and so has two owners")
+        for suspect in found:
+            suspect.extra.append(("and again by", before[-1]))
+        return found

@@ -1,0 +1,29 @@
+"""One suspect of a crash."""
+
+
+class Suspect:
+    """kind         "store": a load and the store that it got
+                 "back": memory that was used after it was given back
+                 "unwritten": memory that was used before it was written
+                 "lost": arithmetic that lost bits
+                 "calls": a function that goes on calling itself
+    load, store  its rows; they are the same row if it has only one
+    guilty       the row that the suspect is about
+    extra        [(words, row)]: more rows that tell of it
+    cost, score  how far from the fault it is, and that less what its signs are worth
+    why          the signs, in words
+    rows         how many pairs of rows are of the same two lines
+    shown        whether the report shows it"""
+
+    def __init__(self, kind, load, store, cost):
+        self.kind, self.load, self.store, self.guilty = kind, load, store, store
+        self.cost, self.score = cost, cost
+        self.why, self.extra, self.rows, self.shown = [], [], 1, True
+
+    def sign(self, worth, words):
+        self.score -= worth
+        self.why.append(words)
+
+
+def rank(suspect):
+    return suspect.score, suspect.cost, -suspect.load

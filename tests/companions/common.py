@@ -1,0 +1,103 @@
+"""What the tests of the companions share: recordings, calls of companions, and the count of what passed.
+
+The program is the one that the companions find. Each test file ends with `finish()`, which prints 'N passed, N failed'."""
+import os
+import shutil
+import subprocess
+import sys
+import tempfile
+
+HERE = os.path.dirname(os.path.abspath(__file__))
+TOP = os.path.dirname(os.path.dirname(HERE))
+COMPANION = os.path.join(TOP, "companion")
+sys.path.insert(0, COMPANION)
+from program import path as program_path        # noqa: E402
+PROGRAM = program_path()
+EXAMPLES = os.path.join(TOP, "examples")
+CRASHES = os.path.join(TOP, "tests", "crashes")
+TOOLS = "riscv64-unknown-elf-addr2line", "riscv64-linux-gnu-addr2line", "llvm-addr2line"
+scratch = tempfile.TemporaryDirectory()
+counts = {True: 0, False: 0}
+os.environ["ZELKUMA_PROGRAM"] = PROGRAM
+
+
+def path(name):
+    """A name in the scratch folder."""
+    return os.path.join(scratch.name, name)
+
+
+def check(what, good, seen=""):
+    """One test. `seen` is shown if it fails."""
+    counts[bool(good)] += 1
+    print(("ok      " if good else "FAILED  ") + what)
+    if not good and seen:
+        print("        " + str(seen).replace("\n", "\n        "))
+
+
+def skip(what, why):
+    print("skipped %s: %s" % (what, why))
+
+
+def finish():
+    print("%d passed, %d failed" % (counts[True], counts[False]))
+    sys.exit(1 if counts[False] else 0)
+
+
+def record(name, elf, *words):
+    """Records a program: the log's name. Format 2 keeps each crash."""
+    log = path(name + ".log")
+    done = subprocess.run([PROGRAM, "record", "--format", "2"] + list(words) + [elf, log, path(name + ".book")],
+                          stdout=subprocess.PIPE, stderr=subprocess.PIPE)
+    if not os.path.exists(log):
+        sys.exit("no recording of %s: %s" % (elf, done.stderr.decode()))
+    return log
+
+
+def need_addr2line():
+    """Ends a test file, with a line, if no tool tells lines of addresses."""
+    if not any(shutil.which(tool) for tool in TOOLS):
+        skip(os.path.basename(sys.argv[0]), "none of %s is there" % ", ".join(TOOLS))
+        finish()
+
+
+def named_examples():
+    """The folder with the examples' files with names and lines, or None if there is no compiler."""
+    folder = path("names")
+    if not os.path.exists(folder):
+        os.mkdir(folder)
+        try:
+            subprocess.run([os.path.join(EXAMPLES, "build.sh"), path("built"), folder], check=True,
+                           stdout=subprocess.DEVNULL, stderr=subprocess.DEVNULL)
+        except (OSError, subprocess.CalledProcessError):
+            return None
+    return folder if os.listdir(folder) else None
+
+
+def crash(name):
+    """Records one of the crashing programs: (log, elf)."""
+    with open(os.path.join(CRASHES, "cases.txt")) as file:
+        words = next(line.split() for line in file if line.startswith(name + " "))
+    elf = os.path.join(CRASHES, name + ".elf")
+    return record(name, elf, "--harts", words[2], "--seed", words[3], "--limit", words[4]), elf
+
+
+def example(name):
+    return os.path.join(EXAMPLES, name + ".elf")
+
+
+def output(*words):
+    """What a command of the program prints."""
+    return subprocess.run([PROGRAM] + list(words), stdout=subprocess.PIPE, stderr=subprocess.DEVNULL).stdout
+
+
+def companion(*words, given=b"", environment=None):
+    """(status, output, err) of a companion."""
+    done = subprocess.run([sys.executable, COMPANION] + list(words), input=given, stdout=subprocess.PIPE, stderr=subprocess.PIPE,
+                          env=dict(os.environ, **(environment or {})))
+    return done.returncode, done.stdout.decode("utf-8", "replace"), done.stderr.decode("utf-8", "replace")
+
+
+def refused(what, status, words, *call, **given):
+    """A call that has to end with a status and one line on err, which holds these words."""
+    found, out, err = companion(*call, **given)
+    check(what, found == status and err.count("\n") == 1 and words in err and "Traceback" not in err, (found, err[-2000:]))
