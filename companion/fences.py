@@ -1,0 +1,37 @@
+"""Which plain loads and stores stand beside a `fence`, as GCC writes atomic ones with acquire and release.
+
+GCC for RV32IMA writes an acquire load as `lw; fence` and a release store as `fence; sw`. The recorder takes
+neither for synchronisation, so both appear in the list of races. Telling them apart is a guess from the code."""
+
+LOAD, STORE, AMO, FENCE = 0x03, 0x23, 0x2f, 0x0f
+ARITHMETIC = (0x13, 0x33, 0x37, 0x17)
+NEAR = 3                # the compiler may put some arithmetic between the access and its fence
+READ, WRITE = 2, 1      # bits of a fence's two sets
+
+
+def is_fenced(word_at, pc):
+    """Whether the access at pc has acquire or release meaning; word_at gives the instruction at an address."""
+    word = word_at(pc)
+    if word is None:
+        return False
+    kind = word & 127
+    if kind == AMO:
+        return True
+    if kind == LOAD:
+        return bool(_near_fence(word_at, pc, 4) >> 24 & READ)
+    if kind == STORE:
+        return bool(_near_fence(word_at, pc, -4) >> 20 & WRITE)
+    return False
+
+
+def _near_fence(word_at, pc, step):
+    """The word of the fence that is next to pc in one direction, or 0."""
+    for distance in range(1, NEAR + 1):
+        word = word_at(pc + step * distance)
+        if word is None:
+            return 0
+        if word & 0x707f == FENCE:
+            return word
+        if word & 127 not in ARITHMETIC:
+            return 0
+    return 0

@@ -1,0 +1,174 @@
+"""Groups the races of a log by the two places and the word, the likeliest cause of its fault first. Words of one object
+with the same places, as an array's, are told together.
+
+    zelkuma race LOG ELF [--names ELF] [--max N] [--more]
+
+--names   the program with its names and lines, if ELF was stripped
+--max     how many pairs are asked for at most, 1 to 1000000 (200000 without it)
+--more    tells all groups; without it the first twelve
+
+First come groups on the chain of values behind the fault, then those in the function that faulted, then the others;
+behind them groups that fences order if they are meant so, and last the fenced accesses themselves: loads and stores
+beside a `fence`, as GCC writes acquire and release. That order and the grouping are this command's own judgement.
+The exact list is that of `zelkuma races`: pairs of accesses that no atomic instruction orders."""
+from elf import Elf
+from errors import CompanionError
+from history import History
+from log import Log
+from options import parse, whole
+from places import Places
+from races import FENCED, ORDERED, TOO_MANY, Races
+from rows import Trace
+from text import counted, number
+
+FORM = "race LOG ELF [--names ELF] [--max N] [--more]"
+FAR = 1 << 20                                # what a row costs that isn't on the chain
+MOST, GROUPS_TOLD, BRIEF_TOLD = 200000, 12, 6
+KINDS = ("", ORDERED, FENCED)                # in the order in which groups are told
+ON_CHAIN, CHAIN_WORD, IN_FAULT, OTHER = range(4)
+HEADS = {ORDERED: "ORDERED BY FENCES: these pairs are ordered if the fenced accesses below are meant as acquire and release",
+         FENCED: "FENCED: both accesses stand beside a fence, as GCC writes acquire and release"}
+RANK_WORDS = {ON_CHAIN: "on the chain of values behind the fault", CHAIN_WORD: "touches a word of that chain",
+              IN_FAULT: "in the function that faulted", OTHER: ""}
+
+
+class Judged:
+    """The groups of a log in the order in which they are told, and why each stands where it does.
+
+    A family is the groups of one object's words that have the same places. It is told as one group."""
+
+    def __init__(self, races, trace=None, history=None):
+        """`history` is of the rows behind the fault, or None if no hart faulted."""
+        self.races, self.trace = races, trace
+        self.chain, self.fault_function = {}, None
+        if history:
+            self.chain = {row: cost for row, cost in history.cost.items() if row not in history.decided}
+            self.fault_function = races.places.function(trace.code_of(history.start).pc)
+        self.costs = [None] * len(races.groups)
+        self.words = {}
+        self.follow_chain()
+        self.groups = sorted(races.groups, key=self.key)
+
+    def follow_chain(self):
+        """The least cost of a pair with a row on the chain, for each group and each word."""
+        if not self.chain:
+            return
+        for hart, count, other, other_count, at in zip(*self.races.pairs):
+            cost = self.cost((hart, count)) + self.cost((other, other_count))
+            if cost < 2 * FAR:
+                word = self.races.groups[at].word
+                self.costs[at] = cost if self.costs[at] is None else min(cost, self.costs[at])
+                self.words[word] = min(cost, self.words.get(word, cost))
+
+    def cost(self, access):
+        """How far the row of (hart, count) is from the fault. A pair with both rows on the chain comes before one with
+        one: there the load got what the other access stored."""
+        return self.chain.get(self.trace.row_of(*access), FAR)
+
+    def rank(self, group):
+        if self.costs[group.number] is not None:
+            return ON_CHAIN
+        if group.word in self.words:
+            return CHAIN_WORD
+        functions = {self.races.places.function(access.pc) for access in group.first[0]}
+        return IN_FAULT if self.fault_function in functions else OTHER
+
+    def key(self, group):
+        cost = self.costs[group.number]
+        return (KINDS.index(group.kind), self.rank(group), 0 if cost is None else cost,
+                self.words.get(group.word, 0), -group.pairs, group.number)
+
+    def pair(self, group):
+        """The pair that tells most of a group: of those that are kept the one nearest to the fault on its chain."""
+        if not self.chain:
+            return group.first[0]
+        return min(group.first, key=lambda pair: sum(self.cost(access.at()) for access in pair))
+
+    def families(self):
+        """The families, as lists of groups."""
+        found = {}
+        for group in self.groups:
+            holder = self.races.named.object_at(group.word) or group.word
+            found.setdefault((group.kind, holder) + tuple(group.places), []).append(group)
+        return list(found.values())
+
+    def reason(self, group):
+        return ", ".join(word for word in (RANK_WORDS[self.rank(group)], group.kind) if word)
+
+
+def family_lines(races, family, place, judged):
+    """A family with a pair of its first group."""
+    reason = judged.reason(family[0])
+    said = ["%2d. %s on %s%s" % (place, counted(pairs_of(family), "pair"), family_word(races, family),
+                                 reason and "   (%s)" % reason)]
+    for access in judged.pair(family[0]):
+        source = races.places.source(access.pc)
+        said.append("      hart %d %s in %s%s" % (access.hart, access.verb(), races.places.where(access.pc),
+                                                 source and "   " + source))
+        said.append("        " + access.row)
+    return said
+
+
+def pairs_of(family):
+    return sum(group.pairs for group in family)
+
+
+def family_word(races, family):
+    """NAME+OFFSET (ADDRESS) of the first word, and how many more there are."""
+    word = family[0].word
+    name = races.named.data_name(word)
+    said = "%s (%08x)" % (name, word) if name else "%08x" % word
+    return said + (" and %s" % counted(len(family) - 1, "more word") if len(family) > 1 else "")
+
+
+def brief_line(races, family):
+    return "    %7s  %-28s %s  and  %s" % (number(pairs_of(family)), family_word(races, family), *family[0].places)
+
+
+def report(races, judged, more):
+    """All that is printed, as lines."""
+    families = {kind: [] for kind in KINDS}
+    for family in judged.families():
+        families[family[0].kind].append(family)
+    total = sum(map(len, families.values()))
+    lines = ["RACES: %s in %s. Grouping and order are this command's own judgement; zelkuma races lists each." %
+             (counted(races.total, "pair"), counted(total, "group"))]
+    told = families[""] if more else families[""][:GROUPS_TOLD]
+    for place, family in enumerate(told, 1):
+        lines += family_lines(races, family, place, judged)
+    if total and not told:
+        lines.append("  none but those below")
+    lines += left_out(families[""], told)
+    for kind in KINDS[1:]:
+        if families[kind]:
+            told = families[kind] if more else families[kind][:BRIEF_TOLD]
+            lines.append("%s (%s)" % (HEADS[kind], counted(sum(map(pairs_of, families[kind])), "pair")))
+            lines += [brief_line(races, family) for family in told] + left_out(families[kind], told)
+    return lines
+
+
+def left_out(families, told):
+    rest = len(families) - len(told)
+    return ["    .. %s (--more) .." % counted(rest, "more group")] if rest else []
+
+
+def judge(log, elf_name, races):
+    """The groups in order; if a hart faulted, the chain behind its fault is followed."""
+    if not (log.fault and races.groups):
+        return Judged(races)
+    trace = Trace(log, elf_name)
+    return Judged(races, trace, History(trace, [trace.fault[0]])) if trace.fault else Judged(races)
+
+
+def main(words):
+    (log_name, elf_name), given = parse(words, {"--names": True, "--max": True, "--more": False}, 2, FORM)
+    most = whole(given.get("--max", str(MOST)), 1, 1000000, "--max")
+    log = Log(log_name)
+    elf = Elf(elf_name)
+    named = Elf(given["--names"]) if "--names" in given else elf
+    places = Places(named)
+    races = Races(log_name, elf_name, named, places, most)
+    if races.over:
+        raise CompanionError("races: more than %d pairs; --max takes up to 1000000" % most, TOO_MANY)
+    print("\n".join(report(races, judge(log, elf_name, races), "--more" in given)))
+    return 0

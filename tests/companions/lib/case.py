@@ -1,0 +1,66 @@
+"""unittest on top of the companions' common test functions: recordings by example, and what a companion says."""
+import os
+import shutil
+import sys
+import unittest
+
+sys.path.insert(0, os.path.dirname(os.path.dirname(os.path.abspath(__file__))))
+import common
+
+sys.path.insert(0, common.COMPANION)
+logs = {}
+
+
+class Case(unittest.TestCase):
+    """Examples are named without folder and ending; `elf` is without names, `names` with names and lines."""
+
+    @staticmethod
+    def elf(name):
+        return common.example(name)
+
+    @staticmethod
+    def names(name):
+        folder = common.named_examples()
+        if not folder:
+            raise unittest.SkipTest("riscv64-unknown-elf-gcc isn't installed")
+        return os.path.join(folder, name + ".elf")
+
+    def record(self, name, *options):
+        """The log of an example. The same words are recorded once."""
+        key = (name,) + options
+        if key not in logs:
+            logs[key] = common.record("log%d" % len(logs), self.elf(name), *options)
+        return logs[key]
+
+    def crash(self, name):
+        """The log and the ELF of one of tests/crashes, whose lines only an addr2line can tell."""
+        if not any(map(shutil.which, common.TOOLS)):
+            self.skipTest("no addr2line is installed")
+        return common.crash(name)
+
+    def program(self, *words):
+        return common.output(*words).decode("ascii")
+
+    def says(self, *words):
+        """The text that a companion prints, if it ends well and says nothing on err."""
+        status, said, err = common.companion(*words)
+        self.assertEqual((status, err), (0, ""), words)
+        return said
+
+    def refuses(self, status, *words):
+        """A companion refuses with one line on err and a status, and prints nothing. Gives the line."""
+        found, said, err = common.companion(*words)
+        self.assertEqual((found, said), (status, ""), err)
+        self.assertRegex(err, r"\Azelkuma: [^\n]+\n\Z")
+        return err
+
+
+def main():
+    """Runs the cases of the file that calls it; the last line is that of all these tests."""
+    result = unittest.main(module="__main__", verbosity=2, exit=False).result
+    for test, why in result.skipped:
+        common.skip(test, why)
+    failed = len(result.failures) + len(result.errors)
+    common.counts[False] += failed
+    common.counts[True] += result.testsRun - failed - len(result.skipped)
+    common.finish()
