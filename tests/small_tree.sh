@@ -28,6 +28,7 @@ below="../low ../side ../mid ../bugnet ."
 case $1 in
 version) cat "$(dirname "$0")/../named" ;;
 all)
+    echo "process $$" >>"$RT_CALLS"
     failed=
     for folder in $below; do
         name=$(cd $folder && basename "$PWD")

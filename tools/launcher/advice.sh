@@ -1,10 +1,6 @@
 # What to do after a status of the program, in one line. Read by run.sh, whose `err` is the true one.
 
-# A reader of err who is gone must not end this script, whose status is the program's.
-advise_that() {
-    trap '' PIPE
-    echo "zelkuma: $*" >&"$err"
-}
+advise_that() { echo "zelkuma: $*" >&"$err"; }
 
 # The first bytes of a file, in hexadecimal.
 first_bytes() { # FILE COUNT
@@ -12,14 +8,15 @@ first_bytes() { # FILE COUNT
 }
 
 advise_on_words() {
+    local last=$((${#wanted[@]} - 1))
     if [ -n "$complaint" ]; then
         advise_that "$complaint; 'zelkuma help' lists commands and options"
-    elif [[ ${words[0]} == record && ${names[1]} != "${names[2]}" ]]; then
-        advise_that "an option is out of its range, which 'zelkuma help' tells"
-    elif [[ ${words[0]} == races ]]; then
-        advise_that "MAX is from 1 to 1000000"
+    elif ((last > 0)) && [ "${names[last]}" = "${names[last - 1]}" ]; then
+        advise_that "${wanted[last - 1]} and ${wanted[last]} have one name"
+    elif [[ ${words[*]} == *[![:ascii:]]* ]]; then
+        advise_that "a word isn't UTF-8, or an option is out of its range, which 'zelkuma help' tells"
     else
-        advise_that "two files have one name, or a word isn't UTF-8"
+        advise_that "an option is out of its range, which 'zelkuma help' tells"
     fi
 }
 
@@ -88,7 +85,7 @@ is_listed() { # PATTERN
 }
 
 advise() { # STATUS
-    local wanted
+    local wanted=()
     . "$top/tools/launcher/words.sh"
     read_words
     names_of "${words[0]}" || :

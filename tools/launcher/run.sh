@@ -30,12 +30,17 @@ start_program() { # WORD..
 
 # Waits for the program, also if a signal comes meanwhile; sets `status`.
 await_program() {
+    local passed=
     while
         caught=
         wait "$child"
         status=$?
         [ -n "$caught" ]
-    do :; done
+    do
+        passed=$caught
+    done
+    # bash may forget the status of a child that ends while a trap is run: then it says -1 or 127
+    [[ -z $passed ]] || ((status >= 0 && status != 127)) || status=$((128 + $(kill -l "$passed")))
 }
 
 # Ends as the program ended that a signal has killed.
@@ -87,8 +92,8 @@ run() { # WORD..
     [ "$status" -le 128 ] || die_as_program
     case $status in
     2 | 6 | 7 | 9 | 10 | 11 | 13 | 14 | 20)
-        . "$top/tools/launcher/advice.sh"
-        advise "$status"
+        # whatever becomes of the advice (nobody may read err any more), the status is the program's
+        (. "$top/tools/launcher/advice.sh" && advise "$status")
         ;;
     esac
     exit "$status"

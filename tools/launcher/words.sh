@@ -103,8 +103,12 @@ read_names() { # COMMAND
     fi
     for place in "${!names[@]}"; do
         case ${wanted[place]-} in
-        HART | INTERVAL | IC | SEED | MAX)
+        HART | INTERVAL | IC | SEED)
             is_number "${names[place]}" || complain "${wanted[place]} is a number, and not ${names[place]@Q}"
+            ;;
+        MAX)
+            [[ ${names[place]} =~ ^\+?0*([1-9][0-9]{0,5}|1000000)$ ]] ||
+                complain "MAX is from 1 to 1000000, and not ${names[place]@Q}"
             ;;
         esac
     done
