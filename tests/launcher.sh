@@ -88,6 +88,9 @@ refuses 2 "BOOK would destroy the input: 'input' and './input' are one file" rec
 refuses 2 "LOG would destroy 'other', which is an ELF file; the order is ELF LOG BOOK" record ELF other BOOK
 refuses 2 "LOG would destroy 'ELF', which is an ELF file; the order is ELF LOG BOOK" record LOG ELF BOOK
 
+refuses 2 "BOOK would destroy LOG: './new' and 'new' are one file" record ELF new ./new
+refuses 2 "BOOK would destroy LOG: 'LOG' and 'folder/../LOG' are one file" record ELF folder/../LOG LOG
+
 what="what is not refused"
 records ELF LOG BOOK
 records ELF LOG BOOK
@@ -235,7 +238,7 @@ has err "'zelkuma salvage LOG NEW' may save its end"
 
 what="advice on memory, intervals and races"
 runs 9 bash -c 'ulimit -v 100000; exec "$0" "$@"' "$zelkuma" record --seed 1 --log-size 256M ELF LOG BOOK
-has err "^zelkuma: give a smaller --limit or --log-size"
+has err "^zelkuma: give a smaller --limit or --log-size.*turn$"
 runs 9 bash -c 'ulimit -v 100000; exec "$0" "$@"' "$zelkuma" record --log-size 256M ELF LOG BOOK
 has err "^zelkuma: .*--limit.*--seed N"
 records ELF LOG BOOK

@@ -46,12 +46,12 @@ advise_on_log() {
 }
 
 advise_on_memory() {
-    if [ "${words[0]}" != record ]; then
-        advise_that "${words[0]} needs more memory than there is here; 'ulimit -v' shows a limit"
-    elif [ -z "${values[seed]+given}" ]; then
-        advise_that "give a smaller --limit or --log-size, or --seed N, which takes less memory for a turn than threads"
+    local threads=
+    [ -n "${values[seed]+given}" ] || threads="; with --seed N no threads take memory"
+    if [ "${words[0]}" = record ]; then
+        advise_that "give a smaller --limit or --log-size, or --lean, which keeps nothing of a turn$threads"
     else
-        advise_that "give a smaller --limit or --log-size: each turn takes memory until the run is over"
+        advise_that "${words[0]} needs more memory than there is here; 'ulimit -v' shows a limit"
     fi
 }
 

@@ -46,9 +46,25 @@ check_target() { # NAME FILE
     fi
 }
 
+# Whether two names lead to one file, that is there or not. Of equal names the program says it.
+is_one_file() { # FILE FILE
+    local first folder
+    [ "$1" != "$2" ] || return
+    if [ -e "$1" ]; then
+        [ -f "$1" ] && [ "$1" -ef "$2" ]
+        return
+    fi
+    folder_of "$1"
+    first=$folder
+    folder_of "$2"
+    [ "${1##*/}" = "${2##*/}" ] && [ "$first" -ef "$folder" ]
+}
+
 # LOG and BOOK, but for a lean recording, which saves no BOOK.
 check_targets() {
     check_target LOG "${names[1]}"
     [ -z "${values[lean]+given}" ] || return 0
     check_target BOOK "${names[2]}"
+    ! is_one_file "${names[1]}" "${names[2]}" ||
+        stop 2 "BOOK would destroy LOG: ${names[2]@Q} and ${names[1]@Q} are one file"
 }
