@@ -45,9 +45,13 @@ grep -qx "kit rattle-kit-13f logic 0" "$stamp" || fails "the stamp has no kit"
 runs 0 "$tree/tests/release.sh"
 has out "is the one that was built, byte for byte"
 
-what="a clone"
+what="a clone, on a machine with the tools that each has"
 rm -r "$tree/crates/bugnet_main/out"
-path=$without runs 5 "$zelkuma" list LOG
+mkdir "$work/few"
+for name in awk bash cat cut dirname env find mkdir od readlink sha256sum sort stat tr xargs; do
+    ln -s "$(type -P "$name")" "$work/few/$name"
+done
+path=$work/few runs 5 "$zelkuma" list LOG
 answers list LOG
 builds_nothing
 [ ! -s "$work/err" ] || fails "err isn't empty"

@@ -27,7 +27,7 @@ sources() (
     cd "$top/crates" || exit
     {
         crates
-        find $(crates | sed 's|:.*||; s|.*|&/src &/specs &/proofs|') -type f -print0 2>/dev/null |
+        find $(crates | awk -F: '{ print $1 "/src", $1 "/specs", $1 "/proofs" }') -type f -print0 2>/dev/null |
             LC_ALL=C sort -z | xargs -0 sha256sum
     } | sha256sum | cut -d ' ' -f 1
 )
@@ -45,7 +45,13 @@ made() { # SOURCES KIT PROGRAM
     printf 'sources %s\nkit %s\nprogram %s\n' "$1" "$2" "$(sha256sum <"$3" | cut -d ' ' -f 1)"
 }
 
-stamped() { sed -n "s/^$2 //p" "$1"; } # STAMP WORD
+# What a stamp says behind a word.
+stamped() { # STAMP WORD
+    local word rest
+    while read -r word rest; do
+        [ "$word" != "$2" ] || echo "$rest"
+    done <"$1"
+}
 
 # Whether the program that was built last is that of these sources and of the toolchain that is here.
 is_fresh() { # SOURCES
