@@ -1,5 +1,5 @@
-# Completes the words of zelkuma in bash: commands, options, and names of files where one is due. The
-# commands of debug are none of them: they come from its input. Made by tools/help/make.sh.
+# Completes the words of zelkuma in bash: commands, options, and names of files if one is due. The commands
+# of debug come from its input, so none of them is completed. Made by tools/help/make.sh.
 
 # a command, and what its words are
 _zelkuma_commands='
@@ -80,13 +80,16 @@ _zelkuma_next() { # COMMAND WORD..
     echo "${due:-${names[place]-}}"
 }
 
-# Completes the word by the first words of a table's lines, or by the names of files.
-_zelkuma_fill() { # WORD TABLE
-    mapfile -t COMPREPLY < <(compgen -W "$(while read -r first _; do echo "$first"; done <<<"$2")" -- "$1")
+# Prints the first word of each line of a table.
+_zelkuma_firsts() { # TABLE
+    local first rest
+    while read -r first rest; do
+        echo "$first"
+    done <<<"$1"
 }
 
 _zelkuma() {
-    local word words=() current=${COMP_WORDS[COMP_CWORD]}
+    local word words=() current=${COMP_WORDS[COMP_CWORD]} choice=
     COMPREPLY=()
     [[ $current != = ]] || current= # the `=` of --OPTION=VALUE is a word of its own here
     for word in "${COMP_WORDS[@]:1:COMP_CWORD-1}"; do
@@ -95,16 +98,14 @@ _zelkuma() {
         [[ ${words[0]-} != seeds || $word != -- ]] || words=(record)
     done
     if [[ ${#words[@]} -eq 0 ]]; then
-        _zelkuma_fill "$current" "$_zelkuma_commands"
-        return
+        choice=$(_zelkuma_firsts "$_zelkuma_commands")
+    elif [[ $current == -* ]]; then
+        choice=$(_zelkuma_firsts "$(_zelkuma_rows "$_zelkuma_options" "${words[0]}")")
+    elif [[ $(_zelkuma_next "${words[@]}") =~ ^(ELF|LOG|BOOK|NEW|FILE|PATH)$ ]]; then
+        return # which leaves it to the names of files
     fi
-    case $current,$(_zelkuma_next "${words[@]}") in
-    *,ELF | *,LOG | *,BOOK | *,NEW | *,FILE | *,PATH)
-        compopt -o filenames 2>/dev/null
-        mapfile -t COMPREPLY < <(compgen -f -- "$current")
-        ;;&
-    -*) _zelkuma_fill "$current" "$(_zelkuma_rows "$_zelkuma_options" "${words[0]}")" ;;
-    esac
+    compopt +o default
+    mapfile -t COMPREPLY < <(compgen -W "$choice" -- "$current")
 }
 
-complete -F _zelkuma zelkuma
+complete -o default -F _zelkuma zelkuma

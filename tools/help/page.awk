@@ -16,7 +16,8 @@ function words(usage, text) {
 
 form == "words" && $2 == "does" { words($1, plain($3)) }
 
-form == "options" && $2 == "range" { range = plain($3) }
+# An option without a range may tell in its place what it does.
+form == "options" && ($2 == "range" || $2 == "page") { range = plain($3) }
 form == "options" && $2 == "default" { printf "%-18s%-45s%s\n", $1, range, plain($3) }
 
 form == "statuses" && $2 == "entry" {
