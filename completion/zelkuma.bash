@@ -48,8 +48,12 @@ why --html FILE
 why --more
 race --names ELF
 race --max N
+race --more
 view --names ELF
+view --row HART:COUNT
 gdb --port N
+gdb --end
+gdb --trace
 bucket --names ELF
 seeds -j N
 seeds --until STATUS

@@ -1,5 +1,5 @@
 #!/usr/bin/env bash
-# Makes a package for Debian and its kin of what `zelkuma install` lays. It needs dpkg-deb, and no network.
+# Makes a package for Debian, and for systems made of it, of what `zelkuma install` lays. It needs dpkg-deb, and no network.
 #
 # packaging/deb.sh OUT.deb [PROGRAM]: PROGRAM is packed or, if none is named, the one that ./zelkuma runs
 #

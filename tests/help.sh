@@ -65,6 +65,16 @@ while read -r command names; do
     runs "$wanted" "$program" "$command" "${words[@]}"
 done < <(read_table commands | awk -F '\t' '$2 == "entry" { gsub(/ \[[^]]*\]/, "", $3); print $3 }')
 
+what="the words of the companions"
+: >"$work/out" >"$work/err"
+if [ -d "$top/companion" ]; then
+    while read -r form; do
+        grep -sqxF "FORM = \"$form\"" "$top/companion/${form%% *}.py" || fails "companion/${form%% *}.py has another FORM than '$form'"
+    done < <(read_table companions | awk -F '\t' '$2 == "entry" { print $3 }')
+else
+    skips "the words of the companions, which aren't here"
+fi
+
 # Tries a value of an option, after whatever else has to be said for it.
 takes() { # STATUS OPTION VALUE
     local more=()

@@ -10,7 +10,7 @@ $2 != "entry" { next }
 form == "record" { print "record " $1 }
 
 form == "words" {
-    gsub(/ \[[^]]*\]/, "", $1)
+    gsub(/ \[[^]]*\](\.\.\.)?/, "", $1)
     print $1
 }
 

@@ -5,6 +5,7 @@
 #
 # tools/help/make.sh [TOP]: TOP is the folder of the sources that these are written to, at first its own
 set -euo pipefail
+export LC_ALL=C
 here=$(dirname "$(readlink -f "${BASH_SOURCE[0]}")")
 top=${1:-$here/../..}
 
