@@ -142,6 +142,16 @@ runs 0 dpkg-deb -x "$work/one.deb" "$root"
 works "$root/usr/bin/zelkuma" "$root/usr/lib/zelkuma/zelkuma"
 gzip -dc "$root/usr/share/man/man1/zelkuma.1.gz" >"$work/page"
 equals "$top/man/zelkuma.1" "$work/page"
+if type -P man >/dev/null; then
+    runs 0 man -M "$root/usr/share/man" -P cat zelkuma
+    has out "record [OPTION..] ELF LOG BOOK"
+fi
+
+what="a package of the program that the script runs"
+printf '#!/bin/sh\n[ "$1" = install ] && cp "%s" "$2" && echo "$2"\n' "$program" >"$work/elsewhere/zelkuma"
+runs 0 "$work/elsewhere/packaging/deb.sh" "$work/three.deb"
+runs 0 dpkg-deb -x "$work/three.deb" "$work/third"
+equals "$program" "$work/third/usr/lib/zelkuma/zelkuma"
 
 what="a package that dpkg installs, and takes away"
 if [ "$(id -u)" -eq 0 ]; then
@@ -160,7 +170,7 @@ fi
 
 what="a package that can't be made"
 unset SOURCE_DATE_EPOCH
-runs 1 "$work/elsewhere/packaging/deb.sh" "$work/three.deb" "$program"
+runs 1 "$work/elsewhere/packaging/deb.sh" "$work/four.deb" "$program"
 has err "set SOURCE_DATE_EPOCH"
 runs 2 "$work/elsewhere/packaging/deb.sh"
 end
