@@ -78,6 +78,8 @@ ln -s "$prefix/bin/zelkuma" "$work/bin/zelkuma"
 ln -s ../bin/zelkuma "$work/bin/short"
 cd / || exit 1
 works short "$prefix/lib/zelkuma/zelkuma"
+ln -s "$prefix/bin" "$work/linked"
+works "$work/linked/zelkuma" "$prefix/lib/zelkuma/zelkuma"
 cd "$work" || exit 1
 
 what="the tree was moved, and isn't written to"
@@ -108,7 +110,7 @@ cp "$sources/zelkuma" "$work/alone"
 runs 1 "$work/alone" list "$work/LOG"
 has err "beside this script are neither the sources"
 mkdir "$work/few"
-for name in bash cat dirname env readlink; do
+for name in awk basename bash cat dirname env find grep head install kill mkdir readlink rm sed sleep sort tail tr; do
     ln -s "$(type -P "$name")" "$work/few/$name"
 done
 PATH=$work/few runs 1 "$work/moved/bin/zelkuma" why LOG ELF

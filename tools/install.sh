@@ -36,7 +36,7 @@ install_at() { # PATH
     folder=$(dirname -- "$1")
     [[ -d $folder && $1 != */ ]] || stop 3 "install: there is no folder ${1%/}"
     [ -w "$folder" ] || stop 3 "install: the folder $folder can't be written to"
-    [ ! "$1" -ef "${BASH_SOURCE[-1]}" ] || stop 2 "install: $1 is this script, and would be overwritten"
+    [ ! "$1" -ef "${installed:-$top/zelkuma}" ] || stop 2 "install: $1 is this script, and would be overwritten"
     install -m 755 -- "$program" "$1" || stop 3 "install: the program could not be copied to $1"
     echo "$1"
 }
