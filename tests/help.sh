@@ -65,6 +65,12 @@ while read -r command names; do
     runs "$wanted" "$program" "$command" "${words[@]}"
 done < <(read_table commands | awk -F '\t' '$2 == "entry" { gsub(/ \[[^]]*\]/, "", $3); print $3 }')
 
+what="the lines of statuses, which the program holds as text"
+while read -r line; do
+    grep -aqF -- "$line" "$program" || fails "the program never says '$line'"
+done < <(read_table statuses | awk -F '\t' '$2 == "line" && $3 ~ /^`/ { print $3 }' |
+    grep -o '`[^`]*`' | tr -d '`' | sed -E 's/ ?[A-Z]{2,}.*//')
+
 what="the words of the companions"
 : >"$work/out" >"$work/err"
 if [ -d "$top/companion" ]; then
