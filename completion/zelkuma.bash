@@ -44,8 +44,9 @@ record --sets2 N
 record --ways2 N
 audit --input FILE
 why --names ELF
-why --html FILE
+why --row HART:COUNT
 why --more
+why --html FILE
 race --names ELF
 race --max N
 race --more

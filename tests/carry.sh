@@ -49,15 +49,21 @@ works() { # SCRIPT PROGRAM
 everything() { find "$1" -printf '%p %m %s %t\n' | LC_ALL=C sort; }
 
 # Lays all, as the script does.
-lays() (
-    top=$sources
-    . "$sources/tools/install.sh"
-    lay "$1" "$program"
+lays() ( # SOURCES FOLDER
+    top=$1
+    . "$top/tools/install.sh"
+    lay "$2" "$program"
 )
+
+# The companions that are told.
+companions() {
+    awk -f "$top/tools/help/read.awk" "$top/tools/help/companions.txt" |
+        awk -F '\t' '$2 == "entry" { sub(/ .*/, "", $3); print $3 }'
+}
 
 what="a folder"
 prefix="$work/a prefix"
-runs 0 lays "$prefix"
+runs 0 lays "$sources" "$prefix"
 works "$prefix/bin/zelkuma" "$prefix/lib/zelkuma/zelkuma"
 equals "$top/man/zelkuma.1" "$prefix/share/man/man1/zelkuma.1"
 equals "$top/completion/zelkuma.bash" "$prefix/share/bash-completion/completions/zelkuma"
@@ -68,10 +74,28 @@ equals "$top/completion/zelkuma.bash" "$prefix/share/bash-completion/completions
 [ -z "$(find "$prefix" -type f ! -perm 755 ! -perm 644)" ] || fails "a file has another mode"
 
 what="every companion that is told"
-while read -r word; do
+for word in $(companions); do
     runs 5 "$prefix/bin/zelkuma" "$word" x
     has out "zelkuma $word x"
-done < <(awk -f "$top/tools/help/read.awk" "$top/tools/help/companions.txt" | awk -F '\t' '$2 == "entry" { sub(/ .*/, "", $3); print $3 }')
+done
+
+what="the companions of the sources"
+if [ -d "$top/companion" ] && type -P python3 >/dev/null; then
+    runs 0 lays "$top" "$work/whole"
+    everything "$work/whole" >"$work/before"
+    for word in $(companions); do
+        runs 0 "$work/whole/bin/zelkuma" "$word" --help
+        has out "zelkuma $word "
+    done
+    runs 0 "$work/whole/bin/zelkuma" why "$work/LOG" "$elf"
+    has out "LoadOutside 6e657472"
+    runs 0 "$work/whole/bin/zelkuma" view "$work/LOG" "$elf"
+    has out "</html>"
+    everything "$work/whole" >"$work/after"
+    equals "$work/before" "$work/after"
+else
+    skips "the companions themselves, or Python, which aren't here"
+fi
 
 what="a link, from another folder"
 ln -s "$prefix/bin/zelkuma" "$work/bin/zelkuma"
