@@ -7,7 +7,8 @@ work=$(mktemp -d)
 trap 'rm -rf "$work"' EXIT
 . "$top/tests/asserts.sh"
 type -P script >/dev/null || { skips "completion: script isn't here" && exit 0; }
-: >"$work/typed" >"$work/wanted"
+: >"$work/typed"
+: >"$work/wanted"
 
 # Types a line, in which \t is TAB, and says what words the shell has to run.
 types() { # LINE WORD..

@@ -72,7 +72,8 @@ done < <(read_table statuses | awk -F '\t' '$2 == "line" && $3 ~ /^`/ { print $3
     grep -o '`[^`]*`' | tr -d '`' | sed -E 's/ ?[A-Z]{2,}.*//')
 
 what="the words of the companions"
-: >"$work/out" >"$work/err"
+: >"$work/out"
+: >"$work/err"
 if [ -d "$top/companion" ]; then
     while read -r form; do
         grep -sqxF "FORM = \"$form\"" "$top/companion/${form%% *}.py" || fails "companion/${form%% *}.py has another FORM than '$form'"
