@@ -45,6 +45,9 @@ tries tests/zelkuma.sh
 tries tests/shipped.sh
 tries tests/calls.sh
 tries tests/launcher.sh "$program"
+tries tests/help.sh "$program"
+tries tests/completion.sh
+tries tests/carry.sh "$program"
 tries tests/joined.py
 tries tests/read_log.sh "$program"
 tries tests/limits.sh "$program"

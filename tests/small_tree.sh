@@ -8,7 +8,7 @@ work=$(mktemp -d)
 trap 'rm -rf "$work"' EXIT
 tree="$work/a tree" # with a space in its name
 calls=$work/calls
-failures=0
+. "$top/tests/asserts.sh"
 export RT_CALLS=$calls TMPDIR=$work/temporary
 
 # What the script may need of the system, and nothing else: so no other rt is found.
@@ -76,7 +76,7 @@ chmod +x "$work/kit/bin/rt"
 echo "rattle-kit-13f logic 0" >"$work/kit/named"
 
 mkdir "$tree/tests"
-cp -r "$top/zelkuma" "$top/tools" "$tree"
+cp -r "$top/zelkuma" "$top/tools" "$top/man" "$top/completion" "$tree"
 cp "$top/tests/release.sh" "$tree/tests"
 cat >"$tree/crates.txt" <<'END'
 # a comment
@@ -93,21 +93,6 @@ for name in low side mid bugnet bench bugnet_main; do
 done
 cd "$work" || exit 1
 
-# runs STATUS WORD..: what the words write is in out and err. What they called of rt is in calls.
-runs() {
-    local wanted=$1 status=0
-    shift
-    : >"$calls"
-    PATH=$path "$@" >"$work/out" 2>"$work/err" </dev/null || status=$?
-    [ "$status" -eq "$wanted" ] || fails "status $status of '$*', and not $wanted"
-}
-
-fails() {
-    echo "$0: $what: $1" >&2
-    sed 's/^/    /' "$work/out" "$work/err" >&2
-    failures=$((failures + 1))
-}
-
 has() { grep -q -- "$2" "$work/$1" || fails "no '$2' in $1"; }
 hasnt() { ! grep -q -- "$2" "$work/$1" || fails "'$2' in $1"; }
 builds() { grep -q ^run "$calls" || fails "nothing was built"; }
@@ -120,6 +105,5 @@ source=$tree/crates/mid/src/lib.rt
 ends() {
     what="files that stay"
     [ -z "$(find "$TMPDIR" -mindepth 1)" ] || fails "$(find "$TMPDIR" -mindepth 1)"
-    [ "$failures" -eq 0 ] && echo "$0: all is well"
-    exit $((failures > 0))
+    end
 }

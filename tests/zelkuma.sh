@@ -120,10 +120,17 @@ what="a copy of the program"
 runs 0 "$zelkuma" install "$work/copy"
 runs 5 "$work/copy" list LOG
 answers list LOG
-mkdir "$work/folder"
-runs 0 "$zelkuma" install "$work/folder"
-[ "$(cat "$work/out")" = "$work/folder/zelkuma" ] || fails "it says another place"
-[ -x "$work/folder/zelkuma" ] || fails "there is no copy in the folder"
+runs 3 "$zelkuma" install "$work/none/copy"
+has err "there is no folder"
+runs 2 "$zelkuma" install "$tree/zelkuma"
+has err "is this script"
+
+what="all under a folder" # tests/carry.sh tries the rest
+mkdir "$work/a folder"
+runs 0 "$zelkuma" install "$work/a folder"
+[ "$(cat "$work/out")" = "$work/a folder/bin/zelkuma" ] || fails "it says another place"
+runs 5 "$work/a folder/bin/zelkuma" list LOG
+answers list LOG
 runs 0 "$zelkuma" build
 [ "$(cat "$work/out")" = "$tree/crates/bugnet_main/out/bugnet_main" ] || fails "it says another place"
 
