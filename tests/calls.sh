@@ -40,7 +40,7 @@ for STATUS in 2 6 7 9 13 14 20; do
     [ "$(sed 1d "$work/err" | grep -c '^zelkuma: ')" -eq 1 ] && [ "$(wc -l <"$work/err")" -eq 2 ] ||
         fails "there isn't one line of advice"
 done
-runs 20 "$zelkuma" races LOG ELF 9 2>&-
+STATUS=20 runs 20 bash -c '"$0" races LOG ELF 9 2>&-' "$zelkuma"
 STATUS=
 
 what="the input"

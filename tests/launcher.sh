@@ -192,6 +192,8 @@ what="advice on words"
 runs 2 "$zelkuma" '$(touch pwned)'
 says "bugnet: words refused" "zelkuma: there is no command '\$(touch pwned)'; 'zelkuma help' lists commands and options"
 [ ! -e pwned ] || fails "a word was run"
+runs 2 "$zelkuma" --seed 1 record ELF LOG BOOK
+has err "^zelkuma: the command comes first, and its options behind it"
 runs 2 "$zelkuma" list LOG --all
 has err "list has no option '--all'"
 runs 2 "$zelkuma" list

@@ -29,7 +29,7 @@ advise_on_elf() {
     elif [[ $head != 7f454c460101*f300 ]]; then
         advise_that "${elf@Q} is for another machine: build it with -march=rv32ima -mabi=ilp32 -static"
     else
-        advise_that "build it with -march=rv32ima -mabi=ilp32 -static; if it needs more memory, --memory sets it"
+        advise_that "build it with -march=rv32ima -mabi=ilp32 -static; it has to lie in the memory that --memory sets"
     fi
 }
 

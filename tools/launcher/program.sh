@@ -70,7 +70,7 @@ is_shipped() { # SOURCES
     elif [ "$(made "$1" "$(stamped "$shipped_stamp" kit)" "$shipped")" != "$(<"$shipped_stamp")" ]; then
         reason="release/${shipped##*/} isn't the file that its stamp says"
     else
-        [ -x "$shipped" ] || stop 1 "release/${shipped##*/} can't be executed here: set its x bit, or look at the mount options"
+        [ -x "$shipped" ] || stop 1 "release/${shipped##*/} can't be executed here: look at its mode, and how the disk is mounted"
         return 0
     fi
     return 1
@@ -101,7 +101,8 @@ glance() {
 
 # Whether none of these files has changed since a second, or in it: a file may change twice in one tick of the clock.
 are_settled() { # SECOND
-    (cd "$top" && xargs -0 stat -L -c %Z <"$kept_names") | awk -v second="$1" '$1 >= second { recent = 1 } END { exit recent }'
+    (cd "$top" && xargs -0 stat -L -c %Z <"$kept_names") |
+        awk -v second="$1" '$1 >= second { recent = 1 } END { exit recent }'
 }
 
 # Takes the choice that was kept, if a glance shows the same files, and for a built program the same toolchain.
@@ -145,7 +146,8 @@ compare_contents() { # KIND
 # from the sources here.
 choose_program() { # KIND
     local kept=$folder/out/seen.$1 kit= reason= seen begun=$EPOCHSECONDS
-    [[ $OSTYPE == linux* && $HOSTTYPE == x86_64 ]] ||
+    # (some shells hand on longer names of the machine)
+    [[ $OSTYPE == linux* && $HOSTTYPE == x86_64* ]] ||
         stop 1 "the program runs on Linux on x86-64, and this is $OSTYPE on $HOSTTYPE"
     ! take_choice "$kept" || return 0
     # the glance comes first: a change that comes later shows in the next one
@@ -162,6 +164,6 @@ compare_with_shipped() {
     elif [ "$(sha256sum <"$built")" = "$(sha256sum <"$shipped")" ]; then
         say "what was built is the shipped program, byte for byte"
     else
-        say "what was built is not the shipped program; release/STAMP says from which sources and by which kit that was made"
+        say "what was built is not the shipped program; release/STAMP says what that was made from"
     fi
 }

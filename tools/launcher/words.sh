@@ -120,6 +120,7 @@ read_words() {
     names=() complaint=
     declare -gA values=()
     if ! names_of "${words[0]}"; then
+        [[ ${words[0]} != -* ]] || complain "the command comes first, and its options behind it"
         complain "there is no command ${words[0]@Q}"
         return
     fi
