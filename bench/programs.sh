@@ -226,13 +226,17 @@ if [ -x /usr/bin/time ]; then
     done
 fi
 
-# A long recording of harts in threads, made once.
+# A long recording of harts in threads, made once, and with 2 GB of address space so that it can't take the machine's.
 if [ -x /usr/bin/time ]; then
-    harts 4 $((${ZELKUMA_THREAD_TURNS:-100000000} / 8)) 0
-    most=$(peak "$zelkuma" "${harts[@]}" "$top/bench/harts.elf" "$work/LOG" "$work/BOOK")
-    awk -v most="$most" -v turns="$(told turns)" 'BEGIN {
-        printf "harts in threads, %d turns: %.0f MB at the peak\n", turns, most * 1024 / 1e6
-    }'
+    long=${ZELKUMA_THREAD_TURNS:-100000000}
+    harts 4 $((long / 8)) 0
+    if most=$(ulimit -v 2000000 && peak "$zelkuma" "${harts[@]}" "$top/bench/harts.elf" "$work/LOG" "$work/BOOK"); then
+        awk -v most="$most" -v turns="$(told turns)" 'BEGIN {
+            printf "harts in threads, %d turns: %.0f MB at the peak\n", turns, most * 1024 / 1e6
+        }'
+    else
+        echo "harts in threads, $long turns: not recorded in 2 GB"
+    fi
 fi
 
 # The joint replay of so many harts, 800,000 instructions together, beside single replays of all their
@@ -366,10 +370,10 @@ beside_emulator() { # NAME ELF INPUT CODE WORD..
     }'
 }
 
-guests=${ZELKUMA_GUESTS:-$work/guests}
-[ -e "$guests/SOURCES" ] || "$top/bench/guests.sh" "$guests" >/dev/null
-cat "$guests/SOURCES"
 if [ ${#others[@]} -gt 0 ]; then
+    guests=${ZELKUMA_GUESTS:-$work/guests}
+    [ -e "$guests/SOURCES" ] || "$top/bench/guests.sh" "$guests" >/dev/null
+    cat "$guests/SOURCES"
     : >"$work/none"
     beside_emulator sort "$elf" "$work/none" "$code"
     for name in bzip2 mujs lua sqlite; do
