@@ -52,6 +52,7 @@ tries tests/joined.py
 tries tests/read_log.sh "$program"
 tries tests/limits.sh "$program"
 tries tests/documents.py "$program" README.md examples/README.md docs/COMMANDS.md docs/RECIPES.md
-[ ! -e tests/companions.sh ] || tries tests/companions.sh "$program"
+tries tests/named.py
+tries tests/companions.sh "$program"
 wait
 tell
