@@ -188,7 +188,7 @@ def edit_fault(crate, name):
         elif line.startswith("old: "):
             pairs += 1
             if changed is None or changed.count(line[len("old: ") :]) != 1:
-                return f"does not fit: its text stands not once: {line}"
+                return f"does not fit its file, which must have this text exactly once: {line}"
     return None if pairs else "changes nothing"
 
 
