@@ -51,7 +51,7 @@ MUTANTS = [
     ),
     # The machine and its bus.
     ("A store is answered, and writes nothing.", edit("run_model", "a_store_writes_nothing")),
-    ("A load is answered with another word than the memory has.", edit("bus_core", "a_load_answers_another_word")),
+    ("The answer to a load is made up.", edit("bus_core", "each_ask_is_answered_with_word_0")),
     (
         "The End of a hart that another one stopped counts instructions past its last answered ask.",
         edit("run_model", "a_stopped_hart_counts_one_more"),
@@ -188,7 +188,7 @@ def edit_fault(crate, name):
         elif line.startswith("old: "):
             pairs += 1
             if changed is None or changed.count(line[len("old: ") :]) != 1:
-                return f"does not fit: its text stands not once: {line}"
+                return f"does not fit its file, which must have this text exactly once: {line}"
     return None if pairs else "changes nothing"
 
 
