@@ -5,9 +5,13 @@
 # single commands, and sha256sum on the same log.
 # Then how much memory the list of turns takes; harts in threads beside harts by a seed, by the clock; the
 # joint replay beside single replays of the same intervals, the race report beside the joint replay and a slice
-# beside a replay; and last how far back a log of 1 MiB reaches in each example. It prints ratios; the times beside them are those of the machine and of the moment.
+# beside a replay; a replay and a joint replay into a pipe; and how far back a log of 1 MiB reaches in each example.
+# Last come five programs beside qemu-riscv32, one instruction at a time: sort, and the four of bench/guests.sh. It
+# prints ratios; the times beside them are those of the machine and of the moment.
 #
-# bench/programs.sh [RUNS]: each is run RUNS times (3), and the least processor time counts.
+# bench/programs.sh [RUNS]: each is run RUNS times (3), and the least processor time counts. ZELKUMA_GUESTS is a folder
+# of bench/guests.sh (else the programs are built), and ZELKUMA_THREAD_TURNS the turns of a long recording of harts in
+# threads (100000000), which is made once.
 set -eu
 top=$(cd "$(dirname "$0")/.." && pwd)
 work=$(mktemp -d)
@@ -24,20 +28,42 @@ seconds() { timed '%U %S' "$@"; }
 elapsed() { timed '%R' "$@"; }
 
 timed() { # WHICH STATUS WORD..
-    local which=$1 wanted=$2 run status
+    local run which=$1 wanted=$2
     shift 2
     : >"$work/times"
     for run in $(seq "$runs"); do
-        status=0
-        { TIMEFORMAT=$which; time "$@" >/dev/null 2>"$work/err"; } 2>>"$work/times" || status=$?
-        if [ "$status" -ne "$wanted" ]; then
-            echo "run $run of '$*' ended with $status, and not with $wanted:" >&2
-            cat "$work/err" >&2
-            exit 1
-        fi
+        once "$which" "$wanted" "$work/times" "$@"
     done
+    least "$work/times"
+}
+
+# Runs the words, which have to end with this status, and adds their time to TIMES. What they write goes to $into.
+once() { # WHICH STATUS TIMES WORD..
+    local which=$1 wanted=$2 times=$3 status=0
+    shift 3
+    { TIMEFORMAT=$which; time "$@" >"$into" 2>"$work/err"; } 2>>"$times" || status=$?
+    if [ "$status" -ne "$wanted" ]; then
+        echo "'$*' ended with $status, and not with $wanted:" >&2
+        cat "$work/err" >&2
+        exit 1
+    fi
+}
+into=/dev/null
+
+least() { # TIMES
     awk '{ s = $1 + $2; if (NR == 1 || s < least) least = s }
-        END { print least < 0.001 ? 0.001 : least }' "$work/times"
+        END { print least < 0.001 ? 0.001 : least }' "$1"
+}
+
+# The least processor time of the words alone, with what they write going into a pipe.
+piped() { # WORD..
+    local run
+    : >"$work/times"
+    for run in $(seq "$runs"); do
+        into=/dev/stdout once '%U %S' 0 "$work/times" "$@" | cat >/dev/null
+        [ "${PIPESTATUS[0]}" -eq 0 ] || exit 1
+    done
+    least "$work/times"
 }
 
 # The number behind a word of the summary that was last on err.
@@ -145,7 +171,7 @@ if [ -x /usr/bin/time ]; then
     less=$(peak "$zelkuma" "${record[@]}" --limit $((instructions / 2)) "$elf" "$work/LOG" "$work/BOOK")
     fewer=$(told turns)
     awk -v most="$most" -v less="$less" -v turns="$turns" -v fewer="$fewer" 'BEGIN {
-        printf "list of turns: %.0f bytes a turn", (most - less) * 1024 / (turns - fewer)
+        printf "list of turns: %.1f bytes a turn", (most - less) * 1024 / (turns - fewer)
         printf ", %d KiB at the peak of %d turns, %d KiB of %d\n", most, turns, less, fewer
     }'
 else
@@ -194,10 +220,23 @@ if [ -x /usr/bin/time ]; then
         harts 4 50000 0
         less=$(peak "$zelkuma" "${harts[@]}" $lean "$top/bench/harts.elf" "$work/LOG" "$work/BOOK")
         awk -v how="${lean:+, $lean}" -v most="$most" -v less="$less" -v turns="$turns" -v fewer="$(told turns)" 'BEGIN {
-            printf "harts in threads%s: %.0f bytes a turn, %d KiB at the peak of %d turns\n",
+            printf "harts in threads%s: %.1f bytes a turn, %d KiB at the peak of %d turns\n",
                 how, (most - less) * 1024 / (turns - fewer), most, turns
         }'
     done
+fi
+
+# A long recording of harts in threads, made once, and with 2 GB of address space so that it can't take the machine's.
+if [ -x /usr/bin/time ]; then
+    long=${ZELKUMA_THREAD_TURNS:-100000000}
+    harts 4 $((long / 8)) 0
+    if most=$(ulimit -v 2000000 && peak "$zelkuma" "${harts[@]}" "$top/bench/harts.elf" "$work/LOG" "$work/BOOK"); then
+        awk -v most="$most" -v turns="$(told turns)" 'BEGIN {
+            printf "harts in threads, %d turns: %.0f MB at the peak\n", turns, most * 1024 / 1e6
+        }'
+    else
+        echo "harts in threads, $long turns: not recorded in 2 GB"
+    fi
 fi
 
 # The joint replay of so many harts, 800,000 instructions together, beside single replays of all their
@@ -280,6 +319,13 @@ if [ -x /usr/bin/time ]; then
         'BEGIN { printf "  %.1f bytes of memory a row beyond those of the replay\n", (most - less) * 1024 / rows }'
 fi
 
+# The text of that replay, and that of a joint replay of one hart, into a pipe.
+rate "replay into a pipe" "$rows" rows "$(piped "$zelkuma" replay "$work/LOG" "$elf" "$hart" "$interval")"
+harts 1 $((2000000 / 18)) 4
+"$zelkuma" "${harts[@]}" --seed 1 --log-size 67108864 "$top/bench/harts.elf" "$work/LOG" "$work/BOOK" 2>/dev/null
+rows=$("$zelkuma" joint "$work/LOG" "$top/bench/harts.elf" | grep -c '^[0-9]')
+rate "joint, 1 hart, into a pipe" "$rows" rows "$(piped "$zelkuma" joint "$work/LOG" "$top/bench/harts.elf")"
+
 # How many of an example's instructions go into 1 MiB of records, by those of the whole run.
 reach() { # NAME WORD..
     local name=$1 status=0
@@ -301,3 +347,37 @@ reach word_count --input "$top/LICENSE"
 reach counter --harts 2
 reach counter --harts 8
 reach lock --harts 2
+
+# A program's recordings with both formats and the audit beside the emulator, in turns. Emulator and recording have to
+# write the same. INPUT is a file, CODE what the program ends with in the emulator, and WORD.. options of `record`.
+beside_emulator() { # NAME ELF INPUT CODE WORD..
+    local name=$1 elf=$2 input=$3 code=$4 run
+    shift 4
+    local words=(record --seed 1 "$@" --input "$input")
+    rm -f "$work"/beside.*
+    for run in $(seq "$runs"); do
+        into=$work/emulated once '%U %S' "$code" "$work/beside.emulator" qemu-riscv32 "$single" "$elf" <"$input"
+        once '%U %S' 0 "$work/beside.2" "$zelkuma" "${words[@]}" --format 2 "$elf" "$work/LOG" "$work/BOOK"
+        into=$work/recorded once '%U %S' 0 "$work/beside.1" "$zelkuma" "${words[@]}" "$elf" "$work/LOG" "$work/BOOK"
+        instructions=$(told instructions)
+        once '%U %S' 0 "$work/beside.audit" "$zelkuma" audit --input "$input" "$work/LOG" "$elf" "$work/BOOK"
+    done
+    cmp "$work/emulated" "$work/recorded"
+    awk -v name="$name" -v n="$instructions" -v how="$single" -v emulated="$(least "$work/beside.emulator")" \
+        -v one="$(least "$work/beside.1")" -v two="$(least "$work/beside.2")" -v audit="$(least "$work/beside.audit")" 'BEGIN {
+        printf "%s: %d instructions recorded in %.3f seconds, %.2f of the speed of qemu-riscv32 %s (%.3f)", name, n, one, emulated / one, how, emulated
+        printf "; format 2 in %.3f of the time; audit in %.2f of it\n", two / one, audit / one
+    }'
+}
+
+if [ ${#others[@]} -gt 0 ]; then
+    guests=${ZELKUMA_GUESTS:-$work/guests}
+    [ -e "$guests/SOURCES" ] || "$top/bench/guests.sh" "$guests" >/dev/null
+    cat "$guests/SOURCES"
+    : >"$work/none"
+    beside_emulator sort "$elf" "$work/none" "$code"
+    for name in bzip2 mujs lua sqlite; do
+        [ ! -e "$guests/$name.elf" ] ||
+            beside_emulator "$name" "$guests/$name.elf" "$guests/$name.input" 0 --memory 4194304
+    done
+fi

@@ -13,7 +13,8 @@ serve as both. The session begins where the log does; `continue` goes to the cra
     --end      begins where the log ends, which is where the program crashed
     --trace    writes gdb's packets to err
 
-Companions show; the program proves. What gdb shows is what `debug` says of the log."""
+Companions show; the program proves. What gdb shows is what `debug` says of the log, and ELF of memory that
+nothing touched."""
 import socket
 import sys
 

@@ -58,14 +58,14 @@ class Group:
 class Races:
     """groups   in the order in which the program lists their first pairs
     total    how many pairs there are
-    over     whether there are more than `most`: then there are no groups"""
+    over     whether there are more than were asked for: then there are no groups"""
 
     def __init__(self, log_name, elf_name, named, places, most=STEPS[-1]):
         self.named, self.places, self.groups = named, places, {}
         self.fence_known, self.key_known = {}, {}
         self.pairs = [array(kind) for kind in "BQBQI"]      # hart, count, hart, count, the group's number
         self.hands_over = array("B")                        # whether a fenced store comes first and a fenced load second
-        self.total, self.most, self.over = 0, most, True
+        self.total, self.over = 0, True
         for step in [step for step in STEPS if step < most] + [most]:
             if self.read(log_name, elf_name, step):
                 self.over = False
@@ -112,10 +112,6 @@ class Races:
         if pc not in self.fence_known:
             self.fence_known[pc] = fences.is_fenced(self.named.word, pc)
         return self.fence_known[pc]
-
-    def word_name(self, word):
-        """NAME+OFFSET of a word, or its address."""
-        return self.named.data_name(word) or "%08x" % word
 
     def find_ordered(self):
         """Sets `ordered` of each group that fences may order."""

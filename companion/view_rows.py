@@ -1,4 +1,6 @@
 """The rows that a page holds: around all that can be clicked, while there is room."""
+from array import array
+
 ROWS = 45000            # in the page at most
 CALLS = 24              # innermost calls that a stack tells
 SPOTS = 1200            # points over the whole run with some rows around each
@@ -13,6 +15,7 @@ class PageRows:
         self.page, self.trace = page, page.trace
         self.wanted, self.windows, self.texts = set(), [], {}
         self.nodes, self.node_known, self.top_known = [[0, 0]], {}, {0: 0}
+        self.outermost = array("I", [0])
 
     def around(self, row, back, ahead):
         """Wants a row, and some before and behind it of its hart."""
@@ -82,11 +85,20 @@ class PageRows:
         while at and len(path) < CALLS:
             path.append(tree.call_pc[at])
             at = tree.parent[at]
-        top = self.add_node(0, -int(tree.depth[at])) if at else 0
+        top = self.cut_node(at) if at else 0
         for pc in reversed(path):
             top = self.add_node(top, self.page.place(pc))
         self.top_known[node] = top
         return top
+
+    def cut_node(self, node):
+        """The page's number of a node whose calls are left out, but for the outermost one."""
+        tree = self.trace.tree
+        for each in range(len(self.outermost), len(tree.parent)):   # a call's number is over that of the call around it
+            above = tree.parent[each]
+            self.outermost.append(self.outermost[above] if above else each)
+        top = self.add_node(0, self.page.place(tree.call_pc[self.outermost[node]]))
+        return self.add_node(top, 1 - tree.depth[node]) if tree.depth[node] > 1 else top
 
     def add_node(self, outer, place):
         key = outer, place

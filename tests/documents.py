@@ -8,10 +8,10 @@ after it what out and err have to get from them; without such a block that is no
 a word whose first line begins with '$ '. Each line '$ WORDS' is given to a bash, with the lines '> WORDS' behind it;
 the lines up to the next one are what out and err have to get.
 
-All examples of a document run in one bash, one after another, in a folder with PROGRAM as ./zelkuma, examples/,
-tests/crashes/ and LICENSE, and with another folder for /tmp/. A line '...' stands for any lines. Not run is a
-block behind a line '<!-- not run -->', nor one behind '<!-- needs NAME -->' if there is no command or file NAME,
-which is said. With --write the document gets what was printed, where it differs.
+All examples of a document run in one bash, one after another, in a folder with examples/, tests/crashes/, LICENSE and
+./zelkuma, which runs PROGRAM as an installed one does, and with another folder for /tmp/. A line '...' stands for any
+lines. Not run is a block behind a line '<!-- not run -->', nor one behind '<!-- needs NAME -->' if there is no command
+or file NAME, which is said. With --write the document gets what was printed, where it differs.
 """
 import os
 import re
@@ -82,7 +82,9 @@ def printed_by(commands, program, room):
     """Returns what each of the commands prints, run one after another."""
     os.makedirs(f"{room}/top")
     os.makedirs(f"{room}/tmp")
-    os.symlink(program, f"{room}/top/zelkuma")
+    lays = 'top=$0 && . "$top/tools/install.sh" && lay "$1" "$2"'
+    subprocess.run(["bash", "-c", lays, TOP, f"{room}/installed", program], check=True)
+    os.symlink(f"{room}/installed/bin/zelkuma", f"{room}/top/zelkuma")
     shutil.copytree(f"{TOP}/examples", f"{room}/top/examples")
     shutil.copytree(f"{TOP}/tests/crashes", f"{room}/top/tests/crashes")
     shutil.copy(f"{TOP}/LICENSE", f"{room}/top")

@@ -152,6 +152,7 @@ build() {
     kit=$(kit) || stop 1 "there is no command rt of a Rattle kit here, which proves and builds the program: put the folder bin of ${kits/ / or } on PATH, or bring the program from where it is built ('zelkuma install')"
     [[ " $kits " == *" ${kit%% *} "* ]] ||
         say "note: rt is of ${kit%% *}; if a proof fails, put the folder bin of ${kits/ / or } first on PATH"
+    top=$(cd -P "$top" && pwd) # as the system names the folder of a process
     while IFS=: read -r name on _; do
         below[$name]=$on
         order+=("$name")
@@ -168,5 +169,5 @@ build() {
     rt_does bugnet_main run --jobs "$jobs" -- check data/example.log
     ends bugnet_main
     trap - INT TERM HUP
-    made "$sources" "$kit" >"$stamp"
+    made "$sources" "$kit" "$built" >"$stamp"
 }

@@ -1,4 +1,5 @@
-"""A bridge from gdb's remote protocol to the commands of `debug`: what gdb shows is what `debug` says.
+"""A bridge from gdb's remote protocol to the commands of `debug`: what gdb shows is what `debug` says, and
+the ELF file of memory that nothing touched.
 
     packets     packets over two file descriptors
     server      answers them, one by one

@@ -1,6 +1,7 @@
 /* The rows and the call stack around the chosen point. */
 const ROWS_BEFORE = 9;
 const ROWS_AFTER = 9;
+const CALLS_TOLD = 14;
 const windows = D.windows.map(([hart, count, codes, tails, calls]) => ({ hart, count, codes, tails: tails.split("\n"), calls }));
 const windowsOf = new Map();
 for (const found of windows) {
@@ -95,25 +96,36 @@ function callPlaces(found, at) {
   return places;
 }
 
-function showCalls(list, found, at) {
-  list.replaceChildren();
+/* The frames of these calls; a frame that is there several times in a row, as in a recursion, is one. */
+function framesAt(found, at) {
+  const frames = [];
   for (const index of callPlaces(found, at)) {
     if (index < 0) {
-      list.append(element("li", `      … ${plural(-index, "more call")}`, "dim"));
+      frames.push({ more: -index });
       continue;
     }
     const { name, line, outer } = place(index);
-    const frames = [[name, line], ...outer];
-    frames.forEach(([frameName, frameLine], depth) => {
-      const item = element("li");
-      item.append(
-        element("span", list.children.length ? "from  " : "at    ", "dim"),
-        element("b", frameName || "?"),
-        element("span", `  ${frameLine}`));
-      if (depth + 1 < frames.length) item.append(element("span", "  inlined", "dim"));
-      list.append(item);
+    [[name, line], ...outer].forEach(([frameName, frameLine], depth) => {
+      const last = frames[frames.length - 1];
+      if (last && last.name === frameName && last.line === frameLine) last.times++;
+      else frames.push({ name: frameName, line: frameLine, inlined: depth < outer.length, times: 1 });
     });
   }
+  return frames;
+}
+
+function showCalls(list, found, at) {
+  const frames = framesAt(found, at);
+  const cut = frames.length > CALLS_TOLD ? frames.splice(CALLS_TOLD - 2, frames.length - CALLS_TOLD + 1) : [];
+  if (cut.length) frames.splice(CALLS_TOLD - 2, 0, { more: cut.reduce((sum, { more, times }) => sum + (more || times), 0) });
+  list.replaceChildren(...frames.map((frame, index) => {
+    if (frame.more) return element("li", `      … ${plural(frame.more, "more call")}`, "dim");
+    const item = element("li");
+    item.append(element("span", index ? "from  " : "at    ", "dim"), element("b", frame.name || "?"), element("span", `  ${frame.line}`));
+    const about = (frame.times > 1 ? `  × ${commas(frame.times)}` : "") + (frame.inlined && frame.times === 1 ? "  inlined" : "");
+    if (about) item.append(element("span", about, "dim"));
+    return item;
+  }));
 }
 
 /* To the next or the last row of the hart; over rows that the page doesn't have, with a note. */

@@ -13,6 +13,13 @@ SECTIONS
     . = ALIGN(0x1000) + (. & 0xfff);
     . = ALIGN(16);
     .data : { *(.data .data.*) }
+
+    /* Variables of the one thread, used in place. The linker reckons with .tbss as taking no space. */
+    .tdata : { *(.tdata .tdata.*) }
+    .tbss : { *(.tbss .tbss.*) }
+    PROVIDE(thread_variables = SIZEOF(.tdata) ? ADDR(.tdata) : ADDR(.tbss));
+    . += SIZEOF(.tbss);
+
     __global_pointer$ = . + 0x800;
     .sdata : { *(.sdata .sdata.*) }
     .bss : { *(.sbss .sbss.* .bss .bss.* COMMON) . = ALIGN(4); }

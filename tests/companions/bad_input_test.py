@@ -10,12 +10,11 @@ import sys
 
 from common import (COMPANION, CRASHES, PROGRAM, check, companion, crash, example, finish, need_addr2line, path, record,
                     refused)
-
-sys.path.insert(0, COMPANION)
-from elf import Elf                             # noqa: E402
-from errors import CompanionError               # noqa: E402
-from log import EDGE, HEADER, SIZES             # noqa: E402
-from places import Places                       # noqa: E402
+# Modules of the companions, which common lets be found.
+from elf import Elf
+from errors import CompanionError
+from log import EDGE, HEADER, SIZES
+from places import Places
 
 HEAD = 92                                       # the bytes before the records in a log of version 1
 

@@ -1,6 +1,6 @@
 """What the tests of the companions share: recordings, calls of companions, and the count of what passed.
 
-The program is $ZELKUMA_PROGRAM. Each test file ends with `finish()`, which prints 'N passed, N failed'."""
+The program is the one that the companions find. Each test file ends with `finish()`, which prints 'N passed, N failed'."""
 import os
 import shutil
 import subprocess
@@ -9,8 +9,10 @@ import tempfile
 
 HERE = os.path.dirname(os.path.abspath(__file__))
 TOP = os.path.dirname(os.path.dirname(HERE))
-PROGRAM = os.environ.get("ZELKUMA_PROGRAM", os.path.join(TOP, "crates", "bugnet_main", "out", "bugnet_main"))
 COMPANION = os.path.join(TOP, "companion")
+sys.path.insert(0, COMPANION)
+from program import path as program_path        # noqa: E402
+PROGRAM = program_path()
 EXAMPLES = os.path.join(TOP, "examples")
 CRASHES = os.path.join(TOP, "tests", "crashes")
 TOOLS = "riscv64-unknown-elf-addr2line", "riscv64-linux-gnu-addr2line", "llvm-addr2line"

@@ -92,6 +92,22 @@ class PageTest(case.Case):
         self.assertIn("LoadOutside", self.text("#intervals"))
         self.assertEqual(self.browser.run("document.querySelectorAll('#registers td').length"), 64)
 
+    def test_a_deep_stack_is_short(self):
+        """40 calls, of which 19 in a row are the same, and later 40 that alternate."""
+        self.open(self.wild())
+        add_calls = "D.nodes.push(...Array.from({length: 40}, (_, i) => [D.nodes.length - 1 + i, i %% %d ? 0 : D.where]))"
+        show = "showCalls(byId('calls'), {codes: [0], calls: [[0, D.nodes.length - 1]]}, 0)"
+        self.browser.run(add_calls % 20)
+        self.browser.run(show)
+        said = self.text("#calls").split("\n")
+        self.assertLess(len(said), 15)
+        self.assertIn(" × 19", "".join(said))
+        self.browser.run(add_calls % 2)
+        self.browser.run(show)
+        said = self.text("#calls").split("\n")
+        self.assertEqual(len(said), 14)
+        self.assertRegex(said[-2], r"… \d\d more calls")
+
     def test_clicks(self):
         self.open(self.tills())
         self.browser.click(*self.lane(0, 0.3))

@@ -1,12 +1,10 @@
 #!/usr/bin/env python3
 """`why` on the examples: what it says of the fault, its suspects, and of logs that gave up their front."""
 import re
-import sys
 
-from common import COMPANION, check, companion, crash, example, finish, need_addr2line, named_examples, output, path, record, skip
-
-sys.path.insert(0, COMPANION)
-import why                                      # noqa: E402  (its analysis is compared with `slice`)
+from common import (check, companion, crash, example, finish, named_examples, need_addr2line, output, path, record,
+                    skip)
+import why                                      # a module of the companions, which common lets be found
 
 
 def suspects(text):

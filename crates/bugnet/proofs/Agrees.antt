@@ -23,11 +23,11 @@ use Rattle.bus_core.specs.Bus.{Began}
 use Rattle.hart_worker.specs.Laws.{WholeRunsHaveNoError}
 use Rattle.command_words.specs.Words.{Line, RecordLine, ReplayLine, JointLine, DebugLine, ListLine, CheckLine, AuditLine, RacesLine, SliceLine, ConvertLine, SalvageLine, DemoLine}
 use Rattle.bugnet.specs.Names.{FileNames}
-use Rattle.bugnet.specs.Told.{Told, refused}
+use Rattle.bugnet.specs.Told.{Told}
 use Rattle.bugnet.specs.Commands.{WithFile, IsByLog, by_log}
 use Rattle.bugnet.specs.Pairs.{ByPair, pair_loaded, pair_same, pair_of}
 use Rattle.bugnet.specs.Answers.{names_in, names_by, IsAnswer}
-use Rattle.bugnet.specs.Audits.{version2_of, audit_file, verdict_told, turns_told, audited, IsAuditOf, IsAuditWith, IsAuditBy, IsAuditIn, IsAudit, Agrees}
+use Rattle.bugnet.specs.Audits.{version2_of, audit_file, turns_told, audited, IsAuditOf, IsAuditWith, IsAuditBy, IsAuditIn, IsAudit, Agrees}
 use Rattle.bugnet.specs.Agreements.{AuditsAgree, AuditsRun}
 use Rattle.bugnet.specs.Outside.{WithFiles}
 use Rattle.bugnet.specs.Run.{Call, Tells, StoppedEarly, SomeTold, TellsAnswer}

@@ -1,5 +1,5 @@
 -- How often a command asks its store to save.
-use Rattle.std.proofs.Common.{◌≡◌, ◌≢◌, ℕ, Bool, true, false, List, Option, Some, None, ◌∙◌, subst, refl, arith, inl, inr}
+use Rattle.std.proofs.Common.{◌≡◌, ◌≢◌, ℕ, Bool, true, false, List, Option, Some, None, ◌∙◌, subst, arith, inl, inr}
 use Rattle.bn_outside.specs.Counts.{Counts}
 use Rattle.bn_outside.specs.Files.{Files}
 use Rattle.command_words.specs.Words.{Line, RecordLine, ReplayLine, JointLine, DebugLine, ListLine, CheckLine, AuditLine, RacesLine, SliceLine, ConvertLine, SalvageLine, DemoLine}

@@ -1,5 +1,5 @@
 -- A crash with format 2 is shown by `list` and `replay`.
-use Rattle.std.proofs.Common.{◌≡◌, ℕ, ◌+◌, ◌<◌, ◌≤◌, ◌==◌, ◌&&◌, Bool, true, false, List, [], ◌∷◌, ◌++◌, nat_lt, Option, Some, ◌∙◌, ap, subst, sym, refl, arith, inl, inr, ◌⊎◌, append_assoc}
+use Rattle.std.proofs.Common.{◌≡◌, ℕ, ◌+◌, ◌<◌, ◌≤◌, ◌==◌, ◌&&◌, Bool, true, false, List, [], ◌∷◌, ◌++◌, nat_lt, Some, ◌∙◌, ap, subst, sym, refl, arith, inl, inr, ◌⊎◌, append_assoc}
 use Rattle.std.specs.Prelude.{if◌then◌else◌}
 use Rattle.std.proofs.lemmas.Bool.Decides.{nat_tests}
 use Rattle.sha2.specs.Sha256.{sha256}
@@ -21,7 +21,7 @@ use Rattle.run_laws.specs.Laws.{OwnAsksAreOrderly}
 use Rattle.run_laws.specs.Retained.{IsGuarding, HasEnded, FaultsAreKept}
 use Rattle.bugnet.specs.Answers.{names_in, IsAnswer}
 use Rattle.bugnet.specs.Commands.{WithFile, IsByLog, list_of}
-use Rattle.bugnet.specs.Crashes.{IsCrash, mark_of_crash, HasLine, PrintsLine, ShowsCrash, CrashesAreShown}
+use Rattle.bugnet.specs.Crashes.{IsCrash, mark_of_crash, HasLine, ShowsCrash, CrashesAreShown}
 use Rattle.bugnet.specs.Headline.{RecordingsAreReplayed}
 use Rattle.bugnet.specs.Recordings.{marks_of, end_by, end_status}
 use Rattle.bugnet.specs.Saves.{Leaves}

@@ -1,5 +1,5 @@
 -- What a session of the debugger tells, and what it shows.
-use Rattle.std.proofs.Common.{◌≡◌, ◌≢◌, ◌≤◌, ◌⊎◌, ℕ, ◌+◌, Bool, true, false, nat_lt, List, [], ◌∷◌, ◌++◌, length, Option, Some, None, ◌∙◌, ap, subst, sym, refl, arith, inl, inr}
+use Rattle.std.proofs.Common.{◌≡◌, ◌≢◌, ◌⊎◌, ℕ, ◌+◌, Bool, true, false, nat_lt, List, [], ◌∷◌, ◌++◌, length, Option, Some, None, ◌∙◌, ap, subst, sym, refl, arith, inl, inr}
 use Rattle.std.specs.Prelude.{Result, Ok, Err}
 use Rattle.std.specs.Io.KnownBytes.{Appends, Consumes}
 use Rattle.std.proofs.KnownBytes.{Consumes-nil}
@@ -13,11 +13,10 @@ use Rattle.joint_replay.specs.declared.error.JointError.TheVariants.{Replay, Stu
 use Rattle.joint_replay.specs.declared.error.JointError.TheVariants as joint
 use Rattle.joint_replay.specs.Joining.{Joining}
 use Rattle.joint_laws.specs.Recordings.{Recording, begin, kept}
-use Rattle.step_debugger.specs.Answers.{Answer}
 use Rattle.back_step.specs.Traces.{Trace, at_start}
 use Rattle.step_debugger.specs.Answers.{begin_at}
 use Rattle.step_debugger.specs.Answers.{begin as session_begin}
-use Rattle.step_debugger.specs.Lines.{Input, line_limit, input_limit, is_line_feed, is_over, ends_in, with_line, input_from, input_of}
+use Rattle.step_debugger.specs.Lines.{Input, input_limit, is_line_feed, is_over, ends_in, with_line, input_from, input_of}
 use Rattle.step_debugger.specs.Transcript.{answers, lines_in, result_by, transcript, transcript_from, EndsThere, EndsAll, Debugs, Debugged}
 use Rattle.step_debugger.specs.Transcript.{Told as Transcript}
 use Rattle.step_debugger.specs.declared.error.DebugError.{DebugError}
@@ -28,7 +27,6 @@ use Rattle.bugnet.specs.Names.{FileNames}
 use Rattle.bugnet.specs.Refusals.{status_of}
 use Rattle.bugnet.specs.Told.{Told, refused}
 use Rattle.bugnet.specs.Commands.{Either}
-use Rattle.bugnet.specs.Pairs.{ByPair, IsPair}
 use Rattle.bugnet.specs.Joined.{joint_status}
 use Rattle.bugnet.specs.Answers.{names_in, names_by, IsAnswer}
 use Rattle.bugnet.specs.Debugging.{ShowsRun, SessionsShowTheRun, session_of, HasRun, DoneSession, ShowsSession, RecordingsCanBeDebugged, DebugsFiles}
@@ -36,9 +34,8 @@ use Rattle.bugnet.specs.Debugging.{Debugs as DebugsLine}
 use Rattle.bugnet.specs.Laws.{IsNoSession}
 use Rattle.bugnet.specs.Outside.{WithFiles, SendStops, ToldRefusal, Wrote, SameFiles, IsEarly, GivesOf, RefusalCause}
 use Rattle.bugnet.specs.Run.{Call, printing, IsFree, AreKept, SomeTold, Tells, StoppedBy, StoppedEarly, TellsAnswer}
-use Rattle.bugnet.specs.Sessions.{Commands, cut, input_in, NoQuit, EndsWithQuit, AreRead, stop_status, stop_line, session_status, session_line, session_told, debug_with, IsSession, IsDebug, is_begun}
+use Rattle.bugnet.specs.Sessions.{Commands, cut, input_in, NoQuit, EndsWithQuit, AreRead, stop_status, session_status, session_line, session_told, debug_with, IsSession, IsDebug, is_begun}
 use Rattle.bugnet.specs.Steps.{ToldStop, DebugsPair, DebugsNamed}
-use Rattle.bugnet.specs.declared.names.Role.{Role}
 use Rattle.bugnet.specs.declared.names.Role.TheVariants as role
 use Rattle.bugnet.specs.declared.pairs.JointReading.{JointReading}
 use Rattle.bugnet.specs.declared.refusal.Refusal.{Refusal}

@@ -1,11 +1,10 @@
 -- A run that ended by a fault ended with the turn of that fault.
-use Rattle.std.proofs.Common.{◌≡◌, ℕ, zero, suc, ◌+◌, ◌-◌, ◌==◌, ◌&&◌, ◌||◌, Bool, true, false, List, [], ◌∷◌, ◌++◌, nat_le, nat_lt, Option, Some, None, ◌∙◌, ap, subst, sym, refl, arith, inl, inr, ◌⊎◌}
+use Rattle.std.proofs.Common.{◌≡◌, ℕ, zero, suc, ◌+◌, ◌-◌, ◌==◌, ◌&&◌, ◌||◌, Bool, true, false, List, [], ◌∷◌, ◌++◌, nat_le, nat_lt, Option, Some, None, ◌∙◌, ap, subst, sym, refl, inl, inr, ◌⊎◌}
 use Rattle.std.specs.Prelude.{if◌then◌else◌}
 use Rattle.std.specs.List.{list_any}
 use Rattle.bn_base.specs.Faults.{fault_number}
 use Rattle.bn_base.specs.Programs.{Program}
 use Rattle.bn_base.specs.Ranges.{IsSetting}
-use Rattle.bn_base.specs.declared.end_mark.EndMark.{EndMark}
 use Rattle.bn_base.specs.declared.fault.Fault.{Fault}
 use Rattle.bn_base.specs.declared.settings.RawSettings.{RawSettings}
 use Rattle.bn_base.specs.declared.state.HartState.{HartState}
@@ -18,7 +17,7 @@ use Rattle.rv_meaning.specs.declared.asks.Reply.TheVariants as replies
 use Rattle.system_calls.specs.declared.effect.Plan.{Plan}
 use Rattle.system_calls.specs.declared.effect.Plan.TheVariants as plans
 use Rattle.log_record.specs.Spelling.{total}
-use Rattle.run_model.specs.Machine.{Answered, answer, call_of}
+use Rattle.run_model.specs.Machine.{answer, call_of}
 use Rattle.run_model.specs.Runs.{start, run_from, is_live, legal_from}
 use Rattle.run_model.specs.Turn.{Run, counted, after_call, after_access, next_of, mark, hart_after, stopped, other_after, harts_after, is_guarded, by_guard, guard_records, guarded_run, serve_orderly, served_if, is_orderly, serve, ask_at, turn}
 use Rattle.run_model.specs.declared.hart.Hart.{Hart}
@@ -28,7 +27,6 @@ use Rattle.run_laws.specs.Laws.{OwnAsksAreOrderly}
 use Rattle.bus_core.specs.Bus.{marks}
 use Rattle.bugnet.specs.Crashes.{IsCrash}
 use Rattle.bugnet.specs.Recordings.{marks_of, is_fault, is_limit, end_by}
-use Rattle.bugnet.specs.declared.answer.RunEnd.{RunEnd}
 use Rattle.bugnet.specs.declared.answer.RunEnd.TheVariants as ends
 
 not_both : {P : Type 0} → true ≡ false → P

@@ -1,6 +1,6 @@
 -- The steps and the known words of a joint replay, sent one after another, and what is told of them.
-use Rattle.std.proofs.Common.{◌≡◌, ℕ, ◌+◌, ◌≤◌, nat_lt, Bool, true, false, List, [], ◌∷◌, ◌++◌, Option, Some, None, ◌∙◌, ap, subst, sym, refl, arith, inl, inr, ◌⊎◌, append_assoc}
-use Rattle.std.specs.Prelude.{Result, Ok, Err}
+use Rattle.std.proofs.Common.{◌≡◌, ℕ, ◌≤◌, nat_lt, Bool, true, false, List, [], ◌∷◌, ◌++◌, Option, Some, None, ◌∙◌, ap, subst, sym, refl, arith, inl, inr, append_assoc}
+use Rattle.std.specs.Prelude.{Ok, Err}
 use Rattle.std.specs.Io.KnownBytes.{Appends}
 use Rattle.bn_outside.specs.Files.{WhereTold}
 use Rattle.bn_outside.specs.Streams.{AppendsPart}
@@ -12,7 +12,6 @@ use Rattle.joint_replay.specs.Joining.{Joining, Ran, begun, ran, run_all}
 use Rattle.joint_replay.specs.Texts.{item_text, known_text, steps_text, memory_text, joint_text}
 use Rattle.joint_replay.specs.Runs.{one_step, Advanced, Advances, IsFirst, RunsGoOn, RunsEnd}
 use Rattle.bugnet.specs.Names.{FileNames}
-use Rattle.bugnet.specs.Told.{Told}
 use Rattle.bugnet.specs.Joined.{joint_status, joint_line, ran_told, joined}
 use Rattle.bugnet.specs.Joinings.{told_of_joint, stop_of, RanAs, ToldEnd}
 use Rattle.bugnet.specs.Outside.{Sent, SendStops, ToldRefusal, Wrote, SameFiles}

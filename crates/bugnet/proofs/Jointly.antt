@@ -1,5 +1,5 @@
 -- The answer to the joint replay of a recording's log is the text of one that says the run.
-use Rattle.std.proofs.Common.{◌≡◌, ◌≤◌, ℕ, Bool, true, false, List, length, nat_lt, Option, Some, None, ◌∙◌, ap, subst, sym, refl, arith, inl, inr, ◌⊎◌}
+use Rattle.std.proofs.Common.{◌≡◌, ◌≤◌, ℕ, Bool, true, false, List, length, nat_lt, Option, Some, None, ◌∙◌, ap, subst, sym, refl, inl, inr, ◌⊎◌}
 use Rattle.std.specs.Prelude.{Result, Ok}
 use Rattle.std.specs.Io.KnownBytes.{Appends}
 use Rattle.sha2.specs.Sha256.{sha256}
@@ -26,7 +26,7 @@ use Rattle.bugnet.specs.Commands.{Either, WithFile, IsByLog}
 use Rattle.bugnet.specs.Joined.{joint_status, joint_line, ran_told, joint_with, IsJoint}
 use Rattle.bugnet.specs.Pairs.{ByPair, pair_loaded, pair_same, pair_of, IsPairOf, IsPair, ArePair}
 use Rattle.bugnet.specs.Answers.{names_in, names_by, IsAnswer}
-use Rattle.bugnet.specs.Jointly.{joint_run, SaysRun, JoinsRun, TellsRun, IsJoined, JointHeadline, RecordingsCanBeJoined, recording_of, RecordingsAreJoined, DoneJointly, PrintsJointly}
+use Rattle.bugnet.specs.Jointly.{SaysRun, JoinsRun, TellsRun, IsJoined, JointHeadline, RecordingsCanBeJoined, recording_of, RecordingsAreJoined, DoneJointly, PrintsJointly}
 use Rattle.bugnet.specs.Outside.{WithFiles}
 use Rattle.bugnet.specs.Run.{Call, IsFree, SomeTold, Tells, StoppedEarly, TellsAnswer}
 use Rattle.bugnet.specs.declared.names.Role.TheVariants as role

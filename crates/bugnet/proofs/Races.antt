@@ -1,5 +1,5 @@
 -- The races of a log, and the end of a joint replay that is told alone.
-use Rattle.std.proofs.Common.{◌≡◌, ◌≤◌, ℕ, nat_lt, Bool, true, false, List, [], Option, Some, None, ◌∙◌, ap, subst, sym, inl, inr, ◌⊎◌}
+use Rattle.std.proofs.Common.{◌≡◌, ℕ, Bool, List, [], Option, Some, None, ◌∙◌, ap, subst, sym, inl, inr}
 use Rattle.std.specs.Prelude.{Result, Ok, Err}
 use Rattle.std.specs.Io.KnownBytes.{Appends}
 use Rattle.bn_base.specs.Programs.{Program}

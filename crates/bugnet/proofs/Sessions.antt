@@ -17,8 +17,8 @@ use Rattle.joint_replay.specs.Memory.{word_in}
 use Rattle.joint_replay.specs.Lanes.{Lane, Item, lane_step}
 use Rattle.joint_replay.specs.Lanes as lanes
 use Rattle.joint_replay.specs.Orders.{IsBegun, ready_step, walk_on}
-use Rattle.joint_laws.specs.Recordings.{Recording, IsRecorded, IsLogOf, OfBeginnings, begin, kept}
-use Rattle.joint_laws.specs.Laws.{OwnLogsAreLogs, GoesOn, IsNotRefused, ReachedSayTheRun, SaysSoFar}
+use Rattle.joint_laws.specs.Recordings.{Recording, IsLogOf, OfBeginnings, begin, kept}
+use Rattle.joint_laws.specs.Laws.{OwnLogsAreLogs, GoesOn, IsNotRefused, ReachedSayTheRun}
 use Rattle.back_step.specs.declared.entry.Entry.{Entry}
 use Rattle.back_step.specs.Traces.{entry_of, harts_of, Trace, at_start, with_entry, trace_step, cut}
 use Rattle.step_debugger.specs.declared.stop.Stop.{Stop}
@@ -30,7 +30,7 @@ use Rattle.step_debugger.specs.declared.command.Command.{Command}
 use Rattle.step_debugger.specs.declared.command.Command.TheVariants as to
 use Rattle.step_debugger.specs.declared.session.Ending.{Ending}
 use Rattle.step_debugger.specs.declared.session.Ending.TheVariants as ending
-use Rattle.bugnet.specs.Debugging.{session_after, ShowsRun, SessionsShowTheRun}
+use Rattle.bugnet.specs.Debugging.{session_after, SessionsShowTheRun}
 use Rattle.bugnet.specs.Sessions.{NoQuit}
 
 -- ---- the lowest ready hart is ready

@@ -1,5 +1,5 @@
 -- Slices.
-use Rattle.std.proofs.Common.{◌≡◌, ◌⊎◌, ℕ, List, ap, inl, inr, arith}
+use Rattle.std.proofs.Common.{◌≡◌, ℕ, List, ap, inl, inr, arith}
 use Rattle.std.specs.Prelude.{Result, Ok, Err}
 use Rattle.bn_base.specs.Programs.{Program}
 use Rattle.log_order.specs.Content.{Content}
@@ -8,7 +8,7 @@ use Rattle.slice_back.specs.Texts.{IsTextAnswer}
 use Rattle.slice_back.specs.declared.error.SliceError.{SliceError}
 use Rattle.slice_back.specs.declared.error.SliceError.TheVariants as back
 use Rattle.bugnet.specs.Names.{FileNames}
-use Rattle.bugnet.specs.Told.{Told, refused, printed}
+use Rattle.bugnet.specs.Told.{refused, printed}
 use Rattle.bugnet.specs.Slicing.{slice_told, slice_with}
 use Rattle.bugnet.specs.declared.refusal.Refusal.TheVariants.{ReplayStopped, NoRow}
 

@@ -1,6 +1,5 @@
 -- What `races` and `slice` answer of a recording's log.
-use Rattle.std.proofs.Common.{◌≡◌, ◌<◌, ◌^◌, ℕ, nat_lt, Bool, List, length, Option, Some, None, ◌∙◌, ap, refl, arith}
-use Rattle.std.specs.Prelude.{Result}
+use Rattle.std.proofs.Common.{◌≡◌, ◌<◌, ◌^◌, ℕ, nat_lt, length, Option, Some, None, ◌∙◌, ap, refl, arith}
 use Rattle.hart_replay.specs.Replay.{Replayed, Interval, interval_of, replayed, replayed_in}
 use Rattle.joint_replay.specs.declared.error.JointError.{JointError}
 use Rattle.joint_laws.specs.Laws.{JointFilesSayTheRun}
@@ -9,7 +8,6 @@ use Rattle.replay_laws.specs.Law.{LogSuffices}
 use Rattle.slice_back.specs.Slices.{slice_in}
 use Rattle.slice_back.specs.Texts.{text_of}
 use Rattle.bugnet.specs.Names.{FileNames}
-use Rattle.bugnet.specs.Told.{Told}
 use Rattle.command_words.specs.Words.{RacesLine, SliceLine}
 use Rattle.bugnet.specs.Answers.{names_in}
 use Rattle.bugnet.specs.Jointly.{joint_run, SaysRun}

@@ -7,8 +7,7 @@ use Rattle.step_debugger.specs.Transcript.{transcript}
 use Rattle.step_debugger.specs.declared.error.DebugError.{DebugError}
 use Rattle.bugnet.specs.Names.{FileNames}
 use Rattle.bugnet.specs.Refusals.{line_of}
-use Rattle.bugnet.specs.Told.{Told}
-use Rattle.bugnet.specs.Outside.{WithFiles, Wrote, IsEarly, ToldRefusal}
+use Rattle.bugnet.specs.Outside.{WithFiles, Wrote}
 use Rattle.bugnet.specs.Sessions.{Commands, AreRead, input_in, stop_status, stop_line, session_told, IsSession, IsDebug}
 use Rattle.bugnet.specs.Run.{Call, printing, SomeTold, Tells, StoppedBy}
 use Rattle.bugnet.specs.declared.refusal.Refusal.TheVariants as why

@@ -1,5 +1,4 @@
-use Rattle.std.proofs.Common.{inr}
-use Rattle.bugnet.proofs.Audits.{BeginsBy, gives-verdict}
+use Rattle.bugnet.proofs.Audits.{gives-verdict}
 use Rattle.bugnet.proofs.auditing.audit_reading.Goals as goal
 
 pub returns-in-Ok-clause-gives : goal.returns-in-Ok-clause-gives

@@ -1,8 +1,6 @@
-use Rattle.std.proofs.Common.{◌≡◌, refl, arith, inl, inr, sym, subst, ap, ◌∙◌}
-use Rattle.bugnet.specs.Names.{FileNames}
+use Rattle.std.proofs.Common.{refl, inl}
 use Rattle.bugnet.specs.Run.{call}
 use Rattle.bugnet.specs.Sessions.{debug_with}
-use Rattle.bugnet.proofs.Causes.{refusal-causes}
 use Rattle.bugnet.proofs.Prints.{appends-nothing}
 use Rattle.bugnet.proofs.Tells.{tells-from}
 use Rattle.bugnet.proofs.Debugs.{no_commands, none-read, named-refused, named-made, refused-status, begun-not}

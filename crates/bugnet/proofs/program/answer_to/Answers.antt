@@ -1,15 +1,12 @@
-use Rattle.std.proofs.Common.{◌≡◌, ap, inr}
+use Rattle.std.proofs.Common.{◌≡◌}
 use Rattle.demo_run.specs.Demonstration.{demo_text}
-use Rattle.bugnet.specs.Names.{FileNames}
-use Rattle.bugnet.specs.Told.{Told, refused, printed}
+use Rattle.bugnet.specs.Told.{Told, printed}
 use Rattle.bugnet.specs.Commands.{IsReplay, IsList, IsCheck}
 use Rattle.bugnet.specs.Joined.{IsJoint}
 use Rattle.bugnet.specs.Racing.{IsRaces}
 use Rattle.bugnet.specs.Slicing.{IsSlice}
 use Rattle.bugnet.specs.Renewing.{IsConvert, IsSalvage}
-use Rattle.bugnet.specs.declared.refusal.Refusal.TheVariants.{WordsRefused}
 use Rattle.bugnet.proofs.Loads.{record-answers, gives-any, by-names, by-origin, ok-any}
-use Rattle.bugnet.proofs.Tells.{with-any}
 use Rattle.bugnet.proofs.program.answer_to.Goals as goal
 
 pub returns-in-Record-clause-told : goal.returns-in-Record-clause-told

@@ -1,4 +1,4 @@
-use Rattle.std.proofs.Common.{◌∙◌, ◌<◌, sym, arith}
+use Rattle.std.proofs.Common.{◌∙◌, sym, arith}
 use Rattle.hart_worker.proofs.Live.{live_of, over_of, one_alone, none_alone}
 use Rattle.hart_worker.proofs.choosing.choose_alone.Goals as goal
 

@@ -1,0 +1,116 @@
+# Completes the words of zelkuma in bash: commands, options, and names of files if one is due. The commands
+# of debug come from its input, so none of them is completed. Made by tools/help/make.sh.
+
+# a command, and what its words are
+_zelkuma_commands='
+record ELF LOG BOOK
+list LOG
+check LOG
+replay LOG ELF HART INTERVAL
+joint LOG ELF
+debug LOG ELF
+audit LOG ELF BOOK
+races LOG ELF MAX
+slice LOG ELF HART INTERVAL IC
+convert LOG NEW
+salvage LOG NEW
+demo SEED
+build
+install PATH
+help
+names ELF
+why LOG ELF
+race LOG ELF
+view LOG ELF
+gdb LOG ELF
+bucket LOG ELF
+seeds FROM TO -- RECORD-WORDS
+'
+# a command, an option of it, and what its value is
+_zelkuma_options='
+record --seed N
+record --lean
+record --input FILE
+record --format N
+record --harts N
+record --interval N
+record --limit N
+record --log-size N
+record --memory N
+record --sets N
+record --ways N
+record --line N
+record --sets2 N
+record --ways2 N
+audit --input FILE
+why --names ELF
+why --row HART:COUNT
+why --more
+why --html FILE
+race --names ELF
+race --max N
+race --more
+view --names ELF
+view --row HART:COUNT
+gdb --port N
+gdb --end
+gdb --trace
+bucket --names ELF
+seeds -j N
+seeds --until STATUS
+'
+
+# Prints the lines of a table that begin with a word, without it.
+_zelkuma_rows() { # TABLE WORD
+    local first rest
+    while read -r first rest; do
+        [[ $first != "$2" ]] || echo "$rest"
+    done <<<"$1"
+}
+
+# Prints what the word after these has to be: what the value of an option is called, or the word itself.
+_zelkuma_next() { # COMMAND WORD..
+    local command=$1 word due= place=0 names
+    shift
+    for word; do
+        if [[ -n $due ]]; then
+            due=
+        elif [[ $word == -* ]]; then
+            due=$(_zelkuma_rows "$(_zelkuma_rows "$_zelkuma_options" "$command")" "$word")
+        else
+            place=$((place + 1))
+        fi
+    done
+    read -ra names <<<"$(_zelkuma_rows "$_zelkuma_commands" "$command")"
+    echo "${due:-${names[place]-}}"
+}
+
+# Prints the first word of each line of a table.
+_zelkuma_firsts() { # TABLE
+    local first rest
+    while read -r first rest; do
+        echo "$first"
+    done <<<"$1"
+}
+
+_zelkuma() {
+    local word words=() current=${COMP_WORDS[COMP_CWORD]} choice=
+    COMPREPLY=()
+    [[ $current != = ]] || current= # the `=` of --OPTION=VALUE is a word of its own here
+    for word in "${COMP_WORDS[@]:1:COMP_CWORD-1}"; do
+        [[ $word == = ]] || words+=("$word")
+        # what stands here is recorded
+        [[ ${words[0]-} != seeds || $word != -- ]] || words=(record)
+    done
+    if [[ ${#words[@]} -eq 0 ]]; then
+        choice=$(_zelkuma_firsts "$_zelkuma_commands")
+    elif [[ $current == -* ]]; then
+        choice=$(_zelkuma_firsts "$(_zelkuma_rows "$_zelkuma_options" "${words[0]}")")
+    elif [[ $(_zelkuma_next "${words[@]}") =~ ^(ELF|LOG|BOOK|NEW|FILE|PATH)$ ]]; then
+        return # which leaves it to the names of files
+    fi
+    compopt +o default
+    mapfile -t COMPREPLY < <(compgen -W "$choice" -- "$current")
+}
+
+complete -o default -F _zelkuma zelkuma

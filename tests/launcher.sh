@@ -1,0 +1,279 @@
+#!/usr/bin/env bash
+# Tries what the script zelkuma does with the words of a call before the program runs, and its advice after it:
+# tests/launcher.sh PROGRAM. It takes some seconds.
+program=$(readlink -f "$1")
+. "$(dirname "$0")/small_tree.sh"
+
+# The program is shipped with the small tree.
+mkdir -p "$tree/crates/bugnet_main/out" "$tree/crates/bugnet_main/data"
+cp "$top/crates/bugnet_main/data/example.log" "$tree/crates/bugnet_main/data"
+cp "$program" "$tree/crates/bugnet_main/out/bugnet_main"
+runs 0 "$tree/tools/release.sh"
+rm -r "$tree/crates/bugnet_main/out"
+path=$without
+mkdir "$work/here" "$work/here/folder"
+chmod -R a+rX "$work"
+cd "$work/here" || exit 1
+cp "$top/examples/counter.elf" ELF
+
+# Of an answer each line has to be there: the program's, then that of the script.
+says() { # LINE..
+    [ "$(cat "$work/err")" = "$(printf '%s\n' "$@")" ] || fails "err isn't: $*"
+}
+
+# A recording is refused before it begins.
+refuses() { # STATUS TEXT WORD..
+    local wanted=$1 text=$2 before
+    shift 2
+    before=$(find . -type f -exec sha256sum {} + | sort)
+    runs "$wanted" "$zelkuma" "$@"
+    says "zelkuma: $text"
+    [ "$(find . -type f -exec sha256sum {} + | sort)" = "$before" ] || fails "files have changed"
+}
+
+# A recording of 2000 instructions of one hart.
+records() { # WORD..
+    runs 11 "$zelkuma" record --seed 1 --limit 2000 "$@"
+    has err "bugnet: turns .* end limit"
+    hasnt err zelkuma
+}
+
+what="numbers of options"
+runs 11 "$zelkuma" record --seed 0x10 --limit 2K --log-size=0x10000 --memory 1M ELF LOG BOOK
+has err "instructions 2048 "
+runs 11 "$zelkuma" record --limit=0x007d0 --seed=0xffffffffffffffff ELF LOG2 BOOK2
+has err "instructions 2000 "
+runs 11 "$program" record --seed 18446744073709551615 --limit 2000 ELF LOG3 BOOK3
+cmp -s LOG2 LOG3 || fails "another seed"
+runs 2 "$zelkuma" record --limit 1G --memory 1G ELF LOG BOOK
+has err "bugnet: setting memory 1073741824"
+for word in 2k 0x 0x10000000000000000 9999999999G 1T K 0x1K 1.5K ''; do
+    runs 2 "$zelkuma" record --limit "$word" ELF LOG BOOK
+    says "bugnet: words refused" "zelkuma: --limit takes a number from 0 to 18446744073709551615, and not '$word'; 'zelkuma help' lists commands and options"
+done
+printf read >2K
+runs 11 "$zelkuma" record --seed 1 --limit 2000 --input 2K -- ELF 0x1 1M
+[ -s 0x1 ] && [ -s 1M ] || fails "other files were saved"
+runs 2 "$zelkuma" replay LOG ELF 0x0 0
+has err "HART is a number, and not '0x0'"
+
+what="files that can't be saved"
+refuses 3 "LOG can't be saved as 'no/LOG': there is no folder 'no'" record ELF no/LOG BOOK
+refuses 3 "BOOK can't be saved as '/no/where/BOOK': there is no folder '/no/where/'" record --seed=1 ELF LOG /no/where/BOOK
+refuses 3 "LOG can't be saved as 'ELF/LOG': there is no folder 'ELF'" record ELF ELF/LOG BOOK
+refuses 3 "LOG can't be saved: 'folder' is a folder" record ELF folder BOOK --harts 2
+refuses 3 "BOOK can't be saved: './' is a folder" record --input 2K ELF LOG ./
+chmod a-w folder
+touch folder/old kept && chmod a-w folder/old kept
+if [ ! -w folder ]; then
+    refuses 3 "LOG can't be saved as 'folder/LOG': the folder 'folder' can't be written to" record ELF folder/LOG BOOK
+    refuses 3 "LOG can't be saved: 'kept' may not be written" record ELF kept BOOK
+else
+    # (root may write everywhere, so another one has to try)
+    as_another=("$(type -P setpriv)" --reuid 65534 --regid 65534 --clear-groups)
+    runs 3 "${as_another[@]}" "$zelkuma" record ELF folder/LOG BOOK
+    says "zelkuma: LOG can't be saved as 'folder/LOG': the folder 'folder' can't be written to"
+    runs 3 "${as_another[@]}" "$zelkuma" record ELF LOG kept
+    says "zelkuma: LOG can't be saved: 'LOG' may not be written"
+fi
+
+what="files that would be lost"
+ln ELF linked && ln -s "$PWD/ELF" folder/symbolic && cp ELF other && cp 2K input
+refuses 2 "LOG would destroy ELF: 'ELF' and 'ELF' are one file" record ELF ELF BOOK
+refuses 2 "LOG would destroy ELF: './folder/../ELF' and 'ELF' are one file" record ELF ./folder/../ELF BOOK
+refuses 2 "BOOK would destroy ELF: 'linked' and 'ELF' are one file" record --harts=2 ELF LOG linked
+refuses 2 "LOG would destroy ELF: 'folder/symbolic' and 'ELF' are one file" record -- ELF folder/symbolic BOOK
+refuses 2 "LOG would destroy the input: './input' and 'input' are one file" record --input=input ELF ./input BOOK
+refuses 2 "BOOK would destroy the input: 'input' and './input' are one file" record ELF LOG input --input ./input
+refuses 2 "LOG would destroy 'other', which is an ELF file; the order is ELF LOG BOOK" record ELF other BOOK
+refuses 2 "LOG would destroy 'ELF', which is an ELF file; the order is ELF LOG BOOK" record LOG ELF BOOK
+
+refuses 2 "BOOK would destroy LOG: './new' and 'new' are one file" record ELF new ./new
+refuses 2 "BOOK would destroy LOG: 'LOG' and 'folder/../LOG' are one file" record ELF folder/../LOG LOG
+
+what="what is not refused"
+records ELF LOG BOOK
+records ELF LOG BOOK
+records --lean ELF LOG no/BOOK
+records --lean ELF LOG ELF
+records ELF /dev/null ./BOOK
+records --input /dev/null ELF /dev/null BOOK
+ln -s LOG4 dangling
+records ELF dangling BOOK
+[ -s LOG4 ] || fails "the link wasn't followed"
+runs 4 "$zelkuma" record no-file LOG BOOK
+says "bugnet: missing: no-file"
+
+# Each line of words: the program refuses them just if the script knows why. A bare '@' stands for an empty word.
+what="words as the program reads them"
+while read -r -a line; do
+    line=("${line[@]/#@/}")
+    status=0
+    "$program" "${line[@]}" >"$work/out" 2>"$work/err" </dev/null || status=$?
+    refused=$(grep -cx "bugnet: words refused" "$work/err")
+    runs "$status" "$zelkuma" "${line[@]}"
+    known=$(grep -c "'zelkuma help' lists commands and options$" "$work/err")
+    [ "$refused" = "$known" ] || fails "'${line[*]}' is refused, or the script says so: $refused, $known"
+done <<'END'
+record --seed 1 --limit 9 ELF LOG BOOK
+record ELF --seed=1 LOG --limit=9 BOOK
+record --seed +1 --limit 009 ELF LOG BOOK
+record --seed 1 --limit 9 --lean --input 2K ELF - BOOK
+record --seed 1 --limit 9 -- ELF -L -B
+record --seed 1 --limit 9 ELF -- LOG --
+record --seed 1 --limit 9 ELF LOG BOOK --
+record --seed 1 --limit 9 ELF -- LOG -- BOOK
+record --seed 1 --limit 9 ELF LOG BOOK MORE
+record --seed 1 --limit 9 ELF LOG
+record --seed 1 --limit 9 ELF LOG -B
+record --seed 1 --limit 9 --input -x ELF LOG BOOK
+record --seed 1 --limit 9 --input -- ELF LOG BOOK
+record --seed 1 --limit 9 --input - ELF LOG BOOK
+record --seed 1 --limit 9 --input= ELF LOG BOOK
+record --seed 1 --limit 9 ELF LOG BOOK --input
+record --seed 1 --limit 9 --input=a --input=b ELF LOG BOOK
+record --seed -1 ELF LOG BOOK
+record --seed 18446744073709551616 ELF LOG BOOK
+record --seed 018446744073709551615 --limit 9 ELF LOG BOOK
+record --seed= ELF LOG BOOK
+record --limit 9 --limit 9 ELF LOG BOOK
+record --lim 9 ELF LOG BOOK
+record --seed 1 --limit 9 --lean --lean ELF LOG BOOK
+record --lean=1 ELF LOG BOOK
+record -h
+record --help
+record
+record --
+record --=1 ELF LOG BOOK
+record -s 1 ELF LOG BOOK
+record --harts 99 ELF LOG BOOK
+record --limit 0 ELF LOG BOOK
+-x list LOG
+-- list LOG
+list
+list LOG
+list LOG LOG
+list --seed 1 LOG
+list -- --seed
+list @
+list @ @
+check LOG --
+replay LOG ELF 0
+replay LOG ELF 0 0
+replay LOG ELF 0 x
+replay LOG ELF +0 -0
+replay LOG ELF 0 18446744073709551616
+joint LOG
+joint LOG ELF
+joint LOG ELF 0
+debug LOG ELF
+debug LOG
+audit LOG ELF BOOK --input 2K
+audit LOG ELF BOOK --input=2K --input=2K
+audit LOG ELF --input 2K BOOK
+audit LOG ELF --lean BOOK
+races LOG ELF 9
+races LOG ELF 0
+races LOG ELF 1000001
+races LOG ELF
+slice LOG ELF 0 0 9
+slice LOG ELF 0 0
+convert LOG NEW
+convert LOG
+salvage LOG NEW NEW
+salvage NEW NEW2
+demo 7
+demo x
+demo
+Record ELF LOG BOOK
+END
+
+what="advice on words"
+runs 2 "$zelkuma" '$(touch pwned)'
+says "bugnet: words refused" "zelkuma: there is no command '\$(touch pwned)'; 'zelkuma help' lists commands and options"
+[ ! -e pwned ] || fails "a word was run"
+runs 2 "$zelkuma" --seed 1 record ELF LOG BOOK
+has err "^zelkuma: the command comes first, and its options behind it"
+runs 2 "$zelkuma" list LOG --all
+has err "list has no option '--all'"
+runs 2 "$zelkuma" list
+has err "LOG is missing: list takes LOG"
+runs 2 "$zelkuma" joint LOG ELF 0
+has err "the word '0' is too many: joint takes LOG ELF"
+runs 2 "$zelkuma" record --harts 99 ELF LOG BOOK
+says "bugnet: setting harts 99" "zelkuma: an option is out of its range, which 'zelkuma help' tells"
+runs 2 "$zelkuma" convert LOG LOG
+says "bugnet: same name LOG" "zelkuma: LOG and NEW have one name"
+runs 2 "$zelkuma" record --seed 1 ELF LOG LOG
+says "bugnet: same name LOG" "zelkuma: LOG and BOOK have one name"
+runs 2 "$zelkuma" list $'\xff'
+says "bugnet: words refused" "zelkuma: a word isn't UTF-8, or an option is out of its range, which 'zelkuma help' tells"
+runs 2 "$zelkuma" races LOG ELF 0
+says "bugnet: words refused" "zelkuma: MAX is from 1 to 1000000, and not '0'; 'zelkuma help' lists commands and options"
+
+what="advice on ELF"
+runs 6 "$zelkuma" record 2K LOG BOOK
+says "bugnet: elf: NotElf" "zelkuma: '2K' isn't an ELF file: give the linked program, and not its source, .bin or .hex"
+runs 6 "$zelkuma" record "$program" LOG BOOK
+has err "^zelkuma: .* is for another machine: build it with -march=rv32ima -mabi=ilp32 -static"
+runs 6 "$zelkuma" record --memory 64K "$top/examples/sort.elf" LOG BOOK
+has err "^zelkuma: .*--memory"
+
+what="advice on LOG"
+runs 7 "$zelkuma" list ELF
+has err "^zelkuma: 'ELF' is an ELF file, and LOG was wanted there: list takes LOG"
+runs 7 "$zelkuma" replay ELF LOG 0 0
+has err "replay takes LOG ELF HART INTERVAL"
+printf '\x1f\x8b\x08' >LOG.gz
+runs 7 "$zelkuma" check LOG.gz
+has err "^zelkuma: 'LOG.gz' is compressed: gunzip it first"
+runs 7 "$zelkuma" check 2K
+has err "^zelkuma: '2K' is no log that 'zelkuma record' saved"
+records ELF LOG BOOK
+head -c 200 LOG >part
+runs 7 "$zelkuma" check part
+has err "^zelkuma: LOG is damaged: copy it anew"
+records --format 2 ELF LOG BOOK
+head -c 200 LOG >part
+runs 7 "$zelkuma" check -- part
+has err "'zelkuma salvage LOG NEW' may save its end"
+
+what="advice on memory, intervals and races"
+runs 9 bash -c 'ulimit -v 100000; exec "$0" "$@"' "$zelkuma" record --seed 1 --log-size 256M ELF LOG BOOK
+has err "^zelkuma: give a smaller --limit or --log-size.*turn$"
+runs 9 bash -c 'ulimit -v 100000; exec "$0" "$@"' "$zelkuma" record --log-size 256M ELF LOG BOOK
+has err "^zelkuma: .*--limit.*--seed N"
+records ELF LOG BOOK
+runs 14 "$zelkuma" replay LOG ELF 0 99
+says "bugnet: no interval 0 99" "zelkuma: 'zelkuma list LOG' tells the intervals that LOG holds"
+runs 11 "$zelkuma" record --seed 1 --harts 2 --limit 200 ELF LOG BOOK
+runs 20 "$zelkuma" races LOG ELF 1
+has err "^zelkuma: give a greater MAX, up to 1000000"
+runs 0 "$zelkuma" demo 7
+[ ! -s "$work/err" ] || fails "err isn't empty"
+
+what="a reader who ends early"
+records ELF LOG BOOK
+runs 13 bash -c '"$0" replay LOG ELF 0 0 | read -r; exit "${PIPESTATUS[0]}"' "$zelkuma"
+says "bugnet: write failed" "zelkuma: the reader of the pipe ended early, as head does; a file, tail or awk takes all of it"
+runs 13 bash -c '"$0" replay LOG ELF 0 0 2>&1 | read -r; exit "${PIPESTATUS[0]}"' "$zelkuma"
+runs 14 bash -c '"$0" replay LOG ELF 0 99 2> >(exit)' "$zelkuma"
+runs 13 bash -c '"$0" list LOG >/dev/full' "$zelkuma"
+says "bugnet: write failed" "zelkuma: out or err takes no more: is the disk full?"
+runs 12 bash -c '"$0" debug LOG ELF <&-' "$zelkuma"
+says "bugnet: read failed"
+
+what="a log that has no interval"
+small="--seed 1 --harts 8 --limit 3000 --log-size 16K --interval 10000000 --sets 1 --ways 1 --line 1"
+# shellcheck disable=SC2086
+runs 11 "$zelkuma" record $small ELF LOG BOOK
+has err "^zelkuma: note: LOG doesn't hold any interval; recorded with --format 2 it does"
+# shellcheck disable=SC2086
+runs 11 "$zelkuma" record $small --format 2 ELF LOG BOOK
+hasnt err zelkuma
+runs 0 "$zelkuma" list LOG
+[ -s "$work/out" ] || fails "the log has no interval"
+runs 10 "$zelkuma" record --seed 1 "$top/examples/wild_store.elf" LOG BOOK
+hasnt err zelkuma
+
+ends

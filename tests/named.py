@@ -1,0 +1,224 @@
+#!/usr/bin/env python3
+"""Checks that each mutant which must be refused still has what refuses it.
+
+tests/named.py
+
+A mutant is a wrong body of one function. A must-fail edit writes it, and the prover has to refuse it; if
+no contract can see the fault, a test has to. This list has the mutants whose refusal shows most of what
+is promised. It fails if an edit is gone or no longer fits its file, or if a test is gone.
+
+The edits themselves are tried by the merge gate, which also runs the tests.
+"""
+import os
+import re
+import sys
+
+TOP = os.path.dirname(os.path.dirname(os.path.realpath(__file__)))
+
+
+def edit(crate, name):
+    return ("edit", crate, name)
+
+
+def case(crate, beginning):
+    """Names a case of a crate's script by the beginning of its headline."""
+    return ("case", crate, beginning)
+
+
+def function(file, name):
+    return ("function", file, name)
+
+
+MUTANTS = [
+    # Which loads are logged.
+    (
+        "Another hart's store, or a read call, leaves the lines of its words in the caches.",
+        edit("run_model", "a_write_leaves_the_others_lines"),
+    ),
+    (
+        "Such a write clears the bit of one word and not those of the whole line.",
+        edit("first_load_bits", "a_dropped_line_keeps_bits"),
+    ),
+    (
+        "A line that is written by another hart stays in the second level.",
+        edit("first_load_bits", "written_line_left_below"),
+    ),
+    ("Every load is logged.", edit("run_model", "each_loading_access_is_logged")),
+    ("A byte store to a cold word is not logged.", edit("run_model", "a_byte_store_loads_nothing")),
+    (
+        "A guard ends the interval and leaves the bits of its hart's cache set.",
+        edit("run_model", "the_guard_clears_the_bits_of_hart_0"),
+    ),
+    # The machine and its bus.
+    ("A store is answered, and writes nothing.", edit("run_model", "a_store_writes_nothing")),
+    ("The answer to a load is made up.", edit("bus_core", "each_ask_is_answered_with_word_0")),
+    (
+        "The End of a hart that another one stopped counts instructions past its last answered ask.",
+        edit("run_model", "a_stopped_hart_counts_one_more"),
+    ),
+    # Edges.
+    (
+        "An Edge brings the present times of its source's hart, and not those of its source.",
+        edit("race_log", "present_times"),
+    ),
+    (
+        "The ring gives up Edges into an interval whose Header is given up.",
+        edit("log_record", "edges_are_given_up_first"),
+    ),
+    (
+        "A joint replay passes over Edges into an interval whose Header is given up.",
+        edit("joint_replay", "edges_into_dropped_intervals_are_given_up"),
+    ),
+    ("A joint replay takes the harts in turn and ignores Edges.", edit("joint_replay", "an_edge_holds_nothing_back")),
+    # The log.
+    ("A full ring gives up half of its records.", edit("log_record", "half_of_the_records_is_given_up")),
+    ("A log with bytes appended is read.", edit("log_file", "appended_bytes_are_taken")),
+    ("A log is read without a look at its digest.", edit("log_file", "the_digest_is_skipped")),
+    (
+        "A salvage keeps a block that is nearer the front than a damaged one.",
+        edit("log_blocks", "salvage_goes_on_past_a_damaged_block"),
+        case("program_cases", "of a damaged log of version 2 the blocks behind the last bad one are salvaged"),
+    ),
+    # Replay and the debugger.
+    ("A replay takes each store-conditional for a success.", edit("hart_replay", "each_conditional_succeeds")),
+    (
+        "A step back forgets that a read call made words unknown.",
+        edit("back_step", "a_read_call_is_not_taken_again"),
+        edit("joint_replay", "words_of_a_read_call_are_kept"),
+    ),
+    (
+        "A session of the debugger reads on after the command that ends it.",
+        edit("step_debugger", "a_session_reads_on_behind_quit"),
+    ),
+    # Harts in threads.
+    (
+        "The rows of the threads are not compared with what each hart did.",
+        edit("hart_worker", "nothing_is_compared_after_the_joins"),
+    ),
+    (
+        "The threads may have begun with another program or other settings.",
+        edit("hart_worker", "no_start_is_compared_after_the_joins"),
+    ),
+    (
+        "The harts run one after another, or hold the lock of the bus while they wait at their gate.",
+        function("thread_tests/src/threads.rt", "harts_meet_before_their_first_turns"),
+        case("program_cases", "they meet before their first turns"),
+        case("program_cases", "sixteen harts meet before their first turns"),
+    ),
+    (
+        "The threads stop early, or their run is given up and one with chosen turns is made in its place.",
+        function("thread_tests/src/threads.rt", "harts_take_their_turns_in_a_lists_order"),
+        function("thread_tests/src/threads.rt", "the_list_that_is_given_is_that_order"),
+        case("program_cases", "harts that run in threads leave the log of their list of turns"),
+        case("program_cases", "four harts of a generated program in threads take the turns of a list"),
+    ),
+    # Races and slices.
+    ("A race report lists every conflict.", edit("race_report", "every_conflict_is_a_race")),
+    ("A race report takes a plain store for a synchronisation.", edit("race_report", "a_plain_access_synchronises")),
+    ("A slice has all rows before its own.", edit("slice_back", "all_earlier_rows_are_in_the_slice")),
+    (
+        "A slice leaves out the word that a byte is stored into.",
+        edit("slice_back", "the_word_under_a_byte_is_passed_over"),
+    ),
+    (
+        "A slice takes a store for the source of a load, though a FirstLoad of the word came between.",
+        edit("slice_back", "a_store_is_the_source_of_a_later_first_load"),
+    ),
+    # Refusals without their cause, by status.
+    (
+        "Each command line is refused (2).",
+        edit("bugnet", "each_command_ends_as_refused_words"),
+        edit("command_words", "taken_line_refused"),
+    ),
+    (
+        "A missing file is told as a failure of the store, and a failure as a missing file (3, 4).",
+        edit("bugnet", "a_missing_file_and_a_failed_load_are_exchanged"),
+    ),
+    ("A command loads another name than its line gives (4).", edit("bugnet", "a_replay_loads_the_log_as_its_program")),
+    ("Each file is loaded with a limit of 0 bytes (5).", edit("bugnet", "loads_with_limit_0")),
+    ("Each program file is refused (6).", edit("elf_loader", "the_entry_of_each_program_is_outside")),
+    ("Each log is refused by its digest (7).", edit("log_file", "each_digest_differs")),
+    ("Each program is taken for another than the log's (8).", edit("bugnet", "each_program_differs")),
+    (
+        "Each command ends out of memory (9). Contracts let any allocation fail.",
+        case("program_cases", "a recording saves its log and its turns"),
+    ),
+    (
+        "A recording that ends in a fault says that it met the limit, and the other way round (10, 11).",
+        edit("bugnet", "a_fault_and_a_limit_are_exchanged"),
+    ),
+    (
+        "Each session of the debugger ends with a failed read (12).",
+        edit("bugnet", "each_session_ends_as_a_failed_read"),
+    ),
+    (
+        "Each answer of the debugger ends with a failed write (13).",
+        edit("step_debugger", "each_answer_is_told_as_unwritten"),
+    ),
+    ("No interval is found in a log (14).", edit("hart_replay", "no_interval_is_found")),
+    ("Each replay ends with records left (15).", edit("hart_replay", "records_are_left_of_each_interval")),
+    ("Each log is taken for another than the list's (16).", edit("run_model", "each_log_differs")),
+    ("The first turn of each list is refused (17).", edit("run_model", "the_first_turn_is_illegal")),
+    ("Each line of the debugger's commands is too long (18).", edit("step_debugger", "each_line_is_too_long")),
+    ("Nothing is left of any log that is salvaged (19).", edit("log_blocks", "nothing_is_left_of_any_log")),
+    ("Each report has too many races (20).", edit("race_report", "each_list_is_too_long")),
+    ("No row of a slice is found (21).", edit("slice_back", "no_row_is_found")),
+]
+
+
+def read(path):
+    """Returns the text of a file of a crate; None if there is none."""
+    try:
+        with open(f"{TOP}/crates/{path}", encoding="utf-8") as file:
+            return file.read()
+    except FileNotFoundError:
+        return None
+
+
+def edit_fault(crate, name):
+    """Says what is wrong with an edit: None if it is there and fits its file."""
+    text = read(f"{crate}/must-fail/{name}.edit")
+    if text is None:
+        return "is gone"
+    changed = None
+    pairs = 0
+    for line in text.splitlines():
+        if line.startswith("file: "):
+            changed = read(f"{crate}/{line[len('file: '):]}")
+        elif line.startswith("old: "):
+            pairs += 1
+            if changed is None or changed.count(line[len("old: ") :]) != 1:
+                return f"does not fit its file, which must have this text exactly once: {line}"
+    return None if pairs else "changes nothing"
+
+
+def case_fault(crate, beginning):
+    lines = (read(f"{crate}/stdin") or "").splitlines()
+    there = sum(line.startswith(f"# {beginning}") for line in lines)
+    return None if there == 1 else f"stands {there} times"
+
+
+def function_fault(file, name):
+    found = re.search(rf"^#\[test\]\nfn {name}\(", read(file) or "", re.M)
+    return None if found else "is gone"
+
+
+FAULTS = {"edit": edit_fault, "case": case_fault, "function": function_fault}
+PLACES = {"edit": "crates/{}/must-fail/{}.edit", "case": "crates/{}/stdin: {}", "function": "crates/{}: {}"}
+
+
+def main():
+    passed = failed = 0
+    for mutant, *refusers in MUTANTS:
+        for kind, place, name in refusers:
+            fault = FAULTS[kind](place, name)
+            if fault is None:
+                passed += 1
+                continue
+            failed += 1
+            print(f"tests/named.py: {mutant} {PLACES[kind].format(place, name)} {fault}")
+    print(f"{passed} passed, {failed} failed")
+    return 1 if failed else 0
+
+
+sys.exit(main())

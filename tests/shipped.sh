@@ -1,0 +1,164 @@
+#!/usr/bin/env bash
+# Tries when the script zelkuma runs the shipped program, and how that is made and compared: tests/shipped.sh
+# It takes half a minute, and needs no toolchain.
+. "$(dirname "$0")/small_tree.sh"
+
+shipped=$tree/release/zelkuma-x86_64-linux
+stamp=$tree/release/STAMP
+built=$tree/crates/bugnet_main/out/bugnet_main
+mkdir -p "$tree/crates/bugnet_main/data"
+
+
+# A choice is kept once no file has changed for two seconds.
+settle() {
+    runs 5 "$zelkuma" list LOG
+    sleep 3
+    runs 5 "$zelkuma" list LOG
+    [ -e "$tree/crates/bugnet_main/out/seen.any" ] || fails "no choice is kept"
+}
+
+# Whether a call compares contents.
+compares() {
+    : >"$TRACE"
+    runs 5 env BASH_ENV="$work/traced" "$zelkuma" list LOG
+    grep -q choose_program "$TRACE" || fails "there is no trace of the call"
+    grep -q compare_contents "$TRACE"
+}
+export TRACE=$work/trace
+echo 'exec 7>>"$TRACE"; BASH_XTRACEFD=7; set -x' >"$work/traced"
+
+what="nothing is shipped"
+runs 5 "$zelkuma" list LOG
+has err "there is no shipped program in release/"
+builds
+runs 1 "$tree/tests/release.sh"
+has err "there is no shipped program in release/; tools/release.sh renews release/"
+runs 5 "$zelkuma" list LOG
+builds_nothing
+
+what="the program is shipped"
+runs 2 "$tree/tools/release.sh" a
+runs 0 "$tree/tools/release.sh"
+cmp -s "$shipped" "$built" || fails "it isn't the program that was built"
+[ -x "$shipped" ] || fails "it can't be executed"
+grep -qx "kit rattle-kit-13f logic 0" "$stamp" || fails "the stamp has no kit"
+runs 0 "$tree/tests/release.sh"
+has out "is the one that was built, byte for byte"
+
+what="a clone, on a machine with the tools that each has"
+rm -r "$tree/crates/bugnet_main/out"
+mkdir "$work/few"
+for name in awk bash cat cut dirname env find mkdir od readlink sha256sum sort stat tr xargs; do
+    ln -s "$(type -P "$name")" "$work/few/$name"
+done
+path=$work/few runs 5 "$zelkuma" list LOG
+answers list LOG
+builds_nothing
+[ ! -s "$work/err" ] || fails "err isn't empty"
+path=$without runs 0 "$zelkuma" install "$work/copy"
+cmp -s "$work/copy" "$shipped" || fails "it installs another program"
+
+what="a choice that is kept"
+settle
+! compares || fails "contents are compared"
+answers list LOG
+
+what="a file that was written again, with its time"
+cp -p "$source" "$work/kept"
+echo "mid as it wos" >"$source"
+touch -r "$work/kept" "$source"
+compares || fails "contents aren't compared"
+has err "the sources have changed since release/ was made"
+cp -p "$work/kept" "$source"
+path=$without runs 5 "$zelkuma" list LOG
+[ ! -s "$work/err" ] || fails "err isn't empty"
+
+what="a file more, and one in another's place"
+settle
+echo more >"$tree/crates/low/src/more.rt"
+compares || fails "contents aren't compared"
+rm "$tree/crates/low/src/more.rt"
+settle
+cp -p "$source" "$source.new"
+mv "$source.new" "$source"
+compares || fails "contents aren't compared"
+answers list LOG
+
+what="a choice that was just made"
+rm "$tree/crates/bugnet_main/out/"seen.*
+touch "$source"
+runs 5 "$zelkuma" list LOG
+[ ! -e "$tree/crates/bugnet_main/out/seen.any" ] || fails "it is kept, though a file has just changed"
+
+what="a tree that can't be written to"
+rm -r "$tree/crates/bugnet_main/out"
+touch "$tree/crates/bugnet_main/out" # (so that there can be no folder, also for root)
+path=$without runs 5 "$zelkuma" list LOG
+answers list LOG
+[ ! -s "$work/err" ] || fails "err isn't empty"
+rm "$tree/crates/bugnet_main/out"
+
+what="a shipped program that was changed"
+settle
+cp -p "$shipped" "$work/kept"
+echo "# changed" >>"$shipped"
+runs 5 "$zelkuma" list LOG
+has err "release/zelkuma-x86_64-linux isn't the file that its stamp says"
+builds
+runs 1 "$tree/tests/release.sh"
+has err "isn't the file that its stamp says; tools/release.sh renews release/"
+cp -p "$work/kept" "$shipped"
+chmod -x "$shipped"
+runs 1 "$zelkuma" list LOG
+has err "can't be executed"
+chmod +x "$shipped"
+
+what="another machine"
+runs 1 env HOSTTYPE=aarch64 "$zelkuma" list LOG
+has err "the program runs on Linux on x86-64"
+
+what="the sources are to be proved"
+rm -r "$tree/crates/bugnet_main/out"
+ZELKUMA_PROVE=1 runs 5 "$zelkuma" list LOG
+builds
+has err "what was built is the shipped program, byte for byte"
+ZELKUMA_PROVE=1 runs 5 "$zelkuma" list LOG
+builds_nothing
+runs 0 "$zelkuma" build
+[ "$(cat "$work/out")" = "$built" ] || fails "it says another place"
+has err "what was built is the shipped program, byte for byte"
+echo "changed" >"$source"
+runs 0 "$zelkuma" build
+builds
+has err "what was built is not the shipped program"
+
+what="the gate, after a change"
+runs 1 "$tree/tests/release.sh"
+has err "the sources have changed since release/ was made; tools/release.sh renews release/"
+rm "$tree/crates/bugnet_main/out/zelkuma.stamp" # as the gate leaves it
+runs 0 "$tree/tools/release.sh"
+runs 0 "$tree/tests/release.sh"
+runs 5 "$zelkuma" list LOG
+builds_nothing
+
+what="another program by the same kit"
+echo "# another" >>"$built"
+runs 1 "$tree/tests/release.sh"
+has err "the shipped program is not the one that was built; tools/release.sh renews release/"
+
+what="another kit"
+echo "rattle-kit-99 logic 0" >"$work/kit/named"
+runs 0 "$tree/tests/release.sh"
+has out "not compared: the shipped program was made by rattle-kit-13f logic 0, and rattle-kit-99 logic 0 is here"
+path=$without runs 1 "$tree/tests/release.sh"
+
+what="a program that is older than a source"
+touch -d '1 hour ago' "$built"
+runs 1 "$tree/tools/release.sh"
+has err "the sources have changed since the program was built"
+rm "$built"
+runs 1 "$tree/tools/release.sh"
+has err "there is no program"
+path=$without runs 5 "$zelkuma" list LOG
+
+ends

@@ -1,0 +1,8 @@
+# What the scripts have to say: a line on err, behind the name of the script.
+
+say() { echo "${name:-zelkuma}: $*" >&2; }
+
+stop() { # STATUS TEXT
+    say "$2"
+    exit "$1"
+}

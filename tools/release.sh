@@ -1,0 +1,27 @@
+#!/usr/bin/env bash
+# Ships the program that was built from these sources, by `./zelkuma build` or by the gate: release/ gets a copy of it
+# and a stamp that says what it was made from. tools/release.sh
+set -u
+top=$(cd "$(dirname "$0")/.." && pwd)
+
+name=tools/release.sh
+. "$top/tools/launcher/say.sh"
+. "$top/tools/launcher/program.sh"
+
+# The gate leaves no stamp, so after it the times tell whether a file has changed since.
+is_of_these_sources() { # SOURCES
+    is_fresh "$1" && return
+    shopt -s nullglob
+    [ -z "$(find "$top/crates.txt" "$top"/crates/*/{src,specs,proofs} -type f -newer "$built" -print -quit)" ]
+}
+
+[ $# -eq 0 ] || stop 2 "it takes no word"
+[ -x "$built" ] || stop 1 "there is no program ${built#"$top/"}: './zelkuma build' makes it"
+kit=$(kit) || stop 1 "there is no command rt here, so it isn't known by which kit the program was built"
+sources=$(sources)
+is_of_these_sources "$sources" || stop 1 "the sources have changed since the program was built: './zelkuma build' renews it"
+"$built" check "$folder/data/example.log" >&2 || stop 1 "the program that was built doesn't check $folder/data/example.log"
+mkdir -p "$top/release" &&
+    install -m 755 -- "$built" "$shipped" &&
+    made "$sources" "$kit" "$shipped" >"$shipped_stamp" || stop 3 "release/ can't be written"
+cat "$shipped_stamp"
