@@ -21,7 +21,7 @@ static const unsigned tables[FILTERS][TAPS] = {
     {8, 7, 6, 5, 4, 3, 2, 1},
     {1, 0, 2, 0, 4, 0, 8, 0},
 };
-static struct filter pool[FILTERS + 4];     /* one for each that is installed, and one for each hart that still holds one */
+static struct filter pool[FILTERS + 4];     /* more than four harts can hold at once */
 static struct filter *free_filters;
 static struct filter *current;
 static unsigned pool_lock;
