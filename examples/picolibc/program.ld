@@ -16,7 +16,7 @@ SECTIONS
     __global_pointer$ = . + 0x800;
     .sdata : { *(.sdata .sdata.*) }
     . = ALIGN(16);
-    .tdata : { __tdata_start = .; *(.tdata .tdata.*) . = ALIGN(4); }
+    .tdata : { __tdata_start = .; *(.tdata .tdata.*) . = ALIGN(16); }
     /* Thread-local variables that begin as 0. The linker gives .tbss no room of its own, so .bss begins with as much. */
     .tbss : { __tbss_start = .; *(.tbss .tbss.*) . = ALIGN(4); }
     .bss : { . += SIZEOF(.tbss); *(.sbss .sbss.* .bss .bss.* COMMON) . = ALIGN(16); __bss_end = .; }
