@@ -4,7 +4,7 @@
 set -u
 top=$(cd "$(dirname "$0")/.." && pwd)
 
-name=tests/release.sh
+name=tests/release.sh cpu=
 . "$top/tools/launcher/say.sh"
 . "$top/tools/launcher/program.sh"
 renew="tools/release.sh renews release/"

@@ -166,7 +166,7 @@ build() {
     jobs=$(($(nproc) < ZELKUMA_LANES ? $(nproc) : ZELKUMA_LANES))
     prove "$jobs"
     # That the program checks an example's log tells that it was built: rt ends with its status.
-    rt_does bugnet_main run --jobs "$jobs" -- check data/example.log
+    rt_does bugnet_main run --jobs "$jobs" ${cpu:+"--cpu=$cpu"} -- check data/example.log
     ends bugnet_main
     trap - INT TERM HUP
     made "$sources" "$kit" "$built" >"$stamp"

@@ -32,11 +32,13 @@ sources() (
     } | sha256sum | cut -d ' ' -f 1
 )
 
-# The toolchain that is here, as `rt version` says it; a kit has that in a file too, which is faster.
+# The toolchain that is here, as `rt version` says it, and for which processors it is to build; a kit has the first in a
+# file too, which is faster.
 kit() {
-    local rt
+    local rt id
     rt=$(command -v rt) || return
-    cat "$(dirname "$(readlink -f "$rt")")/../KIT-ID" 2>/dev/null || rt version
+    id=$(cat "$(dirname "$(readlink -f "$rt")")/../KIT-ID" 2>/dev/null || rt version) || return
+    echo "$id${cpu:+ for $cpu}"
 }
 
 # What a program was made from, as a stamp says it. Times would not do: a file that was written again may have the
@@ -159,7 +161,9 @@ choose_program() { # KIND
 
 # Says whether the program that was built is the shipped one.
 compare_with_shipped() {
-    if [ ! -f "$shipped" ]; then
+    if [ -n "${cpu-}" ]; then
+        say "it was built for $cpu, and isn't the shipped program"
+    elif [ ! -f "$shipped" ]; then
         say "there is no shipped program in release/ to compare with"
     elif [ "$(sha256sum <"$built")" = "$(sha256sum <"$shipped")" ]; then
         say "what was built is the shipped program, byte for byte"
