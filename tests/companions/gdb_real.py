@@ -24,7 +24,7 @@ from reference import run
 GDB, COMPILER = "gdb-multiarch", "riscv64-unknown-elf-gcc"
 SESSIONS = os.path.join(os.path.dirname(os.path.abspath(__file__)), "gdb", "sessions")
 SETTINGS = ["set pagination off", "set confirm off", "set width 0", "set debuginfod enabled off",
-            "set architecture riscv:rv32"]
+            "set architecture riscv:rv32", "set remotetimeout 60"]
 SIGNALS = {4: "SIGILL", 5: "SIGTRAP", 10: "SIGBUS", 11: "SIGSEGV"}
 FLAGS = ("-march=rv32ima -mabi=ilp32 -mstrict-align -g -ffreestanding -fno-pic -nostdlib -static "
          "-fno-tree-loop-distribute-patterns -z max-page-size=4096 -Wl,--build-id=none").split()

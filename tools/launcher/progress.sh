@@ -26,9 +26,10 @@ show_progress() { # WHAT
     trap '' INT
     LC_ALL=C
     IFS= read -r process
+    # (the byte may come in the moment in which the time is over)
     while
         IFS= read -r -d '' -t "$wait" -N 1 byte
-        [ $? -gt 128 ]
+        [[ $? -gt 128 && -z $byte ]]
     do
         wait=1
         is_in_front || continue
