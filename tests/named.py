@@ -51,7 +51,7 @@ MUTANTS = [
     ),
     # The machine and its bus.
     ("A store is answered, and writes nothing.", edit("run_model", "a_store_writes_nothing")),
-    ("The answer to a load is made up.", edit("bus_core", "each_ask_is_answered_with_word_0")),
+    ("The answer to a load is made up.", edit("bus_core", "a_load_answers_another_word")),
     (
         "The End of a hart that another one stopped counts instructions past its last answered ask.",
         edit("run_model", "a_stopped_hart_counts_one_more"),
