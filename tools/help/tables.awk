@@ -5,15 +5,16 @@ BEGIN {
     FS = "\t"
     if (form == "words") row(head, "what it does", "", "")
     if (form == "options") row("option", "what it sets", "range", "without it")
-    if (form == "statuses") row("status", "line on err, after `bugnet: `", "cause", "what to do")
-    columns = form == "words" ? 2 : 4
+    if (form == "statuses") row("status", "line on err, after `bugnet: `", "cause, and what to do", "")
+    columns = form == "words" ? 2 : form == "statuses" ? 3 : 4
     while (columns-- > 0) rule = rule "|---"
     print rule "|"
 }
 
 function row(first, second, third, fourth,    line) {
     line = "| " first " | " second " |"
-    if (form != "words") line = line " " third " | " fourth " |"
+    if (form != "words") line = line " " third " |"
+    if (form == "options") line = line " " fourth " |"
     gsub(/  \|/, " |", line)
     print line
 }
@@ -25,9 +26,12 @@ function code(entry) {
     return "`" entry "`"
 }
 
+# A remedy follows the cause as a sentence.
+function capital(text) { return toupper(substr(text, 1, 1)) substr(text, 2) }
+
 # A row of a status is known to be whole once another begins.
 function give_status() {
-    if (begun) row(status, line, cause, remedy)
+    if (begun) row(status, line, remedy ? cause ". " capital(remedy) : cause, "")
     begun = 0
     cause = remedy = ""
 }
