@@ -3,10 +3,9 @@
 
 tests/documents.py [--write] PROGRAM DOCUMENT..
 
-An example has one of two forms. The first can be pasted: a block ```sh has commands, and a block ```text right
-after it what out and err have to get from them; without such a block that is nothing. The second is a block without
-a word whose first line begins with '$ '. Each line '$ WORDS' is given to a bash, with the lines '> WORDS' behind it;
-the lines up to the next one are what out and err have to get.
+An example can be pasted: a block ```sh has commands, and a block ```text right after it what out and err have to get
+from them; without such a block that is nothing. A block whose first line begins with a prompt ('$ ') can't be pasted,
+and is refused.
 
 All examples of a document run in one bash, one after another, in a folder with examples/, tests/crashes/, LICENSE and
 ./zelkuma, which runs PROGRAM as an installed one does, and with another folder for /tmp/. A line '...' stands for any
@@ -44,23 +43,8 @@ def is_run(before, name):
     return not before.endswith("<!-- not run -->")
 
 
-def session_steps(block):
-    """The steps of a block in which commands begin with '$ '."""
-    steps, at = [], block.start(2)
-    for line in block[2].splitlines(True):
-        at += len(line)
-        if line.startswith("$ "):
-            steps.append(Step(line[2:], "", at))
-        elif line.startswith("> ") and not steps[-1].wanted:
-            steps[-1].command += line[2:]
-            steps[-1].start = at
-        else:
-            steps[-1].wanted += line
-    return steps
-
-
-def pasted_step(block, text):
-    """The step of a block that can be pasted."""
+def step_of(block, text):
+    """The step of a block of commands."""
     printed = re.compile(r"\n```text\n(.*?)^```$", re.M | re.S).match(text, block.end() + 1)
     if printed:
         return Step(block[2], printed[1], printed.start(1))
@@ -72,10 +56,16 @@ def examples_in(name, text):
     steps = []
     for block in re.finditer(r"^```(\w*)\n(.*?)^```$", text, re.M | re.S):
         if block[1] == "sh" and is_run(text[: block.start()], name):
-            steps.append(pasted_step(block, text))
-        elif not block[1] and block[2].startswith("$ ") and is_run(text[: block.start()], name):
-            steps += session_steps(block)
+            steps.append(step_of(block, text))
     return steps
+
+
+def prompts_in(name, text):
+    """Says which blocks begin with a prompt, and returns how many."""
+    prompts = list(re.finditer(r"^```\w*\n[$>] ", text, re.M))
+    for it in prompts:
+        print(f"{name}: a block that can't be pasted: line {text.count(chr(10), 0, it.end()) + 1}")
+    return len(prompts)
 
 
 def printed_by(commands, program, room):
@@ -107,7 +97,7 @@ def try_document(name, program, writes):
     with tempfile.TemporaryDirectory() as room:
         printed = printed_by([it.command for it in steps], os.path.realpath(program), room)
     printed += ["(nothing: the examples before ended the shell)\n"] * (len(steps) - len(printed))
-    failed, made, kept = 0, "", 0
+    failed, made, kept = prompts_in(name, text), "", 0
     for step, got in zip(steps, printed):
         is_well = fits(step.wanted, got)
         made += text[kept : step.start] + (step.wanted if is_well else step.text_of(got))
@@ -118,7 +108,7 @@ def try_document(name, program, writes):
     if writes:
         with open(name, "w", encoding="utf-8") as it:
             it.write(made + text[kept:])
-    print(f"{name}: {len(steps)} commands, {failed} print something else")
+    print(f"{name}: {len(steps)} examples, {failed} fail")
     return failed
 
 

@@ -51,7 +51,7 @@ tries tests/carry.sh "$program"
 tries tests/joined.py
 tries tests/read_log.sh "$program"
 tries tests/limits.sh "$program"
-tries tests/documents.py "$program" README.md examples/README.md docs/COMMANDS.md docs/RECIPES.md docs/GUIDE.md
+tries tests/documents.py "$program" README.md examples/README.md docs/COMMANDS.md tests/examples.md
 tries tests/named.py
 tries tests/companions.sh "$program"
 wait
