@@ -31,7 +31,7 @@ tell() {
             failed=$((failed + 1))
         fi
     done
-    echo "not shown: the proofs, the wrong bodies that have to be refused, the tests and cases in Rattle ('rt ci')," \
+    echo "not shown: the proofs, the mutants that have to be refused, the tests and cases in Rattle ('rt ci')," \
         "and that the shipped program is what these sources give ('tests/release.sh', after a build)"
     echo "$((${#scripts[@]} - failed)) passed, $failed failed"
     [ "$failed" -eq 0 ]
