@@ -27,8 +27,8 @@ use Rattle.bugnet.specs.declared.names.Role.TheVariants as role
 use Rattle.bugnet.specs.declared.refusal.Refusal.{Refusal}
 use Rattle.bugnet.specs.declared.refusal.Refusal.TheVariants as why
 use Rattle.bugnet.specs.declared.answer.Answer.{Answer}
-use Rattle.bugnet.specs.declared.answer.Reading.{Reading}
-use Rattle.bugnet.specs.declared.answer.Recording.{Recording}
+use Rattle.bugnet.specs.declared.answer.IntervalToReplay.{IntervalToReplay}
+use Rattle.bugnet.specs.declared.answer.RunToTell.{RunToTell}
 use Rattle.bugnet.specs.declared.answer.NewLog.{NewLog}
 use Rattle.bugnet.specs.declared.answer.Answer.TheVariants.{Recorded, Interval, Joined, Listed, Checked, Agreed, Renewed, Shown, Halted}
 
@@ -59,16 +59,16 @@ ProgramTells bytes c (Err refusal) = (refusal ≡ why.OutOfMemory) ⊎ ((e : Elf
 -- ---- what is answered
 
 -- the list of turns that a recording has
-abbrev pub list_in : Recording → Option (List ℕ)
+abbrev pub list_in : RunToTell → Option (List ℕ)
 list_in r = option_map (λ (list : Vec ℕ Global). list.items) r.book
 
-abbrev pub saved_of : Recording → Saved
+abbrev pub saved_of : RunToTell → Saved
 saved_of r = record { log = r.log.items; book = list_in r }
 
-abbrev pub told_of_recording : Recording → Told
+abbrev pub told_of_recording : RunToTell → Told
 told_of_recording r = record { status = end_status r.end; out = r.out.items; err = r.err.items; saved = Some (saved_of r) }
 
-abbrev pub told_of_reading : FileNames → Reading → Told
+abbrev pub told_of_reading : FileNames → IntervalToReplay → Told
 told_of_reading names r = replay_with names r.hart r.interval r.log r.image
 
 -- a log file alone is saved

@@ -11,7 +11,7 @@ use Rattle.step_debugger.specs.Commands.{command_of}
 use Rattle.step_debugger.specs.Lines.{Input, input_of}
 use Rattle.step_debugger.specs.Transcript.{transcript}
 use Rattle.step_debugger.specs.Transcript.{Told as Transcript}
-use Rattle.step_debugger.specs.declared.command.Command.TheVariants.{Quit}
+use Rattle.step_debugger.specs.declared.command.DebugCommand.TheVariants.{Quit}
 use Rattle.step_debugger.specs.declared.error.DebugError.{DebugError}
 use Rattle.step_debugger.specs.declared.error.DebugError.TheVariants.{ReadFault, WriteFault, TooMuch}
 use Rattle.step_debugger.specs.declared.error.DebugError.TheVariants as stop

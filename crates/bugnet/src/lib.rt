@@ -28,7 +28,7 @@ mod slicing;
 mod texts;
 mod versions;
 
-pub use answer::{Answer, NewLog, Reading, Recording, RunEnd};
+pub use answer::{Answer, NewLog, IntervalToReplay, RunToTell, RunEnd};
 pub use laws::{
     audits_agree, crashes_are_shown, each_can_be_done, each_has_an_answer,
     files_keep_to_their_size, headline, joint_headline, one_answer, one_session, races_are_told,
@@ -39,7 +39,7 @@ pub use laws::{
 pub use manner::Manner;
 pub use names::{Names, Role};
 pub use pairs::JointReading;
-pub use printing::Ending;
+pub use printing::ReplayEnd;
 pub use program::run;
 pub use refusal::Refusal;
 pub use texts::RunCounts;

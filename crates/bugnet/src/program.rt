@@ -35,7 +35,7 @@ use crate::refusal::Refusal;
 use crate::renewing::{convert_files, salvage_files};
 use crate::slicing::slice_files;
 use bn_outside::{Gate, Sink, Source, Store};
-use command_words::{Command, Recording, WordsError, read_words};
+use command_words::{Command, RecordOptions, WordsError, read_words};
 use file_laws::logs_are_contents;
 use log_blocks::laws::saved_files_keep_to_the_limit;
 use log_blocks::readings::{files_are_read, readings_are_unique};
@@ -81,7 +81,7 @@ fn names_of<'a>(command: &Command<'a>) -> Names<'a>
 }
 
 // How a recording is made.
-fn manner_of(recording: &Recording) -> Manner
+fn manner_of(recording: &RecordOptions) -> Manner
     ensures { result ≡ manner_of (seen_recording recording.now) }
 {
     Manner {

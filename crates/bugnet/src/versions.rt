@@ -11,7 +11,8 @@ ghost use Rattle.bugnet.specs.Audits.{version2_of, audit_file};
 use bn_outside::LeanBook;
 use hart_worker::{run_turns, whole_runs_have_no_error};
 use log_blocks::{is_second, write_file2};
-use log_record::{Head, Ring};
+use log_record::Head;
+use log_ring::Ring;
 use run_model::{Start, TurnError, Verdict, audit};
 use std::alloc::{AllocError, Global};
 

@@ -11,7 +11,7 @@ use Rattle.clap.specs.Kinds.{Kinds}
 use Rattle.bn_base.specs.declared.settings.RawSettings.{RawSettings}
 use Rattle.bn_base.specs.Ranges.{default_settings}
 use Rattle.command_words.specs.App.{bugnet_app}
-use Rattle.command_words.specs.declared.commands.Recording.{Recording}
+use Rattle.command_words.specs.declared.commands.RecordOptions.{RecordOptions}
 use Rattle.command_words.specs.declared.commands.Command.{Command}
 use Rattle.command_words.specs.declared.commands.Command.TheVariants as command
 
@@ -51,7 +51,7 @@ pub data Line : Type 0 where
   DemoLine : ℕ → Line
 
 -- what a contract sees of a recording: the texts behind its references
-abbrev pub seen_recording : Recording → RecordingLine
+abbrev pub seen_recording : RecordOptions → RecordingLine
 seen_recording r = record {
   settings = r.settings;
   seed = r.seed;

@@ -6,7 +6,7 @@ use Rattle.bn_base.specs.Ranges.{IsSetting}
 use Rattle.bn_base.specs.declared.settings.RawSettings.{RawSettings}
 use Rattle.bn_outside.specs.declared.turn_row.TurnRow.{TurnRow}
 use Rattle.log_record.specs.declared.head.Head.{Head}
-use Rattle.log_record.specs.Kept.{Held, HoldsLog}
+use Rattle.log_ring.specs.Kept.{Held, HoldsLog}
 use Rattle.log_order.specs.Order.{broken_by}
 use Rattle.log_order.specs.Content.{Content, IsContent}
 use Rattle.log_file.specs.Blocks.{Block, blocks_of}

@@ -2,7 +2,7 @@
 #![tactic(auto)]
 
 mod code;
-mod course;
+mod interval_cursor;
 mod directory;
 pub mod error;
 mod header;

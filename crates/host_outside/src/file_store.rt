@@ -5,7 +5,7 @@ ghost use Rattle.host_outside.specs.declared.loaded_files.FileId.{FileId as AnyF
 
 use crate::limits::most_bytes;
 use crate::loaded_files::{FileId, LoadedFiles, id_of};
-use crate::streams::Reading;
+use crate::streams::ReaderSource;
 use bn_outside::{LoadError, ReadError, SaveError, Store, read_to_end};
 use std::alloc::Global;
 use std::fs::{Files, OpenFile, OpenOptions};
@@ -118,7 +118,7 @@ fn read_file<F: Read + Drop>(
     ensures { IfOk result (λ bytes. vec_len bytes ≤ limit) }
 {
     let Opened { file, size, .. } = open;
-    match read_to_end(alloc, &mut Reading::new(file), size, limit) {
+    match read_to_end(alloc, &mut ReaderSource::new(file), size, limit) {
         Ok(bytes) => Ok(bytes),
         Err(ReadError::TooLong) => Err(LoadError::TooLong),
         Err(ReadError::Failed) => Err(LoadError::Failed),

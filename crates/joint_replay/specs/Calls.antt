@@ -9,7 +9,7 @@ use Rattle.joint_replay.specs.declared.error.JointError.{JointError}
 use Rattle.joint_replay.specs.declared.error.JointError.TheVariants as why
 use Rattle.joint_replay.specs.declared.kinds.Stepped.{Stepped}
 use Rattle.joint_replay.specs.declared.kinds.Stepped.TheVariants.{Passed, Did, Ended}
-use Rattle.joint_replay.specs.Lanes.{Course, Lane, Item, Passing, Doing, Ending, state_of}
+use Rattle.joint_replay.specs.Lanes.{Cursor, Lane, Item, Passing, Doing, Ending, state_of}
 use Rattle.joint_replay.specs.Joining.{Joining, Walk, error_of, next_step}
 use Rattle.joint_replay.specs.Orders.{IsBegun}
 
@@ -26,11 +26,11 @@ state_at j h = elim (slice_get j.lanes h) [ None ↦ None | Some lane ↦ state_
 -- ---- want of memory
 
 -- a hart, whatever is left of its replays
-abbrev pub bare_course : Course → Course
-bare_course c = record c { left = over Done }
+abbrev pub bare_cursor : Cursor → Cursor
+bare_cursor c = record c { left = over Done }
 
 abbrev pub bare : Lane → Lane
-bare lane = record lane { courses = map bare_course lane.courses }
+bare lane = record lane { cursors = map bare_cursor lane.cursors }
 
 -- memory was wanting: all is as before, but that the refusal is repeated, and a replay that found no memory does the same
 pub record IsHalted (old new : Joining) : Type 0 where

@@ -9,10 +9,10 @@ mod joint;
 mod kinds;
 mod lane;
 pub mod laws;
-mod memory;
+mod replay_memory;
 mod points;
 mod running;
-mod sources;
+mod incoming_edges;
 mod texts;
 
 pub use error::JointError;

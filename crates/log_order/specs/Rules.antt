@@ -3,7 +3,7 @@ use Rattle.std.specs.Prelude.{ℕ, ◌+◌, ◌^◌, max, Bool, true, false, not
 use Rattle.bn_base.specs.declared.end_mark.EndMark.{EndMark}
 use Rattle.log_record.specs.declared.record.Record.{Record}
 use Rattle.log_record.specs.declared.record.Record.TheVariants.{Header, FirstLoad, ScOk, ScFailed, Edge, End}
-use Rattle.log_order.specs.declared.view.Terms.{Terms}
+use Rattle.log_order.specs.declared.view.OrderLimits.{OrderLimits}
 use Rattle.log_order.specs.declared.view.Phase.{Phase}
 use Rattle.log_order.specs.declared.view.Phase.TheVariants.{Unknown, Awaiting, Open, Done}
 use Rattle.log_order.specs.declared.view.HartView.{HartView}
@@ -64,7 +64,7 @@ abbrev pub phase_after : Phase → EndMark → Phase
 phase_after phase mark = if goes_on mark.reason then Awaiting (next_number phase) mark.ic else Done
 
 -- the hart after its Header with this number and count, or the lowest rule that the Header breaks
-unfoldable pub after_header : Terms → HartView → ℕ → ℕ → Result HartView ℕ
+unfoldable pub after_header : OrderLimits → HartView → ℕ → ℕ → Result HartView ℕ
 after_header t v n ic =
     if not (takes_header v.phase) then Err 2 else
     if not (is_awaited v.phase n ic) then Err 4 else
@@ -74,7 +74,7 @@ after_header t v n ic =
     Ok (record { phase = Open (n + 1) ic; seen = v.seen; met = true; last = v.last })
 
 -- the hart after its Edge with this count and its source's
-unfoldable pub after_edge : Terms → HartView → ℕ → ℕ → Result HartView ℕ
+unfoldable pub after_edge : OrderLimits → HartView → ℕ → ℕ → Result HartView ℕ
 after_edge t v ic from_ic =
     if not (takes_other v.phase) then Err 3 else
     if nat_le t.limit ic then Err 5 else
@@ -84,7 +84,7 @@ after_edge t v ic from_ic =
     Ok (record { phase = v.phase; seen = max v.seen (ic + 1); met = true; last = v.last })
 
 -- the hart after its End; the count of one of reason limit (7) is the limit
-unfoldable pub after_end : Terms → HartView → EndMark → Result HartView ℕ
+unfoldable pub after_end : OrderLimits → HartView → EndMark → Result HartView ℕ
 after_end t v mark =
     if not (takes_other v.phase) then Err 3 else
     if nat_lt mark.ic v.seen then Err 5 else
@@ -100,7 +100,7 @@ after_other v =
     Ok (record { phase = v.phase; seen = v.seen; met = true; last = v.last })
 
 -- the hart after a record of its own, or the lowest rule that the record breaks
-abbrev pub after_one : Terms → HartView → Record → Result HartView ℕ
+abbrev pub after_one : OrderLimits → HartView → Record → Result HartView ℕ
 after_one t v (Header h n ic pc x) = after_header t v n ic
 after_one t v (FirstLoad h skip value) = after_other v
 after_one t v (ScOk h) = after_other v

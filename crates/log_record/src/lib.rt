@@ -3,14 +3,12 @@
 #![tactic(auto)]
 
 pub mod bytes;
-mod entry;
+mod stored_record;
 pub mod head;
-pub mod keeping;
 pub mod laws;
 pub mod list;
 pub mod reading;
 pub mod record;
-pub mod ring;
 pub mod writing;
 
 pub use bytes::Bytes;
@@ -18,5 +16,4 @@ pub use head::Head;
 pub use list::RecordList;
 pub use reading::{read, read_as, size};
 pub use record::Record;
-pub use ring::Ring;
 pub use writing::write;

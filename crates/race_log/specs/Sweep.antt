@@ -2,8 +2,8 @@
 use Rattle.std.specs.Prelude.{◌≡◌, ℕ, zero, suc, ◌+◌, ◌*◌, ◌==◌, nat_lt, Bool, true, not, ◌&&◌, List, length, filter, Option, Some, None, if◌then◌else◌}
 use Rattle.std.specs.Int.{bit_at}
 use Rattle.std.specs.List.{list_any}
-use Rattle.race_log.specs.declared.times.Times.{Times}
-use Rattle.race_log.specs.Times.{count_of}
+use Rattle.vector_time.specs.declared.times.Times.{Times}
+use Rattle.vector_time.specs.Times.{count_of}
 use Rattle.race_log.specs.Points.{Point}
 use Rattle.race_log.specs.Tests.{touches}
 use Rattle.race_log.specs.Kept.{Kept}

@@ -20,10 +20,9 @@ mod page;
 mod search;
 mod shadow;
 mod slot;
-mod stretches;
+mod epochs;
 mod sweep;
 mod sweeping;
-mod times;
 mod words;
 
 pub use edges::Edges;
@@ -39,4 +38,3 @@ pub use laws::{
 };
 pub use mode::Mode;
 pub use shadow::Shadow;
-pub use times::Times;

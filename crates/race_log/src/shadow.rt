@@ -4,7 +4,7 @@ ghost use Rattle.std.specs.Option.{ForSome};
 ghost use Rattle.bn_base.specs.declared.settings.TheConstants.{HARTS};
 ghost use Rattle.race_log.specs.Words.{HasRoom, ArePresent};
 
-use crate::Times;
+use vector_time::Times;
 use crate::edges::Edges;
 use crate::mode::Mode;
 use crate::search::find_sources;
@@ -31,12 +31,12 @@ pub struct Shadow {
     ghost some_hart: { 0 < harts },
     ghost few_harts: { harts ≤ HARTS },
     ghost each_hart: { vec_len times ≡ harts },
-    ghost present: { ArePresent words.stretches harts times.items },
+    ghost present: { ArePresent words.epochs harts times.items },
     ghost room: { ForSome reserved (λ r. HasRoom words r.0 r.1) },
 }
 
 impl Shadow {
-    ghost use Rattle.race_log.specs.Times.{count_of};
+    ghost use Rattle.vector_time.specs.Times.{count_of};
     ghost use Rattle.race_log.specs.Points.{Point};
     ghost use Rattle.race_log.specs.Tests.{sources_into};
     ghost use Rattle.race_log.specs.ByCount.{IsLatestPoint, IsTimesOf};

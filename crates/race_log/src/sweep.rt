@@ -4,10 +4,10 @@ ghost use Rattle.bn_base.specs.declared.settings.TheConstants.{HARTS};
 ghost use Rattle.race_log.specs.declared.mode.Mode.{Mode};
 ghost use Rattle.race_log.specs.declared.slot.Slot.{Slot};
 ghost use Rattle.race_log.specs.Slots.{kept_here, write_in, read_in, reads_in, word_in, StaysSettled};
-ghost use Rattle.race_log.specs.Times.{count_of};
+ghost use Rattle.vector_time.specs.Times.{count_of};
 ghost use Rattle.race_log.specs.Sweep.{has_bit, is_covered, uncovered, GivesUp, sum_below};
 
-use crate::Times;
+use vector_time::Times;
 use crate::slot::Slot;
 use bn_base::{HartId, Ic};
 
@@ -59,7 +59,7 @@ fn give_up(slot: &mut Slot, other: HartId, known: &Option<Times>) -> u64
     requires { other < HARTS }
     ensures kept { (counts : ℕ → ℕ → ℕ) (mode : Mode) → GivesUp known.now result (kept_here counts mode other slot.old) (kept_here counts mode other slot.new) }
     ensures few { result ≤ 1 }
-    ensures slot { (slot.new ≡ slot.old) ⊎ ((slot.new.after ≡ 0) × (slot.new.stretch ≡ 0)) }
+    ensures slot { (slot.new ≡ slot.old) ⊎ ((slot.new.after ≡ 0) × (slot.new.epoch ≡ 0)) }
 {
     let known = is_known(slot, other, known);
     if known {

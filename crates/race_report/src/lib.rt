@@ -11,7 +11,7 @@
 mod calls;
 mod error;
 mod examples;
-mod found;
+mod race_lists;
 mod gathered;
 pub mod laws;
 mod listing;

@@ -14,7 +14,7 @@ mod laws;
 mod live;
 mod log;
 mod machine;
-mod next;
+mod turn_end;
 mod plain;
 mod quick;
 mod race;
@@ -53,7 +53,7 @@ pub use laws::{
 };
 pub use log::Log;
 pub use machine::{Machine, Streams};
-pub use next::Next;
+pub use turn_end::TurnEnd;
 pub use plain::Plain;
 pub use span::{Span, loading};
 pub use start::Start;

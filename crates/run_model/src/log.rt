@@ -2,7 +2,7 @@
 ghost use Rattle.std.specs.Prelude.{◌≤◌, ◌*◌};
 ghost use Rattle.run_model.specs.Stands.Taken.{taken};
 
-use log_record::Ring;
+use log_ring::Ring;
 
 /// The ring of the records that are kept, and how many bytes all records had that it took.
 #[derive(Drop)]

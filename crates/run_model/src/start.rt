@@ -7,7 +7,8 @@ ghost use Rattle.log_file.specs.Layout.{file_bytes, file_bytes2, saved_bytes};
 use bn_base::{Image, Settings};
 use log_blocks::write_file2;
 use log_file::write_file;
-use log_record::{Head, Ring};
+use log_record::Head;
+use log_ring::Ring;
 use std::alloc::{AllocError, Global};
 
 /// What a recording begins with: the loaded program, the settings, the input, and the SHA-256 digest

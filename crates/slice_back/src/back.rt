@@ -6,7 +6,7 @@ use crate::error::SliceError;
 use crate::first_loads::first_loads;
 use crate::lists::Slice;
 use crate::slicing::slice_of;
-use crate::trace::rows_up_to;
+use crate::row_trace::rows_up_to;
 use bn_base::{Ic, Image, Registers};
 use hart_replay::Replayer;
 use log_order::KeptLog;

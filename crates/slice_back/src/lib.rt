@@ -13,7 +13,7 @@ mod noted;
 mod slicing;
 mod telling;
 mod texts;
-mod trace;
+mod row_trace;
 mod uses;
 
 pub use back::slice;

@@ -18,8 +18,8 @@ use Rattle.joint_replay.specs.Calls.{state_at}
 use Rattle.joint_replay.specs.Texts.{item_text}
 use Rattle.back_step.specs.declared.entry.Entry.{Entry}
 use Rattle.back_step.specs.Traces.{Trace, at_start, trace_step, refusing, cut}
-use Rattle.step_debugger.specs.declared.command.Command.{Command}
-use Rattle.step_debugger.specs.declared.command.Command.TheVariants as to
+use Rattle.step_debugger.specs.declared.command.DebugCommand.{DebugCommand}
+use Rattle.step_debugger.specs.declared.command.DebugCommand.TheVariants as to
 use Rattle.step_debugger.specs.declared.stop.Stop.{Stop}
 use Rattle.step_debugger.specs.declared.session.Ending.{Ending}
 use Rattle.step_debugger.specs.declared.session.Ending.TheVariants.{GoesOn, Quits, Refused}
@@ -256,7 +256,7 @@ take_break s addr = elim (is_set s.breaks addr) [
   | false ↦ says s (codes "none\n")
 ]
 
-abbrev pub answer : Session → Command → Answer
+abbrev pub answer : Session → DebugCommand → Answer
 answer s to.Empty = says s []
 answer s (to.Hart n) = choose s n
 answer s (to.Step k) = moved s (step_up_to s.hart k s.trace)

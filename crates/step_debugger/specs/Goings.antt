@@ -11,8 +11,8 @@ use Rattle.step_debugger.specs.declared.error.DebugError.{DebugError}
 use Rattle.step_debugger.specs.declared.error.DebugError.TheVariants.{WriteFault, OutOfMemory}
 use Rattle.step_debugger.specs.declared.session.Ending.{Ending}
 use Rattle.step_debugger.specs.declared.session.Ending.TheVariants.{GoesOn, Refused}
-use Rattle.step_debugger.specs.declared.desk.Desk.{Desk}
-use Rattle.step_debugger.specs.declared.command.Command.{Command}
+use Rattle.step_debugger.specs.declared.focus.Focus.{Focus}
+use Rattle.step_debugger.specs.declared.command.DebugCommand.{DebugCommand}
 use Rattle.step_debugger.specs.Commands.{command_of}
 use Rattle.step_debugger.specs.Answers.{Session, Answer, Moves, after, step_by, step_up_to, go_by, go_on, answer}
 
@@ -63,11 +63,11 @@ Gathers text P written now_written before now waiting (Err e) = AppendsPart writ
 
 -- ---- a session, by its parts
 
-abbrev pub session_of : Trace → Desk → Session
+abbrev pub session_of : Trace → Focus → Session
 session_of t d = record { trace = t; hart = d.hart; breaks = d.breaks.items }
 
 -- a command that isn't a step is told
-pub record Says (a : Answer) (t : Trace) (d : Desk) (text now_text : List ℕ) : Type 0 where
+pub record Says (a : Answer) (t : Trace) (d : Focus) (text now_text : List ℕ) : Type 0 where
   pub told : now_text ≡ text ++ a.text
   pub session : session_of t d ≡ a.session
 
@@ -88,7 +88,7 @@ TellsSteps h count old new text now_text written now_written before now result =
     let m : Moves = step_up_to h count old in Gathers (text ++ m.text) (λ ending. (new ≡ m.now) × (ending ≡ m.ends)) written now_written before now now_text result
 
 -- the answer of a command is put behind a text
-abbrev pub Performs : Command → (old new : Session) → (text now_text : List ℕ) → (written now_written : Option (List ℕ)) → (before now : ℕ) → Result Ending DebugError → Type 0
+abbrev pub Performs : DebugCommand → (old new : Session) → (text now_text : List ℕ) → (written now_written : Option (List ℕ)) → (before now : ℕ) → Result Ending DebugError → Type 0
 Performs command old new text now_text written now_written before now result =
     let a : Answer = answer old command in Gathers (text ++ a.text) (λ ending. (new ≡ a.session) × (ending ≡ a.ends)) written now_written before now now_text result
 

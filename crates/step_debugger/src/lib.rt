@@ -3,7 +3,7 @@
 
 mod command;
 mod debugger;
-mod desk;
+mod focus;
 mod error;
 mod examples;
 mod lines;
@@ -16,7 +16,7 @@ mod session;
 mod stop;
 mod texts;
 
-pub use command::Command;
+pub use command::DebugCommand;
 pub use debugger::debug;
 pub use error::DebugError;
 pub use session::Ending;

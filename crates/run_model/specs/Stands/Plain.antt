@@ -7,8 +7,8 @@ use Rattle.race_log.specs.declared.shadow.Shadow.{Shadow}
 use Rattle.race_log.specs.Points.{Point}
 use Rattle.race_log.specs.Stands.{Stands, harts_of, lasts, next_turn, next_count, reserved_range}
 use Rattle.run_model.specs.declared.hart.Hart.{Hart}
-use Rattle.run_model.specs.declared.next.Next.{Next}
-use Rattle.run_model.specs.declared.next.Next.TheVariants.{GoesOn, NewInterval, HartOver, RunOver}
+use Rattle.run_model.specs.declared.turn_end.TurnEnd.{TurnEnd}
+use Rattle.run_model.specs.declared.turn_end.TurnEnd.TheVariants.{GoesOn, NewInterval, HartOver, RunOver}
 use Rattle.run_model.specs.declared.span.Span.{Span}
 use Rattle.run_model.specs.declared.start.Start.{Start}
 use Rattle.run_model.specs.declared.trace.Trace.{Trace}
@@ -45,7 +45,7 @@ count_after None ic before = before
 count_after (Some x) ic before = ic + 1
 
 -- how many times the bits of the hart's cache are cleared
-abbrev pub clears : Next → ℕ
+abbrev pub clears : TurnEnd → ℕ
 clears GoesOn = 0
 clears (NewInterval reason value) = 1
 clears (HartOver reason value) = 0

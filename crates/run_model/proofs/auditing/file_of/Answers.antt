@@ -1,6 +1,6 @@
 use Rattle.std.proofs.Common.{◌∙◌, sym, ap, subst}
 use Rattle.bn_base.specs.declared.settings.RawSettings.{RawSettings}
-use Rattle.log_record.specs.Kept.{Held, HoldsLog}
+use Rattle.log_ring.specs.Kept.{Held, HoldsLog}
 use Rattle.run_model.specs.Runs.{run_of}
 use Rattle.run_model.proofs.LogFile.{file_is}
 use Rattle.run_model.proofs.auditing.file_of.Goals as goal
