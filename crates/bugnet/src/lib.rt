@@ -28,7 +28,7 @@ mod slicing;
 mod texts;
 mod versions;
 
-pub use answer::{Answer, NewLog, IntervalToReplay, RunToTell, RunEnd};
+pub use answer::{Answer, IntervalToReplay, NewLog, RunEnd, RunToTell};
 pub use laws::{
     audits_agree, crashes_are_shown, each_can_be_done, each_has_an_answer,
     files_keep_to_their_size, headline, joint_headline, one_answer, one_session, races_are_told,

@@ -43,7 +43,12 @@ fn start_in(hart: u64, interval: u64, entry: &Record) -> Option<(HartId, HartSta
 }
 
 /// Finds the Header of an interval, which doesn't stand before a place.
-pub(crate) fn find(hart: u64, interval: u64, records: &RecordList, from: usize) -> Option<IntervalStart>
+pub(crate) fn find(
+    hart: u64,
+    interval: u64,
+    records: &RecordList,
+    from: usize,
+) -> Option<IntervalStart>
     requires before { interval_of hart interval (take from records.now) ≡ None }
     ensures start { interval_of hart interval records.now ≡ found_in result hart records.now }
     ensures hart { IfSome result (λ s. s.hart ≡ hart) }

@@ -5,9 +5,9 @@ ghost use Rattle.hart_replay.specs.Replay.{interval_of};
 ghost use Rattle.hart_replay.specs.Coming.{Begins, Stepped};
 
 use crate::code::Code;
-use crate::interval_cursor::IntervalCursor;
 use crate::error::ReplayError;
 use crate::header::find;
+use crate::interval_cursor::IntervalCursor;
 use crate::pending::{Conditionals, Loads};
 use crate::scan::next_mark;
 use crate::words::Words;

@@ -5,11 +5,11 @@ ghost use Rattle.bus_core.specs.Bus.{began_of};
 ghost use Rattle.hart_worker.specs.Closed.{IsClosed, IsOfRows};
 ghost use Rattle.hart_worker.specs.Taking.{IsClosedBy};
 
+use crate::hart_place::HartPlace;
 use crate::listed::Listed;
 use crate::listed_bus::{Beginning, ListedBus};
 use crate::listed_end::finish_listed;
 use crate::listed_worker::work_listed;
-use crate::hart_place::HartPlace;
 use bn_base::HartId;
 use bn_outside::{Book, Gate};
 use bus_core::{Bus, Closed};

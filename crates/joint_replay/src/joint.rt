@@ -12,11 +12,11 @@ ghost use Rattle.joint_replay.specs.Sound.{IsSound};
 ghost use Rattle.joint_replay.specs.Lanes.{lane_of};
 
 use crate::error::JointError;
+use crate::incoming_edges::IncomingEdge;
 use crate::kinds::{Coming, Next, Readiness, Stepped};
 use crate::lane::{Lane, Moved};
 use crate::laws::starts_are_sound;
 use crate::replay_memory::ReplayMemory;
-use crate::incoming_edges::IncomingEdge;
 use bn_base::{Addr, HartId, HartState, Ic, Image, List};
 use hart_replay::ReplayError;
 use log_order::KeptLog;

@@ -7,10 +7,10 @@ ghost use Rattle.joint_replay.specs.Sources.{edges_into, AscendFrom};
 ghost use Rattle.joint_replay.specs.Harts.{cursor_coming, cursor_point, later_cursors, hart_cursors, IsHartLane};
 
 use crate::calls::{Asked, filled};
+use crate::incoming_edges::{IncomingEdge, IncomingEdges};
 use crate::intervals::{Retained, retained_intervals};
 use crate::kinds::Coming;
 use crate::points::ordering_points;
-use crate::incoming_edges::{IncomingEdge, IncomingEdges};
 use bn_base::end_mark::FAULT;
 use bn_base::{Addr, EndMark, HartId, HartState, Ic, Image, Row};
 use hart_replay::{ReplayError, Replayer};

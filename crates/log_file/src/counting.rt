@@ -93,7 +93,12 @@ fn advance(
 
 // Walks along the records of a log of this version whose bytes these are. The error is the first place
 // where a record should begin and none does.
-fn walk(format: u8, terms: &OrderLimits, harts: &mut [HartView], bytes: &[u8]) -> Result<Walked, u64>
+fn walk(
+    format: u8,
+    terms: &OrderLimits,
+    harts: &mut [HartView],
+    bytes: &[u8],
+) -> Result<Walked, u64>
     ensures walked { IfOk result (IsWalked format terms.now harts.old harts.new bytes.now) }
     ensures refused { IfErr result (λ at. NoRecord format bytes.now at) }
 {

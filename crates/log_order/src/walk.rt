@@ -60,7 +60,11 @@ pub fn step(terms: &OrderLimits, harts: &mut [HartView], entry: &Record) -> Resu
     }
 }
 
-fn after_all(terms: &OrderLimits, harts: &mut [HartView], records: &RecordList) -> Result<(), OrderBreak>
+fn after_all(
+    terms: &OrderLimits,
+    harts: &mut [HartView],
+    records: &RecordList,
+) -> Result<(), OrderBreak>
     requires { total records.now < 2 ^ 63 }
     ensures { Steps result harts.new (after_all terms.now 0 harts.old records.now) }
 {

@@ -3,12 +3,12 @@
 #![tactic(auto)]
 
 pub mod bytes;
-mod stored_record;
 pub mod head;
 pub mod laws;
 pub mod list;
 pub mod reading;
 pub mod record;
+mod stored_record;
 pub mod writing;
 
 pub use bytes::Bytes;

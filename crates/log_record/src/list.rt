@@ -98,7 +98,11 @@ impl RecordList {
                     x: state.x,
                 }
             }
-            StoredRecord::FirstLoad { hart, skip, value } => Record::FirstLoad { hart, skip, value },
+            StoredRecord::FirstLoad { hart, skip, value } => Record::FirstLoad {
+                hart,
+                skip,
+                value,
+            },
             StoredRecord::ScOk { hart } => Record::ScOk { hart },
             StoredRecord::ScFailed { hart } => Record::ScFailed { hart },
             StoredRecord::Edge {

@@ -56,7 +56,11 @@ impl StoredRecord {
                 place,
                 interval,
             },
-            Record::FirstLoad { hart, skip, value } => StoredRecord::FirstLoad { hart, skip, value },
+            Record::FirstLoad { hart, skip, value } => StoredRecord::FirstLoad {
+                hart,
+                skip,
+                value,
+            },
             Record::ScOk { hart } => StoredRecord::ScOk { hart },
             Record::ScFailed { hart } => StoredRecord::ScFailed { hart },
             Record::Edge {

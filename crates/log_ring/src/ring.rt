@@ -6,9 +6,9 @@ ghost use Rattle.log_record.specs.Spelling.{bytes_of, total, is_marked, Fits};
 ghost use Rattle.log_ring.specs.Whole.{records_in, IsWhole, Oldest};
 ghost use Rattle.log_ring.specs.Kept.{kept, held, HoldsLog, GivesUp};
 
+use circular_buffer::HeapCircularBuffer;
 use log_record::laws::{tags_tell_sizes, written_records_are_read};
 use log_record::{Record, size, write};
-use circular_buffer::HeapCircularBuffer;
 use std::alloc::{AllocError, Global};
 use std::marker::Model;
 

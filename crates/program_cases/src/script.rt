@@ -218,7 +218,12 @@ fn run_last<R: Print + Threads + Wait + Sync>(
 }
 
 // Prints whether two files have the same bytes.
-fn compare<R: Print>(rt: &R, machine: &Surroundings, name: &str, other: &str) -> anyhow::Result<()> {
+fn compare<R: Print>(
+    rt: &R,
+    machine: &Surroundings,
+    name: &str,
+    other: &str,
+) -> anyhow::Result<()> {
     let same = machine.bytes(name) == machine.bytes(other);
     println!(rt; "{name} is {other}: {same}")?;
     Ok(())

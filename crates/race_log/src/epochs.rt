@@ -2,9 +2,9 @@ ghost use Rattle.std.specs.Prelude.{◌≡◌, ◌≢◌, ◌<◌, ◌≤◌, �
 ghost use Rattle.bn_base.specs.declared.settings.TheConstants.{HARTS};
 ghost use Rattle.race_log.specs.Slots.{is_settled, AreSettledNow};
 
-use vector_time::Times;
 use bn_base::{HARTS, HartId, Ic};
 use std::alloc::{AllocError, Global};
+use vector_time::Times;
 
 /// A epoch of a hart: its points from one edge into the hart up to the next, in which it learns of no
 /// point of another hart.

@@ -13,6 +13,7 @@
 #![tactic(auto)]
 
 mod edges;
+mod epochs;
 mod examples;
 mod laws;
 mod mode;
@@ -20,7 +21,6 @@ mod page;
 mod search;
 mod shadow;
 mod slot;
-mod epochs;
 mod sweep;
 mod sweeping;
 mod words;

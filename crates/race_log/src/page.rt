@@ -4,9 +4,9 @@ ghost use Rattle.race_log.specs.Slots.{word_in, is_marked, KeepsIn, StaysSettled
 ghost use Rattle.race_log.specs.Words.{epoch_counts};
 ghost use Rattle.race_log.specs.declared.slot.Slot.{Slot};
 
+use crate::epochs::Epochs;
 use crate::mode::Mode;
 use crate::slot::Slot;
-use crate::epochs::Epochs;
 use bn_base::HartId;
 use std::alloc::AllocError;
 

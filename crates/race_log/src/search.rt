@@ -5,12 +5,12 @@ ghost use Rattle.race_log.specs.Search.{gathered, latest, newer, sources, counts
 ghost use Rattle.race_log.specs.Slots.{kept_here, write_in, read_in, reads_in, word_in, found_as};
 ghost use Rattle.race_log.specs.Words.{kept_in, epoch_counts};
 
-use vector_time::Times;
 use crate::edges::Edges;
 use crate::mode::Mode;
 use crate::slot::{FoundAccess, Slot};
 use crate::words::KeptWords;
 use bn_base::{Addr, HartId};
+use vector_time::Times;
 
 // Whether the turn is later than the best one's, if there is one.
 fn is_newer(best: &Option<FoundAccess>, turn: u64) -> bool

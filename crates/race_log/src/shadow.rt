@@ -4,7 +4,6 @@ ghost use Rattle.std.specs.Option.{ForSome};
 ghost use Rattle.bn_base.specs.declared.settings.TheConstants.{HARTS};
 ghost use Rattle.race_log.specs.Words.{HasRoom, ArePresent};
 
-use vector_time::Times;
 use crate::edges::Edges;
 use crate::mode::Mode;
 use crate::search::find_sources;
@@ -12,6 +11,7 @@ use crate::sweep::{has_bit, least_with};
 use crate::words::KeptWords;
 use bn_base::{Addr, HartId, Ic, Settings};
 use std::alloc::{AllocError, Global};
+use vector_time::Times;
 
 /// What each hart knows of the others' points, and what is kept of each word's accesses.
 #[derive(Drop)]

@@ -7,9 +7,9 @@ ghost use Rattle.race_log.specs.Slots.{kept_here, write_in, read_in, reads_in, w
 ghost use Rattle.vector_time.specs.Times.{count_of};
 ghost use Rattle.race_log.specs.Sweep.{has_bit, is_covered, uncovered, GivesUp, sum_below};
 
-use vector_time::Times;
 use crate::slot::Slot;
 use bn_base::{HartId, Ic};
+use vector_time::Times;
 
 /// Whether a set of harts, one bit for each, has the hart.
 pub fn has_bit(set: u16, hart: HartId) -> bool

@@ -4,9 +4,9 @@ ghost use Rattle.bn_base.specs.declared.settings.TheConstants.{HARTS};
 ghost use Rattle.race_log.specs.Words.{kept_in, has_room};
 ghost use Rattle.race_log.specs.Sweep.{uncovered, sum_below, held_below};
 
-use vector_time::Times;
 use crate::sweep::{give_up_page, held_page};
 use crate::words::KeptWords;
+use vector_time::Times;
 
 impl KeptWords {
     /// Gives up the accesses that the times cover, all of them where there are no times, and answers how many. It takes

@@ -2,13 +2,13 @@ ghost use Rattle.std.specs.Prelude.{◌≡◌, ◌+◌, ◌*◌, ◌/◌, ◌%�
 ghost use Rattle.bn_base.specs.declared.settings.TheConstants.{HARTS};
 ghost use Rattle.race_log.specs.Slots.{AreFull, AreSettled};
 
-use vector_time::Times;
+use crate::epochs::Epochs;
 use crate::mode::Mode;
 use crate::page::{keep_in, make_slots, mark_page};
 use crate::slot::Slot;
-use crate::epochs::Epochs;
 use bn_base::{Addr, HartId, Ic};
 use std::alloc::{AllocError, Global};
+use vector_time::Times;
 
 /// The bytes of memory whose words have their slots in one page: 64 words.
 const PAGE_BYTES: u32 = 256;

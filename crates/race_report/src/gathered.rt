@@ -6,8 +6,8 @@ ghost use Rattle.race_report.specs.Gathering.{IsGathered, IsState, point_by};
 ghost use Rattle.race_report.specs.Meets.{TookRow};
 
 use crate::calls::Asked;
-use crate::race_lists::RaceLists;
 use crate::meets::{Reached, meet_point, note_point};
+use crate::race_lists::RaceLists;
 use crate::reach::reach;
 use crate::touch::{Touch, touch_of};
 use crate::track::Track;

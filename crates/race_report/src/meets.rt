@@ -12,8 +12,8 @@ use crate::race_lists::RaceLists;
 use crate::touch::Touch;
 use crate::track::Track;
 use bn_base::{Addr, HartId};
-use vector_time::Times;
 use std::alloc::AllocError;
+use vector_time::Times;
 
 /// A point: its hart and place, and how many of each hart's points are ordered before it.
 #[derive(Clone, Copy)]

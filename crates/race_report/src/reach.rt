@@ -12,8 +12,8 @@ ghost use Rattle.race_report.specs.Gathering.{everyone, sync_of};
 use crate::touch::Touch;
 use bn_base::HartId;
 use race_log::{Mode, Shadow};
-use vector_time::Times;
 use std::alloc::AllocError;
+use vector_time::Times;
 
 // The mode of an access.
 fn mode_of(writes: bool) -> Mode

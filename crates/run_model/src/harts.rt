@@ -10,8 +10,8 @@ ghost use Rattle.run_model.specs.Stands.Logs.{taken, IsLog};
 
 use crate::hart::Hart;
 use crate::log::Log;
-use crate::turn_end::TurnEnd;
 use crate::records::append_end;
+use crate::turn_end::TurnEnd;
 use bn_base::HartId;
 use bn_base::end_mark::STOPPED;
 

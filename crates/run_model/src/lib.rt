@@ -14,7 +14,6 @@ mod laws;
 mod live;
 mod log;
 mod machine;
-mod turn_end;
 mod plain;
 mod quick;
 mod race;
@@ -23,6 +22,7 @@ mod span;
 mod start;
 mod taking;
 mod trace;
+mod turn_end;
 mod turning;
 mod verdict;
 
@@ -53,10 +53,10 @@ pub use laws::{
 };
 pub use log::Log;
 pub use machine::{Machine, Streams};
-pub use turn_end::TurnEnd;
 pub use plain::Plain;
 pub use span::{Span, loading};
 pub use start::Start;
 pub use trace::Trace;
+pub use turn_end::TurnEnd;
 pub use turning::Recorded;
 pub use verdict::Verdict;

@@ -2,8 +2,8 @@
 ghost use Rattle.std.specs.Prelude.{◌≤◌};
 ghost use Rattle.step_debugger.specs.Transcript.{Debugged};
 
-use crate::focus::Focus;
 use crate::error::DebugError;
+use crate::focus::Focus;
 use crate::lines::LineReader;
 use crate::session::{Ending, answer};
 use back_step::Trail;

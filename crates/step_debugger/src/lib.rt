@@ -3,9 +3,9 @@
 
 mod command;
 mod debugger;
-mod focus;
 mod error;
 mod examples;
+mod focus;
 mod lines;
 mod moves;
 mod numbers;

@@ -6,8 +6,8 @@ ghost use Rattle.step_debugger.specs.Answers.{is_set, registers_text, hart_place
 ghost use Rattle.step_debugger.specs.Goings.{session_of, Says, Goes, TellsSteps, Performs, IsAnswered, done_by};
 
 use crate::command::DebugCommand;
-use crate::focus::Focus;
 use crate::error::DebugError;
+use crate::focus::Focus;
 use crate::moves::{go_once, pc_at, ready, state, step_once};
 use crate::parse::command_of;
 use crate::returns::{back, back_to_stop};
@@ -52,7 +52,12 @@ fn is_set(focus: &Focus, addr: Addr) -> bool
 }
 
 // Adds a breakpoint.
-fn add_break(trail: &Trail, focus: &mut Focus, addr: Addr, text: &mut Text) -> Result<(), AllocError>
+fn add_break(
+    trail: &Trail,
+    focus: &mut Focus,
+    addr: Addr,
+    text: &mut Text,
+) -> Result<(), AllocError>
     ensures { OnOk result (Says (add_break (session_of trail.now.trace focus.old) addr) trail.now.trace focus.new text.old text.new) }
 {
     if is_set(focus, addr) {
@@ -73,7 +78,12 @@ fn take_out(breaks: &mut Vec<Addr>, addr: Addr)
 }
 
 // Takes out a breakpoint.
-fn take_break(trail: &Trail, focus: &mut Focus, addr: Addr, text: &mut Text) -> Result<(), AllocError>
+fn take_break(
+    trail: &Trail,
+    focus: &mut Focus,
+    addr: Addr,
+    text: &mut Text,
+) -> Result<(), AllocError>
     ensures { OnOk result (Says (take_break (session_of trail.now.trace focus.old) addr) trail.now.trace focus.new text.old text.new) }
 {
     if is_set(focus, addr) {

@@ -3,7 +3,7 @@ ghost use Rattle.std.specs.Prelude.{◌≡◌, ◌≤◌, []};
 
 use bn_base::{Image, Segment, Settings};
 use bn_outside::OpenGate;
-use hart_worker::{MemoryPort, HartPlace, drive};
+use hart_worker::{HartPlace, MemoryPort, drive};
 use rv_meaning::{DecodedImage, Want};
 use std::alloc::{AllocError, Global};
 use std::sync::Wait;
