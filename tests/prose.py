@@ -55,7 +55,7 @@ WORDS = [
     (r"as before|as ever", "nothing: say what is, not what was"),
     (r"anew", "again"),
     (r"(?:isn't|is not|aren't|are not) promised", "not guaranteed"),
-    (r"(?:store|file|input|output)s? (?:and the \w+ )?(?:tell|tells|holds? what)", "contain what was last written"),
+    (r"(?:store|file|input|output)s? tells?|holds? what (?:it|they) tells?", "contain what was last written"),
     (r"tell(?:s)? (?:its|their) files", "contain what was last written"),
     (r"Where(?! (?:is|are|was|were|do|does|did|to)\b)", "if, when (where is for places)"),
     (r"(?:exactly|only|just|also|but|except|unless|even|so|and) where", "if, when (where is for places)"),
