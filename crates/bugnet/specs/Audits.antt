@@ -66,6 +66,7 @@ IsAuditBy files names has_input log elf what = WithFile files names role.Book 10
 abbrev pub IsAuditIn : Files → FileNames → (has_input : Bool) → (log : List ℕ) → Told → Type 0
 IsAuditIn files names has_input log what = WithFile files names role.Elf 67108864 (λ elf what. IsAuditBy files names has_input log elf what) what
 
+-- what `audit` has to answer
 abbrev pub IsAudit : Files → FileNames → (has_input : Bool) → Told → Type 0
 IsAudit files names has_input what = WithFile files names role.Log 272629760 (λ log what. IsAuditIn files names has_input log what) what
 

@@ -1,4 +1,4 @@
--- What a recording has of a closed run, and of the list of its turns where that is saved.
+-- What a recording has of a closed run, and of the list of its turns if that is saved.
 use Rattle.std.specs.Prelude.{◌≡◌, ◌++◌, ℕ, List, Option}
 use Rattle.log_file.specs.Layout.{saved_bytes}
 use Rattle.log_order.specs.Content.{content}

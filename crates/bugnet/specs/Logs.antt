@@ -15,7 +15,7 @@ abbrev pub mark_or : Option EndMark → EndMark → EndMark
 mark_or None mark = mark
 mark_or (Some own) mark = own
 
--- the mark of an interval, where there is one
+-- the mark of an interval, if there is one
 abbrev pub mark_of : Option Interval → Option EndMark
 mark_of None = None
 mark_of (Some v) = Some v.mark

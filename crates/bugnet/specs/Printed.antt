@@ -25,7 +25,7 @@ abbrev pub ending_of : ReplayError → Result Ending Refusal
 ending_of replay.OutOfMemory = Err why.OutOfMemory
 ending_of error = Ok (ending.Stopped error)
 
--- the line after the rows, where the end was reached
+-- the line after the rows, if the end was reached
 abbrev pub end_of_interval : (hart interval : ℕ) → EndMark → Outcome → List ℕ
 end_of_interval hart interval mark Done = end_text hart interval mark
 end_of_interval hart interval mark (Refused error) = []

@@ -21,7 +21,7 @@ has_part (Some b) part = b.part == part
 abbrev pub has_branch : List Branch → (node part : ℕ) → Bool
 has_branch bs node part = has_part (slice_get bs node) part
 
--- a node's place for one of its parts, where it is the node of `part`, else 0
+-- a node's place for one of its parts, if it is the node of `part`, else 0
 abbrev pub place_in : Option Branch → (part at : ℕ) → ℕ
 place_in None part at = 0
 place_in (Some b) part at = elim (b.part == part) [ true ↦ slice_index b.places at | false ↦ 0 ]

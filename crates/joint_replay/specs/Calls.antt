@@ -19,11 +19,11 @@ stepped_of h (Passing ic) = Passed h ic
 stepped_of h (Doing before row) = Did row
 stepped_of h (Ending n m) = Ended h n m
 
--- the state of a hart, where an interval of it is under way
+-- the state of a hart, if an interval of it is under way
 abbrev pub state_at : Joining → ℕ → Option HartState
 state_at j h = elim (slice_get j.lanes h) [ None ↦ None | Some lane ↦ state_of lane ]
 
--- ---- want of memory
+-- ---- out of memory
 
 -- a hart, whatever is left of its replays
 abbrev pub bare_course : Course → Course
@@ -32,7 +32,7 @@ bare_course c = record c { left = over Done }
 abbrev pub bare : Lane → Lane
 bare lane = record lane { courses = map bare_course lane.courses }
 
--- memory was wanting: all is as before, but that the refusal is repeated, and a replay that found no memory does the same
+-- memory ran out: all is as before, but that the refusal is repeated, and a replay that found no memory does the same
 pub record IsHalted (old new : Joining) : Type 0 where
   pub program : new.program ≡ old.program
   pub records : new.records ≡ old.records
@@ -40,7 +40,7 @@ pub record IsHalted (old new : Joining) : Type 0 where
   pub memory : new.memory ≡ old.memory
   pub refused : new.refused ≡ Some replay.OutOfMemory
 
--- an allowed order led to where a joint replay stands; a refusal changes nothing of what it shows
+-- an allowed order led to the point where a joint replay stands; a refusal changes nothing of what it shows
 pub record IsReached (harts : ℕ) (j : Joining) : Type 0 where
   pub order : List ℕ
   pub walk : Walk

@@ -44,7 +44,7 @@ pub record HartLane : Type 0 where
 abbrev pub hart_lane : Program → List Record → ℕ → List ℕ → Option Running → List Retained → HartLane
 hart_lane i records h points course later = record { program = i; records = records; hart = h; lane = record { points = points; courses = hart_courses i records h course later } }
 
--- where no interval is under way none is to begin
+-- if no interval is under way none is to begin
 abbrev pub Goes : Option Running → List Retained → Type 0
 Goes None later = later ≡ []
 Goes (Some r) later = Unit {0}

@@ -49,12 +49,14 @@ is_within c = nat_lt c.state.ic c.mark.ic
 abbrev pub has_row : Course → Bool
 has_row c = is_within c || (nat_lt 16 c.mark.reason && not c.faulted)
 
+-- what the hart's next step is: it passes an ordering point, gives a row, or comes to its interval's end; None when it is done
 abbrev pub coming_of : Lane → Option Coming
 coming_of lane = elim lane.points [
   | p ∷ ps ↦ Some (PassAt p)
   | [] ↦ elim lane.courses [ [] ↦ None | c ∷ cs ↦ elim (has_row c) [ true ↦ Some (RowAt c.state.ic) | false ↦ Some (EndAt c.mark.ic) ] ]
 ]
 
+-- the count at which that step is
 abbrev pub count_of : Coming → ℕ
 count_of (PassAt ic) = ic
 count_of (RowAt ic) = ic

@@ -78,6 +78,6 @@ abbrev pub ChainsAreKept : Type 0
 ChainsAreKept = (i : Program) (harts : ℕ) (records : List Record) (order : List ℕ) (w : Walk) → IsSound (fresh i harts records) → IsBegun i harts records order w
     → (y h ic : ℕ) → Did w.taken y h ic → (s j : ℕ) → Leads records s j h ic → IsToDo (fresh i harts records) s j → (x : ℕ) × Did w.taken x s j × (y < x)
 
--- where instructions have times that the kept Edges follow, some hart is ready until all are done
+-- if instructions have times that the kept Edges follow, some hart is ready until all are done
 abbrev pub NeverStuck : Type 0
 NeverStuck = (now : Joining) (time : ℕ → ℕ → ℕ) → HaveTimes now.records time → choice now ≡ NoneReady → ⊥

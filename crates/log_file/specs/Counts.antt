@@ -17,6 +17,7 @@ use Rattle.log_file.specs.declared.counting.Walked.{Walked}
 use Rattle.log_file.specs.Layout.{file_bytes, IsFirst}
 use Rattle.log_file.specs.File.{HasFields}
 
+-- 1 if the record is a Header, else 0
 abbrev pub headers_of : Record → ℕ
 headers_of (Header hart interval ic pc x) = 1
 headers_of (FirstLoad hart skip value) = 0

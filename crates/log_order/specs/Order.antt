@@ -64,12 +64,12 @@ is_late harts (ScFailed h) = false
 is_late harts (Edge h ic s j) = is_past (slice_get harts s) j
 is_late harts (End h mark) = false
 
--- the place of the first such Edge, where the first record begins at a place
+-- the place of the first such Edge, if the first record begins at a place
 unfoldable pub late_edge : List HartView → ℕ → List Record → Option ℕ
 late_edge harts place [] = None
 late_edge harts place (r ∷ rs) = if is_late harts r then Some place else late_edge harts (place + length (bytes_of r)) rs
 
--- the first break of the two rules about the end, where the records left the harts so
+-- the first break of the two rules about the end, if the records left the harts so
 unfoldable pub ended : Bool → List HartView → List Record → Option OrderBreak
 ended all harts rs =
     if list_any (is_unfinished all) harts then Some (order_break (total rs) 6) else
@@ -87,7 +87,7 @@ broken t count all rs = broken_in all rs (after_all t 0 (replicate count (fresh 
 abbrev pub terms_of : RawSettings → Terms
 terms_of s = record { interval = s.interval; limit = s.limit }
 
--- the first break, where so many records were dropped before these
+-- the first break, if so many records were dropped before these
 abbrev pub broken_by : RawSettings → ℕ → List Record → Option OrderBreak
 broken_by s dropped rs = broken (terms_of s) s.harts (dropped == 0) rs
 

@@ -22,44 +22,44 @@ takes_other (Awaiting next ic) = false
 takes_other (Open next since) = true
 takes_other Done = false
 
--- the number is the one awaited, where that is known
+-- the number is the one awaited, if that is known
 abbrev pub is_number : Option ℕ → ℕ → Bool
 is_number None n = true
 is_number (Some next) n = next == n
 
--- a Header's number and count are those awaited, where they are known
+-- a Header's number and count are those awaited, if they are known
 abbrev pub is_awaited : Phase → ℕ → ℕ → Bool
 is_awaited Unknown n ic = true
 is_awaited (Awaiting next count) n ic = count == ic && is_number next n
 is_awaited (Open next since) n ic = true
 is_awaited Done n ic = true
 
--- where the interval's start is known, an Edge's count is that of one of its instructions
+-- if the interval's start is known, an Edge's count is that of one of its instructions
 abbrev pub has_edge : ℕ → Phase → ℕ → Bool
 has_edge interval Unknown ic = true
 has_edge interval (Awaiting next count) ic = true
 has_edge interval (Open next since) ic = nat_le since ic && nat_lt ic (since + interval)
 has_edge interval Done ic = true
 
--- where the interval's start is known, an End's count is at most its full length away, for reason length (1) just that
+-- if the interval's start is known, an End's count is at most its full length away, for reason length (1) just that
 abbrev pub has_end : ℕ → Phase → ℕ → ℕ → Bool
 has_end interval Unknown reason ic = true
 has_end interval (Awaiting next count) reason ic = true
 has_end interval (Open next since) reason ic = nat_le since ic && (if reason == 1 then ic == since + interval else nat_le ic (since + interval))
 has_end interval Done reason ic = true
 
--- the number of the interval that comes next, where this one's is known
+-- the number of the interval that comes next, if this one's is known
 abbrev pub next_number : Phase → Option ℕ
 next_number Unknown = None
 next_number (Awaiting next count) = None
 next_number (Open next since) = Some next
 next_number Done = None
 
--- the reasons after which a hart goes on: length (1), call (2) and guard (6)
+-- the reasons after which a hart continues: length (1), call (2) and guard (6)
 abbrev pub goes_on : ℕ → Bool
 goes_on reason = reason == 1 || reason == 2 || reason == 6
 
--- where an End leaves its hart: after such a reason it awaits a Header, else it is done
+-- the place where an End leaves its hart: after such a reason it awaits a Header, else it is done
 abbrev pub phase_after : Phase → EndMark → Phase
 phase_after phase mark = if goes_on mark.reason then Awaiting (next_number phase) mark.ic else Done
 
@@ -108,7 +108,7 @@ after_one t v (ScFailed h) = after_other v
 after_one t v (Edge h ic s j) = after_edge t v ic j
 after_one t v (End h mark) = after_end t v mark
 
--- a hart of which no record came; where all records are kept it awaits its first Header
+-- a hart of which no record came; if all records are kept it awaits its first Header
 abbrev pub fresh : Bool → HartView
 fresh all = record { phase = if all then Awaiting (Some 0) 0 else Unknown; seen = 0; met = false; last = None }
 

@@ -6,6 +6,7 @@ use Rattle.log_record.specs.declared.record.Record.TheVariants.{Header, FirstLoa
 use Rattle.log_record.specs.declared.entry.Entry.{Entry}
 use Rattle.log_record.specs.declared.entry.Entry.TheVariants.{Header as KeptHeader, FirstLoad as KeptLoad, ScOk as KeptOk, ScFailed as KeptFailed, Edge as KeptEdge, End as KeptEnd}
 
+-- the state of a hart with this pc, registers and count
 abbrev pub state_of : ℕ → List ℕ → ℕ → HartState
 state_of pc x ic = record { pc = pc; x = x; ic = ic }
 
@@ -27,6 +28,7 @@ entry_of place (ScFailed h) = KeptFailed h
 entry_of place (Edge h ic s j) = KeptEdge h s ic j
 entry_of place (End h mark) = KeptEnd h mark
 
+-- the Header of an interval that begins in a state
 abbrev pub header_with : ℕ → ℕ → HartState → Record
 header_with h n state = Header h n state.ic state.pc state.x
 

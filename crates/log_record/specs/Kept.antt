@@ -3,7 +3,8 @@ use Rattle.std.specs.Prelude.{◌≡◌, ℕ, ◌+◌, ◌≤◌, nat_le, List, 
 use Rattle.log_record.specs.declared.record.Record.{Record}
 use Rattle.log_record.specs.Spelling.{total}
 
--- the longest suffix of whole records whose bytes sum to at most a size
+-- what a ring buffer of a size keeps of a list of records: its longest suffix whose bytes sum to at most the size. A record is
+-- kept whole or not at all
 unfoldable pub kept : ℕ → List Record → List Record
 kept size [] = []
 kept size (r ∷ rs) = if nat_le (total (r ∷ rs)) size then r ∷ rs else kept size rs
@@ -14,15 +15,18 @@ pub record Held : Type 0 where
   pub dropped : ℕ
   pub size : ℕ
 
+-- the same as one value
 abbrev pub held : List Record → ℕ → ℕ → Held
 held records dropped size = record { records = records; dropped = dropped; size = size }
 
--- a ring after these records were appended to it
+-- the ring is the log of these records, which are all that were appended so far: it holds the last ones that fit its size, and
+-- each of the others is counted as dropped
 pub record HoldsLog (ring : Held) (appended : List Record) : Type 0 where
   pub latest : ring.records ≡ kept ring.size appended
   pub counted : ring.dropped + length ring.records ≡ length appended
 
--- from one to the other a record was appended, and others given up in front
+-- one append: the new record is the last one, the oldest ones (`front`) are gone and counted, and they are at most 73. A record
+-- has 146 bytes at most and 2 at least
 pub record GivesUp (old : Held) (r : Record) (new : Held) : Type 0 where
   pub front : List Record
   pub parts : old.records ++ r ∷ [] ≡ front ++ new.records

@@ -13,7 +13,7 @@ abbrev pub count_up : ℕ → ℕ → List ℕ
 count_up m zero = []
 count_up m (suc n) = m ∷ count_up (suc m) n
 
--- where m first stands in the list, or the list's length
+-- the place where m first stands in the list, or the list's length
 abbrev pub place : List ℕ → ℕ → ℕ
 place [] m = 0
 place (x ∷ xs) m = cond (x == m) 0 (suc (place xs m))

@@ -18,6 +18,7 @@ pub record Noted : Type 0 where
   pub pages : List (List Slot)
   pub stretches : List Stretch
 
+-- what this shadow notes
 abbrev pub noted : Shadow → Noted
 noted s = record {
   harts = harts_of s;
@@ -28,6 +29,6 @@ noted s = record {
   stretches = s.words.stretches.table.items;
 }
 
--- shadows that note the same stand for the same runs
+-- shadows that note the same represent the same runs
 abbrev pub NotesDecide : Type 0
 NotesDecide = (one other : Shadow) → noted one ≡ noted other → (run : List Point) (live : ℕ → Bool) → Stands run live one → Stands run live other

@@ -17,7 +17,7 @@ unfoldable pub all_below : (ℕ → Bool) → ℕ → Bool
 all_below test zero = true
 all_below test (suc n) = all_below test n && test n
 
--- whether the times cover the hart's point at the count; where there are none, each point is covered
+-- whether the times cover the hart's point at the count; if there are none, each point is covered
 abbrev pub is_covered : Option Times → (hart count : ℕ) → Bool
 is_covered None hart count = true
 is_covered (Some times) hart count = nat_lt count (count_of times hart)

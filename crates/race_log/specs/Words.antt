@@ -9,7 +9,7 @@ use Rattle.race_log.specs.declared.words.KeptWords.{KeptWords}
 use Rattle.race_log.specs.Kept.{Kept, Replaces}
 use Rattle.race_log.specs.Slots.{counts_in, kept_by, word_in, is_marked, slots_of}
 
--- the counts of the times, where there are any
+-- the counts of the times, if there are any
 abbrev pub counts_at : Option Times → ℕ → ℕ
 counts_at None hart = 0
 counts_at (Some times) hart = count_of times hart
@@ -34,7 +34,7 @@ ArePresent s harts times = (g h : ℕ) → g < harts → h ≢ g → present_cou
 abbrev pub has_stretch : Stretches → Bool
 has_stretch s = nat_lt s.next (length s.table.items) && not (is_marked (slice_get s.table.items s.next))
 
--- where the slots of an address's word begin in their page
+-- the place where the slots of an address's word begin in their page
 abbrev pub place_of : (harts word : ℕ) → ℕ
 place_of harts word = word / 4 % 64 * (harts + 1)
 
@@ -54,7 +54,7 @@ has_room words word = length (page_of words word) == 64 * (words.harts + 1)
 abbrev pub HasPages : KeptWords → ℕ → ℕ → Type 0
 HasPages words first n = (i : ℕ) → i < n → IsTrue (has_room words (first + 4 * i))
 
--- where accesses are kept, which takes other harts, one of so many words from the first can be kept without memory
+-- if accesses are kept, which takes other harts, one of so many words from the first can be kept without memory
 pub record HasRoom (words : KeptWords) (first n : ℕ) : Type 0 where
   pub pages : 1 < words.harts → HasPages words first n
   pub stretch : 1 < words.harts → IsTrue (has_stretch words.stretches)

@@ -5,7 +5,7 @@ use Rattle.step_debugger.specs.declared.command.Command.{Command}
 use Rattle.step_debugger.specs.declared.command.Command.TheVariants.{Empty, Hart, Step, Go, Back, ReverseGo, Break, Unbreak, Registers, Word, Where, Quit, Other}
 use Rattle.step_debugger.specs.Numbers.{number_of}
 
--- what stands behind a word at the front of a line
+-- what comes after a word at the front of a line
 abbrev pub behind : List ℕ → List ℕ → Option (List ℕ)
 behind word line = elim (bytes_eq (take (length word) line) word) [ true ↦ Some (drop (length word) line) | false ↦ None ]
 

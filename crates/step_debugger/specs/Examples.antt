@@ -87,7 +87,7 @@ starting_told = record {
 abbrev pub starting_session : Told
 starting_session = session leaving (codes "back\nrgo\nstep\nback 1000000\nwhere\nquit\n")
 
--- breakpoints that are set, and that aren't; a go from a breakpoint goes on; an end without `quit`, and without LF
+-- breakpoints that are set, and that aren't; a go from a breakpoint continues; an end without `quit`, and without LF
 abbrev pub breaking_told : Told
 breaking_told = record {
   text = codes "break 0001005c\n" ++ codes "unbreak 0001005c\n" ++ codes "none\n" ++ codes "break 00010054\n" ++ codes "break 00010054\n" ++ codes "unbreak 00010054\n" ++ codes "none\n"
