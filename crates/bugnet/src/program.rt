@@ -1,4 +1,4 @@
-// The program: it reads its words, loads, answers, saves and prints.
+//! The program: it reads its words, loads, answers, saves and prints.
 ghost use Rattle.std.specs.Prelude.{◌≡◌, ◌≢◌, ◌≤◌, ◌⊎◌, true, Some, IfOk};
 ghost use Rattle.bn_outside.specs.Counts.{Rose, NoneFell};
 ghost use Rattle.command_words.specs.Words.{command_in, seen, seen_recording};
@@ -108,6 +108,7 @@ fn answer_to<S: Store, G: Gate, R: Threads + Wait + Sync>(
     ensures prints { IsReadOnly (Some (seen command.now)) → IfOk result IsPrinted }
     ensures records { IfOk result (RecordsRun (seen command.now)) }
     ensures asks { S.saves store.new ≡ S.saves store.old }
+    // That a program file is bytes comes from its load, so that no statement has it as a premise.
     ensures bytes { IfOk result (λ _. HasElf (seen command.now) (S.files store.old)) }
 {
     match command {
@@ -179,6 +180,8 @@ fn perform<S: Store, O: Sink, X: Sink, G: Gate, R: Threads + Wait + Sync>(
 }
 
 // Does what a command asks for.
+// `debug` has a path of its own: what it prints depends on what it reads meanwhile, so it has no answer that is
+// made first.
 fn obey<S: Store, I: Source, O: Sink, X: Sink, G: Gate, R: Threads + Wait + Sync>(
     rt: &R,
     alloc: Global,

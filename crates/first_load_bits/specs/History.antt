@@ -40,6 +40,7 @@ pub record Falls (g : Geometry) (l addr : ℕ) (es : List Event) : Type 0 where
 
 -- What happened to the second level. A line that is touched or dropped leaves it, as by a drop of its own there; and then the
 -- line that falls at the touch comes to it, as by a touch of its own.
+-- (The second level has a history of its own, so what is proved of one level serves twice.)
 pub data IsSecond (g : Geometry) : List Event → List Event → Type 0 where
   Nothing : IsSecond g [] []
   Comes : (addr l : ℕ) (es below : List Event) → IsSecond g es below → Falls g l addr es → IsSecond g (Touch addr ∷ es) (Touch (line_start g l) ∷ Drop addr ∷ below)

@@ -455,6 +455,7 @@ impl<'a> IntervalCursor<'a> {
             Some((kind, value)) => {
                 let end = EndMark::of_fault(self.state.ic, kind, value);
                 if self.is_fault(end) {
+                    // The row comes before records that are left are reported.
                     (Some(here.fault_row(kind, value)), self.left_over())
                 } else {
                     (None, Err(self.differs(end)))

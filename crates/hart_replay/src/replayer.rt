@@ -75,6 +75,7 @@ impl<'a> Replayer<'a> {
                 cursor: IntervalCursor {
                     image: Code::new(alloc, image),
                     hart: start.hart,
+                    // The End is looked for once, here, and what it says is kept.
                     mark: next_mark(start.hart, records, start.next),
                     state: start.state,
                     loads: Loads::new(start.hart, records, start.next),

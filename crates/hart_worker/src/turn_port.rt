@@ -14,6 +14,8 @@ use std::alloc::{AllocError, Global};
 use std::sync::Wait;
 
 /// Where a hart takes its turns.
+// A worker is generic over it, so that its contract names the turns that were taken: of a bus nothing can be said
+// once its lock is given back.
 pub trait TurnPort {
     ghost use Rattle.std.specs.Prelude.{Bool, List};
     ghost use Rattle.rv_meaning.specs.declared.asks.Ask.{Ask};
@@ -67,6 +69,8 @@ pub fn drive<D: TurnPort, G: Gate, R: Wait>(
     for _ in rt.forever() {
         let ask = place.ask(code, settings);
         gate.pass(hart);
+        // After an Over the hart asks once more, and the port finds it not live: so it stops by one rule, whoever
+        // ended the run.
         let Some((reply, guarded)) = port.turn(hart, &place, &ask)? else {
             break;
         };

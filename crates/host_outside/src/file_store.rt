@@ -1,4 +1,4 @@
-// The files of the system as a store.
+//! The files of the system as a store.
 ghost use Rattle.std.specs.Prelude.{◌≡◌, ◌≤◌, None, IfOk, IsFalse, vec_len};
 ghost use Rattle.std.specs.List.{Contains};
 ghost use Rattle.host_outside.specs.declared.loaded_files.FileId.{FileId as AnyFile};
@@ -82,6 +82,7 @@ fn open_to_write<R: Files>(rt: &R, name: &str) -> io::Result<Opened<R::File>> {
 }
 
 // Why a file that can't be opened isn't loaded.
+// Only a name that isn't there is missing: a file without permission is a failure, and so is a folder once it is read.
 fn load_error(kind: ErrorKind) -> LoadError {
     match kind {
         ErrorKind::NotFound => LoadError::Missing,

@@ -18,6 +18,8 @@ pub(crate) struct IncomingEdge {
 }
 
 /// The kept Edges into a hart of a log, in their order.
+// Gathered once: whether a hart is ready takes no pass over the records, and ends at the first target beyond the
+// hart's next instruction, since targets ascend in every log in order (`edges_ascend`).
 #[derive(Drop)]
 pub(crate) struct IncomingEdges<'a> {
     log: &'a KeptLog,

@@ -104,6 +104,7 @@ impl<'a> Joint<'a> {
         ensures { Steps self.old hart result self.new }
     {
         self.keeps_passed();
+        // Room for the row's words is made before the hart steps: out of memory here leaves the hart where it was.
         if self.memory.make_room().is_err() {
             self.refused = Some(ReplayError::OutOfMemory);
             return Err(JointError::OutOfMemory);

@@ -39,6 +39,7 @@ abbrev pub own_part : List Point → List ℕ → ℕ → List ℕ
 own_part run order hart = filter (λ m. is_of_hart hart (slice_get run m)) order
 
 -- the order is a merge of the harts' lists
+-- (numbers that are no places of the run count for nothing)
 abbrev pub IsMerge : (ℕ → Bool) → List Point → List ℕ → Type 0
 IsMerge kept run order = (hart : ℕ) → own_part run order hart ≡ own_list kept run hart
 

@@ -1,4 +1,4 @@
-// What is given up of a page, and how many accesses it keeps.
+//! What is given up of a page, and how many accesses it keeps.
 ghost use Rattle.std.specs.Prelude.{◌≡◌, ◌≢◌, ◌+◌, ◌-◌, ◌*◌, ◌<◌, ◌≤◌, ◌^◌, ◌⊎◌, ◌&&◌, ◌||◌, not, ℕ, Some, length, nat_lt, slice_get, vec_len};
 ghost use Rattle.bn_base.specs.declared.settings.TheConstants.{HARTS};
 ghost use Rattle.race_log.specs.declared.mode.Mode.{Mode};
@@ -55,6 +55,7 @@ fn is_known(slot: &Slot, other: HartId, known: &Option<Times>) -> bool
 }
 
 // Gives up what a slot keeps, as an access of the hart `other`, if the times cover it; how many are given up.
+// An emptied slot names epoch 0: so an epoch that only accesses given up here named can be used again.
 fn give_up(slot: &mut Slot, other: HartId, known: &Option<Times>) -> u64
     requires { other < HARTS }
     ensures kept { (counts : ℕ → ℕ → ℕ) (mode : Mode) → GivesUp known.now result (kept_here counts mode other slot.old) (kept_here counts mode other slot.new) }

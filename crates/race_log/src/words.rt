@@ -20,6 +20,8 @@ const FIRST_LIMIT: usize = 1024;
 /// after that. Where there is one hart none is kept, since no edge can come from it.
 ///
 /// The slots of 64 words are a page, which is made with the first access of one of them.
+// A page is found by its number in a list: no key that a program chooses is hashed, and no word has a list on
+// the heap.
 #[derive(Drop)]
 pub struct KeptWords {
     pub harts: HartId,

@@ -86,6 +86,7 @@ fn whole_run(alloc: Global, from: &Start, list: &[u8]) -> Result<Plain, TurnErro
 }
 
 // The log file of the run of a list that leaves no hart live.
+// All of the machine but what was recorded is dropped before the file is made: so no memory is taken for both.
 fn file_of(alloc: Global, from: &Start, list: &[u8]) -> Result<Vec<u8>, TurnError>
     ensures file { IfOk result (λ file. file.items ≡ file_of from.now.settings from.now.image from.now.digest from.now.input.items list.now) }
     ensures whole { OnOk result (list_error from.now.settings from.now.image from.now.input.items list.now ≡ None) }

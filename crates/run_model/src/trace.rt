@@ -1,4 +1,4 @@
-// What is traced of a run: its harts, their caches, the race log and the log.
+//! What is traced of a run: its harts, their caches, the race log and the log.
 ghost use Rattle.std.specs.Prelude.{◌≡◌, ◌≤◌, ◌<◌, ◌+◌, ◌-◌, ◌*◌, ◌^◌, ◌++◌, ◌==◌, ◌≢◌, ℕ, List, length, IsTrue, true, false, is_some, Option, OnOk, if◌then◌else◌};
 ghost use Rattle.bn_base.specs.Programs.{Program};
 ghost use Rattle.bn_base.specs.declared.settings.RawSettings.{RawSettings};
@@ -269,6 +269,7 @@ impl Trace {
     }
 
     /// Where an interval ended, the race log gives up the accesses that all live harts know of, if the walk is due.
+    // A hart that isn't live then can access nothing any more: so what is kept suffices for the live ones.
     #[inline(always)]
     pub fn forget(&mut self, next: TurnEnd)
         requires few { length self.old.harts.items ≤ HARTS }

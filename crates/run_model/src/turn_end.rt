@@ -1,4 +1,4 @@
-// What comes after a turn.
+//! What comes after a turn.
 ghost use Rattle.std.specs.Prelude.{◌≡◌, ◌≤◌};
 ghost use Rattle.run_model.specs.Turn.{counted, after_call, after_access, next_of, by_guard};
 
@@ -53,6 +53,7 @@ impl TurnEnd {
     }
 
     // A hart's count at the limit ends it; else an interval that is full ends.
+    // After a call at the limit the hart's next turn is a cut without an instruction, which ends it here.
     #[inline(always)]
     fn counted(settings: &Settings, hart: &Hart, ic: Ic) -> TurnEnd
         ensures { result ≡ counted settings.now hart.now ic }
@@ -73,6 +74,7 @@ impl TurnEnd {
     }
 
     // Each system call ends the interval.
+    // Its reason comes before a full interval and the limit: a call that fills the interval ends it as a call.
     fn after_call(plan: Plan, reply: Reply) -> TurnEnd
         ensures { result ≡ after_call plan reply }
     {
