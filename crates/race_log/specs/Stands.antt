@@ -7,7 +7,7 @@ use Rattle.race_log.specs.ByCount.{IsInOrder}
 use Rattle.race_log.specs.Holds.{OwnUpTo, CountsOf}
 use Rattle.race_log.specs.Kept.{Kept, Suffices, is_write}
 use Rattle.race_log.specs.Search.{sources, counts_after, gathered}
-use Rattle.race_log.specs.Sweep.{has_bit, all_below, held_below}
+use Rattle.race_log.specs.Sweep.{has_bit, all_below, held_below, one_more}
 use Rattle.race_log.specs.Words.{kept_in, counts_at, KeepsAccess}
 
 -- a number past the turn, if there is one
@@ -67,6 +67,10 @@ words_of s = 64 * length s.words.pages.items
 abbrev pub held_of : Shadow → ℕ
 held_of s = held_below (kept_of s) (words_of s)
 
+-- how many accesses were taken in since the last sweep, or since the shadow was new
+abbrev pub unswept_of : Shadow → ℕ
+unswept_of s = s.since
+
 -- the two know of the same points and keep the same
 pub record KnowsSame (old new : Shadow) : Type 0 where
   pub harts : harts_of new ≡ harts_of old
@@ -102,3 +106,4 @@ pub record TakesIn (hart count turn first n : ℕ) (mode : Mode) (old new : Shad
   pub lasting : lasting_of new ≡ lasting_of old
   pub turns : next_turn new ≡ turn + 1
   pub reserved : reserved_range new ≡ None
+  pub unswept : unswept_of new ≡ one_more (unswept_of old)

@@ -37,6 +37,7 @@ returns c = λ first n mode.
       lasting = refl;
       turns = refl;
       reserved = refl;
+      unswept = c.saturating_add-self.ensures;
     }
 
 pub invariant_of-self : goal.invariant_of-self

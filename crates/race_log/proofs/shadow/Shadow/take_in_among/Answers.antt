@@ -41,6 +41,7 @@ returns c =
       lasting = refl;
       turns = refl;
       reserved = refl;
+      unswept = c.saturating_add-self.ensures;
     }
 
 pub invariant_of-self : goal.invariant_of-self
