@@ -158,6 +158,10 @@ MUTANTS = [
     ("No interval is found in a log (14).", edit("hart_replay", "no_interval_is_found")),
     ("Each replay ends with records left (15).", edit("hart_replay", "records_are_left_of_each_interval")),
     ("Each log is taken for another than the list's (16).", edit("run_model", "each_log_differs")),
+    (
+        "A log of version 2 is compared with version 1 where its settings are of format 1.",
+        edit("run_model", "an_audit_goes_by_the_format"),
+    ),
     ("The first turn of each list is refused (17).", edit("run_model", "the_first_turn_is_illegal")),
     ("Each line of the debugger's commands is too long (18).", edit("step_debugger", "each_line_is_too_long")),
     ("Nothing is left of any log that is salvaged (19).", edit("log_blocks", "nothing_is_left_of_any_log")),

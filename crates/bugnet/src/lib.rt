@@ -26,7 +26,6 @@ mod refusal;
 mod renewing;
 mod slicing;
 mod texts;
-mod versions;
 
 pub use answer::{Answer, IntervalToReplay, NewLog, RunEnd, RunToTell};
 pub use laws::{

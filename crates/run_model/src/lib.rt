@@ -48,8 +48,9 @@ pub use guarded_examples::{
 };
 pub use hart::{Hart, skipped_after};
 pub use laws::{
-    each_turn_fits, each_turn_moves_on, format_1_is_unguarded, format_1_is_version_1,
-    guarded_asks_fit, others_stay_fit, records_decide_nothing, verdicts_are_unique,
+    each_turn_fits, each_turn_moves_on, files_number_their_version, format_1_is_unguarded,
+    format_1_is_version_1, guarded_asks_fit, others_stay_fit, records_decide_nothing,
+    verdicts_are_unique,
 };
 pub use log::Log;
 pub use machine::{Machine, Streams};
