@@ -84,12 +84,6 @@ fn whole_run(alloc: Global, from: &Start, list: &[u8]) -> Result<Plain, TurnErro
     Ok(plain)
 }
 
-<<<<<<< HEAD
-// The log file of the run of a list that leaves no hart live.
-// All of the machine but what was recorded is dropped before the file is made: so no memory is taken for both.
-fn file_of(alloc: Global, from: &Start, list: &[u8]) -> Result<Vec<u8>, TurnError>
-    ensures file { IfOk result (λ file. file.items ≡ file_of from.now.settings from.now.image from.now.digest from.now.input.items list.now) }
-=======
 // Whether the number of a log's version, in its bytes 8 to 11, is 2.
 fn is_version2(log: &[u8]) -> bool
     ensures { result ≡ is_version2 log.now }
@@ -99,7 +93,8 @@ fn is_version2(log: &[u8]) -> bool
     number == &[2, 0, 0, 0][..]
 }
 
-// The file that a log is compared with, of the run of a list that leaves no hart live.
+// The file that a log is compared with, of the run of a list that leaves no hart live. All but what was recorded is
+// dropped before the file is made.
 fn audited_file(
     alloc: Global,
     from: &Start,
@@ -107,7 +102,6 @@ fn audited_file(
     list: &[u8],
 ) -> Result<Vec<u8>, TurnError>
     ensures file { IfOk result (λ file. file.items ≡ audited_file second from.now.settings from.now.image from.now.digest from.now.input.items list.now) }
->>>>>>> 2f730ff986bd946f31f32ffb681524b513748721
     ensures whole { OnOk result (list_error from.now.settings from.now.image from.now.input.items list.now ≡ None) }
     ensures refused { IfErr result (λ e. (e ≡ OutOfMemory) ⊎ (list_error from.now.settings from.now.image from.now.input.items list.now ≡ Some e)) }
 {
