@@ -18,7 +18,7 @@ LONGEST_SENTENCE = 35
 LONGEST_CELL = 60
 
 # Each page and the words that it may have. None: the page is generated, and its text comes from comments in the
-# sources, so neither its length nor its sentences are judged here.
+# sources and has the words of the code, so of it only the links are judged here.
 PAGES = {
     "README.md": 900,
     "docs/COMMANDS.md": 4000,
@@ -267,7 +267,7 @@ def page_checks(text, page):
     """Yields the faults of each check of a page, as a list."""
     if PAGES.get(page, 0) is not None:
         yield list(length_faults(text))
-    yield list(word_faults(text))
+        yield list(word_faults(text))
     yield list(link_faults(text, page))
     yield list(size_faults(text, page))
 

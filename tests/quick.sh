@@ -46,12 +46,14 @@ tries tests/shipped.sh
 tries tests/calls.sh
 tries tests/launcher.sh "$program"
 tries tests/help.sh "$program"
+tries tests/definitions.sh
+tries tests/prose.py
 tries tests/completion.sh
 tries tests/carry.sh "$program"
 tries tests/joined.py
 tries tests/read_log.sh "$program"
 tries tests/limits.sh "$program"
-tries tests/documents.py "$program" README.md examples/README.md docs/COMMANDS.md docs/RECIPES.md docs/GUIDE.md
+tries tests/documents.py "$program" README.md examples/README.md docs/COMMANDS.md docs/GUIDE.md
 tries tests/named.py
 tries tests/companions.sh "$program"
 wait
