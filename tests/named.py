@@ -63,7 +63,7 @@ MUTANTS = [
     ),
     (
         "The ring gives up Edges into an interval whose Header is given up.",
-        edit("log_record", "edges_are_given_up_first"),
+        edit("log_ring", "edges_are_given_up_first"),
     ),
     (
         "A joint replay passes over Edges into an interval whose Header is given up.",
@@ -71,7 +71,7 @@ MUTANTS = [
     ),
     ("A joint replay takes the harts in turn and ignores Edges.", edit("joint_replay", "an_edge_holds_nothing_back")),
     # The log.
-    ("A full ring gives up half of its records.", edit("log_record", "half_of_the_records_is_given_up")),
+    ("A full ring gives up half of its records.", edit("log_ring", "half_of_the_records_is_given_up")),
     ("A log with bytes appended is read.", edit("log_file", "appended_bytes_are_taken")),
     ("A log is read without a look at its digest.", edit("log_file", "the_digest_is_skipped")),
     (

@@ -1,5 +1,4 @@
-//! The records of a log and their bytes, lists of them in little memory, and a ring that keeps the latest
-//! whole ones.
+//! The records of a log, their bytes, and lists of them in little memory.
 #![tactic(auto)]
 
 pub mod bytes;

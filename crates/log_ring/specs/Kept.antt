@@ -19,14 +19,13 @@ pub record Held : Type 0 where
 abbrev pub held : List Record → ℕ → ℕ → Held
 held records dropped size = record { records = records; dropped = dropped; size = size }
 
--- the ring is the log of these records, which are all that were appended so far: it holds the last ones that fit its size, and
--- each of the others is counted as dropped
+-- the ring is the log of these records: it holds the last of them that fit its size, and counts each of the others as dropped
 pub record HoldsLog (ring : Held) (appended : List Record) : Type 0 where
   pub latest : ring.records ≡ kept ring.size appended
   pub counted : ring.dropped + length ring.records ≡ length appended
 
--- one append: the new record is the last one, the oldest ones (`front`) are gone and counted, and they are at most 73. A record
--- has 146 bytes at most and 2 at least
+-- one append: of the old records and the new one after them the first (`front`) are gone, counted, and at most 73. A record has
+-- 146 bytes at most and 2 at least
 pub record GivesUp (old : Held) (r : Record) (new : Held) : Type 0 where
   pub front : List Record
   pub parts : old.records ++ r ∷ [] ≡ front ++ new.records
