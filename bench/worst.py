@@ -4,6 +4,7 @@
 bench/worst.py [MIB [NAME..]]: logs of so many MiB (64), of all kinds or of those named; a call is stopped after
 SECONDS of processor time. Those of many records are given in version 1 and in version 2. For each call: its status, its processor time and its most memory, both also for each
 byte of all files that it was given, and whether the memory is within the goal of 20 bytes a byte and 64 MiB.
+Times are measured and not bounded: no clause of the program's contract speaks of time.
 """
 
 import os

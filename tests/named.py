@@ -63,7 +63,7 @@ MUTANTS = [
     ),
     (
         "The ring gives up Edges into an interval whose Header is given up.",
-        edit("log_record", "edges_are_given_up_first"),
+        edit("log_ring", "edges_are_given_up_first"),
     ),
     (
         "A joint replay passes over Edges into an interval whose Header is given up.",
@@ -71,7 +71,7 @@ MUTANTS = [
     ),
     ("A joint replay takes the harts in turn and ignores Edges.", edit("joint_replay", "an_edge_holds_nothing_back")),
     # The log.
-    ("A full ring gives up half of its records.", edit("log_record", "half_of_the_records_is_given_up")),
+    ("A full ring gives up half of its records.", edit("log_ring", "half_of_the_records_is_given_up")),
     ("A log with bytes appended is read.", edit("log_file", "appended_bytes_are_taken")),
     ("A log is read without a look at its digest.", edit("log_file", "the_digest_is_skipped")),
     (
@@ -158,6 +158,10 @@ MUTANTS = [
     ("No interval is found in a log (14).", edit("hart_replay", "no_interval_is_found")),
     ("Each replay ends with records left (15).", edit("hart_replay", "records_are_left_of_each_interval")),
     ("Each log is taken for another than the list's (16).", edit("run_model", "each_log_differs")),
+    (
+        "A log of version 2 is compared with version 1 where its settings are of format 1.",
+        edit("run_model", "an_audit_goes_by_the_format"),
+    ),
     ("The first turn of each list is refused (17).", edit("run_model", "the_first_turn_is_illegal")),
     ("Each line of the debugger's commands is too long (18).", edit("step_debugger", "each_line_is_too_long")),
     ("Nothing is left of any log that is salvaged (19).", edit("log_blocks", "nothing_is_left_of_any_log")),

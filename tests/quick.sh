@@ -46,6 +46,8 @@ tries tests/shipped.sh
 tries tests/calls.sh
 tries tests/launcher.sh "$program"
 tries tests/help.sh "$program"
+tries tests/definitions.sh
+tries tests/prose.py
 tries tests/completion.sh
 tries tests/carry.sh "$program"
 tries tests/joined.py

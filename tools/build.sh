@@ -150,6 +150,7 @@ build() {
     local kit sources name on jobs child= preferring= order=()
     local -A below ended chain
     kit=$(kit) || stop 1 "there is no command rt of a Rattle kit here, which proves and builds the program: put the folder bin of ${kits/ / or } on PATH, or bring the program from where it is built ('zelkuma install')"
+    # another kit is reported and tried, not refused
     [[ " $kits " == *" ${kit%% *} "* ]] ||
         say "note: rt is of ${kit%% *}; if a proof fails, put the folder bin of ${kits/ / or } first on PATH"
     top=$(cd -P "$top" && pwd) # as the system names the folder of a process

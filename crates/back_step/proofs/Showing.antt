@@ -5,7 +5,7 @@ use Rattle.log_record.specs.declared.record.Record.{Record}
 use Rattle.joint_replay.specs.declared.kinds.Coming.{Coming}
 use Rattle.joint_replay.specs.declared.kinds.Readiness.{Readiness}
 use Rattle.joint_replay.specs.declared.kinds.Readiness.TheVariants as is
-use Rattle.joint_replay.specs.Lanes.{Course, Lane, coming_of, point_of, state_of}
+use Rattle.joint_replay.specs.Lanes.{Cursor, Lane, coming_of, point_of, state_of}
 use Rattle.joint_replay.specs.Joining.{Joining, begun, is_passed, first_waited, waits_for, readiness, readiness_of, coming}
 use Rattle.joint_replay.specs.Points.{sources_into}
 use Rattle.joint_replay.specs.Memory.{word_in}
@@ -16,18 +16,18 @@ use Rattle.back_step.proofs.Leading.{leads_walk}
 
 -- ---- one hart
 
-coming_bare : (points : List ℕ) (courses : List Course) → coming_of (bare (record { points = points; courses = courses })) ≡ coming_of (record { points = points; courses = courses })
-coming_bare (p ∷ ps) courses = refl
+coming_bare : (points : List ℕ) (cursors : List Cursor) → coming_of (bare (record { points = points; cursors = cursors })) ≡ coming_of (record { points = points; cursors = cursors })
+coming_bare (p ∷ ps) cursors = refl
 coming_bare [] [] = refl
 coming_bare [] (c ∷ cs) = refl
 
-point_bare : (points : List ℕ) (courses : List Course) → point_of (bare (record { points = points; courses = courses })) ≡ point_of (record { points = points; courses = courses })
-point_bare (p ∷ ps) courses = refl
+point_bare : (points : List ℕ) (cursors : List Cursor) → point_of (bare (record { points = points; cursors = cursors })) ≡ point_of (record { points = points; cursors = cursors })
+point_bare (p ∷ ps) cursors = refl
 point_bare [] [] = refl
 point_bare [] (c ∷ cs) = refl
 
-state_bare : (points : List ℕ) (courses : List Course) → state_of (bare (record { points = points; courses = courses })) ≡ state_of (record { points = points; courses = courses })
-state_bare (p ∷ ps) courses = refl
+state_bare : (points : List ℕ) (cursors : List Cursor) → state_of (bare (record { points = points; cursors = cursors })) ≡ state_of (record { points = points; cursors = cursors })
+state_bare (p ∷ ps) cursors = refl
 state_bare [] [] = refl
 state_bare [] (c ∷ cs) = refl
 
@@ -40,22 +40,22 @@ state_in o = elim o [ None ↦ None | Some lane ↦ state_of lane ]
 
 coming_in_bare : (ls : List Lane) (h : ℕ) → coming_in (slice_get (map bare ls) h) ≡ coming_in (slice_get ls h)
 coming_in_bare [] h = refl
-coming_in_bare (l ∷ ls) zero = coming_bare l.points l.courses
+coming_in_bare (l ∷ ls) zero = coming_bare l.points l.cursors
 coming_in_bare (l ∷ ls) (suc h) = coming_in_bare ls h
 
 state_in_bare : (ls : List Lane) (h : ℕ) → state_in (slice_get (map bare ls) h) ≡ state_in (slice_get ls h)
 state_in_bare [] h = refl
-state_in_bare (l ∷ ls) zero = state_bare l.points l.courses
+state_in_bare (l ∷ ls) zero = state_bare l.points l.cursors
 state_in_bare (l ∷ ls) (suc h) = state_in_bare ls h
 
 -- ---- which harts are ready
 
 passed_bare : (ls : List Lane) (h ic : ℕ) → is_passed (slice_get (map bare ls) h) ic ≡ is_passed (slice_get ls h) ic
 passed_bare [] h ic = refl
-passed_bare (l ∷ ls) zero ic = one l.points l.courses
+passed_bare (l ∷ ls) zero ic = one l.points l.cursors
   where
-    one : (points : List ℕ) (courses : List Course) → is_passed (Some (bare (record { points = points; courses = courses }))) ic ≡ is_passed (Some (record { points = points; courses = courses })) ic
-    one (p ∷ ps) courses = refl
+    one : (points : List ℕ) (cursors : List Cursor) → is_passed (Some (bare (record { points = points; cursors = cursors }))) ic ≡ is_passed (Some (record { points = points; cursors = cursors })) ic
+    one (p ∷ ps) cursors = refl
     one [] [] = refl
     one [] (c ∷ cs) = refl
 passed_bare (l ∷ ls) (suc h) ic = passed_bare ls h ic
@@ -78,19 +78,19 @@ others_bare records lanes h None p = refl
 others_bare records lanes h (Some c) None = refl
 others_bare records lanes h (Some c) (Some ic) = ap waits_for (waited_bare lanes (sources_into records h ic))
 
-own_bare : (records : List Record) (lanes : List Lane) (h : ℕ) (points : List ℕ) (courses : List Course)
-    → readiness_of records (map bare lanes) h (bare (record { points = points; courses = courses })) ≡ readiness_of records lanes h (record { points = points; courses = courses })
-own_bare records lanes h points courses =
-    ap (λ (c : Option Coming). ready_in records (map bare lanes) h c (point_of (bare (record { points = points; courses = courses })))) (coming_bare points courses)
-    ∙ ap (λ (p : Option ℕ). ready_in records (map bare lanes) h (coming_of (record { points = points; courses = courses })) p) (point_bare points courses)
-    ∙ others_bare records lanes h (coming_of (record { points = points; courses = courses })) (point_of (record { points = points; courses = courses }))
+own_bare : (records : List Record) (lanes : List Lane) (h : ℕ) (points : List ℕ) (cursors : List Cursor)
+    → readiness_of records (map bare lanes) h (bare (record { points = points; cursors = cursors })) ≡ readiness_of records lanes h (record { points = points; cursors = cursors })
+own_bare records lanes h points cursors =
+    ap (λ (c : Option Coming). ready_in records (map bare lanes) h c (point_of (bare (record { points = points; cursors = cursors })))) (coming_bare points cursors)
+    ∙ ap (λ (p : Option ℕ). ready_in records (map bare lanes) h (coming_of (record { points = points; cursors = cursors })) p) (point_bare points cursors)
+    ∙ others_bare records lanes h (coming_of (record { points = points; cursors = cursors })) (point_of (record { points = points; cursors = cursors }))
 
 abbrev ready_at : List Record → List Lane → ℕ → Option Lane → Readiness
 ready_at records lanes h o = elim o [ None ↦ is.Done | Some lane ↦ readiness_of records lanes h lane ]
 
 ready_bare : (records : List Record) (lanes : List Lane) (h : ℕ) (ls : List Lane) (k : ℕ) → ready_at records (map bare lanes) h (slice_get (map bare ls) k) ≡ ready_at records lanes h (slice_get ls k)
 ready_bare records lanes h [] k = refl
-ready_bare records lanes h (l ∷ ls) zero = own_bare records lanes h l.points l.courses
+ready_bare records lanes h (l ∷ ls) zero = own_bare records lanes h l.points l.cursors
 ready_bare records lanes h (l ∷ ls) (suc k) = ready_bare records lanes h ls k
 
 -- ---- all that is shown

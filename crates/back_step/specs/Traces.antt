@@ -27,10 +27,11 @@ abbrev pub entries_of : List Taken → List Entry
 entries_of [] = []
 entries_of (t ∷ ts) = entries_of ts ++ entry_of t.hart t.item ∷ []
 
+-- the harts of steps with these entries
 abbrev pub harts_of : List Entry → List ℕ
 harts_of entries = map (λ (e : Entry). e.hart) entries
 
--- a joint replay: what it began as, the steps from there, the first first, and where it stands
+-- a joint replay: what it began as, the steps from there, the first first, and the point where it stands
 pub record Trace : Type 0 where
   pub start : Joining
   pub entries : List Entry
@@ -41,6 +42,7 @@ pub record Trailed : Type 0 where
   pub every : ℕ
   pub trace : Trace
 
+-- the trace of a joint replay before its first step
 abbrev pub at_start : Joining → Trace
 at_start j = record { start = j; entries = []; now = j }
 

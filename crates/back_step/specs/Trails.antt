@@ -26,6 +26,7 @@ abbrev pub LeadsBy : Joining → List Entry → Joining → Type 0
 LeadsBy j [] k = k ≡ j
 LeadsBy j (e ∷ es) k = (x : Item × Joining) × (ready_step j e.hart ≡ Some x) × (e ≡ entry_of e.hart x.0) × LeadsBy x.1 es k
 
+-- steps with these entries can be taken
 abbrev pub CanTake : Joining → List Entry → Type 0
 CanTake j es = (k : Joining) × LeadsBy j es k
 
@@ -39,6 +40,7 @@ pub record Stands (there now : Joining) : Type 0 where
 
 -- ---- copies
 
+-- the copies, with one more if it is time for it
 abbrev pub with_copy : Bool → Joining → List Joining → List Joining
 with_copy true j copies = copies ++ j ∷ []
 with_copy false j copies = copies
@@ -50,6 +52,8 @@ HasCopies every position copies = (copies ≡ position / every + 1) ⊎ ((copies
 abbrev pub trailed : ℕ → Joining → List Entry → Joining → Trailed
 trailed every start entries now = record { every = every; trace = record { start = start; entries = entries; now = now } }
 
+-- what a trail has by its type: steps of ready harts lead from its start to the point where it stands, and to each copy. There is a copy
+-- at each multiple of `every` up to its position; the copy of the position itself may be still to be made
 pub record IsTrail (every : ℕ) (start : Joining) (entries : List Entry) (now : Joining) (copies : List Joining) : Type 0 where
   pub some : 0 < every
   pub calm : start.refused ≡ None
@@ -58,7 +62,7 @@ pub record IsTrail (every : ℕ) (start : Joining) (entries : List Entry) (now :
   pub stands : Stands there now
   pub copied : (i : ℕ) (c : Joining) → slice_get copies i ≡ Some c → LeadsBy start (take (i * every) entries) c
   pub many : HasCopies every (length entries) (length copies)
-  -- where a refusal is repeated, a step was tried
+  -- if a refusal is repeated, a step was tried
   pub tried : (now.refused ≡ None) ⊎ (length copies ≡ length entries / every + 1)
 
 -- ---- a step
@@ -76,12 +80,12 @@ pub record IsStarved (old new : Trailed) : Type 0 where
   pub halted : IsHalted old.trace.now new.trace.now
   pub same : new ≡ trailed old.every old.trace.start old.trace.entries new.trace.now
 
--- a step does the hart's next item, and has its entry; or it is refused as that is; or memory is wanting
+-- a step does the hart's next item, and has its entry; or it is refused as that is; or memory runs out
 abbrev pub TrailSteps : Trailed → ℕ → Result Stepped JointError → Trailed → Type 0
 TrailSteps old h (Ok stepped) new = (item : Item) × (trace_step old.trace h ≡ Some (Ok (item, new.trace))) × (stepped ≡ stepped_of h item) × (new.every ≡ old.every)
 TrailSteps old h (Err e) new = IsRefused old h e new ⊎ ((e ≡ why.OutOfMemory) × ((new ≡ old) ⊎ IsStarved old new))
 
--- a trail went on from another by some steps, or by none
+-- a trail continued from another by some steps, or by none
 pub record GoesOnFrom (old new : Trailed) : Type 0 where
   pub every : new.every ≡ old.every
   pub start : new.trace.start ≡ old.trace.start

@@ -1,4 +1,4 @@
-// A step that was taken.
+//! A step that was taken.
 ghost use Rattle.std.specs.Prelude.{◌≡◌};
 ghost use Rattle.back_step.specs.Traces.{entry_told};
 
@@ -6,6 +6,7 @@ use bn_base::{Addr, HartId, Ic};
 use joint_replay::Stepped;
 
 /// A step that was taken: its hart, the hart's count there, and the pc of its row, if it gave one.
+// All that a search for a breakpoint needs: so `rgo` of the debugger takes steps only once it has found one.
 #[derive(Clone, Copy, Debug, PartialEq, Eq, Drop)]
 pub struct Entry {
     pub hart: HartId,

@@ -1,4 +1,4 @@
-use race_log::Times;
+use vector_time::Times;
 
 #[test]
 fn merged_times_cover_what_either_covered(rt: HostRuntime) {

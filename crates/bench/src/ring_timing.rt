@@ -3,7 +3,8 @@ ghost use Rattle.std.specs.Prelude.{◌≡◌, ◌+◌, ◌<◌, ◌^◌, IsTrue
 ghost use Rattle.log_record.specs.Spelling.{is_marked};
 
 use crate::rate::rate_since;
-use log_record::{Record, Ring};
+use log_record::Record;
+use log_ring::Ring;
 use std::time::Instant;
 
 // A megabyte has room for 104,857 first loads.

@@ -4,7 +4,7 @@ use crate::rate::rate_since;
 use bn_base::{HartId, Image, RawSettings, Settings};
 use bn_outside::LeanBook;
 use bus_core::Bus;
-use log_record::Ring;
+use log_ring::Ring;
 use run_model::Start;
 use rv_meaning::{Ask, DecodedImage};
 use std::alloc::Global;

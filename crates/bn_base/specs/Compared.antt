@@ -9,6 +9,6 @@ use Rattle.bn_base.specs.Programs.{Part, Program}
 abbrev pub same_part : Part → Part → Bool
 same_part = eq_of_both (eq_of_both (eq_of_both (eq_of_both (on (λ p. p.first) ◌==◌) (on (λ p. p.words) (pointwise ◌==◌))) (on (λ p. p.count) ◌==◌)) (on (λ p. p.executable) beq)) (on (λ p. p.writable) beq)
 
--- whether two programs are the same
+-- whether two programs are the same, field by field: this is exactly equality
 abbrev pub same_program : Program → Program → Bool
 same_program = eq_of_both (eq_of_both (eq_of_both (on (λ i. i.parts) (pointwise same_part)) (on (λ i. i.entry) ◌==◌)) (on (λ i. i.memory) ◌==◌)) (on (λ i. i.harts) ◌==◌)

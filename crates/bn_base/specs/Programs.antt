@@ -9,7 +9,7 @@ pub record Part : Type 0 where
   pub executable : Bool
   pub writable : Bool
 
--- a program: its parts by ascending address, where every hart starts, the size of the address space, and the number of harts that run it
+-- a program: its parts by ascending address, the place where every hart starts, the size of the address space, and the number of harts that run it
 pub record Program : Type 0 where
   pub parts : List Part
   pub entry : ℕ
@@ -42,7 +42,7 @@ pub record IsProgram (i : Program) : Type 0 where
 abbrev pub is_in : Part → ℕ → Bool
 is_in p a = nat_le p.first a && nat_lt a (end_of p)
 
--- a part where the test holds, else what the later ones give
+-- a part if the test holds, else what the later ones give
 abbrev pub part_or : Bool → Part → Option Part → Option Part
 part_or true p later = Some p
 part_or false p later = later
@@ -56,6 +56,7 @@ part_at (p ∷ ps) a = part_or (is_in p a) p (part_at ps a)
 abbrev pub word_in : Part → ℕ → ℕ
 word_in p a = get_or p.words ((a - p.first) / 4) 0
 
+-- the code word at an address of a part, if the part is executable
 abbrev pub code_in : Option Part → ℕ → Option ℕ
 code_in None a = None
 code_in (Some p) a = elim p.executable [ true ↦ Some (word_in p a) | false ↦ None ]
@@ -64,6 +65,7 @@ code_in (Some p) a = elim p.executable [ true ↦ Some (word_in p a) | false ↦
 abbrev pub code_at : Program → ℕ → Option ℕ
 code_at i a = elim (a % 4 == 0) [ true ↦ code_in (part_at i.parts a) a | false ↦ None ]
 
+-- the word that a part gives at an address, 0 if there is no part
 abbrev pub first_in : Option Part → ℕ → ℕ
 first_in None a = 0
 first_in (Some p) a = word_in p a
@@ -72,15 +74,16 @@ first_in (Some p) a = word_in p a
 abbrev pub first_at : Program → ℕ → ℕ
 first_at i a = first_in (part_at i.parts a) a
 
--- mapped are the addresses from 4,096 to the memory's size
+-- a load is allowed at the mapped addresses, 4,096 to the memory's size
 abbrev pub may_load : Program → ℕ → Bool
 may_load i a = nat_le 4096 a && nat_lt a i.memory
 
+-- whether an address in this part, or in none, may be stored to
 abbrev pub is_writable : Option Part → Bool
 is_writable None = true
 is_writable (Some p) = p.writable
 
--- mapped and in no part that is read-only
+-- a store is allowed at the mapped addresses that are in no read-only part
 abbrev pub may_store : Program → ℕ → Bool
 may_store i a = may_load i a && is_writable (part_at i.parts a)
 

@@ -28,7 +28,7 @@ most_harts s = if s.format == 2 then 16 else 8
 abbrev pub is_second_sets : RawSettings → Bool
 is_second_sets s = s.sets2 == 0 || s.format == 2 && is_small_power 4096 s.sets2
 
--- its ways: none exactly where it has no sets
+-- its ways: none exactly if it has no sets
 abbrev pub is_second_ways : RawSettings → Bool
 is_second_ways s = if s.sets2 == 0 then s.ways2 == 0 else is_between 1 16 s.ways2
 
@@ -62,6 +62,7 @@ abbrev pub first_bad_of : List (ℕ × ℕ × Bool) → Option BadSetting
 first_bad_of [] = None
 first_bad_of (test ∷ rest) = bad_or test.2 (record { field = test.0; value = test.1 }) (first_bad_of rest)
 
+-- the first setting that is out of range, in the order of `tested`; None if all are in range
 abbrev pub first_bad : RawSettings → Option BadSetting
 first_bad s = first_bad_of (tested s)
 
@@ -70,6 +71,7 @@ abbrev pub checked_by : Option BadSetting → RawSettings → Result RawSettings
 checked_by None s = Ok s
 checked_by (Some bad) s = Err bad
 
+-- the settings if all are in range, else the first that isn't
 abbrev pub checked : RawSettings → Result RawSettings BadSetting
 checked s = checked_by (first_bad s) s
 

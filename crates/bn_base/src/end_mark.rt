@@ -1,4 +1,4 @@
-// How an interval ends.
+//! How an interval ends.
 ghost use Rattle.std.specs.Prelude.{◌≡◌, ◌+◌, ℕ};
 ghost use Rattle.bn_base.specs.EndMarks.{reason_word};
 ghost use Rattle.bn_base.specs.Faults.{fault_number};
@@ -11,6 +11,7 @@ use crate::fault::Fault;
 #[derive(Clone, Copy, Debug, PartialEq, Eq, Drop)]
 pub struct EndMark {
     pub ic: Ic,
+    // A number and not an enum: a record's fields are read before its code is tested.
     pub reason: u8,
     pub value: u32,
 }
@@ -81,6 +82,7 @@ impl EndMark {
 }
 
 /// The codes of the reasons are those of the log file (docs/FORMAT.md).
+// It is a law, since a clause that cites a constant holds with any number.
 pub fn reasons_have_these_codes()
     ensures length { LENGTH ≡ 1 }
     ensures call { CALL ≡ 2 }

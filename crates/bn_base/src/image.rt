@@ -1,4 +1,4 @@
-// A program as loaded.
+//! A program as loaded.
 ghost use Rattle.std.specs.Prelude.{◌≡◌, ◌≤◌, ◌%◌, ◌^◌, ℕ, true, Some, None, IfOk, IfSome, MatchOption};
 ghost use Rattle.std.specs.Bool.{Decides};
 ghost use Rattle.std.specs.Cmp.{and_per, on_per};
@@ -199,6 +199,7 @@ impl Image {
         ensures value { result ≡ heap_limit self.now }
         ensures bound { result ≤ self.now.memory }
     {
+        // With many harts and little memory the difference would be negative: so it saturates.
         let stacks = 65_536 * self.harts as u32;
         self.heap_start().max(self.memory.saturating_sub(stacks))
     }

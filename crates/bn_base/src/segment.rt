@@ -1,4 +1,4 @@
-// A stretch of a program's memory.
+//! A stretch of a program's memory.
 ghost use Rattle.std.specs.Prelude.{◌≡◌, ◌≤◌, ◌+◌, ◌*◌, ◌%◌, ◌^◌, ℕ, true, vec_len, IfOk};
 ghost use Rattle.std.specs.Bool.{Decides};
 ghost use Rattle.std.specs.Cmp.Rules.{comparing};
@@ -14,6 +14,8 @@ use std::marker::Model;
 ///
 /// Contracts see its first address, the words that the file gives (those after them are 0),
 /// how many words there are, and whether it is executable and writable.
+// In whole words a fetch and a first access are one look-up and one index. The loader fills a word that the
+// file's bytes only partly cover with 0.
 #[derive(Drop)]
 pub struct Segment {
     first: Addr,

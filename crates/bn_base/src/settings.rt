@@ -1,4 +1,4 @@
-// What a recording is set to.
+//! What a recording is set to.
 ghost use Rattle.std.specs.Prelude.{◌≡◌, ◌<◌, ◌≤◌, ◌*◌, ◌^◌, ◌%◌, ℕ, IsTrue, IfSome};
 ghost use Rattle.std.specs.Int.{is_power_of_two};
 ghost use Rattle.bn_base.specs.Ranges.{is_between, is_small_power, is_memory_size, is_second_sets, is_second_ways, most_harts, checked, first_bad, setting_name, IsSetting};
@@ -38,6 +38,7 @@ pub struct RawSettings {
 
 /// The first setting that is out of range, in the order of `RawSettings`. Its field's number is its
 /// place there counted from 1, up to line, 8; format has 10, sets2 11 and ways2 12.
+/// 9 is no setting: in a file's head it is the number of the records' bytes.
 #[derive(Clone, Copy, Debug, PartialEq, Eq, Drop, Error)]
 #[error("setting {field} is out of range: {value}")]
 pub struct BadSetting {
@@ -163,6 +164,7 @@ fn is_memory_size(value: u64) -> bool
 }
 
 // The most harts that the settings can have.
+// Any other format than 2 allows 8, also one that is out of range: harts are tested before it.
 fn most_harts(raw: &RawSettings) -> u64
     ensures { result ≡ most_harts raw.now }
 {
@@ -170,6 +172,7 @@ fn most_harts(raw: &RawSettings) -> u64
 }
 
 // Whether a second level has so many sets: none, or with format 2 a power of two.
+// It comes with format 2 alone, since a file of version 1 has no field for it.
 fn is_second_sets(raw: &RawSettings) -> bool
     ensures { result ≡ is_second_sets raw.now }
 {
@@ -177,6 +180,7 @@ fn is_second_sets(raw: &RawSettings) -> bool
 }
 
 // Whether it has so many ways: none exactly where it has no sets.
+// Sets are tested first, so ways without sets are refused as ways.
 fn is_second_ways(raw: &RawSettings) -> bool
     ensures { result ≡ is_second_ways raw.now }
 {

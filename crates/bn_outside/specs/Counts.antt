@@ -33,7 +33,7 @@ pub record NoneFell (before after : Counts) : Type 0 where
   pub longs : before.longs ≤ after.longs
   pub faults : before.faults ≤ after.faults
 
--- each refusal of a load but want of memory has a count, and that count rose
+-- each refusal of a load, but for out of memory, has a count, and that count rose
 abbrev pub LoadCause : {T : Type 0} → Counts → Counts → Result T LoadError → Type 0
 LoadCause before after (Ok value) = ⊤
 LoadCause before after (Err load.Missing) = Rose before.misses after.misses

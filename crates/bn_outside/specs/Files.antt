@@ -1,14 +1,14 @@
--- What a store holds: a map from names to bytes, where the store tells it.
+-- What a store holds: a map from names to bytes, if the store tells it.
 use Rattle.std.specs.Prelude.{◌≡◌, ◌≢◌, ℕ, ◌<◌, ◌≤◌, List, length, Option, Some, None, Result, Ok, Err, IsSomeAnd, Vec, ⊤}
 use Rattle.bn_outside.specs.declared.store.LoadError.{LoadError}
 use Rattle.bn_outside.specs.declared.store.LoadError.TheVariants as load
 
--- the bytes under each name, where there is one
+-- the bytes under each name, if there is one
 abbrev pub Files : Type 0
 Files = List ℕ → Option (List ℕ)
 
--- what the answer of a load with a limit says of the bytes under its name: they are there, aren't, or are too many, and
--- where memory is wanting they are there and fit the limit
+-- what the answer of a load with a limit says of the bytes under its name: they are there, aren't, or are too many. If memory
+-- runs out they are there and fit the limit
 abbrev pub LoadTells : {A : Type 0} → Option (List ℕ) → ℕ → Result (Vec ℕ A) LoadError → Type 0
 LoadTells there limit (Ok bytes) = there ≡ Some bytes.items
 LoadTells there limit (Err load.Missing) = there ≡ None

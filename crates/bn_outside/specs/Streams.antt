@@ -1,8 +1,8 @@
--- What a source has left and what a sink was given, where they tell it.
+-- What a source has left and what a sink was given, if they tell it.
 use Rattle.std.specs.Prelude.{◌≡◌, ◌↔◌, ℕ, ◌<◌, List, [], Option, Some, None, length, take, ⊤}
 use Rattle.std.specs.Io.KnownBytes.{Appends, Consumes}
 
--- a read that found these bytes left, into a buffer with room, answered 0 exactly where there were none
+-- a read that found these bytes left, into a buffer with room, answered 0 exactly if there were none
 abbrev pub EndsExactly : Option (List ℕ) → ℕ → List ℕ → Type 0
 EndsExactly None n buffer = ⊤
 EndsExactly (Some left) n buffer = 0 < length buffer → (n ≡ 0) ↔ (left ≡ [])
@@ -16,10 +16,10 @@ ConsumesAll (Some left) new bytes = (bytes ≡ left) × (new ≡ Some [])
 abbrev pub ConsumesPart : Option (List ℕ) → Option (List ℕ) → Type 0
 ConsumesPart old new = (bytes : List ℕ) × Consumes old new bytes
 
--- some front of a text was added, perhaps all of it
+-- some prefix of a text was added, perhaps all of it
 abbrev pub AppendsPart : Option (List ℕ) → Option (List ℕ) → List ℕ → Type 0
 AppendsPart old new text = (n : ℕ) × Appends old new (take n text)
 
--- a front of a text was added, and not all of it
+-- a prefix of a text was added, and not all of it
 abbrev pub AppendsShort : Option (List ℕ) → Option (List ℕ) → List ℕ → Type 0
 AppendsShort old new text = (n : ℕ) × (n < length text) × Appends old new (take n text)

@@ -1,4 +1,4 @@
-// A book of turns.
+//! A book of turns.
 ghost use Rattle.std.specs.Prelude.{◌≡◌, ◌+◌, ◌<◌, ◌≤◌, [], ◌∷◌, ◌++◌, true, is_some, IfSome, OnOk, OnErr};
 
 use crate::TurnRow;
@@ -8,6 +8,7 @@ use std::alloc::AllocError;
 ///
 /// A book may tell its rows or not; that is settled by its type. Whoever lends a book to several
 /// threads asks for `Send` beside it.
+// The type settles it, so that contracts of code that lends a book to threads can say it with no book at hand.
 pub trait Book: Drop {
     ghost use Rattle.std.specs.Prelude.{Bool, ℕ, List};
     ghost use Rattle.bn_outside.specs.declared.turn_row.TurnRow.{TurnRow};

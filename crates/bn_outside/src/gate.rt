@@ -1,10 +1,12 @@
-// A gate between the turns of harts that run side by side.
+//! A gate between the turns of harts that run side by side.
 use bn_base::HartId;
 
 /// What the worker of each hart calls around its turns. Threads share it, and it tells nothing.
 ///
 /// A gate can delay a worker, so that tests see harts meet or take turns in a given order. Each
 /// order that it brings about could have come without it.
+// A call gets no runtime: a yield needs none. So each call returns, of the gates here after at most 10,000,000
+// yields.
 pub trait Gate: Sync {
     /// Called before each turn: the hart has done its quiet instructions and holds no lock.
     fn pass(&self, hart: HartId);

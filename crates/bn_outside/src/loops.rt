@@ -1,4 +1,4 @@
-// The loops over a sink and a source. Each turn takes at least one byte.
+//! The loops over a sink and a source. Each turn takes at least one byte.
 ghost use Rattle.std.specs.Prelude.{◌≡◌, ◌≢◌, ◌≤◌, ◌<◌, ◌+◌, ◌++◌, ℕ, List, IfOk, IfSome, OnOk, OnErr, Err, vec_len, length};
 ghost use Rattle.std.specs.Io.KnownBytes.{Appends};
 ghost use Rattle.bn_outside.specs.Counts.{Rose};
@@ -61,6 +61,8 @@ pub fn send_all<K: Sink>(sink: &mut K, text: &[u8]) -> Result<(), Failed>
 }
 
 // Puts a piece behind what was read, for all of which room is made with the first piece.
+// Room is made only once bytes have come: so an empty file needs no memory, and a file that says a wrong size,
+// or none, is read all the same.
 fn gather(bytes: &mut Vec<u8>, piece: &[u8], expected: usize) -> Result<(), AllocError>
     ensures items { OnOk result (bytes.new.items ≡ bytes.old.items ++ piece.now) }
     ensures len { OnOk result (vec_len bytes.new ≡ vec_len bytes.old + length piece.now) }

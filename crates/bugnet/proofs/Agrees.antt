@@ -10,12 +10,11 @@ use Rattle.bn_outside.specs.Files.{Files}
 use Rattle.elf_loader.specs.Loaded.{image_of}
 use Rattle.elf_loader.specs.declared.error.ElfError.{ElfError}
 use Rattle.log_order.specs.Content.{Content, IsContent}
-use Rattle.log_blocks.specs.Faults.{is_second}
 use Rattle.log_blocks.specs.Readings.{Reads}
 use Rattle.log_blocks.specs.declared.damage.Damage.{Damage}
 use Rattle.run_model.specs.Files.{file_of}
 use Rattle.run_model.specs.Lists.{list_error}
-use Rattle.run_model.specs.Audits.{IsVerdict, verdict_of, VerdictsAreUnique}
+use Rattle.run_model.specs.Audits.{is_version2, version2_of, audited_file, IsVerdict, verdict_of, VerdictsAreUnique}
 use Rattle.run_model.specs.declared.error.TurnError.{TurnError}
 use Rattle.run_model.specs.declared.verdict.Verdict.{Verdict}
 use Rattle.run_model.specs.declared.verdict.Verdict.TheVariants.{Agree, Differ}
@@ -27,7 +26,7 @@ use Rattle.bugnet.specs.Told.{Told}
 use Rattle.bugnet.specs.Commands.{WithFile, IsByLog, by_log}
 use Rattle.bugnet.specs.Pairs.{ByPair, pair_loaded, pair_same, pair_of}
 use Rattle.bugnet.specs.Answers.{names_in, names_by, IsAnswer}
-use Rattle.bugnet.specs.Audits.{version2_of, audit_file, turns_told, audited, IsAuditOf, IsAuditWith, IsAuditBy, IsAuditIn, IsAudit, Agrees}
+use Rattle.bugnet.specs.Audits.{turns_told, audited, IsAuditOf, IsAuditWith, IsAuditBy, IsAuditIn, IsAudit, Agrees}
 use Rattle.bugnet.specs.Agreements.{AuditsAgree, AuditsRun}
 use Rattle.bugnet.specs.Outside.{WithFiles}
 use Rattle.bugnet.specs.Run.{Call, Tells, StoppedEarly, SomeTold, TellsAnswer}
@@ -70,7 +69,7 @@ same-file : VerdictsAreUnique → (file log : List ℕ) → verdict_of file log 
 same-file law file log e = subst (λ (v : Verdict). IsVerdict file log v) e (law.is file log)
 
 -- the file that a log is compared with is the run's own, or that in version 2
-of-version : (second : Bool) (there : Option (List ℕ)) (c : RawSettings) (i : Program) (digest input turns : List ℕ) → there ≡ Some (audit_file second c i digest input turns)
+of-version : (second : Bool) (there : Option (List ℕ)) (c : RawSettings) (i : Program) (digest input turns : List ℕ) → there ≡ Some (audited_file second c i digest input turns)
     → (there ≡ Some (file_of c i digest input turns)) ⊎ (there ≡ Some (version2_of c i digest input turns))
 of-version true there c i digest input turns e = inr e
 of-version false there c i digest input turns e = inl e
@@ -89,8 +88,8 @@ agrees laws log elf book input files what h is =
     let c = d.0.head.settings in
     let p = by-program go names e.0 d.0 what (bytes_eq (sha256 e.0) d.0.head.digest) (image_of e.0 c) refl refl d.2 is in
     let program = p.1.0 in
-    let second = is_second l.0 in
-    let file = audit_file second c program d.0.head.digest i.0 b.0 in
+    let second = is_version2 l.0 in
+    let file = audited_file second c program d.0.head.digest i.0 b.0 in
     let t = by-turns names what (list_error c program i.0 b.0) (verdict_of file l.0) p.1.2 is in
     let began : Began = record { image = program; settings = c; input = i.0; digest = d.0.head.digest } in
     let ends = (laws.errors began b.0).0 t.0 in
@@ -111,7 +110,7 @@ agrees laws log elf book input files what h is =
       loaded = p.1.1;
       whole = record { legal = ends.0; over = ends.1 };
       log_there = of-version second (files log) c program (sha256 e.0) i.0 b.0
-          (l.1 ∙ ap (λ (bytes : List ℕ). Some bytes) (same-file laws.verdicts file l.0 t.1 ∙ ap (λ (x : List ℕ). audit_file second c program x i.0 b.0) (sym digest)));
+          (l.1 ∙ ap (λ (bytes : List ℕ). Some bytes) (same-file laws.verdicts file l.0 t.1 ∙ ap (λ (x : List ℕ). audited_file second c program x i.0 b.0) (sym digest)));
     }
 
 pub audits-agree : AuditLaws → AuditsAgree

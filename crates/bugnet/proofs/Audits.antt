@@ -4,13 +4,12 @@ use Rattle.std.specs.Prelude.{Result, Ok, Err}
 use Rattle.bn_base.specs.Programs.{Program}
 use Rattle.bn_base.specs.declared.settings.RawSettings.{RawSettings}
 use Rattle.log_order.specs.Content.{Content}
-use Rattle.log_blocks.specs.Faults.{is_second}
 use Rattle.run_model.specs.Lists.{list_error}
-use Rattle.run_model.specs.Audits.{IsVerdict, verdict_of, VerdictsAreUnique}
+use Rattle.run_model.specs.Audits.{is_version2, audited_file, IsVerdict, verdict_of, VerdictsAreUnique}
 use Rattle.run_model.specs.declared.start.Start.{Start}
 use Rattle.run_model.specs.declared.error.TurnError.{TurnError}
 use Rattle.run_model.specs.declared.verdict.Verdict.{Verdict}
-use Rattle.bugnet.specs.Audits.{audit_file, verdict_told, turns_told, audited}
+use Rattle.bugnet.specs.Audits.{verdict_told, turns_told, audited}
 use Rattle.bugnet.specs.Names.{FileNames}
 use Rattle.bugnet.specs.Told.{Told, refused}
 use Rattle.bugnet.specs.Outside.{Gives}
@@ -36,10 +35,10 @@ pub record BeginsBy (s : Start) (d : Content) (i : Program) (input : List ℕ) :
   pub digest : s.digest ≡ d.head.digest
   pub input_is : s.input.items ≡ input
 
-file-by : (second : Bool) (s : Start) (d : Content) (i : Program) (input book : List ℕ) → BeginsBy s d i input → audit_file second s.settings s.image s.digest s.input.items book ≡ audit_file second d.head.settings i d.head.digest input book
+file-by : (second : Bool) (s : Start) (d : Content) (i : Program) (input book : List ℕ) → BeginsBy s d i input → audited_file second s.settings s.image s.digest s.input.items book ≡ audited_file second d.head.settings i d.head.digest input book
 file-by second s d i input book b =
-    ap (λ (c : RawSettings). audit_file second c s.image s.digest s.input.items book) b.settings ∙ ap (λ (p : Program). audit_file second d.head.settings p s.digest s.input.items book) b.image
-    ∙ ap (λ (x : List ℕ). audit_file second d.head.settings i x s.input.items book) b.digest ∙ ap (λ (x : List ℕ). audit_file second d.head.settings i d.head.digest x book) b.input_is
+    ap (λ (c : RawSettings). audited_file second c s.image s.digest s.input.items book) b.settings ∙ ap (λ (p : Program). audited_file second d.head.settings p s.digest s.input.items book) b.image
+    ∙ ap (λ (x : List ℕ). audited_file second d.head.settings i x s.input.items book) b.digest ∙ ap (λ (x : List ℕ). audited_file second d.head.settings i d.head.digest x book) b.input_is
 
 error-by : (s : Start) (d : Content) (i : Program) (input book : List ℕ) → BeginsBy s d i input → list_error s.settings s.image s.input.items book ≡ list_error d.head.settings i input book
 error-by s d i input book b =
@@ -48,11 +47,11 @@ error-by s d i input book b =
 
 -- its verdict, where the book's turns are a whole run
 pub gives-verdict : VerdictsAreUnique → (names : FileNames) (s : Start) (d : Content) (i : Program) (log book input : List ℕ) (v : Verdict) (result : Result Answer Refusal) → BeginsBy s d i input
-    → IsVerdict (audit_file (is_second log) s.settings s.image s.digest s.input.items book) log v → list_error s.settings s.image s.input.items book ≡ None
+    → IsVerdict (audited_file (is_version2 log) s.settings s.image s.digest s.input.items book) log v → list_error s.settings s.image s.input.items book ≡ None
     → Gives names (λ what. what ≡ verdict_told names v) result → Gives names (λ what. what ≡ audited names log book input d i) result
 gives-verdict law names s d i log book input v result b is none g =
-    let file = audit_file (is_second log) d.head.settings i d.head.digest input book in
-    let own : IsVerdict file log v = subst (λ (f : List ℕ). IsVerdict f log v) (file-by (is_second log) s d i input book b) is in
+    let file = audited_file (is_version2 log) d.head.settings i d.head.digest input book in
+    let own : IsVerdict file log v = subst (λ (f : List ℕ). IsVerdict f log v) (file-by (is_version2 log) s d i input book b) is in
     let same : v ≡ verdict_of file log = law.one file log v (verdict_of file log) own (law.is file log) in
     let whole : list_error d.head.settings i input book ≡ None = sym (error-by s d i input book b) ∙ none in
     gives-same names (verdict_told names v) (audited names log book input d i) result
@@ -62,5 +61,5 @@ gives-verdict law names s d i log book input v result b is none g =
 pub book-refused : (names : FileNames) (s : Start) (d : Content) (i : Program) (log book input : List ℕ) (e : TurnError) → BeginsBy s d i input
     → list_error s.settings s.image s.input.items book ≡ Some e → refused names (BookRefused e) ≡ audited names log book input d i
 book-refused names s d i log book input e b is =
-    let file = audit_file (is_second log) d.head.settings i d.head.digest input book in
+    let file = audited_file (is_version2 log) d.head.settings i d.head.digest input book in
     ap (λ (x : Option TurnError). turns_told x names (verdict_of file log)) (sym (sym (error-by s d i input book b) ∙ is))

@@ -7,13 +7,13 @@ use Rattle.bn_base.specs.declared.settings.RawSettings.{RawSettings}
 use Rattle.log_record.specs.declared.record.Record.{Record}
 use Rattle.log_record.specs.declared.record.Record.TheVariants.{Header, FirstLoad, ScOk, ScFailed, Edge, End}
 use Rattle.log_record.specs.Spelling.{bytes_of, hart_of}
-use Rattle.log_order.specs.declared.view.Terms.{Terms}
+use Rattle.log_order.specs.declared.view.OrderLimits.{OrderLimits}
 use Rattle.log_order.specs.declared.view.HartView.{HartView}
 use Rattle.log_order.specs.declared.view.Phase.{Phase}
 use Rattle.log_order.specs.declared.view.Phase.TheVariants.{Unknown, Awaiting, Open, Done}
 use Rattle.log_order.specs.declared.walk.OrderBreak.{OrderBreak}
 use Rattle.log_order.specs.Rules.{takes_header, takes_other, is_awaited, goes_on, next_number, phase_after, has_edge, has_end, after_header, after_edge, after_end, after_other, after_one, fresh}
-use Rattle.log_order.specs.Order.{◌>>=◌, has_source, step_at, step, at_place, after_all, broken_in, broken, broken_by, terms_of}
+use Rattle.log_order.specs.Order.{◌>>=◌, has_source, step_at, step, at_place, after_all, broken_in, broken, broken_by, order_limits_of}
 use Rattle.run_laws.specs.Ends.{last_end}
 use Rattle.run_laws.specs.Retained.{HasEnded}
 use Rattle.hart_replay.specs.Replay.{Interval, Logged, interval_of, interval_from, puts, nothing}
@@ -26,7 +26,7 @@ Harts = List HartView
 -- ---- a hart's own records
 
 -- each of its records may follow, its view before the first being this
-abbrev Follows : Terms → ℕ → HartView → List Record → Type 0
+abbrev Follows : OrderLimits → ℕ → HartView → List Record → Type 0
 Follows t k v [] = Unit {0}
 Follows t k v (r ∷ rs) = elim (hart_of r == k) as (λ b. Type 0) [ true ↦ (w : HartView) × (after_one t v r ≡ Ok w) × Follows t k w rs | false ↦ Follows t k v rs ]
 
@@ -78,23 +78,23 @@ taken true e x y h = h
 taken false e x y h = absurd cc
 
 -- a step is one of the record's hart
-record Stepped (t : Terms) (vs next : Harts) (r : Record) : Type 0 where
+record Stepped (t : OrderLimits) (vs next : Harts) (r : Record) : Type 0 where
   pub old : HartView
   pub new : HartView
   pub there : slice_get vs (hart_of r) ≡ Some old
   pub goes : after_one t old r ≡ Ok new
   pub next_is : next ≡ slice_set vs (hart_of r) new
 
-by_one : (t : Terms) (vs next : Harts) (r : Record) (v : HartView) (s : Result HartView ℕ) → slice_get vs (hart_of r) ≡ Some v → after_one t v r ≡ s
+by_one : (t : OrderLimits) (vs next : Harts) (r : Record) (v : HartView) (s : Result HartView ℕ) → slice_get vs (hart_of r) ≡ Some v → after_one t v r ≡ s
     → (s >>= λ w. good (slice_set vs (hart_of r) w)) ≡ good next → Stepped t vs next r
 by_one t vs next r v (Err x) there q e = absurd cc
 by_one t vs next r v (Ok w) there q e = record { old = v; new = w; there = there; goes = q; next_is = sym (same_harts (slice_set vs (hart_of r) w) next e) }
 
-by_get : (t : Terms) (vs next : Harts) (r : Record) (o : Option HartView) → slice_get vs (hart_of r) ≡ o → step_at t vs r o ≡ good next → Stepped t vs next r
+by_get : (t : OrderLimits) (vs next : Harts) (r : Record) (o : Option HartView) → slice_get vs (hart_of r) ≡ o → step_at t vs r o ≡ good next → Stepped t vs next r
 by_get t vs next r None there e = absurd cc
 by_get t vs next r (Some v) there e = by_one t vs next r v (after_one t v r) there refl (taken (has_source (length vs) r) 1 _ next e)
 
-stepped : (t : Terms) (vs next : Harts) (r : Record) → step t vs r ≡ good next → Stepped t vs next r
+stepped : (t : OrderLimits) (vs next : Harts) (r : Record) → step t vs r ≡ good next → Stepped t vs next r
 unfolding step
 stepped t vs next r e = by_get t vs next r (slice_get vs (hart_of r)) refl e
 
@@ -113,7 +113,7 @@ get_other (x ∷ vs) (suc h) (suc k) w e = get_other vs h k w (less h k e)
     less : (a b : ℕ) → (suc a == suc b) ≡ false → (a == b) ≡ false
     less a b e = grind arith
 
-follows : (t : Terms) (p k : ℕ) (vs us : Harts) (v : HartView) (rs : List Record) → after_all t p vs rs ≡ well us → slice_get vs k ≡ Some v → Follows t k v rs
+follows : (t : OrderLimits) (p k : ℕ) (vs us : Harts) (v : HartView) (rs : List Record) → after_all t p vs rs ≡ well us → slice_get vs k ≡ Some v → Follows t k v rs
 unfolding after_all
 follows t p k vs us v [] e g = tt
 follows t p k vs us v (r ∷ rs) e g =
@@ -152,7 +152,7 @@ same_seen : (v w : HartView) → seen v ≡ seen w → v ≡ w
 same_seen v w e = cc
 
 -- a Header was awaited, and opens its interval
-header_goes : (t : Terms) (v w : HartView) (n ic : ℕ) → after_header t v n ic ≡ seen w → (takes_header v.phase ≡ true) × (is_awaited v.phase n ic ≡ true) × (w.phase ≡ Open (n + 1) ic)
+header_goes : (t : OrderLimits) (v w : HartView) (n ic : ℕ) → after_header t v n ic ≡ seen w → (takes_header v.phase ≡ true) × (is_awaited v.phase n ic ≡ true) × (w.phase ≡ Open (n + 1) ic)
 unfolding after_header
 header_goes t v w n ic e =
     let a = passes (not (takes_header v.phase)) 2 _ w e in
@@ -168,7 +168,7 @@ other_goes v w e =
     let a = passes (not (takes_other v.phase)) 3 _ w e in
     (of_not (takes_other v.phase) a.0, ap (λ (x : HartView). x.phase) (sym (same_seen _ w a.1)))
 
-edge_goes : (t : Terms) (v w : HartView) (ic from : ℕ) → after_edge t v ic from ≡ seen w → (takes_other v.phase ≡ true) × (w.phase ≡ v.phase)
+edge_goes : (t : OrderLimits) (v w : HartView) (ic from : ℕ) → after_edge t v ic from ≡ seen w → (takes_other v.phase ≡ true) × (w.phase ≡ v.phase)
 unfolding after_edge
 edge_goes t v w ic from e =
     let a = passes (not (takes_other v.phase)) 3 _ w e in
@@ -178,7 +178,7 @@ edge_goes t v w ic from e =
     let f = passes (not (has_edge t.interval v.phase ic)) 5 _ w d.1 in
     (of_not (takes_other v.phase) a.0, ap (λ (x : HartView). x.phase) (sym (same_seen _ w f.1)))
 
-end_goes : (t : Terms) (v w : HartView) (m : EndMark) → after_end t v m ≡ seen w → (takes_other v.phase ≡ true) × (w.phase ≡ phase_after v.phase m)
+end_goes : (t : OrderLimits) (v w : HartView) (m : EndMark) → after_end t v m ≡ seen w → (takes_other v.phase ≡ true) × (w.phase ≡ phase_after v.phase m)
 unfolding after_end
 end_goes t v w m e =
     let a = passes (not (takes_other v.phase)) 3 _ w e in
@@ -242,7 +242,7 @@ unheard : (b : Bool) (s : Result HartView ℕ) (v : HartView) (W : HartView → 
 unheard true s v W none f = absurd (none f.0 f.1)
 unheard false s v W none f = f
 
-no_direct : (t : Terms) (k : ℕ) (v : HartView) (m : EndMark) (rs : List Record) → takes_other v.phase ≡ false → Follows t k v rs → Direct k m rs → ⊥
+no_direct : (t : OrderLimits) (k : ℕ) (v : HartView) (m : EndMark) (rs : List Record) → takes_other v.phase ≡ false → Follows t k v rs → Direct k m rs → ⊥
 no_direct t k v m [] c f d = d
 no_direct t k v m (Header h n ic pc x ∷ rs) c f d = by (h == k) (no_direct t k v m rs c) f d
   where
@@ -302,13 +302,13 @@ at_header k h n ic pc x m rs true q (inl d) =
 at_header k h n ic pc x m rs false q (inl d) = inl (other (h == k) ⊥ (Direct k m rs) q d)
 at_header k h n ic pc x m rs b q (inr l) = inr (later k m (Header h n ic pc x) rs l)
 
-at_end : (t : Terms) (k h : ℕ) (v : HartView) (e m : EndMark) (rs : List Record) (b : Bool) → (h == k) ≡ b → elim b as (λ x. Type 0) [ true ↦ (w : HartView) × (after_end t v e ≡ Ok w) × Follows t k w rs | false ↦ Follows t k v rs ]
+at_end : (t : OrderLimits) (k h : ℕ) (v : HartView) (e m : EndMark) (rs : List Record) (b : Bool) → (h == k) ≡ b → elim b as (λ x. Type 0) [ true ↦ (w : HartView) × (after_end t v e ≡ Ok w) × Follows t k w rs | false ↦ Follows t k v rs ]
     → Ended k m rs → Ended k m (End h e ∷ rs)
 at_end t k h v e m rs true q f (inl d) = absurd (no_direct t k f.0 m rs (closed f.0 v.phase e (end_goes t v f.0 e f.1).1) f.2 d)
 at_end t k h v e m rs false q f (inl d) = inl (other (h == k) (e ≡ m) (Direct k m rs) q d)
 at_end t k h v e m rs b q f (inr l) = inr (later k m (End h e) rs l)
 
-ended : (t : Terms) (k : ℕ) (v : HartView) (m : EndMark) (rs : List Record) → Follows t k v rs → last_end k rs ≡ Some m → Ended k m rs
+ended : (t : OrderLimits) (k : ℕ) (v : HartView) (m : EndMark) (rs : List Record) → Follows t k v rs → last_end k rs ≡ Some m → Ended k m rs
 ended t k v m [] f e = absurd cc
 ended t k v m (Header h n ic pc x ∷ rs) f e =
     let g = some_view (h == k) (after_header t v n ic) (λ w. Follows t k w rs) v f in
@@ -367,7 +367,7 @@ past_end_by low true Done ic past takes = not_both (sym takes)
 up_one : (low n : ℕ) → low ≤ n → low ≤ n + 1
 up_one low n e = omega (arith, e)
 
-past_one : (t : Terms) (low : ℕ) (v w : HartView) (r : Record) → IsPast low v.phase → after_one t v r ≡ Ok w → IsPast low w.phase
+past_one : (t : OrderLimits) (low : ℕ) (v w : HartView) (r : Record) → IsPast low v.phase → after_one t v r ≡ Ok w → IsPast low w.phase
 past_one t low v w (Header h n ic pc x) past e =
     let g = header_goes t v w n ic e in
     subst (IsPast low) (sym g.2) (up_one low n (past_header low n ic v.phase past g.0 g.1))
@@ -379,7 +379,7 @@ past_one t low v w (End h m) past e =
     let g = end_goes t v w m e in
     subst (IsPast low) (sym g.1) (past_end_by low (goes_on m.reason) v.phase m.ic past g.0)
 
-ascends : (t : Terms) (k low : ℕ) (v : HartView) (front : List Record) (n ic pc : ℕ) (x : List ℕ) (back : List Record) → IsPast low v.phase → Follows t k v (front ++ Header k n ic pc x ∷ back) → low ≤ n
+ascends : (t : OrderLimits) (k low : ℕ) (v : HartView) (front : List Record) (n ic pc : ℕ) (x : List ℕ) (back : List Record) → IsPast low v.phase → Follows t k v (front ++ Header k n ic pc x ∷ back) → low ≤ n
 ascends t k low v [] n ic pc x back past f =
     let g = of_chosen (k == k) ((w : HartView) × (after_header t v n ic ≡ Ok w) × Follows t k w back) (Follows t k v back) (itself k) f in
     let h = header_goes t v g.0 n ic g.1 in
@@ -424,7 +424,7 @@ found_later : (k n ic : ℕ) (m : EndMark) (v : Interval) (rs : List Record) (b 
 found_later k n ic m v rs true e f = not_both e
 found_later k n ic m v rs false e f = (f.interval, f.is, f.mark_is, f.begins)
 
-found : (t : Terms) (k : ℕ) (v : HartView) (m : EndMark) (front : List Record) (n ic pc : ℕ) (x : List ℕ) (back : List Record) → Follows t k v (front ++ Header k n ic pc x ∷ back) → Direct k m back
+found : (t : OrderLimits) (k : ℕ) (v : HartView) (m : EndMark) (front : List Record) (n ic pc : ℕ) (x : List ℕ) (back : List Record) → Follows t k v (front ++ Header k n ic pc x ∷ back) → Direct k m back
     → Found k n ic m (front ++ Header k n ic pc x ∷ back)
 found t k v m [] n ic pc x back f d = found_here k n ic pc x m back d
 found t k v m (Header h j c p y ∷ front) n ic pc x back f d =
@@ -467,7 +467,7 @@ found t k v m (End h e ∷ front) n ic pc x back f d =
 
 -- ---- what is in order
 
-behind : (t : Terms) (k : ℕ) (v : HartView) (front rest : List Record) → Follows t k v (front ++ rest) → (w : HartView) × Follows t k w rest
+behind : (t : OrderLimits) (k : ℕ) (v : HartView) (front rest : List Record) → Follows t k v (front ++ rest) → (w : HartView) × Follows t k w rest
 behind t k v [] rest f = (v, f)
 behind t k v (r ∷ front) rest f =
     let g = some_view (hart_of r == k) (after_one t v r) (λ w. Follows t k w (front ++ rest)) v f in
@@ -486,9 +486,9 @@ whole : (all : Bool) (rs : List Record) (r : Result Harts OrderBreak) → broken
 whole all rs (Err b) e = absurd cc
 whole all rs (Ok us) e = (us, refl)
 
-in_order : (c : RawSettings) (dropped : ℕ) (rs : List Record) → broken_by c dropped rs ≡ None → (us : Harts) × (after_all (terms_of c) 0 (replicate c.harts (fresh (dropped == 0))) rs ≡ Ok us)
+in_order : (c : RawSettings) (dropped : ℕ) (rs : List Record) → broken_by c dropped rs ≡ None → (us : Harts) × (after_all (order_limits_of c) 0 (replicate c.harts (fresh (dropped == 0))) rs ≡ Ok us)
 unfolding broken
-in_order c dropped rs e = whole (dropped == 0) rs (after_all (terms_of c) 0 (replicate c.harts (fresh (dropped == 0))) rs) e
+in_order c dropped rs e = whole (dropped == 0) rs (after_all (order_limits_of c) 0 (replicate c.harts (fresh (dropped == 0))) rs) e
 
 -- a hart's last End, where a Header of the hart is ahead of it, is that of an interval
 pub record Closes (k : ℕ) (m : EndMark) (rs : List Record) : Type 0 where
@@ -502,7 +502,7 @@ pub record Closes (k : ℕ) (m : EndMark) (rs : List Record) : Type 0 where
   pub mark_is : mark_in k back ≡ m
   pub found : Found k number ic m rs
 
-of_listed : (t : Terms) (k : ℕ) (v : HartView) (m : EndMark) (rs : List Record) → Follows t k v rs → Listed k m rs → Closes k m rs
+of_listed : (t : OrderLimits) (k : ℕ) (v : HartView) (m : EndMark) (rs : List Record) → Follows t k v rs → Listed k m rs → Closes k m rs
 of_listed t k v m rs f l = record {
   number = l.number;
   ic = l.ic;
@@ -517,7 +517,7 @@ of_listed t k v m rs f l = record {
 
 pub closes : (c : RawSettings) (dropped k number begun : ℕ) (m : EndMark) (rs : List Record) → broken_by c dropped rs ≡ None → k < c.harts → HasEnded k number begun m rs → Closes k m rs
 closes c dropped k number begun m rs order low has =
-    let t = terms_of c in
+    let t = order_limits_of c in
     let h = has.header in
     let v = fresh (dropped == 0) in
     let ran = in_order c dropped rs order in

@@ -21,8 +21,8 @@ use Rattle.run_model.specs.Machine.{answer, call_of}
 use Rattle.run_model.specs.Runs.{start, run_from, is_live, legal_from}
 use Rattle.run_model.specs.Turn.{Run, counted, after_call, after_access, next_of, mark, hart_after, stopped, other_after, harts_after, is_guarded, by_guard, guard_records, guarded_run, serve_orderly, served_if, is_orderly, serve, ask_at, turn}
 use Rattle.run_model.specs.declared.hart.Hart.{Hart}
-use Rattle.run_model.specs.declared.next.Next.{Next}
-use Rattle.run_model.specs.declared.next.Next.TheVariants.{GoesOn, NewInterval, HartOver, RunOver}
+use Rattle.run_model.specs.declared.turn_end.TurnEnd.{TurnEnd}
+use Rattle.run_model.specs.declared.turn_end.TurnEnd.TheVariants.{GoesOn, NewInterval, HartOver, RunOver}
 use Rattle.run_laws.specs.Laws.{OwnAsksAreOrderly}
 use Rattle.bus_core.specs.Bus.{marks}
 use Rattle.bugnet.specs.Crashes.{IsCrash}
@@ -39,7 +39,7 @@ abbrev Calm : (ℕ → Hart) → Type 0
 Calm harts = (j : ℕ) → is_fault (harts j).mark ≡ false
 
 -- nor does what comes next
-abbrev IsCalm : Next → Type 0
+abbrev IsCalm : TurnEnd → Type 0
 IsCalm GoesOn = Unit {0}
 IsCalm (NewInterval reason value) = nat_lt 16 reason ≡ false
 IsCalm (HartOver reason value) = nat_lt 16 reason ≡ false
@@ -48,7 +48,7 @@ IsCalm (RunOver reason value) = nat_lt 16 reason ≡ false
 calm_counted : (c : RawSettings) (h : Hart) (ic : ℕ) → IsCalm (counted c h ic)
 calm_counted c h ic = by (nat_le c.limit ic) (nat_le c.interval (ic - h.begun))
   where
-    by : (a b : Bool) → IsCalm (elim a as (λ x. Next) [ true ↦ HartOver 7 0 | false ↦ elim b as (λ x. Next) [ true ↦ NewInterval 1 0 | false ↦ GoesOn ] ])
+    by : (a b : Bool) → IsCalm (elim a as (λ x. TurnEnd) [ true ↦ HartOver 7 0 | false ↦ elim b as (λ x. TurnEnd) [ true ↦ NewInterval 1 0 | false ↦ GoesOn ] ])
     by true b = refl
     by false true = refl
     by false false = tt
@@ -99,13 +99,13 @@ calm_next : (c : RawSettings) (call : Option Plan) (h : Hart) (want : Want) (rep
 calm_next c None h want reply ic none = calm_access c h want ic none
 calm_next c (Some plan) h want reply ic none = calm_call plan reply
 
-calm_hart : (next : Next) (s : HartState) (skipped bytes : ℕ) (h : Hart) → IsCalm next → is_fault h.mark ≡ false → is_fault (hart_after next s skipped bytes h).mark ≡ false
+calm_hart : (next : TurnEnd) (s : HartState) (skipped bytes : ℕ) (h : Hart) → IsCalm next → is_fault h.mark ≡ false → is_fault (hart_after next s skipped bytes h).mark ≡ false
 calm_hart GoesOn s skipped bytes h calm e = e
 calm_hart (NewInterval reason value) s skipped bytes h calm e = calm
 calm_hart (HartOver reason value) s skipped bytes h calm e = calm
 calm_hart (RunOver reason value) s skipped bytes h calm e = calm
 
-calm_other : (next : Next) (h : Hart) → is_fault h.mark ≡ false → is_fault (other_after next h).mark ≡ false
+calm_other : (next : TurnEnd) (h : Hart) → is_fault h.mark ≡ false → is_fault (other_after next h).mark ≡ false
 calm_other GoesOn h e = e
 calm_other (NewInterval reason value) h e = e
 calm_other (HartOver reason value) h e = e
@@ -115,7 +115,7 @@ calm_other (RunOver reason value) h e = by h.live
     by true = refl
     by false = e
 
-calm_harts : (next : Next) (k : ℕ) (own : Hart) (harts : ℕ → Hart) → is_fault own.mark ≡ false → Calm harts → Calm (harts_after next k own harts)
+calm_harts : (next : TurnEnd) (k : ℕ) (own : Hart) (harts : ℕ → Hart) → is_fault own.mark ≡ false → Calm harts → Calm (harts_after next k own harts)
 calm_harts next k own harts e calm j = by (j == k)
   where
     by : (b : Bool) → is_fault (elim b as (λ x. Hart) [ true ↦ own | false ↦ other_after next (harts j) ]).mark ≡ false
@@ -153,8 +153,8 @@ calm_turn c i run k orderly none calm = orderly_run c i run k (λ x. Calm x.hart
 abbrev AreDead : (ℕ → Hart) → Type 0
 AreDead harts = (j : ℕ) → (harts j).live ≡ false
 
-dead_harts : (next : Next) (reason value k : ℕ) (s : HartState) (skipped bytes : ℕ) (h : Hart) (harts : ℕ → Hart) → next ≡ RunOver reason value → AreDead (harts_after next k (hart_after next s skipped bytes h) harts)
-dead_harts next reason value k s skipped bytes h harts e = subst (λ (n : Next). AreDead (harts_after n k (hart_after n s skipped bytes h) harts)) (sym e) (λ j. by (j == k) j)
+dead_harts : (next : TurnEnd) (reason value k : ℕ) (s : HartState) (skipped bytes : ℕ) (h : Hart) (harts : ℕ → Hart) → next ≡ RunOver reason value → AreDead (harts_after next k (hart_after next s skipped bytes h) harts)
+dead_harts next reason value k s skipped bytes h harts e = subst (λ (n : TurnEnd). AreDead (harts_after n k (hart_after n s skipped bytes h) harts)) (sym e) (λ j. by (j == k) j)
   where
     over : (x : Hart) (b : Bool) → x.live ≡ b → (elim b as (λ y. Hart) [ true ↦ record x { live = false; mark = Some (mark x.state.ic 5 0) } | false ↦ x ]).live ≡ false
     over x true e = refl

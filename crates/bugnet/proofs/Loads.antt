@@ -18,7 +18,7 @@ use Rattle.log_blocks.specs.File.{IsRefusal}
 use Rattle.log_blocks.specs.declared.damage.Damage.{Damage}
 use Rattle.log_blocks.specs.declared.damage.Damage.TheVariants.{File, BadBlock}
 use Rattle.command_words.specs.Words.{RecordLine, seen_recording}
-use Rattle.command_words.specs.declared.commands.Recording.{Recording}
+use Rattle.command_words.specs.declared.commands.RecordOptions.{RecordOptions}
 use Rattle.bugnet.specs.Names.{FileNames, name_of}
 use Rattle.bugnet.specs.Refusals.{line_of, said_of, log_refusal}
 use Rattle.bugnet.specs.Told.{Told, refused}
@@ -276,7 +276,7 @@ mapped A B f None = refl
 mapped A B f (Some a) = refl
 
 -- what a recording's line asks for, by the names in it
-pub record-answers : (known : Option Files) (names : FileNames) (r : Recording) (how : Manner) (has : Bool) (result : Result Answer Refusal) → names ≡ names_in (RecordLine (seen_recording r))
+pub record-answers : (known : Option Files) (names : FileNames) (r : RecordOptions) (how : Manner) (has : Bool) (result : Result Answer Refusal) → names ≡ names_in (RecordLine (seen_recording r))
     → how ≡ manner_of (seen_recording r) → has ≡ is_some r.input
     → WithFiles known (λ files. GivesBy names (λ f. IsRecord f names r.settings how has) files result)
     → WithFiles known (λ files. GivesBy names (IsAnswer (Some (RecordLine (seen_recording r)))) files result)

@@ -26,8 +26,8 @@ use Rattle.step_debugger.specs.Answers.{Moves, Session, Answer, hart_text, addre
 use Rattle.step_debugger.specs.Answers.{begin as session_begin}
 use Rattle.step_debugger.specs.Commands.{command_of}
 use Rattle.step_debugger.specs.Transcript.{goes_on_by, answers}
-use Rattle.step_debugger.specs.declared.command.Command.{Command}
-use Rattle.step_debugger.specs.declared.command.Command.TheVariants as to
+use Rattle.step_debugger.specs.declared.command.DebugCommand.{DebugCommand}
+use Rattle.step_debugger.specs.declared.command.DebugCommand.TheVariants as to
 use Rattle.step_debugger.specs.declared.session.Ending.{Ending}
 use Rattle.step_debugger.specs.declared.session.Ending.TheVariants as ending
 use Rattle.bugnet.specs.Debugging.{session_after, SessionsShowTheRun}
@@ -125,7 +125,7 @@ either-on : (P : Trace → Type 0) (b : Bool) (x y : Answer) → AnswersOn P x �
 either-on P true x y p q = p
 either-on P false x y p q = q
 
-answer-on : (P : Trace → Type 0) → Lasts P → (s : Session) (c : Command) → P s.trace → AnswersOn P (answer s c)
+answer-on : (P : Trace → Type 0) → Lasts P → (s : Session) (c : DebugCommand) → P s.trace → AnswersOn P (answer s c)
 answer-on P g s to.Empty p = said-on P s [] p
 answer-on P g s (to.Hart n) p =
     either-on P (nat_lt n (length s.trace.now.lanes)) (says (record s { hart = n }) (hart_text n)) (unknown s) (said-on P (record s { hart = n }) (hart_text n) p) (said-on P s (codes "?\n") p)
@@ -366,7 +366,7 @@ back-never j None e = absurd cc
 back-never j (Some stop) e = absurd cc
 
 -- only the command `quit` quits
-only-quit : (s : Session) (c : Command) → (answer s c).ends ≡ ending.Quits → c ≡ to.Quit
+only-quit : (s : Session) (c : DebugCommand) → (answer s c).ends ≡ ending.Quits → c ≡ to.Quit
 only-quit s to.Empty e = absurd (said-never s [] e)
 only-quit s (to.Hart n) e =
     absurd (either-never (nat_lt n (length s.trace.now.lanes)) (says (record s { hart = n }) (hart_text n)) (unknown s) (said-never (record s { hart = n }) (hart_text n)) (said-never s (codes "?\n")) e)
@@ -390,13 +390,13 @@ only-quit s to.Where e = absurd (said-never s (places_from s.trace.now 0 (length
 only-quit s to.Quit e = refl
 only-quit s to.Other e = absurd (said-never s (codes "?\n") e)
 
-quit-ends : (s : Session) (c : Command) → c ≡ to.Quit → (answer s c).ends ≡ ending.Quits
-quit-ends s c e = subst (λ (x : Command). (answer s x).ends ≡ ending.Quits) (sym e) refl
+quit-ends : (s : Session) (c : DebugCommand) → c ≡ to.Quit → (answer s c).ends ≡ ending.Quits
+quit-ends s c e = subst (λ (x : DebugCommand). (answer s x).ends ≡ ending.Quits) (sym e) refl
 
 two-ends : (x : Ending) → x ≡ ending.GoesOn → x ≡ ending.Quits → ⊥
 two-ends x e f = absurd cc
 
-going : (s : Session) (c : Command) → (answer s c).ends ≡ ending.GoesOn → c ≢ to.Quit
+going : (s : Session) (c : DebugCommand) → (answer s c).ends ≡ ending.GoesOn → c ≢ to.Quit
 going s c e q = two-ends (answer s c).ends e (quit-ends s c q)
 
 no-quit-by : (x : Ending) (a : Answer) (line : List ℕ) (lines : List (List ℕ)) (go : Session → Answer) → a.ends ≡ x → (a.ends ≡ ending.GoesOn → command_of line ≢ to.Quit) → ((go a.session).ends ≡ ending.GoesOn → NoQuit lines)

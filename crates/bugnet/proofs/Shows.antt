@@ -19,9 +19,9 @@ use Rattle.bugnet.specs.Commands.{ended, replay_found}
 use Rattle.bugnet.specs.Logs.{IsBegun}
 use Rattle.bugnet.specs.Outside.{SendStops, ToldRefusal, told_of_reading, SameFiles, KeptFiles}
 use Rattle.bugnet.specs.Run.{Call, AreKept, Tells}
-use Rattle.bugnet.specs.declared.answer.Reading.{Reading}
-use Rattle.bugnet.specs.declared.printing.Ending.{Ending}
-use Rattle.bugnet.specs.declared.printing.Ending.TheVariants as ending
+use Rattle.bugnet.specs.declared.answer.IntervalToReplay.{IntervalToReplay}
+use Rattle.bugnet.specs.declared.printing.ReplayEnd.{ReplayEnd}
+use Rattle.bugnet.specs.declared.printing.ReplayEnd.TheVariants as ending
 use Rattle.bugnet.specs.declared.refusal.Refusal.{Refusal}
 use Rattle.bugnet.specs.declared.refusal.Refusal.TheVariants.{OutOfMemory, ReplayStopped}
 use Rattle.bugnet.proofs.Prints.{part-whole}
@@ -46,7 +46,7 @@ abbrev shown : FileNames → (hart interval : ℕ) → EndMark → HartState →
 shown names hart interval mark s r = ended names hart interval mark (begin_text hart interval s.ic ++ rows_text r.rows) r.outcome
 
 -- an interval that was begun is told so
-begun-told : (names : FileNames) (reading : Reading) (r : Replaying) (mark : EndMark) → IsBegun reading r mark
+begun-told : (names : FileNames) (reading : IntervalToReplay) (r : Replaying) (mark : EndMark) → IsBegun reading r mark
     → told_of_reading names reading ≡ shown names reading.hart reading.interval mark r.state r.left
 begun-told names reading r mark b =
     let v = b.interval in
@@ -57,7 +57,7 @@ begun-told names reading r mark b =
     ∙ ap (λ (s : HartState). shown names h n mark s _) (sym b.state)
     ∙ ap (λ (x : Replayed). shown names h n mark r.state x) (sym b.left)
 
-back : (names : FileNames) (reading : Reading) (r : Replaying) (mark : EndMark) (status : ℕ) (k : Call) → IsBegun reading r mark
+back : (names : FileNames) (reading : IntervalToReplay) (r : Replaying) (mark : EndMark) (status : ℕ) (k : Call) → IsBegun reading r mark
     → Tells names (shown names reading.hart reading.interval mark r.state r.left) status k → Tells names (told_of_reading names reading) status k
 back names reading r mark status k b h = subst (λ (t : Told). Tells names t status k) (sym (begun-told names reading r mark b)) h
 
@@ -66,7 +66,7 @@ done-told : (names : FileNames) (hart interval : ℕ) (mark : EndMark) (text : L
 unfolding ended
 done-told names hart interval mark text k h err files = printed-told names (text ++ end_text hart interval mark) k h err files
 
-pub interval-done : (names : FileNames) (reading : Reading) (r : Replaying) (mark : EndMark) (x : Ending) (k : Call)
+pub interval-done : (names : FileNames) (reading : IntervalToReplay) (r : Replaying) (mark : EndMark) (x : ReplayEnd) (k : Call)
     → IsBegun reading r mark → Appends k.old.out k.new.out (begin_text reading.hart reading.interval r.state.ic ++ rest_text reading.hart reading.interval mark r.left)
     → outcome_of x ≡ r.left.outcome → x ≡ ending.Done → Appends k.old.err k.new.err [] → WhereTold k.old.files k.new.files SameFiles
     → Tells names (told_of_reading names reading) 0 k
@@ -90,7 +90,7 @@ differs-told names hart interval mark text e status k h files (inl told) = inl (
 differs-told names hart interval mark text e status k h files (inr told) =
     inr (wanting names (ended names hart interval mark text (Refused e)) status k (part-whole k.old.out k.new.out text h) files (inl told))
 
-pub interval-differs : (names : FileNames) (reading : Reading) (r : Replaying) (mark : EndMark) (x : Ending) (e : ReplayError) (status : ℕ) (k : Call)
+pub interval-differs : (names : FileNames) (reading : IntervalToReplay) (r : Replaying) (mark : EndMark) (x : ReplayEnd) (e : ReplayError) (status : ℕ) (k : Call)
     → IsBegun reading r mark → Appends k.old.out k.new.out (begin_text reading.hart reading.interval r.state.ic ++ rest_text reading.hart reading.interval mark r.left)
     → outcome_of x ≡ r.left.outcome → x ≡ ending.Stopped e → WhereTold k.old.files k.new.files SameFiles
     → ToldRefusal names (ReplayStopped e) status k.old.err k.new.err k.old.err_faults k.new.err_faults → Tells names (told_of_reading names reading) status k
@@ -110,7 +110,7 @@ kept-none : (names : FileNames) (what : Told) (k : Call) → what.saved ≡ None
 kept-none names what k e files = subst (λ (s : Option Saved). WhereTold k.old.files k.new.files (KeptFiles s names.log names.book)) (sym e) files
 
 -- sending stopped
-pub interval-stopped : (names : FileNames) (reading : Reading) (r : Replaying) (mark : EndMark) (why : Refusal) (status : ℕ) (k : Call)
+pub interval-stopped : (names : FileNames) (reading : IntervalToReplay) (r : Replaying) (mark : EndMark) (why : Refusal) (status : ℕ) (k : Call)
     → IsBegun reading r mark
     → AppendsPart k.old.out k.new.out (begin_text reading.hart reading.interval r.state.ic ++ rest_text reading.hart reading.interval mark r.left) × SendStops k.old.out_faults k.new.out_faults why
     → WhereTold k.old.files k.new.files SameFiles → ToldRefusal names why status k.old.err k.new.err k.old.err_faults k.new.err_faults
@@ -123,13 +123,13 @@ interval-stopped names reading r mark why status k b h files told =
     back names reading r mark status k b
     (stopped-told names what why status k (there, h.1) (kept-none names what k (ended-saved names hart n mark (begin_text hart n r.state.ic ++ rows_text r.left.rows) r.left.outcome) files) told)
 
-found-saved : (names : FileNames) (reading : Reading) (o : Option Interval) → (replay_found names reading.hart reading.interval reading.log reading.image o).saved ≡ None
+found-saved : (names : FileNames) (reading : IntervalToReplay) (o : Option Interval) → (replay_found names reading.hart reading.interval reading.log reading.image o).saved ≡ None
 unfolding refused
 found-saved names reading None = refl
 found-saved names reading (Some v) = ended-saved names reading.hart reading.interval v.mark _ _
 
 -- the log keeps no such interval, or there was no memory for its replay
-pub not-begun : (names : FileNames) (reading : Reading) (r : Refusal) (status : ℕ) (k : Call)
+pub not-begun : (names : FileNames) (reading : IntervalToReplay) (r : Refusal) (status : ℕ) (k : Call)
     → ((r ≡ ReplayStopped (NoInterval reading.hart reading.interval)) × (interval_of reading.hart reading.interval reading.log.records ≡ None)) ⊎ (r ≡ OutOfMemory)
     → Appends k.old.out k.new.out [] → WhereTold k.old.files k.new.files SameFiles
     → ToldRefusal names r status k.old.err k.new.err k.old.err_faults k.new.err_faults → Tells names (told_of_reading names reading) status k

@@ -16,7 +16,7 @@ use Rattle.bugnet.specs.Run.{Call, IsFree, IsUnsaved, AreKept, SavingStopped, Ou
 use Rattle.bugnet.specs.declared.names.Role.{Role}
 use Rattle.bugnet.specs.declared.names.Role.TheVariants as role
 use Rattle.bugnet.specs.declared.answer.Answer.{Answer}
-use Rattle.bugnet.specs.declared.answer.Recording.{Recording}
+use Rattle.bugnet.specs.declared.answer.RunToTell.{RunToTell}
 use Rattle.bugnet.specs.declared.refusal.Refusal.{Refusal}
 use Rattle.bugnet.specs.declared.refusal.Refusal.TheVariants.{WordsRefused, OutOfRange, SameName, StoreFailed, Missing, TooLong, ElfRefused, LogRefused, ProgramDiffers, OutOfMemory, WriteFailed, ReplayStopped, ReadFailed, LineTooLong, CommandsTooLong, BookRefused, FileDiffers, NothingLeft, TooManyRaces, NoRow}
 use Rattle.bugnet.proofs.Prints.{part-whole, rose-later}
@@ -312,7 +312,7 @@ unsaved-told names what r status k out files told = inr (record {
 })
 
 -- sending to err stopped
-pub half-told : (names : FileNames) (what : Recording) (r : Refusal) (status : ℕ) (k : Call) (mid : Option (List ℕ)) (faults : ℕ)
+pub half-told : (names : FileNames) (what : RunToTell) (r : Refusal) (status : ℕ) (k : Call) (mid : Option (List ℕ)) (faults : ℕ)
     → Appends k.old.out k.new.out what.out.items → AppendsShort k.old.err mid what.err.items × Rose k.old.err_faults faults → r ≡ WriteFailed → k.old.err_faults ≤ faults
     → AreKept names (told_of_recording what) k → ToldRefusal names r status mid k.new.err faults k.new.err_faults
     → Tells names (told_of_recording what) status k
@@ -326,7 +326,7 @@ half-told names what r status k mid faults out h is later files told = inr (reco
 })
 
 -- all of it is done
-pub recorded-told : (names : FileNames) (what : Recording) (k : Call) → Appends k.old.out k.new.out what.out.items → Appends k.old.err k.new.err what.err.items
+pub recorded-told : (names : FileNames) (what : RunToTell) (k : Call) → Appends k.old.out k.new.out what.out.items → Appends k.old.err k.new.err what.err.items
     → AreKept names (told_of_recording what) k → Tells names (told_of_recording what) (end_status what.end) k
 recorded-told names what k out err files = inl (record { status_is = refl; out = out; err = err; files = files })
 

@@ -42,7 +42,7 @@ names_by (Some line) = names_in line
 abbrev pub manner_of : RecordingLine → Manner
 manner_of r = record { seed = r.seed; lean = r.lean }
 
--- what the words alone refuse, in the order of the tests: a setting, and then LOG and BOOK under one name, where both are saved; or
+-- what the words alone refuse, in the order of the tests: a setting, and then LOG and BOOK under one name, if both are saved; or
 -- LOG and NEW under one name
 abbrev pub name_refusal : Bool → Option Refusal
 name_refusal true = Some SameName
@@ -66,6 +66,7 @@ refusal_in (ConvertLine log copy) = name_refusal (bytes_eq log copy)
 refusal_in (SalvageLine log copy) = name_refusal (bytes_eq log copy)
 refusal_in (DemoLine seed) = None
 
+-- what the words alone refuse, if they do
 abbrev pub refusal_by : Option Line → Option Refusal
 refusal_by None = Some WordsRefused
 refusal_by (Some line) = refusal_in line

@@ -4,7 +4,7 @@ use Rattle.bn_outside.specs.Counts.{counted}
 use Rattle.command_words.specs.Words.{Line, RecordLine, ReplayLine, JointLine, DebugLine, ListLine, CheckLine, AuditLine, RacesLine, SliceLine, ConvertLine, SalvageLine, DemoLine}
 use Rattle.bugnet.specs.Saves.{IsRecorded}
 use Rattle.bugnet.specs.declared.answer.Answer.{Answer}
-use Rattle.bugnet.specs.declared.answer.Recording.{Recording}
+use Rattle.bugnet.specs.declared.answer.RunToTell.{RunToTell}
 use Rattle.bugnet.specs.declared.answer.Answer.TheVariants.{Recorded, Interval, Joined, Listed, Checked, Agreed, Renewed, Shown, Halted}
 
 -- a recording saves two files; a lean one saves one, as does what makes a log of another
@@ -27,7 +27,7 @@ pub record SavesEach (lean : Bool) (status before after : ℕ) : Type 0 where
   pub all : SavedAll status → after ≡ saves_after lean before
 
 -- a recording with no list of turns
-abbrev pub is_lean : Recording → Bool
+abbrev pub is_lean : RunToTell → Bool
 is_lean r = not (is_some r.book)
 
 -- what an answer saves: a recording its files, a log that is made of another one file, all else none

@@ -1,5 +1,5 @@
 -- What the command `audit` answers: whether a log is the file of the run of a book's turns.
-use Rattle.std.specs.Prelude.{◌≡◌, ◌≤◌, ◌⊎◌, ℕ, Bool, true, false, List, length, Option, Some, None, Ok}
+use Rattle.std.specs.Prelude.{◌≡◌, ◌≤◌, ◌⊎◌, ℕ, Bool, List, length, Option, Some, None, Ok}
 use Rattle.sha2.specs.Sha256.{sha256}
 use Rattle.bn_base.specs.Programs.{Program}
 use Rattle.bn_base.specs.declared.settings.RawSettings.{RawSettings}
@@ -7,12 +7,9 @@ use Rattle.bn_base.specs.Ranges.{IsSetting}
 use Rattle.bn_outside.specs.Files.{Files}
 use Rattle.elf_loader.specs.Loaded.{image_of}
 use Rattle.log_order.specs.Content.{Content}
-use Rattle.log_file.specs.Layout.{file_bytes2}
-use Rattle.log_blocks.specs.Faults.{is_second}
-use Rattle.run_model.specs.Files.{content_of, file_of}
-use Rattle.run_model.specs.Runs.{run_of}
+use Rattle.run_model.specs.Files.{file_of}
 use Rattle.run_model.specs.Lists.{list_error}
-use Rattle.run_model.specs.Audits.{verdict_of}
+use Rattle.run_model.specs.Audits.{is_version2, version2_of, audited_file, verdict_of}
 use Rattle.run_model.specs.declared.error.TurnError.{TurnError}
 use Rattle.run_model.specs.declared.verdict.Verdict.{Verdict}
 use Rattle.run_model.specs.declared.verdict.Verdict.TheVariants.{Agree, Differ}
@@ -37,20 +34,11 @@ abbrev pub turns_told : Option TurnError → FileNames → Verdict → Told
 turns_told (Some e) names verdict = refused names (BookRefused e)
 turns_told None names verdict = verdict_told names verdict
 
--- the file of version 2 of the run of a list of turns, whatever the format of the settings
-abbrev pub version2_of : RawSettings → Program → (digest input : List ℕ) → List ℕ → List ℕ
-version2_of c i digest input b = file_bytes2 (content_of c digest (run_of c i input b))
-
--- a log of version 2 is compared with the file of version 2 of a run, any other with the run's own file
-abbrev pub audit_file : (is_second : Bool) → RawSettings → Program → (digest input : List ℕ) → List ℕ → List ℕ
-audit_file true c i digest input b = version2_of c i digest input b
-audit_file false c i digest input b = file_of c i digest input b
-
 -- the bytes of a log are compared with the file of the run of a book's turns, which has the settings and the digest that the
 -- log says, its program and this input
 abbrev pub audited : FileNames → (log book input : List ℕ) → Content → Program → Told
 audited names log book input d i =
-    turns_told (list_error d.head.settings i input book) names (verdict_of (audit_file (is_second log) d.head.settings i d.head.digest input book) log)
+    turns_told (list_error d.head.settings i input book) names (verdict_of (audited_file (is_version2 log) d.head.settings i d.head.digest input book) log)
 
 -- ---- the command: all files are loaded before the first is read
 
@@ -66,6 +54,7 @@ IsAuditBy files names has_input log elf what = WithFile files names role.Book 10
 abbrev pub IsAuditIn : Files → FileNames → (has_input : Bool) → (log : List ℕ) → Told → Type 0
 IsAuditIn files names has_input log what = WithFile files names role.Elf 67108864 (λ elf what. IsAuditBy files names has_input log elf what) what
 
+-- what `audit` has to answer
 abbrev pub IsAudit : Files → FileNames → (has_input : Bool) → Told → Type 0
 IsAudit files names has_input what = WithFile files names role.Log 272629760 (λ log what. IsAuditIn files names has_input log what) what
 

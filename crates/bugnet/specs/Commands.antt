@@ -30,7 +30,7 @@ use Rattle.bugnet.specs.declared.refusal.Refusal.TheVariants.{OutOfRange, SameNa
 
 -- ---- files
 
--- the first where a test holds, else the second
+-- the first if a test holds, else the second
 abbrev pub Either : Bool → Type 0 → Type 0 → Type 0
 Either true A B = A
 Either false A B = B
@@ -39,7 +39,7 @@ abbrev pub IsByFile : Option (List ℕ) → FileNames → Role → ℕ → (List
 IsByFile None names r limit Go what = what ≡ refused names (Missing r)
 IsByFile (Some bytes) names r limit Go what = Either (nat_lt limit (length bytes)) (what ≡ refused names (TooLong r)) (Go bytes what)
 
--- an answer that goes on with the bytes of a file, where it is there and within the limit
+-- an answer that continues with the bytes of a file, if it is there and within the limit
 unfoldable pub WithFile : Files → FileNames → Role → ℕ → (List ℕ → Told → Type 0) → Told → Type 0
 WithFile files names r limit Go what = IsByFile (files (name_of names r)) names r limit Go what
 
@@ -93,9 +93,11 @@ replay_of names hart interval elf d = replay_same (bytes_eq (sha256 elf) d.head.
 
 -- ---- the commands
 
+-- what `list` has to answer, by the files that are there
 abbrev pub IsList : Files → FileNames → Told → Type 0
 IsList files names what = WithFile files names role.Log 272629760 (λ log what. IsByLog names log list_of what) what
 
+-- what `check` has to answer
 abbrev pub IsCheck : Files → FileNames → Told → Type 0
 IsCheck files names what = WithFile files names role.Log 272629760 (λ log what. IsByLog names log check_of what) what
 
@@ -103,6 +105,7 @@ abbrev pub IsReplayOf : Files → FileNames → (hart interval : ℕ) → List �
 IsReplayOf files names hart interval log what =
     WithFile files names role.Elf 67108864 (λ elf what. IsByLog names log (replay_of names hart interval elf) what) what
 
+-- what `replay` has to answer: LOG is loaded first, then ELF
 abbrev pub IsReplay : Files → FileNames → (hart interval : ℕ) → Told → Type 0
 IsReplay files names hart interval what = WithFile files names role.Log 272629760 (λ log what. IsReplayOf files names hart interval log what) what
 
@@ -115,12 +118,12 @@ abbrev pub IsByProgram : Result Program ElfError → Files → FileNames → Raw
 IsByProgram (Err e) files names c how has_input digest what = what ≡ refused names (ElfRefused e)
 IsByProgram (Ok i) files names c how has_input digest what = IsByInput has_input files names (IsRun c i digest how) what
 
--- LOG and BOOK under one name, where both are saved
+-- LOG and BOOK under one name, if both are saved
 abbrev pub is_clash : (lean : Bool) → (log book : List ℕ) → Bool
 is_clash true log book = false
 is_clash false log book = bytes_eq log book
 
--- LOG and BOOK have to be two names, where both are saved
+-- LOG and BOOK have to be two names, if both are saved
 abbrev pub IsByNames : Bool → Files → FileNames → RawSettings → Manner → Bool → Told → Type 0
 IsByNames true files names c how has_input what = what ≡ refused names SameName
 IsByNames false files names c how has_input what = WithFile files names role.Elf 67108864 (λ elf what. IsByProgram (image_of elf c) files names c how has_input (sha256 elf) what) what
@@ -129,5 +132,6 @@ abbrev pub IsBySettings : Option BadSetting → Files → FileNames → RawSetti
 IsBySettings (Some bad) files names c how has_input what = what ≡ refused names (OutOfRange bad)
 IsBySettings None files names c how has_input what = IsByNames (is_clash how.lean names.log names.book) files names c how has_input what
 
+-- what `record` has to answer: the settings are tested, then the names, then ELF and the input are loaded
 abbrev pub IsRecord : Files → FileNames → RawSettings → Manner → Bool → Told → Type 0
 IsRecord files names c how has_input what = IsBySettings (first_bad c) files names c how has_input what

@@ -1,4 +1,4 @@
--- Where a command has an answer, and where it is done.
+-- When a command has an answer, and when it is done.
 use Rattle.std.specs.Prelude.{◌≡◌, ◌≤◌, ◌⊎◌, ℕ, List, false, length, Option, Some, None, Ok}
 use Rattle.sha2.specs.Sha256.{sha256}
 use Rattle.bn_base.specs.Programs.{Program}
@@ -85,7 +85,7 @@ pub record HasSecond (there : Option (List ℕ)) : Type 0 where
   pub is : IsContent content
   pub log : there ≡ Some (file_bytes2 content)
 
--- what a line needs. What a session of the debugger needs is said by itself, since it goes by its commands
+-- what a line needs. What a session of the debugger needs is said by itself, since it is determined by its commands
 abbrev pub CanDo : Line → Files → Type 0
 CanDo (RecordLine r) files = CanRecord r files
 CanDo (ReplayLine log elf hart interval) files = (p : Part) × (v : Interval) × ReplaysRun (Some (ReplayLine log elf hart interval)) files p v × (length p.elf ≤ 67108864)
@@ -105,10 +105,11 @@ pub record CanBeDone (line : Line) (files : Files) : Type 0 where
   pub answer : (what : Told) × IsAnswer (Some line) files what
   pub done : (told : Told) → IsAnswer (Some line) files told → IsRecorded told.status
 
+-- so it is with each line for which words and files are as it needs them
 abbrev pub EachCanBeDone : Type 0
 EachCanBeDone = (line : Line) (files : Files) → CanDo line files → CanBeDone line files
 
--- and the command is done, unless memory was wanting or the outside failed
+-- and the command is done, unless memory ran out or the outside failed
 abbrev pub IsDone : Option Line → Files → ℕ → Type 0
 IsDone None files status = Unit {0}
 IsDone (Some line) files status = CanDo line files → IsFree status ⊎ IsRecorded status

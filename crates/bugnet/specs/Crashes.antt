@@ -43,9 +43,9 @@ pub record PrintsLine (line : List ℕ) (what : Told) : Type 0 where
   pub told : what ≡ printed text
   pub has : HasLine line text
 
--- Of what a recording leaves that ended in a crash the log has an interval of the crash's hart that ends with the fault, wherever
--- the log and the program file are by then: its line is one of those that `list` prints, and `replay` prints the run's own rows
--- of it, up to the fault's, and then that end
+-- Of what a recording leaves that ended in a crash, the log has an interval of the crash's hart that ends with the fault,
+-- wherever the log and the program file are by then. Its line is one of those that `list` prints. `replay` prints the run's own
+-- rows of it, up to the fault's, and then that end
 pub record ShowsCrash {r : RecordingLine} {old new : Files} (l : Leaves r old new) (k : IsCrash r.settings l.program l.input l.turns) : Type 0 where
   pub number : ℕ
   pub interval : Interval
@@ -56,8 +56,8 @@ pub record ShowsCrash {r : RecordingLine} {old new : Files} (l : Leaves r old ne
   pub replayed : (files : Files) (log elf : List ℕ) → files log ≡ new r.log → files elf ≡ old r.elf → (what : Told) → IsAnswer (Some (ReplayLine log elf k.hart number)) files what
       → what ≡ printed (run_text (part_of l k.hart number) interval)
 
--- With format 2, where the recording's status is 10, the run's last turn is a crash, and it is shown so, whatever the program, the
--- input, the number of harts, and what the other harts logged
+-- With format 2, if the recording's status is 10, the run's last turn is a crash, and it is shown so. This is so whatever the
+-- program, the input, the number of harts, and what the other harts logged
 abbrev pub CrashesAreShown : Type 0
 CrashesAreShown = (r : RecordingLine) (old new : Files) (l : Leaves r old new) → r.settings.format ≡ 2 → TellsEnd l 10
     → (k : IsCrash r.settings l.program l.input l.turns) × ShowsCrash l k

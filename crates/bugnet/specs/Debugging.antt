@@ -24,7 +24,7 @@ use Rattle.bugnet.specs.Sessions.{Commands, AreRead, input_in, session_status, I
 
 -- ---- a recording
 
--- where a session over what a recording's log keeps stands after these lines of commands
+-- the point where a session over what a recording's log keeps stands after these lines of commands
 abbrev pub session_after : Recording → List (List ℕ) → Answer
 session_after r lines = answers lines (session_begin (begin r (kept r)))
 
@@ -56,12 +56,12 @@ pub record DoneSession (r : Recording) (c : Commands) (status : ℕ) (out_old ou
   pub goes_on : (e : JointError) → (session_of r c).result ≢ Err (Joint e)
   pub shows : (lines : List (List ℕ)) → ShowsRun r lines
 
--- so it is, unless memory was wanting, the store or a write failed, or the program file is too long
+-- so it is, unless memory ran out, the store or a write failed, or the program file is too long
 abbrev pub ShowsSession : Commands → (log elf : List ℕ) → Files → ℕ → Option (List ℕ) → Option (List ℕ) → Type 0
 ShowsSession c log elf files status out_old out_new = (r : Recording) → HasRun log elf files r
     → IsFree status ⊎ Either (nat_lt 67108864 (length r.elf)) (status ≡ 5) (DoneSession r c status out_old out_new)
 
--- Where the log file of a recording is there and its program file, which isn't too long, and the commands are read whole and keep
+-- If the log file of a recording is there and its program file, which isn't too long, and the commands are read whole and keep
 -- to their limits, there is all that a session needs
 abbrev pub RecordingsCanBeDebugged : Type 0
 RecordingsCanBeDebugged = (c : Commands) (log elf : List ℕ) (files : Files) (r : Recording) → HasRun log elf files r → length r.elf ≤ 67108864
@@ -70,7 +70,7 @@ RecordingsCanBeDebugged = (c : Commands) (log elf : List ℕ) (files : Files) (r
 -- ---- the call
 
 -- by the files that are there and these commands it tells what it has to answer, or it was stopped before there was an answer;
--- where they have all that it needs it is done; and it shows a recording's run
+-- if they have all that it needs it is done; and it shows a recording's run
 pub record DebugsFiles (c : Commands) (log elf : List ℕ) (files : Files) (status : ℕ) (k : Call) : Type 0 where
   pub tells : SomeTold (IsSession c files (names_in (DebugLine log elf))) (λ what. Tells (names_in (DebugLine log elf)) what status k)
       ⊎ StoppedEarly (Some (DebugLine log elf)) files status k

@@ -87,7 +87,7 @@ RecordingsAreReplayed = (r : RecordingLine) (old new : Files) (l : Leaves r old 
     → (files : Files) (log elf : List ℕ) → files log ≡ new r.log → files elf ≡ old r.elf
     → (what : Told) → IsAnswer (Some (ReplayLine log elf hart number)) files what → what ≡ printed (run_text (part_of l hart number) v)
 
--- then out gains that text, unless memory was wanting, the outside failed, or the program file is too long
+-- then out gains that text, unless memory ran out, the outside failed, or the program file is too long
 abbrev pub PrintsRun : Option Line → Files → ℕ → Option (List ℕ) → Option (List ℕ) → Type 0
 PrintsRun line files status out_old out_new = (p : Part) (v : Interval) → ReplaysRun line files p v
     → IsFree status ⊎ Either (nat_lt 67108864 (length p.elf)) (status ≡ 5) ((status ≡ 0) × Appends out_old out_new (run_text p v))

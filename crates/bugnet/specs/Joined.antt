@@ -24,7 +24,7 @@ position_text p = codes " " ++ decimal p.0 ++ codes ":" ++ decimal p.1
 unfoldable pub positions_text : List (ℕ × ℕ) → List ℕ
 positions_text ps = flat_map position_text ps
 
--- the line where no hart is ready
+-- the line if no hart is ready
 unfoldable pub stuck_line : List (ℕ × ℕ) → List ℕ
 stuck_line ps = codes "bugnet: replay: Stuck" ++ positions_text ps ++ codes "\n"
 

@@ -16,7 +16,7 @@ use Rattle.bugnet.specs.declared.refusal.Refusal.TheVariants as why
 abbrev pub told_of_joint : FileNames → JointReading → Told
 told_of_joint names r = joint_with names r.log r.image
 
--- why a run stopped; want of memory is none
+-- why a run stopped; out of memory is none
 abbrev pub stop_of : JointError → Result (Option JointError) Refusal
 stop_of (Replay e) = Ok (Some (Replay e))
 stop_of (Stuck positions) = Ok (Some (Stuck positions))

@@ -52,7 +52,7 @@ IsJoined line r records what = Either (nat_lt 67108864 (length r.elf)) (what ≡
 abbrev pub JointHeadline : Type 0
 JointHeadline = (line : Option Line) (files : Files) (r : Recording) (j : JoinsRun line files r) (what : Told) → IsAnswer line files what → IsJoined line r j.says.log.records what
 
--- Where the log file of a recording is there and its program file, which isn't too long, there is all that the command needs: their
+-- If the log file of a recording is there and its program file, which isn't too long, there is all that the command needs: their
 -- joint replay isn't stopped
 abbrev pub RecordingsCanBeJoined : Type 0
 RecordingsCanBeJoined = (log elf : List ℕ) (files : Files) (r : Recording) → IsRecorded r → files log ≡ Some (file_of r.settings r.program (sha256 r.elf) r.input r.turns)
@@ -74,7 +74,7 @@ pub record DoneJointly (r : Recording) (records : List Record) (status : ℕ) (o
   pub text : Appends out_old out_new (joint_text (run_all (begin r records)))
   pub says : SaysTheRun r records (run_all (begin r records))
 
--- so it is, unless memory was wanting, the outside failed, or the program file is too long
+-- so it is, unless memory ran out, the outside failed, or the program file is too long
 abbrev pub PrintsJointly : Option Line → Files → ℕ → Option (List ℕ) → Option (List ℕ) → Type 0
 PrintsJointly line files status out_old out_new = (r : Recording) (j : JoinsRun line files r)
     → IsFree status ⊎ Either (nat_lt 67108864 (length r.elf)) (status ≡ 5) (DoneJointly r j.says.log.records status out_old out_new)

@@ -1,4 +1,4 @@
--- What a recording has of a closed run, and of the list of its turns where that is saved.
+-- What a recording has of a closed run, and of the list of its turns if that is saved.
 use Rattle.std.specs.Prelude.{◌≡◌, ◌++◌, ℕ, List, Option}
 use Rattle.log_file.specs.Layout.{saved_bytes}
 use Rattle.log_order.specs.Content.{content}
@@ -10,10 +10,10 @@ use Rattle.bugnet.specs.Recordings.{instructions_of, end_by, end_word, IsRun}
 use Rattle.bugnet.specs.Asks.{is_lean}
 use Rattle.bugnet.specs.Outside.{list_in, told_of_recording}
 use Rattle.bugnet.specs.declared.manner.Manner.{Manner}
-use Rattle.bugnet.specs.declared.answer.Recording.{Recording}
+use Rattle.bugnet.specs.declared.answer.RunToTell.{RunToTell}
 
 -- the log of the ring, the list, and the texts
-pub record IsRecordingOf {B : _} (start : Start) (closed : Closed B) (book : Option (List ℕ)) (r : Recording) : Type 0 where
+pub record IsRecordingOf {B : _} (start : Start) (closed : Closed B) (book : Option (List ℕ)) (r : RunToTell) : Type 0 where
   pub end : r.end ≡ end_by closed.ends.items
   pub out : r.out.items ≡ closed.out.items
   pub err : r.err.items ≡ closed.err.items ++ summary_text closed.turns (instructions_of closed.ends.items) closed.ring.dropped (total closed.ring.records) (end_word (end_by closed.ends.items))
@@ -21,6 +21,6 @@ pub record IsRecordingOf {B : _} (start : Start) (closed : Closed B) (book : Opt
   pub list : list_in r ≡ book
 
 -- a recording made in this manner from what a run begins with
-pub record IsRecordingBy (start : Start) (how : Manner) (r : Recording) : Type 0 where
+pub record IsRecordingBy (start : Start) (how : Manner) (r : RunToTell) : Type 0 where
   pub told : IsRun start.settings start.image start.digest how start.input.items (told_of_recording r)
   pub lean : is_lean r ≡ how.lean

@@ -26,6 +26,8 @@ AreOfOneList (Some seed) lean a b = Unit {0}
 AreOfOneList None false a b = book_of a ≡ book_of b
 AreOfOneList None true a b = ⊥
 
+-- when two answers of a line are said to be one: always, but of recordings without a seed only if they save the same list of
+-- turns, and never of `debug`
 abbrev pub AreAlike : Option Line → (a b : Told) → Type 0
 AreAlike None a b = Unit {0}
 AreAlike (Some (RecordLine r)) a b = AreOfOneList r.seed r.lean a b
@@ -42,10 +44,11 @@ AreAlike (Some (SalvageLine log copy)) a b = Unit {0}
 AreAlike (Some (DemoLine seed)) a b = Unit {0}
 
 -- No words have two answers. A recording without a seed may take any turns that are legal and finished; it has one answer
--- for each such list, where it saves it. A session of the debugger has one for all commands that are read
+-- for each such list, if it saves it. A session of the debugger has one for all commands that are read
 abbrev pub OneAnswer : Type 0
 OneAnswer = (line : Option Line) (files : Files) (a b : Told) → IsAnswer line files a → IsAnswer line files b → AreAlike line a b → a ≡ b
 
+-- a session has one answer for all commands that are read
 abbrev pub OneSession : Type 0
 OneSession = (c : Commands) (files : Files) (names : FileNames) (a b : Told) → IsSession c files names a → IsSession c files names b → a ≡ b
 
@@ -81,12 +84,12 @@ IsNoSession (Some (ConvertLine log copy)) = Unit {0}
 IsNoSession (Some (SalvageLine log copy)) = Unit {0}
 IsNoSession (Some (DemoLine seed)) = Unit {0}
 
--- the list of turns that a seed chooses is legal and finished, where the settings were tested
+-- the list of turns that a seed chooses is legal and finished, if the settings were tested
 abbrev pub SeedsAreWhole : Type 0
 SeedsAreWhole = (c : RawSettings) (i : Program) (input : List ℕ) (seed : ℕ) → first_bad c ≡ None → IsWhole c i input (seeded c i input seed)
 
--- the log of each recording, whatever its turns and its format, keeps to its size: its records have at most log-size bytes, and its
--- file 124 more in version 1, and 136 and 48 a block in version 2
+-- the log of each recording, whatever its turns and its format, keeps to its size. Its records have at most log-size bytes; its
+-- file has 124 more in version 1, and in version 2 136 and 48 a block
 abbrev pub FilesKeepToTheirSize : Type 0
 FilesKeepToTheirSize = (c : RawSettings) (i : Program) (elf input b : List ℕ) → IsRecording c i elf input b
     → IsWithin (content_of c (sha256 elf) (run_of c i input b))

@@ -6,7 +6,7 @@ use Rattle.hart_replay.specs.Coming.{Replaying}
 use Rattle.hart_replay.specs.Replay.{Interval, interval_of, replayed}
 use Rattle.hart_replay.specs.declared.error.ReplayError.TheVariants.{NoInterval}
 use Rattle.bugnet.specs.Texts.{mark_in}
-use Rattle.bugnet.specs.declared.answer.Reading.{Reading}
+use Rattle.bugnet.specs.declared.answer.IntervalToReplay.{IntervalToReplay}
 use Rattle.bugnet.specs.declared.refusal.Refusal.{Refusal}
 use Rattle.bugnet.specs.declared.refusal.Refusal.TheVariants.{ReplayStopped}
 
@@ -15,7 +15,7 @@ abbrev pub mark_or : Option EndMark → EndMark → EndMark
 mark_or None mark = mark
 mark_or (Some own) mark = own
 
--- the mark of an interval, where there is one
+-- the mark of an interval, if there is one
 abbrev pub mark_of : Option Interval → Option EndMark
 mark_of None = None
 mark_of (Some v) = Some v.mark
@@ -26,12 +26,12 @@ mark_from None rs later = later
 mark_from (Some hart) rs later = Some (mark_in hart rs)
 
 -- a refusal since the log has no such interval
-abbrev pub IsAbsent : Reading → Refusal → Type 0
+abbrev pub IsAbsent : IntervalToReplay → Refusal → Type 0
 IsAbsent reading refusal =
     (refusal ≡ ReplayStopped (NoInterval reading.hart reading.interval)) × (interval_of reading.hart reading.interval reading.log.records ≡ None)
 
 -- a replay before its first row, and the mark of its interval
-pub record IsBegun (reading : Reading) (r : Replaying) (mark : EndMark) : Type 0 where
+pub record IsBegun (reading : IntervalToReplay) (r : Replaying) (mark : EndMark) : Type 0 where
   pub interval : Interval
   pub found : interval_of reading.hart reading.interval reading.log.records ≡ Some interval
   pub state : r.state ≡ interval.start

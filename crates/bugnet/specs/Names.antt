@@ -3,7 +3,7 @@ use Rattle.std.specs.Prelude.{ℕ, List, []}
 use Rattle.bugnet.specs.declared.names.Role.{Role}
 use Rattle.bugnet.specs.declared.names.Role.TheVariants.{Elf, Log, Book, Input, Origin}
 
--- the name of each; empty where the command has none
+-- the name of each; empty if the command has none
 pub record FileNames : Type 0 where
   pub elf : List ℕ
   pub log : List ℕ

@@ -27,14 +27,14 @@ use Rattle.bugnet.specs.declared.names.Role.TheVariants as role
 use Rattle.bugnet.specs.declared.refusal.Refusal.{Refusal}
 use Rattle.bugnet.specs.declared.refusal.Refusal.TheVariants as why
 use Rattle.bugnet.specs.declared.answer.Answer.{Answer}
-use Rattle.bugnet.specs.declared.answer.Reading.{Reading}
-use Rattle.bugnet.specs.declared.answer.Recording.{Recording}
+use Rattle.bugnet.specs.declared.answer.IntervalToReplay.{IntervalToReplay}
+use Rattle.bugnet.specs.declared.answer.RunToTell.{RunToTell}
 use Rattle.bugnet.specs.declared.answer.NewLog.{NewLog}
 use Rattle.bugnet.specs.declared.answer.Answer.TheVariants.{Recorded, Interval, Joined, Listed, Checked, Agreed, Renewed, Shown, Halted}
 
 -- ---- what is loaded
 
--- where a store tells its files
+-- if a store tells its files
 abbrev pub WithFiles : Option Files → (Files → Type 0) → Type 0
 WithFiles None P = Unit {0}
 WithFiles (Some files) P = P files
@@ -59,16 +59,16 @@ ProgramTells bytes c (Err refusal) = (refusal ≡ why.OutOfMemory) ⊎ ((e : Elf
 -- ---- what is answered
 
 -- the list of turns that a recording has
-abbrev pub list_in : Recording → Option (List ℕ)
+abbrev pub list_in : RunToTell → Option (List ℕ)
 list_in r = option_map (λ (list : Vec ℕ Global). list.items) r.book
 
-abbrev pub saved_of : Recording → Saved
+abbrev pub saved_of : RunToTell → Saved
 saved_of r = record { log = r.log.items; book = list_in r }
 
-abbrev pub told_of_recording : Recording → Told
+abbrev pub told_of_recording : RunToTell → Told
 told_of_recording r = record { status = end_status r.end; out = r.out.items; err = r.err.items; saved = Some (saved_of r) }
 
-abbrev pub told_of_reading : FileNames → Reading → Told
+abbrev pub told_of_reading : FileNames → IntervalToReplay → Told
 told_of_reading names r = replay_with names r.hart r.interval r.log r.image
 
 -- a log file alone is saved
@@ -103,7 +103,7 @@ IsPrinted (Renewed n) = ⊥
 IsPrinted (Shown text) = Unit {0}
 IsPrinted (Halted error) = Unit {0}
 
--- what was made of loaded bytes, by what it tells, is what the command has to answer, or memory was wanting
+-- what was made of loaded bytes, by what it tells, is what the command has to answer, or memory ran out
 abbrev pub GivesTo : {A : Type 0} → (A → Told) → FileNames → (Told → Type 0) → Result A Refusal → Type 0
 GivesTo tells names Is (Ok made) = Is (tells made)
 GivesTo tells names Is (Err refusal) = (refusal ≡ why.OutOfMemory) ⊎ Is (refused names refusal)
@@ -163,22 +163,22 @@ IsOwn result = (before now : Counts) → ResultCause before now result
 
 -- ---- what is printed
 
--- a text was written, or a front of it and a write failed
+-- a text was written, or a prefix of it and a write failed
 abbrev pub Wrote : Option (List ℕ) → Option (List ℕ) → ℕ → ℕ → List ℕ → Type 0
 Wrote old new before now text = Appends old new text ⊎ (AppendsPart old new text × Rose before now)
 
--- why sending stopped: memory was wanting, or a write failed
+-- why sending stopped: memory ran out, or a write failed
 abbrev pub SendStops : ℕ → ℕ → Refusal → Type 0
 SendStops before now why.OutOfMemory = Unit {0}
 SendStops before now why.WriteFailed = Rose before now
 SendStops before now refusal = ⊥
 
--- a text was sent, or a front of it
+-- a text was sent, or a prefix of it
 abbrev pub Sent : {A : Type 0} → Option (List ℕ) → Option (List ℕ) → ℕ → ℕ → List ℕ → (A → Type 0) → Result A Refusal → Type 0
 Sent old new before now text P (Ok value) = Appends old new text × P value
 Sent old new before now text P (Err refusal) = AppendsPart old new text × SendStops before now refusal
 
--- of a text some was sent and the rest waits, or a front of it was sent and sending stopped
+-- of a text some was sent and the rest waits, or a prefix of it was sent and sending stopped
 abbrev pub Gathered : {A : Type 0} → Option (List ℕ) → Option (List ℕ) → ℕ → ℕ → List ℕ → List ℕ → Result A Refusal → Type 0
 Gathered old new before now text waiting (Ok value) = (sent : List ℕ) × Appends old new sent × (text ≡ sent ++ waiting)
 Gathered old new before now text waiting (Err refusal) = AppendsPart old new text × SendStops before now refusal
@@ -233,13 +233,13 @@ SaveBroke role.Book saved log book old new = IsSomeAnd saved.book (λ list. LogA
 SaveBroke role.Input saved log book old new = ⊥
 SaveBroke role.Origin saved log book old new = ⊥
 
--- what a command may have done to the files, whatever happened: nothing where nothing was to be saved; else the save of the
--- log may have been refused, or that of the book, where there is one, or none
+-- what a command may have done to the files, whatever happened: nothing if nothing was to be saved; else the save of the
+-- log may have been refused, or that of the book, if there is one, or none
 abbrev pub MayChange : Option Saved → (log book : List ℕ) → Files → Files → Type 0
 MayChange None log book old new = SameFiles old new
 MayChange (Some saved) log book old new = SameElsewhere log old new ⊎ IsSomeAnd saved.book (λ list. LogAlone saved.log log book old new)
 
--- why saving stopped, and what it left: the store failed, or memory was wanting
+-- why saving stopped, and what it left: the store failed, or memory ran out
 abbrev pub Unsaved : Option Saved → FileNames → (old new : Option Files) → (before now : Counts) → Refusal → Type 0
 Unsaved None names old new before now refusal = ⊥
 Unsaved (Some saved) names old new before now (why.StoreFailed role) = WhereTold old new (SaveBroke role saved names.log names.book) × Rose before.faults now.faults

@@ -34,6 +34,8 @@ pair_of go names elf d = pair_same (bytes_eq (sha256 elf) d.head.digest) go name
 abbrev pub IsPairOf : ByPair → Files → FileNames → List ℕ → Told → Type 0
 IsPairOf go files names log what = WithFile files names role.Elf 67108864 (λ elf what. IsByLog names log (pair_of go names elf) what) what
 
+-- an answer by a log and its program: both files are loaded, LOG first, then the log is read, the digests are compared and the
+-- program is loaded. `joint`, `debug`, `races` and `slice` answer so
 abbrev pub IsPair : ByPair → Files → FileNames → Told → Type 0
 IsPair go files names what = WithFile files names role.Log 272629760 (λ log what. IsPairOf go files names log what) what
 

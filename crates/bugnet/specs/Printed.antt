@@ -6,26 +6,26 @@ use Rattle.hart_replay.specs.declared.error.ReplayError.{ReplayError}
 use Rattle.hart_replay.specs.declared.error.ReplayError.TheVariants as replay
 use Rattle.rv_text.specs.Marks.{end_text}
 use Rattle.bugnet.specs.Texts.{begin_text, rows_text}
-use Rattle.bugnet.specs.declared.printing.Ending.{Ending}
-use Rattle.bugnet.specs.declared.printing.Ending.TheVariants as ending
+use Rattle.bugnet.specs.declared.printing.ReplayEnd.{ReplayEnd}
+use Rattle.bugnet.specs.declared.printing.ReplayEnd.TheVariants as ending
 use Rattle.bugnet.specs.declared.refusal.Refusal.{Refusal}
 use Rattle.bugnet.specs.declared.refusal.Refusal.TheVariants as why
 
 -- how a replay ended
-abbrev pub outcome_of : Ending → Outcome
+abbrev pub outcome_of : ReplayEnd → Outcome
 outcome_of ending.Done = Done
 outcome_of (ending.Stopped error) = Refused error
 
 -- the ending is that of the outcome
-abbrev pub EndsAs : Outcome → Ending → Type 0
+abbrev pub EndsAs : Outcome → ReplayEnd → Type 0
 EndsAs outcome ending = outcome_of ending ≡ outcome
 
 -- the end that an error of a replay makes; want of memory is none
-abbrev pub ending_of : ReplayError → Result Ending Refusal
+abbrev pub ending_of : ReplayError → Result ReplayEnd Refusal
 ending_of replay.OutOfMemory = Err why.OutOfMemory
 ending_of error = Ok (ending.Stopped error)
 
--- the line after the rows, where the end was reached
+-- the line after the rows, if the end was reached
 abbrev pub end_of_interval : (hart interval : ℕ) → EndMark → Outcome → List ℕ
 end_of_interval hart interval mark Done = end_text hart interval mark
 end_of_interval hart interval mark (Refused error) = []

@@ -17,7 +17,7 @@ use Rattle.bugnet.specs.declared.refusal.Refusal.TheVariants.{TooManyRaces}
 
 -- ---- what is told
 
--- where the joint replay stopped, why it did, on err alone
+-- if the joint replay stopped, why it did, on err alone
 unfoldable pub halted : FileNames → JointError → Told
 halted names e = record { status = joint_status (Some e); out = []; err = joint_line names (Some e); saved = None }
 
@@ -40,6 +40,7 @@ races_with names most d i = races_in names most d.head.settings.harts (run_all (
 
 -- ---- the command
 
+-- what `races` has to answer
 abbrev pub IsRaces : Files → FileNames → (most : ℕ) → Told → Type 0
 IsRaces files names most what = IsPair (races_with names most) files names what
 

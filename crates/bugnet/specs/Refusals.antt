@@ -48,7 +48,7 @@ status_of NothingLeft = 19
 status_of (TooManyRaces most) = 20
 status_of (NoRow ic) = 21
 
--- the refusal of a log file by its damage; want of memory is its own
+-- the refusal of a log file by its damage; out of memory is its own
 abbrev pub log_refusal : Damage → Refusal
 log_refusal (BadBlock at) = LogRefused (BadBlock at)
 log_refusal (File (file.Short length)) = LogRefused (File (file.Short length))

@@ -43,8 +43,10 @@ abbrev pub IsByOrigin : Bool → Files → FileNames → (List ℕ → Told → 
 IsByOrigin true files names Go what = what ≡ refused names SameName
 IsByOrigin false files names Go what = WithFile files names role.Origin 272629760 Go what
 
+-- what `convert` has to answer: what LOG says is saved in version 2 under NEW
 abbrev pub IsConvert : Files → FileNames → Told → Type 0
 IsConvert files names what = IsByOrigin (bytes_eq names.origin names.log) files names (λ log what. IsByLog names log renewed what) what
 
+-- what `salvage` has to answer: what is salvaged of LOG is saved in version 2 under NEW
 abbrev pub IsSalvage : Files → FileNames → Told → Type 0
 IsSalvage files names what = IsByOrigin (bytes_eq names.origin names.log) files names (λ log what. IsBySalvage names log what) what

@@ -45,17 +45,17 @@ printing files counts out out_faults err err_faults o e p f = record {
 
 -- ---- the statuses
 
--- those that neither words nor files explain: the store failed, memory was wanting, a write failed
+-- those that neither words nor files explain: the store failed, memory ran out, a write failed
 abbrev pub IsFree : ℕ → Type 0
 IsFree status = (status ≡ 3) ⊎ ((status ≡ 9) ⊎ (status ≡ 13))
 
--- those at which something may not be saved: the store failed, memory was wanting
+-- those at which something may not be saved: the store failed, memory ran out
 abbrev pub IsUnsaved : ℕ → Type 0
 IsUnsaved status = (status ≡ 3) ⊎ (status ≡ 9)
 
 -- ---- a command that has its answer
 
--- err has all that a recording writes. Of the line of a refusal a front may be written, where a write failed
+-- err has all that a recording writes. Of the line of a refusal a front may be written, if a write failed
 abbrev pub ErrHas : Option Saved → Option (List ℕ) → Option (List ℕ) → (before now : ℕ) → List ℕ → Type 0
 ErrHas (Some saved) old new before now text = Appends old new text
 ErrHas None old new before now text = Wrote old new before now text
@@ -76,7 +76,7 @@ pub record SavingStopped (names : FileNames) (what : Told) (refusal : Refusal) (
   pub out : Appends k.old.out k.new.out []
   pub files : Unsaved what.saved names k.old.files k.new.files k.old.counts k.new.counts refusal
 
--- sending to out stopped, for want of memory or by a write: out has a front of its text
+-- sending to out stopped, by running out of memory or by a write: out has a prefix of its text
 pub record OutStopped (names : FileNames) (what : Told) (refusal : Refusal) (k : Call) : Type 0 where
   pub out : AppendsPart k.old.out k.new.out what.out
   pub cause : SendStops k.old.out_faults k.new.out_faults refusal
@@ -86,7 +86,7 @@ pub record OutStopped (names : FileNames) (what : Told) (refusal : Refusal) (k :
 abbrev pub own_err : Told → List ℕ
 own_err what = elim what.saved [ None ↦ [] | Some saved ↦ what.err ]
 
--- a write of a recording's text to err failed: a front of it is there, and not all
+-- a write of a recording's text to err failed: a prefix of it is there, and not all
 pub record ErrStopped (names : FileNames) (what : Told) (refusal : Refusal) (k : Call) (mid : Option (List ℕ)) (faults : ℕ) : Type 0 where
   pub refusal_is : refusal ≡ why.WriteFailed
   pub out : Appends k.old.out k.new.out what.out
@@ -99,7 +99,7 @@ pub record ErrWaits (k : Call) (mid : Option (List ℕ)) (faults : ℕ) : Type 0
   pub text : mid ≡ k.old.err
   pub count : faults ≡ k.old.err_faults
 
--- it was stopped by the store, by want of memory or by a write, and after that err has the refusal's line
+-- it was stopped by the store, by running out of memory or by a write, and after that err has the refusal's line
 pub record Stopped (names : FileNames) (what : Told) (status : ℕ) (k : Call) : Type 0 where
   pub refusal : Refusal
   pub mid : Option (List ℕ)
@@ -114,7 +114,7 @@ Tells names what status k = Done names what status k ⊎ Stopped names what stat
 
 -- ---- any command
 
--- it was stopped by the store or by want of memory before there was an answer: out has nothing new, err the refusal's line,
+-- it was stopped by the store or by running out of memory before there was an answer: out has nothing new, err the refusal's line,
 -- and the files are as they were
 pub record StoppedBy (names : FileNames) (Is : Files → Told → Type 0) (files : Files) (status : ℕ) (k : Call) : Type 0 where
   pub refusal : Refusal
@@ -123,6 +123,7 @@ pub record StoppedBy (names : FileNames) (Is : Files → Told → Type 0) (files
   pub same : k.new.files ≡ k.old.files
   pub told : ToldRefusal names refusal status k.old.err k.new.err k.old.err_faults k.new.err_faults
 
+-- so it is with the answer that words have
 abbrev pub StoppedEarly : Option Line → Files → ℕ → Call → Type 0
 StoppedEarly line files status k = StoppedBy (names_by line) (λ files. IsAnswer line files) files status k
 
@@ -134,6 +135,7 @@ SomeTold Is Also = (what : Told) × Is what × Also what
 abbrev pub TellsAnswer : Option Line → ℕ → Call → Type 0
 TellsAnswer line status k = WithFiles k.old.files (λ files. SomeTold (IsAnswer line files) (λ what. Tells (names_by line) what status k) ⊎ StoppedEarly line files status k)
 
+-- a refusal by the words alone is told, and nothing is printed; without one the status isn't 2
 abbrev pub IsByWords : Option Refusal → FileNames → ℕ → Call → Type 0
 IsByWords None names status k = status ≢ 2
 IsByWords (Some refusal) names status k = Appends k.old.out k.new.out [] × ToldRefusal names refusal status k.old.err k.new.err k.old.err_faults k.new.err_faults
@@ -142,7 +144,7 @@ IsByWords (Some refusal) names status k = Appends k.old.out k.new.out [] × Told
 abbrev pub ByWords : Option Line → ℕ → Call → Type 0
 ByWords line status k = IsByWords (refusal_by line) (names_by line) status k
 
--- what was to be saved is saved, but where the store failed or memory was wanting
+-- what was to be saved is saved, unless the store failed or memory ran out
 abbrev pub Keeps : Option Line → ℕ → (old new : Option Files) → Type 0
 Keeps line status old new =
     WithFiles old (λ files. IsUnsaved status ⊎ SomeTold (IsAnswer line files) (λ what. WhereTold old new (KeptFiles what.saved (names_by line).log (names_by line).book)))

@@ -17,8 +17,8 @@ use Rattle.bugnet.specs.Answers.{IsAnswer}
 use Rattle.bugnet.specs.Headline.{Part, run_text, SaysEnd}
 use Rattle.bugnet.specs.Told.{Told, printed}
 
--- of these bytes a log is salvaged, and what is undamaged of them is a recording's: the head, and at the end some of the blocks
--- into which what it keeps is cut, all from some one on
+-- a log is salvaged of these bytes, and what is undamaged of them is a recording's: the head, and at the end some of its
+-- blocks, all from some one on
 pub record SalvagesRun (p : Part) (bytes : List ℕ) (d : Content) : Type 0 where
   pub recording : IsRecording p.settings p.program p.elf p.input p.turns
   pub salvaged : IsSalvaged bytes d

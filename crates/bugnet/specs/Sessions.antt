@@ -11,7 +11,7 @@ use Rattle.step_debugger.specs.Commands.{command_of}
 use Rattle.step_debugger.specs.Lines.{Input, input_of}
 use Rattle.step_debugger.specs.Transcript.{transcript}
 use Rattle.step_debugger.specs.Transcript.{Told as Transcript}
-use Rattle.step_debugger.specs.declared.command.Command.TheVariants.{Quit}
+use Rattle.step_debugger.specs.declared.command.DebugCommand.TheVariants.{Quit}
 use Rattle.step_debugger.specs.declared.error.DebugError.{DebugError}
 use Rattle.step_debugger.specs.declared.error.DebugError.TheVariants.{ReadFault, WriteFault, TooMuch}
 use Rattle.step_debugger.specs.declared.error.DebugError.TheVariants as stop
@@ -53,7 +53,7 @@ pub record EndsWithQuit (bytes : List ℕ) : Type 0 where
 -- the commands are bytes of the source that are gone, by a call that ended so
 pub record AreRead (c : Commands) (status : ℕ) (left now_left : Option (List ℕ)) (before now : ℕ) : Type 0 where
   pub taken : Consumes left now_left c.bytes
-  -- a read failed only where the source's count rose, and no `quit` was read before
+  -- a read failed only if the source's count rose, and no `quit` was read before
   pub failed : c.failed ≡ true → Rose before now × NoQuit (input_of c.bytes).lines
   pub cause : status ≡ 12 → c.failed ≡ true
   -- a session that is done has read nothing behind `quit`; or all, and then no line that ends with LF is `quit`

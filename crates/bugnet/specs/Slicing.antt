@@ -28,6 +28,7 @@ slice_with names hart interval ic d i = slice_told names (text_of hart ic (slice
 
 -- ---- the command
 
+-- what `slice` has to answer
 abbrev pub IsSlice : Files → FileNames → (hart interval ic : ℕ) → Told → Type 0
 IsSlice files names hart interval ic what = IsPair (slice_with names hart interval ic) files names what
 

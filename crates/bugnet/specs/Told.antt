@@ -4,7 +4,7 @@ use Rattle.bugnet.specs.Names.{FileNames}
 use Rattle.bugnet.specs.Refusals.{status_of, line_of}
 use Rattle.bugnet.specs.declared.refusal.Refusal.{Refusal}
 
--- a log file that is saved, and a recording's turn list where that is saved too
+-- a log file that is saved, and a recording's turn list if that is saved too
 pub record Saved : Type 0 where
   pub log : List ℕ
   pub book : Option (List ℕ)

@@ -11,13 +11,13 @@ ghost use Rattle.bugnet.specs.Told.{printed};
 ghost use Rattle.bugnet.specs.Run.{call, printing, Tells};
 ghost use Rattle.bugnet.specs.declared.refusal.Refusal.TheVariants.{OutOfMemory};
 
-use crate::answer::{Answer, Reading, Recording};
+use crate::answer::{Answer, IntervalToReplay, RunToTell};
 use crate::auditing::print_agreement;
 use crate::joining::{print_joint, stop};
 use crate::logs::interval_mark;
 use crate::names::{Names, Role};
 use crate::printing::{
-    Ending, print_text, refuse, send_bytes, send_check, send_interval, send_list,
+    ReplayEnd, print_text, refuse, send_bytes, send_check, send_interval, send_list,
 };
 use crate::refusal::Refusal;
 use crate::renewing::keep_new;
@@ -36,7 +36,7 @@ struct Begun<'a> {
 }
 
 // Begins the replay of an interval.
-fn begin(alloc: Global, reading: &Reading) -> Result<Begun<'_>, Refusal>
+fn begin(alloc: Global, reading: &IntervalToReplay) -> Result<Begun<'_>, Refusal>
     ensures begun { IfOk result (λ b. IsBegun reading.now b.replayer b.mark) }
     ensures refused { IfErr result (λ r. IsAbsent reading.now r ⊎ (r ≡ OutOfMemory)) }
 {
@@ -60,7 +60,7 @@ fn begin(alloc: Global, reading: &Reading) -> Result<Begun<'_>, Refusal>
 fn print_begun<O: Sink, X: Sink>(
     alloc: Global,
     names: &Names,
-    reading: &Reading,
+    reading: &IntervalToReplay,
     mark: &EndMark,
     replayer: &mut Replayer,
     out: &mut O,
@@ -78,8 +78,8 @@ fn print_begun<O: Sink, X: Sink>(
     ensures long { result ≢ 5 }
 {
     match send_interval(alloc, reading.hart, reading.interval, mark, replayer, out) {
-        Ok(Ending::Done) => 0,
-        Ok(Ending::Stopped(error)) => refuse(alloc, names, &Refusal::ReplayStopped(error), err),
+        Ok(ReplayEnd::Done) => 0,
+        Ok(ReplayEnd::Stopped(error)) => refuse(alloc, names, &Refusal::ReplayStopped(error), err),
         Err(refusal) => refuse(alloc, names, &refusal, err),
     }
 }
@@ -88,7 +88,7 @@ fn print_begun<O: Sink, X: Sink>(
 fn print_interval<O: Sink, X: Sink>(
     alloc: Global,
     names: &Names,
-    reading: &Reading,
+    reading: &IntervalToReplay,
     out: &mut O,
     err: &mut X,
 ) -> u8
@@ -160,7 +160,7 @@ fn print_check<O: Sink, X: Sink>(
 }
 
 // Saves the log, and then the turn list where there is one.
-fn save<S: Store>(store: &mut S, names: &Names, recording: &Recording) -> Result<(), Refusal>
+fn save<S: Store>(store: &mut S, names: &Names, recording: &RunToTell) -> Result<(), Refusal>
     ensures told { SaveTells (saved_of recording.now) names.now (S.files store.old) (S.files store.new) (S.counts store.old) (S.counts store.new) result }
     ensures later { NoneFell (S.counts store.old) (S.counts store.new) }
     ensures few { AtMostSaves (is_lean recording.now) (S.saves store.old) (S.saves store.new) }
@@ -184,7 +184,7 @@ fn save<S: Store>(store: &mut S, names: &Names, recording: &Recording) -> Result
 fn keep<S: Store, O: Sink, X: Sink>(
     alloc: Global,
     names: &Names,
-    recording: &Recording,
+    recording: &RunToTell,
     store: &mut S,
     out: &mut O,
     err: &mut X,

@@ -56,7 +56,7 @@ impl RunEnd {
 
 /// A recording that is to be told: how it ended, what out and err gain, and what is saved.
 #[derive(Drop)]
-pub struct Recording {
+pub struct RunToTell {
     pub end: RunEnd,
     pub out: Vec<u8>,
     pub err: Vec<u8>,
@@ -67,7 +67,7 @@ pub struct Recording {
 
 /// An interval to be replayed: the program, the log, and the hart and number of the interval.
 #[derive(Drop)]
-pub struct Reading {
+pub struct IntervalToReplay {
     pub image: Image,
     pub log: KeptLog,
     pub hart: u64,
@@ -85,9 +85,9 @@ pub struct NewLog {
 #[derive(Drop)]
 pub enum Answer {
     /// A recording is saved and told.
-    Recorded(Recording),
+    Recorded(RunToTell),
     /// An interval is replayed and printed.
-    Interval(Reading),
+    Interval(IntervalToReplay),
     /// All intervals of a log are replayed together and printed.
     Joined(JointReading),
     /// The intervals of a log are listed.
@@ -181,7 +181,7 @@ fn replay_log(
     }
     match load_program(alloc, elf, &head.settings) {
         Err(refusal) => Err(refusal),
-        Ok(image) => Ok(Answer::Interval(Reading {
+        Ok(image) => Ok(Answer::Interval(IntervalToReplay {
             image,
             log,
             hart,

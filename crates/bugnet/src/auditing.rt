@@ -14,9 +14,8 @@ use crate::names::{Names, Role};
 use crate::pairs::{JointReading, pair_of};
 use crate::printing::{refuse, send};
 use crate::refusal::Refusal;
-use crate::versions::audit_either;
 use bn_outside::{Sink, Store};
-use run_model::{Start, TurnError, Verdict, verdicts_are_unique};
+use run_model::{Start, TurnError, Verdict, audit, verdicts_are_unique};
 use rv_text::Text;
 use std::alloc::Global;
 
@@ -68,7 +67,7 @@ fn audit_reading(
 {
     verdicts_are_unique();
     let start = start_of(reading, input);
-    match audit_either(alloc, &start, book, log) {
+    match audit(alloc, &start, book, log) {
         Ok(verdict) => answer_by(names, verdict),
         Err(TurnError::OutOfMemory) => Err(Refusal::OutOfMemory),
         Err(error) => Err(Refusal::BookRefused(error)),

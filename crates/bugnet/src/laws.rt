@@ -15,16 +15,14 @@ use joint_laws::{
     beginnings_go_on, files_say_the_run_jointly, joint_replays_say_the_run, own_logs_are_logs,
     reached_joint_replays_say_the_run, steps_are_not_refused,
 };
-use log_blocks::laws::{
-    blocks_are_few, files_have_their_size, files_name_their_version, saved_files_keep_to_the_limit,
-};
+use log_blocks::laws::{blocks_are_few, files_have_their_size, saved_files_keep_to_the_limit};
 use log_blocks::readings::{
     files_are_read, files_are_read_or_refused, files_are_salvaged_or_refused, readings_are_unique,
     salvages_are_unique, whole_files_are_salvaged,
 };
 use replay_laws::{ends_suffice, the_log_suffices, the_rows_of_an_interval_stand_together};
 use run_laws::{faults_are_kept, kept_records_are_an_end, own_asks_are_orderly};
-use run_model::verdicts_are_unique;
+use run_model::{files_number_their_version, verdicts_are_unique};
 
 /// No words have two answers, whatever the files are; but a recording without a seed has one for each
 /// list of turns, and of a lean one without a seed, which saves no list, nothing is said.
@@ -139,7 +137,7 @@ pub fn each_can_be_done()
     logs_are_contents();
     saved_files_keep_to_the_limit();
     files_are_read();
-    files_name_their_version();
+    files_number_their_version();
     files_have_their_size();
     log_file::laws::files_have_their_size();
     blocks_are_few();

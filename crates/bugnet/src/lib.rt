@@ -26,9 +26,8 @@ mod refusal;
 mod renewing;
 mod slicing;
 mod texts;
-mod versions;
 
-pub use answer::{Answer, NewLog, Reading, Recording, RunEnd};
+pub use answer::{Answer, IntervalToReplay, NewLog, RunEnd, RunToTell};
 pub use laws::{
     audits_agree, crashes_are_shown, each_can_be_done, each_has_an_answer,
     files_keep_to_their_size, headline, joint_headline, one_answer, one_session, races_are_told,
@@ -39,7 +38,7 @@ pub use laws::{
 pub use manner::Manner;
 pub use names::{Names, Role};
 pub use pairs::JointReading;
-pub use printing::Ending;
+pub use printing::ReplayEnd;
 pub use program::run;
 pub use refusal::Refusal;
 pub use texts::RunCounts;

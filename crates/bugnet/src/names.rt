@@ -1,4 +1,4 @@
-// The names of the files of a command.
+//! The names of the files of a command.
 ghost use Rattle.std.specs.Prelude.{◌≡◌, []};
 ghost use Rattle.bugnet.specs.Names.{no_names, name_of};
 
@@ -16,6 +16,8 @@ pub enum Role {
     /// What the program reads as its input.
     Input,
     /// The log that is read, where another is saved that is made of it.
+    // `Log` is what a command saves or, if it saves none, reads: so what is said of saving a recording's log is
+    // said of what `convert` and `salvage` save too.
     Origin,
 }
 

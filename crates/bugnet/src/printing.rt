@@ -30,7 +30,7 @@ const BLOCK: usize = 65_536;
 
 /// How the replay of an interval ended.
 #[derive(Clone, Copy, Drop)]
-pub enum Ending {
+pub enum ReplayEnd {
     /// As its log says.
     Done,
     /// It can't go on, or ends otherwise.
@@ -147,16 +147,16 @@ fn gather_row<O: Sink>(
 }
 
 // The end that an error of a replay makes; want of memory is none.
-fn ending_of(error: ReplayError) -> Result<Ending, Refusal>
+fn ending_of(error: ReplayError) -> Result<ReplayEnd, Refusal>
     ensures { result ≡ ending_of error }
 {
     match error {
         ReplayError::OutOfMemory => Err(Refusal::OutOfMemory),
-        ReplayError::NoInterval { .. } => Ok(Ending::Stopped(error)),
-        ReplayError::LoadMissing { .. } => Ok(Ending::Stopped(error)),
-        ReplayError::ScMissing { .. } => Ok(Ending::Stopped(error)),
-        ReplayError::RecordsLeft { .. } => Ok(Ending::Stopped(error)),
-        ReplayError::EndDiffers { .. } => Ok(Ending::Stopped(error)),
+        ReplayError::NoInterval { .. } => Ok(ReplayEnd::Stopped(error)),
+        ReplayError::LoadMissing { .. } => Ok(ReplayEnd::Stopped(error)),
+        ReplayError::ScMissing { .. } => Ok(ReplayEnd::Stopped(error)),
+        ReplayError::RecordsLeft { .. } => Ok(ReplayEnd::Stopped(error)),
+        ReplayError::EndDiffers { .. } => Ok(ReplayEnd::Stopped(error)),
     }
 }
 
@@ -166,7 +166,7 @@ fn send_left<O: Sink>(
     lines: &mut RowLines,
     text: &mut Text,
     out: &mut O,
-) -> Result<Ending, Refusal>
+) -> Result<ReplayEnd, Refusal>
     requires { text.old ≡ [] }
     ensures sent { let r = replayer.old.left in
         Sent (O.written out.old) (O.written out.new) (O.faults out.old) (O.faults out.new) (rows_text r.rows) (EndsAs r.outcome) result }
@@ -179,7 +179,7 @@ fn send_left<O: Sink>(
                 Err(refusal) => return Err(refusal),
             },
             Ok(None) => match send(out, text) {
-                Ok(()) => return Ok(Ending::Done),
+                Ok(()) => return Ok(ReplayEnd::Done),
                 Err(refusal) => return Err(refusal),
             },
             Err(error) => match send(out, text) {
@@ -195,7 +195,7 @@ fn send_rows<O: Sink>(
     alloc: Global,
     replayer: &mut Replayer,
     out: &mut O,
-) -> Result<Ending, Refusal>
+) -> Result<ReplayEnd, Refusal>
     ensures sent { let r = replayer.old.left in
         Sent (O.written out.old) (O.written out.new) (O.faults out.old) (O.faults out.new) (rows_text r.rows) (EndsAs r.outcome) result }
     ensures later { O.faults out.old ≤ O.faults out.new }
@@ -227,19 +227,19 @@ fn send_end<O: Sink>(
     hart: u64,
     interval: u64,
     mark: &EndMark,
-    ending: &Ending,
+    ending: &ReplayEnd,
     out: &mut O,
 ) -> Result<(), Refusal>
     ensures sent { Sent (O.written out.old) (O.written out.new) (O.faults out.old) (O.faults out.new) (end_of_interval hart interval mark.now (outcome_of ending.now)) (λ _. Unit {0}) result }
     ensures later { O.faults out.old ≤ O.faults out.new }
 {
     match ending {
-        Ending::Done => {
+        ReplayEnd::Done => {
             let mut text = Text::new(alloc);
             write_end(hart, interval, mark, &mut text)?;
             send(out, &text)
         }
-        Ending::Stopped(_) => Ok(()),
+        ReplayEnd::Stopped(_) => Ok(()),
     }
 }
 
@@ -251,7 +251,7 @@ fn send_rest<O: Sink>(
     mark: &EndMark,
     replayer: &mut Replayer,
     out: &mut O,
-) -> Result<Ending, Refusal>
+) -> Result<ReplayEnd, Refusal>
     ensures sent { let r = replayer.old.left in
         Sent (O.written out.old) (O.written out.new) (O.faults out.old) (O.faults out.new) (rest_text hart interval mark.now r) (EndsAs r.outcome) result }
     ensures later { O.faults out.old ≤ O.faults out.new }
@@ -273,7 +273,7 @@ pub fn send_interval<O: Sink>(
     mark: &EndMark,
     replayer: &mut Replayer,
     out: &mut O,
-) -> Result<Ending, Refusal>
+) -> Result<ReplayEnd, Refusal>
     ensures sent { let r = replayer.old.left in
         Sent (O.written out.old) (O.written out.new) (O.faults out.old) (O.faults out.new) (text_from hart interval replayer.old.state.ic mark.now r) (EndsAs r.outcome) result }
     ensures later { O.faults out.old ≤ O.faults out.new }

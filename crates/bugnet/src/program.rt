@@ -1,4 +1,4 @@
-// The program: it reads its words, loads, answers, saves and prints.
+//! The program: it reads its words, loads, answers, saves and prints.
 ghost use Rattle.std.specs.Prelude.{◌≡◌, ◌≢◌, ◌≤◌, ◌⊎◌, true, Some, IfOk};
 ghost use Rattle.bn_outside.specs.Counts.{Rose, NoneFell};
 ghost use Rattle.command_words.specs.Words.{command_in, seen, seen_recording};
@@ -35,7 +35,7 @@ use crate::refusal::Refusal;
 use crate::renewing::{convert_files, salvage_files};
 use crate::slicing::slice_files;
 use bn_outside::{Gate, Sink, Source, Store};
-use command_words::{Command, Recording, WordsError, read_words};
+use command_words::{Command, RecordOptions, WordsError, read_words};
 use file_laws::logs_are_contents;
 use log_blocks::laws::saved_files_keep_to_the_limit;
 use log_blocks::readings::{files_are_read, readings_are_unique};
@@ -81,7 +81,7 @@ fn names_of<'a>(command: &Command<'a>) -> Names<'a>
 }
 
 // How a recording is made.
-fn manner_of(recording: &Recording) -> Manner
+fn manner_of(recording: &RecordOptions) -> Manner
     ensures { result ≡ manner_of (seen_recording recording.now) }
 {
     Manner {
@@ -108,6 +108,7 @@ fn answer_to<S: Store, G: Gate, R: Threads + Wait + Sync>(
     ensures prints { IsReadOnly (Some (seen command.now)) → IfOk result IsPrinted }
     ensures records { IfOk result (RecordsRun (seen command.now)) }
     ensures asks { S.saves store.new ≡ S.saves store.old }
+    // That a program file is bytes comes from its load, so that no statement has it as a premise.
     ensures bytes { IfOk result (λ _. HasElf (seen command.now) (S.files store.old)) }
 {
     match command {
@@ -179,6 +180,8 @@ fn perform<S: Store, O: Sink, X: Sink, G: Gate, R: Threads + Wait + Sync>(
 }
 
 // Does what a command asks for.
+// `debug` has a path of its own: what it prints depends on what it reads meanwhile, so it has no answer that is
+// made first.
 fn obey<S: Store, I: Source, O: Sink, X: Sink, G: Gate, R: Threads + Wait + Sync>(
     rt: &R,
     alloc: Global,

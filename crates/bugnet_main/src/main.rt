@@ -6,7 +6,7 @@
 #![tactic(auto)]
 
 use bn_outside::{OpenGate, send_all};
-use host_outside::{FileStore, Reading, Writing, words_of};
+use host_outside::{FileStore, ReaderSource, Writing, words_of};
 use std::process::ExitCode;
 
 // The status for want of memory.
@@ -19,7 +19,7 @@ fn main(rt: HostRuntime) -> ExitCode {
         return ExitCode::from(OUT_OF_MEMORY);
     };
     let mut store = FileStore::new(&rt);
-    let mut input = Reading::new(rt.stdin());
+    let mut input = ReaderSource::new(rt.stdin());
     let mut out = Writing::new(rt.stdout());
     let status = bugnet::run(
         &rt,

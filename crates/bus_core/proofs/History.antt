@@ -9,7 +9,7 @@ use Rattle.run_model.specs.Turn.{Run, serve, turn, ask_at, is_orderly, halted}
 use Rattle.run_model.specs.Stands.Turning.{is_live}
 use Rattle.run_model.specs.Stands.Harts.{hart_in}
 use Rattle.bus_core.proofs.OwnTurn.{ask_is, own_orderly, or_not_true}
-use Rattle.log_record.specs.Kept.{Held, HoldsLog}
+use Rattle.log_ring.specs.Kept.{Held, HoldsLog}
 use Rattle.race_log.specs.Noted.{NotesDecide}
 use Rattle.run_laws.specs.History.{after_rows, are_orderly}
 use Rattle.bus_core.specs.Bus.{seen, IsState, IsHistory, IsLogged, AreTold, began_of, first_run, run_after, halted_if, row}

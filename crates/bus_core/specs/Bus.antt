@@ -6,7 +6,7 @@ use Rattle.bn_base.specs.declared.settings.RawSettings.{RawSettings}
 use Rattle.rv_meaning.specs.declared.asks.Ask.{Ask}
 use Rattle.rv_meaning.specs.declared.asks.Reply.{Reply}
 use Rattle.log_record.specs.Spelling.{total}
-use Rattle.log_record.specs.Kept.{Held, HoldsLog}
+use Rattle.log_ring.specs.Kept.{Held, HoldsLog}
 use Rattle.race_log.specs.Points.{Point}
 use Rattle.race_log.specs.declared.shadow.Shadow.{Shadow}
 use Rattle.race_log.specs.Stands.{Stands}
@@ -34,8 +34,8 @@ pub record Began : Type 0 where
 abbrev pub began_of : Start → Began
 began_of s = record { image = s.image; settings = s.settings; input = s.input.items; digest = s.digest }
 
--- what is seen of a bus: what it began with, the rows that its book tells, whether it was halted, whether an ask that
--- isn't orderly was served, the machine, the harts, their caches, what the race log notes, the ring of kept records and how
+-- what is seen of a bus. It has what the run began with, the rows that its book tells, and whether it was halted or served an
+-- ask that isn't orderly. Then the machine, the harts, their caches, what the race log notes, the ring of kept records, how
 -- many bytes the log took, and how many turns
 pub record Seen : Type 0 where
   pub began : Began
@@ -50,6 +50,7 @@ pub record Seen : Type 0 where
   pub bytes : ℕ
   pub turns : ℕ
 
+-- the parts of a bus as contracts see them
 abbrev pub seen : PlainParts → (halted disordered : Bool) → List TurnRow → Seen
 seen p halted disordered rows = record {
   began = began_of p.start;
@@ -65,7 +66,7 @@ seen p halted disordered rows = record {
   turns = p.turns;
 }
 
--- a shadow that notes these stands for the points
+-- a shadow that notes these represents the points
 pub record AreNotes (notes : Noted) (points : List Point) : Type 0 where
   pub shadow : Shadow
   pub same : noted shadow ≡ notes
@@ -88,6 +89,7 @@ pub record IsState (s : Seen) (run : Run) : Type 0 where
 abbrev pub first_run : Began → Run
 first_run b = start b.settings b.image b.input
 
+-- the run, ended if the bus was halted
 abbrev pub halted_if : Bool → Run → Run
 halted_if true run = halted run
 halted_if false run = run
@@ -100,9 +102,11 @@ run_after b halted rows = halted_if halted (after_rows b.settings b.image (first
 abbrev pub served_run : Began → Run → ℕ → Ask → Run
 served_run b run hart ask = (serve b.settings b.image run hart ask).run
 
+-- the reply to it
 abbrev pub served_reply : Began → Run → ℕ → Ask → Reply
 served_reply b run hart ask = (serve b.settings b.image run hart ask).reply
 
+-- whether it was guarded
 abbrev pub served_guarded : Began → Run → ℕ → Ask → Bool
 served_guarded b run hart ask = (serve b.settings b.image run hart ask).guarded
 
@@ -113,6 +117,7 @@ row hart ask reply guarded = record { hart = hart; ask = ask; reply = reply; gua
 abbrev pub turned_run : Began → Run → ℕ → Run
 turned_run b run hart = turn b.settings b.image run hart
 
+-- the row of that turn
 abbrev pub turn_row : Began → Run → ℕ → TurnRow
 turn_row b run hart = row_at b.settings b.image run hart
 
@@ -136,14 +141,15 @@ pub record IsTold (s : Seen) : Type 0 where
   pub told : AreTold s.began s.disordered s.rows
   pub state : IsState s (run_after s.began s.halted s.rows)
 
--- and of those that a book doesn't tell, with a ring that holds the log: its records keep the rules of single records, and
--- each of their Edges comes from an instruction that its source has done
+-- and of those that a book doesn't tell, with a ring that holds the log. Its records keep the rules of single records, and each
+-- of their Edges comes from an instruction that its source has done
 pub record IsLogged (s : Seen) (ring : Held) (rows : List TurnRow) : Type 0 where
   pub told : AreTold s.began s.disordered rows
   pub state : IsState s (run_after s.began s.halted rows)
   pub log : HoldsLog ring (run_after s.began s.halted rows).stream
   pub rules : KeepsRules s.began.settings (counts_of (run_after s.began s.halted rows)) ring.dropped ring.records
 
+-- whether a hart of the bus is live
 abbrev pub is_live : Seen → ℕ → Bool
 is_live s k = is_live_hart (slice_get s.harts k)
 

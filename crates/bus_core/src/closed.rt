@@ -1,6 +1,6 @@
 // What a closed bus hands over.
 use bn_base::EndMark;
-use log_record::Ring;
+use log_ring::Ring;
 
 /// What a closed bus hands over.
 #[derive(Drop)]

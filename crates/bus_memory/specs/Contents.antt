@@ -8,7 +8,7 @@ pub record Contents : Type 0 where
   pub words : List ℕ
   pub made : List Bool
 
--- the words stand for a map from addresses: each aligned address has the map's word
+-- the words represent a map from addresses: each aligned address has the map's word
 pub record HoldsMap (words : List ℕ) (m : ℕ → ℕ) : Type 0 where
   pub at : (a : ℕ) → a % 4 ≡ 0 → a < 4 * length words → get_or words (a / 4) 0 ≡ m a
 

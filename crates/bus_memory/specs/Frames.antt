@@ -9,7 +9,7 @@ pub record Frame : Type 0 where
   pub words : List ℕ
   pub made : Bool
 
--- the page where there is none
+-- the page if there is none
 abbrev pub no_frame : Frame
 no_frame = record { words = []; made = false }
 
@@ -21,7 +21,7 @@ word_of fs k = get_or (get_or fs (k / 1024) no_frame).words (k % 1024) 0
 unfoldable pub contents_of : List Frame → Contents
 contents_of fs = record { words = map (word_of fs) (range_with_len 0 (1024 * length fs)); made = map (λ f. f.made) fs }
 
--- a page as it stands before the run: made where a segment touches it, with the program's first words
+-- a page as it stands before the run: made if a segment touches it, with the program's first words
 pub record IsFirst (i : Program) (page : ℕ) (f : Frame) : Type 0 where
   pub made : f.made ≡ is_touched i page
   pub words : (k : ℕ) → k < 1024 → get_or f.words k 0 ≡ first_at i (4096 * page + 4 * k)

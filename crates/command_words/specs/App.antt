@@ -7,7 +7,7 @@ use Rattle.clap.specs.declared.builder.command.Command.TheViews.{out-Command}
 use Rattle.clap.specs.declared.builder.action.ArgAction.TheVariants.{Set, SetTrue}
 use Rattle.clap.specs.declared.builder.value_parser.ValueParser.TheVariants as value_parser
 
--- `--ID N`, where N is below 2 ^ 64
+-- `--ID N`, with N below 2 ^ 64
 abbrev pub number_option : Text → Rule
 number_option id = record (new_rule id) {
   long = Some id;

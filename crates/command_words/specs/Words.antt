@@ -11,7 +11,7 @@ use Rattle.clap.specs.Kinds.{Kinds}
 use Rattle.bn_base.specs.declared.settings.RawSettings.{RawSettings}
 use Rattle.bn_base.specs.Ranges.{default_settings}
 use Rattle.command_words.specs.App.{bugnet_app}
-use Rattle.command_words.specs.declared.commands.Recording.{Recording}
+use Rattle.command_words.specs.declared.commands.RecordOptions.{RecordOptions}
 use Rattle.command_words.specs.declared.commands.Command.{Command}
 use Rattle.command_words.specs.declared.commands.Command.TheVariants as command
 
@@ -27,6 +27,7 @@ pub record RecordingLine : Type 0 where
   pub log : List ℕ
   pub book : List ℕ
 
+-- what a contract sees of a command: its names are bytes
 pub data Line : Type 0 where
   RecordLine : RecordingLine → Line
   -- log, elf, hart, interval
@@ -51,7 +52,7 @@ pub data Line : Type 0 where
   DemoLine : ℕ → Line
 
 -- what a contract sees of a recording: the texts behind its references
-abbrev pub seen_recording : Recording → RecordingLine
+abbrev pub seen_recording : RecordOptions → RecordingLine
 seen_recording r = record {
   settings = r.settings;
   seed = r.seed;
@@ -92,7 +93,7 @@ abbrev pub number_or_default : ℕ → Option Text → Option ℕ
 number_or_default default None = Some default
 number_or_default default (Some t) = number_of t
 
--- the number of an option, or its default where it isn't given
+-- the number of an option, or its default if it isn't given
 abbrev pub number_or : ℕ → Text → List Row → Option ℕ
 number_or default id rows = number_or_default default (first_of id rows)
 
@@ -100,7 +101,7 @@ abbrev pub number_if_given : Option Text → Option (Option ℕ)
 number_if_given None = Some None
 number_if_given (Some t) = option_map Some (number_of t)
 
--- the number of an option that has no default, where it is given
+-- the number of an option that has no default, if it is given
 abbrev pub number_if : Text → List Row → Option (Option ℕ)
 number_if id rows = number_if_given (first_of id rows)
 
@@ -256,7 +257,7 @@ named_later name rows = if bytes_eq name (codes "list") then list_in rows
     else (if bytes_eq name (codes "races") then races_in rows
     else named_last name rows)))
 
--- any
+-- the line of the subcommand of this name, one of the twelve
 abbrev pub named : Text → List Row → Option Line
 named name rows = if bytes_eq name (codes "record") then record_in rows
     else (if bytes_eq name (codes "replay") then replay_in rows
@@ -264,13 +265,14 @@ named name rows = if bytes_eq name (codes "record") then record_in rows
     else (if bytes_eq name (codes "debug") then debug_in rows
     else named_later name rows)))
 
+-- the line of the subcommand that clap found, if it found one
 abbrev pub line_in : Option (Text × List Row) → Option Line
 line_in None = None
 line_in (Some p) = named p.0 p.1
 
 -- ---- the words
 
--- the line, where clap finds no fault
+-- the line, if clap finds no fault
 abbrev pub without_fault : Kinds → Option Line → Option Line
 without_fault [] line = line
 without_fault (k ∷ ks) line = None
@@ -279,7 +281,7 @@ without_fault (k ∷ ks) line = None
 unfoldable pub line_of : List Text → Option Line
 line_of texts = without_fault (fault_of bugnet_app texts) (line_in (subcommand_of bugnet_app texts))
 
--- what words say, the program's name first; `None` where they are refused: clap finds a fault in
+-- what words say, the program's name first; `None` if they are refused: clap finds a fault in
 -- them, or they name no command
 unfoldable pub command_in : List (String Global) → Option Line
 command_in words = line_of (map string_bytes words)

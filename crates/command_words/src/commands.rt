@@ -3,7 +3,7 @@ use bn_base::RawSettings;
 
 /// What a recording is to be.
 #[derive(Clone, Copy, Debug)]
-pub struct Recording<'a> {
+pub struct RecordOptions<'a> {
     /// The settings as they were given, in range or not. Those that weren't given have their
     /// defaults.
     pub settings: RawSettings,
@@ -25,7 +25,7 @@ pub struct Recording<'a> {
 #[derive(Clone, Copy, Debug)]
 pub enum Command<'a> {
     /// Record a run.
-    Record(Recording<'a>),
+    Record(RecordOptions<'a>),
     /// Replay one interval of a hart from a log, with the program's file. The numbers are as they
     /// were given: the log may have no such hart or interval.
     Replay {

@@ -4,7 +4,7 @@ ghost use Rattle.clap.specs.Words.{first_of, found_of, rows_of};
 ghost use Rattle.bn_base.specs.Ranges.{default_settings};
 ghost use Rattle.command_words.specs.Words.{seen, seen_recording, number_of, number_or, number_if, number_at, pair_at, place_at, flag_in, run_at, sizes_at, cache_at, second_at, settings_in, recording_in, record_in, replay_in, joint_in, debug_in, list_in, check_in, audit_in, races_in, slice_in, convert_in, salvage_in, demo_in, named_last, named_later, named};
 
-use crate::commands::{Command, Recording};
+use crate::commands::{Command, RecordOptions};
 use bn_base::RawSettings;
 use clap::ArgMatches;
 
@@ -125,7 +125,7 @@ fn settings_in(matches: &ArgMatches<'_>) -> Option<RawSettings>
     })
 }
 
-fn recording_in<'a>(matches: &ArgMatches<'a>) -> Option<Recording<'a>>
+fn recording_in<'a>(matches: &ArgMatches<'a>) -> Option<RecordOptions<'a>>
     ensures { option_map seen_recording result ≡ recording_in (rows_of (found_of matches.now)) }
 {
     let settings = settings_in(matches)?;
@@ -135,7 +135,7 @@ fn recording_in<'a>(matches: &ArgMatches<'a>) -> Option<Recording<'a>>
     let book = text_at(matches, "book")?;
     let lean = flag_in(matches, "lean");
     let input = text_at(matches, "input");
-    Some(Recording {
+    Some(RecordOptions {
         settings,
         seed,
         lean,

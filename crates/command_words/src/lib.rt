@@ -11,7 +11,7 @@ mod examples;
 mod found;
 mod reading;
 
-pub use commands::{Command, Recording};
+pub use commands::{Command, RecordOptions};
 pub use error::WordsError;
 pub use examples::{
     each_command_is_taken, names_may_look_like_other_words, numbers_are_decimal,

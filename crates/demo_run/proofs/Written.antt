@@ -8,7 +8,7 @@ use Rattle.bn_outside.specs.declared.turn_row.TurnRow.{TurnRow}
 use Rattle.log_file.specs.Layout.{file_bytes, file_bytes2, saved_bytes}
 use Rattle.log_order.specs.Content.{content}
 use Rattle.log_record.specs.declared.record.Record.{Record}
-use Rattle.log_record.specs.Kept.{kept}
+use Rattle.log_ring.specs.Kept.{kept}
 use Rattle.run_model.specs.Files.{kept_of, dropped_of}
 use Rattle.run_model.specs.Turn.{Run}
 use Rattle.run_model.specs.Runs.{run_of, seeded}

@@ -48,7 +48,7 @@ demo_elf seed = guest_bytes seed Loop
 abbrev pub demo_program : ℕ → Program
 demo_program seed = program_of (demo_elf seed) demo_settings
 
--- the turns that the same number chooses, where the program reads no input
+-- the turns that the same number chooses, if the program reads no input
 unfoldable pub demo_turns : ℕ → List ℕ
 demo_turns seed = seeded demo_settings (demo_program seed) [] seed
 

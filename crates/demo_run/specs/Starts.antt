@@ -8,7 +8,7 @@ use Rattle.hart_replay.specs.Replay.{Done, Interval, Replayed, interval_of, repl
 use Rattle.joint_replay.specs.Joining.{fresh, run_all}
 use Rattle.run_model.specs.declared.start.Start.{Start}
 use Rattle.demo_run.specs.Demonstration.{demo, demo_settings, demo_program, demo_elf, demo_log, demo_turns, instructions_of}
-use Rattle.demo_run.specs.declared.recording.Recorded.{Recorded}
+use Rattle.demo_run.specs.declared.recording.DemoRecording.{DemoRecording}
 
 -- the program, its settings, no input, and the digest of its file
 pub record IsStart (seed : ℕ) (s : Start) : Type 0 where
@@ -18,7 +18,7 @@ pub record IsStart (seed : ℕ) (s : Start) : Type 0 where
   pub digest : s.digest ≡ sha256 (demo_elf seed)
 
 -- the run is counted, and its log written
-pub record IsRecordedRun (seed : ℕ) (r : Recorded) : Type 0 where
+pub record IsRecordedRun (seed : ℕ) (r : DemoRecording) : Type 0 where
   pub turns : r.turns ≡ length (demo_turns seed)
   pub instructions : r.instructions ≡ instructions_of (demo seed)
   pub file : r.file.items ≡ file_bytes (demo_log seed)

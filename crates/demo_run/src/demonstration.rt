@@ -10,7 +10,7 @@ use crate::counting::count_rows;
 use crate::figures::Figures;
 use crate::joining::join;
 use crate::laws::demonstrations_are_recordings;
-use crate::recording::{Recorded, record};
+use crate::recording::{DemoRecording, record};
 use crate::starting::start_of;
 use bn_base::Image;
 use file_laws::logs_are_contents;
@@ -71,7 +71,7 @@ fn figures(alloc: Global, seed: u64) -> Result<Figures, AllocError>
 fn replay(
     alloc: Global,
     image: &Image,
-    recorded: &Recorded,
+    recorded: &DemoRecording,
     seed: u64,
 ) -> Result<Figures, AllocError>
     requires image { image.now ≡ demo_program seed }

@@ -11,7 +11,7 @@ use std::alloc::{AllocError, Global};
 
 /// A recorded run: its turns, the instructions that all harts did, and its log file.
 #[derive(Drop)]
-pub struct Recorded {
+pub struct DemoRecording {
     pub turns: u64,
     pub instructions: u128,
     pub file: Vec<u8>,
@@ -40,12 +40,12 @@ fn counts_in(marks: &[Option<EndMark>]) -> u128
 
 /// Records the run by the turns that the number chooses. No row of it is kept. The only error is want
 /// of memory.
-pub fn record(alloc: Global, start: &Start, seed: u64) -> Result<Recorded, AllocError>
+pub fn record(alloc: Global, start: &Start, seed: u64) -> Result<DemoRecording, AllocError>
     requires { IsStart seed start.now }
     ensures { IfOk result (λ recorded. IsRecordedRun seed recorded) }
 {
     let closed = run_seeded(alloc, start, LeanBook, seed)?;
-    Ok(Recorded {
+    Ok(DemoRecording {
         turns: closed.turns,
         instructions: counts_in(&closed.ends),
         file: start.log_file(alloc, &closed.ring)?,

@@ -11,7 +11,7 @@ use Rattle.elf_loader.specs.declared.program_header.ProgramHeader.{ProgramHeader
 use Rattle.elf_loader.specs.Headers.{file_header, table_end, table}
 use Rattle.elf_loader.specs.Segments.{has_flag, segments, file_end, memory_end, share, part_of, by_address}
 
--- a refusal where a test holds
+-- a refusal if a test holds
 abbrev pub when : Bool → ElfError → Option ElfError
 when true e = Some e
 when false e = None
@@ -29,8 +29,8 @@ is_elf bytes = starts_with nat_eq bytes (0x7f ∷ 0x45 ∷ 0x4c ∷ 0x46 ∷ [])
 abbrev pub is_rv32 : FileHeader → Bool
 is_rv32 f = (f.class == 1) && (f.encoding == 1) && (f.ident_version == 1) && (f.machine == 243) && (f.version == 1) && ((f.phnum == 0) || (f.phentsize == 32))
 
--- what is refused of the ELF header: the magic number, the length, the kind of file (2 is an executable
--- at fixed addresses), what it asks of the processor, and a table that is too long or cut off
+-- what is refused of the ELF header: the magic number, the length, the kind of file (2 is an executable at fixed addresses),
+-- what it asks of the processor. Then a program header table that is too long or cut off
 unfoldable pub header_refusal : List ℕ → Option ElfError
 header_refusal bytes = let f = file_header bytes in first_of_all (
     when (not (is_elf bytes)) NotElf

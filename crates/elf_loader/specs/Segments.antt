@@ -19,11 +19,11 @@ is_segment h = (h.kind == 1) && nat_lt 0 h.memsz
 unfoldable pub segments : List ℕ → List ProgramHeader
 segments bytes = filter is_segment (table bytes)
 
--- where a segment's bytes end in the file
+-- the place where a segment's bytes end in the file
 abbrev pub file_end : ProgramHeader → ℕ
 file_end h = h.offset + h.filesz
 
--- where a segment ends in memory
+-- the place where a segment ends in memory
 abbrev pub memory_end : ProgramHeader → ℕ
 memory_end h = h.vaddr + h.memsz
 
@@ -61,7 +61,7 @@ is_code hs addr = (addr % 4 == 0) && is_some (find (has_code addr) hs)
 abbrev pub share : ProgramHeader → ProgramHeader → Bool
 share g h = nat_lt (first_word g) (word_after h) && nat_lt (first_word h) (word_after g)
 
--- the byte at an address as a segment gives it: one of the file's, or 0 where the file has none
+-- the byte at an address as a segment gives it: one of the file's, or 0 if the file has none
 abbrev pub byte_in : List ℕ → ProgramHeader → ℕ → ℕ
 byte_in bytes h addr = if nat_le h.vaddr addr && nat_lt addr (h.vaddr + h.filesz) then slice_index bytes (h.offset + (addr - h.vaddr)) else 0
 

@@ -19,9 +19,9 @@ use Rattle.log_record.specs.declared.record.Record.{Record}
 use Rattle.log_record.specs.Spelling.{Fits, total}
 use Rattle.log_order.specs.Content.{IsContent}
 use Rattle.log_order.specs.Order.{broken_by}
-use Rattle.log_record.specs.Kept.{kept}
+use Rattle.log_ring.specs.Kept.{kept}
 use Rattle.run_model.specs.declared.hart.Hart.{Hart}
-use Rattle.run_model.specs.declared.next.Next.{Next}
+use Rattle.run_model.specs.declared.turn_end.TurnEnd.{TurnEnd}
 use Rattle.run_model.specs.declared.span.Span.{Span}
 use Rattle.run_model.specs.Machine.{Answered, answer, call_of}
 use Rattle.run_model.specs.Turn.{Run, Served, turn, ask_at, is_guarded, begun_anew, guarded_run, guard_records, after_ask, span_of, next_of, loading, warmth, word_before, budget, point_of, edge_records, load_record, sc_record, next_records, run_over_records, harts_after, is_orderly}
@@ -82,7 +82,7 @@ own_point (Some x) k asked turns p e small low = let hart : k ≡ p.hart = hart_
     count_of_some : (q r : Point) → ◌≡◌ {A = Option Point} (Some q) (Some r) → q.count ≡ r.count
     count_of_some q r e = ap (λ (x : Point). x.count) (same_point q r e)
 
-states_on : (c : RawSettings) (run : Run) (k : ℕ) (ask : Ask) (next : Next) (s : HartState) (bytes : ℕ) → ((j : ℕ) → j < c.harts → IsWordState (run.harts j).state) → IsWordState s → (j : ℕ) → j < c.harts
+states_on : (c : RawSettings) (run : Run) (k : ℕ) (ask : Ask) (next : TurnEnd) (s : HartState) (bytes : ℕ) → ((j : ℕ) → j < c.harts → IsWordState (run.harts j).state) → IsWordState s → (j : ℕ) → j < c.harts
     → IsWordState (harts_after next k (own_hart c run k ask next s bytes) run.harts j).state
 states_on c run k ask next s bytes states w j within = elim (eqb_tells j k) [
   | inl p ↦ subst IsWordState (sym (ap (λ (h : Hart). h.state) (own_is next k j (own_hart c run k ask next s bytes) run.harts p.0) ∙ own_state next s _ bytes (run.harts k))) w
@@ -92,7 +92,7 @@ states_on c run k ask next s bytes states w j within = elim (eqb_tells j k) [
 pub five_parts : (a e l s n o : List Record) → length (a ++ (e ++ (l ++ (s ++ (n ++ o))))) ≡ length a + (length e + (length l + (length s + (length n + length o))))
 five_parts a e l s n o = omega (arith, length-append a (e ++ (l ++ (s ++ (n ++ o)))), length-append e (l ++ (s ++ (n ++ o))), length-append l (s ++ (n ++ o)), length-append s (n ++ o), length-append n o)
 
-worded_after : AllLaws → (c : RawSettings) (run : Run) (k : ℕ) (ask : Ask) (call : Option Plan) (answered : Answered) (span : Option Span) (next : Next) (s : HartState) → IsSetting c → Underway c run → Worded c 2 run → k < c.harts
+worded_after : AllLaws → (c : RawSettings) (run : Run) (k : ℕ) (ask : Ask) (call : Option Plan) (answered : Answered) (span : Option Span) (next : TurnEnd) (s : HartState) → IsSetting c → Underway c run → Worded c 2 run → k < c.harts
     → MovesOn c (run.harts k) ask.state.ic s.ic next span (loading ask.want) → EndsAs c (run.harts k) s.ic next → IsWordState s → HoldsMachine answered.machine → EndIsWord next
     → Worded c 0 (after_ask c run k ask call answered span next s)
 worded_after laws c run k ask call answered span next s setting known w there on so state machine value =
@@ -170,7 +170,7 @@ turn_worded laws c i run k setting image known w there live o =
     let call : Option Plan = call_of i run.machine ask.want in
     let answered : Answered = answer c call run.machine k ask in
     let s : HartState = absorbed ask answered.reply in
-    let next : Next = next_of c call h ask.want answered.reply s.ic in
+    let next : TurnEnd = next_of c call h ask.want answered.reply s.ic in
     let state = w.states k there in
     let well = asks_well laws.keep i (code_words i image.words) (budget c own) own.state state.registers state.formed in
     let answers = answer_well c i run.machine k ask well (passed i own.state.ic (budget c own) ask o) w.machine in

@@ -15,8 +15,8 @@ use Rattle.bn_base.specs.declared.end_mark.EndMark.{EndMark}
 use Rattle.log_record.specs.declared.record.Record.TheVariants.{Header, FirstLoad, ScOk, ScFailed, Edge, End}
 use Rattle.log_record.specs.Spelling.{Fits, AreRegisters, has_value, is_mark, is_marked}
 use Rattle.run_model.specs.declared.hart.Hart.{Hart}
-use Rattle.run_model.specs.declared.next.Next.{Next}
-use Rattle.run_model.specs.declared.next.Next.TheVariants.{GoesOn, NewInterval, HartOver, RunOver}
+use Rattle.run_model.specs.declared.turn_end.TurnEnd.{TurnEnd}
+use Rattle.run_model.specs.declared.turn_end.TurnEnd.TheVariants.{GoesOn, NewInterval, HartOver, RunOver}
 use Rattle.run_model.specs.Stands.Logs.{is_marked_next}
 use Rattle.run_model.specs.Turn.{edges_from, edge_records, load_record, sc_record, next_records, stopped_records, run_over_records, by_guard, header, mark}
 use Rattle.file_laws.proofs.Views.{AreSources}
@@ -68,7 +68,7 @@ plain_mark ic reason value e = ap (λ (b : Bool). has_value reason || ((reason =
 end_fits : (k ic reason value : ℕ) → k < 256 → ic < 2 ^ 64 → reason < 256 → value < 2 ^ 32 → (reason == 6) ≡ false → is_mark 2 (mark ic reason value) ≡ true → Fits 1 (End k (mark ic reason value))
 end_fits k ic reason value small low r v u m = record { fields = (small, low, r, v); mark = sym (plain_mark ic reason value u) ∙ m }
 
-pub next_fits : (next : Next) (c : RawSettings) (h : Hart) (k number : ℕ) (s : HartState) → k < 256 → number + 1 < 2 ^ 64 → s.ic < 2 ^ 64 → IsWordState s → EndsAs c h s.ic next → EndIsWord next → is_marked_next next ≡ true
+pub next_fits : (next : TurnEnd) (c : RawSettings) (h : Hart) (k number : ℕ) (s : HartState) → k < 256 → number + 1 < 2 ^ 64 → s.ic < 2 ^ 64 → IsWordState s → EndsAs c h s.ic next → EndIsWord next → is_marked_next next ≡ true
     → AllByRecursion (Fits 1) (next_records next k number s)
 next_fits GoesOn c h k number s small few low w so value m = tt
 next_fits (NewInterval reason v) c h k number s small few low w so value m = (end_fits k s.ic reason v small low so.small value so.unguarded m, (header_fits k (number + 1) s small few low w, tt))
@@ -84,7 +84,7 @@ stops_fit k j zero harts within low = tt
 stops_fit k j (suc n) harts within low =
     stop_fits (not (j == k) && (harts j).live) j (harts j).state.ic (stopped_records k (j + 1) n harts) (omega (arith, within)) (low j) (stops_fit k (j + 1) n harts (omega (arith, within)) low)
 
-pub over_fits : (next : Next) (k n : ℕ) (harts : ℕ → Hart) → n ≤ 256 → ((i : ℕ) → (harts i).state.ic < 2 ^ 64) → AllByRecursion (Fits 1) (run_over_records next k n harts)
+pub over_fits : (next : TurnEnd) (k n : ℕ) (harts : ℕ → Hart) → n ≤ 256 → ((i : ℕ) → (harts i).state.ic < 2 ^ 64) → AllByRecursion (Fits 1) (run_over_records next k n harts)
 over_fits (RunOver reason value) k n harts within low = stops_fit k 0 n harts (omega (arith, within)) low
 over_fits GoesOn k n harts within low = tt
 over_fits (NewInterval reason value) k n harts within low = tt
@@ -129,7 +129,7 @@ conditional_few replies.ScOk k = omega arith
 conditional_few replies.ScFailed k = omega arith
 conditional_few reply k = omega arith
 
-pub next_few : (next : Next) (k number : ℕ) (s : HartState) → length (next_records next k number s) ≤ 2
+pub next_few : (next : TurnEnd) (k number : ℕ) (s : HartState) → length (next_records next k number s) ≤ 2
 next_few GoesOn k number s = omega arith
 next_few (NewInterval reason value) k number s = omega arith
 next_few (HartOver reason value) k number s = omega arith
@@ -143,7 +143,7 @@ stops_few : (k j n : ℕ) (harts : ℕ → Hart) → length (stopped_records k j
 stops_few k j zero harts = omega arith
 stops_few k j (suc n) harts = stop_few (not (j == k) && (harts j).live) j (harts j).state.ic n (stopped_records k (j + 1) n harts) (stops_few k (j + 1) n harts)
 
-pub over_few : (next : Next) (k n : ℕ) (harts : ℕ → Hart) → length (run_over_records next k n harts) ≤ n
+pub over_few : (next : TurnEnd) (k n : ℕ) (harts : ℕ → Hart) → length (run_over_records next k n harts) ≤ n
 over_few (RunOver reason value) k n harts = stops_few k 0 n harts
 over_few GoesOn k n harts = omega arith
 over_few (NewInterval reason value) k n harts = omega arith

@@ -22,8 +22,8 @@ use Rattle.system_calls.specs.Calls.{plan_of, read_plan, write_plan, break_plan,
 use Rattle.bus_memory.specs.Contents.{updated}
 use Rattle.elf_loader.specs.Laws.{HasWords}
 use Rattle.run_model.specs.declared.hart.Hart.{Hart}
-use Rattle.run_model.specs.declared.next.Next.{Next}
-use Rattle.run_model.specs.declared.next.Next.TheVariants.{GoesOn, NewInterval, HartOver, RunOver}
+use Rattle.run_model.specs.declared.turn_end.TurnEnd.{TurnEnd}
+use Rattle.run_model.specs.declared.turn_end.TurnEnd.TheVariants.{GoesOn, NewInterval, HartOver, RunOver}
 use Rattle.run_model.specs.Machine.{Machine, Answered, answer, answer_access, answer_call, answer_sc, call_of, planned, kernel_of, put_byte, filled, is_reserved, bytes_in, sent}
 use Rattle.run_model.specs.Turn.{next_of, after_call}
 use Rattle.file_laws.proofs.Asks.{IsFormed, HoldsWords, AsksWell, HasCode, put_words, formed_with, formed_at, next_pc}
@@ -251,13 +251,13 @@ state_after ask reply p a = state_by ask.want reply ask.state p (record { regist
 
 -- ---- the value with which an interval ends
 
-abbrev pub EndIsWord : Next → Type 0
+abbrev pub EndIsWord : TurnEnd → Type 0
 EndIsWord GoesOn = Unit {0}
 EndIsWord (NewInterval reason value) = value < 2 ^ 32
 EndIsWord (HartOver reason value) = value < 2 ^ 32
 EndIsWord (RunOver reason value) = value < 2 ^ 32
 
-counted_word : (full end : Bool) → EndIsWord (elim end as (λ x. Next) [ true ↦ HartOver 7 0 | false ↦ elim full as (λ x. Next) [ true ↦ NewInterval 1 0 | false ↦ GoesOn ] ])
+counted_word : (full end : Bool) → EndIsWord (elim end as (λ x. TurnEnd) [ true ↦ HartOver 7 0 | false ↦ elim full as (λ x. TurnEnd) [ true ↦ NewInterval 1 0 | false ↦ GoesOn ] ])
 counted_word full true = omega arith
 counted_word true false = omega arith
 counted_word false false = tt

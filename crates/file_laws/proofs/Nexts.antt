@@ -15,16 +15,16 @@ use Rattle.system_calls.specs.declared.effect.Plan.{Plan}
 use Rattle.system_calls.specs.declared.effect.Plan.TheVariants as plans
 use Rattle.log_record.specs.declared.record.Record.{Record}
 use Rattle.log_record.specs.declared.record.Record.TheVariants.{End}
-use Rattle.log_order.specs.declared.view.Terms.{Terms}
+use Rattle.log_order.specs.declared.view.OrderLimits.{OrderLimits}
 use Rattle.log_order.specs.declared.view.HartView.{HartView}
 use Rattle.log_order.specs.declared.view.Phase.{Phase}
 use Rattle.log_order.specs.declared.view.Phase.TheVariants.{Awaiting, Open, Done}
-use Rattle.log_order.specs.Order.{step, terms_of}
+use Rattle.log_order.specs.Order.{step, order_limits_of}
 use Rattle.log_order.specs.Rules.{goes_on}
 use Rattle.log_order.specs.Suffix.{Keeps}
 use Rattle.run_model.specs.declared.hart.Hart.{Hart}
-use Rattle.run_model.specs.declared.next.Next.{Next}
-use Rattle.run_model.specs.declared.next.Next.TheVariants.{GoesOn, NewInterval, HartOver, RunOver}
+use Rattle.run_model.specs.declared.turn_end.TurnEnd.{TurnEnd}
+use Rattle.run_model.specs.declared.turn_end.TurnEnd.TheVariants.{GoesOn, NewInterval, HartOver, RunOver}
 use Rattle.run_model.specs.Turn.{next_of, after_call, mark, header, next_records, hart_after}
 use Rattle.run_model.specs.Counts.{is_on}
 use Rattle.file_laws.proofs.Views.{OrderLaws, Views, IsOpen, IsDone, IsView, Took, took_none, took_one, took_both}
@@ -35,7 +35,7 @@ pub record EndsSo (c : RawSettings) (h : Hart) (ic reason : ℕ) (on : Bool) : T
   pub limit : reason ≡ 7 → c.limit ≤ ic
   pub kind : goes_on reason ≡ on
 
-abbrev pub EndsOn : RawSettings → Hart → ℕ → Next → Type 0
+abbrev pub EndsOn : RawSettings → Hart → ℕ → TurnEnd → Type 0
 EndsOn c h ic GoesOn = Unit {0}
 EndsOn c h ic (NewInterval reason value) = EndsSo c h ic reason true
 EndsOn c h ic (HartOver reason value) = EndsSo c h ic reason false
@@ -47,13 +47,13 @@ pub record EndsPlain (c : RawSettings) (h : Hart) (ic reason : ℕ) (on : Bool) 
   pub unguarded : (reason == 6) ≡ false
   pub small : reason < 256
 
-abbrev pub EndsAs : RawSettings → Hart → ℕ → Next → Type 0
+abbrev pub EndsAs : RawSettings → Hart → ℕ → TurnEnd → Type 0
 EndsAs c h ic GoesOn = Unit {0}
 EndsAs c h ic (NewInterval reason value) = EndsPlain c h ic reason true
 EndsAs c h ic (HartOver reason value) = EndsPlain c h ic reason false
 EndsAs c h ic (RunOver reason value) = EndsPlain c h ic reason false
 
-pub ends_on : (next : Next) (c : RawSettings) (h : Hart) (ic : ℕ) → EndsAs c h ic next → EndsOn c h ic next
+pub ends_on : (next : TurnEnd) (c : RawSettings) (h : Hart) (ic : ℕ) → EndsAs c h ic next → EndsOn c h ic next
 ends_on GoesOn c h ic e = tt
 ends_on (NewInterval reason value) c h ic e = e.so
 ends_on (HartOver reason value) c h ic e = e.so
@@ -74,7 +74,7 @@ full_at : (b n ic : ℕ) → 1 ≤ n → nat_le n (ic - b) ≡ true → b + n �
 full_at b n ic some e = omega (arith, some, le_of n (ic - b) e)
 
 count_ends : (c : RawSettings) (h : Hart) (ic : ℕ) (end full : Bool) → nat_le c.limit ic ≡ end → nat_le c.interval (ic - h.begun) ≡ full → 1 ≤ c.interval
-    → EndsAs c h ic (elim end as (λ x. Next) [ true ↦ HartOver 7 0 | false ↦ elim full as (λ x. Next) [ true ↦ NewInterval 1 0 | false ↦ GoesOn ] ])
+    → EndsAs c h ic (elim end as (λ x. TurnEnd) [ true ↦ HartOver 7 0 | false ↦ elim full as (λ x. TurnEnd) [ true ↦ NewInterval 1 0 | false ↦ GoesOn ] ])
 count_ends c h ic true full e f some = record { so = record { full = λ p. absurd cc; limit = λ p. le_of c.limit ic e; kind = refl }; unguarded = refl; small = omega arith }
 count_ends c h ic false true e f some = record { so = record { full = λ p. full_at h.begun c.interval ic some f; limit = λ p. absurd cc; kind = refl }; unguarded = refl; small = omega arith }
 count_ends c h ic false false e f some = tt
@@ -115,16 +115,16 @@ with_phase phase seen last = record { phase = phase; seen = seen; met = true; la
 
 -- the End follows
 end_follows : OrderLaws → (c : RawSettings) (vs : Views) (k next : ℕ) (h : Hart) (ic reason value : ℕ) (on : Bool) (v : IsOpen next h.begun ic (slice_get vs k)) → IsWithin c h ic → EndsSo c h ic reason on
-    → step (terms_of c) vs (End k (mark ic reason value)) ≡ Ok (slice_set vs k (with_phase (if on then Awaiting (Some next) ic else Done) v.seen (Some ic)))
+    → step (order_limits_of c) vs (End k (mark ic reason value)) ≡ Ok (slice_set vs k (with_phase (if on then Awaiting (Some next) ic else Done) v.seen (Some ic)))
 end_follows laws c vs k next h ic reason value on v within so =
-    subst (λ (b : Bool). step (terms_of c) vs (End k (mark ic reason value)) ≡ Ok (slice_set vs k (with_phase (if b then Awaiting (Some next) ic else Done) v.seen (Some ic)))) so.kind
-    (laws.ends (terms_of c) vs k (mark ic reason value) next h.begun v.seen v.met v.last v.is v.low within.limit (λ p. omega (arith, so.limit p, within.limit)) within.low within.high (λ p. omega (arith, so.full p, within.high)))
+    subst (λ (b : Bool). step (order_limits_of c) vs (End k (mark ic reason value)) ≡ Ok (slice_set vs k (with_phase (if b then Awaiting (Some next) ic else Done) v.seen (Some ic)))) so.kind
+    (laws.ends (order_limits_of c) vs k (mark ic reason value) next h.begun v.seen v.met v.last v.is v.low within.limit (λ p. omega (arith, so.limit p, within.limit)) within.low within.high (λ p. omega (arith, so.full p, within.high)))
 
 -- the last End of a hart
-pub took_last : OrderLaws → (c : RawSettings) (n : ℕ) (stream : List Record) (vs : Views) (k next : ℕ) (h : Hart) (ic reason value : ℕ) → Keeps (terms_of c) n 0 stream vs → IsOpen next h.begun ic (slice_get vs k) → IsWithin c h ic
-    → EndsSo c h ic reason false → Took (terms_of c) n stream vs k (End k (mark ic reason value) ∷ []) (IsDone ic)
+pub took_last : OrderLaws → (c : RawSettings) (n : ℕ) (stream : List Record) (vs : Views) (k next : ℕ) (h : Hart) (ic reason value : ℕ) → Keeps (order_limits_of c) n 0 stream vs → IsOpen next h.begun ic (slice_get vs k) → IsWithin c h ic
+    → EndsSo c h ic reason false → Took (order_limits_of c) n stream vs k (End k (mark ic reason value) ∷ []) (IsDone ic)
 took_last laws c n stream vs k next h ic reason value kp v within so =
-    took_one laws.more (terms_of c) n stream vs k (End k (mark ic reason value)) (record { phase = Open next h.begun; seen = v.seen; met = v.met; last = v.last }) (with_phase Done v.seen (Some ic)) (IsDone ic) kp v.is
+    took_one laws.more (order_limits_of c) n stream vs k (End k (mark ic reason value)) (record { phase = Open next h.begun; seen = v.seen; met = v.met; last = v.last }) (with_phase Done v.seen (Some ic)) (IsDone ic) kp v.is
     (end_follows laws c vs k next h ic reason value false v within so) (record { seen = v.seen; met = true; is = refl })
 
 pub done_view : (h : Hart) (o : Option HartView) → h.live ≡ false → IsDone h.state.ic o → IsView h o
@@ -134,17 +134,17 @@ pub open_view : (h : Hart) (o : Option HartView) → h.live ≡ true → IsOpen 
 open_view h o live v = record { in_interval = λ p. v; over = λ p. absurd (false≢true (sym p ∙ live)) }
 
 -- the same records, with another word of what they leave
-said : (t : Terms) (n : ℕ) (stream : List Record) (vs : Views) (k : ℕ) (rs : List Record) (P Q : Option HartView → Type 0) → ((o : Option HartView) → P o → Q o) → Took t n stream vs k rs P → Took t n stream vs k rs Q
+said : (t : OrderLimits) (n : ℕ) (stream : List Record) (vs : Views) (k : ℕ) (rs : List Record) (P Q : Option HartView → Type 0) → ((o : Option HartView) → P o → Q o) → Took t n stream vs k rs P → Took t n stream vs k rs Q
 said t n stream vs k rs P Q f a = record { views = a.views; keeps = a.keeps; size = a.size; own = f (slice_get a.views k) a.own; others = a.others }
 
 -- what comes after a turn leaves the view of the hart after it
-pub took_next : (next : Next) → OrderLaws → (c : RawSettings) (n : ℕ) (stream : List Record) (vs : Views) (k : ℕ) (h : Hart) (s : HartState) (skipped bytes : ℕ) → Keeps (terms_of c) n 0 stream vs → h.live ≡ true → (is_on next ≡ true → h.number < 2 ^ 41)
+pub took_next : (next : TurnEnd) → OrderLaws → (c : RawSettings) (n : ℕ) (stream : List Record) (vs : Views) (k : ℕ) (h : Hart) (s : HartState) (skipped bytes : ℕ) → Keeps (order_limits_of c) n 0 stream vs → h.live ≡ true → (is_on next ≡ true → h.number < 2 ^ 41)
     → IsOpen (h.number + 1) h.begun s.ic (slice_get vs k) → IsWithin c h s.ic → EndsOn c h s.ic next
-    → Took (terms_of c) n stream vs k (next_records next k h.number s) (IsView (hart_after next s skipped bytes h))
+    → Took (order_limits_of c) n stream vs k (next_records next k h.number s) (IsView (hart_after next s skipped bytes h))
 took_next GoesOn laws c n stream vs k h s skipped bytes kp live small v within so =
-    took_none (terms_of c) n stream vs k (IsView (hart_after GoesOn s skipped bytes h)) kp (open_view (hart_after GoesOn s skipped bytes h) (slice_get vs k) live v)
+    took_none (order_limits_of c) n stream vs k (IsView (hart_after GoesOn s skipped bytes h)) kp (open_view (hart_after GoesOn s skipped bytes h) (slice_get vs k) live v)
 took_next (NewInterval reason value) laws c n stream vs k h s skipped bytes kp live small v within so =
-    let t = terms_of c in
+    let t = order_limits_of c in
     let after = hart_after (NewInterval reason value) s skipped bytes h in
     let end : Record = End k (mark s.ic reason value) in
     let awaiting = with_phase (Awaiting (Some (h.number + 1)) s.ic) v.seen (Some s.ic) in
@@ -158,7 +158,7 @@ took_next (NewInterval reason value) laws c n stream vs k h s skipped bytes kp l
     took_both t n stream vs k (end ∷ []) (header k (h.number + 1) s ∷ []) (λ o. o ≡ Some awaiting) (IsView after) first second
 took_next (HartOver reason value) laws c n stream vs k h s skipped bytes kp live small v within so =
     let after = hart_after (HartOver reason value) s skipped bytes h in
-    said (terms_of c) n stream vs k (End k (mark s.ic reason value) ∷ []) (IsDone s.ic) (IsView after) (λ o d. done_view after o refl d) (took_last laws c n stream vs k (h.number + 1) h s.ic reason value kp v within so)
+    said (order_limits_of c) n stream vs k (End k (mark s.ic reason value) ∷ []) (IsDone s.ic) (IsView after) (λ o d. done_view after o refl d) (took_last laws c n stream vs k (h.number + 1) h s.ic reason value kp v within so)
 took_next (RunOver reason value) laws c n stream vs k h s skipped bytes kp live small v within so =
     let after = hart_after (RunOver reason value) s skipped bytes h in
-    said (terms_of c) n stream vs k (End k (mark s.ic reason value) ∷ []) (IsDone s.ic) (IsView after) (λ o d. done_view after o refl d) (took_last laws c n stream vs k (h.number + 1) h s.ic reason value kp v within so)
+    said (order_limits_of c) n stream vs k (End k (mark s.ic reason value) ∷ []) (IsDone s.ic) (IsView after) (λ o d. done_view after o refl d) (took_last laws c n stream vs k (h.number + 1) h s.ic reason value kp v within so)

@@ -24,10 +24,10 @@ use Rattle.log_record.specs.declared.record.Record.TheVariants.{End}
 use Rattle.log_record.specs.Spelling.{Fits, is_mark, is_marked, total}
 use Rattle.log_order.specs.Content.{IsContent}
 use Rattle.log_order.specs.Order.{broken_by}
-use Rattle.log_record.specs.Kept.{Held, kept}
+use Rattle.log_ring.specs.Kept.{Held, kept}
 use Rattle.run_model.specs.declared.hart.Hart.{Hart}
-use Rattle.run_model.specs.declared.next.Next.{Next}
-use Rattle.run_model.specs.declared.next.Next.TheVariants.{GoesOn, NewInterval, HartOver, RunOver}
+use Rattle.run_model.specs.declared.turn_end.TurnEnd.{TurnEnd}
+use Rattle.run_model.specs.declared.turn_end.TurnEnd.TheVariants.{GoesOn, NewInterval, HartOver, RunOver}
 use Rattle.run_model.specs.declared.span.Span.{Span}
 use Rattle.run_model.specs.Machine.{Answered, answer, call_of}
 use Rattle.run_model.specs.Stands.Harts.{all_left}
@@ -76,7 +76,7 @@ end_plain : (k ic reason value : ℕ) → (reason == 6) ≡ false → is_mark 2 
 unfolding IsPlain
 end_plain k ic reason value u m = sym (plain_mark ic reason value u) ∙ m
 
-next_plain : (next : Next) (c : RawSettings) (h : Hart) (k number : ℕ) (s : HartState) → EndsAs c h s.ic next → is_marked_next next ≡ true → AllByRecursion IsPlain (next_records next k number s)
+next_plain : (next : TurnEnd) (c : RawSettings) (h : Hart) (k number : ℕ) (s : HartState) → EndsAs c h s.ic next → is_marked_next next ≡ true → AllByRecursion IsPlain (next_records next k number s)
 unfolding IsPlain
 next_plain GoesOn c h k number s so m = tt
 next_plain (NewInterval reason v) c h k number s so m = (end_plain k s.ic reason v so.unguarded m, (refl, tt))
@@ -92,7 +92,7 @@ stops_plain : (k j n : ℕ) (harts : ℕ → Hart) → AllByRecursion IsPlain (s
 stops_plain k j zero harts = tt
 stops_plain k j (suc n) harts = stop_plain (not (j == k) && (harts j).live) j (harts j).state.ic (stopped_records k (j + 1) n harts) (stops_plain k (j + 1) n harts)
 
-over_plain : (next : Next) (k n : ℕ) (harts : ℕ → Hart) → AllByRecursion IsPlain (run_over_records next k n harts)
+over_plain : (next : TurnEnd) (k n : ℕ) (harts : ℕ → Hart) → AllByRecursion IsPlain (run_over_records next k n harts)
 over_plain (RunOver reason value) k n harts = stops_plain k 0 n harts
 over_plain GoesOn k n harts = tt
 over_plain (NewInterval reason value) k n harts = tt
@@ -159,7 +159,7 @@ few_more stream more turns harts h m l = omega (arith, h, m, l)
 parts_few : (e l s n o harts : ℕ) → e ≤ harts → l ≤ 1 → s ≤ 1 → n ≤ 2 → o ≤ harts → e + (l + (s + (n + o))) ≤ harts + (1 + (1 + (2 + harts)))
 parts_few e l s n o harts a b c d f = omega (arith, a, b, c, d, f)
 
-counted_after : Laws → EdgesAreFew → (c : RawSettings) (run : Run) (k : ℕ) (ask : Ask) (call : Option Plan) (answered : Answered) (span : Option Span) (next : Next) (s : HartState) → IsSetting c → Underway c run → ((j : ℕ) → (j == k) ≡ false → IsRested c (run.harts j)) → Counted c 2 run → k < c.harts → (run.harts k).live ≡ true
+counted_after : Laws → EdgesAreFew → (c : RawSettings) (run : Run) (k : ℕ) (ask : Ask) (call : Option Plan) (answered : Answered) (span : Option Span) (next : TurnEnd) (s : HartState) → IsSetting c → Underway c run → ((j : ℕ) → (j == k) ≡ false → IsRested c (run.harts j)) → Counted c 2 run → k < c.harts → (run.harts k).live ≡ true
     → MovesOn c (run.harts k) ask.state.ic s.ic next span (loading ask.want) → EndsAs c (run.harts k) s.ic next → Counted c 0 (after_ask c run k ask call answered span next s)
 counted_after laws few c run k ask call answered span next s setting known rest w there live on so =
     let h = run.harts k in
@@ -213,7 +213,7 @@ turn_counted laws few c i run k ask setting known w there live o =
     let call : Option Plan = call_of i run.machine ask.want in
     let answered : Answered = answer c call run.machine k ask in
     let s : HartState = absorbed ask answered.reply in
-    let next : Next = next_of c call h ask.want answered.reply s.ic in
+    let next : TurnEnd = next_of c call h ask.want answered.reply s.ic in
     let now = asking_kept g laws c i run k ask setting known there live o (uncut c run k ask.want) in
     let a = asks g laws c i run k ask setting known live o (uncut c run k ask.want) in
     let on = laws.moves c i run.machine h k ask (omega (arith, setting.limit_high)) (now.fit k) a.live a.orderly in

@@ -11,13 +11,13 @@ use Rattle.bn_base.specs.declared.settings.RawSettings.{RawSettings}
 use Rattle.rv_meaning.specs.declared.asks.Ask.{Ask}
 use Rattle.bn_outside.specs.declared.turn_row.TurnRow.{TurnRow}
 use Rattle.log_record.specs.declared.record.Record.{Record}
-use Rattle.log_order.specs.declared.view.Terms.{Terms}
+use Rattle.log_order.specs.declared.view.OrderLimits.{OrderLimits}
 use Rattle.log_order.specs.declared.view.HartView.{HartView}
 use Rattle.log_order.specs.Rules.{fresh, is_over}
-use Rattle.log_order.specs.Order.{after_all, terms_of, late_edge, broken, broken_by}
+use Rattle.log_order.specs.Order.{after_all, order_limits_of, late_edge, broken, broken_by}
 use Rattle.log_order.specs.Suffix.{Keeps, IsEarly, EndsLast}
 use Rattle.log_order.specs.Weak.{AreWeak}
-use Rattle.log_record.specs.Kept.{Held, HoldsLog, kept}
+use Rattle.log_ring.specs.Kept.{Held, HoldsLog, kept}
 use Rattle.run_model.specs.declared.hart.Hart.{Hart}
 use Rattle.run_model.specs.Turn.{Run, Served, serve, serve_disorderly, served_if, is_orderly}
 use Rattle.run_model.specs.Runs.{is_live, any_live}
@@ -38,7 +38,7 @@ below_of a b e = grind arith
 -- what holds at all times
 pub record Written (c : RawSettings) (run : Run) : Type 0 where
   pub views : Views
-  pub keeps : Keeps (terms_of c) c.harts 0 run.stream views
+  pub keeps : Keeps (order_limits_of c) c.harts 0 run.stream views
   pub early : AllByRecursion (IsEarly (counts_of run)) run.stream
 
 abbrev written : (c : RawSettings) (run : Run) → Recording c run → Written c run
@@ -89,13 +89,13 @@ abbrev pub SuffixIsKept : Type 0
 SuffixIsKept = (size : ℕ) (rs : List Record) → (front : List Record) × (rs ≡ front ++ kept size rs)
 
 abbrev pub FirstAreGivenUp : Type 0
-FirstAreGivenUp = (t : Terms) (count dropped : ℕ) (front back : List Record) (harts : List HartView) → Keeps t count dropped (front ++ back) harts → Keeps t count (dropped + length front) back harts
+FirstAreGivenUp = (t : OrderLimits) (count dropped : ℕ) (front back : List Record) (harts : List HartView) → Keeps t count dropped (front ++ back) harts → Keeps t count (dropped + length front) back harts
 
 abbrev pub KeptKeepRules : Type 0
-KeptKeepRules = (t : Terms) (count dropped : ℕ) (kept : List Record) (harts : List HartView) → Keeps t count dropped kept harts → (weaker : List HartView) × (after_all t 0 (replicate count (fresh (dropped == 0))) kept ≡ Ok weaker) × AreWeak weaker harts
+KeptKeepRules = (t : OrderLimits) (count dropped : ℕ) (kept : List Record) (harts : List HartView) → Keeps t count dropped kept harts → (weaker : List HartView) × (after_all t 0 (replicate count (fresh (dropped == 0))) kept ≡ Ok weaker) × AreWeak weaker harts
 
 abbrev pub KeptAreInOrder : Type 0
-KeptAreInOrder = (t : Terms) (count dropped : ℕ) (kept : List Record) (harts : List HartView) → Keeps t count dropped kept harts → AllByRecursion (λ v. is_over v.phase ≡ true) harts → late_edge harts 0 kept ≡ None → broken t count (dropped == 0) kept ≡ None
+KeptAreInOrder = (t : OrderLimits) (count dropped : ℕ) (kept : List Record) (harts : List HartView) → Keeps t count dropped kept harts → AllByRecursion (λ v. is_over v.phase ≡ true) harts → late_edge harts 0 kept ≡ None → broken t count (dropped == 0) kept ≡ None
 
 abbrev pub EarlyAreNotLate : Type 0
 EarlyAreNotLate = (counts : ℕ → ℕ) (harts : List HartView) (start : ℕ) (rs : List Record) → EndsLast counts harts → AllByRecursion (IsEarly counts) rs → late_edge harts start rs ≡ None
@@ -108,12 +108,12 @@ pub last_part : {X : Type 0} (P : X → Type 0) (xs ys : List X) → AllByRecurs
 last_part P [] ys a = a
 last_part P (x ∷ xs) ys a = last_part P xs ys a.1
 
-pub kept_keeps : SuffixIsKept → FirstAreGivenUp → (c : RawSettings) (run : Run) (w : Written c run) → Keeps (terms_of c) c.harts (dropped_of c run) (kept_of c run) w.views
+pub kept_keeps : SuffixIsKept → FirstAreGivenUp → (c : RawSettings) (run : Run) (w : Written c run) → Keeps (order_limits_of c) c.harts (dropped_of c run) (kept_of c run) w.views
 kept_keeps suffix given c run w =
     let part = suffix c.log_size run.stream in
-    let kp = given (terms_of c) c.harts 0 part.0 (kept_of c run) w.views (subst (λ (x : List Record). Keeps (terms_of c) c.harts 0 x w.views) part.1 w.keeps) in
+    let kp = given (order_limits_of c) c.harts 0 part.0 (kept_of c run) w.views (subst (λ (x : List Record). Keeps (order_limits_of c) c.harts 0 x w.views) part.1 w.keeps) in
     let n : 0 + length part.0 ≡ dropped_of c run = omega (arith, dropped_is run.stream part.0 (kept_of c run) part.1) in
-    subst (λ (d : ℕ). Keeps (terms_of c) c.harts d (kept_of c run) w.views) n kp
+    subst (λ (d : ℕ). Keeps (order_limits_of c) c.harts d (kept_of c run) w.views) n kp
 
 pub kept_early : SuffixIsKept → (c : RawSettings) (run : Run) → Written c run → AllByRecursion (IsEarly (counts_of run)) (kept_of c run)
 kept_early suffix c run w =
@@ -122,7 +122,7 @@ kept_early suffix c run w =
 
 pub kept_rules : SuffixIsKept → FirstAreGivenUp → KeptKeepRules → (c : RawSettings) (run : Run) → Written c run → KeepsRules c (counts_of run) (dropped_of c run) (kept_of c run)
 kept_rules suffix given rules c run w =
-    let r = rules (terms_of c) c.harts (dropped_of c run) (kept_of c run) w.views (kept_keeps suffix given c run w) in
+    let r = rules (order_limits_of c) c.harts (dropped_of c run) (kept_of c run) w.views (kept_keeps suffix given c run w) in
     record { views = r.0; ran = r.1; early = kept_early suffix c run w }
 
 -- ---- a ring
@@ -199,7 +199,7 @@ pub kept_in_order : SuffixIsKept → FirstAreGivenUp → KeptAreInOrder → Earl
 kept_in_order suffix given order early c run known over =
     let none = over_known (any_live c.harts run.harts) over in
     let w = written c run known in
-    order (terms_of c) c.harts (dropped_of c run) (kept_of c run) known.views (kept_keeps suffix given c run w)
+    order (order_limits_of c) c.harts (dropped_of c run) (kept_of c run) known.views (kept_keeps suffix given c run w)
     (all_over known.views (λ j v e. (ended_at c run known none j v e).over))
     (early (counts_of run) known.views 0 (kept_of c run) (ends_last c run known none) (kept_early suffix c run w))
 
@@ -208,6 +208,6 @@ pub stream_in_order : KeptAreInOrder → EarlyAreNotLate → (c : RawSettings) (
 stream_in_order order early c run known over =
     let none = over_known (any_live c.harts run.harts) over in
     let w = written c run known in
-    order (terms_of c) c.harts 0 run.stream known.views w.keeps
+    order (order_limits_of c) c.harts 0 run.stream known.views w.keeps
     (all_over known.views (λ j v e. (ended_at c run known none j v e).over))
     (early (counts_of run) known.views 0 run.stream (ends_last c run known none) w.early)

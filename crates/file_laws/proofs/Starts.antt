@@ -9,11 +9,11 @@ use Rattle.bn_base.specs.Ranges.{IsSetting}
 use Rattle.bn_base.specs.declared.settings.RawSettings.{RawSettings}
 use Rattle.bn_base.specs.declared.state.HartState.{HartState}
 use Rattle.log_record.specs.declared.record.Record.{Record}
-use Rattle.log_order.specs.declared.view.Terms.{Terms}
+use Rattle.log_order.specs.declared.view.OrderLimits.{OrderLimits}
 use Rattle.log_order.specs.declared.view.HartView.{HartView}
 use Rattle.log_order.specs.declared.view.Phase.TheVariants.{Open}
 use Rattle.log_order.specs.Rules.{fresh}
-use Rattle.log_order.specs.Order.{terms_of}
+use Rattle.log_order.specs.Order.{order_limits_of}
 use Rattle.log_order.specs.Suffix.{Keeps, IsEarly}
 use Rattle.run_model.specs.Turn.{header}
 use Rattle.run_model.specs.Runs.{start, start_hart, start_state, first_headers}
@@ -24,12 +24,12 @@ use Rattle.file_laws.proofs.Turns.{Recording}
 
 -- the law of a recorder that begins
 abbrev pub NoneAreKept : Type 0
-NoneAreKept = (t : Terms) (count : ℕ) → Keeps t count 0 [] (replicate count (fresh true))
+NoneAreKept = (t : OrderLimits) (count : ℕ) → Keeps t count 0 [] (replicate count (fresh true))
 
 -- after the Headers of m harts from k on
 record Begins (c : RawSettings) (i : Program) (n : ℕ) (stream : List Record) (vs : Views) (k m : ℕ) : Type 0 where
   views : Views
-  keeps : Keeps (terms_of c) n 0 (stream ++ first_headers c i k m) views
+  keeps : Keeps (order_limits_of c) n 0 (stream ++ first_headers c i k m) views
   size : length views ≡ length vs
   inside : (j : ℕ) → k ≤ j → j < k + m → IsOpen 1 0 0 (slice_get views j)
   before : (j : ℕ) → j < k → slice_get views j ≡ slice_get vs j
@@ -46,19 +46,19 @@ first_or_later i j m low high = elim (eqb_tells i j) [
   | inr p ↦ inr (omega (arith, low, p.1), omega (arith, high))
 ]
 
-begin_one : OrderLaws → (c : RawSettings) (i : Program) (n : ℕ) (stream : List Record) (vs : Views) (k : ℕ) → Keeps (terms_of c) n 0 stream vs → slice_get vs k ≡ Some (fresh true)
-    → Took (terms_of c) n stream vs k (header k 0 (start_state c i k) ∷ []) (IsOpen 1 0 0)
+begin_one : OrderLaws → (c : RawSettings) (i : Program) (n : ℕ) (stream : List Record) (vs : Views) (k : ℕ) → Keeps (order_limits_of c) n 0 stream vs → slice_get vs k ≡ Some (fresh true)
+    → Took (order_limits_of c) n stream vs k (header k 0 (start_state c i k) ∷ []) (IsOpen 1 0 0)
 begin_one laws c i n stream vs k kp e =
     let opened : HartView = record { phase = Open 1 0; seen = 0; met = true; last = None } in
-    took_one laws.more (terms_of c) n stream vs k (header k 0 (start_state c i k)) (fresh true) opened (IsOpen 1 0 0) kp e
-    (laws.header (terms_of c) vs k 0 0 (start_state c i k).pc (start_state c i k).x 0 false None e (omega arith) (omega arith) (omega arith))
+    took_one laws.more (order_limits_of c) n stream vs k (header k 0 (start_state c i k)) (fresh true) opened (IsOpen 1 0 0) kp e
+    (laws.header (order_limits_of c) vs k 0 0 (start_state c i k).pc (start_state c i k).x 0 false None e (omega arith) (omega arith) (omega arith))
     (record { seen = 0; met = true; last = None; is = refl; low = omega arith })
 
-begins : OrderLaws → (c : RawSettings) (i : Program) (n : ℕ) (stream : List Record) (vs : Views) (k m : ℕ) → Keeps (terms_of c) n 0 stream vs → AreFresh k m vs → Begins c i n stream vs k m
+begins : OrderLaws → (c : RawSettings) (i : Program) (n : ℕ) (stream : List Record) (vs : Views) (k m : ℕ) → Keeps (order_limits_of c) n 0 stream vs → AreFresh k m vs → Begins c i n stream vs k m
 unfolding AreFresh
 begins laws c i n stream vs k zero kp are = record {
   views = vs;
-  keeps = subst (λ (x : List Record). Keeps (terms_of c) n 0 x vs) (sym (append-nil stream)) kp;
+  keeps = subst (λ (x : List Record). Keeps (order_limits_of c) n 0 x vs) (sym (append-nil stream)) kp;
   size = refl;
   inside = λ j low high. absurd (omega (arith, low, high));
   before = λ j low. refl;
@@ -69,7 +69,7 @@ begins laws c i n stream vs k (suc m) kp are =
     let rest = begins laws c i n (stream ++ first ∷ []) one.views (k + 1) m one.keeps (λ j low high. one.others j (apart_of j k (omega (arith, low))) ∙ are j (omega (arith, low)) (omega (arith, high))) in
     record {
       views = rest.views;
-      keeps = subst (λ (x : List Record). Keeps (terms_of c) n 0 x rest.views) (append_assoc stream (first ∷ []) (first_headers c i (k + 1) m)) rest.keeps;
+      keeps = subst (λ (x : List Record). Keeps (order_limits_of c) n 0 x rest.views) (append_assoc stream (first ∷ []) (first_headers c i (k + 1) m)) rest.keeps;
       size = rest.size ∙ one.size;
       inside = λ j low high. elim (first_or_later j k m low high) [
         | inl p ↦ (let here : IsOpen 1 0 0 (slice_get rest.views k) = subst (IsOpen 1 0 0) (sym (rest.before k (omega arith))) one.own in subst (λ (x : ℕ). IsOpen 1 0 0 (slice_get rest.views x)) (sym p) here)
@@ -100,7 +100,7 @@ fit_start c k s e some = record {
 pub started : OrderLaws → NoneAreKept → (c : RawSettings) (i : Program) (input : List ℕ) → IsSetting c → Recording c (start c i input)
 unfolding AreFresh
 started laws none c i input setting =
-    let begin = begins laws c i c.harts [] (replicate c.harts (fresh true)) 0 c.harts (none (terms_of c) c.harts) (λ j low high. get_replicate c.harts j (fresh true) (omega (arith, high))) in
+    let begin = begins laws c i c.harts [] (replicate c.harts (fresh true)) 0 c.harts (none (order_limits_of c) c.harts) (λ j low high. get_replicate c.harts j (fresh true) (omega (arith, high))) in
     record {
       views = begin.views;
       keeps = begin.keeps;

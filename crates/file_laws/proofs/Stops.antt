@@ -8,7 +8,7 @@ use Rattle.bn_base.specs.declared.settings.RawSettings.{RawSettings}
 use Rattle.log_record.specs.declared.record.Record.{Record}
 use Rattle.log_record.specs.declared.record.Record.TheVariants.{End}
 use Rattle.log_order.specs.declared.view.HartView.{HartView}
-use Rattle.log_order.specs.Order.{terms_of}
+use Rattle.log_order.specs.Order.{order_limits_of}
 use Rattle.log_order.specs.Suffix.{Keeps}
 use Rattle.run_model.specs.declared.hart.Hart.{Hart}
 use Rattle.run_model.specs.Counts.{IsFit}
@@ -19,7 +19,7 @@ use Rattle.file_laws.proofs.Nexts.{IsWithin, EndsSo, took_last, done_view}
 -- after the Ends of the m harts from j on that are stopped, but for hart k
 pub record Stops (c : RawSettings) (n : ℕ) (stream : List Record) (vs : Views) (k j m : ℕ) (harts : ℕ → Hart) : Type 0 where
   pub views : Views
-  pub keeps : Keeps (terms_of c) n 0 (stream ++ stopped_records k j m harts) views
+  pub keeps : Keeps (order_limits_of c) n 0 (stream ++ stopped_records k j m harts) views
   pub size : length views ≡ length vs
   pub inside : (i : ℕ) → j ≤ i → i < j + m → (i == k) ≡ false → IsView (stopped (harts i)) (slice_get views i)
   pub before : (i : ℕ) → i < j → slice_get views i ≡ slice_get vs i
@@ -68,7 +68,7 @@ stops_next : (c : RawSettings) (n : ℕ) (stream : List Record) (vs : Views) (k 
     → Stops c n stream vs k j (suc m) harts
 stops_next c n stream vs k j m harts views e rest = record {
   views = rest.views;
-  keeps = subst (λ (x : List Record). Keeps (terms_of c) n 0 (stream ++ x) rest.views) (sym (chosen_records k j m harts false e)) rest.keeps;
+  keeps = subst (λ (x : List Record). Keeps (order_limits_of c) n 0 (stream ++ x) rest.views) (sym (chosen_records k j m harts false e)) rest.keeps;
   size = rest.size;
   inside = λ i low high apart. elim (first_or_later i j m low high) [
     | inl p ↦
@@ -85,13 +85,13 @@ stops_next c n stream vs k j m harts views e rest = record {
 }
 
 stops_one : (c : RawSettings) (n : ℕ) (stream : List Record) (vs : Views) (k j m : ℕ) (harts : ℕ → Hart) → (j == k) ≡ false → (harts j).live ≡ true → (not (j == k) && (harts j).live) ≡ true
-    → (one : Took (terms_of c) n stream vs j (End j (mark (harts j).state.ic 5 0) ∷ []) (IsDone (harts j).state.ic)) → Stops c n (stream ++ End j (mark (harts j).state.ic 5 0) ∷ []) one.views k (j + 1) m harts
+    → (one : Took (order_limits_of c) n stream vs j (End j (mark (harts j).state.ic 5 0) ∷ []) (IsDone (harts j).state.ic)) → Stops c n (stream ++ End j (mark (harts j).state.ic 5 0) ∷ []) one.views k (j + 1) m harts
     → Stops c n stream vs k j (suc m) harts
 stops_one c n stream vs k j m harts off live e one rest =
     let end : Record = End j (mark (harts j).state.ic 5 0) in record {
       views = rest.views;
-      keeps = subst (λ (x : List Record). Keeps (terms_of c) n 0 (stream ++ x) rest.views) (sym (chosen_records k j m harts true e))
-          (subst (λ (x : List Record). Keeps (terms_of c) n 0 x rest.views) (append_assoc stream (end ∷ []) (stopped_records k (j + 1) m harts)) rest.keeps);
+      keeps = subst (λ (x : List Record). Keeps (order_limits_of c) n 0 (stream ++ x) rest.views) (sym (chosen_records k j m harts true e))
+          (subst (λ (x : List Record). Keeps (order_limits_of c) n 0 x rest.views) (append_assoc stream (end ∷ []) (stopped_records k (j + 1) m harts)) rest.keeps);
       size = rest.size ∙ one.size;
       inside = λ i low high apart. elim (first_or_later i j m low high) [
         | inl p ↦
@@ -109,8 +109,8 @@ stops_one c n stream vs k j m harts off live e one rest =
     turned : (j k : ℕ) → (j == k) ≡ false → (k == j) ≡ false
     turned j k e = grind arith
 
-by_stop : (b : Bool) → OrderLaws → (c : RawSettings) (n : ℕ) (stream : List Record) (vs : Views) (k j m : ℕ) (harts : ℕ → Hart) → Keeps (terms_of c) n 0 stream vs → ((i : ℕ) → IsFit c (harts i)) → AreViews k j (suc m) harts vs
-    → ((rs : List Record) (us : Views) → Keeps (terms_of c) n 0 rs us → AreViews k (j + 1) m harts us → Stops c n rs us k (j + 1) m harts)
+by_stop : (b : Bool) → OrderLaws → (c : RawSettings) (n : ℕ) (stream : List Record) (vs : Views) (k j m : ℕ) (harts : ℕ → Hart) → Keeps (order_limits_of c) n 0 stream vs → ((i : ℕ) → IsFit c (harts i)) → AreViews k j (suc m) harts vs
+    → ((rs : List Record) (us : Views) → Keeps (order_limits_of c) n 0 rs us → AreViews k (j + 1) m harts us → Stops c n rs us k (j + 1) m harts)
     → (not (j == k) && (harts j).live) ≡ b → Stops c n stream vs k j (suc m) harts
 by_stop false laws c n stream vs k j m harts kp fit views rest e =
     stops_next c n stream vs k j m harts views e (rest stream vs kp (λ i low high apart. views i (omega (arith, low)) (omega (arith, high)) apart))
@@ -122,11 +122,11 @@ by_stop true laws c n stream vs k j m harts kp fit views rest e =
     (rest (stream ++ End j (mark (harts j).state.ic 5 0) ∷ []) one.views one.keeps
     (λ i low high apart. subst (λ (o : Option HartView). IsView (harts i) o) (sym (one.others i (apart_of i j (omega (arith, low))))) (views i (omega (arith, low)) (omega (arith, high)) apart)))
 
-pub stops : OrderLaws → (c : RawSettings) (n : ℕ) (stream : List Record) (vs : Views) (k j m : ℕ) (harts : ℕ → Hart) → Keeps (terms_of c) n 0 stream vs → ((i : ℕ) → IsFit c (harts i)) → AreViews k j m harts vs
+pub stops : OrderLaws → (c : RawSettings) (n : ℕ) (stream : List Record) (vs : Views) (k j m : ℕ) (harts : ℕ → Hart) → Keeps (order_limits_of c) n 0 stream vs → ((i : ℕ) → IsFit c (harts i)) → AreViews k j m harts vs
     → Stops c n stream vs k j m harts
 stops laws c n stream vs k j zero harts kp fit views = record {
   views = vs;
-  keeps = subst (λ (x : List Record). Keeps (terms_of c) n 0 x vs) (sym (append-nil stream)) kp;
+  keeps = subst (λ (x : List Record). Keeps (order_limits_of c) n 0 x vs) (sym (append-nil stream)) kp;
   size = refl;
   inside = λ i low high apart. absurd (omega (arith, low, high));
   before = λ i low. refl;

@@ -22,11 +22,11 @@ use Rattle.race_log.specs.Points.{Point}
 use Rattle.log_record.specs.declared.record.Record.{Record}
 use Rattle.log_record.specs.declared.record.Record.TheVariants.{Header, FirstLoad, ScOk, ScFailed, Edge, End}
 use Rattle.log_record.specs.Spelling.{total}
-use Rattle.log_order.specs.Order.{terms_of}
+use Rattle.log_order.specs.Order.{order_limits_of}
 use Rattle.log_order.specs.Suffix.{Keeps, IsEarly}
 use Rattle.run_model.specs.declared.hart.Hart.{Hart}
-use Rattle.run_model.specs.declared.next.Next.{Next}
-use Rattle.run_model.specs.declared.next.Next.TheVariants.{GoesOn, NewInterval, HartOver, RunOver}
+use Rattle.run_model.specs.declared.turn_end.TurnEnd.{TurnEnd}
+use Rattle.run_model.specs.declared.turn_end.TurnEnd.TheVariants.{GoesOn, NewInterval, HartOver, RunOver}
 use Rattle.run_model.specs.declared.span.Span.{Span}
 use Rattle.run_model.specs.Machine.{Answered, answer, call_of}
 use Rattle.run_model.specs.Turn.{Run, Served, serve, serve_orderly, served_if, is_guarded, by_guard, begun_anew, guarded_run, guard_records, after_ask, span_of, next_of, loading, warmth, skipped_after, word_before, budget, point_of, points_after, edge_records, load_record, sc_record, next_records, stopped_records, run_over_records, hart_after, other_after, harts_after, is_orderly, mark}
@@ -50,7 +50,7 @@ pub record Laws : Type 0 where
 -- the view of each hart that the hart has
 pub record Underway (c : RawSettings) (run : Run) : Type 0 where
   pub views : Views
-  pub keeps : Keeps (terms_of c) c.harts 0 run.stream views
+  pub keeps : Keeps (order_limits_of c) c.harts 0 run.stream views
   pub size : length views ≡ c.harts
   pub view : (j : ℕ) → j < c.harts → IsView (run.harts j) (slice_get views j)
   pub fit : (j : ℕ) → IsFit c (run.harts j)
@@ -60,7 +60,7 @@ pub record Underway (c : RawSettings) (run : Run) : Type 0 where
 -- and between two turns
 pub record Recording (c : RawSettings) (run : Run) : Type 0 where
   pub views : Views
-  pub keeps : Keeps (terms_of c) c.harts 0 run.stream views
+  pub keeps : Keeps (order_limits_of c) c.harts 0 run.stream views
   pub size : length views ≡ c.harts
   pub view : (j : ℕ) → j < c.harts → IsView (run.harts j) (slice_get views j)
   pub fit : (j : ℕ) → IsRested c (run.harts j)
@@ -98,7 +98,7 @@ conditional_early replies.ScOk counts k = (tt, tt)
 conditional_early replies.ScFailed counts k = (tt, tt)
 conditional_early reply counts k = tt
 
-next_early : (next : Next) (counts : ℕ → ℕ) (k number : ℕ) (s : HartState) → AllByRecursion (IsEarly counts) (next_records next k number s)
+next_early : (next : TurnEnd) (counts : ℕ → ℕ) (k number : ℕ) (s : HartState) → AllByRecursion (IsEarly counts) (next_records next k number s)
 next_early GoesOn counts k number s = tt
 next_early (NewInterval reason value) counts k number s = (tt, (tt, tt))
 next_early (HartOver reason value) counts k number s = (tt, tt)
@@ -112,7 +112,7 @@ stops_early : (counts : ℕ → ℕ) (k j n : ℕ) (harts : ℕ → Hart) → Al
 stops_early counts k j zero harts = tt
 stops_early counts k j (suc n) harts = stop_early (not (j == k) && (harts j).live) counts j (harts j).state.ic (stopped_records k (j + 1) n harts) (stops_early counts k (j + 1) n harts)
 
-over_early : (next : Next) (counts : ℕ → ℕ) (k n : ℕ) (harts : ℕ → Hart) → AllByRecursion (IsEarly counts) (run_over_records next k n harts)
+over_early : (next : TurnEnd) (counts : ℕ → ℕ) (k n : ℕ) (harts : ℕ → Hart) → AllByRecursion (IsEarly counts) (run_over_records next k n harts)
 over_early (RunOver reason value) counts k n harts = stops_early counts k 0 n harts
 over_early GoesOn counts k n harts = tt
 over_early (NewInterval reason value) counts k n harts = tt
@@ -120,7 +120,7 @@ over_early (HartOver reason value) counts k n harts = tt
 
 -- ---- the harts after a turn
 
-pub own_state : (next : Next) (s : HartState) (skipped bytes : ℕ) (h : Hart) → (hart_after next s skipped bytes h).state ≡ s
+pub own_state : (next : TurnEnd) (s : HartState) (skipped bytes : ℕ) (h : Hart) → (hart_after next s skipped bytes h).state ≡ s
 own_state GoesOn s skipped bytes h = refl
 own_state (NewInterval reason value) s skipped bytes h = refl
 own_state (HartOver reason value) s skipped bytes h = refl
@@ -130,29 +130,29 @@ stopped_state : (b : Bool) (h : Hart) → (elim b as (λ x. Hart) [ true ↦ rec
 stopped_state true h = refl
 stopped_state false h = refl
 
-pub other_state : (next : Next) (h : Hart) → (other_after next h).state ≡ h.state
+pub other_state : (next : TurnEnd) (h : Hart) → (other_after next h).state ≡ h.state
 other_state GoesOn h = refl
 other_state (NewInterval reason value) h = refl
 other_state (HartOver reason value) h = refl
 other_state (RunOver reason value) h = stopped_state h.live h
 
-pub own_is : (next : Next) (k j : ℕ) (own : Hart) (harts : ℕ → Hart) → (j == k) ≡ true → harts_after next k own harts j ≡ own
+pub own_is : (next : TurnEnd) (k j : ℕ) (own : Hart) (harts : ℕ → Hart) → (j == k) ≡ true → harts_after next k own harts j ≡ own
 own_is next k j own harts e = ap (λ (b : Bool). elim b as (λ x. Hart) [ true ↦ own | false ↦ other_after next (harts j) ]) e
 
-pub other_is : (next : Next) (k j : ℕ) (own : Hart) (harts : ℕ → Hart) → (j == k) ≡ false → harts_after next k own harts j ≡ other_after next (harts j)
+pub other_is : (next : TurnEnd) (k j : ℕ) (own : Hart) (harts : ℕ → Hart) → (j == k) ≡ false → harts_after next k own harts j ≡ other_after next (harts j)
 other_is next k j own harts e = ap (λ (b : Bool). elim b as (λ x. Hart) [ true ↦ own | false ↦ other_after next (harts j) ]) e
 
 same_self : (k : ℕ) → (k == k) ≡ true
 same_self k = grind arith
 
 -- the hart whose turn it was, where the stream has so many bytes now, and the count of each hart
-abbrev pub own_hart : RawSettings → Run → ℕ → Ask → Next → HartState → ℕ → Hart
+abbrev pub own_hart : RawSettings → Run → ℕ → Ask → TurnEnd → HartState → ℕ → Hart
 own_hart c run k ask next s bytes = hart_after next s (skipped_after (warmth c (loading ask.want) (run.events k)) (run.harts k).skipped) bytes (run.harts k)
 
-abbrev counts_after : RawSettings → Run → ℕ → Ask → Next → HartState → ℕ → ℕ → ℕ
+abbrev counts_after : RawSettings → Run → ℕ → Ask → TurnEnd → HartState → ℕ → ℕ → ℕ
 counts_after c run k ask next s bytes j = (harts_after next k (own_hart c run k ask next s bytes) run.harts j).state.ic
 
-counts_go_on : (c : RawSettings) (run : Run) (k : ℕ) (ask : Ask) (next : Next) (s : HartState) (bytes : ℕ) → (run.harts k).state.ic ≤ s.ic → (j : ℕ) → counts_of run j ≤ counts_after c run k ask next s bytes j
+counts_go_on : (c : RawSettings) (run : Run) (k : ℕ) (ask : Ask) (next : TurnEnd) (s : HartState) (bytes : ℕ) → (run.harts k).state.ic ≤ s.ic → (j : ℕ) → counts_of run j ≤ counts_after c run k ask next s bytes j
 counts_go_on c run k ask next s bytes on j = elim (eqb_tells j k) [
   | inl p ↦
       let e = ap (λ (x : HartState). x.ic) (ap (λ (h : Hart). h.state) (own_is next k j (own_hart c run k ask next s bytes) run.harts p.0) ∙ own_state next s (skipped_after (warmth c (loading ask.want) (run.events k)) (run.harts k).skipped) bytes (run.harts k)) in
@@ -163,7 +163,7 @@ counts_go_on c run k ask next s bytes on j = elim (eqb_tells j k) [
       omega (arith, e)
 ]
 
-own_count : (c : RawSettings) (run : Run) (k : ℕ) (ask : Ask) (next : Next) (s : HartState) (bytes : ℕ) → counts_after c run k ask next s bytes k ≡ s.ic
+own_count : (c : RawSettings) (run : Run) (k : ℕ) (ask : Ask) (next : TurnEnd) (s : HartState) (bytes : ℕ) → counts_after c run k ask next s bytes k ≡ s.ic
 own_count c run k ask next s bytes = ap (λ (h : Hart). h.state.ic) (own_is next k k (own_hart c run k ask next s bytes) run.harts (same_self k)) ∙ ap (λ (x : HartState). x.ic) (own_state next s (skipped_after (warmth c (loading ask.want) (run.events k)) (run.harts k).skipped) bytes (run.harts k))
 
 -- ---- where the asking instruction is
@@ -174,7 +174,7 @@ budget_interval c h = grind (arith, common_steps)
 budget_limit : (c : RawSettings) (h : Hart) → budget c h ≤ c.limit - h.state.ic
 budget_limit c h = grind (arith, common_steps)
 
-pub turn_within : (c : RawSettings) (h : Hart) (asked after : ℕ) (next : Next) (span : Option Span) (load : Option ℕ) → IsFit c h → MovesOn c h asked after next span load → IsWithin c h after
+pub turn_within : (c : RawSettings) (h : Hart) (asked after : ℕ) (next : TurnEnd) (span : Option Span) (load : Option ℕ) → IsFit c h → MovesOn c h asked after next span load → IsWithin c h after
 turn_within c h asked after next span load fit on = record {
   low = omega (arith, fit.skipped, on.from, on.low);
   high = omega (arith, on.high, budget_interval c h, fit.interval, fit.skipped);
@@ -183,34 +183,34 @@ turn_within c h asked after next span load fit on = record {
 
 -- ---- the records of a turn
 
-took_point : Laws → (c : RawSettings) (run : Run) (k ic : ℕ) (span : Option Span) (s : HartState) (asked : ℕ) (next : Next) (load : Option ℕ) (known : Underway c run) → IsSetting c → MovesOn c (run.harts k) asked s.ic next span load
+took_point : Laws → (c : RawSettings) (run : Run) (k ic : ℕ) (span : Option Span) (s : HartState) (asked : ℕ) (next : TurnEnd) (load : Option ℕ) (known : Underway c run) → IsSetting c → MovesOn c (run.harts k) asked s.ic next span load
     → IsOpen ((run.harts k).number + 1) (run.harts k).begun (run.harts k).state.ic (slice_get known.views k)
-    → Took (terms_of c) c.harts run.stream known.views k (edge_records (point_of k asked run.turns span) run.points) (IsOpen ((run.harts k).number + 1) (run.harts k).begun s.ic)
+    → Took (order_limits_of c) c.harts run.stream known.views k (edge_records (point_of k asked run.turns span) run.points) (IsOpen ((run.harts k).number + 1) (run.harts k).begun s.ic)
 took_point laws c run k ic None s asked next load known setting on v =
-    took_none (terms_of c) c.harts run.stream known.views k (IsOpen ((run.harts k).number + 1) (run.harts k).begun s.ic) known.keeps
+    took_none (order_limits_of c) c.harts run.stream known.views k (IsOpen ((run.harts k).number + 1) (run.harts k).begun s.ic) known.keeps
     (open_later ((run.harts k).number + 1) (run.harts k).begun (run.harts k).state.ic s.ic (slice_get known.views k) (omega (arith, on.from, on.low)) v)
 took_point laws c run k ic (Some x) s asked next load known setting on v =
     let h = run.harts k in
     let up : s.ic ≡ asked + 1 = on.accessed refl in
     let within = turn_within c h asked s.ic next (Some x) load (known.fit k) on in
     let sources : AreSources c.harts c.limit k _ = sources_are laws.listed run.points _ c.harts c.limit (counts_of run) known.points (λ j. (known.fit j).limit) in
-    subst (λ (n : ℕ). Took (terms_of c) c.harts run.stream known.views k (edge_records (point_of k asked run.turns (Some x)) run.points) (IsOpen (h.number + 1) h.begun n)) (sym up)
-    (took_edges laws.order (terms_of c) c.harts run.stream known.views k asked (h.number + 1) h.begun _ known.keeps known.size
+    subst (λ (n : ℕ). Took (order_limits_of c) c.harts run.stream known.views k (edge_records (point_of k asked run.turns (Some x)) run.points) (IsOpen (h.number + 1) h.begun n)) (sym up)
+    (took_edges laws.order (order_limits_of c) c.harts run.stream known.views k asked (h.number + 1) h.begun _ known.keeps known.size
     (open_later (h.number + 1) h.begun h.state.ic (asked + 1) (slice_get known.views k) (omega (arith, on.from)) v) sources
     (omega (arith, up, within.limit)) (omega (arith, (known.fit k).skipped, on.from)) (omega (arith, up, within.high)))
 
 -- all records of the turn but those of the harts that it stops
-abbrev own_records : RawSettings → Run → ℕ → Ask → Reply → Option Span → Next → HartState → List Record
+abbrev own_records : RawSettings → Run → ℕ → Ask → Reply → Option Span → TurnEnd → HartState → List Record
 own_records c run k ask reply span next s =
     edge_records (point_of k ask.state.ic run.turns span) run.points
     ++ (load_record (warmth c (loading ask.want) (run.events k)) k (run.harts k).skipped (word_before run.machine.memory (loading ask.want)) ++ (sc_record reply k ++ next_records next k (run.harts k).number s))
 
-took_turn : Laws → (c : RawSettings) (run : Run) (k : ℕ) (ask : Ask) (reply : Reply) (span : Option Span) (next : Next) (s : HartState) (bytes : ℕ) (known : Underway c run) → IsSetting c → k < c.harts → (run.harts k).live ≡ true
+took_turn : Laws → (c : RawSettings) (run : Run) (k : ℕ) (ask : Ask) (reply : Reply) (span : Option Span) (next : TurnEnd) (s : HartState) (bytes : ℕ) (known : Underway c run) → IsSetting c → k < c.harts → (run.harts k).live ≡ true
     → MovesOn c (run.harts k) ask.state.ic s.ic next span (loading ask.want) → EndsAs c (run.harts k) s.ic next
-    → Took (terms_of c) c.harts run.stream known.views k (own_records c run k ask reply span next s) (IsView (own_hart c run k ask next s bytes))
+    → Took (order_limits_of c) c.harts run.stream known.views k (own_records c run k ask reply span next s) (IsView (own_hart c run k ask next s bytes))
 took_turn laws c run k ask reply span next s bytes known setting there live on so =
     let h = run.harts k in
-    let t = terms_of c in
+    let t = order_limits_of c in
     let n = c.harts in
     let number = h.number + 1 in
     let load = warmth c (loading ask.want) (run.events k) in
@@ -235,13 +235,13 @@ took_turn laws c run k ask reply span next s bytes known setting there live on s
 -- the records of the turn, and the views after them
 record Turned (c : RawSettings) (stream more : List Record) (harts : ℕ → Hart) : Type 0 where
   views : Views
-  keeps : Keeps (terms_of c) c.harts 0 (stream ++ more) views
+  keeps : Keeps (order_limits_of c) c.harts 0 (stream ++ more) views
   size : length views ≡ c.harts
   view : (j : ℕ) → j < c.harts → IsView (harts j) (slice_get views j)
 
 -- the other harts' views stay where the run isn't over
-with_others : (c : RawSettings) (run : Run) (k : ℕ) (own : Hart) (next : Next) (known : Underway c run) (rs : List Record) → ((h : Hart) → other_after next h ≡ h)
-    → Took (terms_of c) c.harts run.stream known.views k rs (IsView own) → Turned c run.stream rs (harts_after next k own run.harts)
+with_others : (c : RawSettings) (run : Run) (k : ℕ) (own : Hart) (next : TurnEnd) (known : Underway c run) (rs : List Record) → ((h : Hart) → other_after next h ≡ h)
+    → Took (order_limits_of c) c.harts run.stream known.views k rs (IsView own) → Turned c run.stream rs (harts_after next k own run.harts)
 with_others c run k own next known rs stay took = record {
   views = took.views;
   keeps = took.keeps;
@@ -253,14 +253,14 @@ with_others c run k own next known rs stay took = record {
 }
 
 -- where it is, the live ones are stopped
-with_stops : OrderLaws → (c : RawSettings) (run : Run) (k : ℕ) (own : Hart) (reason value : ℕ) (known : Underway c run) (rs : List Record) → Took (terms_of c) c.harts run.stream known.views k rs (IsView own)
+with_stops : OrderLaws → (c : RawSettings) (run : Run) (k : ℕ) (own : Hart) (reason value : ℕ) (known : Underway c run) (rs : List Record) → Took (order_limits_of c) c.harts run.stream known.views k rs (IsView own)
     → Turned c run.stream (rs ++ stopped_records k 0 c.harts run.harts) (harts_after (RunOver reason value) k own run.harts)
 with_stops laws c run k own reason value known rs took =
     let next = RunOver reason value in
     let stop = stops laws c c.harts (run.stream ++ rs) took.views k 0 c.harts run.harts took.keeps known.fit
     (λ i low high apart. subst (IsView (run.harts i)) (sym (took.others i apart)) (known.view i (omega (arith, high)))) in record {
       views = stop.views;
-      keeps = subst (λ (x : List Record). Keeps (terms_of c) c.harts 0 x stop.views) (append_assoc run.stream rs (stopped_records k 0 c.harts run.harts)) stop.keeps;
+      keeps = subst (λ (x : List Record). Keeps (order_limits_of c) c.harts 0 x stop.views) (append_assoc run.stream rs (stopped_records k 0 c.harts run.harts)) stop.keeps;
       size = stop.size ∙ (took.size ∙ known.size);
       view = λ j within. elim (eqb_tells j k) [
         | inl p ↦
@@ -271,7 +271,7 @@ with_stops laws c run k own reason value known rs took =
       ];
     }
 
-turned_by : (next : Next) → OrderLaws → (c : RawSettings) (run : Run) (k : ℕ) (own : Hart) (known : Underway c run) (rs : List Record) → Took (terms_of c) c.harts run.stream known.views k rs (IsView own)
+turned_by : (next : TurnEnd) → OrderLaws → (c : RawSettings) (run : Run) (k : ℕ) (own : Hart) (known : Underway c run) (rs : List Record) → Took (order_limits_of c) c.harts run.stream known.views k rs (IsView own)
     → Turned c run.stream (rs ++ run_over_records next k c.harts run.harts) (harts_after next k own run.harts)
 turned_by (RunOver reason value) laws c run k own known rs took = with_stops laws c run k own reason value known rs took
 turned_by GoesOn laws c run k own known rs took = subst (λ (x : List Record). Turned c run.stream x (harts_after GoesOn k own run.harts)) (sym (append-nil rs)) (with_others c run k own GoesOn known rs (λ h. refl) took)
@@ -285,7 +285,7 @@ points_on : (span : Option Span) (k asked turn n : ℕ) (counts later : ℕ → 
 points_on None k asked turn n counts later points are on there below = λ m q e. (let old = are m q e in (old.0, omega (arith, old.1, on q.hart)))
 points_on (Some x) k asked turn n counts later points are on there below = points_go_on points _ n counts later are on there (below refl)
 
-fit_after : Laws → (c : RawSettings) (run : Run) (k : ℕ) (ask : Ask) (span : Option Span) (next : Next) (s : HartState) (bytes : ℕ) → IsSetting c → IsFit c (run.harts k) → ((j : ℕ) → (j == k) ≡ false → IsRested c (run.harts j)) → (run.harts k).live ≡ true
+fit_after : Laws → (c : RawSettings) (run : Run) (k : ℕ) (ask : Ask) (span : Option Span) (next : TurnEnd) (s : HartState) (bytes : ℕ) → IsSetting c → IsFit c (run.harts k) → ((j : ℕ) → (j == k) ≡ false → IsRested c (run.harts j)) → (run.harts k).live ≡ true
     → MovesOn c (run.harts k) ask.state.ic s.ic next span (loading ask.want) → (j : ℕ) → IsRested c (harts_after next k (own_hart c run k ask next s bytes) run.harts j)
 fit_after laws c run k ask span next s bytes setting fit rest live on j = elim (eqb_tells j k) [
   | inl p ↦ subst (IsRested c) (sym (own_is next k j (own_hart c run k ask next s bytes) run.harts p.0)) (laws.fits c (run.harts k) ask.state.ic bytes s next span (loading ask.want) (run.events k) setting.interval_low live fit on).0
@@ -293,7 +293,7 @@ fit_after laws c run k ask span next s bytes setting fit rest live on j = elim (
 ]
 
 -- the records of the turn are early
-turn_early : Laws → (c : RawSettings) (run : Run) (k : ℕ) (ask : Ask) (reply : Reply) (span : Option Span) (next : Next) (s : HartState) (later : ℕ → ℕ) → Underway c run → ((j : ℕ) → counts_of run j ≤ later j)
+turn_early : Laws → (c : RawSettings) (run : Run) (k : ℕ) (ask : Ask) (reply : Reply) (span : Option Span) (next : TurnEnd) (s : HartState) (later : ℕ → ℕ) → Underway c run → ((j : ℕ) → counts_of run j ≤ later j)
     → AllByRecursion (IsEarly later) (own_records c run k ask reply span next s ++ run_over_records next k c.harts run.harts)
 turn_early laws c run k ask reply span next s later known on =
     let es = edge_records (point_of k ask.state.ic run.turns span) run.points in
@@ -311,7 +311,7 @@ turn_early laws c run k ask reply span next s later known on =
 regrouped : (e l s n o : List Record) → (e ++ (l ++ (s ++ n))) ++ o ≡ e ++ (l ++ (s ++ (n ++ o)))
 regrouped e l s n o = append_assoc e (l ++ (s ++ n)) o ∙ ap (λ (x : List Record). e ++ x) (append_assoc l (s ++ n) o ∙ ap (λ (x : List Record). l ++ x) (append_assoc s n o))
 
-after_kept : Laws → (c : RawSettings) (run : Run) (k : ℕ) (ask : Ask) (call : Option Plan) (answered : Answered) (span : Option Span) (next : Next) (s : HartState) → IsSetting c → Underway c run → ((j : ℕ) → (j == k) ≡ false → IsRested c (run.harts j)) → k < c.harts → (run.harts k).live ≡ true
+after_kept : Laws → (c : RawSettings) (run : Run) (k : ℕ) (ask : Ask) (call : Option Plan) (answered : Answered) (span : Option Span) (next : TurnEnd) (s : HartState) → IsSetting c → Underway c run → ((j : ℕ) → (j == k) ≡ false → IsRested c (run.harts j)) → k < c.harts → (run.harts k).live ≡ true
     → MovesOn c (run.harts k) ask.state.ic s.ic next span (loading ask.want) → EndsAs c (run.harts k) s.ic next → Recording c (after_ask c run k ask call answered span next s)
 after_kept laws c run k ask call answered span next s setting known rest there live on so =
     let bytes = (after_ask c run k ask call answered span next s).bytes in
@@ -325,7 +325,7 @@ after_kept laws c run k ask call answered span next s setting known rest there l
     let regroup = regrouped (edge_records (point_of k ask.state.ic run.turns span) run.points) (load_record (warmth c (loading ask.want) (run.events k)) k (run.harts k).skipped (word_before run.machine.memory (loading ask.want))) (sc_record answered.reply k) (next_records next k (run.harts k).number s) os in
     record {
       views = turned.views;
-      keeps = subst (λ (x : List Record). Keeps (terms_of c) c.harts 0 (run.stream ++ x) turned.views) regroup turned.keeps;
+      keeps = subst (λ (x : List Record). Keeps (order_limits_of c) c.harts 0 (run.stream ++ x) turned.views) regroup turned.keeps;
       size = turned.size;
       view = turned.view;
       fit = fit_after laws c run k ask span next s bytes setting (known.fit k) rest live on;
@@ -465,7 +465,7 @@ turn_kept laws c i run k ask setting known there live o =
     let call : Option Plan = call_of i run.machine ask.want in
     let answered : Answered = answer c call run.machine k ask in
     let s : HartState = absorbed ask answered.reply in
-    let next : Next = next_of c call h ask.want answered.reply s.ic in
+    let next : TurnEnd = next_of c call h ask.want answered.reply s.ic in
     let now = asking_kept g laws c i run k ask setting known there live o (uncut c run k ask.want) in
     let a = asks g laws c i run k ask setting known live o (uncut c run k ask.want) in
     let on = laws.moves c i run.machine h k ask (omega (arith, setting.limit_high)) (now.fit k) a.live a.orderly in

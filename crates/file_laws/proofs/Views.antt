@@ -9,7 +9,7 @@ use Rattle.first_load_bits.specs.declared.warm.Warm.{Warm}
 use Rattle.first_load_bits.specs.declared.warm.Warm.TheVariants as answers
 use Rattle.log_record.specs.declared.record.Record.{Record}
 use Rattle.log_record.specs.declared.record.Record.TheVariants.{Header, FirstLoad, ScOk, ScFailed, Edge, End}
-use Rattle.log_order.specs.declared.view.Terms.{Terms}
+use Rattle.log_order.specs.declared.view.OrderLimits.{OrderLimits}
 use Rattle.log_order.specs.declared.view.HartView.{HartView}
 use Rattle.log_order.specs.declared.view.Phase.TheVariants.{Awaiting, Open, Done}
 use Rattle.log_order.specs.Rules.{phase_after}
@@ -21,25 +21,25 @@ use Rattle.run_model.specs.Turn.{edges_from, load_record, sc_record}
 -- ---- the laws of the order of records that are used here
 
 abbrev pub OneMoreIsKept : Type 0
-OneMoreIsKept = (t : Terms) (count dropped : ℕ) (kept : List Record) (harts next : List HartView) (r : Record) → Keeps t count dropped kept harts → step t harts r ≡ Ok next → Keeps t count dropped (kept ++ r ∷ []) next
+OneMoreIsKept = (t : OrderLimits) (count dropped : ℕ) (kept : List Record) (harts next : List HartView) (r : Record) → Keeps t count dropped kept harts → step t harts r ≡ Ok next → Keeps t count dropped (kept ++ r ∷ []) next
 
 abbrev pub AnAwaitedHeaderFollows : Type 0
-AnAwaitedHeaderFollows = (t : Terms) (harts : List HartView) (h n ic pc : ℕ) (x : List ℕ) (seen : ℕ) (met : Bool) (last : Option ℕ) → slice_get harts h ≡ Some (record { phase = Awaiting (Some n) ic; seen = seen; met = met; last = last })
+AnAwaitedHeaderFollows = (t : OrderLimits) (harts : List HartView) (h n ic pc : ℕ) (x : List ℕ) (seen : ℕ) (met : Bool) (last : Option ℕ) → slice_get harts h ≡ Some (record { phase = Awaiting (Some n) ic; seen = seen; met = met; last = last })
     → n ≤ 2 ^ 41 → seen ≤ ic → ic ≤ t.limit
     → step t harts (Header h n ic pc x) ≡ Ok (slice_set harts h (record { phase = Open (n + 1) ic; seen = seen; met = true; last = last }))
 
 abbrev pub LoadsAndConditionalsFollow : Type 0
-LoadsAndConditionalsFollow = (t : Terms) (harts : List HartView) (h skip value next since seen : ℕ) (met : Bool) (last : Option ℕ) → slice_get harts h ≡ Some (record { phase = Open next since; seen = seen; met = met; last = last })
+LoadsAndConditionalsFollow = (t : OrderLimits) (harts : List HartView) (h skip value next since seen : ℕ) (met : Bool) (last : Option ℕ) → slice_get harts h ≡ Some (record { phase = Open next since; seen = seen; met = met; last = last })
     → let after = Ok (slice_set harts h (record { phase = Open next since; seen = seen; met = true; last = last })) in
     (step t harts (FirstLoad h skip value) ≡ after) × (step t harts (ScOk h) ≡ after) × (step t harts (ScFailed h) ≡ after)
 
 abbrev pub AnEdgeFollows : Type 0
-AnEdgeFollows = (t : Terms) (harts : List HartView) (h ic s j next since seen : ℕ) (met : Bool) (last : Option ℕ) → slice_get harts h ≡ Some (record { phase = Open next since; seen = seen; met = met; last = last })
+AnEdgeFollows = (t : OrderLimits) (harts : List HartView) (h ic s j next since seen : ℕ) (met : Bool) (last : Option ℕ) → slice_get harts h ≡ Some (record { phase = Open next since; seen = seen; met = met; last = last })
     → s < length harts → s ≢ h → ic < t.limit → j < t.limit → seen ≤ ic + 1 → since ≤ ic → ic < since + t.interval
     → step t harts (Edge h ic s j) ≡ Ok (slice_set harts h (record { phase = Open next since; seen = max seen (ic + 1); met = true; last = last }))
 
 abbrev pub AnEndFollows : Type 0
-AnEndFollows = (t : Terms) (harts : List HartView) (h : ℕ) (mark : EndMark) (next since seen : ℕ) (met : Bool) (last : Option ℕ) → slice_get harts h ≡ Some (record { phase = Open next since; seen = seen; met = met; last = last })
+AnEndFollows = (t : OrderLimits) (harts : List HartView) (h : ℕ) (mark : EndMark) (next since seen : ℕ) (met : Bool) (last : Option ℕ) → slice_get harts h ≡ Some (record { phase = Open next since; seen = seen; met = met; last = last })
     → seen ≤ mark.ic → mark.ic ≤ t.limit → (mark.reason ≡ 7 → mark.ic ≡ t.limit) → since ≤ mark.ic → mark.ic ≤ since + t.interval → (mark.reason ≡ 1 → mark.ic ≡ since + t.interval)
     → step t harts (End h mark) ≡ Ok (slice_set harts h (record { phase = phase_after (Open next since) mark; seen = seen; met = true; last = Some mark.ic }))
 
@@ -98,14 +98,14 @@ open_later next since ic later o le v = record { seen = v.seen; met = v.met; las
 -- ---- records of one hart
 
 -- after the stream come records of hart k, which leave its view so and the others as they are
-pub record Took (t : Terms) (n : ℕ) (stream : List Record) (vs : Views) (k : ℕ) (rs : List Record) (P : Option HartView → Type 0) : Type 0 where
+pub record Took (t : OrderLimits) (n : ℕ) (stream : List Record) (vs : Views) (k : ℕ) (rs : List Record) (P : Option HartView → Type 0) : Type 0 where
   pub views : Views
   pub keeps : Keeps t n 0 (stream ++ rs) views
   pub size : length views ≡ length vs
   pub own : P (slice_get views k)
   pub others : (j : ℕ) → (j == k) ≡ false → slice_get views j ≡ slice_get vs j
 
-pub took_none : (t : Terms) (n : ℕ) (stream : List Record) (vs : Views) (k : ℕ) (P : Option HartView → Type 0) → Keeps t n 0 stream vs → P (slice_get vs k) → Took t n stream vs k [] P
+pub took_none : (t : OrderLimits) (n : ℕ) (stream : List Record) (vs : Views) (k : ℕ) (P : Option HartView → Type 0) → Keeps t n 0 stream vs → P (slice_get vs k) → Took t n stream vs k [] P
 took_none t n stream vs k P kp p = record {
   views = vs;
   keeps = subst (λ (x : List Record). Keeps t n 0 x vs) (sym (append-nil stream)) kp;
@@ -114,7 +114,7 @@ took_none t n stream vs k P kp p = record {
   others = λ j e. refl;
 }
 
-pub took_one : OneMoreIsKept → (t : Terms) (n : ℕ) (stream : List Record) (vs : Views) (k : ℕ) (r : Record) (v w : HartView) (P : Option HartView → Type 0) → Keeps t n 0 stream vs
+pub took_one : OneMoreIsKept → (t : OrderLimits) (n : ℕ) (stream : List Record) (vs : Views) (k : ℕ) (r : Record) (v w : HartView) (P : Option HartView → Type 0) → Keeps t n 0 stream vs
     → slice_get vs k ≡ Some v → step t vs r ≡ Ok (slice_set vs k w) → P (Some w) → Took t n stream vs k (r ∷ []) P
 took_one more t n stream vs k r v w P kp e s p = record {
   views = slice_set vs k w;
@@ -124,7 +124,7 @@ took_one more t n stream vs k r v w P kp e s p = record {
   others = λ j d. get_other vs k j w d;
 }
 
-pub took_both : (t : Terms) (n : ℕ) (stream : List Record) (vs : Views) (k : ℕ) (rs qs : List Record) (P Q : Option HartView → Type 0) (a : Took t n stream vs k rs P)
+pub took_both : (t : OrderLimits) (n : ℕ) (stream : List Record) (vs : Views) (k : ℕ) (rs qs : List Record) (P Q : Option HartView → Type 0) (a : Took t n stream vs k rs P)
     → Took t n (stream ++ rs) a.views k qs Q → Took t n stream vs k (rs ++ qs) Q
 took_both t n stream vs k rs qs P Q a b = record {
   views = b.views;
@@ -149,7 +149,7 @@ AreSources n limit k (s ∷ ss) = IsSource n limit k s × AreSources n limit k s
 max_low : (a b : ℕ) → a ≤ b → max a b ≤ b
 max_low a b h = omega (arith, h)
 
-pub took_edges : OrderLaws → (t : Terms) (n : ℕ) (stream : List Record) (vs : Views) (k ic next since : ℕ) (ss : List (ℕ × ℕ)) → Keeps t n 0 stream vs → length vs ≡ n
+pub took_edges : OrderLaws → (t : OrderLimits) (n : ℕ) (stream : List Record) (vs : Views) (k ic next since : ℕ) (ss : List (ℕ × ℕ)) → Keeps t n 0 stream vs → length vs ≡ n
     → IsOpen next since (ic + 1) (slice_get vs k) → AreSources n t.limit k ss → ic < t.limit → since ≤ ic → ic < since + t.interval
     → Took t n stream vs k (edges_from k ic ss) (IsOpen next since (ic + 1))
 took_edges laws t n stream vs k ic next since [] kp size v sources high begun within = took_none t n stream vs k (IsOpen next since (ic + 1)) kp v
@@ -163,20 +163,20 @@ took_edges laws t n stream vs k ic next since (s ∷ ss) kp size v sources high 
 
 -- ---- its FirstLoad and how its SC went
 
-took_other : OneMoreIsKept → (t : Terms) (n : ℕ) (stream : List Record) (vs : Views) (k ic next since : ℕ) (r : Record) (v : IsOpen next since ic (slice_get vs k)) → Keeps t n 0 stream vs
+took_other : OneMoreIsKept → (t : OrderLimits) (n : ℕ) (stream : List Record) (vs : Views) (k ic next since : ℕ) (r : Record) (v : IsOpen next since ic (slice_get vs k)) → Keeps t n 0 stream vs
     → step t vs r ≡ Ok (slice_set vs k (record { phase = Open next since; seen = v.seen; met = true; last = v.last })) → Took t n stream vs k (r ∷ []) (IsOpen next since ic)
 took_other more t n stream vs k ic next since r v kp e =
     took_one more t n stream vs k r (record { phase = Open next since; seen = v.seen; met = v.met; last = v.last }) (record { phase = Open next since; seen = v.seen; met = true; last = v.last }) (IsOpen next since ic) kp v.is e
     (record { seen = v.seen; met = true; last = v.last; is = refl; low = v.low })
 
-pub took_load : OrderLaws → (t : Terms) (n : ℕ) (stream : List Record) (vs : Views) (k ic next since : ℕ) (load : Option Warm) (skipped word : ℕ) → Keeps t n 0 stream vs → IsOpen next since ic (slice_get vs k)
+pub took_load : OrderLaws → (t : OrderLimits) (n : ℕ) (stream : List Record) (vs : Views) (k ic next since : ℕ) (load : Option Warm) (skipped word : ℕ) → Keeps t n 0 stream vs → IsOpen next since ic (slice_get vs k)
     → Took t n stream vs k (load_record load k skipped word) (IsOpen next since ic)
 took_load laws t n stream vs k ic next since (Some answers.Cold) skipped word kp v =
     took_other laws.more t n stream vs k ic next since (FirstLoad k skipped word) v kp (laws.other t vs k skipped word next since v.seen v.met v.last v.is).0
 took_load laws t n stream vs k ic next since (Some answers.Warm) skipped word kp v = took_none t n stream vs k (IsOpen next since ic) kp v
 took_load laws t n stream vs k ic next since None skipped word kp v = took_none t n stream vs k (IsOpen next since ic) kp v
 
-pub took_conditional : OrderLaws → (t : Terms) (n : ℕ) (stream : List Record) (vs : Views) (k ic next since : ℕ) (reply : Reply) → Keeps t n 0 stream vs → IsOpen next since ic (slice_get vs k)
+pub took_conditional : OrderLaws → (t : OrderLimits) (n : ℕ) (stream : List Record) (vs : Views) (k ic next since : ℕ) (reply : Reply) → Keeps t n 0 stream vs → IsOpen next since ic (slice_get vs k)
     → Took t n stream vs k (sc_record reply k) (IsOpen next since ic)
 took_conditional laws t n stream vs k ic next since replies.ScOk kp v = took_other laws.more t n stream vs k ic next since (ScOk k) v kp (laws.other t vs k 0 0 next since v.seen v.met v.last v.is).1
 took_conditional laws t n stream vs k ic next since replies.ScFailed kp v = took_other laws.more t n stream vs k ic next since (ScFailed k) v kp (laws.other t vs k 0 0 next since v.seen v.met v.last v.is).2

@@ -9,7 +9,7 @@ use Rattle.elf_loader.specs.Segments.{segments, file_words}
 use Rattle.bn_base.specs.Ranges.{IsSetting, default_settings}
 use Rattle.log_order.specs.Order.{step, after_all, late_edge, ended, broken, order_break, broken_by}
 use Rattle.log_order.specs.Rules.{after_header}
-use Rattle.log_record.specs.Kept.{kept}
+use Rattle.log_ring.specs.Kept.{kept}
 use Rattle.run_laws.specs.History.{are_orderly, IsLawful}
 use Rattle.run_model.specs.Examples.{an_exit, program_of}
 use Rattle.run_model.specs.Files.{kept_of, dropped_of}

@@ -16,7 +16,7 @@ elf_header =
     (0x7f ∷ 0x45 ∷ 0x4c ∷ 0x46 ∷ 1 ∷ 1 ∷ 1 ∷ []) ++ replicate 9 0 ++ number_bytes 2 2 ++ number_bytes 2 243 ++ number_bytes 4 1 ++ number_bytes 4 0x10054
     ++ number_bytes 4 52 ++ number_bytes 4 0 ++ number_bytes 4 0 ++ number_bytes 2 52 ++ number_bytes 2 32 ++ number_bytes 2 1 ++ replicate 6 0
 
--- the program header of so many bytes of code, which stand behind it in the file and at 0x10054 in memory
+-- the program header of so many bytes of code, which come after it in the file and at 0x10054 in memory
 abbrev pub code_header : ℕ → List ℕ
 code_header size =
     number_bytes 4 1 ++ number_bytes 4 84 ++ number_bytes 4 0x10054 ++ number_bytes 4 0x10054 ++ number_bytes 4 size ++ number_bytes 4 size ++ number_bytes 4 5 ++ number_bytes 4 4

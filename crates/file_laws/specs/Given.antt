@@ -9,6 +9,7 @@ use Rattle.run_model.specs.Runs.{start, run_of, legal_from, is_over}
 
 -- a recording: settings in range, the bytes of a program file, the program that is loaded from them, and a list of turns that
 -- is legal and finished
+-- (definitions have no type of bytes, so that items are below 256 is said here)
 pub record IsRecording (c : RawSettings) (i : Program) (elf input b : List ℕ) : Type 0 where
   pub setting : IsSetting c
   pub bytes : AreBytes elf

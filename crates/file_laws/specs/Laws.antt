@@ -6,7 +6,7 @@ use Rattle.bn_base.specs.Ranges.{IsSetting}
 use Rattle.bn_base.specs.declared.settings.RawSettings.{RawSettings}
 use Rattle.bn_outside.specs.declared.turn_row.TurnRow.{TurnRow}
 use Rattle.log_record.specs.declared.head.Head.{Head}
-use Rattle.log_record.specs.Kept.{Held, HoldsLog}
+use Rattle.log_ring.specs.Kept.{Held, HoldsLog}
 use Rattle.log_order.specs.Order.{broken_by}
 use Rattle.log_order.specs.Content.{Content, IsContent}
 use Rattle.log_file.specs.Blocks.{Block, blocks_of}
@@ -63,8 +63,8 @@ FilesSuffice = (c : RawSettings) (i : Program) (elf input b : List ℕ) → IsRe
     → (d : Content) → IsContent d → IsSpelled (file_of c i (sha256 elf) input b) d
     → (h n : ℕ) (v : Interval) → interval_of h n d.records ≡ Some v → replayed i d.records h n ≡ record { rows = rows_in c i (start c i input) b h n; outcome = Done }
 
--- So does what is salvaged of a file where the blocks that are kept are the last of a recording's: the log of these has the
--- run's last records, and each interval of a hart whose Header it has is replayed from it as it was recorded
+-- So does what is salvaged of a file, if the blocks that are kept are the last of a recording's. The log of these has the run's
+-- last records, and each interval of a hart whose Header it has is replayed from it as it was recorded
 abbrev pub SalvagedFilesSuffice : Type 0
 SalvagedFilesSuffice = (c : RawSettings) (i : Program) (elf input b : List ℕ) → IsRecording c i elf input b
     → (front : List Block) (p : Block) (back : List Block) → blocks_of (dropped_of c (run_of c i input b)) (kept_of c (run_of c i input b)) ≡ front ++ p ∷ back

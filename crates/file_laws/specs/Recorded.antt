@@ -7,9 +7,9 @@ use Rattle.bn_base.specs.declared.settings.RawSettings.{RawSettings}
 use Rattle.bn_outside.specs.declared.turn_row.TurnRow.{TurnRow}
 use Rattle.log_record.specs.declared.record.Record.{Record}
 use Rattle.log_record.specs.Spelling.{Fits}
-use Rattle.log_record.specs.Kept.{Held, HoldsLog}
+use Rattle.log_ring.specs.Kept.{Held, HoldsLog}
 use Rattle.log_order.specs.declared.view.HartView.{HartView}
-use Rattle.log_order.specs.Order.{after_all, terms_of}
+use Rattle.log_order.specs.Order.{after_all, order_limits_of}
 use Rattle.log_order.specs.Rules.{fresh}
 use Rattle.log_order.specs.Suffix.{IsEarly}
 use Rattle.log_order.specs.Content.{Content, content}
@@ -21,11 +21,11 @@ use Rattle.run_laws.specs.History.{after_rows, are_orderly, IsLawful}
 abbrev pub counts_of : Run → ℕ → ℕ
 counts_of run k = (run.harts k).state.ic
 
--- records keep the rules of single records, where each hart begins as it does in a log that gave up so many before; and each
+-- records keep the rules of single records, if each hart begins as it does in a log that gave up so many before; and each
 -- of their Edges comes from an instruction that its source, which has done so many, has done
 pub record KeepsRules (c : RawSettings) (counts : ℕ → ℕ) (dropped : ℕ) (records : List Record) : Type 0 where
   pub views : List HartView
-  pub ran : after_all (terms_of c) 0 (replicate c.harts (fresh (dropped == 0))) records ≡ Ok views
+  pub ran : after_all (order_limits_of c) 0 (replicate c.harts (fresh (dropped == 0))) records ≡ Ok views
   pub early : AllByRecursion (IsEarly counts) records
 
 -- a ring of the log's size holds the log of the run that lawful rows led to, whoever made their asks: all of these were

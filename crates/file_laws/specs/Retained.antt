@@ -13,7 +13,7 @@ use Rattle.run_model.specs.Turn.{ask_at}
 use Rattle.run_laws.specs.Retained.{IsGuarding}
 use Rattle.replay_laws.specs.Law.{IsWhole}
 
--- With format 2, where the run ends in a fault, the fault's interval is replayed from what the log keeps, as it was recorded
+-- With format 2, if the run ends in a fault, the fault's interval is replayed from what the log keeps, as it was recorded
 abbrev pub FaultsAreReplayed : Type 0
 FaultsAreReplayed = (c : RawSettings) (i : Program) (input b : List ℕ) (k : ℕ) (kind : Fault) (value : ℕ) → IsGuarding c → IsWhole c i input (b ++ k ∷ [])
     → (ask_at c i ((run_of c i input b).harts k)).want ≡ Faulted kind value

@@ -18,7 +18,7 @@ use log_order::laws::{
     kept_records_are_in_order, kept_records_keep_the_rules, loads_and_conditionals_follow,
     no_records_are_kept, one_more_is_kept, the_first_are_given_up,
 };
-use log_record::keeping::{a_suffix_is_kept, kept_records_fit};
+use log_ring::keeping::{a_suffix_is_kept, kept_records_fit};
 use race_log::listed_edges_are_all;
 use replay_laws::{ends_suffice, the_log_suffices};
 use run_laws::{edges_are_few, faults_are_kept, kept_records_are_an_end, runs_end};

@@ -4,7 +4,7 @@ use Rattle.first_load_bits.specs.declared.cache.Cache.TheInside.{Inside}
 use Rattle.first_load_bits.specs.Stands.{Level, Contents, ways_of, first_level, second_level}
 use Rattle.first_load_bits.specs.Ways.{AreApart}
 
--- the number of sets of the second level: none where they would have no ways
+-- the number of sets of the second level: none if they would have no ways
 abbrev pub sets_below : Inside → ℕ
 sets_below c = elim (c.width_below == 0) [ true ↦ 0 | false ↦ 2 ^ c.set_bits_below ]
 

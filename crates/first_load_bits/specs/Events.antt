@@ -2,7 +2,7 @@
 use Rattle.std.specs.Prelude.{ℕ, ◌*◌, ◌/◌, ◌%◌, ◌≡◌}
 
 -- the shape of a cache: how many sets it has, how many lines a set lists, how many words a line has; and the sets and lines
--- of its second level, both 0 where it has none
+-- of its second level, both 0 if it has none
 pub record Geometry : Type 0 where
   pub sets : ℕ
   pub ways : ℕ

@@ -25,8 +25,8 @@ pub record HasOthers (g : Geometry) (l n : ℕ) (es : List Event) : Type 0 where
   pub distinct : AllPairs (λ x y. x ≢ y) others
   pub each : All (λ k. (k ≢ l) × (set_of g k ≡ set_of g l) × IsUndropped g k es) others
 
--- Line l was touched, wasn't dropped since its last touch, and at no moment since that touch were there `ways` other
--- lines of its set that were touched later than it and not dropped since their own last touch.
+-- Line l was touched, and wasn't dropped since its last touch. At no moment since that touch were there `ways` other lines of
+-- its set that were touched later than it and not dropped since their own last touch.
 pub record IsListed (g : Geometry) (l : ℕ) (es : List Event) : Type 0 where
   pub since : List Event
   pub touched : IsSinceTouch g l since es
@@ -40,6 +40,7 @@ pub record Falls (g : Geometry) (l addr : ℕ) (es : List Event) : Type 0 where
 
 -- What happened to the second level. A line that is touched or dropped leaves it, as by a drop of its own there; and then the
 -- line that falls at the touch comes to it, as by a touch of its own.
+-- (The second level has a history of its own, so what is proved of one level serves twice.)
 pub data IsSecond (g : Geometry) : List Event → List Event → Type 0 where
   Nothing : IsSecond g [] []
   Comes : (addr l : ℕ) (es below : List Event) → IsSecond g es below → Falls g l addr es → IsSecond g (Touch addr ∷ es) (Touch (line_start g l) ∷ Drop addr ∷ below)
@@ -47,9 +48,8 @@ pub data IsSecond (g : Geometry) : List Event → List Event → Type 0 where
   Leaves : (addr : ℕ) (es below : List Event) → IsSecond g es below → IsSecond g (Drop addr ∷ es) (Drop addr ∷ below)
   Cleared : (es below : List Event) → IsSecond g es below → IsSecond g (Clear ∷ es) below
 
--- Line l is below: since its fall it wasn't touched or dropped, and at no moment since were there `ways2` other lines of its
--- second set that had fallen later and weren't touched or dropped since their own last fall. That is to be listed on the
--- second level.
+-- Line l is below. Since its fall it wasn't touched or dropped. At no moment since were there `ways2` other lines of its second
+-- set that had fallen later and weren't touched or dropped since their own last fall. That is to be listed on the second level.
 pub record IsBelow (g : Geometry) (l : ℕ) (es : List Event) : Type 0 where
   pub below : List Event
   pub second : IsSecond g es below

@@ -13,7 +13,7 @@ pub record Line : Type 0 where
 abbrev pub place_of : Geometry → ℕ → ℕ
 place_of g a = word_of a % g.line
 
--- the bits of line l, none set where it isn't in the list
+-- the bits of line l, none set if it isn't in the list
 abbrev pub bits_of : ℕ → List Line → ℕ
 bits_of l [] = 0
 bits_of l (x ∷ xs) = elim (x.number == l) [ true ↦ x.bits | false ↦ bits_of l xs ]
@@ -28,7 +28,7 @@ abbrev pub behind : ℕ → Option (List ℕ) → Option (List ℕ)
 behind k None = None
 behind k (Some ls) = Some (k ∷ ls)
 
--- the numbers of the lines in front of line l, None where it isn't in the list
+-- the numbers of the lines in front of line l, None if it isn't in the list
 abbrev pub in_front : ℕ → List Line → Option (List ℕ)
 in_front l [] = None
 in_front l (x ∷ xs) = elim (x.number == l) [ true ↦ Some [] | false ↦ behind x.number (in_front l xs) ]

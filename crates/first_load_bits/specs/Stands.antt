@@ -1,4 +1,4 @@
--- What a cache keeps, and the histories that it stands for.
+-- What a cache keeps, and the histories that it represents.
 use Rattle.std.specs.Prelude.{ℕ, ◌+◌, ◌*◌, ◌<◌, ◌≡◌, List, [], ◌∷◌, take, drop}
 use Rattle.bn_base.specs.declared.settings.RawSettings.{RawSettings}
 use Rattle.first_load_bits.specs.declared.way.Way.{Way}
@@ -18,8 +18,8 @@ steps_of (Touch a ∷ es) = steps_of es + 1
 steps_of (Drop a ∷ es) = steps_of es
 steps_of (Clear ∷ es) = steps_of es + 1
 
--- what a level of a cache keeps: its geometry, how many touches and clears there were, the number of the latest clear among
--- them, and the ways of all its sets, those of a set side by side
+-- what a level of a cache keeps: its geometry, how many touches and clears there were, and the number of the latest clear among
+-- them. Then the ways of all its sets, those of a set side by side
 pub record Level : Type 0 where
   pub geometry : Geometry
   pub steps : ℕ
@@ -42,7 +42,7 @@ pub record Contents : Type 0 where
   pub ways : List Way
   pub ways_below : List Way
 
--- what stands where there is no cache
+-- what stands if there is no cache
 abbrev pub no_contents : Contents
 no_contents = record { geometry = record { sets = 0; ways = 0; line = 0; sets2 = 0; ways2 = 0 }; steps = 0; generation = 0; ways = []; ways_below = [] }
 
@@ -52,7 +52,7 @@ first_level c = record { geometry = c.geometry; steps = c.steps; generation = c.
 abbrev pub second_level : Contents → Level
 second_level c = record { geometry = second_of c.geometry; steps = c.steps; generation = c.generation; ways = c.ways_below }
 
--- the cache stands for the events, given latest first: each of its sets lists the lines that they lead to
+-- the cache represents the events, given latest first: each of its sets lists the lines that they lead to
 pub record StandsFor (c : Contents) (es : List Event) : Type 0 where
   pub steps : c.steps ≡ steps_of es
   pub sets : (k : ℕ) → k < c.geometry.sets → lines_of (first_level c) k ≡ lines c.geometry k es

@@ -23,8 +23,8 @@ abbrev pub fewer : ℕ → Option (List ℕ) → Option (List ℕ)
 fewer n None = None
 fewer n (Some ls) = elim (nat_lt (length ls) n) [ true ↦ Some ls | false ↦ None ]
 
--- Where line l is listed: the other lines of its set that were touched later than it and not dropped since their own
--- last touch. None where it isn't listed.
+-- If line l is listed, the other lines of its set that were touched later than it and not dropped since their own
+-- last touch. None if it isn't listed.
 abbrev pub later_lines : Geometry → ℕ → List Event → Option (List ℕ)
 later_lines g l [] = None
 later_lines g l (Touch a ∷ es) =
@@ -77,7 +77,8 @@ below g l es = elim (g.ways2 == 0) [ true ↦ false | false ↦ listed (second_o
 abbrev pub held : Geometry → ℕ → List Event → Bool
 held g l es = elim (listed g l es) [ true ↦ true | false ↦ below g l es ]
 
--- whether the word at address a is warm
+-- whether the word at address a is warm: since some touch of it after the last clear its line was held at every moment. A
+-- replay knows such a word from the log or from its own rows
 abbrev pub warm : Geometry → ℕ → List Event → Bool
 warm g a [] = false
 warm g a (Touch b ∷ es) =

@@ -7,7 +7,7 @@ use Rattle.first_load_bits.specs.Lines.{Line}
 abbrev pub has_line : ℕ → Way → Bool
 has_line l w = not (w.age == 0) && (w.line == l)
 
--- the line of a way. Its mask counts only where it is of the present generation
+-- the line of a way. Its mask counts only if it is of the present generation
 abbrev pub line_in : ℕ → Way → Line
 line_in generation w = record { number = w.line; bits = elim (w.generation == generation) [ true ↦ w.mask | false ↦ 0 ] }
 
@@ -15,7 +15,7 @@ line_in generation w = record { number = w.line; bits = elim (w.generation == ge
 abbrev pub has_other : ℕ → Way → Bool
 has_other l w = not (w.age == 0) && not (w.line == l)
 
--- the line that a way gives up where line l is put into it, if it has to give one up
+-- the line that a way gives up if line l is put into it, if it has to give one up
 abbrev pub given_up : ℕ → ℕ → Way → List Line
 given_up generation l w = elim (has_other l w) [ true ↦ line_in generation w ∷ [] | false ↦ [] ]
 

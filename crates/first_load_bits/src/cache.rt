@@ -23,12 +23,15 @@ use std::marker::Model;
 #[derive(Drop)]
 pub struct Cache {
     // The ways of all sets, those of a set side by side; and so those of the second level.
+    // One array for each level, with line, bits, age and generation side by side: there is one invariant in place of
+    // four, and an access reads one place of memory.
     ways: Vec<Way>,
     ways_below: Vec<Way>,
     // How many ways a set has, 1 to 16; on the second level none where there is no such level.
     width: usize,
     width_below: usize,
     // The numbers of sets are these powers of two, and so is the number of words in a line.
+    // So sets and words are found by shifts, without a division.
     set_bits: u32,
     set_bits_below: u32,
     word_bits: u32,

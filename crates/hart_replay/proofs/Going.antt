@@ -14,14 +14,14 @@ use Rattle.rv_meaning.specs.declared.asks.Reply.{Reply}
 use Rattle.rv_meaning.specs.declared.asks.Reply.TheVariants.{Word, Stored}
 use Rattle.rv_meaning.specs.declared.asks.Reply.TheVariants as replies
 use Rattle.rv_meaning.specs.Rows.{row_of, at_address, known}
-use Rattle.hart_replay.specs.declared.course.Course.{Course}
+use Rattle.hart_replay.specs.declared.interval_cursor.IntervalCursor.{IntervalCursor}
 use Rattle.hart_replay.specs.declared.error.ReplayError.{ReplayError}
 use Rattle.hart_replay.specs.declared.error.ReplayError.TheVariants.{LoadMissing, ScMissing, OutOfMemory}
 use Rattle.hart_replay.specs.Replay.{Refused, Next, Stop, logged, taken_from, slot, or_else, word_for, missing, after_ask, after_sc, ask_step}
 use Rattle.hart_replay.specs.Scans.{Pending, due, met, IsWaiting, first_of, rest_of}
 use Rattle.hart_replay.specs.Pages.{Frame, word_at}
 use Rattle.hart_replay.specs.Sides.{Side, Alike, Goes, word_count, rows_below, side, interval_at, position_at, word_due, Keeps, KeepsWord, Does}
-use Rattle.hart_replay.specs.Courses.{side_of, DoneAndKept}
+use Rattle.hart_replay.specs.Cursors.{side_of, DoneAndKept}
 use Rattle.hart_replay.proofs.Places.{logged-due, logged-met, left-met, slot-first, slot-rest, length-rest}
 use Rattle.hart_replay.proofs.KnownRows.{known_word, known_put}
 use Rattle.hart_replay.proofs.Alike.{moved, tried_once}
@@ -98,30 +98,30 @@ module _ (i : Program) (h : ℕ) (m : EndMark) (s : HartState) (called : Bool) (
 -- ---- the contracts of the steps
 
 -- the definition's next, where it depends on a word
-abbrev pub by_word : Course → Want → ℕ → (ℕ → Reply) → (load store : ℕ → Option (ℕ × ℕ)) → Option ℕ → Next
+abbrev pub by_word : IntervalCursor → Want → ℕ → (ℕ → Reply) → (load store : ℕ → Option (ℕ × ℕ)) → Option ℕ → Next
 by_word c k w reply load store o = elim o as (λ y. Next) [ None ↦ missing c.hart (position_at c.state c.called (side_of c)) w | Some y ↦ after_ask c.image.now c.hart (position_at c.state c.called (side_of c)) (record { state = c.state; want = k }) (reply y) 1 (load y) (store y) ]
 
 -- what a kept access says
-abbrev pub Kept : Course → Course → Want → Reply → (load store : Option (ℕ × ℕ)) → (ℕ × ℕ) → Result Row ReplayError → Type 0
+abbrev pub Kept : IntervalCursor → IntervalCursor → Want → Reply → (load store : Option (ℕ × ℕ)) → (ℕ × ℕ) → Result Row ReplayError → Type 0
 Kept mid new k reply load store told r =
     IfOk r (λ row. DoneAndKept mid k reply load store told row new)
     × IfErr r (λ e. (e ≡ OutOfMemory) × (new ≡ record mid { words = new.words }))
 
-keep_does : (a : Side) (n : Next) (mid new : Course) (k : Want) (reply : Reply) (load store : Option (ℕ × ℕ)) (told : ℕ × ℕ) (r : Result Row ReplayError)
+keep_does : (a : Side) (n : Next) (mid new : IntervalCursor) (k : Want) (reply : Reply) (load store : Option (ℕ × ℕ)) (told : ℕ × ℕ) (r : Result Row ReplayError)
     → ((row : Row) → row ≡ row_of mid.hart mid.image.now mid.state (after k reply mid.state) load store → Keeps mid.words.pages told new.words.pages → Goes a n row (after k reply mid.state) false (side mid.loads mid.conditionals new.words.pages))
     → (after k reply mid.state).ic ≡ count_up mid.state.ic
     → KeepsWord n
     → Kept mid new k reply load store told r
     → Does a n mid.state r new.state new.called (side_of new)
 keep_does a n mid new k reply load store told (Ok row) goes up tells kept =
-    subst (λ (c : Course). Goes a n row c.state c.called (side_of c) × (c.state.ic ≡ count_up mid.state.ic)) (sym kept.0.2) (goes row kept.0.0 kept.0.1, up)
-keep_does a n mid new k reply load store told (Err e) goes up tells kept = (inr (kept.1.0, tells), ap (λ (c : Course). c.state) kept.1.1)
+    subst (λ (c : IntervalCursor). Goes a n row c.state c.called (side_of c) × (c.state.ic ≡ count_up mid.state.ic)) (sym kept.0.2) (goes row kept.0.0 kept.0.1, up)
+keep_does a n mid new k reply load store told (Err e) goes up tells kept = (inr (kept.1.0, tells), ap (λ (c : IntervalCursor). c.state) kept.1.1)
 
-abbrev pub met_course : Course → Course
-met_course c = record c { loads = met c.loads.skipped c.loads.loads }
+abbrev pub met_cursor : IntervalCursor → IntervalCursor
+met_cursor c = record c { loads = met c.loads.skipped c.loads.loads }
 
-pub loading_does : (old mid new : Course) (k : Want) (w x : ℕ) (reply : ℕ → Reply) (load store : ℕ → Option (ℕ × ℕ)) (told : ℕ) (r : Result Row ReplayError)
-    → w < 2 ^ 32 → IsWaiting old.loads.skipped old.loads.loads → word_due old.loads (word_at old.words.pages (w / 4)) ≡ Some x → mid ≡ met_course old
+pub loading_does : (old mid new : IntervalCursor) (k : Want) (w x : ℕ) (reply : ℕ → Reply) (load store : ℕ → Option (ℕ × ℕ)) (told : ℕ) (r : Result Row ReplayError)
+    → w < 2 ^ 32 → IsWaiting old.loads.skipped old.loads.loads → word_due old.loads (word_at old.words.pages (w / 4)) ≡ Some x → mid ≡ met_cursor old
     → ((s : HartState) → (after k (reply x) s).ic ≡ count_up s.ic)
     → ((v : ℕ) (o : Option ℕ) → at_address (aligned v) (store x) (at_address (aligned v) (load x) o) ≡ at_address (aligned v) (Some (w, told)) o)
     → (is_some (load x) || is_some (store x)) ≡ true
@@ -129,24 +129,24 @@ pub loading_does : (old mid new : Course) (k : Want) (w x : ℕ) (reply : ℕ �
     → Does (side_of old) (by_word old k w reply load store (word_for (interval_at old.state old.mark (side_of old)) (position_at old.state old.called (side_of old)) w)) old.state r new.state new.called (side_of new)
 loading_does old mid new k w x reply load store told r fits waits is e up words tells kept =
     let known_now = word_looked_up old.state old.state old.mark old.called old.loads old.conditionals old.words.pages w (Some x) fits waits is in
-    keep_does (side_of old) _ (met_course old) new k (reply x) (load x) (store x) (w, told) r
+    keep_does (side_of old) _ (met_cursor old) new k (reply x) (load x) (store x) (w, told) r
     (λ row same puts. load_goes old.image.now old.hart old.mark old.state old.called old.loads old.conditionals old.words.pages k w x reply load store _ new.words.pages row (after k (reply x) old.state)
     known_now refl (sym same) waits
     (λ v. words v (known (aligned v) (rows_below old.words.pages word_count)) ∙ known_put old.words.pages new.words.pages w told v fits puts))
     (up old.state)
     (subst (λ (o : Option ℕ). KeepsWord (by_word old k w reply load store o)) (sym known_now) tells)
-    (subst (λ (m : Course). Kept m new k (reply x) (load x) (store x) (w, told) r) e kept)
+    (subst (λ (m : IntervalCursor). Kept m new k (reply x) (load x) (store x) (w, told) r) e kept)
 
-pub missing_does : (old mid : Course) (k : Want) (w : ℕ) (reply : ℕ → Reply) (load store : ℕ → Option (ℕ × ℕ)) (e : ReplayError)
-    → w < 2 ^ 32 → IsWaiting old.loads.skipped old.loads.loads → word_due old.loads (word_at old.words.pages (w / 4)) ≡ None → mid ≡ met_course old → e ≡ LoadMissing old.hart old.state.ic w
+pub missing_does : (old mid : IntervalCursor) (k : Want) (w : ℕ) (reply : ℕ → Reply) (load store : ℕ → Option (ℕ × ℕ)) (e : ReplayError)
+    → w < 2 ^ 32 → IsWaiting old.loads.skipped old.loads.loads → word_due old.loads (word_at old.words.pages (w / 4)) ≡ None → mid ≡ met_cursor old → e ≡ LoadMissing old.hart old.state.ic w
     → Does (side_of old) (by_word old k w reply load store (word_for (interval_at old.state old.mark (side_of old)) (position_at old.state old.called (side_of old)) w)) old.state (Err e) mid.state mid.called (side_of mid)
 missing_does old mid k w reply load store e fits waits is same error = (
   inl (load_stops old.image.now old.hart old.mark old.state old.called old.loads old.conditionals old.words.pages k w reply load store _ (word_looked_up old.state old.state old.mark old.called old.loads old.conditionals old.words.pages w None fits waits is) ∙ ap (λ (y : ReplayError). Stop (Refused y)) (sym error)),
-  ap (λ (c : Course). c.state) same,
+  ap (λ (c : IntervalCursor). c.state) same,
 )
 
 -- a store of a word
-pub storing_does : (old new : Course) (w width y : ℕ) (r : Result Row ReplayError) → w < 2 ^ 32 → (width == 4) ≡ true
+pub storing_does : (old new : IntervalCursor) (w width y : ℕ) (r : Result Row ReplayError) → w < 2 ^ 32 → (width == 4) ≡ true
     → Kept old new (Store w width y) Stored None (Some (w, y)) (w, y) r
     → Does (side_of old) (ask_step old.image.now old.hart (interval_at old.state old.mark (side_of old)) (position_at old.state old.called (side_of old)) (Store w width y)) old.state r new.state new.called (side_of new)
 storing_does old new w width y r fits full kept =
@@ -156,23 +156,23 @@ storing_does old new w width y r fits full kept =
     refl refl kept)
 
 -- a store of a part of a word
-pub part_does : (old : Course) (w width y : ℕ) (s : HartState) (r : Result Row ReplayError) (t : HartState) (called : Bool) (b : Side) → (width == 4) ≡ false
+pub part_does : (old : IntervalCursor) (w width y : ℕ) (s : HartState) (r : Result Row ReplayError) (t : HartState) (called : Bool) (b : Side) → (width == 4) ≡ false
     → Does (side_of old) (by_word old (Store w width y) w (λ z. Stored) (λ z. None) (λ z. Some (w, stored_word w width y z)) (word_for (interval_at old.state old.mark (side_of old)) (position_at old.state old.called (side_of old)) w)) s r t called b
     → Does (side_of old) (ask_step old.image.now old.hart (interval_at old.state old.mark (side_of old)) (position_at old.state old.called (side_of old)) (Store w width y)) s r t called b
 part_does old w width y s r t called b part does =
     subst (λ (z : Bool). Does (side_of old) (elim z as (λ z. Next) [ true ↦ after_ask old.image.now old.hart (position_at old.state old.called (side_of old)) (record { state = old.state; want = Store w width y }) Stored 0 None (Some (w, y)) | false ↦ by_word old (Store w width y) w (λ z. Stored) (λ z. None) (λ z. Some (w, stored_word w width y z)) (word_for (interval_at old.state old.mark (side_of old)) (position_at old.state old.called (side_of old)) w) ]) s r t called b) (sym part) does
 
 -- a store-conditional that succeeded
-abbrev pub tried_course : Course → Course
-tried_course c = record c { conditionals = rest_of c.conditionals }
+abbrev pub tried_cursor : IntervalCursor → IntervalCursor
+tried_cursor c = record c { conditionals = rest_of c.conditionals }
 
-pub trying_does : (old mid new : Course) (w rd y : ℕ) (r : Result Row ReplayError) → w < 2 ^ 32 → first_of old.conditionals ≡ Some true → mid ≡ tried_course old
+pub trying_does : (old mid new : IntervalCursor) (w rd y : ℕ) (r : Result Row ReplayError) → w < 2 ^ 32 → first_of old.conditionals ≡ Some true → mid ≡ tried_cursor old
     → Kept mid new (StoreConditional w rd y) replies.ScOk None (Some (w, y)) (w, y) r
     → Does (side_of old) (ask_step old.image.now old.hart (interval_at old.state old.mark (side_of old)) (position_at old.state old.called (side_of old)) (StoreConditional w rd y)) old.state r new.state new.called (side_of new)
 trying_does old mid new w rd y r fits is e kept =
     subst (λ (o : Option Bool). Does (side_of old) (elim o as (λ z. Next) [ None ↦ Stop (Refused (ScMissing old.hart old.state.ic)) | Some g ↦ after_sc old.image.now old.hart (position_at old.state old.called (side_of old)) (record { state = old.state; want = StoreConditional w rd y }) g w y ]) old.state r new.state new.called (side_of new)) (sym (slot-first old.conditionals ∙ is))
-    (keep_does (side_of old) (after_sc old.image.now old.hart (position_at old.state old.called (side_of old)) (record { state = old.state; want = StoreConditional w rd y }) true w y) (tried_course old) new (StoreConditional w rd y) replies.ScOk None (Some (w, y)) (w, y) r
+    (keep_does (side_of old) (after_sc old.image.now old.hart (position_at old.state old.called (side_of old)) (record { state = old.state; want = StoreConditional w rd y }) true w y) (tried_cursor old) new (StoreConditional w rd y) replies.ScOk None (Some (w, y)) (w, y) r
     (λ row same puts. (refl, refl, ap (λ (z : Row). z ∷ []) (sym same), try_alike old.loads old.conditionals old.words.pages new.words.pages (row_of old.hart old.image.now old.state (after (StoreConditional w rd y) replies.ScOk old.state) None (Some (w, y))) (λ v. known_put old.words.pages new.words.pages w y v fits puts)))
     refl
     refl
-    (subst (λ (m : Course). Kept m new (StoreConditional w rd y) replies.ScOk None (Some (w, y)) (w, y) r) e kept))
+    (subst (λ (m : IntervalCursor). Kept m new (StoreConditional w rd y) replies.ScOk None (Some (w, y)) (w, y) r) e kept))

@@ -6,7 +6,7 @@ use Rattle.std.proofs.lemmas.Bool.{cases_eq, cases_lt, eq-eqb}
 use Rattle.std.proofs.lemmas.Bool.Decides.{eqb_tells}
 use Rattle.hart_replay.specs.Pages.{Frame, word_of, word_in, word_at}
 use Rattle.hart_replay.specs.Directories.{and_page, listed, page_count, pages_of, page_in, page_at, is_of, stands_at}
-use Rattle.hart_replay.specs.declared.words.Numbered.{Numbered}
+use Rattle.hart_replay.specs.declared.words.TaggedPage.{TaggedPage}
 
 unequal : (a b : ℕ) → a ≢ b → (a == b) ≡ false
 unequal a b h = elim (eqb_tells a b) [ inl p ↦ absurd (h p.1) | inr p ↦ p.0 ]
@@ -102,18 +102,18 @@ get_end [] = refl
 get_end (x ∷ xs) = get_end xs
 
 -- a page of that number
-pub own_number : (p : Numbered) (n : ℕ) → p.number ≡ n → page_in (Some p) n ≡ Some p.page
+pub own_number : (p : TaggedPage) (n : ℕ) → p.number ≡ n → page_in (Some p) n ≡ Some p.page
 own_number p n e = ap (λ (x : Bool). elim x as (λ y. Option Frame) [ true ↦ Some p.page | false ↦ None ]) (eq-eqb p.number n e)
 
-pub other_number : (p : Numbered) (n : ℕ) → p.number ≢ n → page_in (Some p) n ≡ None
+pub other_number : (p : TaggedPage) (n : ℕ) → p.number ≢ n → page_in (Some p) n ≡ None
 other_number p n h = ap (λ (x : Bool). elim x as (λ y. Option Frame) [ true ↦ Some p.page | false ↦ None ]) (unequal p.number n h)
 
 -- where the page of a number doesn't stand, none is found
-pub not_standing : (o : Option Numbered) (n : ℕ) → is_of o n ≡ false → page_in o n ≡ None
+pub not_standing : (o : Option TaggedPage) (n : ℕ) → is_of o n ≡ false → page_in o n ≡ None
 not_standing None n h = refl
 not_standing (Some p) n h = ap (λ (x : Bool). elim x as (λ y. Option Frame) [ true ↦ Some p.page | false ↦ None ]) h
 
-pub standing : (o : Option Numbered) (n : ℕ) → is_of o n ≡ true → (p : Numbered) × (o ≡ Some p) × (p.number ≡ n)
+pub standing : (o : Option TaggedPage) (n : ℕ) → is_of o n ≡ true → (p : TaggedPage) × (o ≡ Some p) × (p.number ≡ n)
 standing None n h = absurd (no h)
   where
     no : false ≡ true → ⊥
@@ -125,32 +125,32 @@ standing (Some p) n h = (p, refl, elim (eqb_tells p.number n) [ inl t ↦ t.1 | 
 
 -- ---- a page in the place of one
 
-module _ (place : ℕ → ℕ) (pages : List Numbered) (p q : Numbered) (at n : ℕ) (is : place n ≡ at) (stands : slice_get pages at ≡ Some p) (old : p.number ≡ n) (new : q.number ≡ n) where
+module _ (place : ℕ → ℕ) (pages : List TaggedPage) (p q : TaggedPage) (at n : ℕ) (is : place n ≡ at) (stands : slice_get pages at ≡ Some p) (old : p.number ≡ n) (new : q.number ≡ n) where
   set_others : (m : ℕ) → m ≢ n → page_at place (slice_set pages at q) m ≡ page_at place pages m
   set_others m apart = by_place (cases_eq (place m) at)
     where
       by_place : (place m ≡ at) ⊎ (place m ≢ at) → page_at place (slice_set pages at q) m ≡ page_at place pages m
       by_place (inl e) =
-          ap (λ i. page_in (slice_get (slice_set pages at q) i) m) e ∙ ap (λ (o : Option Numbered). page_in o m) (get_here pages at q p stands)
+          ap (λ i. page_in (slice_get (slice_set pages at q) i) m) e ∙ ap (λ (o : Option TaggedPage). page_in o m) (get_here pages at q p stands)
           ∙ other_number q m (λ h. apart (sym h ∙ new)) ∙ sym (other_number p m (λ h. apart (sym h ∙ old)))
-          ∙ ap (λ (o : Option Numbered). page_in o m) (sym stands) ∙ ap (λ i. page_in (slice_get pages i) m) (sym e)
-      by_place (inr h) = ap (λ (o : Option Numbered). page_in o m) (get_there pages at (place m) q h)
+          ∙ ap (λ (o : Option TaggedPage). page_in o m) (sym stands) ∙ ap (λ i. page_in (slice_get pages i) m) (sym e)
+      by_place (inr h) = ap (λ (o : Option TaggedPage). page_in o m) (get_there pages at (place m) q h)
 
   set_own : page_at place (slice_set pages at q) n ≡ Some q.page
-  set_own = ap (λ i. page_in (slice_get (slice_set pages at q) i) n) is ∙ ap (λ (o : Option Numbered). page_in o n) (get_here pages at q p stands) ∙ own_number q n new
+  set_own = ap (λ i. page_in (slice_get (slice_set pages at q) i) n) is ∙ ap (λ (o : Option TaggedPage). page_in o n) (get_here pages at q p stands) ∙ own_number q n new
 
   was_own : page_at place pages n ≡ Some p.page
-  was_own = ap (λ i. page_in (slice_get pages i) n) is ∙ ap (λ (o : Option Numbered). page_in o n) stands ∙ own_number p n old
+  was_own = ap (λ i. page_in (slice_get pages i) n) is ∙ ap (λ (o : Option TaggedPage). page_in o n) stands ∙ own_number p n old
 
 -- a word of a page that stands is told or forgotten
-pub word_set : (place : ℕ → ℕ) (pages : List Numbered) (p : Numbered) (g : Frame) (at a : ℕ) (o : Option ℕ) → a < 2 ^ 30 → at ≡ place (a / 64) → stands_at pages at (a / 64) ≡ true
-    → ((r : Numbered) → slice_get pages at ≡ Some r → r ≡ p)
+pub word_set : (place : ℕ → ℕ) (pages : List TaggedPage) (p : TaggedPage) (g : Frame) (at a : ℕ) (o : Option ℕ) → a < 2 ^ 30 → at ≡ place (a / 64) → stands_at pages at (a / 64) ≡ true
+    → ((r : TaggedPage) → slice_get pages at ≡ Some r → r ≡ p)
     → ((j : ℕ) → j < 64 → word_in g j ≡ (if j == a % 64 then o else word_in p.page j))
     → (k : ℕ) → word_at (pages_of (page_at place (slice_set pages at (record { number = p.number; page = g })))) k ≡ (if k == a then o else word_at (pages_of (page_at place pages)) k)
 word_set place pages p g at a o low is stands same own =
     let found = standing (slice_get pages at) (a / 64) stands in
-    let here : slice_get pages at ≡ Some p = found.1 ∙ ap (λ (r : Numbered). Some r) (same found.0 found.1) in
-    let number : p.number ≡ a / 64 = ap (λ (r : Numbered). r.number) (sym (same found.0 found.1)) ∙ found.2 in
+    let here : slice_get pages at ≡ Some p = found.1 ∙ ap (λ (r : TaggedPage). Some r) (same found.0 found.1) in
+    let number : p.number ≡ a / 64 = ap (λ (r : TaggedPage). r.number) (sym (same found.0 found.1)) ∙ found.2 in
     word_changed (page_at place pages) (page_at place (slice_set pages at (record { number = p.number; page = g }))) a o (omega (arith, low))
     (λ m below apart. set_others place pages p (record { number = p.number; page = g }) at (a / 64) (sym is) here number number m apart)
     (λ j below. ap (λ (x : Option Frame). word_of x j) (set_own place pages p (record { number = p.number; page = g }) at (a / 64) (sym is) here number number)
@@ -158,7 +158,7 @@ word_set place pages p g at a o low is stands same own =
     ∙ ap (λ (x : Option Frame). if j == a % 64 then o else word_of x j) (sym (was_own place pages p (record { number = p.number; page = g }) at (a / 64) (sym is) here number number)))
 
 -- a word of a page that doesn't stand is forgotten
-pub word_stays : (place : ℕ → ℕ) (pages : List Numbered) (at a : ℕ) → a < 2 ^ 30 → at ≡ place (a / 64) → stands_at pages at (a / 64) ≡ false
+pub word_stays : (place : ℕ → ℕ) (pages : List TaggedPage) (at a : ℕ) → a < 2 ^ 30 → at ≡ place (a / 64) → stands_at pages at (a / 64) ≡ false
     → (k : ℕ) → word_at (pages_of (page_at place pages)) k ≡ (if k == a then None else word_at (pages_of (page_at place pages)) k)
 word_stays place pages at a low is stands =
     word_changed (page_at place pages) (page_at place pages) a None (omega (arith, low)) (λ m below apart. refl)
@@ -173,7 +173,7 @@ word_stays place pages at a low is stands =
 
 -- ---- a page more
 
-pub word_more : (place later : ℕ → ℕ) (pages : List Numbered) (q : Numbered) (at a end w : ℕ) → a < 2 ^ 30 → at ≡ place (a / 64) → stands_at pages at (a / 64) ≡ false
+pub word_more : (place later : ℕ → ℕ) (pages : List TaggedPage) (q : TaggedPage) (at a end w : ℕ) → a < 2 ^ 30 → at ≡ place (a / 64) → stands_at pages at (a / 64) ≡ false
     → end ≡ length pages → q.number ≡ a / 64
     → ((n : ℕ) → n < 2 ^ 24 → later n ≡ (if n == a / 64 then end else place n))
     → ((j : ℕ) → word_in q.page j ≡ (if j == a % 64 then Some w else None))
@@ -189,17 +189,17 @@ word_more place later pages q at a end w low is stands last number places own =
     placed = places (a / 64) (omega (arith, low)) ∙ ap (λ (x : Bool). if x then end else place (a / 64)) (eq-eqb (a / 64) (a / 64) refl) ∙ last
 
     here : page_at later (pages ++ q ∷ []) (a / 64) ≡ Some q.page
-    here = ap (λ i. page_in (slice_get (pages ++ q ∷ []) i) (a / 64)) placed ∙ ap (λ (o : Option Numbered). page_in o (a / 64)) (get_last pages q) ∙ own_number q (a / 64) number
+    here = ap (λ i. page_in (slice_get (pages ++ q ∷ []) i) (a / 64)) placed ∙ ap (λ (o : Option TaggedPage). page_in o (a / 64)) (get_last pages q) ∙ own_number q (a / 64) number
 
     others : (m : ℕ) → m < 2 ^ 24 → m ≢ a / 64 → page_at later (pages ++ q ∷ []) m ≡ page_at place pages m
     others m below apart = ap (λ i. page_in (slice_get (pages ++ q ∷ []) i) m) (places m below ∙ ap (λ (x : Bool). if x then end else place m) (unequal m (a / 64) apart)) ∙ by_place (cases_eq (place m) (length pages))
       where
         by_place : (place m ≡ length pages) ⊎ (place m ≢ length pages) → page_in (slice_get (pages ++ q ∷ []) (place m)) m ≡ page_at place pages m
         by_place (inl e) =
-            ap (λ i. page_in (slice_get (pages ++ q ∷ []) i) m) e ∙ ap (λ (o : Option Numbered). page_in o m) (get_last pages q) ∙ other_number q m (λ h. apart (sym h ∙ number))
-            ∙ sym (ap (λ i. page_in (slice_get pages i) m) e ∙ ap (λ (o : Option Numbered). page_in o m) (get_end pages))
-        by_place (inr h) = ap (λ (o : Option Numbered). page_in o m) (get_before pages q (place m) h)
+            ap (λ i. page_in (slice_get (pages ++ q ∷ []) i) m) e ∙ ap (λ (o : Option TaggedPage). page_in o m) (get_last pages q) ∙ other_number q m (λ h. apart (sym h ∙ number))
+            ∙ sym (ap (λ i. page_in (slice_get pages i) m) e ∙ ap (λ (o : Option TaggedPage). page_in o m) (get_end pages))
+        by_place (inr h) = ap (λ (o : Option TaggedPage). page_in o m) (get_before pages q (place m) h)
 
 -- the word that is found at a place
-pub word_found : (place : ℕ → ℕ) (pages : List Numbered) (at a : ℕ) → a < 2 ^ 30 → at ≡ place (a / 64) → word_at (pages_of (page_at place pages)) a ≡ word_of (page_in (slice_get pages at) (a / 64)) (a % 64)
+pub word_found : (place : ℕ → ℕ) (pages : List TaggedPage) (at a : ℕ) → a < 2 ^ 30 → at ≡ place (a / 64) → word_at (pages_of (page_at place pages)) a ≡ word_of (page_in (slice_get pages at) (a / 64)) (a % 64)
 word_found place pages at a low is = word_listed (page_at place pages) a (omega (arith, low)) ∙ ap (λ i. word_of (page_in (slice_get pages i) (a / 64)) (a % 64)) (sym is)

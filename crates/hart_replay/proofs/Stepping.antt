@@ -23,13 +23,13 @@ use Rattle.hart_replay.specs.Sides.{Side, Goes, interval_at, position_at, later,
 use Rattle.std.specs.Prelude.{Result, Ok, Err, drop, ◌⊎◌}
 use Rattle.std.proofs.Common.{inl, inr}
 use Rattle.log_record.specs.declared.record.Record.{Record}
-use Rattle.hart_replay.specs.declared.course.Course.{Course}
+use Rattle.hart_replay.specs.declared.interval_cursor.IntervalCursor.{IntervalCursor}
 use Rattle.hart_replay.specs.declared.error.ReplayError.{ReplayError}
 use Rattle.hart_replay.specs.declared.error.ReplayError.TheVariants.{OutOfMemory}
-use Rattle.hart_replay.specs.declared.header.Start.{Start}
+use Rattle.hart_replay.specs.declared.header.IntervalStart.{IntervalStart}
 use Rattle.hart_replay.specs.Scans.{Pending, loads_in, conditionals_in, mark_in}
 use Rattle.hart_replay.specs.Pages.{Frame, word_at}
-use Rattle.hart_replay.specs.Courses.{side_of}
+use Rattle.hart_replay.specs.Cursors.{side_of}
 use Rattle.hart_replay.proofs.Alike.{coming_alike}
 use Rattle.hart_replay.proofs.KnownRows.{known_none}
 
@@ -263,17 +263,17 @@ starts i h s l pages none =
 
 -- ---- a replayer
 
--- what is to come of a course, and how a replayer with it is seen
-abbrev pub course_to_come : Course → Replayed
-course_to_come o = side_to_come o.image.now o.hart o.mark o.state o.called (side_of o)
+-- what is to come of a cursor, and how a replayer with it is seen
+abbrev pub cursor_to_come : IntervalCursor → Replayed
+cursor_to_come o = side_to_come o.image.now o.hart o.mark o.state o.called (side_of o)
 
-abbrev pub seen_as : Course → Option (Result (Unit {0}) ReplayError) → Replaying
-seen_as o ended = record { program = o.image.now; mark = o.mark; state = o.state; left = left_by ended (course_to_come o) }
+abbrev pub seen_as : IntervalCursor → Option (Result (Unit {0}) ReplayError) → Replaying
+seen_as o ended = record { program = o.image.now; mark = o.mark; state = o.state; left = left_by ended (cursor_to_come o) }
 
-abbrev pub SamePlan : Course → Course → Type 0
+abbrev pub SamePlan : IntervalCursor → IntervalCursor → Type 0
 SamePlan o n = (n.image ≡ o.image) × (n.hart ≡ o.hart) × (n.mark ≡ o.mark)
 
-same_to_come : (o n : Course) → SamePlan o n → side_to_come o.image.now o.hart o.mark n.state n.called (side_of n) ≡ course_to_come n
+same_to_come : (o n : IntervalCursor) → SamePlan o n → side_to_come o.image.now o.hart o.mark n.state n.called (side_of n) ≡ cursor_to_come n
 same_to_come o n same =
     let i : n.image.now ≡ o.image.now = ap (λ (b : CodeOf). b.now) same.0 in
     sym (ap (λ (x : Program). side_to_come x n.hart n.mark n.state n.called (side_of n)) i
@@ -281,20 +281,20 @@ same_to_come o n same =
     ∙ ap (λ (x : EndMark). side_to_come o.image.now o.hart x n.state n.called (side_of n)) same.2)
 
 -- a row was given
-pub stepped_on : (o n : Course) (ended : Option (Result (Unit {0}) ReplayError)) (now : Replaying) (row : Row) → seen_as o ended ≡ now → ended ≡ None → o.state.ic < o.mark.ic → o.mark.ic < 2 ^ 64
+pub stepped_on : (o n : IntervalCursor) (ended : Option (Result (Unit {0}) ReplayError)) (now : Replaying) (row : Row) → seen_as o ended ≡ now → ended ≡ None → o.state.ic < o.mark.ic → o.mark.ic < 2 ^ 64
     → Does (side_of o) (one_step o.image.now o.hart (interval_at o.state o.mark (side_of o)) (position_at o.state o.called (side_of o))) o.state (Ok row) n.state n.called (side_of n) → SamePlan o n
-    → (now.left ≡ with_rows (row ∷ []) (left_by ended (course_to_come n))) × (n.state ≡ after_row now.program now.state row) × (n.image.now ≡ now.program) × (n.mark ≡ now.mark)
+    → (now.left ≡ with_rows (row ∷ []) (left_by ended (cursor_to_come n))) × (n.state ≡ after_row now.program now.state row) × (n.image.now ≡ now.program) × (n.mark ≡ now.mark)
 stepped_on o n ended now row view none lt fits does same =
-    let gone : course_to_come o ≡ with_rows (row ∷ []) (course_to_come n) = gone_on o.image.now o.hart o.mark o.state o.called (side_of o) row n.state n.called (side_of n) lt fits does.0 does.1 ∙ ap (with_rows (row ∷ [])) (same_to_come o n same) in
-    subst (λ (r : Replaying). (r.left ≡ with_rows (row ∷ []) (left_by ended (course_to_come n))) × (n.state ≡ after_row r.program r.state row) × (n.image.now ≡ r.program) × (n.mark ≡ r.mark)) view (
-      ap (λ (x : Option (Result (Unit {0}) ReplayError)). left_by x (course_to_come o)) none ∙ gone ∙ sym (ap (λ (x : Option (Result (Unit {0}) ReplayError)). with_rows (row ∷ []) (left_by x (course_to_come n))) none),
+    let gone : cursor_to_come o ≡ with_rows (row ∷ []) (cursor_to_come n) = gone_on o.image.now o.hart o.mark o.state o.called (side_of o) row n.state n.called (side_of n) lt fits does.0 does.1 ∙ ap (with_rows (row ∷ [])) (same_to_come o n same) in
+    subst (λ (r : Replaying). (r.left ≡ with_rows (row ∷ []) (left_by ended (cursor_to_come n))) × (n.state ≡ after_row r.program r.state row) × (n.image.now ≡ r.program) × (n.mark ≡ r.mark)) view (
+      ap (λ (x : Option (Result (Unit {0}) ReplayError)). left_by x (cursor_to_come o)) none ∙ gone ∙ sym (ap (λ (x : Option (Result (Unit {0}) ReplayError)). with_rows (row ∷ []) (left_by x (cursor_to_come n))) none),
       state_after o.image.now o.hart o.mark o.state o.called (side_of o) row n.state n.called (side_of n) does.0,
       ap (λ (b : CodeOf). b.now) same.0,
       same.2,
     )
 
 -- it was refused
-pub stepped_out : (o n : Course) (ended : Option (Result (Unit {0}) ReplayError)) (now : Replaying) (e : ReplayError) → seen_as o ended ≡ now → ended ≡ None → o.state.ic < o.mark.ic
+pub stepped_out : (o n : IntervalCursor) (ended : Option (Result (Unit {0}) ReplayError)) (now : Replaying) (e : ReplayError) → seen_as o ended ≡ now → ended ≡ None → o.state.ic < o.mark.ic
     → Does (side_of o) (one_step o.image.now o.hart (interval_at o.state o.mark (side_of o)) (position_at o.state o.called (side_of o))) o.state (Err e) n.state n.called (side_of n) → SamePlan o n
     → ((now.left ≡ over (Refused e)) ⊎ (e ≡ OutOfMemory)) × (◌≡◌ {A = Replaying} (record { program = n.image.now; mark = n.mark; state = n.state; left = over (Refused e) }) (record { program = now.program; mark = now.mark; state = now.state; left = over (Refused e) }))
     × ((now.left ≡ over (Refused e)) ⊎ (a_word_comes now.left.rows ≡ true))
@@ -309,19 +309,19 @@ stepped_out o n ended now e view none lt does same =
     next : Next
     next = one_step o.image.now o.hart (interval_at o.state o.mark (side_of o)) (position_at o.state o.called (side_of o))
 
-    all : left_by ended (course_to_come o) ≡ course_to_come o
-    all = ap (λ (x : Option (Result (Unit {0}) ReplayError)). left_by x (course_to_come o)) none
+    all : left_by ended (cursor_to_come o) ≡ cursor_to_come o
+    all = ap (λ (x : Option (Result (Unit {0}) ReplayError)). left_by x (cursor_to_come o)) none
 
-    by_answer : (next ≡ Stop (Refused e)) ⊎ ((e ≡ OutOfMemory) × KeepsWord next) → (left_by ended (course_to_come o) ≡ over (Refused e)) ⊎ (e ≡ OutOfMemory)
+    by_answer : (next ≡ Stop (Refused e)) ⊎ ((e ≡ OutOfMemory) × KeepsWord next) → (left_by ended (cursor_to_come o) ≡ over (Refused e)) ⊎ (e ≡ OutOfMemory)
     by_answer (inl a) = inl (all ∙ stopped o.image.now o.hart o.mark o.state o.called (side_of o) (Refused e) lt a)
     by_answer (inr a) = inr a.0
 
-    by_row : (next ≡ Stop (Refused e)) ⊎ ((e ≡ OutOfMemory) × KeepsWord next) → (left_by ended (course_to_come o) ≡ over (Refused e)) ⊎ (a_word_comes (left_by ended (course_to_come o)).rows ≡ true)
+    by_row : (next ≡ Stop (Refused e)) ⊎ ((e ≡ OutOfMemory) × KeepsWord next) → (left_by ended (cursor_to_come o) ≡ over (Refused e)) ⊎ (a_word_comes (left_by ended (cursor_to_come o)).rows ≡ true)
     by_row (inl a) = inl (all ∙ stopped o.image.now o.hart o.mark o.state o.called (side_of o) (Refused e) lt a)
     by_row (inr a) = inr (ap (λ (x : Replayed). a_word_comes x.rows) all ∙ kept_first o.image.now o.hart o.mark o.state o.called (side_of o) lt a.1)
 
 -- it begins
-pub begins : (i : Program) (h c : ℕ) (records rs : List Record) (start : Start) (m : EndMark) (lo : Pending) (co : List Bool) (pages : List (ℕ × Frame)) → rs ≡ records
+pub begins : (i : Program) (h c : ℕ) (records rs : List Record) (start : IntervalStart) (m : EndMark) (lo : Pending) (co : List Bool) (pages : List (ℕ × Frame)) → rs ≡ records
     → interval_of h c rs ≡ Some (interval_from start.state (puts h (drop start.next rs) nothing)) → start.hart ≡ h
     → m ≡ mark_in start.hart (drop start.next rs) → lo ≡ record { loads = loads_in start.hart (drop start.next rs); skipped = 0 } → co ≡ conditionals_in start.hart (drop start.next rs)
     → ((k : ℕ) → word_at pages k ≡ None)

@@ -92,8 +92,8 @@ abbrev pub a_word_comes : List Row → Bool
 a_word_comes [] = false
 a_word_comes (r ∷ rs) = tells_word r
 
--- what a step does: it gives the first row that is left, or none where the replay is done, or the outcome; want of memory
--- may come instead, but only where the first row that is left tells a word
+-- what a step does: it gives the first row that is left, or none if the replay is done, or the outcome; it may run
+-- out of memory instead, but only if the first row that is left tells a word
 abbrev pub Stepped : Replaying → Result (Option Row) ReplayError → Replaying → Type 0
 Stepped old (Ok None) new = (old.left ≡ over Done) × (new ≡ old)
 Stepped old (Ok (Some row)) new = (old.left ≡ with_rows (row ∷ []) new.left) × (new.state ≡ after_row old.program old.state row) × (new.program ≡ old.program) × (new.mark ≡ old.mark)

@@ -1,7 +1,7 @@
 -- How the page of a number is found: by three levels of nodes, each of which has a place in the next one for each of 256 parts.
 use Rattle.std.specs.Prelude.{ℕ, zero, suc, ◌/◌, ◌%◌, ◌^◌, ◌==◌, Bool, true, false, List, [], ◌∷◌, slice_get, slice_index, Option, Some, None}
 use Rattle.hart_replay.specs.Pages.{Frame}
-use Rattle.hart_replay.specs.declared.words.Numbered.{Numbered}
+use Rattle.hart_replay.specs.declared.words.TaggedPage.{TaggedPage}
 
 -- a node: the number of the part of the addresses that it is of, and a place for each part of that
 pub record Branch : Type 0 where
@@ -21,7 +21,7 @@ has_part (Some b) part = b.part == part
 abbrev pub has_branch : List Branch → (node part : ℕ) → Bool
 has_branch bs node part = has_part (slice_get bs node) part
 
--- a node's place for one of its parts, where it is the node of `part`, else 0
+-- a node's place for one of its parts, if it is the node of `part`, else 0
 abbrev pub place_in : Option Branch → (part at : ℕ) → ℕ
 place_in None part at = 0
 place_in (Some b) part at = elim (b.part == part) [ true ↦ slice_index b.places at | false ↦ 0 ]
@@ -44,20 +44,20 @@ place_for d n = place_at d.leaves (place_at d.mids (place_at d.tops d.root 0 (n 
 
 -- ---- the pages that are found so
 
-abbrev pub page_in : Option Numbered → ℕ → Option Frame
+abbrev pub page_in : Option TaggedPage → ℕ → Option Frame
 page_in None n = None
 page_in (Some p) n = elim (p.number == n) [ true ↦ Some p.page | false ↦ None ]
 
 -- whether the page of a number stands at a place
-abbrev pub is_of : Option Numbered → ℕ → Bool
+abbrev pub is_of : Option TaggedPage → ℕ → Bool
 is_of None n = false
 is_of (Some p) n = p.number == n
 
-abbrev pub stands_at : List Numbered → (place number : ℕ) → Bool
+abbrev pub stands_at : List TaggedPage → (place number : ℕ) → Bool
 stands_at pages place n = is_of (slice_get pages place) n
 
 -- the page of a number
-abbrev pub page_at : (ℕ → ℕ) → List Numbered → ℕ → Option Frame
+abbrev pub page_at : (ℕ → ℕ) → List TaggedPage → ℕ → Option Frame
 page_at place pages n = page_in (slice_get pages (place n)) n
 
 -- the page of one number more, if there is one

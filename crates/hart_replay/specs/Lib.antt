@@ -6,4 +6,4 @@ pub mod Scans
 pub mod Coming
 pub mod Sides
 pub mod Starts
-pub mod Courses
+pub mod Cursors

@@ -8,7 +8,7 @@ pub record Frame : Type 0 where
   pub known : ℕ
   pub words : List ℕ
 
--- the word at a place, where it is known
+-- the word at a place, if it is known
 abbrev pub word_in : Frame → ℕ → Option ℕ
 word_in f place = elim (bit_at f.known place == 1) [ true ↦ Some (slice_index f.words place) | false ↦ None ]
 
@@ -16,7 +16,7 @@ abbrev pub word_of : Option Frame → ℕ → Option ℕ
 word_of None place = None
 word_of (Some f) place = word_in f place
 
--- the known word of a number, where pages go by their numbers; word k is at the addresses from 4 * k on
+-- the known word of a number; pages are named by their numbers, and word k is at the addresses from 4 * k on
 abbrev pub word_at : List (ℕ × Frame) → ℕ → Option ℕ
 word_at pages k = word_of (lookup (nat_eq (k / 64)) pages) (k % 64)
 

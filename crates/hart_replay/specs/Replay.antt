@@ -55,13 +55,16 @@ put h (ScFailed k) l = elim (k == h) [ true ↦ record { loads = l.loads; condit
 put h (Edge k ic s j) l = l
 put h (End k m) l = elim (k == h) [ true ↦ record { loads = []; conditionals = []; mark = m } | false ↦ l ]
 
+-- what records have for hart h up to its next End: they are put in from the last to the first, and an End begins anew
 abbrev pub puts : ℕ → List Record → Logged → Logged
 puts h [] l = l
 puts h (r ∷ rs) l = put h r (puts h rs l)
 
+-- what the log has if no record is left
 abbrev pub nothing : Logged
 nothing = record { loads = []; conditionals = []; mark = record { ic = 0; reason = 0; value = 0 } }
 
+-- the interval that begins in a state, with what the log has for it
 abbrev pub interval_from : HartState → Logged → Interval
 interval_from s l = record { start = s; loads = l.loads; conditionals = l.conditionals; mark = l.mark }
 
@@ -71,12 +74,14 @@ interval_of h c [] = None
 interval_of h c (Header k n ic pc x ∷ rs) = elim (k == h && (n == c)) [ true ↦ Some (interval_from (record { pc = pc; x = x; ic = ic }) (puts h rs nothing)) | false ↦ interval_of h c rs ]
 interval_of h c (r ∷ rs) = interval_of h c rs
 
--- the value of the first load whose place is k, where the place after the one before is base. A first load's place is
+-- the value of the first load whose place is k, if the place after the one before is base. A first load's place is
 -- the number of loading accesses of the interval before it
 abbrev pub logged_from : ℕ → List (ℕ × ℕ) → ℕ → Option ℕ
 logged_from base [] k = None
 logged_from base (r ∷ rs) k = elim (k == base + r.0) [ true ↦ Some r.1 | false ↦ logged_from (base + r.0 + 1) rs k ]
 
+-- the value that the log has for loading access number k of the interval, from 0, if it has one. First load number n, from 0,
+-- is at the sum of the skips up to its own, plus n
 abbrev pub logged : List (ℕ × ℕ) → ℕ → Option ℕ
 logged rs k = logged_from 0 rs k
 
@@ -85,13 +90,14 @@ abbrev pub taken_from : ℕ → List (ℕ × ℕ) → ℕ → ℕ
 taken_from base [] k = 0
 taken_from base (r ∷ rs) k = elim (nat_lt (base + r.0) k) [ true ↦ 1 + taken_from (base + r.0 + 1) rs k | false ↦ 0 ]
 
+-- the first value if it is there, else the second
 abbrev pub or_else : Option ℕ → Option ℕ → Option ℕ
 or_else None y = y
 or_else (Some x) y = Some x
 
 -- ---- the instructions, one by one
 
--- where a replay stands: the hart's state, how many loading accesses and store-conditionals it did, its rows, latest
+-- the point where a replay stands: the hart's state, how many loading accesses and store-conditionals it did, its rows, latest
 -- first, and whether its last instruction was the system call that ends the interval
 pub record Position : Type 0 where
   pub state : HartState
@@ -110,6 +116,7 @@ slot [] k = None
 slot (b ∷ bs) zero = Some b
 slot (b ∷ bs) (suc k) = slot bs k
 
+-- the mark that a replay would give its End
 abbrev pub found : ℕ → ℕ → ℕ → EndMark
 found ic reason value = record { ic = ic; reason = reason; value = value }
 
@@ -117,24 +124,26 @@ found ic reason value = record { ic = ic; reason = reason; value = value }
 abbrev pub after_ask : Program → ℕ → Position → Ask → Reply → ℕ → Option (ℕ × ℕ) → Option (ℕ × ℕ) → Next
 after_ask i h p ask reply more load store = let t = absorbed ask reply in On (record { state = t; loads = p.loads + more; conditionals = p.conditionals; rows = row_of h i p.state t load store ∷ p.rows; called = false })
 
--- the word for a loading access at a: the log's, where it has a first load of this place, else the one that the rows know
+-- the word for a loading access at a: the log's, if it has a first load of this place, else the one that the rows know
 abbrev pub word_for : Interval → Position → ℕ → Option ℕ
 word_for v p a = or_else (logged v.loads p.loads) (known (aligned a) p.rows)
 
+-- a loading access of a word that neither the log nor the replay's rows tell
 abbrev pub missing : ℕ → Position → ℕ → Next
 missing h p a = Stop (Refused (LoadMissing h p.state.ic a))
 
+-- a store-conditional goes as the log says: it stores and writes 0 to rd, or it writes 1
 abbrev pub after_sc : Program → ℕ → Position → Ask → Bool → ℕ → ℕ → Next
 after_sc i h p ask good a value =
     let t = absorbed ask (cond good replies.ScOk replies.ScFailed) in
     let row = row_of h i p.state t None (cond good (Some (a, value)) None) in
     On (record { state = t; loads = p.loads; conditionals = p.conditionals + 1; rows = row ∷ p.rows; called = false })
 
--- the reason of an end by the system call with this number: 93 is exit, 94 is exit_group, any other goes on
+-- the reason of an end by the system call with this number: 93 is exit, 94 is exit_group, any other continues
 abbrev pub call_reason : ℕ → ℕ
 call_reason n = elim (n == 93) [ true ↦ 3 | false ↦ elim (n == 94) [ true ↦ 4 | false ↦ 2 ] ]
 
--- a system call ends its interval: it is done where the mark says so, and one that goes on has the mark's value as its result
+-- a system call ends its interval: it is done if the mark says so, and one that continues has the mark's value as its result
 abbrev pub system_step : Program → ℕ → Interval → Position → Ask → ℕ → ℕ → Next
 system_step i h v p ask n a0 =
     let reason = call_reason n in
@@ -147,6 +156,8 @@ system_step i h v p ask n a0 =
       | false ↦ Stop (Refused (EndDiffers h v.mark (found (p.state.ic + 1) reason value)))
     ]
 
+-- an instruction that asks. A loading access gets the logged word, else the word that the rows know; a store-conditional goes
+-- as the log says; a system call has to be that of the End, and a fault before the End's count is refused
 abbrev pub ask_step : Program → ℕ → Interval → Position → Want → Next
 ask_step i h v p k = elim k as (λ x. Next) [
   | Load a w s rd ↦ elim (word_for v p a) [ None ↦ missing h p a | Some x ↦ after_ask i h p (record { state = p.state; want = k }) (Word x) 1 (Some (a, x)) None ]
@@ -162,7 +173,7 @@ ask_step i h v p k = elim k as (λ x. Next) [
   | Faulted f y ↦ Stop (Refused (EndDiffers h v.mark (found p.state.ic (16 + fault_number f) y)))
 ]
 
--- the next instruction, where the mark's count isn't reached
+-- the next instruction, if the mark's count isn't reached
 abbrev pub one_step : Program → ℕ → Interval → Position → Next
 one_step i h v p = elim (step i p.state) [
   | Quiet t ↦ On (record { state = t; loads = p.loads; conditionals = p.conditionals; rows = row_of h i p.state t None None ∷ p.rows; called = false })
@@ -180,10 +191,11 @@ abbrev pub onto : List Row → List Row → List Row
 onto [] more = more
 onto (r ∷ rs) more = onto rs (r ∷ more)
 
+-- the rows, the oldest first, and how the replay ended
 abbrev pub finish : List Row → Outcome → Replayed
 finish rows o = record { rows = onto rows []; outcome = o }
 
--- what is asked at the mark's count, where the mark is a fault
+-- what is asked at the mark's count, if the mark is a fault
 abbrev pub fault_end : Program → ℕ → Interval → Position → Want → Replayed
 fault_end i h v p (Faulted f y) = elim (16 + fault_number f == v.mark.reason && (y == v.mark.value)) [
   | true ↦ finish (fault_row h i p.state f y ∷ p.rows) (left_over h v p)
@@ -207,10 +219,11 @@ abbrev pub steps : Program → ℕ → Interval → ℕ → Position → Replaye
 steps i h v zero p = ended i h v p
 steps i h v (suc n) p = elim (one_step i h v p) [ On q ↦ steps i h v n q | Stop o ↦ finish p.rows o ]
 
--- where the replay of an interval begins
+-- the point where the replay of an interval begins
 abbrev pub first : Interval → Position
 first v = record { state = v.start; loads = 0; conditionals = 0; rows = []; called = false }
 
+-- the rows and the outcome of an interval, if the log has its Header
 abbrev pub replayed_in : Program → ℕ → ℕ → Option Interval → Replayed
 replayed_in i h c None = record { rows = []; outcome = Refused (NoInterval h c) }
 replayed_in i h c (Some v) = steps i h v (v.mark.ic - v.start.ic) (first v)

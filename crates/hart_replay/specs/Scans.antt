@@ -8,13 +8,15 @@ use Rattle.hart_replay.specs.Replay.{puts, nothing}
 abbrev pub loads_in : ℕ → List Record → List (ℕ × ℕ)
 loads_in h rs = (puts h rs nothing).loads
 
+-- how the store-conditionals of a hart went, up to its next End
 abbrev pub conditionals_in : ℕ → List Record → List Bool
 conditionals_in h rs = (puts h rs nothing).conditionals
 
+-- the mark of a hart's next End
 abbrev pub mark_in : ℕ → List Record → EndMark
 mark_in h rs = (puts h rs nothing).mark
 
--- an item, if there is one, before others; where there is none, there are no others
+-- an item, if there is one, before others; if there is none, there are no others
 abbrev pub in_front : {A : Type 0} → Option A → List A → List A
 in_front None xs = []
 in_front (Some x) xs = x ∷ xs
@@ -34,7 +36,7 @@ pub record Pending : Type 0 where
   pub loads : List (ℕ × ℕ)
   pub skipped : ℕ
 
--- the value of the first of some first loads, where a loading access after so many skipped ones meets it
+-- the value of the first of some first loads, if a loading access after so many skipped ones meets it
 abbrev pub due : ℕ → List (ℕ × ℕ) → Option ℕ
 due skipped [] = None
 due skipped (r ∷ rs) = elim (skipped == r.0) [ true ↦ Some r.1 | false ↦ None ]

@@ -70,7 +70,7 @@ side loads conditionals pages = record { loads = loads.loads; met = loads.skippe
 abbrev pub side_to_come : Program → ℕ → EndMark → HartState → Bool → Side → Replayed
 side_to_come i h m s called a = to_come i h (interval_at s m a) (m.ic - s.ic) (position_at s called a)
 
--- the next instruction goes on, with a row, to a state and a side that tells the same
+-- the next instruction continues, with a row, to a state and a side that tells the same
 abbrev pub Goes : Side → Next → Row → HartState → Bool → Side → Type 0
 Goes a (On q) row t called b = (q.state ≡ t) × (q.called ≡ called) × (take 1 q.rows ≡ row ∷ []) × Alike (later a q) b
 Goes a (Stop o) row t called b = ⊥
@@ -79,7 +79,7 @@ abbrev pub outcome_of : Result (Unit {0}) ReplayError → Outcome
 outcome_of (Ok u) = Done
 outcome_of (Err e) = Refused e
 
--- what is left, where the replay may be over
+-- what is left, if the replay may be over
 abbrev pub left_by : Option (Result (Unit {0}) ReplayError) → Replayed → Replayed
 left_by None x = x
 left_by (Some r) x = over (outcome_of r)
@@ -93,7 +93,7 @@ abbrev pub KeepsWord : Next → Type 0
 KeepsWord (On q) = a_word_comes q.rows ≡ true
 KeepsWord (Stop o) = ⊥
 
--- an instruction at state s did what the definition says: it went on with a row, or stopped; want of memory may come
+-- an instruction at state s did what the definition says: it continued with a row, or stopped; it may run out of memory
 -- instead of a row that tells a word, and of nothing else
 abbrev pub Does : Side → Next → HartState → Result Row ReplayError → HartState → Bool → Side → Type 0
 Does a n s (Ok row) t called b = Goes a n row t called b × (t.ic ≡ count_up s.ic)

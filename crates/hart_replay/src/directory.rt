@@ -2,7 +2,7 @@
 ghost use Rattle.std.specs.Prelude.{◌≡◌, ◌≤◌, ◌<◌, ◌+◌, ◌^◌, ◌==◌, ℕ, true, if◌then◌else◌, OnOk, IfOk, IsOk};
 ghost use Rattle.hart_replay.specs.Directories.{place_at, place_for, has_branch};
 
-use crate::level::Level;
+use crate::level::RadixLevel;
 use std::alloc::{AllocError, Global};
 use std::marker::Model;
 
@@ -15,9 +15,9 @@ use std::marker::Model;
 pub(crate) struct Directory {
     /// The place of the first level's node.
     root: usize,
-    tops: Level,
-    mids: Level,
-    leaves: Level,
+    tops: RadixLevel,
+    mids: RadixLevel,
+    leaves: RadixLevel,
 }
 
 impl Model for Directory {
@@ -36,7 +36,7 @@ impl Model for Directory {
 }
 
 // Makes the first level's node, where there is none.
-fn make_root(root: &mut usize, tops: &mut Level) -> Result<(), AllocError>
+fn make_root(root: &mut usize, tops: &mut RadixLevel) -> Result<(), AllocError>
     ensures made { OnOk result (has_branch tops.new.branches root.new 0 ≡ true) }
     ensures same { (at : ℕ) → place_at tops.new.branches root.new 0 at ≡ place_at tops.old.branches root.old 0 at }
     ensures stays { has_branch tops.old.branches root.old 0 ≡ true → has_branch tops.new.branches root.new 0 ≡ true }
@@ -50,11 +50,11 @@ fn make_root(root: &mut usize, tops: &mut Level) -> Result<(), AllocError>
 
 // The place of the node of `low` below the node of a part, which is made where there is none.
 fn below(
-    upper: &mut Level,
+    upper: &mut RadixLevel,
     node: usize,
     part: u32,
     at: u32,
-    lower: &mut Level,
+    lower: &mut RadixLevel,
     low: u32,
 ) -> Result<usize, AllocError>
     requires at { at < 256 }
@@ -83,9 +83,9 @@ impl Directory {
     {
         Directory {
             root: 0,
-            tops: Level::new(alloc),
-            mids: Level::new(alloc),
-            leaves: Level::new(alloc),
+            tops: RadixLevel::new(alloc),
+            mids: RadixLevel::new(alloc),
+            leaves: RadixLevel::new(alloc),
         }
     }
 

@@ -9,7 +9,7 @@ use log_record::{Record, RecordList};
 
 /// The start of an interval: its hart and state, and the place of the record after its Header.
 #[derive(Drop)]
-pub(crate) struct Start {
+pub(crate) struct IntervalStart {
     pub(crate) hart: HartId,
     pub(crate) state: HartState,
     pub(crate) next: usize,
@@ -43,14 +43,19 @@ fn start_in(hart: u64, interval: u64, entry: &Record) -> Option<(HartId, HartSta
 }
 
 /// Finds the Header of an interval, which doesn't stand before a place.
-pub(crate) fn find(hart: u64, interval: u64, records: &RecordList, from: usize) -> Option<Start>
+pub(crate) fn find(
+    hart: u64,
+    interval: u64,
+    records: &RecordList,
+    from: usize,
+) -> Option<IntervalStart>
     requires before { interval_of hart interval (take from records.now) ≡ None }
     ensures start { interval_of hart interval records.now ≡ found_in result hart records.now }
     ensures hart { IfSome result (λ s. s.hart ≡ hart) }
 {
     for place in from..records.len() {
         if let Some((hart, state)) = start_in(hart, interval, &records.get(place)) {
-            return Some(Start {
+            return Some(IntervalStart {
                 hart,
                 state,
                 next: place + 1,

@@ -88,11 +88,11 @@ impl Clone for Node {
 ///
 /// Contracts see the nodes, and for how many more there is room.
 #[derive(Drop)]
-pub(crate) struct Level {
+pub(crate) struct RadixLevel {
     nodes: Vec<Node>,
 }
 
-impl Model for Level {
+impl Model for RadixLevel {
     ghost use Rattle.std.specs.Prelude.{◌-◌, vec_len, vec_capacity};
     ghost use Rattle.hart_replay.specs.Directories.{Branches};
 
@@ -101,12 +101,12 @@ impl Model for Level {
     ghost view = { λ l. record { branches = l.nodes.items; room = vec_capacity l.nodes - vec_len l.nodes } };
 }
 
-impl Level {
+impl RadixLevel {
     /// No nodes. It takes no memory.
-    pub(crate) fn new(alloc: Global) -> Level
+    pub(crate) fn new(alloc: Global) -> RadixLevel
         ensures { result.branches ≡ [] }
     {
-        Level {
+        RadixLevel {
             nodes: Vec::new(alloc),
         }
     }
@@ -167,11 +167,11 @@ impl Level {
     }
 
     /// The same nodes.
-    pub(crate) fn copy(&self) -> Result<Level, AllocError>
+    pub(crate) fn copy(&self) -> Result<RadixLevel, AllocError>
         ensures { IfOk result (λ l. l.branches ≡ self.now.branches) }
     {
         let alloc = *self.nodes.allocator();
-        Ok(Level {
+        Ok(RadixLevel {
             nodes: Vec::from_clones(alloc, &self.nodes)?,
         })
     }

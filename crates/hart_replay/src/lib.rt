@@ -2,10 +2,10 @@
 #![tactic(auto)]
 
 mod code;
-mod course;
 mod directory;
 pub mod error;
 mod header;
+mod interval_cursor;
 mod level;
 mod page;
 mod pending;

@@ -10,13 +10,13 @@ pub(crate) const PAGE_WORDS: u32 = 64;
 
 /// A page of 64 words, of which some are known.
 #[derive(Drop)]
-pub(crate) struct Page {
+pub(crate) struct WordPage {
     /// One bit for each word, the lowest for the first: whether it is known.
     known: u64,
     words: [u32; 64],
 }
 
-impl Model for Page {
+impl Model for WordPage {
     ghost use Rattle.std.specs.Prelude.{◌≡◌, length};
     ghost use Rattle.hart_replay.specs.Pages.{Frame};
 
@@ -27,12 +27,12 @@ impl Model for Page {
     ghost invariant = { λ p. length p.words ≡ 64 };
 }
 
-impl Page {
+impl WordPage {
     /// A page of which no word is known.
-    pub(crate) fn new() -> Page
+    pub(crate) fn new() -> WordPage
         ensures { (k : ℕ) → word_in result k ≡ None }
     {
-        Page {
+        WordPage {
             known: 0,
             words: [0; 64],
         }
@@ -83,20 +83,20 @@ impl Page {
     }
 
     /// A page with the same words known.
-    pub(crate) fn copy(&self) -> Page
+    pub(crate) fn copy(&self) -> WordPage
         ensures { result ≡ self.now }
     {
-        Page {
+        WordPage {
             known: self.known,
             words: self.words,
         }
     }
 }
 
-impl Clone for Page {
+impl Clone for WordPage {
     ghost is_clone = { λ p q. q ≡ p };
 
-    fn clone(&self) -> Result<Page, AllocError> {
+    fn clone(&self) -> Result<WordPage, AllocError> {
         Ok(self.copy())
     }
 }

@@ -9,6 +9,8 @@ use std::marker::Model;
 
 /// The first loads of a hart's interval that are still to be met, and the number of loading
 /// accesses since the last one that was. The records aren't copied.
+// They and the store-conditionals have a place of their own each: a log may have the two in another order than
+// the rows meet them.
 #[derive(Drop)]
 pub(crate) struct Loads<'a> {
     hart: HartId,

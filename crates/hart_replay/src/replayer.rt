@@ -5,9 +5,9 @@ ghost use Rattle.hart_replay.specs.Replay.{interval_of};
 ghost use Rattle.hart_replay.specs.Coming.{Begins, Stepped};
 
 use crate::code::Code;
-use crate::course::Course;
 use crate::error::ReplayError;
 use crate::header::find;
+use crate::interval_cursor::IntervalCursor;
 use crate::pending::{Conditionals, Loads};
 use crate::scan::next_mark;
 use crate::words::Words;
@@ -24,7 +24,7 @@ use std::marker::Model;
 /// pages of 64 words that the interval touches, beside 16 KiB for what it looked up in the code.
 #[derive(Drop)]
 pub struct Replayer<'a> {
-    course: Course<'a>,
+    cursor: IntervalCursor<'a>,
     /// The outcome, once it is told or only it is left.
     over: Option<Result<(), ReplayError>>,
 }
@@ -32,11 +32,11 @@ pub struct Replayer<'a> {
 impl<'a> Model for Replayer<'a> {
     ghost use Rattle.hart_replay.specs.Coming.{Replaying};
     ghost use Rattle.hart_replay.specs.Sides.{left_by};
-    ghost use Rattle.hart_replay.specs.Courses.{course_to_come};
+    ghost use Rattle.hart_replay.specs.Cursors.{cursor_to_come};
 
     ghost Value = { Replaying };
 
-    ghost view = { λ r. record { program = r.course.image.now; mark = r.course.mark; state = r.course.state; left = left_by r.over (course_to_come r.course) } };
+    ghost view = { λ r. record { program = r.cursor.image.now; mark = r.cursor.mark; state = r.cursor.state; left = left_by r.over (cursor_to_come r.cursor) } };
 }
 
 impl<'a> Replayer<'a> {
@@ -72,9 +72,10 @@ impl<'a> Replayer<'a> {
         match find(hart, interval, records, place) {
             None => Err(ReplayError::NoInterval { hart, interval }),
             Some(start) => Ok(Replayer {
-                course: Course {
+                cursor: IntervalCursor {
                     image: Code::new(alloc, image),
                     hart: start.hart,
+                    // The End is looked for once, here, and what it says is kept.
                     mark: next_mark(start.hart, records, start.next),
                     state: start.state,
                     loads: Loads::new(start.hart, records, start.next),
@@ -101,8 +102,8 @@ impl<'a> Replayer<'a> {
             Some(Ok(())) => Ok(None),
             Some(Err(error)) => Err(error),
             None => {
-                if self.course.state.ic < self.course.mark.ic {
-                    match self.course.go_on() {
+                if self.cursor.state.ic < self.cursor.mark.ic {
+                    match self.cursor.go_on() {
                         Ok(row) => Ok(Some(row)),
                         Err(error) => {
                             self.over = Some(Err(error));
@@ -110,7 +111,7 @@ impl<'a> Replayer<'a> {
                         }
                     }
                 } else {
-                    let (row, outcome) = self.course.end();
+                    let (row, outcome) = self.cursor.end();
                     self.over = Some(outcome);
                     match row {
                         Some(row) => Ok(Some(row)),
@@ -128,14 +129,14 @@ impl<'a> Replayer<'a> {
     pub fn mark(&self) -> EndMark
         ensures { result ≡ self.now.mark }
     {
-        self.course.mark
+        self.cursor.mark
     }
 
     /// The hart's state after the rows given so far.
     pub fn state(&self) -> &HartState
         ensures { result.now ≡ self.now.state }
     {
-        &self.course.state
+        &self.cursor.state
     }
 
     /// A replayer that stands where this one does: an equal value. It takes memory in proportion to
@@ -143,10 +144,10 @@ impl<'a> Replayer<'a> {
     pub fn copy(&self) -> Result<Replayer<'a>, AllocError>
         ensures { IfOk result (λ r. r ≡ self.now) }
     {
-        match self.course.copy() {
+        match self.cursor.copy() {
             Err(error) => Err(error),
-            Ok(course) => Ok(Replayer {
-                course,
+            Ok(cursor) => Ok(Replayer {
+                cursor,
                 over: self.over,
             }),
         }

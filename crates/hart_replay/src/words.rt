@@ -4,36 +4,36 @@ ghost use Rattle.hart_replay.specs.Pages.{word_at, word_in};
 ghost use Rattle.hart_replay.specs.Directories.{stands_at};
 
 use crate::directory::Directory;
-use crate::page::{PAGE_WORDS, Page};
+use crate::page::{PAGE_WORDS, WordPage};
 use bn_base::Addr;
 use std::alloc::{AllocError, Global};
 use std::marker::Model;
 
 /// A page with its number.
 #[derive(Drop)]
-pub(crate) struct Numbered {
+pub(crate) struct TaggedPage {
     number: u32,
-    page: Page,
+    page: WordPage,
 }
 
-impl Numbered {
+impl TaggedPage {
     // A page of which one word is known.
-    fn of_word(number: u32, at: u32, word: u32) -> Numbered
+    fn of_word(number: u32, at: u32, word: u32) -> TaggedPage
         requires { at < 64 }
         ensures number { result.number ≡ number }
         ensures word { (k : ℕ) → word_in result.page k ≡ (if k == at then Some word else None) }
     {
-        let mut page = Page::new();
+        let mut page = WordPage::new();
         page.put(at, word);
-        Numbered { number, page }
+        TaggedPage { number, page }
     }
 }
 
-impl Clone for Numbered {
+impl Clone for TaggedPage {
     ghost is_clone = { λ p q. q ≡ p };
 
-    fn clone(&self) -> Result<Numbered, AllocError> {
-        Ok(Numbered {
+    fn clone(&self) -> Result<TaggedPage, AllocError> {
+        Ok(TaggedPage {
             number: self.number,
             page: self.page.copy(),
         })
@@ -41,7 +41,7 @@ impl Clone for Numbered {
 }
 
 // Whether the page of a number stands at a place.
-fn stands_at(pages: &[Numbered], place: usize, number: u32) -> bool
+fn stands_at(pages: &[TaggedPage], place: usize, number: u32) -> bool
     ensures { result ≡ stands_at pages.now place number }
 {
     match pages.get(place) {
@@ -57,7 +57,7 @@ fn stands_at(pages: &[Numbered], place: usize, number: u32) -> bool
 #[derive(Drop)]
 pub struct Words {
     directory: Directory,
-    pages: Vec<Numbered>,
+    pages: Vec<TaggedPage>,
 }
 
 impl Model for Words {
@@ -124,7 +124,7 @@ impl Words {
             return Ok(());
         }
         let end = self.pages.len();
-        self.pages.push(Numbered::of_word(page, at, word))?;
+        self.pages.push(TaggedPage::of_word(page, at, word))?;
         self.directory.put(page, end)
     }
 

@@ -1,4 +1,4 @@
-// Whether a book agrees with what each hart did by itself.
+//! Whether a book agrees with what each hart did by itself.
 ghost use Rattle.std.specs.Prelude.{◌≡◌, ◌<◌, ℕ, true, false, List, length, slice_index_or, IfOk, IfSome, IfNone, MatchResult};
 ghost use Rattle.std.specs.Bool.{Decides};
 ghost use Rattle.bn_outside.specs.declared.turn_row.TurnRow.{TurnRow};
@@ -57,6 +57,7 @@ fn agree_all(rows: &[TurnRow], from: &Start, worked: &[Result<Worked, AllocError
 }
 
 // Whether a hart's rows are those that it gave.
+// In place, by a pass over the book for each hart: so it needs no memory.
 fn agrees_at(rows: &[TurnRow], hart: HartId, from: &Start, one: &Result<Worked, AllocError>) -> bool
     requires { IfOk one.now (λ w. IsHartsOwn (began_of from.now) hart w.mine.items) }
     ensures own { result ≡ true → IsHartsOwn (began_of from.now) hart (rows_by hart rows.now) }

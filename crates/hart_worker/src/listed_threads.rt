@@ -5,11 +5,11 @@ ghost use Rattle.bus_core.specs.Bus.{began_of};
 ghost use Rattle.hart_worker.specs.Closed.{IsClosed, IsOfRows};
 ghost use Rattle.hart_worker.specs.Taking.{IsClosedBy};
 
+use crate::hart_place::HartPlace;
 use crate::listed::Listed;
 use crate::listed_bus::{Beginning, ListedBus};
 use crate::listed_end::finish_listed;
 use crate::listed_worker::work_listed;
-use crate::own_place::OwnPlace;
 use bn_base::HartId;
 use bn_outside::{Book, Gate};
 use bus_core::{Bus, Closed};
@@ -33,7 +33,7 @@ fn run_one<J: Beginning, B: Book, G: Gate, R: Wait>(
     requires began { began_of from.now ≡ J.began }
     requires code { code.now ≡ from.now.image }
 {
-    let first = OwnPlace::first(&from.settings, &from.image, hart);
+    let first = HartPlace::first(&from.settings, &from.image, hart);
     work_listed(rt, bus, hart, code, &from.settings, first, gate)
 }
 

@@ -1,11 +1,11 @@
-// The files of the system as a store.
+//! The files of the system as a store.
 ghost use Rattle.std.specs.Prelude.{◌≡◌, ◌≤◌, None, IfOk, IsFalse, vec_len};
 ghost use Rattle.std.specs.List.{Contains};
 ghost use Rattle.host_outside.specs.declared.loaded_files.FileId.{FileId as AnyFile};
 
 use crate::limits::most_bytes;
 use crate::loaded_files::{FileId, LoadedFiles, id_of};
-use crate::streams::Reading;
+use crate::streams::ReaderSource;
 use bn_outside::{LoadError, ReadError, SaveError, Store, read_to_end};
 use std::alloc::Global;
 use std::fs::{Files, OpenFile, OpenOptions};
@@ -82,6 +82,7 @@ fn open_to_write<R: Files>(rt: &R, name: &str) -> io::Result<Opened<R::File>> {
 }
 
 // Why a file that can't be opened isn't loaded.
+// Only a name that isn't there is missing: a file without permission is a failure, and so is a folder once it is read.
 fn load_error(kind: ErrorKind) -> LoadError {
     match kind {
         ErrorKind::NotFound => LoadError::Missing,
@@ -118,7 +119,7 @@ fn read_file<F: Read + Drop>(
     ensures { IfOk result (λ bytes. vec_len bytes ≤ limit) }
 {
     let Opened { file, size, .. } = open;
-    match read_to_end(alloc, &mut Reading::new(file), size, limit) {
+    match read_to_end(alloc, &mut ReaderSource::new(file), size, limit) {
         Ok(bytes) => Ok(bytes),
         Err(ReadError::TooLong) => Err(LoadError::TooLong),
         Err(ReadError::Failed) => Err(LoadError::Failed),

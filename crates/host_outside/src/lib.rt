@@ -14,5 +14,5 @@ mod tests;
 mod words;
 
 pub use file_store::FileStore;
-pub use streams::{Reading, Writing};
+pub use streams::{ReaderSource, Writing};
 pub use words::words_of;

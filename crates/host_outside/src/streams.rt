@@ -6,22 +6,22 @@ use std::io::{Read, Write};
 
 /// A source of what a reader gives. Each read is one read of it.
 #[derive(Drop)]
-pub struct Reading<R> {
+pub struct ReaderSource<R> {
     inner: R,
     faults: u64,
 }
 
-impl<R: Read> Reading<R> {
+impl<R: Read> ReaderSource<R> {
     /// A source of this reader, with nothing counted yet.
     pub fn new(inner: R) -> Self
         ensures inner { result.inner ≡ inner }
         ensures faults { result.faults ≡ 0 }
     {
-        Reading { inner, faults: 0 }
+        ReaderSource { inner, faults: 0 }
     }
 }
 
-impl<R: Read> Source for Reading<R> {
+impl<R: Read> Source for ReaderSource<R> {
     ghost left = { λ s. R.remaining s.inner };
 
     ghost faults = { λ s. s.faults };

@@ -3,7 +3,7 @@ ghost use Rattle.std.specs.Prelude.{◌<◌, length};
 
 use crate::file_store::FileStore;
 use crate::limits::most_in;
-use crate::streams::{Reading, Writing};
+use crate::streams::{ReaderSource, Writing};
 use crate::words::words_of;
 use bn_outside::{Failed, LoadError, SaveError, Source, Store, read_to_end, send_all};
 use std::alloc::{AllocError, Global};
@@ -182,7 +182,7 @@ fn a_stream_is_loaded_and_then_saved(rt: HostRuntime) {
 
 // Whether a source gives the first byte of a text, and then its others.
 fn text_is_read(alloc: Global) -> bool {
-    let mut source = Reading::new(b"text".as_slice());
+    let mut source = ReaderSource::new(b"text".as_slice());
     let first = source.read(&mut [0]) == Ok(1);
     match read_to_end(alloc, &mut source, 0, 3) {
         Ok(rest) => first && rest.as_slice() == b"ext".as_slice(),
@@ -193,7 +193,7 @@ fn text_is_read(alloc: Global) -> bool {
 // Whether a folder can be opened, and not read.
 fn folder_is_not_read<R: Files>(rt: &R, folder: &str) -> bool {
     match fs::open(rt, folder) {
-        Ok(file) => Reading::new(file).read(&mut [0]) == Err(Failed),
+        Ok(file) => ReaderSource::new(file).read(&mut [0]) == Err(Failed),
         Err(_) => false,
     }
 }

@@ -12,7 +12,7 @@ use Rattle.log_record.specs.declared.record.Record.TheVariants.{Header, FirstLoa
 use Rattle.hart_replay.specs.Replay.{Interval, Replayed, Done, interval_of, replayed}
 use Rattle.hart_replay.specs.Coming.{after_row}
 use Rattle.joint_replay.specs.Points.{intervals_in}
-use Rattle.joint_replay.specs.Lanes.{Course, Lane, Item, Passing, Doing, Ending, with_course, courses_of, lane_of, row_given, lane_step}
+use Rattle.joint_replay.specs.Lanes.{Cursor, Lane, Item, Passing, Doing, Ending, with_cursor, cursors_of, lane_of, row_given, lane_step}
 use Rattle.joint_replay.specs.Joining.{Joining, Taken, Walk, begun, longer, lanes_from}
 use Rattle.joint_replay.specs.Orders.{IsBegun}
 use Rattle.replay_laws.specs.Law.{EndsSuffice, IsWhole}
@@ -78,13 +78,13 @@ has_lane i records (suc n) k (suc h) low = has_lane i records n (k + 1) h (omega
 
 -- ---- what is left of a hart's rows
 
-abbrev pub rows_left : List Course → List Row
+abbrev pub rows_left : List Cursor → List Row
 rows_left [] = []
 rows_left (c ∷ cs) = c.left.rows ++ rows_left cs
 
 module _ (r : Recording) (records : List Record) where
   -- a retained interval under way: past its rows so far those are left that the run has in it
-  pub record IsOf (h : ℕ) (c : Course) : Type 0 where
+  pub record IsOf (h : ℕ) (c : Cursor) : Type 0 where
     pub interval : Interval
     pub found : interval_of h c.number records ≡ Some interval
     pub done : c.left.outcome ≡ Done
@@ -92,7 +92,7 @@ module _ (r : Recording) (records : List Record) where
     pub rows : interval_rows r h c.number ≡ past ++ c.left.rows
     pub state : c.state ≡ state_after r.program interval.start past
 
-  abbrev pub AreOf : ℕ → List Course → Type 0
+  abbrev pub AreOf : ℕ → List Cursor → Type 0
   AreOf h [] = Unit {0}
   AreOf h (c ∷ cs) = IsOf h c × AreOf h cs
 
@@ -111,8 +111,8 @@ module _ (r : Recording) (records : List Record) where
     pub records_are : w.now.records ≡ records
     pub refused : w.now.refused ≡ None
     pub there : (h : ℕ) → h < r.settings.harts → (lane : Lane) × (slice_get w.now.lanes h ≡ Some lane)
-    pub courses : (h : ℕ) (lane : Lane) → slice_get w.now.lanes h ≡ Some lane → AreOf h lane.courses
-    pub rows : (h : ℕ) (lane : Lane) → slice_get w.now.lanes h ≡ Some lane → rows_done h w.taken ++ rows_left lane.courses ≡ flat_map (interval_rows r h) (intervals_in h records)
+    pub cursors : (h : ℕ) (lane : Lane) → slice_get w.now.lanes h ≡ Some lane → AreOf h lane.cursors
+    pub rows : (h : ℕ) (lane : Lane) → slice_get w.now.lanes h ≡ Some lane → rows_done h w.taken ++ rows_left lane.cursors ≡ flat_map (interval_rows r h) (intervals_in h records)
     pub taken : AreTaken w.taken
 
   module _ (suffice : EndsSuffice) (rows_are : IntervalRowsAreOfTurns) (log : IsLogOf r records) where
@@ -125,20 +125,20 @@ module _ (r : Recording) (records : List Record) where
         let limit = setting.limit_high in
         suffice r.settings r.program r.input r.turns h n (omega (arith, limit)) whole records log.end v e
 
-    first_courses : (h : ℕ) (ns : List ℕ) → AllByRecursion (λ n. is_some (interval_of h n records) ≡ true) ns
-        → AreOf h (courses_of r.program records h ns) × (rows_left (courses_of r.program records h ns) ≡ flat_map (interval_rows r h) ns)
-    first_courses h [] a = (tt, refl)
-    first_courses h (n ∷ ns) a = by (interval_of h n records) refl a.0 (first_courses h ns a.1)
+    first_cursors : (h : ℕ) (ns : List ℕ) → AllByRecursion (λ n. is_some (interval_of h n records) ≡ true) ns
+        → AreOf h (cursors_of r.program records h ns) × (rows_left (cursors_of r.program records h ns) ≡ flat_map (interval_rows r h) ns)
+    first_cursors h [] a = (tt, refl)
+    first_cursors h (n ∷ ns) a = by (interval_of h n records) refl a.0 (first_cursors h ns a.1)
       where
         by : (o : Option Interval) → interval_of h n records ≡ o → is_some o ≡ true
-            → AreOf h (courses_of r.program records h ns) × (rows_left (courses_of r.program records h ns) ≡ flat_map (interval_rows r h) ns)
-            → AreOf h (with_course o n (replayed r.program records h n) (courses_of r.program records h ns))
-            × (rows_left (with_course o n (replayed r.program records h n) (courses_of r.program records h ns)) ≡ interval_rows r h n ++ flat_map (interval_rows r h) ns)
+            → AreOf h (cursors_of r.program records h ns) × (rows_left (cursors_of r.program records h ns) ≡ flat_map (interval_rows r h) ns)
+            → AreOf h (with_cursor o n (replayed r.program records h n) (cursors_of r.program records h ns))
+            × (rows_left (with_cursor o n (replayed r.program records h n) (cursors_of r.program records h ns)) ≡ interval_rows r h n ++ flat_map (interval_rows r h) ns)
         by None e s rest = absurd cc
         by (Some v) e s rest =
             let same = is_replayed h n v e in (
               (record { interval = v; found = e; done = ap (λ (x : Replayed). x.outcome) same; past = []; rows = sym (ap (λ (x : Replayed). x.rows) same); state = refl }, rest.0),
-              ap (λ (x : Replayed). x.rows ++ rows_left (courses_of r.program records h ns)) same ∙ ap (λ (rows : List Row). interval_rows r h n ++ rows) rest.1,
+              ap (λ (x : Replayed). x.rows ++ rows_left (cursors_of r.program records h ns)) same ∙ ap (λ (rows : List Row). interval_rows r h n ++ rows) rest.1,
             )
 
     at_first : IsFollowed (begun (begin r records))
@@ -147,8 +147,8 @@ module _ (r : Recording) (records : List Record) where
       records_are = refl;
       refused = refl;
       there = λ h low. has_lane r.program records r.settings.harts 0 h low;
-      courses = λ h lane e. subst (λ (l : Lane). AreOf h l.courses) (sym (own h lane e)) (first_courses h (intervals_in h records) (all_there records h)).0;
-      rows = λ h lane e. ap (λ (l : Lane). rows_left l.courses) (own h lane e) ∙ (first_courses h (intervals_in h records) (all_there records h)).1;
+      cursors = λ h lane e. subst (λ (l : Lane). AreOf h l.cursors) (sym (own h lane e)) (first_cursors h (intervals_in h records) (all_there records h)).0;
+      rows = λ h lane e. ap (λ (l : Lane). rows_left l.cursors) (own h lane e) ∙ (first_cursors h (intervals_in h records) (all_there records h)).1;
       taken = tt;
     }
       where
@@ -157,13 +157,13 @@ module _ (r : Recording) (records : List Record) where
 
     -- ---- a step of one hart
 
-    -- the courses go on, its row is one of the run, and it is the first of those that were left
+    -- the cursors go on, its row is one of the run, and it is the first of those that were left
     record Goes (h : ℕ) (lane : Lane) (item : Item) (next : Lane) : Type 0 where
-      courses : AreOf h next.courses
+      cursors : AreOf h next.cursors
       item_of : IsItemOf h item
-      rows : rows_left lane.courses ≡ row_in item ++ rows_left next.courses
+      rows : rows_left lane.cursors ≡ row_in item ++ rows_left next.cursors
 
-    one_more : (h : ℕ) (c : Course) (row : Row) (rs : List Row) → c.left.rows ≡ row ∷ rs → IsOf h c → IsOf h (row_given r.program c row rs)
+    one_more : (h : ℕ) (c : Cursor) (row : Row) (rs : List Row) → c.left.rows ≡ row ∷ rs → IsOf h c → IsOf h (row_given r.program c row rs)
     one_more h c row rs e o = record {
       interval = o.interval;
       found = o.found;
@@ -173,21 +173,21 @@ module _ (r : Recording) (records : List Record) where
       state = ap (λ (s : HartState). after_row r.program s row) o.state ∙ sym (after_append r.program o.interval.start o.past (row ∷ []));
     }
 
-    row_of_run : (h : ℕ) (c : Course) (row : Row) (rs : List Row) → c.left.rows ≡ row ∷ rs → IsOf h c → IsRowOfTurn r.settings r.program r.input r.turns h c.state row
+    row_of_run : (h : ℕ) (c : Cursor) (row : Row) (rs : List Row) → c.left.rows ≡ row ∷ rs → IsOf h c → IsRowOfTurn r.settings r.program r.input r.turns h c.state row
     row_of_run h c row rs e o =
         rows_are r.settings r.program r.input r.turns h c.number log.recording.setting whole records log.end o.interval o.found c.state row
         (record { front = o.past; back = rs; rows_are = o.rows ∙ ap (λ x. o.past ++ x) e; state = o.state })
 
-    goes : (h : ℕ) (lane : Lane) → AreOf h lane.courses → StepOf r.program (Goes h lane) lane
+    goes : (h : ℕ) (lane : Lane) → AreOf h lane.cursors → StepOf r.program (Goes h lane) lane
     goes h lane all = record {
-      passing = λ p ps e. record { courses = all; item_of = tt; rows = refl };
+      passing = λ p ps e. record { cursors = all; item_of = tt; rows = refl };
       doing = λ c cs row rs e f g. (let here : AreOf h (c ∷ cs) = subst (AreOf h) f all in record {
-        courses = (one_more h c row rs g here.0, here.1);
+        cursors = (one_more h c row rs g here.0, here.1);
         item_of = row_of_run h c row rs g here.0;
         rows = ap rows_left f ∙ ap (λ x. x ++ rows_left cs) g;
       });
       ending = λ c cs e f g d. (let here : AreOf h (c ∷ cs) = subst (AreOf h) f all in record {
-        courses = here.1;
+        cursors = here.1;
         item_of = tt;
         rows = ap rows_left f ∙ ap (λ x. x ++ rows_left cs) g;
       });
@@ -195,7 +195,7 @@ module _ (r : Recording) (records : List Record) where
 
     module _ (w : Walk) (h : ℕ) (x : Item × Joining) (f : IsFollowed w) (m : IsMove w.now h x) where
       step_goes : Goes h m.lane x.0 m.next
-      step_goes = by_kind r.program (Goes h m.lane) m.lane (goes h m.lane (f.courses h m.lane m.at)) x.0 m.next (ap (λ (i : Program). lane_step i m.lane) (sym f.program) ∙ m.step)
+      step_goes = by_kind r.program (Goes h m.lane) m.lane (goes h m.lane (f.cursors h m.lane m.at)) x.0 m.next (ap (λ (i : Program). lane_step i m.lane) (sym f.program) ∙ m.step)
 
       lanes_are : x.1.lanes ≡ slice_set w.now.lanes h m.next
       lanes_are = ap (λ (j : Joining). j.lanes) m.is
@@ -229,12 +229,12 @@ module _ (r : Recording) (records : List Record) where
           | inl same ↦ (m.next, subst (λ (n : ℕ). slice_get x.1.lanes n ≡ Some m.next) same.1 same_lane)
           | inr apart ↦ (let was = f.there k low in (was.0, other_lane k apart.1 ∙ was.1))
         ];
-        courses = after_lane (λ k lane. AreOf k lane.courses) step_goes.courses (λ k lane apart e. f.courses k lane e);
-        rows = after_lane (λ k lane. rows_done k (record { hart = h; item = x.0 } ∷ w.taken) ++ rows_left lane.courses ≡ flat_map (interval_rows r k) (intervals_in k records))
-            (ap (λ y. y ++ rows_left m.next.courses) own_rows
-            ∙ (append_assoc (rows_done h w.taken) (row_in x.0) (rows_left m.next.courses)
+        cursors = after_lane (λ k lane. AreOf k lane.cursors) step_goes.cursors (λ k lane apart e. f.cursors k lane e);
+        rows = after_lane (λ k lane. rows_done k (record { hart = h; item = x.0 } ∷ w.taken) ++ rows_left lane.cursors ≡ flat_map (interval_rows r k) (intervals_in k records))
+            (ap (λ y. y ++ rows_left m.next.cursors) own_rows
+            ∙ (append_assoc (rows_done h w.taken) (row_in x.0) (rows_left m.next.cursors)
             ∙ (ap (λ y. rows_done h w.taken ++ y) (sym step_goes.rows) ∙ f.rows h m.lane m.at)))
-            (λ k lane apart e. ap (λ y. y ++ rows_left lane.courses) (other_rows k apart) ∙ f.rows k lane e);
+            (λ k lane apart e. ap (λ y. y ++ rows_left lane.cursors) (other_rows k apart) ∙ f.rows k lane e);
         taken = (step_goes.item_of, f.taken);
       }
 

@@ -6,7 +6,7 @@ use Rattle.hart_replay.specs.declared.error.ReplayError.{ReplayError}
 use Rattle.hart_replay.specs.Replay.{Outcome, Done, Refused}
 use Rattle.joint_replay.specs.declared.kinds.Readiness.{Readiness}
 use Rattle.joint_replay.specs.declared.kinds.Readiness.TheVariants as is
-use Rattle.joint_replay.specs.Lanes.{Course, Lane, Item, Passing, Doing, Ending, row_given, course_step, lane_step}
+use Rattle.joint_replay.specs.Lanes.{Cursor, Lane, Item, Passing, Doing, Ending, row_given, cursor_step, lane_step}
 use Rattle.joint_replay.specs.Memory.{memory_after}
 use Rattle.joint_replay.specs.Joining.{Joining, Walk, longer, readiness_of, move}
 use Rattle.joint_replay.specs.Orders.{ready_step, walk_on}
@@ -84,11 +84,11 @@ along P keeps w (h ∷ hs) p v e = by (ready_step w.now h) refl (λ x q f. along
 -- ---- the three steps of a hart
 
 pub record StepOf (i : Program) (P : Item → Lane → Type 0) (lane : Lane) : Type 0 where
-  pub passing : (p : ℕ) (ps : List ℕ) → lane.points ≡ p ∷ ps → P (Passing p) (record { points = ps; courses = lane.courses })
-  pub doing : (c : Course) (cs : List Course) (r : Row) (rs : List Row) → lane.points ≡ [] → lane.courses ≡ c ∷ cs → c.left.rows ≡ r ∷ rs
-      → P (Doing c.state r) (record { points = []; courses = row_given i c r rs ∷ cs })
-  pub ending : (c : Course) (cs : List Course) → lane.points ≡ [] → lane.courses ≡ c ∷ cs → c.left.rows ≡ [] → c.left.outcome ≡ Done
-      → P (Ending c.number c.mark) (record { points = []; courses = cs })
+  pub passing : (p : ℕ) (ps : List ℕ) → lane.points ≡ p ∷ ps → P (Passing p) (record { points = ps; cursors = lane.cursors })
+  pub doing : (c : Cursor) (cs : List Cursor) (r : Row) (rs : List Row) → lane.points ≡ [] → lane.cursors ≡ c ∷ cs → c.left.rows ≡ r ∷ rs
+      → P (Doing c.state r) (record { points = []; cursors = row_given i c r rs ∷ cs })
+  pub ending : (c : Cursor) (cs : List Cursor) → lane.points ≡ [] → lane.cursors ≡ c ∷ cs → c.left.rows ≡ [] → c.left.outcome ≡ Done
+      → P (Ending c.number c.mark) (record { points = []; cursors = cs })
 
 module _ (i : Program) (P : Item → Lane → Type 0) (lane : Lane) (does : StepOf i P lane) (item : Item) (next : Lane) where
   done : (x : Item × Lane) → P x.0 x.1 → ◌≡◌ {A = Option (Result (Item × Lane) ReplayError)} (Some (Ok x)) (Some (Ok (item, next))) → P item next
@@ -100,31 +100,31 @@ module _ (i : Program) (P : Item → Lane → Type 0) (lane : Lane) (does : Step
   refuses : (g : ReplayError) → ◌≡◌ {A = Option (Result (Item × Lane) ReplayError)} (Some (Err g)) (Some (Ok (item, next))) → ⊥
   refuses g e = cc
 
-  by_outcome : (c : Course) (cs : List Course) → lane.points ≡ [] → lane.courses ≡ c ∷ cs → c.left.rows ≡ [] → (o : Outcome) → c.left.outcome ≡ o
-      → Some (elim o as (λ y. Result (Item × Lane) ReplayError) [ Done ↦ Ok (Ending c.number c.mark, record { points = []; courses = cs }) | Refused g ↦ Err g ]) ≡ Some (Ok (item, next)) → P item next
-  by_outcome c cs e f g Done o k = done (Ending c.number c.mark, record { points = []; courses = cs }) (does.ending c cs e f g o) k
+  by_outcome : (c : Cursor) (cs : List Cursor) → lane.points ≡ [] → lane.cursors ≡ c ∷ cs → c.left.rows ≡ [] → (o : Outcome) → c.left.outcome ≡ o
+      → Some (elim o as (λ y. Result (Item × Lane) ReplayError) [ Done ↦ Ok (Ending c.number c.mark, record { points = []; cursors = cs }) | Refused g ↦ Err g ]) ≡ Some (Ok (item, next)) → P item next
+  by_outcome c cs e f g Done o k = done (Ending c.number c.mark, record { points = []; cursors = cs }) (does.ending c cs e f g o) k
   by_outcome c cs e f g (Refused z) o k = absurd (refuses z k)
 
-  by_rows : (c : Course) (cs : List Course) → lane.points ≡ [] → lane.courses ≡ c ∷ cs → (rows : List Row) → c.left.rows ≡ rows
+  by_rows : (c : Cursor) (cs : List Cursor) → lane.points ≡ [] → lane.cursors ≡ c ∷ cs → (rows : List Row) → c.left.rows ≡ rows
       → Some (elim rows as (λ y. Result (Item × Lane) ReplayError) [
-        | r ∷ rs ↦ Ok (Doing c.state r, record { points = []; courses = row_given i c r rs ∷ cs })
-        | [] ↦ elim c.left.outcome as (λ y. Result (Item × Lane) ReplayError) [ Done ↦ Ok (Ending c.number c.mark, record { points = []; courses = cs }) | Refused g ↦ Err g ]
+        | r ∷ rs ↦ Ok (Doing c.state r, record { points = []; cursors = row_given i c r rs ∷ cs })
+        | [] ↦ elim c.left.outcome as (λ y. Result (Item × Lane) ReplayError) [ Done ↦ Ok (Ending c.number c.mark, record { points = []; cursors = cs }) | Refused g ↦ Err g ]
       ]) ≡ Some (Ok (item, next)) → P item next
   by_rows c cs e f [] g k = by_outcome c cs e f g c.left.outcome refl k
-  by_rows c cs e f (r ∷ rs) g k = done (Doing c.state r, record { points = []; courses = row_given i c r rs ∷ cs }) (does.doing c cs r rs e f g) k
+  by_rows c cs e f (r ∷ rs) g k = done (Doing c.state r, record { points = []; cursors = row_given i c r rs ∷ cs }) (does.doing c cs r rs e f g) k
 
-  by_courses : lane.points ≡ [] → (courses : List Course) → lane.courses ≡ courses
-      → elim courses as (λ y. Option (Result (Item × Lane) ReplayError)) [ [] ↦ None | c ∷ cs ↦ Some (course_step i c cs) ] ≡ Some (Ok (item, next)) → P item next
-  by_courses e [] f k = absurd (not_some (Ok (item, next)) k)
-  by_courses e (c ∷ cs) f k = by_rows c cs e f c.left.rows refl k
+  by_cursors : lane.points ≡ [] → (cursors : List Cursor) → lane.cursors ≡ cursors
+      → elim cursors as (λ y. Option (Result (Item × Lane) ReplayError)) [ [] ↦ None | c ∷ cs ↦ Some (cursor_step i c cs) ] ≡ Some (Ok (item, next)) → P item next
+  by_cursors e [] f k = absurd (not_some (Ok (item, next)) k)
+  by_cursors e (c ∷ cs) f k = by_rows c cs e f c.left.rows refl k
 
   by_points : (points : List ℕ) → lane.points ≡ points
       → elim points as (λ y. Option (Result (Item × Lane) ReplayError)) [
-        | p ∷ ps ↦ Some (Ok (Passing p, record { points = ps; courses = lane.courses }))
-        | [] ↦ elim lane.courses as (λ y. Option (Result (Item × Lane) ReplayError)) [ [] ↦ None | c ∷ cs ↦ Some (course_step i c cs) ]
+        | p ∷ ps ↦ Some (Ok (Passing p, record { points = ps; cursors = lane.cursors }))
+        | [] ↦ elim lane.cursors as (λ y. Option (Result (Item × Lane) ReplayError)) [ [] ↦ None | c ∷ cs ↦ Some (cursor_step i c cs) ]
       ] ≡ Some (Ok (item, next)) → P item next
-  by_points [] e k = by_courses e lane.courses refl k
-  by_points (p ∷ ps) e k = done (Passing p, record { points = ps; courses = lane.courses }) (does.passing p ps e) k
+  by_points [] e k = by_cursors e lane.cursors refl k
+  by_points (p ∷ ps) e k = done (Passing p, record { points = ps; cursors = lane.cursors }) (does.passing p ps e) k
 
   -- what each of the three does, the hart's step does
   pub by_kind : lane_step i lane ≡ Some (Ok (item, next)) → P item next

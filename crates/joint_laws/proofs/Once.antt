@@ -9,11 +9,11 @@ use Rattle.log_record.specs.declared.record.Record.{Record}
 use Rattle.hart_replay.specs.Coming.{after_row}
 use Rattle.joint_replay.specs.declared.kinds.Coming.{Coming}
 use Rattle.joint_replay.specs.declared.kinds.Coming.TheVariants.{RowAt, EndAt}
-use Rattle.joint_replay.specs.Lanes.{count_of, has_row, is_within, Course, Lane, Item, Doing, row_given}
+use Rattle.joint_replay.specs.Lanes.{count_of, has_row, is_within, Cursor, Lane, Item, Doing, row_given}
 use Rattle.joint_replay.specs.Joining.{Joining, Taken, Walk, begun, longer, is_passed}
 use Rattle.joint_replay.specs.Orders.{IsBegun}
 use Rattle.joint_replay.specs.Counts.{RowsFrom}
-use Rattle.joint_replay.specs.Ways.{GoesOn, AreFrom, AreCourses, IsLane, last_count, InCourses, IsRowAt, Passes, PassesIf}
+use Rattle.joint_replay.specs.Ways.{GoesOn, AreFrom, AreCursors, IsLane, last_count, InCursors, IsRowAt, Passes, PassesIf}
 use Rattle.joint_replay.specs.Sound.{IsSound, SoundIf}
 use Rattle.joint_replay.specs.Chains.{Did, IsLeft, IsToDo}
 use Rattle.joint_replay.specs.Laws.{StepsPass, SoundnessStays}
@@ -25,8 +25,8 @@ use Rattle.joint_laws.proofs.Moves.{IsMove, StepOf, along, by_kind}
 
 -- what is to do after it was to do before; what it did was to do, and wasn't passed but is now
 record IsFresh (old : Lane) (item : Item) (next : Lane) : Type 0 where
-  back : (k : ℕ) → InCourses next.courses k → InCourses old.courses k
-  to_do : (k : ℕ) → IsRowAt k item → InCourses old.courses k
+  back : (k : ℕ) → InCursors next.cursors k → InCursors old.cursors k
+  to_do : (k : ℕ) → IsRowAt k item → InCursors old.cursors k
   before : (k : ℕ) → IsRowAt k item → is_passed (Some old) k ≡ true → ⊥
   after : (k : ℕ) → IsRowAt k item → is_passed (Some next) k ≡ true
 
@@ -45,31 +45,31 @@ or_left : (a b : Bool) → (a || b) ≡ false → a ≡ false
 or_left true b e = e
 or_left false b e = refl
 
-passed_by : (c : Course) (k : ℕ) (b : Bool) → (b ≡ false → c.mark.ic ≡ c.state.ic)
+passed_by : (c : Cursor) (k : ℕ) (b : Bool) → (b ≡ false → c.mark.ic ≡ c.state.ic)
     → elim (elim b as (λ x. Option Coming) [ true ↦ Some (RowAt c.state.ic) | false ↦ Some (EndAt c.mark.ic) ]) as (λ x. Bool) [ None ↦ true | Some d ↦ nat_lt k (count_of d) ] ≡ nat_lt k c.state.ic
 passed_by c k true e = refl
 passed_by c k false e = ap (nat_lt k) (e refl)
 
 module _ (i : Program) where
-  course_passed : (c : Course) (cs : List Course) (k : ℕ) → c.state.ic ≤ c.mark.ic → is_passed (Some (record { points = []; courses = c ∷ cs })) k ≡ nat_lt k c.state.ic
-  course_passed c cs k low =
+  cursor_passed : (c : Cursor) (cs : List Cursor) (k : ℕ) → c.state.ic ≤ c.mark.ic → is_passed (Some (record { points = []; cursors = c ∷ cs })) k ≡ nat_lt k c.state.ic
+  cursor_passed c cs k low =
       passed_by c k (has_row c) (λ e. let past = false_le c.state.ic c.mark.ic (or_left (is_within c) (nat_lt 16 c.mark.reason && not c.faulted) e) in omega (arith, past, low))
 
-  first_goes : (c : Course) (cs : List Course) → AreFrom i c cs → GoesOn i c
+  first_goes : (c : Cursor) (cs : List Cursor) → AreFrom i c cs → GoesOn i c
   first_goes c [] a = a
   first_goes c (d ∷ ds) a = a.0
 
-  last_up : (c : Course) (cs : List Course) → AreFrom i c cs → c.mark.ic ≤ last_count c cs
+  last_up : (c : Cursor) (cs : List Cursor) → AreFrom i c cs → c.mark.ic ≤ last_count c cs
   last_up c [] a = omega arith
   last_up c (d ∷ ds) a = let rest = last_up d ds a.2 in let goes = (first_goes d ds a.2).0 in omega (arith, rest, goes, a.1)
 
   -- a hart at a row
-  module _ (c : Course) (cs : List Course) (row : Row) (rs : List Row) (all : AreFrom i c cs) (rows : c.left.rows ≡ row ∷ rs) where
+  module _ (c : Cursor) (cs : List Cursor) (row : Row) (rs : List Row) (all : AreFrom i c cs) (rows : c.left.rows ≡ row ∷ rs) where
     abbrev old_at : Lane
-    old_at = record { points = []; courses = c ∷ cs }
+    old_at = record { points = []; cursors = c ∷ cs }
 
     abbrev next_at : Lane
-    next_at = record { points = []; courses = row_given i c row rs ∷ cs }
+    next_at = record { points = []; cursors = row_given i c row rs ∷ cs }
 
     from : RowsFrom i c.mark.ic c.left.outcome c.state (row ∷ rs)
     from = subst (RowsFrom i c.mark.ic c.left.outcome c.state) rows (first_goes c cs all).1
@@ -84,10 +84,10 @@ module _ (i : Program) where
       | inr high ↦ (let same = ap (λ (s : HartState). s.ic) (from.2 high).1 in omega (arith, same))
     ]
 
-    last_same : (d : Course) → d.mark ≡ c.mark → last_count d cs ≡ last_count c cs
+    last_same : (d : Cursor) → d.mark ≡ c.mark → last_count d cs ≡ last_count c cs
     last_same d e = by cs
       where
-        by : (ds : List Course) → last_count d ds ≡ last_count c ds
+        by : (ds : List Cursor) → last_count d ds ≡ last_count c ds
         by [] = ap (λ m. m.ic) e
         by (x ∷ xs) = refl
 
@@ -95,12 +95,12 @@ module _ (i : Program) where
     row_fresh = record {
       back = λ k h. (let low = h.0 in let up = higher in let last = last_same (row_given i c row rs) refl in let high = h.1 in (omega (arith, low, up), omega (arith, high, last)));
       to_do = λ k d. (let at : c.state.ic ≡ k = sym from.0 ∙ d.0 in let low = within d.1 in let up = last_up c cs all in (omega (arith, at), omega (arith, at, low, up)));
-      before = λ k d e. (let at : c.state.ic ≡ k = sym from.0 ∙ d.0 in let low = true_lt k c.state.ic (sym (course_passed c cs k (first_goes c cs all).0) ∙ e) in omega (arith, at, low));
+      before = λ k d e. (let at : c.state.ic ≡ k = sym from.0 ∙ d.0 in let low = true_lt k c.state.ic (sym (cursor_passed c cs k (first_goes c cs all).0) ∙ e) in omega (arith, at, low));
       after = λ k d. (let at : c.state.ic ≡ k = sym from.0 ∙ d.0 in let low = within d.1 in let up = (from.1 low).1 in
-          course_passed (row_given i c row rs) cs k (omega (arith, low, up)) ∙ lt_true k (after_row i c.state row).ic (omega (arith, at, up)));
+          cursor_passed (row_given i c row rs) cs k (omega (arith, low, up)) ∙ lt_true k (after_row i c.state row).ic (omega (arith, at, up)));
     }
 
-  end_back : (c : Course) (cs : List Course) → AreFrom i c cs → (k : ℕ) → InCourses cs k → InCourses (c ∷ cs) k
+  end_back : (c : Cursor) (cs : List Cursor) → AreFrom i c cs → (k : ℕ) → InCursors cs k → InCursors (c ∷ cs) k
   end_back c [] all k h = absurd h
   end_back c (d ∷ ds) all k h = let low = all.0.0 in let same = all.1 in let from = h.0 in (omega (arith, low, same, from), h.1)
 
@@ -108,18 +108,18 @@ module _ (i : Program) where
     abbrev Fresh : Item → Lane → Type 0
     Fresh item next = IsFresh lane item next
 
-    lane_at : (c : Course) (cs : List Course) → lane.points ≡ [] → lane.courses ≡ c ∷ cs → ◌≡◌ {A = Lane} (record { points = []; courses = c ∷ cs }) lane
-    lane_at c cs e f = ap (λ ps. record { points = ps; courses = c ∷ cs }) (sym e) ∙ ap (λ ds. record { points = lane.points; courses = ds }) (sym f)
+    lane_at : (c : Cursor) (cs : List Cursor) → lane.points ≡ [] → lane.cursors ≡ c ∷ cs → ◌≡◌ {A = Lane} (record { points = []; cursors = c ∷ cs }) lane
+    lane_at c cs e f = ap (λ ps. record { points = ps; cursors = c ∷ cs }) (sym e) ∙ ap (λ ds. record { points = lane.points; cursors = ds }) (sym f)
 
-    from_first : (c : Course) (cs : List Course) → lane.courses ≡ c ∷ cs → AreFrom i c cs
-    from_first c cs f = subst (AreCourses i) f is.courses
+    from_first : (c : Cursor) (cs : List Cursor) → lane.cursors ≡ c ∷ cs → AreFrom i c cs
+    from_first c cs f = subst (AreCursors i) f is.cursors
 
     fresh : StepOf i Fresh lane
     fresh = record {
       passing = λ p ps e. record { back = λ k h. h; to_do = λ k d. absurd d; before = λ k d. absurd d; after = λ k d. absurd d };
-      doing = λ c cs row rs e f g. subst (λ (l : Lane). IsFresh l (Doing c.state row) (record { points = []; courses = row_given i c row rs ∷ cs })) (lane_at c cs e f) (row_fresh c cs row rs (from_first c cs f) g);
+      doing = λ c cs row rs e f g. subst (λ (l : Lane). IsFresh l (Doing c.state row) (record { points = []; cursors = row_given i c row rs ∷ cs })) (lane_at c cs e f) (row_fresh c cs row rs (from_first c cs f) g);
       ending = λ c cs e f g d. record {
-        back = λ k h. subst (λ ds. InCourses ds k) (sym f) (end_back c cs (from_first c cs f) k h);
+        back = λ k h. subst (λ ds. InCursors ds k) (sym f) (end_back c cs (from_first c cs f) k h);
         to_do = λ k d. absurd d;
         before = λ k d. absurd d;
         after = λ k d. absurd d;

@@ -10,9 +10,9 @@ use Rattle.race_laws.specs.Runs.{OfLists}
 use Rattle.race_laws.specs.Since.{IsSinceHeader}
 use Rattle.race_laws.specs.Laws.{HasOrder, OrdersConflicts, ReplayedAreSinceHeaders}
 use Rattle.joint_replay.specs.Points.{intervals_in}
-use Rattle.joint_replay.specs.Lanes.{with_course, courses_of, lane_of}
+use Rattle.joint_replay.specs.Lanes.{with_cursor, cursors_of, lane_of}
 use Rattle.joint_replay.specs.Joining.{lanes_from}
-use Rattle.joint_replay.specs.Ways.{InCourses}
+use Rattle.joint_replay.specs.Ways.{InCursors}
 use Rattle.joint_replay.specs.Laws.{ChainsAreKept}
 use Rattle.joint_replay.specs.Chains.{Leads, IsLeft, one as lead_one}
 use Rattle.joint_laws.specs.Chains.{ChainsLead}
@@ -21,20 +21,20 @@ use Rattle.joint_laws.specs.Laws.{BeginsSound, KeepsOrder}
 use Rattle.joint_laws.proofs.ByCount.{pair_at}
 
 -- an instruction that is to do is of an interval that can be replayed
-found : (i : Program) (records : List Record) (h : ℕ) (ns : List ℕ) (k : ℕ) → InCourses (courses_of i records h ns) k → (n : ℕ) × (v : Interval) × (interval_of h n records ≡ Some v) × (v.start.ic ≤ k)
+found : (i : Program) (records : List Record) (h : ℕ) (ns : List ℕ) (k : ℕ) → InCursors (cursors_of i records h ns) k → (n : ℕ) × (v : Interval) × (interval_of h n records ≡ Some v) × (v.start.ic ≤ k)
 found i records h [] k e = absurd e
 found i records h (n ∷ ns) k e = by (interval_of h n records) refl e (found i records h ns k)
   where
-    by : (o : Option Interval) → interval_of h n records ≡ o → InCourses (with_course o n (replayed i records h n) (courses_of i records h ns)) k
-        → (InCourses (courses_of i records h ns) k → (n : ℕ) × (v : Interval) × (interval_of h n records ≡ Some v) × (v.start.ic ≤ k)) → (n : ℕ) × (v : Interval) × (interval_of h n records ≡ Some v) × (v.start.ic ≤ k)
+    by : (o : Option Interval) → interval_of h n records ≡ o → InCursors (with_cursor o n (replayed i records h n) (cursors_of i records h ns)) k
+        → (InCursors (cursors_of i records h ns) k → (n : ℕ) × (v : Interval) × (interval_of h n records ≡ Some v) × (v.start.ic ≤ k)) → (n : ℕ) × (v : Interval) × (interval_of h n records ≡ Some v) × (v.start.ic ≤ k)
     by None is e rest = rest e
     by (Some v) is e rest = (n, v, is, e.0)
 
 -- and of its hart's own lane
-own_lane : (i : Program) (records : List Record) (n k h c : ℕ) → IsLeft (slice_get (lanes_from i records k n) h) c → InCourses (lane_of i records (k + h)).courses c
+own_lane : (i : Program) (records : List Record) (n k h c : ℕ) → IsLeft (slice_get (lanes_from i records k n) h) c → InCursors (lane_of i records (k + h)).cursors c
 own_lane i records zero k h c e = absurd e
-own_lane i records (suc n) k zero c e = let same : k ≡ k + 0 = omega arith in subst (λ m. InCourses (lane_of i records m).courses c) same e
-own_lane i records (suc n) k (suc h) c e = let same : k + 1 + h ≡ k + suc h = omega arith in subst (λ m. InCourses (lane_of i records m).courses c) same (own_lane i records n (k + 1) h c e)
+own_lane i records (suc n) k zero c e = let same : k ≡ k + 0 = omega arith in subst (λ m. InCursors (lane_of i records m).cursors c) same e
+own_lane i records (suc n) k (suc h) c e = let same : k + 1 + h ≡ k + suc h = omega arith in subst (λ m. InCursors (lane_of i records m).cursors c) same (own_lane i records n (k + 1) h c e)
 
 pub keeps_order : BeginsSound → ChainsAreKept → OfLists HasOrder → OfLists OrdersConflicts → ReplayedAreSinceHeaders → ChainsLead → OfBeginnings KeepsOrder
 keeps_order starts chains in_order conflicts since leads r records order w log b word m n y c retained did =
@@ -46,7 +46,7 @@ keeps_order starts chains in_order conflicts since leads r records order w log b
     let is_since : IsSinceHeader records (points_of r) m =
     (let lane = own_lane r.program records r.settings.harts 0 p.hart p.count retained in
     let same : 0 + p.hart ≡ p.hart = omega arith in
-    let f = found r.program records p.hart (intervals_in p.hart records) p.count (subst (λ h. InCourses (lane_of r.program records h).courses p.count) same lane) in
+    let f = found r.program records p.hart (intervals_in p.hart records) p.count (subst (λ h. InCursors (lane_of r.program records h).cursors p.count) same lane) in
     since records (points_of r) p.hart f.0 f.1 f.2 m p c.first_at refl f.3) in
     let chain : Leads records p.hart p.count q.hart q.count = elim (eqb_tells p.hart q.hart) [
       | inl same ↦ lead_one (inl (same.1, pair_at (λ a b. a.hart ≡ b.hart → a.count < b.count) (points_of r) m n p q points_in_order.counts c.earlier c.first_at c.second_at same.1))

@@ -4,15 +4,15 @@ use Rattle.bn_base.specs.Programs.{Program}
 use Rattle.bn_base.specs.declared.state.HartState.{HartState}
 use Rattle.joint_replay.specs.Calls.{bare}
 use Rattle.joint_replay.specs.Joining.{Walk}
-use Rattle.joint_replay.specs.Lanes.{Course, Lane, state_of}
+use Rattle.joint_replay.specs.Lanes.{Cursor, Lane, state_of}
 use Rattle.joint_replay.specs.Memory.{word_in}
 use Rattle.joint_replay.specs.Orders.{IsBegun}
 use Rattle.joint_laws.specs.Recordings.{Begun, OfBeginnings}
 use Rattle.joint_laws.specs.Laws.{KeepsOrder, HasFirstRows, HasShownStates, HasMemory, ReachedSayTheRun}
 
 -- the state that is shown doesn't depend on what is left of replays
-state_bare : (points : List ℕ) (courses : List Course) → state_of (bare (record { points = points; courses = courses })) ≡ state_of (record { points = points; courses = courses })
-state_bare (p ∷ ps) courses = refl
+state_bare : (points : List ℕ) (cursors : List Cursor) → state_of (bare (record { points = points; cursors = cursors })) ≡ state_of (record { points = points; cursors = cursors })
+state_bare (p ∷ ps) cursors = refl
 state_bare [] [] = refl
 state_bare [] (c ∷ cs) = refl
 
@@ -21,7 +21,7 @@ shown o = elim o [ None ↦ None | Some lane ↦ state_of lane ]
 
 shown_bare : (ls : List Lane) (h : ℕ) → shown (slice_get (map bare ls) h) ≡ shown (slice_get ls h)
 shown_bare [] h = refl
-shown_bare (l ∷ ls) zero = state_bare l.points l.courses
+shown_bare (l ∷ ls) zero = state_bare l.points l.cursors
 shown_bare (l ∷ ls) (suc h) = shown_bare ls h
 
 pub reached_say_the_run : OfBeginnings KeepsOrder → OfBeginnings HasFirstRows → OfBeginnings HasShownStates → OfBeginnings HasMemory → ReachedSayTheRun

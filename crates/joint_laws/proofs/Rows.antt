@@ -9,7 +9,7 @@ use Rattle.joint_replay.specs.declared.kinds.Readiness.TheVariants as is
 use Rattle.joint_replay.specs.declared.kinds.Next.{Next}
 use Rattle.joint_replay.specs.declared.kinds.Next.TheVariants.{Hart, AllDone, NoneReady}
 use Rattle.joint_replay.specs.Points.{sources_into}
-use Rattle.joint_replay.specs.Lanes.{Course, Lane, has_row, coming_of, point_of}
+use Rattle.joint_replay.specs.Lanes.{Cursor, Lane, has_row, coming_of, point_of}
 use Rattle.joint_replay.specs.Joining.{readiness_of, waits_for, first_waited, choice_from}
 use Rattle.joint_laws.specs.Recordings.{OfWholeOrders, OfBeginnings}
 use Rattle.joint_laws.specs.Laws.{HasFirstRows, HasRows}
@@ -18,8 +18,8 @@ use Rattle.joint_laws.proofs.Lists.{some_is}
 use Rattle.joint_laws.proofs.Follows.{IsFollowed, rows_left}
 
 -- a hart that is done has nothing left
-pub nothing_comes : (points : List ℕ) (courses : List Course) → coming_of (record { points = points; courses = courses }) ≡ None → courses ≡ []
-nothing_comes (p ∷ ps) courses e = absurd cc
+pub nothing_comes : (points : List ℕ) (cursors : List Cursor) → coming_of (record { points = points; cursors = cursors }) ≡ None → cursors ≡ []
+nothing_comes (p ∷ ps) cursors e = absurd cc
 nothing_comes [] [] e = refl
 nothing_comes [] (c ∷ cs) e = by (has_row c) e
   where
@@ -73,11 +73,11 @@ pub has_rows : OfBeginnings IsFollowed → OfWholeOrders HasRows
 has_rows follow r records order w log a h low =
     let f : IsFollowed r records w = follow r records order w log a.begun in
     let l = f.there h low in
-    let none : l.0.courses ≡ [] = nothing_comes l.0.points l.0.courses (all_done w.now.records w.now.lanes w.now.lanes 0 a.whole h l.0 l.1) in
-    sym (append-nil (rows_done h w.taken)) ∙ (ap (λ (cs : List Course). rows_done h w.taken ++ rows_left cs) (sym none) ∙ f.rows h l.0 l.1)
+    let none : l.0.cursors ≡ [] = nothing_comes l.0.points l.0.cursors (all_done w.now.records w.now.lanes w.now.lanes 0 a.whole h l.0 l.1) in
+    sym (append-nil (rows_done h w.taken)) ∙ (ap (λ (cs : List Cursor). rows_done h w.taken ++ rows_left cs) (sym none) ∙ f.rows h l.0 l.1)
 
 pub first_rows : OfBeginnings IsFollowed → OfBeginnings HasFirstRows
 first_rows follow r records order w log b h low =
     let f : IsFollowed r records w = follow r records order w log b in
     let l = f.there h low in
-    (rows_left l.0.courses, f.rows h l.0 l.1)
+    (rows_left l.0.cursors, f.rows h l.0 l.1)

@@ -13,7 +13,7 @@ use Rattle.run_model.specs.Turn.{Run, turn}
 use Rattle.replay_laws.specs.Law.{BeginsIn, IntervalsBegin}
 use Rattle.row_laws.specs.Laws.{BeginningsTellStates, RowsTellRuns}
 use Rattle.row_laws.specs.States.{state_after}
-use Rattle.joint_replay.specs.Lanes.{Course, Lane, state_of}
+use Rattle.joint_replay.specs.Lanes.{Cursor, Lane, state_of}
 use Rattle.joint_laws.specs.Recordings.{Recording, IsLogOf, OfBeginnings, first_state}
 use Rattle.joint_laws.specs.Laws.{IsStateOfRun, HasShownStates}
 use Rattle.joint_laws.proofs.Lists.{some_is, not_some, after_append}
@@ -46,8 +46,8 @@ rows_append c i h (k ∷ ks) b run = by (k == h) (rows_append c i h ks b (turn c
 -- ---- an interval under way
 
 module _ (begins : IntervalsBegin) (begun : BeginningsTellStates) (tell : RowsTellRuns) (r : Recording) (records : List Record) (log : IsLogOf r records) (h : ℕ) where
-  of_course : (c : Course) → IsOf r records h c → IsStateOfRun r h c.state
-  of_course c o =
+  of_cursor : (c : Cursor) → IsOf r records h c → IsStateOfRun r h c.state
+  of_cursor c o =
       let setting = log.recording.setting in
       let limit = setting.limit_high in
       let x : BeginsIn r.settings r.program r.input r.turns h c.number o.interval =
@@ -70,16 +70,16 @@ module _ (begins : IntervalsBegin) (begun : BeginningsTellStates) (tell : RowsTe
         state = o.state ∙ (ap (λ (s : HartState). state_after r.program s o.past) (sym there) ∙ sym (after_append r.program (first_state r h) (before ++ x.before) o.past));
       }
 
-  of_lane : (s : HartState) (points : List ℕ) (courses : List Course) → AreOf r records h courses → state_of (record { points = points; courses = courses }) ≡ Some s → IsStateOfRun r h s
-  of_lane s (p ∷ ps) courses all e = absurd (not_some s e)
+  of_lane : (s : HartState) (points : List ℕ) (cursors : List Cursor) → AreOf r records h cursors → state_of (record { points = points; cursors = cursors }) ≡ Some s → IsStateOfRun r h s
+  of_lane s (p ∷ ps) cursors all e = absurd (not_some s e)
   of_lane s [] [] all e = absurd (not_some s e)
-  of_lane s [] (c ∷ cs) all e = subst (IsStateOfRun r h) (some_is c.state s (Some c.state) refl e) (of_course c all.0)
+  of_lane s [] (c ∷ cs) all e = subst (IsStateOfRun r h) (some_is c.state s (Some c.state) refl e) (of_cursor c all.0)
 
-  of_hart : (s : HartState) (o : Option Lane) → ((lane : Lane) → o ≡ Some lane → AreOf r records h lane.courses) → elim o as (λ x. Option HartState) [ None ↦ None | Some lane ↦ state_of lane ] ≡ Some s → IsStateOfRun r h s
+  of_hart : (s : HartState) (o : Option Lane) → ((lane : Lane) → o ≡ Some lane → AreOf r records h lane.cursors) → elim o as (λ x. Option HartState) [ None ↦ None | Some lane ↦ state_of lane ] ≡ Some s → IsStateOfRun r h s
   of_hart s None all e = absurd (not_some s e)
-  of_hart s (Some lane) all e = of_lane s lane.points lane.courses (all lane refl) e
+  of_hart s (Some lane) all e = of_lane s lane.points lane.cursors (all lane refl) e
 
 pub has_shown_states : IntervalsBegin → BeginningsTellStates → RowsTellRuns → OfBeginnings IsFollowed → OfBeginnings HasShownStates
 has_shown_states begins begun tell follow r records order w log b h s e =
     let f : IsFollowed r records w = follow r records order w log b in
-    of_hart begins begun tell r records log h s (slice_get w.now.lanes h) (λ lane at. f.courses h lane at) e
+    of_hart begins begun tell r records log h s (slice_get w.now.lanes h) (λ lane at. f.cursors h lane at) e

@@ -5,7 +5,7 @@ use Rattle.joint_replay.specs.Chains.{Did, IsLeft, IsToDo}
 use Rattle.joint_replay.specs.Joining.{Walk}
 use Rattle.joint_replay.specs.Lanes.{Lane}
 use Rattle.joint_replay.specs.Laws.{StepsPass, SoundnessStays}
-use Rattle.joint_replay.specs.Ways.{InCourses}
+use Rattle.joint_replay.specs.Ways.{InCursors}
 use Rattle.joint_laws.specs.Laws.{BeginsSound, KeepsOrder, StandsInOrder}
 use Rattle.joint_laws.specs.Recordings.{Recording, Allowed, OfWholeOrders, OfBeginnings, begin}
 use Rattle.joint_laws.proofs.Once.{IsDoneOnce, done_once}
@@ -13,11 +13,11 @@ use Rattle.joint_laws.proofs.Rows.{all_done, nothing_comes}
 
 -- at the end nothing is to do
 none_left : (r : Recording) (records : List Record) (order : List ℕ) (w : Walk) → Allowed r records order w → (h k : ℕ) → IsToDo w.now h k → ⊥
-none_left r records order w a h k t = by (slice_get w.now.lanes h) (λ lane at. nothing_comes lane.points lane.courses (all_done w.now.records w.now.lanes w.now.lanes 0 a.whole h lane at)) t
+none_left r records order w a h k t = by (slice_get w.now.lanes h) (λ lane at. nothing_comes lane.points lane.cursors (all_done w.now.records w.now.lanes w.now.lanes 0 a.whole h lane at)) t
   where
-    by : (o : Option Lane) → ((lane : Lane) → o ≡ Some lane → lane.courses ≡ []) → IsLeft o k → ⊥
+    by : (o : Option Lane) → ((lane : Lane) → o ≡ Some lane → lane.cursors ≡ []) → IsLeft o k → ⊥
     by None none l = l
-    by (Some lane) none l = subst (λ cs. InCourses cs k) (none lane refl) l
+    by (Some lane) none l = subst (λ cs. InCursors cs k) (none lane refl) l
 
 -- so all that was to do was done
 was_done : (r : Recording) (records : List Record) (order : List ℕ) (w : Walk) → Allowed r records order w → IsDoneOnce (begin r records) w → (h k : ℕ) → IsToDo (begin r records) h k → (x : ℕ) × Did w.taken x h k

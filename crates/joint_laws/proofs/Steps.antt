@@ -12,7 +12,7 @@ use Rattle.joint_replay.specs.declared.kinds.Readiness.TheVariants as is
 use Rattle.joint_replay.specs.declared.kinds.Next.{Next}
 use Rattle.joint_replay.specs.declared.kinds.Next.TheVariants.{Hart, AllDone, NoneReady}
 use Rattle.joint_replay.specs.Points.{sources_into}
-use Rattle.joint_replay.specs.Lanes.{Course, Lane, Item, Passing, Doing, Ending, row_given, coming_of, point_of, lane_step, courses_steps, lane_steps}
+use Rattle.joint_replay.specs.Lanes.{Cursor, Lane, Item, Passing, Doing, Ending, row_given, coming_of, point_of, lane_step, cursors_steps, lane_steps}
 use Rattle.joint_replay.specs.Memory.{memory_after}
 use Rattle.joint_replay.specs.Joining.{Joining, Walk, Ran, begun, longer, readiness, readiness_of, waits_for, first_waited, choice, choice_from, next_step, move, error_of, ran, run_for, steps_left, positions_from}
 use Rattle.joint_replay.specs.Orders.{ready_step, walk_on, IsBegun}
@@ -28,25 +28,25 @@ abbrev HasStep : Program → Lane → Type 0
 HasStep i lane = (x : Item × Lane) × (lane_step i lane ≡ Some (Ok x))
 
 module _ (i : Program) where
-  outcome_steps : (c : Course) (cs : List Course) (o : Outcome) → o ≡ Done
-      → (x : Item × Lane) × (elim o as (λ y. Result (Item × Lane) ReplayError) [ Done ↦ Ok (Ending c.number c.mark, record { points = []; courses = cs }) | Refused g ↦ Err g ] ≡ Ok x)
-  outcome_steps c cs Done e = ((Ending c.number c.mark, record { points = []; courses = cs }), refl)
+  outcome_steps : (c : Cursor) (cs : List Cursor) (o : Outcome) → o ≡ Done
+      → (x : Item × Lane) × (elim o as (λ y. Result (Item × Lane) ReplayError) [ Done ↦ Ok (Ending c.number c.mark, record { points = []; cursors = cs }) | Refused g ↦ Err g ] ≡ Ok x)
+  outcome_steps c cs Done e = ((Ending c.number c.mark, record { points = []; cursors = cs }), refl)
   outcome_steps c cs (Refused g) e = absurd cc
 
-  rows_step : (c : Course) (cs : List Course) (rows : List Row) → c.left.outcome ≡ Done
+  rows_step : (c : Cursor) (cs : List Cursor) (rows : List Row) → c.left.outcome ≡ Done
       → (x : Item × Lane) × (elim rows as (λ y. Result (Item × Lane) ReplayError) [
-        | r ∷ rs ↦ Ok (Doing c.state r, record { points = []; courses = row_given i c r rs ∷ cs })
-        | [] ↦ elim c.left.outcome as (λ y. Result (Item × Lane) ReplayError) [ Done ↦ Ok (Ending c.number c.mark, record { points = []; courses = cs }) | Refused g ↦ Err g ]
+        | r ∷ rs ↦ Ok (Doing c.state r, record { points = []; cursors = row_given i c r rs ∷ cs })
+        | [] ↦ elim c.left.outcome as (λ y. Result (Item × Lane) ReplayError) [ Done ↦ Ok (Ending c.number c.mark, record { points = []; cursors = cs }) | Refused g ↦ Err g ]
       ] ≡ Ok x)
   rows_step c cs [] e = outcome_steps c cs c.left.outcome e
-  rows_step c cs (r ∷ rs) e = ((Doing c.state r, record { points = []; courses = row_given i c r rs ∷ cs }), refl)
+  rows_step c cs (r ∷ rs) e = ((Doing c.state r, record { points = []; cursors = row_given i c r rs ∷ cs }), refl)
 
-  abbrev AreDone : List Course → Type 0
+  abbrev AreDone : List Cursor → Type 0
   AreDone [] = Unit {0}
   AreDone (c ∷ cs) = (c.left.outcome ≡ Done) × AreDone cs
 
-  has_step : (points : List ℕ) (courses : List Course) → AreDone courses → (c : Coming) → coming_of (record { points = points; courses = courses }) ≡ Some c → HasStep i (record { points = points; courses = courses })
-  has_step (p ∷ ps) courses d c e = ((Passing p, record { points = ps; courses = courses }), refl)
+  has_step : (points : List ℕ) (cursors : List Cursor) → AreDone cursors → (c : Coming) → coming_of (record { points = points; cursors = cursors }) ≡ Some c → HasStep i (record { points = points; cursors = cursors })
+  has_step (p ∷ ps) cursors d c e = ((Passing p, record { points = ps; cursors = cursors }), refl)
   has_step [] [] d c e = absurd cc
   has_step [] (x ∷ cs) d c e = let s = rows_step x cs x.left.rows d.0 in (s.0, ap (λ (y : Result (Item × Lane) ReplayError). Some y) s.1)
 
@@ -58,16 +58,16 @@ module _ (i : Program) where
   lowers lane = record {
     passing = λ p ps e. (let n : length lane.points ≡ suc (length ps) = ap length e in omega (arith, n));
     doing = λ c cs r rs e f g. (let n : length lane.points ≡ 0 = ap length e in
-        let m : courses_steps lane.courses ≡ length c.left.rows + 1 + courses_steps cs = ap courses_steps f in
+        let m : cursors_steps lane.cursors ≡ length c.left.rows + 1 + cursors_steps cs = ap cursors_steps f in
         let k : length c.left.rows ≡ suc (length rs) = ap length g in
         omega (arith, n, m, k));
     ending = λ c cs e f g d. (let n : length lane.points ≡ 0 = ap length e in
-        let m : courses_steps lane.courses ≡ length c.left.rows + 1 + courses_steps cs = ap courses_steps f in
+        let m : cursors_steps lane.cursors ≡ length c.left.rows + 1 + cursors_steps cs = ap cursors_steps f in
         let k : length c.left.rows ≡ 0 = ap length g in
         omega (arith, n, m, k));
   }
 
-are_done : (r : Recording) (records : List Record) (i : Program) (h : ℕ) (cs : List Course) → AreOf r records h cs → AreDone i cs
+are_done : (r : Recording) (records : List Record) (i : Program) (h : ℕ) (cs : List Cursor) → AreOf r records h cs → AreDone i cs
 are_done r records i h [] a = tt
 are_done r records i h (c ∷ cs) a = (a.0.done, are_done r records i h cs a.1)
 
@@ -97,7 +97,7 @@ module _ (r : Recording) (records : List Record) (w : Walk) (f : IsFollowed r re
   of_lane None e k = absurd (not_ready k)
   of_lane (Some lane) e k =
       let c = ready_comes w.now.records w.now.lanes h lane k in
-      let s : HasStep w.now.program lane = has_step w.now.program lane.points lane.courses (are_done r records w.now.program h lane.courses (f.courses h lane e)) c.0 c.1 in
+      let s : HasStep w.now.program lane = has_step w.now.program lane.points lane.cursors (are_done r records w.now.program h lane.cursors (f.cursors h lane e)) c.0 c.1 in
       let made : Item × Joining = (s.0.0, record w.now { lanes = slice_set w.now.lanes h s.0.1; memory = memory_after s.0.0 w.now.memory }) in
       (made, ap (λ o. stepped_of o (slice_get w.now.lanes h)) f.refused ∙ (ap (stepped_of None) e ∙ ap (move w.now h) s.1))
 

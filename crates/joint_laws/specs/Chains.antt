@@ -11,6 +11,7 @@ use Rattle.joint_replay.specs.Chains.{Leads}
 abbrev pub KeptChain : List Record → List Point → ℕ → ℕ → Type 0
 KeptChain records points = Chain (Either (ProgramOrder points) (KeptEdge records points))
 
+-- it leads over instructions too, by hart and count
 abbrev pub ChainsLead : Type 0
 ChainsLead = (records : List Record) (points : List Point) (m n : ℕ) (p q : Point) → IsInOrder points → KeptChain records points m n
     → slice_get points m ≡ Some p → slice_get points n ≡ Some q → Leads records p.hart p.count q.hart q.count

@@ -31,8 +31,8 @@ joint_from dropped e = fresh (program_of e) e.settings.harts (drop dropped (reco
 
 -- ---- a relay
 
--- the relay of three harts in intervals of four instructions, up to the fifth: hart 0 stores a word, hart 1 loads it at the end
--- of its first interval and stores the next in its second, hart 2 loads that
+-- the relay of three harts in intervals of four instructions, up to the fifth. Hart 0 stores a word; hart 1 loads it at the end
+-- of its first interval, and stores the next in its second; hart 2 loads that
 abbrev pub a_short_relay : Recording
 a_short_relay = record a_relay { settings = record default_settings { harts = 3; interval = 4; limit = 5 }; turns = 0 ∷ 0 ∷ 1 ∷ 1 ∷ 2 ∷ 2 ∷ [] }
 

@@ -1,4 +1,5 @@
--- What the joint replay of a recording's log says of the run.
+-- What the joint replay of a recording's log says of the run. "The latest" is of the steps that were taken; "later in the run"
+-- is by the places of the run's points.
 use Rattle.std.specs.Prelude.{◌≡◌, ℕ, ◌+◌, ◌<◌, ◌≤◌, List, [], ◌∷◌, ◌++◌, slice_get, Some, None, Ok}
 use Rattle.std.specs.List.{Contains}
 use Rattle.sha2.specs.Sha256.{sha256}
@@ -32,9 +33,9 @@ BeginsSound = (r : Recording) (records : List Record) → IsLogOf r records → 
 
 -- ---- each beginning of an allowed order
 
--- Race order. Of two points that access a common word, one of them writing it, the earlier one being of a retained interval:
--- once the later one's row is done, that of the earlier one was done before it. So each word's retained writes come as
--- recorded, and each of its retained reads stands between the same retained writes
+-- Race order. Take two points that access a common word, one of them writing it, the earlier one of a retained interval. Once
+-- the later one's row is done, that of the earlier one was done before it. So each word's retained writes come as recorded, and
+-- each of its retained reads stands between the same retained writes
 abbrev pub KeepsOrder : Recording → List Record → Walk → Type 0
 KeepsOrder r records w = (word m n y : ℕ) (c : AtPlaces (MeetAt word) (points_of r) m n) → IsRetained r records c.first
     → DidPoint w.taken y c.second → (x : ℕ) × DidPoint w.taken x c.first × (y < x)
@@ -67,8 +68,8 @@ pub record IsStateOfRun (r : Recording) (h : ℕ) (s : HartState) : Type 0 where
 abbrev pub HasShownStates : Recording → List Record → Walk → Type 0
 HasShownStates r records w = (h : ℕ) (s : HartState) → state_at w.now h ≡ Some s → IsStateOfRun r h s
 
--- a word that the joint memory has is the recorded word right after the latest row that stored or loaded it, and no retained
--- write of it that was done came later in the run than that row
+-- a word that the joint memory has is the recorded word right after the latest row that stored or loaded it. No retained write
+-- of it that was done came later in the run than that row
 pub record IsRecordedWord (r : Recording) (w : Walk) (a word : ℕ) : Type 0 where
   pub step : ℕ
   pub last : IsLastTold w.taken a step
@@ -117,13 +118,14 @@ pub record RanToTheEnd (r : Recording) (records : List Record) : Type 0 where
   pub allowed : Allowed r records order (run_all (begin r records)).walk
   pub stopped : (run_all (begin r records)).stopped ≡ None
 
+-- The lowest ready hart first, the joint replay of each log of a recording takes a whole allowed order and isn't stopped
 abbrev pub RunsToTheEnd : Type 0
 RunsToTheEnd = (r : Recording) (records : List Record) → IsLogOf r records → RanToTheEnd r records
 
 -- ---- all of it, of the run that a text tells
 
--- a joint replay of a log of the recording that wasn't stopped: it took an allowed order to the end, which keeps the recorded
--- order; its rows are the recorded ones, done from the recorded states; and each word known at the end is the recorded one
+-- the joint replay says the run. It took an allowed order to the end and wasn't stopped; the order keeps the recorded one. Its
+-- rows are the recorded ones, done from the recorded states, and each word known at the end is the recorded one
 pub record SaysTheRun (r : Recording) (records : List Record) (x : Ran) : Type 0 where
   pub stopped : x.stopped ≡ None
   pub order : List ℕ
@@ -149,7 +151,7 @@ JointFilesSayTheRun = (r : Recording) (d : Content) → IsRecorded r → IsFileO
 
 -- ---- of a joint replay at any time
 
--- where a joint replay of a log of the recording stands after a walk: this keeps the recorded order, and its rows are the first
+-- the point where a joint replay of a log of the recording stands after a walk: this keeps the recorded order, and its rows are the first
 -- recorded ones; the states that the joint replay shows are the run's, and its known words the recorded ones
 pub record SaysSoFar (r : Recording) (j : Joining) (w : Walk) : Type 0 where
   pub keeps : KeepsOrder r j.records w
@@ -157,6 +159,6 @@ pub record SaysSoFar (r : Recording) (j : Joining) (w : Walk) : Type 0 where
   pub states : (h : ℕ) (s : HartState) → state_at j h ≡ Some s → IsStateOfRun r h s
   pub words : (a word : ℕ) → word_in j.memory a ≡ Some word → IsRecordedWord r w a word
 
--- So it is with each joint replay that an allowed order led to, also where memory was wanting since
+-- So it is with each joint replay that an allowed order led to, also if memory ran out since
 abbrev pub ReachedSayTheRun : Type 0
 ReachedSayTheRun = (r : Recording) (j : Joining) → IsLogOf r j.records → j.program ≡ r.program → (reached : IsReached r.settings.harts j) → SaysSoFar r j reached.walk

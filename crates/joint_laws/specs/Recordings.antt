@@ -25,12 +25,15 @@ pub record Recording : Type 0 where
   pub input : List ℕ
   pub turns : List ℕ
 
+-- what is recorded is a recording, as `file_laws` has it
 abbrev pub IsRecorded : Recording → Type 0
 IsRecorded r = IsRecording r.settings r.program r.elf r.input r.turns
 
+-- its run
 abbrev pub recorded : Recording → Run
 recorded r = run_of r.settings r.program r.input r.turns
 
+-- the accesses of its run, in order
 abbrev pub points_of : Recording → List Point
 points_of r = (recorded r).points
 
@@ -38,6 +41,7 @@ points_of r = (recorded r).points
 abbrev pub rows_of_hart : Recording → (h : ℕ) → List Row
 rows_of_hart r h = rows_of r.settings r.program (start r.settings r.program r.input) r.turns h
 
+-- the state of hart h before its first row
 abbrev pub first_state : Recording → (h : ℕ) → HartState
 first_state r h = ((start r.settings r.program r.input).harts h).state
 

@@ -6,11 +6,11 @@ use Rattle.bn_base.specs.declared.settings.RawSettings.{RawSettings}
 use Rattle.log_record.specs.declared.record.Record.{Record}
 use Rattle.log_record.specs.declared.record.Record.TheVariants.{Header, FirstLoad, ScOk, ScFailed, Edge, End}
 use Rattle.log_record.specs.Spelling.{hart_of}
-use Rattle.log_order.specs.declared.view.Terms.{Terms}
+use Rattle.log_order.specs.declared.view.OrderLimits.{OrderLimits}
 use Rattle.log_order.specs.declared.view.HartView.{HartView}
 use Rattle.log_order.specs.Rules.{after_one, fresh as fresh_view}
-use Rattle.log_order.specs.Order.{broken_by, terms_of}
-use Rattle.joint_replay.specs.declared.sources.Source.{Source}
+use Rattle.log_order.specs.Order.{broken_by, order_limits_of}
+use Rattle.joint_replay.specs.declared.incoming_edges.IncomingEdge.{IncomingEdge}
 use Rattle.joint_replay.specs.Points.{sources_into}
 use Rattle.joint_replay.specs.Sources.{source_before, edges_into, AscendFrom, sources_at}
 use Rattle.joint_replay.specs.Laws.{EdgesAscend}
@@ -18,12 +18,12 @@ use Rattle.joint_replay.proofs.Shapes.{◌>>◌, own_walk, goes_through, headed,
 use Rattle.joint_replay.proofs.Begins.{walk_of}
 use Rattle.joint_replay.proofs.Headers.{repeated}
 
-weaker : (low high : ℕ) (ss : List Source) → low ≤ high → AscendFrom high ss → AscendFrom low ss
+weaker : (low high : ℕ) (ss : List IncomingEdge) → low ≤ high → AscendFrom high ss → AscendFrom low ss
 weaker low high [] le a = tt
 weaker low high (s ∷ ss) le a = let first = a.0 in (omega (arith, le, first), a.1)
 
-module _ (t : Terms) (h : ℕ) where
-  own_edge : (n s j low : ℕ) (b : Bool) (ss : List Source) → low ≤ n + 1 → low ≤ low → AscendFrom (n + 1) ss → AscendFrom low ss → AscendFrom low (source_before (elim b as (λ y. Option Source) [ true ↦ Some (record { target = n; hart = s; ic = j }) | false ↦ None ]) ss)
+module _ (t : OrderLimits) (h : ℕ) where
+  own_edge : (n s j low : ℕ) (b : Bool) (ss : List IncomingEdge) → low ≤ n + 1 → low ≤ low → AscendFrom (n + 1) ss → AscendFrom low ss → AscendFrom low (source_before (elim b as (λ y. Option IncomingEdge) [ true ↦ Some (record { target = n; hart = s; ic = j }) | false ↦ None ]) ss)
   own_edge n s j low true ss le same above a = (le, above)
   own_edge n s j low false ss le same above a = a
 
@@ -43,7 +43,7 @@ module _ (t : Terms) (h : ℕ) where
   other_record (FirstLoad k skip value) rs low e a = a
   other_record (ScOk k) rs low e a = a
   other_record (ScFailed k) rs low e a = a
-  other_record (Edge k n s j) rs low e a = subst (λ b. AscendFrom low (source_before (elim b as (λ y. Option Source) [ true ↦ Some (record { target = n; hart = s; ic = j }) | false ↦ None ]) (edges_into h rs))) (sym e) a
+  other_record (Edge k n s j) rs low e a = subst (λ b. AscendFrom low (source_before (elim b as (λ y. Option IncomingEdge) [ true ↦ Some (record { target = n; hart = s; ic = j }) | false ↦ None ]) (edges_into h rs))) (sym e) a
   other_record (End k m) rs low e a = a
 
   ascend : (v w : HartView) (rs : List Record) → own_walk t h v rs ≡ Ok w → AscendFrom v.seen (edges_into h rs)
@@ -60,8 +60,8 @@ edges_ascend t place harts ends rs e h v at = let p = project t h place harts en
 
 pub log_edges_ascend : EdgesAscend → (s : RawSettings) (dropped : ℕ) (records : List Record) → broken_by s dropped records ≡ None → (h : ℕ) → h < s.harts → AscendFrom 0 (edges_into h records)
 log_edges_ascend law s dropped records order h low =
-    let w = walk_of (terms_of s) s.harts (dropped == 0) records order in
-    law (terms_of s) 0 (replicate s.harts (fresh_view (dropped == 0))) w.0 records w.1 h (fresh_view (dropped == 0)) (repeated s.harts h (fresh_view (dropped == 0)) low)
+    let w = walk_of (order_limits_of s) s.harts (dropped == 0) records order in
+    law (order_limits_of s) 0 (replicate s.harts (fresh_view (dropped == 0))) w.0 records w.1 h (fresh_view (dropped == 0)) (repeated s.harts h (fresh_view (dropped == 0)) low)
 
 -- ---- the sources of an instruction
 
@@ -74,13 +74,13 @@ same_sources h ic (ScFailed k ∷ rs) = same_sources h ic rs
 same_sources h ic (Edge k n s j ∷ rs) = by (k == h) (same_sources h ic rs)
   where
     by : (a : Bool) → sources_into rs h ic ≡ sources_at ic (edges_into h rs) → elim (a && (n == ic)) as (λ y. List (ℕ × ℕ)) [ true ↦ (s, j) ∷ sources_into rs h ic | false ↦ sources_into rs h ic ]
-        ≡ sources_at ic (source_before (elim a as (λ y. Option Source) [ true ↦ Some (record { target = n; hart = s; ic = j }) | false ↦ None ]) (edges_into h rs))
+        ≡ sources_at ic (source_before (elim a as (λ y. Option IncomingEdge) [ true ↦ Some (record { target = n; hart = s; ic = j }) | false ↦ None ]) (edges_into h rs))
     by true rest = ap (λ (xs : List (ℕ × ℕ)). elim (n == ic) as (λ y. List (ℕ × ℕ)) [ true ↦ (s, j) ∷ xs | false ↦ xs ]) rest
     by false rest = rest
 same_sources h ic (End k m ∷ rs) = same_sources h ic rs
 
 -- past a higher instruction's there is none
-pub none_higher : (ic low : ℕ) (ss : List Source) → ic + 1 < low → AscendFrom low ss → sources_at ic ss ≡ []
+pub none_higher : (ic low : ℕ) (ss : List IncomingEdge) → ic + 1 < low → AscendFrom low ss → sources_at ic ss ≡ []
 none_higher ic low [] lt a = refl
 none_higher ic low (s ∷ ss) lt a =
     let first = a.0 in
@@ -88,17 +88,17 @@ none_higher ic low (s ∷ ss) lt a =
     ∙ none_higher ic (s.target + 1) ss (omega (arith, first, lt)) a.1
 
 -- from a place on they ascend
-pub drop_ascends : (low i : ℕ) (ss : List Source) → AscendFrom low ss → AscendFrom 0 (drop i ss)
+pub drop_ascends : (low i : ℕ) (ss : List IncomingEdge) → AscendFrom low ss → AscendFrom 0 (drop i ss)
 drop_ascends low zero ss a = weaker 0 low ss (omega arith) a
 drop_ascends low (suc i) [] a = tt
 drop_ascends low (suc i) (s ∷ ss) a = drop_ascends (s.target + 1) i ss a.1
 
-pub all_gathered : (h : ℕ) (records found rest : List Source) → rest ≡ [] → found ++ rest ≡ records → found ≡ records
-all_gathered h records found rest none e = sym (no_rest found) ∙ ap (λ (ss : List Source). found ++ ss) (sym none) ∙ e
+pub all_gathered : (h : ℕ) (records found rest : List IncomingEdge) → rest ≡ [] → found ++ rest ≡ records → found ≡ records
+all_gathered h records found rest none e = sym (no_rest found) ∙ ap (λ (ss : List IncomingEdge). found ++ ss) (sym none) ∙ e
   where
-    no_rest : (ss : List Source) → ss ++ [] ≡ ss
+    no_rest : (ss : List IncomingEdge) → ss ++ [] ≡ ss
     no_rest [] = refl
-    no_rest (s ∷ ss) = ap (λ (xs : List Source). s ∷ xs) (no_rest ss)
+    no_rest (s ∷ ss) = ap (λ (xs : List IncomingEdge). s ∷ xs) (no_rest ss)
 
 pub none_left : (h n : ℕ) (rs : List Record) → length rs ≤ n → edges_into h (drop n rs) ≡ []
 none_left h n [] low = ap (edges_into h) (drop-nil n)

@@ -8,18 +8,18 @@ use Rattle.bn_base.specs.declared.end_mark.EndMark.{EndMark}
 use Rattle.log_record.specs.declared.record.Record.{Record}
 use Rattle.log_record.specs.declared.record.Record.TheVariants.{Header, FirstLoad, ScOk, ScFailed, Edge, End}
 use Rattle.log_record.specs.Spelling.{hart_of, bytes_of, total}
-use Rattle.log_order.specs.declared.view.Terms.{Terms}
+use Rattle.log_order.specs.declared.view.OrderLimits.{OrderLimits}
 use Rattle.log_order.specs.declared.view.HartView.{HartView}
 use Rattle.log_order.specs.declared.view.Phase.TheVariants.{Unknown}
 use Rattle.log_order.specs.declared.walk.OrderBreak.{OrderBreak}
 use Rattle.log_order.specs.Rules.{is_number, is_unfinished, fresh as fresh_view}
-use Rattle.log_order.specs.Order.{step, after_all, ended, broken, broken_in, terms_of, order_break}
+use Rattle.log_order.specs.Order.{step, after_all, ended, broken, broken_in, order_limits_of, order_break}
 use Rattle.hart_replay.specs.Replay.{Interval, interval_of, interval_from, puts, nothing, replayed}
 use Rattle.joint_replay.specs.Points.{intervals_in, first_count, is_below, points_below}
-use Rattle.joint_replay.specs.Lanes.{Course, Lane, with_course, courses_of, lane_of}
+use Rattle.joint_replay.specs.Lanes.{Cursor, Lane, with_cursor, cursors_of, lane_of}
 use Rattle.joint_replay.specs.Joining.{lanes_from, is_passed}
 use Rattle.joint_replay.specs.Counts.{RowsFrom}
-use Rattle.joint_replay.specs.Ways.{GoesOn, AreFrom, AreCourses, ArePoints, IsBelow, IsLane, Has, last_count, InCourses}
+use Rattle.joint_replay.specs.Ways.{GoesOn, AreFrom, AreCursors, ArePoints, IsBelow, IsLane, Has, last_count, InCursors}
 use Rattle.joint_replay.specs.Sound.{HasEdge}
 use Rattle.joint_replay.specs.Shape.{Span, mark_of, spans, AreSpans, Fits, is_known}
 use Rattle.joint_replay.specs.Inside.{last_of, IsInside}
@@ -41,13 +41,13 @@ and_false : (a b : Bool) → b ≡ false → (a && b) ≡ false
 and_false true b e = e
 and_false false b e = refl
 
--- a course is of a span
-pub record IsOf (i : Program) (s : Span) (c : Course) : Type 0 where
+-- a cursor is of a span
+pub record IsOf (i : Program) (s : Span) (c : Cursor) : Type 0 where
   pub begin : c.state.ic ≡ s.begin
   pub mark : c.mark ≡ s.mark
   pub rows : RowsFrom i c.mark.ic c.left.outcome c.state c.left.rows
 
-abbrev AreOf : Program → List Span → List Course → Type 0
+abbrev AreOf : Program → List Span → List Cursor → Type 0
 AreOf i [] [] = Unit {0}
 AreOf i [] (c ∷ cs) = ⊥
 AreOf i (s ∷ ss) [] = ⊥
@@ -58,13 +58,13 @@ module _ (i : Program) (records : List Record) (h limit : ℕ) (fits : limit < 2
   abbrev From : ℕ → List Record → Type 0
   From low rs = (n : ℕ) → low ≤ n → interval_of h n records ≡ interval_of h n rs
 
-  one_of : (n ic pc : ℕ) (x : List ℕ) (rs : List Record) (ss : List Span) (cs : List Course) (v : Interval) → interval_of h n records ≡ Some v → v.start.ic ≡ ic → v.mark ≡ mark_of h rs → v.mark.ic ≤ limit
-      → AreOf i ss cs → AreOf i (record { number = n; begin = ic; mark = mark_of h rs } ∷ ss) (with_course (interval_of h n records) n (replayed i records h n) cs)
+  one_of : (n ic pc : ℕ) (x : List ℕ) (rs : List Record) (ss : List Span) (cs : List Cursor) (v : Interval) → interval_of h n records ≡ Some v → v.start.ic ≡ ic → v.mark ≡ mark_of h rs → v.mark.ic ≤ limit
+      → AreOf i ss cs → AreOf i (record { number = n; begin = ic; mark = mark_of h rs } ∷ ss) (with_cursor (interval_of h n records) n (replayed i records h n) cs)
   one_of n ic pc x rs ss cs v found begin mark low are =
-      subst (λ o. AreOf i (record { number = n; begin = ic; mark = mark_of h rs } ∷ ss) (with_course o n (replayed i records h n) cs)) (sym found)
+      subst (λ o. AreOf i (record { number = n; begin = ic; mark = mark_of h rs } ∷ ss) (with_cursor o n (replayed i records h n) cs)) (sym found)
       (record { begin = begin; mark = mark; rows = goes h n v found (omega (arith, low, fits)) }, are)
 
-  are_of : (rs : List Record) (next : Option ℕ) (low begin : ℕ) → ((n : ℕ) → is_number next n ≡ true → low ≤ n) → From low rs → AreSpans limit next begin (spans h rs) → AreOf i (spans h rs) (courses_of i records h (intervals_in h rs))
+  are_of : (rs : List Record) (next : Option ℕ) (low begin : ℕ) → ((n : ℕ) → is_number next n ≡ true → low ≤ n) → From low rs → AreSpans limit next begin (spans h rs) → AreOf i (spans h rs) (cursors_of i records h (intervals_in h rs))
   are_of [] next low begin number from a = tt
   are_of (FirstLoad k skip value ∷ rs) next low begin number from a = are_of rs next low begin number from a
   are_of (ScOk k ∷ rs) next low begin number from a = are_of rs next low begin number from a
@@ -76,13 +76,13 @@ module _ (i : Program) (records : List Record) (h limit : ℕ) (fits : limit < 2
       by : (b : Bool) → (k == h) ≡ b
           → ((m : ℕ) → low ≤ m → interval_of h m records ≡ elim (b && (n == m)) as (λ y. Option Interval) [ true ↦ Some (interval_from (record { pc = pc; x = x; ic = ic }) (puts h rs nothing)) | false ↦ interval_of h m rs ])
           → AreSpans limit next begin (elim b as (λ y. List Span) [ true ↦ record { number = n; begin = ic; mark = mark_of h rs } ∷ spans h rs | false ↦ spans h rs ])
-          → ((next : Option ℕ) (low begin : ℕ) → ((m : ℕ) → is_number next m ≡ true → low ≤ m) → From low rs → AreSpans limit next begin (spans h rs) → AreOf i (spans h rs) (courses_of i records h (intervals_in h rs)))
-          → AreOf i (elim b as (λ y. List Span) [ true ↦ record { number = n; begin = ic; mark = mark_of h rs } ∷ spans h rs | false ↦ spans h rs ]) (courses_of i records h (elim b as (λ y. List ℕ) [ true ↦ n ∷ intervals_in h rs | false ↦ intervals_in h rs ]))
+          → ((next : Option ℕ) (low begin : ℕ) → ((m : ℕ) → is_number next m ≡ true → low ≤ m) → From low rs → AreSpans limit next begin (spans h rs) → AreOf i (spans h rs) (cursors_of i records h (intervals_in h rs)))
+          → AreOf i (elim b as (λ y. List Span) [ true ↦ record { number = n; begin = ic; mark = mark_of h rs } ∷ spans h rs | false ↦ spans h rs ]) (cursors_of i records h (elim b as (λ y. List ℕ) [ true ↦ n ∷ intervals_in h rs | false ↦ intervals_in h rs ]))
       by true e from a rest =
           let v : Interval = interval_from (record { pc = pc; x = x; ic = ic }) (puts h rs nothing) in
           let found : interval_of h n records ≡ Some v =
           from n (number n a.0) ∙ ap (λ b. elim b as (λ y. Option Interval) [ true ↦ Some (interval_from (record { pc = pc; x = x; ic = ic }) (puts h rs nothing)) | false ↦ interval_of h n rs ]) (eqb_same n) in
-          one_of n ic pc x rs (spans h rs) (courses_of i records h (intervals_in h rs)) v found refl refl a.3
+          one_of n ic pc x rs (spans h rs) (cursors_of i records h (intervals_in h rs)) v found refl refl a.3
           (rest (Some (n + 1)) (n + 1) (mark_of h rs).ic (λ m f. above m f)
           (λ m up. from m (let one = number n a.0 in omega (arith, one, up)) ∙ ap (λ b. elim b as (λ y. Option Interval) [ true ↦ Some (interval_from (record { pc = pc; x = x; ic = ic }) (puts h rs nothing)) | false ↦ interval_of h m rs ]) (apart n m (omega (arith, up))))
           a.4)
@@ -91,24 +91,24 @@ module _ (i : Program) (records : List Record) (h limit : ℕ) (fits : limit < 2
           above m f = grind arith
       by false e from a rest = rest next low begin number from a
 
-  -- spans one after another make courses one after another
-  courses_are : (ss : List Span) (cs : List Course) (next : Option ℕ) (begin : ℕ) → AreSpans limit next begin ss → AreOf i ss cs → AreCourses i cs
-  courses_are [] [] next begin a o = tt
-  courses_are [] (c ∷ cs) next begin a o = absurd o
-  courses_are (s ∷ ss) [] next begin a o = absurd o
-  courses_are (s ∷ ss) (c ∷ cs) next begin a o = chain s ss c cs (a.2, a.4) o
+  -- spans one after another make cursors one after another
+  cursors_are : (ss : List Span) (cs : List Cursor) (next : Option ℕ) (begin : ℕ) → AreSpans limit next begin ss → AreOf i ss cs → AreCursors i cs
+  cursors_are [] [] next begin a o = tt
+  cursors_are [] (c ∷ cs) next begin a o = absurd o
+  cursors_are (s ∷ ss) [] next begin a o = absurd o
+  cursors_are (s ∷ ss) (c ∷ cs) next begin a o = chain s ss c cs (a.2, a.4) o
     where
-      low_of : (s : Span) (c : Course) → s.begin ≤ s.mark.ic → IsOf i s c → GoesOn i c
+      low_of : (s : Span) (c : Cursor) → s.begin ≤ s.mark.ic → IsOf i s c → GoesOn i c
       low_of s c low o = (let b = o.begin in let m = ap (λ (e : EndMark). e.ic) o.mark in omega (arith, low, b, m), o.rows)
 
-      chain : (s : Span) (ss : List Span) (c : Course) (cs : List Course) → (s.begin ≤ s.mark.ic) × AreSpans limit (Some (s.number + 1)) s.mark.ic ss → IsOf i s c × AreOf i ss cs → AreFrom i c cs
+      chain : (s : Span) (ss : List Span) (c : Cursor) (cs : List Cursor) → (s.begin ≤ s.mark.ic) × AreSpans limit (Some (s.number + 1)) s.mark.ic ss → IsOf i s c × AreOf i ss cs → AreFrom i c cs
       chain s [] c [] a o = low_of s c a.0 o.0
       chain s [] c (d ∷ ds) a o = absurd o.1
       chain s (r ∷ rs) c [] a o = absurd o.1
       chain s (r ∷ rs) c (d ∷ ds) a o =
           (low_of s c a.0 o.0, o.1.0.begin ∙ a.1.1 ∙ sym (ap (λ (e : EndMark). e.ic) o.0.mark), chain r rs d ds (a.1.2, a.1.4) o.1)
 
-  last_same : (s : Span) (ss : List Span) (c : Course) (cs : List Course) → IsOf i s c → AreOf i ss cs → last_count c cs ≡ last_of s.mark ss
+  last_same : (s : Span) (ss : List Span) (c : Cursor) (cs : List Cursor) → IsOf i s c → AreOf i ss cs → last_count c cs ≡ last_of s.mark ss
   last_same s [] c [] o a = ap (λ (e : EndMark). e.ic) o.mark
   last_same s [] c (d ∷ ds) o a = absurd a
   last_same s (r ∷ rs) c [] o a = absurd a
@@ -162,7 +162,7 @@ lane_for i records v w zero k h e = cc
 lane_for i records v w (suc n) k zero e = (lane_of i records k, refl)
 lane_for i records v w (suc n) k (suc h) e = lane_for i records v w n (k + 1) h e
 
-edges_there : (t : Terms) (place : ℕ) (harts ends : List HartView) (rs : List Record) (h ic s j : ℕ) → after_all t place harts rs ≡ Ok ends → HasEdge rs h ic s j → (v : HartView) × (slice_get harts h ≡ Some v)
+edges_there : (t : OrderLimits) (place : ℕ) (harts ends : List HartView) (rs : List Record) (h ic s j : ℕ) → after_all t place harts rs ≡ Ok ends → HasEdge rs h ic s j → (v : HartView) × (slice_get harts h ≡ Some v)
 unfolding after_all
 edges_there t place harts ends [] h ic s j e edge = absurd edge
 edges_there t place harts ends (r ∷ rs) h ic s j e edge =
@@ -208,7 +208,7 @@ walked : (all : Bool) (rs : List Record) (x : Result (List HartView) OrderBreak)
 walked all rs (Err b) e = cc
 walked all rs (Ok ends) e = (ends, refl, all_ended all ends rs e)
 
-pub walk_of : (t : Terms) (count : ℕ) (all : Bool) (rs : List Record) → broken t count all rs ≡ None → (ends : List HartView) × (after_all t 0 (replicate count (fresh_view all)) rs ≡ Ok ends) × (list_any (is_unfinished all) ends ≡ false)
+pub walk_of : (t : OrderLimits) (count : ℕ) (all : Bool) (rs : List Record) → broken t count all rs ≡ None → (ends : List HartView) × (after_all t 0 (replicate count (fresh_view all)) rs ≡ Ok ends) × (list_any (is_unfinished all) ends ≡ false)
 unfolding broken
 walk_of t count all rs e = walked all rs (after_all t 0 (replicate count (fresh_view all)) rs) e
 
@@ -219,8 +219,8 @@ fresh_known true e = refl
 fresh_known false e = cc
 
 module _ (i : Program) (records : List Record) (h limit : ℕ) (fits : limit < 2 ^ 64) (goes : ReplaysGoOn i records) (points : PointsAscend) where
-  abbrev own : List Course
-  own = courses_of i records h (intervals_in h records)
+  abbrev own : List Cursor
+  own = cursors_of i records h (intervals_in h records)
 
   spans_are : (all : Bool) → Fits limit (fresh_view all).phase (mark_of h records) (spans h records) → (next : Option ℕ) × (begin : ℕ) × AreSpans limit next begin (spans h records)
   spans_are true f = (Some 0, 0, f)
@@ -230,13 +230,13 @@ module _ (i : Program) (records : List Record) (h limit : ℕ) (fits : limit < 2
       by [] f = (None, 0, tt)
       by (s ∷ ss) f = (None, s.begin, f)
 
-  courses_of_spans : (all : Bool) → Fits limit (fresh_view all).phase (mark_of h records) (spans h records) → AreOf i (spans h records) (courses_of i records h (intervals_in h records)) × AreCourses i (courses_of i records h (intervals_in h records))
-  courses_of_spans all f =
+  cursors_of_spans : (all : Bool) → Fits limit (fresh_view all).phase (mark_of h records) (spans h records) → AreOf i (spans h records) (cursors_of i records h (intervals_in h records)) × AreCursors i (cursors_of i records h (intervals_in h records))
+  cursors_of_spans all f =
       let a = spans_are all f in
       let are = are_of i records h limit fits goes records a.0 0 a.1 (λ n e. omega arith) (λ n low. refl) a.2 in
-      (are, courses_are i records h limit fits goes (spans h records) (courses_of i records h (intervals_in h records)) a.0 a.1 a.2 are)
+      (are, cursors_are i records h limit fits goes (spans h records) (cursors_of i records h (intervals_in h records)) a.0 a.1 a.2 are)
 
-  below_are : (ss : List Span) (cs : List Course) → spans h records ≡ ss → AreOf i ss cs → (n : ℕ) → is_below (first_count h records) n ≡ true → IsBelow n cs
+  below_are : (ss : List Span) (cs : List Cursor) → spans h records ≡ ss → AreOf i ss cs → (n : ℕ) → is_below (first_count h records) n ≡ true → IsBelow n cs
   below_are [] [] e a n b = tt
   below_are [] (c ∷ cs) e a n b = absurd a
   below_are (s ∷ ss) [] e a n b = absurd a
@@ -249,17 +249,17 @@ module _ (i : Program) (records : List Record) (h limit : ℕ) (fits : limit < 2
 
   lane_is : (all : Bool) → Fits limit (fresh_view all).phase (mark_of h records) (spans h records) → IsLane i (lane_of i records h)
   lane_is all f =
-      let are = courses_of_spans all f in
+      let are = cursors_of_spans all f in
       record {
-        points = points.ascend (first_count h records) h records (courses_of i records h (intervals_in h records)) (below_are (spans h records) (courses_of i records h (intervals_in h records)) refl are.0);
-        courses = are.1;
+        points = points.ascend (first_count h records) h records (cursors_of i records h (intervals_in h records)) (below_are (spans h records) (cursors_of i records h (intervals_in h records)) refl are.0);
+        cursors = are.1;
       }
 
   -- a target is among the points, or in the intervals
   Place : ℕ → Type 0
-  Place ic = Has (points_below (first_count h records) h records) ic ⊎ InCourses (courses_of i records h (intervals_in h records)) ic
+  Place ic = Has (points_below (first_count h records) h records) ic ⊎ InCursors (cursors_of i records h (intervals_in h records)) ic
 
-  placed_at : (all : Bool) (ss : List Span) (cs : List Course) (ic : ℕ) → spans h records ≡ ss → AreOf i ss cs → Fits limit (fresh_view all).phase (mark_of h records) ss → IsInside (fresh_view all).phase (mark_of h records) ss ic → (is_below (first_count h records) ic ≡ true) ⊎ InCourses cs ic
+  placed_at : (all : Bool) (ss : List Span) (cs : List Cursor) (ic : ℕ) → spans h records ≡ ss → AreOf i ss cs → Fits limit (fresh_view all).phase (mark_of h records) ss → IsInside (fresh_view all).phase (mark_of h records) ss ic → (is_below (first_count h records) ic ≡ true) ⊎ InCursors cs ic
   placed_at true [] cs ic e a f inside = absurd inside
   placed_at false [] cs ic e a f inside = inl (ap (λ o. is_below o ic) (no_begin h records e))
   placed_at all (s ∷ ss) [] ic e a f inside = absurd a
@@ -273,20 +273,20 @@ module _ (i : Program) (records : List Record) (h limit : ℕ) (fits : limit < 2
       let begin = a.0.begin in let low = inside.0 in inr (omega (arith, begin, low), subst (λ n. ic < n) (sym (last_same i records h limit fits goes s ss c cs a.0 a.1)) inside.1)
 
   on_way : (all : Bool) (ic s j : ℕ) → Fits limit (fresh_view all).phase (mark_of h records) (spans h records) → IsInside (fresh_view all).phase (mark_of h records) (spans h records) ic → HasEdge records h ic s j
-      → Has (points_below (first_count h records) h records) ic ⊎ InCourses (courses_of i records h (intervals_in h records)) ic
-  on_way all ic s j f inside edge = elim (placed_at all (spans h records) (courses_of i records h (intervals_in h records)) ic refl (courses_of_spans all f).0 f inside) [
+      → Has (points_below (first_count h records) h records) ic ⊎ InCursors (cursors_of i records h (intervals_in h records)) ic
+  on_way all ic s j f inside edge = elim (placed_at all (spans h records) (cursors_of i records h (intervals_in h records)) ic refl (cursors_of_spans all f).0 f inside) [
     | inl low ↦ inl (points.targets (first_count h records) h ic s j records edge low)
     | inr there ↦ inr there
   ]
 
 -- what is still to be passed isn't passed
-unpassed : (i : Program) (points : List ℕ) (courses : List Course) (k : ℕ) → ArePoints points courses → AreCourses i courses → is_passed (Some (record { points = points; courses = courses })) k ≡ true → Has points k → ⊥
-unpassed i [] courses k a c e h = absurd h
-unpassed i (p ∷ ps) courses k a c e (inl same) = below p k same e
+unpassed : (i : Program) (points : List ℕ) (cursors : List Cursor) (k : ℕ) → ArePoints points cursors → AreCursors i cursors → is_passed (Some (record { points = points; cursors = cursors })) k ≡ true → Has points k → ⊥
+unpassed i [] cursors k a c e h = absurd h
+unpassed i (p ∷ ps) cursors k a c e (inl same) = below p k same e
   where
     below : (p k : ℕ) → p ≡ k → nat_lt k p ≡ true → ⊥
     below p k e f = grind arith
-unpassed i (p ∷ ps) courses k a c e (inr h) = let up = above i p ps courses k a h in below p k up e
+unpassed i (p ∷ ps) cursors k a c e (inr h) = let up = above i p ps cursors k a h in below p k up e
   where
     below : (p k : ℕ) → p < k → nat_lt k p ≡ true → ⊥
     below p k e f = grind arith
@@ -295,26 +295,26 @@ pub starts_sound : OrderedLogsHaveShape → EdgesAreInside → PointsAscend → 
 starts_sound shape inside points goes_on i s dropped records low order =
     let goes : ReplaysGoOn i records = goes_on i records in
     let all = dropped == 0 in
-    let t = terms_of s in
+    let t = order_limits_of s in
     let harts = replicate s.harts (fresh_view (dropped == 0)) in
-    let w = walk_of (terms_of s) s.harts (dropped == 0) records order in
+    let w = walk_of (order_limits_of s) s.harts (dropped == 0) records order in
     let over : (h : ℕ) (x : HartView) → slice_get w.0 h ≡ Some x → is_unfinished (dropped == 0) x ≡ false = λ h x e. not_any (is_unfinished (dropped == 0)) w.0 h x w.2 e in
     let fits : (h : ℕ) → slice_get (replicate s.harts (fresh_view (dropped == 0))) h ≡ Some (fresh_view (dropped == 0)) → Fits s.limit (fresh_view (dropped == 0)).phase (mark_of h records) (spans h records) =
-    λ h at. shape (terms_of s) (dropped == 0) 0 (replicate s.harts (fresh_view (dropped == 0))) w.0 records w.1 h (fresh_view (dropped == 0)) at (fresh_known (dropped == 0)) (over h) in
+    λ h at. shape (order_limits_of s) (dropped == 0) 0 (replicate s.harts (fresh_view (dropped == 0))) w.0 records w.1 h (fresh_view (dropped == 0)) at (fresh_known (dropped == 0)) (over h) in
     let lane_ok : (h : ℕ) (lane : Lane) → slice_get (lanes_from i records 0 s.harts) h ≡ Some lane → IsLane i lane =
     λ h lane e. (let l = lane_at i records (fresh_view (dropped == 0)) s.harts 0 h lane e in let same : 0 + h ≡ h = omega arith in
     subst (IsLane i) (ap (lane_of i records) (sym same) ∙ l.0) (lane_is i records h s.limit low goes points (dropped == 0) (fits h l.1))) in
-    let way : (h ic a j : ℕ) (lane : Lane) → HasEdge records h ic a j → slice_get (lanes_from i records 0 s.harts) h ≡ Some lane → Has lane.points ic ⊎ InCourses lane.courses ic =
+    let way : (h ic a j : ℕ) (lane : Lane) → HasEdge records h ic a j → slice_get (lanes_from i records 0 s.harts) h ≡ Some lane → Has lane.points ic ⊎ InCursors lane.cursors ic =
     λ h ic a j lane edge e. (let l = lane_at i records (fresh_view (dropped == 0)) s.harts 0 h lane e in let same : 0 + h ≡ h = omega arith in
-    subst (λ (x : Lane). Has x.points ic ⊎ InCourses x.courses ic) (ap (lane_of i records) (sym same) ∙ l.0)
+    subst (λ (x : Lane). Has x.points ic ⊎ InCursors x.cursors ic) (ap (lane_of i records) (sym same) ∙ l.0)
     (on_way i records h s.limit low goes points (dropped == 0) ic a j (fits h l.1)
-    (inside (terms_of s) (dropped == 0) 0 (replicate s.harts (fresh_view (dropped == 0))) w.0 records w.1 h (fresh_view (dropped == 0)) l.1 (fresh_known (dropped == 0)) (over h) ic a j edge) edge)) in
+    (inside (order_limits_of s) (dropped == 0) 0 (replicate s.harts (fresh_view (dropped == 0))) w.0 records w.1 h (fresh_view (dropped == 0)) l.1 (fresh_known (dropped == 0)) (over h) ic a j edge) edge)) in
     record {
       lanes = lane_ok;
-      there = λ h ic a j edge. (let v = edges_there (terms_of s) 0 (replicate s.harts (fresh_view (dropped == 0))) w.0 records h ic a j w.1 edge in lane_for i records (fresh_view (dropped == 0)) v.0 s.harts 0 h v.1);
+      there = λ h ic a j edge. (let v = edges_there (order_limits_of s) 0 (replicate s.harts (fresh_view (dropped == 0))) w.0 records h ic a j w.1 edge in lane_for i records (fresh_view (dropped == 0)) v.0 s.harts 0 h v.1);
       on = λ h ic a j lane edge e. inr (way h ic a j lane edge e);
       closed = λ h ic a j lane edge e passed. elim (way h ic a j lane edge e) [
-        | inl has ↦ absurd (unpassed i lane.points lane.courses ic (lane_ok h lane e).points (lane_ok h lane e).courses passed has)
-        | inr there ↦ absurd (undone i lane.points lane.courses ic (lane_ok h lane e).points (lane_ok h lane e).courses passed there)
+        | inl has ↦ absurd (unpassed i lane.points lane.cursors ic (lane_ok h lane e).points (lane_ok h lane e).cursors passed has)
+        | inr there ↦ absurd (undone i lane.points lane.cursors ic (lane_ok h lane e).points (lane_ok h lane e).cursors passed there)
       ];
     }

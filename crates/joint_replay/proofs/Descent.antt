@@ -9,7 +9,7 @@ use Rattle.joint_replay.specs.declared.kinds.Readiness.TheVariants as is
 use Rattle.joint_replay.specs.declared.kinds.Next.{Next}
 use Rattle.joint_replay.specs.declared.kinds.Next.TheVariants.{Hart, AllDone, NoneReady}
 use Rattle.joint_replay.specs.Points.{sources_into}
-use Rattle.joint_replay.specs.Lanes.{Course, Lane, coming_of, count_of, point_of, is_within}
+use Rattle.joint_replay.specs.Lanes.{Cursor, Lane, coming_of, count_of, point_of, is_within}
 use Rattle.joint_replay.specs.Joining.{is_passed, first_waited, waits_for, readiness_of, choice_from}
 use Rattle.joint_replay.specs.Sound.{HasEdge}
 use Rattle.joint_replay.specs.Chains.{HaveTimes}
@@ -83,8 +83,8 @@ some_is : {X : Type 0} (x y : X) (o : Option X) → o ≡ Some x → o ≡ Some 
 some_is {X = X} x y o e f = let g : ◌≡◌ {A = Option X} (Some x) (Some y) = sym e ∙ f in cc
 
 -- a point is at the count that comes
-points_come : (points : List ℕ) (courses : List Course) (k : ℕ) (c : Coming) → point_of (record { points = points; courses = courses }) ≡ Some k → coming_of (record { points = points; courses = courses }) ≡ Some c → k ≡ count_of c
-points_come (p ∷ ps) courses k c e f = sym (some_is p k (Some p) refl e) ∙ ap count_of (some_is (PassAt p) c (Some (PassAt p)) refl f)
+points_come : (points : List ℕ) (cursors : List Cursor) (k : ℕ) (c : Coming) → point_of (record { points = points; cursors = cursors }) ≡ Some k → coming_of (record { points = points; cursors = cursors }) ≡ Some c → k ≡ count_of c
+points_come (p ∷ ps) cursors k c e f = sym (some_is p k (Some p) refl e) ∙ ap count_of (some_is (PassAt p) c (Some (PassAt p)) refl f)
 points_come [] [] k c e f = cc
 points_come [] (d ∷ ds) k c e f = by (is_within d) refl e f
   where
@@ -96,7 +96,7 @@ points_come [] (d ∷ ds) k c e f = by (is_within d) refl e f
 module _ (records : List Record) (lanes : List Lane) (h : ℕ) (lane : Lane) where
   by_point : (k : ℕ) → point_of lane ≡ Some k → (o : Option (ℕ × ℕ)) → first_waited lanes (sources_into records h k) ≡ o → Waited records lanes h k o → is_ready (waits_for o) ≡ false → WaitsAt records lanes h lane
   by_point k e None f w r = absurd cc
-  by_point k e (Some p) f w r = record { point = k; at = λ c g. points_come lane.points lane.courses k c e g; source = p.0; count = p.1; edge = w.0; waits = w.1 }
+  by_point k e (Some p) f w r = record { point = k; at = λ c g. points_come lane.points lane.cursors k c e g; source = p.0; count = p.1; edge = w.0; waits = w.1 }
 
   pub not_ready : (d : Option Coming) (q : Option ℕ) → coming_of lane ≡ d → point_of lane ≡ q
       → is_ready (elim d as (λ x. Readiness) [ None ↦ is.Done | Some c ↦ elim q as (λ x. Readiness) [ None ↦ is.Ready | Some ic ↦ waits_for (first_waited lanes (sources_into records h ic)) ] ]) ≡ false

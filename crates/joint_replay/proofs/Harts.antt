@@ -11,8 +11,8 @@ use Rattle.hart_replay.specs.Coming.{Replaying, Begins}
 use Rattle.joint_replay.specs.declared.intervals.Retained.{Retained}
 use Rattle.joint_replay.specs.Points.{IsThere}
 use Rattle.joint_replay.specs.Intervals.{numbers, AreThere}
-use Rattle.joint_replay.specs.Lanes.{Course, with_course, courses_of}
-use Rattle.joint_replay.specs.Harts.{Running, running, later_courses, hart_courses, IsHartLane}
+use Rattle.joint_replay.specs.Lanes.{Cursor, with_cursor, cursors_of}
+use Rattle.joint_replay.specs.Harts.{Running, running, later_cursors, hart_cursors, IsHartLane}
 
 -- of some intervals that are there, the last one and those before it are
 pub last_there : (h : ℕ) (records : List Record) (rs all : List Retained) (r : Retained) → all ≡ rs ++ r ∷ [] → AreThere h records all → AreThere h records rs × IsThere h records r.number r.place
@@ -27,20 +27,20 @@ last_number rs all r e = ap numbers e ∙ ap (map (λ (x : Retained). x.number))
 
 -- the interval that begins comes first
 pub begun_first : (i : Program) (h : ℕ) (records : List Record) (rs all : List Retained) (r : Retained) (x : Replaying) → all ≡ rs ++ r ∷ [] → Begins i h r.number records x
-    → hart_courses i records h (Some (running r.number x false)) rs ≡ later_courses i records h all
+    → hart_cursors i records h (Some (running r.number x false)) rs ≡ later_cursors i records h all
 begun_first i h records rs all r x e b =
-    sym (ap (courses_of i records h) (last_number rs all r e)
-    ∙ ap (λ (o : Option Interval). with_course o r.number (replayed i records h r.number) (later_courses i records h rs)) b.found
+    sym (ap (cursors_of i records h) (last_number rs all r e)
+    ∙ ap (λ (o : Option Interval). with_cursor o r.number (replayed i records h r.number) (later_cursors i records h rs)) b.found
     ∙ ap (λ (m : EndMark). first m b.interval.start (replayed i records h r.number)) (sym b.mark)
     ∙ ap (λ (s : HartState). first x.mark s (replayed i records h r.number)) (sym b.state)
     ∙ ap (λ (l : Replayed). first x.mark x.state l) (sym b.left))
   where
-    first : EndMark → HartState → Replayed → List Course
-    first m s l = record { number = r.number; mark = m; state = s; left = l; faulted = false } ∷ later_courses i records h rs
+    first : EndMark → HartState → Replayed → List Cursor
+    first m s l = record { number = r.number; mark = m; state = s; left = l; faulted = false } ∷ later_cursors i records h rs
 
 -- none is left
-pub none_left : (i : Program) (h : ℕ) (records : List Record) (rs all : List Retained) → rs ≡ all → hart_courses i records h None rs ≡ later_courses i records h all
-none_left i h records rs all e = ap (later_courses i records h) e
+pub none_left : (i : Program) (h : ℕ) (records : List Record) (rs all : List Retained) → rs ≡ all → hart_cursors i records h None rs ≡ later_cursors i records h all
+none_left i h records rs all e = ap (later_cursors i records h) e
 
 not_missing : (o : Option Interval) → is_some o ≡ true → o ≡ None → ⊥
 not_missing None e f = cc

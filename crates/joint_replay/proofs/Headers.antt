@@ -5,7 +5,7 @@ use Rattle.log_record.specs.declared.record.Record.{Record}
 use Rattle.log_record.specs.declared.record.Record.TheVariants.{Header, FirstLoad, ScOk, ScFailed, Edge, End}
 use Rattle.log_order.specs.declared.view.HartView.{HartView}
 use Rattle.log_order.specs.Rules.{is_unfinished, fresh as fresh_view}
-use Rattle.log_order.specs.Order.{broken_by, terms_of}
+use Rattle.log_order.specs.Order.{broken_by, order_limits_of}
 use Rattle.hart_replay.specs.Replay.{Interval, interval_from, puts, nothing, interval_of}
 use Rattle.joint_replay.specs.Points.{intervals_in, number_in, number_before, IsThere}
 use Rattle.joint_replay.specs.Shape.{Span, mark_of, spans, AreSpans, Fits}
@@ -136,9 +136,9 @@ repeated (suc n) (suc h) x low = repeated n h x (omega (arith, low))
 pub spans_rise : OrderedLogsHaveShape → (s : RawSettings) (dropped : ℕ) (records : List Record) → broken_by s dropped records ≡ None → (h : ℕ) → h < s.harts
     → (next : Option ℕ) × (begin : ℕ) × AreSpans s.limit next begin (spans h records)
 spans_rise shape s dropped records order h low =
-    let w = walk_of (terms_of s) s.harts (dropped == 0) records order in
+    let w = walk_of (order_limits_of s) s.harts (dropped == 0) records order in
     let over : (x : HartView) → slice_get w.0 h ≡ Some x → is_unfinished (dropped == 0) x ≡ false = λ x e. not_any (is_unfinished (dropped == 0)) w.0 h x w.2 e in
-    by (dropped == 0) (spans h records) (shape (terms_of s) (dropped == 0) 0 (replicate s.harts (fresh_view (dropped == 0))) w.0 records w.1 h (fresh_view (dropped == 0)) (repeated s.harts h (fresh_view (dropped == 0)) low) (fresh_known (dropped == 0)) over)
+    by (dropped == 0) (spans h records) (shape (order_limits_of s) (dropped == 0) 0 (replicate s.harts (fresh_view (dropped == 0))) w.0 records w.1 h (fresh_view (dropped == 0)) (repeated s.harts h (fresh_view (dropped == 0)) low) (fresh_known (dropped == 0)) over)
   where
     by : (all : Bool) (ss : List Span) → Fits s.limit (fresh_view all).phase (mark_of h records) ss → (next : Option ℕ) × (begin : ℕ) × AreSpans s.limit next begin ss
     by true ss f = (Some 0, 0, f)

@@ -6,7 +6,7 @@ use Rattle.bn_base.specs.declared.end_mark.EndMark.{EndMark}
 use Rattle.log_record.specs.declared.record.Record.{Record}
 use Rattle.log_record.specs.declared.record.Record.TheVariants.{Header, FirstLoad, ScOk, ScFailed, Edge, End}
 use Rattle.log_record.specs.Spelling.{hart_of}
-use Rattle.log_order.specs.declared.view.Terms.{Terms}
+use Rattle.log_order.specs.declared.view.OrderLimits.{OrderLimits}
 use Rattle.log_order.specs.declared.view.HartView.{HartView}
 use Rattle.log_order.specs.declared.view.Phase.{Phase}
 use Rattle.log_order.specs.declared.view.Phase.TheVariants.{Unknown, Awaiting, Open, Done}
@@ -107,7 +107,7 @@ other_edges (Edge k n a b) rs h ic s j e (inl i) = absurd (apart k h e i.0)
 other_edges (Edge k n a b) rs h ic s j e (inr i) = i
 other_edges (End k m) rs h ic s j e i = i
 
-module _ (t : Terms) (all : Bool) (h : ℕ) (w : HartView) (over : is_unfinished all w ≡ false) where
+module _ (t : OrderLimits) (all : Bool) (h : ℕ) (w : HartView) (over : is_unfinished all w ≡ false) where
   pub record Known (v : HartView) (rs : List Record) : Type 0 where
     pub seen : HasSeen v.phase v.seen (mark_of h rs) (spans h rs)
     pub inside : (ic s j : ℕ) → HasEdge rs h ic s j → IsInside v.phase (mark_of h rs) (spans h rs) ic

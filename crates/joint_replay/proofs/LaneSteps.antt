@@ -9,10 +9,10 @@ use Rattle.hart_replay.specs.Replay.{Outcome, Done, Refused}
 use Rattle.hart_replay.specs.Coming.{after_row}
 use Rattle.joint_replay.specs.declared.kinds.Coming.{Coming}
 use Rattle.joint_replay.specs.declared.kinds.Coming.TheVariants.{RowAt, EndAt}
-use Rattle.joint_replay.specs.Lanes.{Course, Lane, Passing, Doing, Ending, count_of, has_row, is_within, lane_step, course_step}
+use Rattle.joint_replay.specs.Lanes.{Cursor, Lane, Passing, Doing, Ending, count_of, has_row, is_within, lane_step, cursor_step}
 use Rattle.joint_replay.specs.Joining.{is_passed}
 use Rattle.joint_replay.specs.Counts.{RowsFrom}
-use Rattle.joint_replay.specs.Ways.{GoesOn, AreFrom, AreCourses, ArePoints, Has, last_count, InCourses, Passes, PassesIf}
+use Rattle.joint_replay.specs.Ways.{GoesOn, AreFrom, AreCursors, ArePoints, Has, last_count, InCursors, Passes, PassesIf}
 use Rattle.joint_replay.specs.Laws.{StepsPass}
 
 pub lt_true : (m n : ℕ) → m < n → nat_lt m n ≡ true
@@ -33,41 +33,41 @@ less_or m n = grind arith
 
 -- ---- what is passed, by the count that comes next
 
-at_course : Course → List Course → Lane
-at_course c cs = record { points = []; courses = c ∷ cs }
+at_cursor : Cursor → List Cursor → Lane
+at_cursor c cs = record { points = []; cursors = c ∷ cs }
 
-passed_by : (c : Course) (k : ℕ) (b : Bool) → (b ≡ false → c.mark.ic ≡ c.state.ic)
+passed_by : (c : Cursor) (k : ℕ) (b : Bool) → (b ≡ false → c.mark.ic ≡ c.state.ic)
     → elim (elim b as (λ x. Option Coming) [ true ↦ Some (RowAt c.state.ic) | false ↦ Some (EndAt c.mark.ic) ]) as (λ x. Bool) [ None ↦ true | Some d ↦ nat_lt k (count_of d) ] ≡ nat_lt k c.state.ic
 passed_by c k true e = refl
 passed_by c k false e = ap (nat_lt k) (e refl)
 
 module _ (i : Program) where
-  pub course_passed : (c : Course) (cs : List Course) (k : ℕ) → c.state.ic ≤ c.mark.ic → is_passed (Some (record { points = []; courses = c ∷ cs })) k ≡ nat_lt k c.state.ic
-  course_passed c cs k low =
+  pub cursor_passed : (c : Cursor) (cs : List Cursor) (k : ℕ) → c.state.ic ≤ c.mark.ic → is_passed (Some (record { points = []; cursors = c ∷ cs })) k ≡ nat_lt k c.state.ic
+  cursor_passed c cs k low =
       passed_by c k (has_row c) (λ e. let past = false_le c.state.ic c.mark.ic (or_left (is_within c) (nat_lt 16 c.mark.reason && not c.faulted) e) in omega (arith, past, low))
 
-  pub first_goes : (c : Course) (cs : List Course) → AreFrom i c cs → GoesOn i c
+  pub first_goes : (c : Cursor) (cs : List Cursor) → AreFrom i c cs → GoesOn i c
   first_goes c [] a = a
   first_goes c (d ∷ ds) a = a.0
 
   -- ---- an ordering point
 
-  rest_points : (p : ℕ) (ps : List ℕ) (cs : List Course) → ArePoints (p ∷ ps) cs → ArePoints ps cs
+  rest_points : (p : ℕ) (ps : List ℕ) (cs : List Cursor) → ArePoints (p ∷ ps) cs → ArePoints ps cs
   rest_points p [] cs a = tt
   rest_points p (q ∷ qs) cs a = a.1
 
-  pub above : (p : ℕ) (ps : List ℕ) (cs : List Course) (k : ℕ) → ArePoints (p ∷ ps) cs → Has ps k → p < k
+  pub above : (p : ℕ) (ps : List ℕ) (cs : List Cursor) (k : ℕ) → ArePoints (p ∷ ps) cs → Has ps k → p < k
   above p [] cs k a h = absurd h
   above p (q ∷ qs) cs k a (inl e) = omega (arith, a.0, e)
   above p (q ∷ qs) cs k a (inr h) = let later = above q qs cs k a.1 h in omega (arith, a.0, later)
 
   -- what is on the way behind the first point isn't passed with it
-  not_yet : (p : ℕ) (ps : List ℕ) (cs : List Course) (k : ℕ) → ArePoints (p ∷ ps) cs → AreCourses i cs → is_passed (Some (record { points = ps; courses = cs })) k ≡ true → Has ps k ⊎ InCourses cs k → ⊥
+  not_yet : (p : ℕ) (ps : List ℕ) (cs : List Cursor) (k : ℕ) → ArePoints (p ∷ ps) cs → AreCursors i cs → is_passed (Some (record { points = ps; cursors = cs })) k ≡ true → Has ps k ⊎ InCursors cs k → ⊥
   not_yet p [] [] k a s e (inl h) = absurd h
   not_yet p [] [] k a s e (inr h) = absurd h
   not_yet p [] (c ∷ cs) k a s e (inl h) = absurd h
   not_yet p [] (c ∷ cs) k a s e (inr h) =
-      let low = true_lt k c.state.ic (sym (course_passed c cs k (first_goes c cs s).0) ∙ e) in omega (arith, low, h.0)
+      let low = true_lt k c.state.ic (sym (cursor_passed c cs k (first_goes c cs s).0) ∙ e) in omega (arith, low, h.0)
   not_yet p (q ∷ qs) cs k a s e (inl (inl same)) = let low = true_lt k q e in omega (arith, low, same)
   not_yet p (q ∷ qs) cs k a s e (inl (inr h)) = let low = true_lt k q e in let up = above q qs cs k a.1 h in omega (arith, low, up)
   not_yet p (q ∷ qs) [] k a s e (inr h) = absurd h
@@ -78,14 +78,14 @@ module _ (i : Program) where
       under p (r ∷ rs) b = let more = under r rs b.1 in omega (arith, b.0, more)
 
   -- with the first point, all below it and itself is passed
-  passed_with : (p : ℕ) (ps : List ℕ) (cs : List Course) (k : ℕ) → ArePoints (p ∷ ps) cs → AreCourses i cs → k ≤ p → is_passed (Some (record { points = ps; courses = cs })) k ≡ true
+  passed_with : (p : ℕ) (ps : List ℕ) (cs : List Cursor) (k : ℕ) → ArePoints (p ∷ ps) cs → AreCursors i cs → k ≤ p → is_passed (Some (record { points = ps; cursors = cs })) k ≡ true
   passed_with p [] [] k a s low = refl
-  passed_with p [] (c ∷ cs) k a s low = course_passed c cs k (first_goes c cs s).0 ∙ lt_true k c.state.ic (omega (arith, low, a))
+  passed_with p [] (c ∷ cs) k a s low = cursor_passed c cs k (first_goes c cs s).0 ∙ lt_true k c.state.ic (omega (arith, low, a))
   passed_with p (q ∷ qs) cs k a s low = lt_true k q (omega (arith, low, a.0))
 
-  passing : (p : ℕ) (ps : List ℕ) (cs : List Course) → ArePoints (p ∷ ps) cs → AreCourses i cs → Passes i (record { points = p ∷ ps; courses = cs }) (Passing p) (record { points = ps; courses = cs })
+  passing : (p : ℕ) (ps : List ℕ) (cs : List Cursor) → ArePoints (p ∷ ps) cs → AreCursors i cs → Passes i (record { points = p ∷ ps; cursors = cs }) (Passing p) (record { points = ps; cursors = cs })
   passing p ps cs a s = record {
-    lane = record { points = rest_points p ps cs a; courses = s };
+    lane = record { points = rest_points p ps cs a; cursors = s };
     stays = λ k e. passed_with p ps cs k a s (let low = true_lt k p e in omega (arith, low));
     one = λ k o e. elim o [
       | inl before ↦ inl before
@@ -105,39 +105,39 @@ module _ (i : Program) where
 
   -- ---- a row
 
-  abbrev next_course : Course → Row → List Row → Course
-  next_course c r rs = record { number = c.number; mark = c.mark; state = after_row i c.state r; left = record { rows = rs; outcome = c.left.outcome }; faulted = is_some r.fault }
+  abbrev next_cursor : Cursor → Row → List Row → Cursor
+  next_cursor c r rs = record { number = c.number; mark = c.mark; state = after_row i c.state r; left = record { rows = rs; outcome = c.left.outcome }; faulted = is_some r.fault }
 
   -- the counts of a row: below the End's it goes one on, and at it, it stays
-  row_counts : (c : Course) (r : Row) (rs : List Row) → c.state.ic ≤ c.mark.ic → RowsFrom i c.mark.ic c.left.outcome c.state (r ∷ rs)
-      → ((c.state.ic < c.mark.ic) × ((next_course c r rs).state.ic ≡ c.state.ic + 1)) ⊎ ((next_course c r rs).state.ic ≡ c.state.ic)
+  row_counts : (c : Cursor) (r : Row) (rs : List Row) → c.state.ic ≤ c.mark.ic → RowsFrom i c.mark.ic c.left.outcome c.state (r ∷ rs)
+      → ((c.state.ic < c.mark.ic) × ((next_cursor c r rs).state.ic ≡ c.state.ic + 1)) ⊎ ((next_cursor c r rs).state.ic ≡ c.state.ic)
   row_counts c r rs low g = elim (less_or c.state.ic c.mark.ic) [
     | inl less ↦ inl (less, (g.1 less).1)
     | inr past ↦ inr (ap (λ (s : HartState). s.ic) (g.2 past).1)
   ]
 
-  next_goes : (c : Course) (r : Row) (rs : List Row) → c.state.ic ≤ c.mark.ic → RowsFrom i c.mark.ic c.left.outcome c.state (r ∷ rs) → GoesOn i (next_course c r rs)
+  next_goes : (c : Cursor) (r : Row) (rs : List Row) → c.state.ic ≤ c.mark.ic → RowsFrom i c.mark.ic c.left.outcome c.state (r ∷ rs) → GoesOn i (next_cursor c r rs)
   next_goes c r rs low g = (elim (row_counts c r rs low g) [ inl x ↦ (let a = x.0 in let b = x.1 in omega (arith, a, b)) | inr e ↦ omega (arith, e, low) ], g.3)
 
-  replace : (c d : Course) (cs : List Course) → d.mark ≡ c.mark → GoesOn i d → AreFrom i c cs → AreFrom i d cs
+  replace : (c d : Cursor) (cs : List Cursor) → d.mark ≡ c.mark → GoesOn i d → AreFrom i c cs → AreFrom i d cs
   replace c d [] same g a = g
   replace c d (e ∷ es) same g a = (g, a.1 ∙ sym (ap (λ m. m.ic) same), a.2)
 
-  same_last : (c d : Course) (cs : List Course) → d.mark ≡ c.mark → last_count d cs ≡ last_count c cs
+  same_last : (c d : Cursor) (cs : List Cursor) → d.mark ≡ c.mark → last_count d cs ≡ last_count c cs
   same_last c d [] same = ap (λ m. m.ic) same
   same_last c d (e ∷ es) same = refl
 
-  doing : (c : Course) (cs : List Course) (r : Row) (rs : List Row) → RowsFrom i c.mark.ic c.left.outcome c.state (r ∷ rs) → AreFrom i c cs
-      → Passes i (record { points = []; courses = c ∷ cs }) (Doing c.state r) (record { points = []; courses = next_course c r rs ∷ cs })
+  doing : (c : Cursor) (cs : List Cursor) (r : Row) (rs : List Row) → RowsFrom i c.mark.ic c.left.outcome c.state (r ∷ rs) → AreFrom i c cs
+      → Passes i (record { points = []; cursors = c ∷ cs }) (Doing c.state r) (record { points = []; cursors = next_cursor c r rs ∷ cs })
   doing c cs r rs g a =
       let low = (first_goes c cs a).0 in
-      let d : Course = next_course c r rs in
+      let d : Cursor = next_cursor c r rs in
       let goes = next_goes c r rs low g in
-      let old = course_passed c cs in
-      let new = course_passed d cs in
+      let old = cursor_passed c cs in
+      let new = cursor_passed d cs in
       let up : c.state.ic ≤ d.state.ic = elim (row_counts c r rs low g) [ inl x ↦ (let b = x.1 in omega (arith, b)) | inr e ↦ omega (arith, e) ] in
       record {
-        lane = record { points = tt; courses = replace c d cs refl goes a };
+        lane = record { points = tt; cursors = replace c d cs refl goes a };
         stays = λ k e. (let under = true_lt k c.state.ic (sym (old k low) ∙ e) in new k goes.0 ∙ lt_true k d.state.ic (omega (arith, under, up)));
         one = λ k o e.
             let under : k < d.state.ic = true_lt k d.state.ic (sym (new k goes.0) ∙ e) in
@@ -177,9 +177,9 @@ module _ (i : Program) where
 
   -- ---- an interval's end
 
-  ending : (c : Course) (cs : List Course) → c.mark.ic ≤ c.state.ic → AreFrom i c cs → Passes i (record { points = []; courses = c ∷ cs }) (Ending c.number c.mark) (record { points = []; courses = cs })
+  ending : (c : Cursor) (cs : List Cursor) → c.mark.ic ≤ c.state.ic → AreFrom i c cs → Passes i (record { points = []; cursors = c ∷ cs }) (Ending c.number c.mark) (record { points = []; cursors = cs })
   ending c [] past a = record {
-    lane = record { points = tt; courses = tt };
+    lane = record { points = tt; cursors = tt };
     stays = λ k e. refl;
     one = λ k o e. elim o [
       | inl before ↦ inl before
@@ -194,10 +194,10 @@ module _ (i : Program) where
       let low = a.0.0 in
       let same : d.state.ic ≡ c.state.ic = (let e = a.1 in omega (arith, e, low, past)) in
       let goes = first_goes d ds a.2 in
-      let equal : (k : ℕ) → is_passed (Some (record { points = []; courses = d ∷ ds })) k ≡ is_passed (Some (record { points = []; courses = c ∷ d ∷ ds })) k =
-      λ k. course_passed d ds k goes.0 ∙ ap (nat_lt k) same ∙ sym (course_passed c (d ∷ ds) k low) in
+      let equal : (k : ℕ) → is_passed (Some (record { points = []; cursors = d ∷ ds })) k ≡ is_passed (Some (record { points = []; cursors = c ∷ d ∷ ds })) k =
+      λ k. cursor_passed d ds k goes.0 ∙ ap (nat_lt k) same ∙ sym (cursor_passed c (d ∷ ds) k low) in
       record {
-        lane = record { points = tt; courses = a.2 };
+        lane = record { points = tt; cursors = a.2 };
         stays = λ k e. equal k ∙ e;
         one = λ k o e. inl (sym (equal k) ∙ e);
         on = λ k o. elim o [
@@ -211,19 +211,19 @@ module _ (i : Program) where
 
   -- ---- all steps
 
-  by_left : (number : ℕ) (mark : EndMark) (state : HartState) (rows : List Row) (o : Outcome) (faulted : Bool) (cs : List Course)
-      → let c : Course = record { number = number; mark = mark; state = state; left = record { rows = rows; outcome = o }; faulted = faulted } in
-      AreFrom i c cs → PassesIf i (record { points = []; courses = c ∷ cs }) (Some (course_step i c cs))
+  by_left : (number : ℕ) (mark : EndMark) (state : HartState) (rows : List Row) (o : Outcome) (faulted : Bool) (cs : List Cursor)
+      → let c : Cursor = record { number = number; mark = mark; state = state; left = record { rows = rows; outcome = o }; faulted = faulted } in
+      AreFrom i c cs → PassesIf i (record { points = []; cursors = c ∷ cs }) (Some (cursor_step i c cs))
   by_left number mark state (r ∷ rs) o faulted cs a =
-      let c : Course = record { number = number; mark = mark; state = state; left = record { rows = r ∷ rs; outcome = o }; faulted = faulted } in doing c cs r rs (first_goes c cs a).1 a
+      let c : Cursor = record { number = number; mark = mark; state = state; left = record { rows = r ∷ rs; outcome = o }; faulted = faulted } in doing c cs r rs (first_goes c cs a).1 a
   by_left number mark state [] Done faulted cs a =
-      let c : Course = record { number = number; mark = mark; state = state; left = record { rows = []; outcome = Done }; faulted = faulted } in ending c cs ((first_goes c cs a).1 refl) a
+      let c : Cursor = record { number = number; mark = mark; state = state; left = record { rows = []; outcome = Done }; faulted = faulted } in ending c cs ((first_goes c cs a).1 refl) a
   by_left number mark state [] (Refused e) faulted cs a = tt
 
-  by_lane : (points : List ℕ) (courses : List Course) → ArePoints points courses → AreCourses i courses → PassesIf i (record { points = points; courses = courses }) (lane_step i (record { points = points; courses = courses }))
+  by_lane : (points : List ℕ) (cursors : List Cursor) → ArePoints points cursors → AreCursors i cursors → PassesIf i (record { points = points; cursors = cursors }) (lane_step i (record { points = points; cursors = cursors }))
   by_lane (p ∷ ps) cs a s = passing p ps cs a s
   by_lane [] [] a s = tt
   by_lane [] (c ∷ cs) a s = by_left c.number c.mark c.state c.left.rows c.left.outcome c.faulted cs s
 
 pub steps_pass : StepsPass
-steps_pass i lane l = by_lane i lane.points lane.courses l.points l.courses
+steps_pass i lane l = by_lane i lane.points lane.cursors l.points l.cursors

@@ -5,9 +5,9 @@ use Rattle.bn_base.specs.Programs.{Program}
 use Rattle.log_record.specs.declared.record.Record.{Record}
 use Rattle.log_order.specs.Content.{Content, IsContent}
 use Rattle.hart_replay.specs.declared.error.ReplayError.{ReplayError}
-use Rattle.joint_replay.specs.declared.sources.Source.{Source}
+use Rattle.joint_replay.specs.declared.incoming_edges.IncomingEdge.{IncomingEdge}
 use Rattle.joint_replay.specs.Points.{sources_into}
-use Rattle.joint_replay.specs.Lanes.{Course, Lane}
+use Rattle.joint_replay.specs.Lanes.{Cursor, Lane}
 use Rattle.joint_replay.specs.Joining.{Joining, fresh, is_passed, first_waited}
 use Rattle.joint_replay.specs.Harts.{HartLane}
 use Rattle.joint_replay.specs.Calls.{bare}
@@ -26,7 +26,7 @@ use Rattle.joint_replay.proofs.Walks.{walks_are_sound}
 -- ---- a list of Edges
 
 -- what is passed is waited for no more
-skipped : (lanes : List Lane) (ic n : ℕ) (ss : List Source) → ArePassed lanes (take n ss) → first_waited lanes (sources_at ic (drop n ss)) ≡ first_waited lanes (sources_at ic ss)
+skipped : (lanes : List Lane) (ic n : ℕ) (ss : List IncomingEdge) → ArePassed lanes (take n ss) → first_waited lanes (sources_at ic (drop n ss)) ≡ first_waited lanes (sources_at ic ss)
 skipped lanes ic zero ss p = refl
 skipped lanes ic (suc n) [] p = refl
 skipped lanes ic (suc n) (s ∷ ss) p = skipped lanes ic n ss p.1 ∙ sym (by (s.target == ic))
@@ -35,25 +35,25 @@ skipped lanes ic (suc n) (s ∷ ss) p = skipped lanes ic n ss p.1 ∙ sym (by (s
     by true = ap (λ x. elim x as (λ y. Option (ℕ × ℕ)) [ true ↦ first_waited lanes (sources_at ic ss) | false ↦ Some (s.hart, s.ic) ]) p.0
     by false = refl
 
-one_passed : (lanes : List Lane) (n : ℕ) (ss : List Source) (d : Source) → n < length ss → ArePassed lanes (take n ss) → is_passed (slice_get lanes (slice_index_or ss n d).hart) (slice_index_or ss n d).ic ≡ true
+one_passed : (lanes : List Lane) (n : ℕ) (ss : List IncomingEdge) (d : IncomingEdge) → n < length ss → ArePassed lanes (take n ss) → is_passed (slice_get lanes (slice_index_or ss n d).hart) (slice_index_or ss n d).ic ≡ true
     → ArePassed lanes (take (suc n) ss)
 one_passed lanes n [] d low p e = absurd (omega (arith, low))
 one_passed lanes zero (s ∷ ss) d low p e = (e, tt)
 one_passed lanes (suc n) (s ∷ ss) d low p e = (p.0, one_passed lanes n ss d (omega (arith, low)) p.1 e)
 
 -- one more is passed
-pub more_passed : (lanes : List Lane) (n : ℕ) (ss : List Source) (d : Source) → n < length ss → ArePassed lanes (take n ss) → is_passed (slice_get lanes (slice_index_or ss n d).hart) (slice_index_or ss n d).ic ≡ true
+pub more_passed : (lanes : List Lane) (n : ℕ) (ss : List IncomingEdge) (d : IncomingEdge) → n < length ss → ArePassed lanes (take n ss) → is_passed (slice_get lanes (slice_index_or ss n d).hart) (slice_index_or ss n d).ic ≡ true
     → ArePassed lanes (take (n + 1) ss)
 more_passed lanes n ss d low p e = let up : suc n ≡ n + 1 = omega arith in subst (λ k. ArePassed lanes (take k ss)) up (one_passed lanes n ss d low p e)
 
 -- where all are passed, so are as many as one likes
-pub all_passed : (lanes : List Lane) (n m : ℕ) (ss : List Source) → length ss ≤ n → ArePassed lanes (take n ss) → ArePassed lanes (take m ss)
+pub all_passed : (lanes : List Lane) (n m : ℕ) (ss : List IncomingEdge) → length ss ≤ n → ArePassed lanes (take n ss) → ArePassed lanes (take m ss)
 all_passed lanes n zero ss low p = tt
 all_passed lanes n (suc m) [] low p = tt
 all_passed lanes zero (suc m) (s ∷ ss) low p = absurd (omega (arith, low))
 all_passed lanes (suc n) (suc m) (s ∷ ss) low p = (p.0, all_passed lanes n m ss (omega (arith, low)) p.1)
 
-still_passed : (old new : List Lane) (ss : List Source) → ((s j : ℕ) → is_passed (slice_get old s) j ≡ true → is_passed (slice_get new s) j ≡ true) → ArePassed old ss → ArePassed new ss
+still_passed : (old new : List Lane) (ss : List IncomingEdge) → ((s j : ℕ) → is_passed (slice_get old s) j ≡ true → is_passed (slice_get new s) j ≡ true) → ArePassed old ss → ArePassed new ss
 still_passed old new [] stays p = tt
 still_passed old new (s ∷ ss) stays p = (stays s.hart s.ic p.0, still_passed old new ss stays p.1)
 
@@ -102,19 +102,19 @@ module _ (i : Program) (log : Content) (count : ℕ) (hs : List HartLane) (memor
   met_passed n e = subst (λ (j : Joining). ArePassed j.lanes (take n (edges_into h j.records))) view (m.passed h n (got_at met h n there e))
 
   -- the Edges that are looked up are those into the hart
-  pub edges_are : (l : HartLane) (ss : List Source) → l ≡ slice_index_or hs h l → ss ≡ edges_into l.hart l.records → ss ≡ edges_into h now.records
+  pub edges_are : (l : HartLane) (ss : List IncomingEdge) → l ≡ slice_index_or hs h l → ss ≡ edges_into l.hart l.records → ss ≡ edges_into h now.records
   edges_are l ss value e =
       let own = own_at i log.records 0 h hs l t.own (got_at hs h l (omega (arith, low, size)) value) in
       let number : l.hart ≡ h = omega (arith, own.2) in
       e ∙ ap (λ (rs : List Record). edges_into l.hart rs) (own.1 ∙ ap (λ (j : Joining). j.records) view) ∙ ap (λ k. edges_into k now.records) number
 
   -- a hart waits for none of those that it met
-  pub waits_from : (ic : ℕ) (l : HartLane) (ss : List Source) (n : ℕ) → l ≡ slice_index_or hs h l → ss ≡ edges_into l.hart l.records → AscendFrom 0 ss → n ≡ slice_index_or met h n
+  pub waits_from : (ic : ℕ) (l : HartLane) (ss : List IncomingEdge) (n : ℕ) → l ≡ slice_index_or hs h l → ss ≡ edges_into l.hart l.records → AscendFrom 0 ss → n ≡ slice_index_or met h n
       → IsLeft now.lanes ic (sources_into now.records h ic) (drop n ss)
   waits_from ic l ss n value e ascend at =
       let same = edges_are l ss value e in record {
-        waited = skipped now.lanes ic n ss (subst (λ (xs : List Source). ArePassed now.lanes (take n xs)) (sym same) (met_passed n at))
-            ∙ ap (λ (xs : List Source). first_waited now.lanes (sources_at ic xs)) same ∙ sym (ap (first_waited now.lanes) (same_sources h ic now.records));
+        waited = skipped now.lanes ic n ss (subst (λ (xs : List IncomingEdge). ArePassed now.lanes (take n xs)) (sym same) (met_passed n at))
+            ∙ ap (λ (xs : List IncomingEdge). first_waited now.lanes (sources_at ic xs)) same ∙ sym (ap (first_waited now.lanes) (same_sources h ic now.records));
         order = (0, drop_ascends 0 n ss ascend);
       }
 
@@ -143,9 +143,9 @@ is_sound law i log count hs memory refused now view none c t =
 -- ---- want of memory passes nothing
 
 bare_passed : (lane : Lane) (j : ℕ) → is_passed (Some (bare lane)) j ≡ is_passed (Some lane) j
-bare_passed lane j = by lane.points lane.courses
+bare_passed lane j = by lane.points lane.cursors
   where
-    by : (ps : List ℕ) (cs : List Course) → is_passed (Some (bare (record { points = ps; courses = cs }))) j ≡ is_passed (Some (record { points = ps; courses = cs })) j
+    by : (ps : List ℕ) (cs : List Cursor) → is_passed (Some (bare (record { points = ps; cursors = cs }))) j ≡ is_passed (Some (record { points = ps; cursors = cs })) j
     by (p ∷ ps) cs = refl
     by [] [] = refl
     by [] (c ∷ cs) = refl

@@ -2,7 +2,7 @@
 use Rattle.std.proofs.Common.{◌≡◌, ℕ, ◌<◌, Bool, true, false, ◌&&◌, ◌==◌, ◌⊎◌, inl, inr, nat_lt, refl, sym, ap, ◌∙◌, subst, arith, List, [], ◌∷◌, Option}
 use Rattle.log_record.specs.declared.record.Record.{Record}
 use Rattle.log_record.specs.declared.record.Record.TheVariants.{Header, FirstLoad, ScOk, ScFailed, Edge, End}
-use Rattle.joint_replay.specs.Lanes.{Course}
+use Rattle.joint_replay.specs.Lanes.{Cursor}
 use Rattle.joint_replay.specs.Points.{is_below, insert, insert_if, points_below}
 use Rattle.joint_replay.specs.Ways.{ArePoints, IsBelow, Has}
 use Rattle.joint_replay.specs.Sound.{HasEdge}
@@ -25,23 +25,23 @@ both true b e = (refl, e)
 both false b e = cc
 
 -- the first of these numbers is above m, or where there is none, m is below the intervals
-abbrev Above : ℕ → List ℕ → List Course → Type 0
+abbrev Above : ℕ → List ℕ → List Cursor → Type 0
 Above m [] cs = IsBelow m cs
 Above m (x ∷ xs) cs = m < x
 
-behind : (m : ℕ) (xs : List ℕ) (cs : List Course) → Above m xs cs → ArePoints xs cs → ArePoints (m ∷ xs) cs
+behind : (m : ℕ) (xs : List ℕ) (cs : List Cursor) → Above m xs cs → ArePoints xs cs → ArePoints (m ∷ xs) cs
 behind m [] cs a p = a
 behind m (x ∷ xs) cs a p = (a, p)
 
-first_above : (m : ℕ) (xs : List ℕ) (cs : List Course) → ArePoints (m ∷ xs) cs → Above m xs cs
+first_above : (m : ℕ) (xs : List ℕ) (cs : List Cursor) → ArePoints (m ∷ xs) cs → Above m xs cs
 first_above m [] cs p = p
 first_above m (x ∷ xs) cs p = p.0
 
-rest_points : (m : ℕ) (xs : List ℕ) (cs : List Course) → ArePoints (m ∷ xs) cs → ArePoints xs cs
+rest_points : (m : ℕ) (xs : List ℕ) (cs : List Cursor) → ArePoints (m ∷ xs) cs → ArePoints xs cs
 rest_points m [] cs p = tt
 rest_points m (x ∷ xs) cs p = p.1
 
-above_insert : (m n : ℕ) (xs : List ℕ) (cs : List Course) → m < n → Above m xs cs → Above m (insert n xs) cs
+above_insert : (m n : ℕ) (xs : List ℕ) (cs : List Cursor) → m < n → Above m xs cs → Above m (insert n xs) cs
 above_insert m n [] cs up a = up
 above_insert m n (x ∷ xs) cs up a = by (n == x) (nat_lt n x)
   where
@@ -50,7 +50,7 @@ above_insert m n (x ∷ xs) cs up a = by (n == x) (nat_lt n x)
     by false true = up
     by false false = a
 
-insert_points : (n : ℕ) (xs : List ℕ) (cs : List Course) → IsBelow n cs → ArePoints xs cs → ArePoints (insert n xs) cs
+insert_points : (n : ℕ) (xs : List ℕ) (cs : List Cursor) → IsBelow n cs → ArePoints xs cs → ArePoints (insert n xs) cs
 insert_points n [] cs low p = low
 insert_points n (x ∷ xs) cs low p = by (n == x) refl (nat_lt n x) refl (insert_points n xs cs low (rest_points x xs cs p))
   where
@@ -79,7 +79,7 @@ has_old n k (x ∷ xs) h = by (n == x) (nat_lt n x) h (has_old n k xs)
     by false false (inl e) rest = inl e
     by false false (inr h) rest = inr (rest h)
 
-if_points : (b : Bool) (n : ℕ) (xs : List ℕ) (cs : List Course) → (b ≡ true → IsBelow n cs) → ArePoints xs cs → ArePoints (insert_if b n xs) cs
+if_points : (b : Bool) (n : ℕ) (xs : List ℕ) (cs : List Cursor) → (b ≡ true → IsBelow n cs) → ArePoints xs cs → ArePoints (insert_if b n xs) cs
 if_points true n xs cs low p = insert_points n xs cs (low refl) p
 if_points false n xs cs low p = p
 
@@ -91,7 +91,7 @@ if_new : (b : Bool) (n : ℕ) (xs : List ℕ) → b ≡ true → Has (insert_if 
 if_new true n xs e = has_new n xs
 if_new false n xs e = cc
 
-ascend : (first : Option ℕ) (h : ℕ) (rs : List Record) (cs : List Course) → ((n : ℕ) → is_below first n ≡ true → IsBelow n cs) → ArePoints (points_below first h rs) cs
+ascend : (first : Option ℕ) (h : ℕ) (rs : List Record) (cs : List Cursor) → ((n : ℕ) → is_below first n ≡ true → IsBelow n cs) → ArePoints (points_below first h rs) cs
 ascend first h [] cs low = tt
 ascend first h (Header k n ic pc x ∷ rs) cs low = ascend first h rs cs low
 ascend first h (FirstLoad k skip value ∷ rs) cs low = ascend first h rs cs low

@@ -5,7 +5,7 @@ use Rattle.bn_base.specs.declared.end_mark.EndMark.{EndMark}
 use Rattle.log_record.specs.declared.record.Record.{Record}
 use Rattle.log_record.specs.declared.record.Record.TheVariants.{Header, FirstLoad, ScOk, ScFailed, Edge, End}
 use Rattle.log_record.specs.Spelling.{hart_of}
-use Rattle.log_order.specs.declared.view.Terms.{Terms}
+use Rattle.log_order.specs.declared.view.OrderLimits.{OrderLimits}
 use Rattle.log_order.specs.declared.view.HartView.{HartView}
 use Rattle.log_order.specs.declared.view.Phase.{Phase}
 use Rattle.log_order.specs.declared.view.Phase.TheVariants.{Unknown, Awaiting, Open, Done}
@@ -45,7 +45,7 @@ ok_is x y e = cc
 
 -- ---- what one record does to its hart's view
 
-pub record Headed (t : Terms) (v u : HartView) (n ic : ℕ) : Type 0 where
+pub record Headed (t : OrderLimits) (v u : HartView) (n ic : ℕ) : Type 0 where
   pub takes : takes_header v.phase ≡ true
   pub awaited : is_awaited v.phase n ic ≡ true
   pub phase : u.phase ≡ Open (n + 1) ic
@@ -53,7 +53,7 @@ pub record Headed (t : Terms) (v u : HartView) (n ic : ℕ) : Type 0 where
   pub seen : v.seen ≡ u.seen
   pub met : u.met ≡ true
 
-pub headed : (t : Terms) (v u : HartView) (n ic : ℕ) → after_header t v n ic ≡ Ok u → Headed t v u n ic
+pub headed : (t : OrderLimits) (v u : HartView) (n ic : ℕ) → after_header t v n ic ≡ Ok u → Headed t v u n ic
 unfolding after_header
 headed t v u n ic e =
     let a = passes (not (takes_header v.phase)) 2 (if not (is_awaited v.phase n ic) then Err 4 else (if nat_lt (2 ^ 41) n then Err 4 else (if nat_lt ic v.seen then Err 5 else (if nat_lt t.limit ic then Err 5 else Ok (record { phase = Open (n + 1) ic; seen = v.seen; met = true; last = v.last }))))) u e in
@@ -79,7 +79,7 @@ other v u e =
     let same = ap (λ (x : HartView). x.seen) is in
     record { seen = omega (arith, same); takes = not_false (takes_other v.phase) a.0; phase = sym (ap (λ (x : HartView). x.phase) is); met = sym (ap (λ (x : HartView). x.met) is) }
 
-pub record Edged (t : Terms) (v u : HartView) (ic : ℕ) : Type 0 where
+pub record Edged (t : OrderLimits) (v u : HartView) (ic : ℕ) : Type 0 where
   pub stays : Stays v u
   pub next : ic < u.seen
   pub low : v.seen ≤ ic + 1
@@ -91,7 +91,7 @@ max_left a b = grind arith
 max_right : (a b : ℕ) → a < max b (a + 1)
 max_right a b = grind arith
 
-pub edged : (t : Terms) (v u : HartView) (ic j : ℕ) → after_edge t v ic j ≡ Ok u → Edged t v u ic
+pub edged : (t : OrderLimits) (v u : HartView) (ic j : ℕ) → after_edge t v ic j ≡ Ok u → Edged t v u ic
 unfolding after_edge
 edged t v u ic j e =
     let last : HartView = record { phase = v.phase; seen = max v.seen (ic + 1); met = true; last = v.last } in
@@ -108,7 +108,7 @@ edged t v u ic j e =
       fits = not_false (has_edge t.interval v.phase ic) f.0;
     }
 
-pub record Ended (t : Terms) (v u : HartView) (m : EndMark) : Type 0 where
+pub record Ended (t : OrderLimits) (v u : HartView) (m : EndMark) : Type 0 where
   pub takes : takes_other v.phase ≡ true
   pub limit : m.ic ≤ t.limit
   pub low : v.seen ≤ m.ic
@@ -117,7 +117,7 @@ pub record Ended (t : Terms) (v u : HartView) (m : EndMark) : Type 0 where
   pub seen : v.seen ≡ u.seen
   pub met : u.met ≡ true
 
-pub ended : (t : Terms) (v u : HartView) (m : EndMark) → after_end t v m ≡ Ok u → Ended t v u m
+pub ended : (t : OrderLimits) (v u : HartView) (m : EndMark) → after_end t v m ≡ Ok u → Ended t v u m
 unfolding after_end
 ended t v u m e =
     let last : HartView = record { phase = phase_after v.phase m; seen = v.seen; met = true; last = Some m.ic } in
@@ -177,7 +177,7 @@ abbrev pub ◌>>◌ : Result HartView ℕ → (HartView → Result HartView ℕ)
 (Ok x) >> f = f x
 (Err e) >> f = Err e
 
-abbrev pub own_walk : Terms → ℕ → HartView → List Record → Result HartView ℕ
+abbrev pub own_walk : OrderLimits → ℕ → HartView → List Record → Result HartView ℕ
 own_walk t h v [] = Ok v
 own_walk t h v (r ∷ rs) = elim (hart_of r == h) as (λ x. Result HartView ℕ) [ true ↦ after_one t v r >> (λ w. own_walk t h w rs) | false ↦ own_walk t h v rs ]
 
@@ -214,7 +214,7 @@ pub or_true : (b : Bool) → (b || true) ≡ true
 or_true true = refl
 or_true false = refl
 
-module _ (t : Terms) (all : Bool) (h : ℕ) (w : HartView) (over : is_unfinished all w ≡ false) where
+module _ (t : OrderLimits) (all : Bool) (h : ℕ) (w : HartView) (over : is_unfinished all w ≡ false) where
   abbrev pub Fit : HartView → List Record → Type 0
   Fit v rs = Fits t.limit v.phase (mark_of h rs) (spans h rs)
 
@@ -276,14 +276,14 @@ ok_both : {A B : Type 0} (x : Result A ℕ) (f : A → Result B ℕ) (y : B) →
 ok_both (Ok a) f y e = (a, refl, e)
 ok_both (Err n) f y e = cc
 
-pub record StepGives (t : Terms) (harts next : List HartView) (r : Record) : Type 0 where
+pub record StepGives (t : OrderLimits) (harts next : List HartView) (r : Record) : Type 0 where
   pub old : HartView
   pub new : HartView
   pub at : slice_get harts (hart_of r) ≡ Some old
   pub took : after_one t old r ≡ Ok new
   pub is : next ≡ slice_set harts (hart_of r) new
 
-pub step_gives : (t : Terms) (harts next : List HartView) (r : Record) → step t harts r ≡ Ok next → StepGives t harts next r
+pub step_gives : (t : OrderLimits) (harts next : List HartView) (r : Record) → step t harts r ≡ Ok next → StepGives t harts next r
 unfolding step
 step_gives t harts next r e = by (slice_get harts (hart_of r)) refl e
   where
@@ -301,7 +301,7 @@ pub placed : (place : ℕ) (x : Result (List HartView) ℕ) (f : List HartView �
 placed place (Ok a) f y e = (a, refl, e)
 placed place (Err n) f y e = cc
 
-pub project : (t : Terms) (h : ℕ) (place : ℕ) (harts ends : List HartView) (rs : List Record) (v : HartView) → after_all t place harts rs ≡ Ok ends → slice_get harts h ≡ Some v
+pub project : (t : OrderLimits) (h : ℕ) (place : ℕ) (harts ends : List HartView) (rs : List Record) (v : HartView) → after_all t place harts rs ≡ Ok ends → slice_get harts h ≡ Some v
     → (w : HartView) × (slice_get ends h ≡ Some w) × (own_walk t h v rs ≡ Ok w)
 unfolding after_all
 project t h place harts ends [] v e at = (v, subst (λ hs. slice_get hs h ≡ Some v) (same harts ends e) at, refl)

@@ -7,15 +7,15 @@ use Rattle.hart_replay.specs.declared.error.ReplayError.{ReplayError}
 use Rattle.joint_replay.specs.declared.kinds.Coming.{Coming}
 use Rattle.joint_replay.specs.declared.kinds.Readiness.{Readiness}
 use Rattle.joint_replay.specs.declared.kinds.Readiness.TheVariants as is
-use Rattle.joint_replay.specs.Lanes.{Course, Lane, Item, coming_of, count_of, lane_step}
+use Rattle.joint_replay.specs.Lanes.{Cursor, Lane, Item, coming_of, count_of, lane_step}
 use Rattle.joint_replay.specs.Memory.{memory_after}
 use Rattle.joint_replay.specs.Joining.{Joining, Taken, Walk, begun, longer, fresh, is_passed, readiness_of, move}
 use Rattle.joint_replay.specs.Orders.{IsBegun, ready_step, walk_on}
-use Rattle.joint_replay.specs.Ways.{AreCourses, ArePoints, InCourses, IsRowAt, Passes, PassesIf}
+use Rattle.joint_replay.specs.Ways.{AreCursors, ArePoints, InCursors, IsRowAt, Passes, PassesIf}
 use Rattle.joint_replay.specs.Sound.{IsSound}
 use Rattle.joint_replay.specs.Chains.{StepTo, Leads, one, more, Did, IsLeft, IsToDo}
 use Rattle.joint_replay.specs.Laws.{StepsPass, ChainsAreKept}
-use Rattle.joint_replay.proofs.LaneSteps.{course_passed, first_goes, true_lt, lt_true}
+use Rattle.joint_replay.proofs.LaneSteps.{cursor_passed, first_goes, true_lt, lt_true}
 use Rattle.joint_replay.proofs.Soundness.{get_same, get_other, some_is, sources_passed, after_sound}
 
 -- ---- passed instructions
@@ -29,9 +29,9 @@ passed_lower None n k low e = refl
 passed_lower (Some lane) n k low e = lower (coming_of lane) n k low e
 
 -- what is still to be done isn't passed
-pub undone : (i : Program) (points : List ℕ) (courses : List Course) (k : ℕ) → ArePoints points courses → AreCourses i courses → is_passed (Some (record { points = points; courses = courses })) k ≡ true → InCourses courses k → ⊥
+pub undone : (i : Program) (points : List ℕ) (cursors : List Cursor) (k : ℕ) → ArePoints points cursors → AreCursors i cursors → is_passed (Some (record { points = points; cursors = cursors })) k ≡ true → InCursors cursors k → ⊥
 undone i points [] k a s e h = absurd h
-undone i [] (c ∷ cs) k a s e h = let low = true_lt k c.state.ic (sym (course_passed i c cs k (first_goes i c cs s).0) ∙ e) in omega (arith, low, h.0)
+undone i [] (c ∷ cs) k a s e h = let low = true_lt k c.state.ic (sym (cursor_passed i c cs k (first_goes i c cs s).0) ∙ e) in omega (arith, low, h.0)
 undone i (p ∷ ps) (c ∷ cs) k a s e h = let low = true_lt k p e in let up = under p ps a in omega (arith, low, up, h.0)
   where
     under : (p : ℕ) (ps : List ℕ) → ArePoints (p ∷ ps) (c ∷ cs) → p < c.state.ic
@@ -54,7 +54,7 @@ module _ (now : Joining) (sound : IsSound now) where
 
   not_left : (s j : ℕ) (o : Option Lane) → slice_get now.lanes s ≡ o → is_passed o j ≡ true → IsLeft o j → ⊥
   not_left s j None e p h = h
-  not_left s j (Some lane) e p h = undone now.program lane.points lane.courses j (sound.lanes s lane e).points (sound.lanes s lane e).courses p h
+  not_left s j (Some lane) e p h = undone now.program lane.points lane.cursors j (sound.lanes s lane e).points (sound.lanes s lane e).cursors p h
 
 -- ---- walks
 

@@ -9,7 +9,7 @@ use Rattle.joint_replay.specs.declared.error.JointError.{JointError}
 use Rattle.joint_replay.specs.declared.error.JointError.TheVariants as why
 use Rattle.joint_replay.specs.declared.kinds.Stepped.{Stepped}
 use Rattle.joint_replay.specs.declared.kinds.Stepped.TheVariants.{Passed, Did, Ended}
-use Rattle.joint_replay.specs.Lanes.{Course, Lane, Item, Passing, Doing, Ending, state_of}
+use Rattle.joint_replay.specs.Lanes.{Cursor, Lane, Item, Passing, Doing, Ending, state_of}
 use Rattle.joint_replay.specs.Joining.{Joining, Walk, error_of, next_step}
 use Rattle.joint_replay.specs.Orders.{IsBegun}
 
@@ -19,20 +19,20 @@ stepped_of h (Passing ic) = Passed h ic
 stepped_of h (Doing before row) = Did row
 stepped_of h (Ending n m) = Ended h n m
 
--- the state of a hart, where an interval of it is under way
+-- the state of a hart, if an interval of it is under way
 abbrev pub state_at : Joining → ℕ → Option HartState
 state_at j h = elim (slice_get j.lanes h) [ None ↦ None | Some lane ↦ state_of lane ]
 
--- ---- want of memory
+-- ---- out of memory
 
 -- a hart, whatever is left of its replays
-abbrev pub bare_course : Course → Course
-bare_course c = record c { left = over Done }
+abbrev pub bare_cursor : Cursor → Cursor
+bare_cursor c = record c { left = over Done }
 
 abbrev pub bare : Lane → Lane
-bare lane = record lane { courses = map bare_course lane.courses }
+bare lane = record lane { cursors = map bare_cursor lane.cursors }
 
--- memory was wanting: all is as before, but that the refusal is repeated, and a replay that found no memory does the same
+-- memory ran out: all is as before, but that the refusal is repeated, and a replay that found no memory does the same
 pub record IsHalted (old new : Joining) : Type 0 where
   pub program : new.program ≡ old.program
   pub records : new.records ≡ old.records
@@ -40,7 +40,7 @@ pub record IsHalted (old new : Joining) : Type 0 where
   pub memory : new.memory ≡ old.memory
   pub refused : new.refused ≡ Some replay.OutOfMemory
 
--- an allowed order led to where a joint replay stands; a refusal changes nothing of what it shows
+-- an allowed order led to the point where a joint replay stands; a refusal changes nothing of what it shows
 pub record IsReached (harts : ℕ) (j : Joining) : Type 0 where
   pub order : List ℕ
   pub walk : Walk

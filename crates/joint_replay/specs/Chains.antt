@@ -3,7 +3,7 @@ use Rattle.std.specs.Prelude.{◌≡◌, ◌⊎◌, ℕ, ◌<◌, ◌≤◌, Lis
 use Rattle.log_record.specs.declared.record.Record.{Record}
 use Rattle.joint_replay.specs.Lanes.{Lane}
 use Rattle.joint_replay.specs.Joining.{Joining, Taken}
-use Rattle.joint_replay.specs.Ways.{InCourses, IsRowAt}
+use Rattle.joint_replay.specs.Ways.{InCursors, IsRowAt}
 use Rattle.joint_replay.specs.Sound.{HasEdge}
 
 -- from instruction j of hart s to a later one of the hart, or along an Edge
@@ -24,7 +24,7 @@ pub record Did (taken : List Taken) (x hart count : ℕ) : Type 0 where
 
 abbrev pub IsLeft : Option Lane → ℕ → Type 0
 IsLeft None k = ⊥
-IsLeft (Some lane) k = InCourses lane.courses k
+IsLeft (Some lane) k = InCursors lane.cursors k
 
 -- instruction k of hart h is still to be done; at the start these are those of the retained intervals
 abbrev pub IsToDo : Joining → ℕ → ℕ → Type 0

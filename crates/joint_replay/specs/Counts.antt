@@ -1,4 +1,4 @@
--- Rows that go on from a state.
+-- Rows that continue from a state.
 use Rattle.std.specs.Prelude.{true, is_some, ◌≡◌, ℕ, ◌+◌, ◌<◌, ◌≤◌, List, [], ◌∷◌, None}
 use Rattle.bn_base.specs.Programs.{Program}
 use Rattle.bn_base.specs.declared.row.Row.{Row}

@@ -16,7 +16,7 @@ pub record IsFirstStep (j : Joining) (h : ℕ) (x : Item × Joining) : Type 0 wh
   pub harts : length x.1.lanes ≡ length j.lanes
   pub refused : x.1.refused ≡ j.refused
 
--- the lowest ready hart is one of them, and is ready; where its step is done, the run goes on after it; where it is refused, none is
+-- the lowest ready hart is one of them, and is ready; if its step is done, the run continues after it; if it is refused, none is
 -- ready or all are done, the run ends
 pub record RunsByStep : Type 0 where
   pub there : (j : Joining) (h : ℕ) → choice j ≡ Hart h → h < length j.lanes

@@ -1,4 +1,4 @@
--- Where the Edges into a hart of a log in order lead.
+-- The places where the Edges into a hart of a log in order lead.
 use Rattle.std.specs.Prelude.{◌⊎◌, ℕ, ◌<◌, ◌≤◌, List, [], ◌∷◌}
 use Rattle.bn_base.specs.declared.end_mark.EndMark.{EndMark}
 use Rattle.log_order.specs.declared.view.Phase.{Phase}

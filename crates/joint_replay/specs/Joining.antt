@@ -1,4 +1,4 @@
--- The joint replay: all harts together, one step after another.
+-- The joint replay: all harts together, one step after another. It is defined for every log that can be read, forged ones too.
 use Rattle.std.specs.Prelude.{ℕ, zero, suc, ◌+◌, nat_lt, Bool, true, false, List, [], ◌∷◌, slice_get, slice_set, Option, Some, None, Result, Ok, Err}
 use Rattle.bn_base.specs.Programs.{Program}
 use Rattle.log_record.specs.declared.record.Record.{Record}
@@ -17,7 +17,7 @@ use Rattle.joint_replay.specs.Points.{sources_into}
 use Rattle.joint_replay.specs.Lanes.{Lane, Item, lane_of, coming_of, count_of, point_of, lane_step, lane_steps}
 use Rattle.joint_replay.specs.Memory.{memory_after}
 
--- where a joint replay stands: its program, the log's records, the harts by number, the known words of the joint memory by
+-- the point where a joint replay stands: its program, the log's records, the harts by number, the known words of the joint memory by
 -- ascending address, and the refusal that it repeats, once there was one
 pub record Joining : Type 0 where
   pub program : Program
@@ -57,13 +57,15 @@ readiness_of records lanes h lane = elim (coming_of lane) [
   | Some c ↦ elim (point_of lane) [ None ↦ is.Ready | Some ic ↦ waits_for (first_waited lanes (sources_into records h ic)) ]
 ]
 
+-- whether a hart is done, ready, or waits: the first source, in log order, of an Edge into its point that isn't passed
 abbrev pub readiness : Joining → ℕ → Readiness
 readiness j h = elim (slice_get j.lanes h) [ None ↦ is.Done | Some lane ↦ readiness_of j.records j.lanes h lane ]
 
+-- what the next step of a hart is
 abbrev pub coming : Joining → ℕ → Option Coming
 coming j h = elim (slice_get j.lanes h) [ None ↦ None | Some lane ↦ coming_of lane ]
 
--- the first ready one of the harts from h on; where there is none, whether one of them, or one before, waits
+-- the first ready one of the harts from h on; if there is none, whether one of them, or one before, waits
 abbrev pub choice_from : List Record → List Lane → ℕ → List Lane → Bool → Next
 choice_from records lanes h [] true = NoneReady
 choice_from records lanes h [] false = AllDone
@@ -101,14 +103,16 @@ pub record Taken : Type 0 where
   pub hart : ℕ
   pub item : Item
 
--- steps, latest first, and where the joint replay stands after them
+-- steps, latest first, and the point where the joint replay stands after them
 pub record Walk : Type 0 where
   pub taken : List Taken
   pub now : Joining
 
+-- a walk of no steps
 abbrev pub begun : Joining → Walk
 begun j = record { taken = []; now = j }
 
+-- a walk with one step more
 abbrev pub longer : Walk → ℕ → Item × Joining → Walk
 longer w h x = record { taken = record { hart = h; item = x.0 } ∷ w.taken; now = x.1 }
 
@@ -117,11 +121,12 @@ abbrev pub positions_from : ℕ → List Lane → List (ℕ × ℕ)
 positions_from h [] = []
 positions_from h (l ∷ ls) = elim (coming_of l) [ None ↦ positions_from (h + 1) ls | Some c ↦ (h, count_of c) ∷ positions_from (h + 1) ls ]
 
+-- how many steps all harts have left at most
 abbrev pub steps_left : List Lane → ℕ
 steps_left [] = 0
 steps_left (l ∷ ls) = lane_steps l + steps_left ls
 
--- how a refusal of a replay is told; want of memory is told by itself
+-- how a refusal of a replay is told; out of memory is told by itself
 abbrev pub error_of : ReplayError → JointError
 error_of (NoInterval h c) = Replay (NoInterval h c)
 error_of (LoadMissing h ic a) = Replay (LoadMissing h ic a)
@@ -135,10 +140,11 @@ pub record Ran : Type 0 where
   pub walk : Walk
   pub stopped : Option JointError
 
+-- a run that stopped so
 abbrev pub ran : Walk → Option JointError → Ran
 ran w stopped = record { walk = w; stopped = stopped }
 
--- the lowest ready hart takes a step, and the run goes on from there; it stops where all are done, none is ready, or a
+-- the lowest ready hart takes a step, and the run continues from there; it stops if all are done, none is ready, or a
 -- replay is or was refused
 abbrev pub run_on : Walk → (Walk → Ran) → Ran
 run_on w go = elim w.now.refused [

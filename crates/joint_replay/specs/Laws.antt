@@ -3,7 +3,7 @@ use Rattle.std.specs.Prelude.{◌≡◌, ◌<◌, ◌-◌, ◌^◌, ◌||◌, �
 use Rattle.bn_base.specs.Programs.{Program}
 use Rattle.bn_base.specs.declared.settings.RawSettings.{RawSettings}
 use Rattle.log_record.specs.declared.record.Record.{Record}
-use Rattle.log_order.specs.declared.view.Terms.{Terms}
+use Rattle.log_order.specs.declared.view.OrderLimits.{OrderLimits}
 use Rattle.log_order.specs.declared.view.HartView.{HartView}
 use Rattle.log_order.specs.Rules.{is_unfinished}
 use Rattle.log_order.specs.Order.{after_all, broken_by}
@@ -11,7 +11,7 @@ use Rattle.hart_replay.specs.Replay.{Interval, Position, interval_of, replayed}
 use Rattle.hart_replay.specs.Coming.{to_come}
 use Rattle.joint_replay.specs.declared.kinds.Next.TheVariants.{NoneReady}
 use Rattle.joint_replay.specs.Points.{is_below, points_below}
-use Rattle.joint_replay.specs.Lanes.{Course, Lane, lane_step}
+use Rattle.joint_replay.specs.Lanes.{Cursor, Lane, lane_step}
 use Rattle.joint_replay.specs.Joining.{Joining, Walk, fresh, choice}
 use Rattle.joint_replay.specs.Orders.{IsBegun, ready_step}
 use Rattle.joint_replay.specs.Counts.{RowsFrom}
@@ -41,25 +41,25 @@ StepsPass = (i : Program) (lane : Lane) → IsLane i lane → PassesIf i lane (l
 
 -- the intervals of each hart stand one after another
 abbrev pub OrderedLogsHaveShape : Type 0
-OrderedLogsHaveShape = (t : Terms) (all : Bool) (place : ℕ) (harts ends : List HartView) (rs : List Record) → after_all t place harts rs ≡ Ok ends
+OrderedLogsHaveShape = (t : OrderLimits) (all : Bool) (place : ℕ) (harts ends : List HartView) (rs : List Record) → after_all t place harts rs ≡ Ok ends
     → (h : ℕ) (v : HartView) → slice_get harts h ≡ Some v → (is_known v.phase ≡ true → (all || v.met) ≡ true)
     → ((w : HartView) → slice_get ends h ≡ Some w → is_unfinished all w ≡ false) → Fits t.limit v.phase (mark_of h rs) (spans h rs)
 
 -- an Edge into a hart leads into its intervals, or below the first of them
 abbrev pub EdgesAreInside : Type 0
-EdgesAreInside = (t : Terms) (all : Bool) (place : ℕ) (harts ends : List HartView) (rs : List Record) → after_all t place harts rs ≡ Ok ends
+EdgesAreInside = (t : OrderLimits) (all : Bool) (place : ℕ) (harts ends : List HartView) (rs : List Record) → after_all t place harts rs ≡ Ok ends
     → (h : ℕ) (v : HartView) → slice_get harts h ≡ Some v → (is_known v.phase ≡ true → (all || v.met) ≡ true)
     → ((w : HartView) → slice_get ends h ≡ Some w → is_unfinished all w ≡ false)
     → (ic s j : ℕ) → HasEdge rs h ic s j → IsInside v.phase (mark_of h rs) (spans h rs) ic
 
 -- the targets of the Edges into a hart ascend
 abbrev pub EdgesAscend : Type 0
-EdgesAscend = (t : Terms) (place : ℕ) (harts ends : List HartView) (rs : List Record) → after_all t place harts rs ≡ Ok ends
+EdgesAscend = (t : OrderLimits) (place : ℕ) (harts ends : List HartView) (rs : List Record) → after_all t place harts rs ≡ Ok ends
     → (h : ℕ) (v : HartView) → slice_get harts h ≡ Some v → AscendFrom v.seen (edges_into h rs)
 
 -- the ordering points of a hart ascend below its first Header's count, and each target of an Edge there is among them
 pub record PointsAscend : Type 0 where
-  pub ascend : (first : Option ℕ) (h : ℕ) (records : List Record) (courses : List Course) → ((n : ℕ) → is_below first n ≡ true → IsBelow n courses) → ArePoints (points_below first h records) courses
+  pub ascend : (first : Option ℕ) (h : ℕ) (records : List Record) (cursors : List Cursor) → ((n : ℕ) → is_below first n ≡ true → IsBelow n cursors) → ArePoints (points_below first h records) cursors
   pub targets : (first : Option ℕ) (h ic s j : ℕ) (records : List Record) → HasEdge records h ic s j → is_below first ic ≡ true → Has (points_below first h records) ic
 
 -- ---- all harts together
@@ -78,6 +78,6 @@ abbrev pub ChainsAreKept : Type 0
 ChainsAreKept = (i : Program) (harts : ℕ) (records : List Record) (order : List ℕ) (w : Walk) → IsSound (fresh i harts records) → IsBegun i harts records order w
     → (y h ic : ℕ) → Did w.taken y h ic → (s j : ℕ) → Leads records s j h ic → IsToDo (fresh i harts records) s j → (x : ℕ) × Did w.taken x s j × (y < x)
 
--- where instructions have times that the kept Edges follow, some hart is ready until all are done
+-- if instructions have times that the kept Edges follow, some hart is ready until all are done
 abbrev pub NeverStuck : Type 0
 NeverStuck = (now : Joining) (time : ℕ → ℕ → ℕ) → HaveTimes now.records time → choice now ≡ NoneReady → ⊥

@@ -14,7 +14,7 @@ use Rattle.joint_replay.specs.declared.lane.Moved.TheVariants as to
 use Rattle.joint_replay.specs.Lanes.{Item, Passing, Doing, Ending, lane_step}
 use Rattle.joint_replay.specs.Memory.{Bytes, filled}
 use Rattle.joint_replay.specs.Harts.{Running, HartLane}
-use Rattle.joint_replay.specs.Calls.{bare_course, bare}
+use Rattle.joint_replay.specs.Calls.{bare_cursor, bare}
 
 -- what a hart's registers ask of a system call
 abbrev pub asked_by : HartState → Asked
@@ -28,11 +28,11 @@ abbrev pub did : HartState → Row → Did
 did before row = record { row = row; filled = option_map range_of (filled before row) }
 
 -- a step of the interval under way: its next row, or its end, or its refusal; want of memory changes what is left alone
-abbrev pub CourseSteps : Running → Result (Option Did) ReplayError → Running → Type 0
-CourseSteps old (Ok None) new = (old.course.left ≡ over Done) × (new ≡ old)
-CourseSteps old (Ok (Some x)) new = (old.course.left ≡ with_rows (x.row ∷ []) new.course.left) × (x ≡ did old.course.state x.row) × (new.program ≡ old.program)
-    × (new.course ≡ record { number = old.course.number; mark = old.course.mark; state = after_row old.program old.course.state x.row; left = new.course.left; faulted = is_some x.row.fault })
-CourseSteps old (Err e) new = (new.program ≡ old.program) × (((old.course.left ≡ over (Refused e)) × (new.course ≡ old.course)) ⊎ ((e ≡ OutOfMemory) × (bare_course new.course ≡ bare_course old.course)))
+abbrev pub CursorSteps : Running → Result (Option Did) ReplayError → Running → Type 0
+CursorSteps old (Ok None) new = (old.cursor.left ≡ over Done) × (new ≡ old)
+CursorSteps old (Ok (Some x)) new = (old.cursor.left ≡ with_rows (x.row ∷ []) new.cursor.left) × (x ≡ did old.cursor.state x.row) × (new.program ≡ old.program)
+    × (new.cursor ≡ record { number = old.cursor.number; mark = old.cursor.mark; state = after_row old.program old.cursor.state x.row; left = new.cursor.left; faulted = is_some x.row.fault })
+CursorSteps old (Err e) new = (new.program ≡ old.program) × (((old.cursor.left ≡ over (Refused e)) × (new.cursor ≡ old.cursor)) ⊎ ((e ≡ OutOfMemory) × (bare_cursor new.cursor ≡ bare_cursor old.cursor)))
 
 -- a step of a hart, as it is told
 abbrev pub moved : Item → Moved

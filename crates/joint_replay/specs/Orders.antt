@@ -16,7 +16,7 @@ ready_step j h = elim (readiness j h) [
   | is.Done ↦ None
 ]
 
--- the steps of harts one after another, where each is ready at its step
+-- the steps of harts one after another, if each is ready at its step
 abbrev pub walk_on : Walk → List ℕ → Option Walk
 walk_on w [] = Some w
 walk_on w (h ∷ hs) = elim (ready_step w.now h) [ None ↦ None | Some x ↦ walk_on (longer w h x) hs ]

@@ -17,7 +17,7 @@ first_count h [] = None
 first_count h (Header k n ic pc x ∷ rs) = elim (k == h) [ true ↦ Some ic | false ↦ first_count h rs ]
 first_count h (r ∷ rs) = first_count h rs
 
--- below that count; every count is, where no Header is retained
+-- below that count; every count is, if no Header is retained
 abbrev pub is_below : Option ℕ → ℕ → Bool
 is_below None n = true
 is_below (Some first) n = nat_lt n first

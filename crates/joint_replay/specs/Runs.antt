@@ -23,11 +23,11 @@ pub record Advanced (old new : Joining) (out_old out_new : List ℕ) : Type 0 wh
   pub fewer : steps_left new.lanes < steps_left old.lanes
   pub text : out_new ≡ out_old ++ item_text taken.hart taken.item
 
--- memory was wanting for the step, or for its line once it was done
+-- memory ran out for the step, or for its line once it was done
 abbrev pub IsStarved : Joining → Joining → Type 0
 IsStarved old new = IsHalted old new ⊎ ((t : Taken) × (next : Joining) × IsStep old t next × IsHalted next new)
 
--- a step is done and told, or none is left, or the run stops there; or memory was wanting
+-- a step is done and told, or none is left, or the run stops there; or memory ran out
 abbrev pub Advances : Joining → Result Bool JointError → Joining → List ℕ → List ℕ → Type 0
 Advances old (Ok true) new out_old out_new = Advanced old new out_old out_new
 Advances old (Ok false) new out_old out_new = (one_step old ≡ ran (begun new) None) × (out_new ≡ out_old)
@@ -57,19 +57,22 @@ pub record FoundNoMemory (old new : Joining) (out_old out_new : List ℕ) : Type
   pub halted : IsHalted (run_for steps (begun old)).walk.now new
   pub text : out_new ≡ out_old ++ steps_text (run_for told (begun old)).walk.taken
 
+-- all steps are done and their lines are sent, or the run ends early as it has to, or it runs out of memory
 abbrev pub Runs : Joining → Result (Unit {0}) JointError → Joining → List ℕ → List ℕ → Type 0
 Runs old result new out_old out_new = RanToEnd old result new out_old out_new ⊎ ((result ≡ Err why.OutOfMemory) × FoundNoMemory old new out_old out_new)
 
 -- ---- a run is its first step, and the run after it
 
+-- a run is its first step and the run from there on: in its text, the point where it ends and why
 pub record IsFirst (j : Joining) (t : Taken) (next : Joining) : Type 0 where
   pub text : steps_text (run_all j).walk.taken ≡ item_text t.hart t.item ++ steps_text (run_all next).walk.taken
   pub now : (run_all j).walk.now ≡ (run_all next).walk.now
   pub stopped : (run_all j).stopped ≡ (run_all next).stopped
 
+-- so it is with each run that has a step
 abbrev pub RunsGoOn : Type 0
 RunsGoOn = (j : Joining) (t : Taken) (next : Joining) → IsStep j t next → IsFirst j t next
 
--- where no step is taken the run ends
+-- if no step is taken the run ends
 abbrev pub RunsEnd : Type 0
 RunsEnd = (j next : Joining) (stopped : Option JointError) → one_step j ≡ ran (begun next) stopped → run_all j ≡ ran (begun next) stopped

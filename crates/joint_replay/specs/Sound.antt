@@ -12,7 +12,7 @@ HasEdge [] h ic s j = ⊥
 HasEdge (Edge k n a b ∷ rs) h ic s j = ((k ≡ h) × (n ≡ ic) × (a ≡ s) × (b ≡ j)) ⊎ HasEdge rs h ic s j
 HasEdge (r ∷ rs) h ic s j = HasEdge rs h ic s j
 
--- each target of an Edge is on its hart's way, and where a target is passed, so is the Edge's source
+-- each target of an Edge is on its hart's way, and if a target is passed, so is the Edge's source
 pub record IsSound (now : Joining) : Type 0 where
   pub lanes : (h : ℕ) (lane : Lane) → slice_get now.lanes h ≡ Some lane → IsLane now.program lane
   pub there : (h ic s j : ℕ) → HasEdge now.records h ic s j → (lane : Lane) × (slice_get now.lanes h ≡ Some lane)

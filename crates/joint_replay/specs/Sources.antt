@@ -3,10 +3,10 @@ use Rattle.std.specs.Prelude.{ℕ, ◌+◌, ◌≤◌, ◌==◌, true, false, Li
 use Rattle.log_record.specs.declared.record.Record.{Record}
 use Rattle.log_record.specs.declared.record.Record.TheVariants.{Header, FirstLoad, ScOk, ScFailed, Edge, End}
 use Rattle.log_order.specs.Content.{Content}
-use Rattle.joint_replay.specs.declared.sources.Source.{Source}
+use Rattle.joint_replay.specs.declared.incoming_edges.IncomingEdge.{IncomingEdge}
 
 -- the Edge into hart h that a record is, if it is one
-abbrev pub source_in : ℕ → Record → Option Source
+abbrev pub source_in : ℕ → Record → Option IncomingEdge
 source_in h (Header k n ic pc x) = None
 source_in h (FirstLoad k skip value) = None
 source_in h (ScOk k) = None
@@ -14,22 +14,22 @@ source_in h (ScFailed k) = None
 source_in h (Edge k n s j) = elim (k == h) [ true ↦ Some (record { target = n; hart = s; ic = j }) | false ↦ None ]
 source_in h (End k mark) = None
 
-abbrev pub source_before : Option Source → List Source → List Source
+abbrev pub source_before : Option IncomingEdge → List IncomingEdge → List IncomingEdge
 source_before None sources = sources
 source_before (Some source) sources = source ∷ sources
 
 -- the Edges into hart h, in log order
-abbrev pub edges_into : ℕ → List Record → List Source
+abbrev pub edges_into : ℕ → List Record → List IncomingEdge
 edges_into h [] = []
 edges_into h (r ∷ rs) = source_before (source_in h r) (edges_into h rs)
 
 -- their targets ascend; each count is at least one below the first number
-abbrev pub AscendFrom : ℕ → List Source → Type 0
+abbrev pub AscendFrom : ℕ → List IncomingEdge → Type 0
 AscendFrom low [] = Unit {0}
 AscendFrom low (s ∷ ss) = (low ≤ s.target + 1) × AscendFrom (s.target + 1) ss
 
 -- the sources of those into one instruction
-abbrev pub sources_at : ℕ → List Source → List (ℕ × ℕ)
+abbrev pub sources_at : ℕ → List IncomingEdge → List (ℕ × ℕ)
 sources_at ic [] = []
 sources_at ic (s ∷ ss) = elim (s.target == ic) [ true ↦ (s.hart, s.ic) ∷ sources_at ic ss | false ↦ sources_at ic ss ]
 

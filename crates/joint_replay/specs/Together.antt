@@ -4,7 +4,7 @@ use Rattle.bn_base.specs.Programs.{Program}
 use Rattle.log_record.specs.declared.record.Record.{Record}
 use Rattle.log_order.specs.Content.{Content}
 use Rattle.hart_replay.specs.declared.error.ReplayError.{ReplayError}
-use Rattle.joint_replay.specs.declared.sources.Source.{Source}
+use Rattle.joint_replay.specs.declared.incoming_edges.IncomingEdge.{IncomingEdge}
 use Rattle.joint_replay.specs.Lanes.{Lane}
 use Rattle.joint_replay.specs.Harts.{HartLane}
 use Rattle.joint_replay.specs.Joining.{Joining, is_passed, lanes_from}
@@ -30,7 +30,7 @@ pub record IsTogether (i : Program) (log : Content) (count : ℕ) (harts : List 
   pub reached : IsReached (length harts) (joining i log.records harts memory refused)
 
 -- the sources of these Edges are passed
-abbrev pub ArePassed : List Lane → List Source → Type 0
+abbrev pub ArePassed : List Lane → List IncomingEdge → Type 0
 ArePassed lanes [] = Unit {0}
 ArePassed lanes (s ∷ ss) = (is_passed (slice_get lanes s.hart) s.ic ≡ true) × ArePassed lanes ss
 

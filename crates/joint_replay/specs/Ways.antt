@@ -2,36 +2,38 @@
 use Rattle.std.specs.Prelude.{◌≡◌, ◌⊎◌, ℕ, ◌<◌, ◌≤◌, true, List, [], ◌∷◌, Option, Some, None, Result, Ok, Err}
 use Rattle.bn_base.specs.Programs.{Program}
 use Rattle.hart_replay.specs.declared.error.ReplayError.{ReplayError}
-use Rattle.joint_replay.specs.Lanes.{Course, Lane, Item, Passing, Doing, Ending, point_of}
+use Rattle.joint_replay.specs.Lanes.{Cursor, Lane, Item, Passing, Doing, Ending, point_of}
 use Rattle.joint_replay.specs.Joining.{is_passed}
 use Rattle.joint_replay.specs.Counts.{RowsFrom}
 
 -- the rows that are left of an interval go on from the hart's state, up to the End's count
-abbrev pub GoesOn : Program → Course → Type 0
+abbrev pub GoesOn : Program → Cursor → Type 0
 GoesOn i c = (c.state.ic ≤ c.mark.ic) × RowsFrom i c.mark.ic c.left.outcome c.state c.left.rows
 
 -- each interval begins at the count at which the one before it ends
-abbrev pub AreFrom : Program → Course → List Course → Type 0
+abbrev pub AreFrom : Program → Cursor → List Cursor → Type 0
 AreFrom i c [] = GoesOn i c
 AreFrom i c (d ∷ ds) = GoesOn i c × (d.state.ic ≡ c.mark.ic) × AreFrom i d ds
 
-abbrev pub AreCourses : Program → List Course → Type 0
-AreCourses i [] = Unit {0}
-AreCourses i (c ∷ cs) = AreFrom i c cs
+abbrev pub AreCursors : Program → List Cursor → Type 0
+AreCursors i [] = Unit {0}
+AreCursors i (c ∷ cs) = AreFrom i c cs
 
-abbrev pub IsBelow : ℕ → List Course → Type 0
+abbrev pub IsBelow : ℕ → List Cursor → Type 0
 IsBelow p [] = Unit {0}
 IsBelow p (c ∷ cs) = p < c.state.ic
 
 -- the ordering points ascend, below the intervals' counts
-abbrev pub ArePoints : List ℕ → List Course → Type 0
+abbrev pub ArePoints : List ℕ → List Cursor → Type 0
 ArePoints [] cs = Unit {0}
 ArePoints (p ∷ []) cs = IsBelow p cs
 ArePoints (p ∷ q ∷ qs) cs = (p < q) × ArePoints (q ∷ qs) cs
 
+-- what a hart of a log in order has: its ordering points ascend, below its intervals, and each interval begins where the one
+-- before it ends
 pub record IsLane (i : Program) (lane : Lane) : Type 0 where
-  pub points : ArePoints lane.points lane.courses
-  pub courses : AreCourses i lane.courses
+  pub points : ArePoints lane.points lane.cursors
+  pub cursors : AreCursors i lane.cursors
 
 -- ---- the points of a hart that Edges name
 
@@ -39,17 +41,17 @@ abbrev pub Has : List ℕ → ℕ → Type 0
 Has [] k = ⊥
 Has (p ∷ ps) k = (p ≡ k) ⊎ Has ps k
 
-abbrev pub last_count : Course → List Course → ℕ
+abbrev pub last_count : Cursor → List Cursor → ℕ
 last_count c [] = c.mark.ic
 last_count c (d ∷ ds) = last_count d ds
 
-abbrev pub InCourses : List Course → ℕ → Type 0
-InCourses [] k = ⊥
-InCourses (c ∷ cs) k = (c.state.ic ≤ k) × (k < last_count c cs)
+abbrev pub InCursors : List Cursor → ℕ → Type 0
+InCursors [] k = ⊥
+InCursors (c ∷ cs) k = (c.state.ic ≤ k) × (k < last_count c cs)
 
 -- instruction k of the hart is passed, or still to be passed, or still to be done
 abbrev pub IsOn : Lane → ℕ → Type 0
-IsOn lane k = (is_passed (Some lane) k ≡ true) ⊎ (Has lane.points k ⊎ InCourses lane.courses k)
+IsOn lane k = (is_passed (Some lane) k ≡ true) ⊎ (Has lane.points k ⊎ InCursors lane.cursors k)
 
 -- a step did an instruction of this count, and no fault
 abbrev pub IsRowAt : ℕ → Item → Type 0
@@ -64,7 +66,7 @@ pub record Passes (i : Program) (old : Lane) (item : Item) (new : Lane) : Type 0
   pub stays : (k : ℕ) → is_passed (Some old) k ≡ true → is_passed (Some new) k ≡ true
   pub one : (k : ℕ) → IsOn old k → is_passed (Some new) k ≡ true → (is_passed (Some old) k ≡ true) ⊎ (point_of old ≡ Some k)
   pub on : (k : ℕ) → IsOn old k → IsOn new k
-  pub rows : (k : ℕ) → InCourses old.courses k → InCourses new.courses k ⊎ IsRowAt k item
+  pub rows : (k : ℕ) → InCursors old.cursors k → InCursors new.cursors k ⊎ IsRowAt k item
   pub at : (n : ℕ) → IsRowAt n item → (point_of old ≡ Some n) × ((k : ℕ) → k < n → is_passed (Some old) k ≡ true)
 
 abbrev pub PassesIf : Program → Lane → Option (Result (Item × Lane) ReplayError) → Type 0

@@ -12,11 +12,11 @@ ghost use Rattle.joint_replay.specs.Sound.{IsSound};
 ghost use Rattle.joint_replay.specs.Lanes.{lane_of};
 
 use crate::error::JointError;
+use crate::incoming_edges::IncomingEdge;
 use crate::kinds::{Coming, Next, Readiness, Stepped};
 use crate::lane::{Lane, Moved};
 use crate::laws::starts_are_sound;
-use crate::memory::Memory;
-use crate::sources::Source;
+use crate::replay_memory::ReplayMemory;
 use bn_base::{Addr, HartId, HartState, Ic, Image, List};
 use hart_replay::ReplayError;
 use log_order::KeptLog;
@@ -35,7 +35,7 @@ pub struct Joint<'a> {
     lanes: Vec<Lane<'a>>,
     /// Of the Edges into each hart, how many, from the first one on, have passed sources.
     met: Vec<usize>,
-    memory: Memory,
+    memory: ReplayMemory,
     refused: Option<ReplayError>,
 }
 
@@ -65,7 +65,7 @@ impl<'a> Joint<'a> {
                     harts: log.head().settings.harts(),
                     lanes,
                     met,
-                    memory: Memory::new(alloc),
+                    memory: ReplayMemory::new(alloc),
                     refused: None,
                 }),
                 Err(_) => Err(JointError::OutOfMemory),
@@ -104,6 +104,7 @@ impl<'a> Joint<'a> {
         ensures { Steps self.old hart result self.new }
     {
         self.keeps_passed();
+        // Room for the row's words is made before the hart steps: out of memory here leaves the hart where it was.
         if self.memory.make_room().is_err() {
             self.refused = Some(ReplayError::OutOfMemory);
             return Err(JointError::OutOfMemory);
@@ -265,7 +266,7 @@ impl<'a> Joint<'a> {
     }
 
     // Whether an Edge leads into this instruction, and its source isn't passed.
-    fn holds_back(&self, source: Source, ic: Ic) -> bool
+    fn holds_back(&self, source: IncomingEdge, ic: Ic) -> bool
         ensures { result ≡ (source.target == ic && not (is_passed (slice_get self.now.lanes source.hart) source.ic)) }
     {
         source.target == ic && !self.is_passed(source.hart, source.ic)

@@ -2,15 +2,15 @@
 ghost use Rattle.std.specs.Prelude.{◌≡◌, ◌<◌, true, is_some, Some, None, IfOk, MatchOption};
 ghost use Rattle.joint_replay.specs.Lanes.{has_row, lane_of, coming_of, point_of, state_of};
 ghost use Rattle.joint_replay.specs.Intervals.{AreThere};
-ghost use Rattle.joint_replay.specs.Moves.{CourseSteps, LaneSteps};
+ghost use Rattle.joint_replay.specs.Moves.{CursorSteps, LaneSteps};
 ghost use Rattle.joint_replay.specs.Sources.{edges_into, AscendFrom};
-ghost use Rattle.joint_replay.specs.Harts.{course_coming, course_point, later_courses, hart_courses, IsHartLane};
+ghost use Rattle.joint_replay.specs.Harts.{cursor_coming, cursor_point, later_cursors, hart_cursors, IsHartLane};
 
 use crate::calls::{Asked, filled};
+use crate::incoming_edges::{IncomingEdge, IncomingEdges};
 use crate::intervals::{Retained, retained_intervals};
 use crate::kinds::Coming;
 use crate::points::ordering_points;
-use crate::sources::{Source, Sources};
 use bn_base::end_mark::FAULT;
 use bn_base::{Addr, EndMark, HartId, HartState, Ic, Image, Row};
 use hart_replay::{ReplayError, Replayer};
@@ -22,7 +22,7 @@ use std::marker::Model;
 /// The retained interval that is under way: its number, its replay, and whether the row of its
 /// fault was given.
 #[derive(Drop)]
-pub(crate) struct Course<'a> {
+pub(crate) struct HartCursor<'a> {
     number: u64,
     replayer: Replayer<'a>,
     faulted: bool,
@@ -43,7 +43,7 @@ pub(crate) enum Moved {
     Ended(u64, EndMark),
 }
 
-impl<'a> Model for Course<'a> {
+impl<'a> Model for HartCursor<'a> {
     ghost use Rattle.joint_replay.specs.Harts.{Running, running};
 
     ghost Value = { Running };
@@ -51,10 +51,10 @@ impl<'a> Model for Course<'a> {
     ghost view = { λ c. running c.number c.replayer c.faulted };
 }
 
-impl<'a> Course<'a> {
+impl<'a> HartCursor<'a> {
     /// Whether a row comes: of an instruction, or of the fault that the End tells of.
     fn has_row(&self) -> bool
-        ensures { result ≡ has_row self.now.course }
+        ensures { result ≡ has_row self.now.cursor }
     {
         let mark = self.replayer.mark();
         self.replayer.state().ic < mark.ic || mark.reason > FAULT && !self.faulted
@@ -62,7 +62,7 @@ impl<'a> Course<'a> {
 
     /// What comes next of the interval.
     fn coming(&self) -> Coming
-        ensures { result ≡ course_coming self.now.course }
+        ensures { result ≡ cursor_coming self.now.cursor }
     {
         if self.has_row() {
             Coming::RowAt {
@@ -77,7 +77,7 @@ impl<'a> Course<'a> {
 
     /// The instruction that comes next, if one does.
     fn point(&self) -> Option<Ic>
-        ensures { result ≡ course_point self.now.course }
+        ensures { result ≡ cursor_point self.now.cursor }
     {
         let ic = self.replayer.state().ic;
         if ic < self.replayer.mark().ic {
@@ -88,11 +88,11 @@ impl<'a> Course<'a> {
     }
 }
 
-impl<'a> Course<'a> {
+impl<'a> HartCursor<'a> {
     /// The next row; `None` where the interval ended as its log says.
     #[inline(always)]
     fn step(&mut self) -> Result<Option<Did>, ReplayError>
-        ensures { CourseSteps self.old result self.new }
+        ensures { CursorSteps self.old result self.new }
     {
         let asked = Asked::by(self.replayer.state());
         match self.replayer.step() {
@@ -111,12 +111,12 @@ impl<'a> Course<'a> {
     }
 
     // The same interval, at the same place of its replay.
-    fn copy(&self) -> Result<Course<'a>, AllocError>
+    fn copy(&self) -> Result<HartCursor<'a>, AllocError>
         ensures { IfOk result (λ c. c ≡ self.now) }
     {
         match self.replayer.copy() {
             Err(error) => Err(error),
-            Ok(replayer) => Ok(Course {
+            Ok(replayer) => Ok(HartCursor {
                 number: self.number,
                 replayer,
                 faulted: self.faulted,
@@ -133,9 +133,9 @@ pub(crate) struct Lane<'a> {
     image: &'a Image,
     log: &'a KeptLog,
     hart: HartId,
-    sources: Sources<'a>,
+    sources: IncomingEdges<'a>,
     points: BTreeSet<Ic>,
-    course: Option<Course<'a>>,
+    cursor: Option<HartCursor<'a>>,
     later: Vec<Retained>,
 }
 
@@ -146,9 +146,9 @@ impl<'a> Model for Lane<'a> {
 
     ghost Value = { HartLane };
 
-    ghost view = { λ l. hart_lane l.image.now l.log.now.records l.hart l.points.keys l.course l.later.items };
+    ghost view = { λ l. hart_lane l.image.now l.log.now.records l.hart l.points.keys l.cursor l.later.items };
 
-    ghost invariant = { λ l. IsHartLane l.image.now l.log.now l.hart l.course l.later.items × (l.sources ≡ hart_of l.log.now l.hart) };
+    ghost invariant = { λ l. IsHartLane l.image.now l.log.now l.hart l.cursor l.later.items × (l.sources ≡ hart_of l.log.now l.hart) };
 }
 
 impl<'a> Lane<'a> {
@@ -162,10 +162,10 @@ impl<'a> Lane<'a> {
         requires { hart < log.now.head.settings.harts }
         ensures { IfOk result (λ l. l ≡ record { program = image.now; records = log.now.records; hart = hart; lane = lane_of image.now log.now.records hart }) }
     {
-        let sources = Sources::gather(alloc, log, hart)?;
+        let sources = IncomingEdges::gather(alloc, log, hart)?;
         let points = ordering_points(alloc, hart, log.records())?;
         let mut later = retained_intervals(alloc, hart, log)?;
-        let course = next_course(alloc, image, log, hart, &mut later);
+        let cursor = next_cursor(alloc, image, log, hart, &mut later);
         Ok(Lane {
             alloc,
             image,
@@ -173,7 +173,7 @@ impl<'a> Lane<'a> {
             hart,
             sources,
             points,
-            course,
+            cursor,
             later,
         })
     }
@@ -184,8 +184,8 @@ impl<'a> Lane<'a> {
     {
         match self.points.first() {
             Some(ic) => Some(Coming::PassAt { ic: *ic }),
-            None => match &self.course {
-                Some(course) => Some(course.coming()),
+            None => match &self.cursor {
+                Some(cursor) => Some(cursor.coming()),
                 None => None,
             },
         }
@@ -197,15 +197,15 @@ impl<'a> Lane<'a> {
     {
         match self.points.first() {
             Some(ic) => Some(*ic),
-            None => match &self.course {
-                Some(course) => course.point(),
+            None => match &self.cursor {
+                Some(cursor) => cursor.point(),
                 None => None,
             },
         }
     }
 
     /// The Edges into the hart, by ascending targets.
-    pub(crate) fn edges(&self) -> &[Source]
+    pub(crate) fn edges(&self) -> &[IncomingEdge]
         ensures all { result.now ≡ edges_into self.now.hart self.now.records }
         ensures order { AscendFrom 0 result.now }
     {
@@ -218,8 +218,8 @@ impl<'a> Lane<'a> {
     {
         match self.points.first() {
             Some(_) => None,
-            None => match &self.course {
-                Some(course) => Some(course.replayer.state()),
+            None => match &self.cursor {
+                Some(cursor) => Some(cursor.replayer.state()),
                 None => None,
             },
         }
@@ -235,15 +235,15 @@ impl<'a> Lane<'a> {
     {
         match self.points.pop_first() {
             Some(ic) => Ok(Moved::Passed(ic)),
-            None => match &mut self.course {
+            None => match &mut self.cursor {
                 None => unreachable!(),
-                Some(course) => match course.step() {
+                Some(cursor) => match cursor.step() {
                     Err(error) => Err(error),
                     Ok(next) => match next {
                         Some(did) => Ok(Moved::Row(did)),
                         None => {
-                            let ended = Moved::Ended(course.number, course.replayer.mark());
-                            self.course = next_course(
+                            let ended = Moved::Ended(cursor.number, cursor.replayer.mark());
+                            self.cursor = next_cursor(
                                 self.alloc,
                                 self.image,
                                 self.log,
@@ -265,16 +265,16 @@ impl<'a> Lane<'a> {
         let later = Vec::from_slice(self.alloc, &self.later)?;
         let sources = self.sources.copy()?;
         let points = copy_points(&self.points)?;
-        match copy_course(&self.course) {
+        match copy_cursor(&self.cursor) {
             Err(error) => Err(error),
-            Ok(course) => Ok(Lane {
+            Ok(cursor) => Ok(Lane {
                 alloc: self.alloc,
                 image: self.image,
                 log: self.log,
                 hart: self.hart,
                 sources,
                 points,
-                course,
+                cursor,
                 later,
             }),
         }
@@ -289,12 +289,12 @@ fn copy_points(points: &BTreeSet<Ic>) -> Result<BTreeSet<Ic>, AllocError>
 }
 
 // The same interval under way, if one is.
-fn copy_course<'a>(course: &Option<Course<'a>>) -> Result<Option<Course<'a>>, AllocError>
-    ensures { IfOk result (λ copy. copy ≡ course.now) }
+fn copy_cursor<'a>(cursor: &Option<HartCursor<'a>>) -> Result<Option<HartCursor<'a>>, AllocError>
+    ensures { IfOk result (λ copy. copy ≡ cursor.now) }
 {
-    match course {
+    match cursor {
         None => Ok(None),
-        Some(course) => match course.copy() {
+        Some(cursor) => match cursor.copy() {
             Ok(copy) => Ok(Some(copy)),
             Err(error) => Err(error),
         },
@@ -304,16 +304,16 @@ fn copy_course<'a>(course: &Option<Course<'a>>) -> Result<Option<Course<'a>>, Al
 // Begins the next one of the hart's intervals, which are given last first.
 #[cold]
 #[inline(never)]
-fn next_course<'a>(
+fn next_cursor<'a>(
     alloc: Global,
     image: &'a Image,
     log: &'a KeptLog,
     hart: HartId,
     later: &mut Vec<Retained>,
-) -> Option<Course<'a>>
+) -> Option<HartCursor<'a>>
     requires hart { hart < log.now.head.settings.harts }
     requires there { AreThere hart log.now.records later.old.items }
-    ensures courses { hart_courses image.now log.now.records hart result later.new.items ≡ later_courses image.now log.now.records hart later.old.items }
+    ensures cursors { hart_cursors image.now log.now.records hart result later.new.items ≡ later_cursors image.now log.now.records hart later.old.items }
     ensures whole { IsHartLane image.now log.now hart result later.new.items }
 {
     match later.pop() {
@@ -326,7 +326,7 @@ fn next_course<'a>(
             next.number,
             next.place,
         ) {
-            Ok(replayer) => Some(Course {
+            Ok(replayer) => Some(HartCursor {
                 number: next.number,
                 replayer,
                 faulted: false,

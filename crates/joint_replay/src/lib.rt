@@ -4,15 +4,15 @@
 mod calls;
 mod error;
 mod examples;
+mod incoming_edges;
 mod intervals;
 mod joint;
 mod kinds;
 mod lane;
 pub mod laws;
-mod memory;
 mod points;
+mod replay_memory;
 mod running;
-mod sources;
 mod texts;
 
 pub use error::JointError;

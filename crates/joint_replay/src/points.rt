@@ -83,6 +83,7 @@ fn add_points(
 }
 
 /// The ordering points of a hart.
+// An ordered set, filled from the last record to the first, as the definition has it.
 pub(crate) fn ordering_points(
     alloc: Global,
     hart: HartId,

@@ -48,7 +48,7 @@ pub record BreaksOrder (head : Head) (dropped start : ℕ) (pieces : List Piece)
   pub blocks : first_wrong start (blocks_of dropped records) pieces ≡ None
   pub breaks : broken_by head.settings dropped records ≡ Some (order_break place rule)
 
--- what is wrong with the records of blocks, of which the first begins at a place of the file, or want of memory
+-- what is wrong with the records of blocks, of which the first begins at a place of the file, or out of memory
 abbrev pub IsRecordsFault : Head → (dropped start : ℕ) → List Piece → Damage → Type 0
 IsRecordsFault head dropped start pieces (BadBlock at) = CutOtherwise head dropped start pieces at
 IsRecordsFault head dropped start pieces (File (Short length)) = ⊥

@@ -37,7 +37,7 @@ abbrev pub pieces_of : List Block → List Piece
 pieces_of [] = []
 pieces_of (b ∷ bs) = piece_of b ∷ pieces_of bs
 
--- where the kept blocks are the last of those of a log, of whatever head, what is salvaged has the log's last records, and counts those ahead of them
+-- if the kept blocks are the last of those of a log, of whatever head, what is salvaged has the log's last records, and counts those ahead of them
 abbrev pub SalvagedAreAnEnd : Type 0
 SalvagedAreAnEnd = (log : Content) → IsContent log → (front : List Block) (b : Block) (back : List Block) → blocks_of log.dropped log.records ≡ front ++ b ∷ back
     → (head : Head) (dropped start : ℕ) (c : Content) → HasBlocks head (dropped_before dropped (pieces_of (b ∷ back))) start (pieces_of (b ∷ back)) c
@@ -63,7 +63,7 @@ RefusalsAreUnique = (bytes : List ℕ) (e f : Damage) → IsRefusal bytes e → 
 abbrev pub SalvagedAreUnique : Type 0
 SalvagedAreUnique = (bytes : List ℕ) (c d : Content) → IsSalvaged bytes c → IsSalvaged bytes d → c ≡ d
 
--- where one is, there is no cause to refuse that
+-- if one is, there is no cause to refuse that
 abbrev pub SalvagedAreNotRefused : Type 0
 SalvagedAreNotRefused = (bytes : List ℕ) (c : Content) (e : SalvageError) → IsSalvaged bytes c → IsSalvageRefusal bytes e → e ≡ salvage.OutOfMemory
 

@@ -46,7 +46,7 @@ left_in bytes = number_at 4 (length bytes - 40) bytes
 abbrev pub before_in : List ℕ → ℕ
 before_in bytes = number_at 8 (length bytes - 48) bytes
 
--- where it begins
+-- the place where it begins
 abbrev pub start_in : List ℕ → ℕ
 start_in bytes = length bytes - 48 - len_in bytes
 

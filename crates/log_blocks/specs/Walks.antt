@@ -1,4 +1,4 @@
--- What a walk back leaves: where the blocks stand that it kept, and how long they are.
+-- What a walk back leaves: the place where the blocks stand that it kept, and how long they are.
 use Rattle.std.specs.Prelude.{◌≡◌, ◌≤◌, ℕ, ◌+◌, List, [], ◌∷◌, ◌++◌, take, drop, length, Option}
 use Rattle.std.specs.List.{flat_map, AllByRecursion}
 use Rattle.le_numbers.specs.Numbers.{number_at}
@@ -44,7 +44,7 @@ pub record HasWalked (digest : List ℕ) (n : ℕ) (bytes : List ℕ) (rest size
   pub within : rest ≤ length bytes
   pub few : size ≤ n
 
--- where the bytes are those of records, and of the pieces that a walk kept, the place is the end of the first piece that isn't the block at its place
+-- if the bytes are those of records, and of the pieces that a walk kept, the place is the end of the first piece that isn't the block at its place
 abbrev pub FindsWrong : List ℕ → Walk → ℕ → List ℕ → Option ℕ → Type 0
 FindsWrong bytes walk dropped all place = (format : ℕ) (records : List Record) (pieces : List Piece) → AllByRecursion (Fits format) records → all ≡ flat_map bytes_of records → all ≡ gathered pieces
     → AreKept bytes walk pieces → place ≡ first_wrong (136 + walk.rest) (blocks_of dropped records) pieces

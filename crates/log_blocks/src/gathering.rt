@@ -1,4 +1,4 @@
-// The records' bytes of blocks, one block's after another's.
+//! The records' bytes of blocks, one block's after another's.
 ghost use Rattle.std.specs.Prelude.{◌≡◌, ◌≤◌, ◌+◌, ◌==◌, ◌&&◌, not, List, ℕ, length, take, IfOk};
 ghost use Rattle.le_numbers.specs.Numbers.{number_at};
 ghost use Rattle.std.specs.List.{flat_map, AllByRecursion};
@@ -18,6 +18,8 @@ use std::alloc::{AllocError, Global};
 
 /// The records' bytes of the blocks that a walk back over some bytes kept. The error comes of want
 /// of memory alone.
+// They are gathered before they are split: so a record over a border of blocks is no bad record, but a block that
+// is cut otherwise.
 pub(crate) fn gather(alloc: Global, bytes: &[u8], walk: &Walk) -> Result<Vec<u8>, AllocError>
     requires { (pieces : List Piece) × AreKept bytes.now walk.now pieces }
     ensures { (pieces : List Piece) → AreKept bytes.now walk.now pieces → IfOk result (λ v. v.items ≡ gathered pieces) }

@@ -1,4 +1,7 @@
-// The log file, version 2: records in sealed blocks, written, read back, and salvaged.
+//! The log file, version 2: records in sealed blocks, written, read back, and salvaged.
+//!
+//! It reads version 1 too, by `log_file`. The version that the bytes name decides by which order of tests they
+//! are refused.
 #![tactic(auto)]
 
 pub mod counting;

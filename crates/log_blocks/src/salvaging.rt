@@ -1,4 +1,4 @@
-// What can be read of a damaged file.
+//! What can be read of a damaged file.
 ghost use Rattle.std.specs.Prelude.{◌≡◌, ◌≤◌, ◌+◌, ◌==◌, ◌&&◌, not, false, List, None, length, MatchResult, IfOk, IfErr};
 ghost use Rattle.log_blocks.specs.Fields.{settings_in, size_in, head_digest, blocks_in};
 ghost use Rattle.log_blocks.specs.Faults.{head_fault};
@@ -162,6 +162,7 @@ pub fn salvage(alloc: Global, bytes: &[u8]) -> Result<KeptLog, SalvageError>
 
 /// The file of version 2 of what `salvage` salvages of a file, and what that log has, without a list of its
 /// records: it takes three times as much memory as the records' bytes. It is refused as `salvage` refuses it.
+/// A file without damage gives the same bytes again.
 pub fn salvage_file(alloc: Global, bytes: &[u8]) -> Result<NewFile, SalvageError>
     ensures renewed { IfOk result (RenewsSalvaged bytes.now) }
     ensures refused { IfErr result (IsSalvageRefusal bytes.now) }

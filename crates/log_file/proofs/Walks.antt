@@ -9,10 +9,10 @@ use Rattle.log_record.specs.declared.record.Record.TheVariants.{Header, FirstLoa
 use Rattle.log_record.specs.Spelling.{size_of, bytes_of, total, Fits, BeginsWith}
 use Rattle.log_record.specs.Laws.{TellTheirSize}
 use Rattle.bn_base.specs.declared.settings.RawSettings.{RawSettings}
-use Rattle.log_order.specs.declared.view.Terms.{Terms}
+use Rattle.log_order.specs.declared.view.OrderLimits.{OrderLimits}
 use Rattle.log_order.specs.declared.view.HartView.{HartView}
 use Rattle.log_order.specs.declared.walk.OrderBreak.{OrderBreak}
-use Rattle.log_order.specs.Order.{◌>>=◌, at_place, order_break, step, after_all, is_late, late_edge, ended, broken_in, broken, broken_by, terms_of}
+use Rattle.log_order.specs.Order.{◌>>=◌, at_place, order_break, step, after_all, is_late, late_edge, ended, broken_in, broken, broken_by, order_limits_of}
 use Rattle.log_order.specs.Rules.{is_unfinished, fresh}
 use Rattle.log_file.proofs.Again.{some_bytes}
 use Rattle.log_file.proofs.Counts.{same_some}
@@ -29,7 +29,7 @@ abbrev Ran : Type 0
 Ran = Result Harts OrderBreak
 
 -- the records up to the rest of the bytes, and what was found on the way along them
-pub record WalkedTo (format : ℕ) (t : Terms) (start harts : List HartView) (bytes rest : List ℕ) (records headers : ℕ) (broken : Option OrderBreak) : Type 0 where
+pub record WalkedTo (format : ℕ) (t : OrderLimits) (start harts : List HartView) (bytes rest : List ℕ) (records headers : ℕ) (broken : Option OrderBreak) : Type 0 where
   pub front : List Record
   pub fit : AllByRecursion (Fits format) front
   pub parts : bytes ≡ flat_map bytes_of front ++ rest
@@ -48,13 +48,13 @@ fit_more format [] r fit one = (one, tt)
 fit_more format (x ∷ rs) r fit one = (fit.0, fit_more format rs r fit.1 one)
 
 -- the records of the second part are taken where those of the first were
-then_one : (t : Terms) (q place : ℕ) (fs : List Record) (r : Record) (ran : Ran)
+then_one : (t : OrderLimits) (q place : ℕ) (fs : List Record) (r : Record) (ran : Ran)
     → ((next : Harts) → after_all t q next (fs ++ r ∷ []) ≡ (after_all t q next fs >>= λ m. after_all t place m (r ∷ [])))
     → (ran >>= λ next. after_all t q next (fs ++ r ∷ [])) ≡ ((ran >>= λ next. after_all t q next fs) >>= λ m. after_all t place m (r ∷ []))
 then_one t q place fs r (Ok next) again = again next
 then_one t q place fs r (Err e) again = refl
 
-after_more : (t : Terms) (p place : ℕ) (harts : Harts) (fs : List Record) (r : Record) → place ≡ p + total fs → after_all t p harts (fs ++ r ∷ []) ≡ (after_all t p harts fs >>= λ m. after_all t place m (r ∷ []))
+after_more : (t : OrderLimits) (p place : ℕ) (harts : Harts) (fs : List Record) (r : Record) → place ≡ p + total fs → after_all t p harts (fs ++ r ∷ []) ≡ (after_all t p harts fs >>= λ m. after_all t place m (r ∷ []))
 unfolding after_all
 after_more t p place harts [] r is = let same : place ≡ p = omega (arith, is) in rw same refl
 after_more t p place harts (f ∷ fs) r is =
@@ -62,14 +62,14 @@ after_more t p place harts (f ∷ fs) r is =
     then_one t (p + length (bytes_of f)) place fs r (at_place p (step t harts f)) (λ next. after_more t (p + length (bytes_of f)) place next fs r here)
 
 -- a walk that was broken stays so
-pub stays_broken : (t : Terms) (place : ℕ) (start : Harts) (rs : List Record) (r : Record) (found : OrderBreak) → place ≡ total rs → after_all t 0 start rs ≡ Err found → after_all t 0 start (rs ++ r ∷ []) ≡ Err found
+pub stays_broken : (t : OrderLimits) (place : ℕ) (start : Harts) (rs : List Record) (r : Record) (found : OrderBreak) → place ≡ total rs → after_all t 0 start rs ≡ Err found → after_all t 0 start (rs ++ r ∷ []) ≡ Err found
 stays_broken t place start rs r found is ran = after_more t 0 place start rs r (omega (arith, is)) ∙ rw ran refl
 
-pub goes_on : (t : Terms) (place : ℕ) (start harts next : Harts) (rs : List Record) (r : Record) → place ≡ total rs → after_all t 0 start rs ≡ Ok harts → Ok next ≡ step t harts r → after_all t 0 start (rs ++ r ∷ []) ≡ Ok next
+pub goes_on : (t : OrderLimits) (place : ℕ) (start harts next : Harts) (rs : List Record) (r : Record) → place ≡ total rs → after_all t 0 start rs ≡ Ok harts → Ok next ≡ step t harts r → after_all t 0 start (rs ++ r ∷ []) ≡ Ok next
 unfolding after_all
 goes_on t place start harts next rs r is ran took = after_more t 0 place start rs r (omega (arith, is)) ∙ rw (ran, sym took) refl
 
-pub breaks : (t : Terms) (place rule : ℕ) (start harts : Harts) (rs : List Record) (r : Record) → place ≡ total rs → after_all t 0 start rs ≡ Ok harts → Err rule ≡ step t harts r → after_all t 0 start (rs ++ r ∷ []) ≡ Err (order_break place rule)
+pub breaks : (t : OrderLimits) (place rule : ℕ) (start harts : Harts) (rs : List Record) (r : Record) → place ≡ total rs → after_all t 0 start rs ≡ Ok harts → Err rule ≡ step t harts r → after_all t 0 start (rs ++ r ∷ []) ≡ Err (order_break place rule)
 unfolding after_all
 breaks t place rule start harts rs r is ran broke = after_more t 0 place start rs r (omega (arith, is)) ∙ rw (ran, sym broke) refl
 
@@ -80,11 +80,11 @@ pub shorter : (format : ℕ) (rest after : List ℕ) (size : ℕ) (r : Record) �
 shorter format rest after size r behind b = omega (arith, ap length (split_off format rest after size r behind b), length-append (bytes_of r) after, some_bytes r)
 
 -- the walk before its first record, after one more, and at the end of the bytes
-pub walked_none : (format : ℕ) (t : Terms) (start : Harts) (bytes : List ℕ) → WalkedTo format t start start bytes bytes 0 0 None
+pub walked_none : (format : ℕ) (t : OrderLimits) (start : Harts) (bytes : List ℕ) → WalkedTo format t start start bytes bytes 0 0 None
 unfolding after_all
 walked_none format t start bytes = record { front = []; fit = tt; parts = refl; count = refl; headers_are = refl; ran = refl }
 
-pub walked_one : (format : ℕ) (t : Terms) (start harts next : Harts) (bytes rest after : List ℕ) (records headers more : ℕ) (broken found : Option OrderBreak) (place size : ℕ) (r : Record)
+pub walked_one : (format : ℕ) (t : OrderLimits) (start harts next : Harts) (bytes rest after : List ℕ) (records headers more : ℕ) (broken found : Option OrderBreak) (place size : ℕ) (r : Record)
     → after ≡ drop size rest → WalkedTo format t start harts bytes rest records headers broken → BeginsWith format rest r size → place ≡ length bytes - length rest → more ≡ headers_of r
     → ((begin : Harts) (rs : List Record) → place ≡ total rs → Walks (after_all t 0 begin rs) broken harts → Walks (after_all t 0 begin (rs ++ r ∷ [])) found next)
     → WalkedTo format t start next bytes after (records + 1) (headers + more) found
@@ -195,17 +195,17 @@ pub breaks_at_end : (all : Bool) (harts : Harts) (rs : List Record) (ran : Ran) 
 breaks_at_end all harts rs ran result is ends = rw is ends
 
 -- the first break of the order, where the harts began as in a log with so many dropped
-pub break_is : (s : RawSettings) (dropped count : ℕ) (all : Bool) (t : Terms) (v : HartView) (start harts : Harts) (rs : List Record) (found result : Option OrderBreak)
-    → count ≤ 16 → count ≡ s.harts → all ≡ (dropped == 0) → t ≡ terms_of s → v ≡ fresh all → start ≡ take count (replicate 16 v)
+pub break_is : (s : RawSettings) (dropped count : ℕ) (all : Bool) (t : OrderLimits) (v : HartView) (start harts : Harts) (rs : List Record) (found result : Option OrderBreak)
+    → count ≤ 16 → count ≡ s.harts → all ≡ (dropped == 0) → t ≡ order_limits_of s → v ≡ fresh all → start ≡ take count (replicate 16 v)
     → Walks (after_all t 0 start rs) found harts → ((ran : Ran) → Walks ran found harts → result ≡ broken_in all rs ran) → result ≡ broken_by s dropped rs
 unfolding broken
 break_is s dropped count all t v start harts rs found result few many which terms is begin ran tells =
     let views : start ≡ replicate s.harts (fresh all) = begin ∙ take-replicate count 16 v few ∙ ap₂ (λ (n : ℕ) (x : HartView). replicate n x) many is in
-    tells (after_all t 0 start rs) ran ∙ ap₂ (λ (x : Terms) (hs : Harts). broken_in all rs (after_all x 0 hs rs)) terms views
-    ∙ ap (λ (b : Bool). broken_in b rs (after_all (terms_of s) 0 (replicate s.harts (fresh b)) rs)) which
+    tells (after_all t 0 start rs) ran ∙ ap₂ (λ (x : OrderLimits) (hs : Harts). broken_in all rs (after_all x 0 hs rs)) terms views
+    ∙ ap (λ (b : Bool). broken_in b rs (after_all (order_limits_of s) 0 (replicate s.harts (fresh b)) rs)) which
 
 -- what a walk and the first break of the order say of the records
-pub is_tallied : (format : ℕ) (settings : RawSettings) (dropped : ℕ) (t : Terms) (start harts : Harts) (bytes : List ℕ) (w : Walked) (n : LogCounts) (result : Option OrderBreak) → (walked : IsWalked format t start harts bytes w)
+pub is_tallied : (format : ℕ) (settings : RawSettings) (dropped : ℕ) (t : OrderLimits) (start harts : Harts) (bytes : List ℕ) (w : Walked) (n : LogCounts) (result : Option OrderBreak) → (walked : IsWalked format t start harts bytes w)
     → result ≡ broken_by settings dropped walked.records → n ≡ record { records = w.records; intervals = w.headers; dropped = dropped; bytes = length bytes }
     → IsTallied format settings dropped bytes (record { counts = n; broken = result })
 is_tallied format settings dropped t start harts bytes w n result walked is counts =

@@ -6,7 +6,7 @@ use Rattle.log_record.specs.declared.head.Head.{Head}
 use Rattle.log_record.specs.declared.record.Record.{Record}
 use Rattle.log_record.specs.declared.record.Record.TheVariants.{Header, FirstLoad, ScOk, ScFailed, Edge, End}
 use Rattle.log_record.specs.Spelling.{bytes_of, total, Fits}
-use Rattle.log_order.specs.declared.view.Terms.{Terms}
+use Rattle.log_order.specs.declared.view.OrderLimits.{OrderLimits}
 use Rattle.log_order.specs.declared.view.HartView.{HartView}
 use Rattle.log_order.specs.declared.walk.OrderBreak.{OrderBreak}
 use Rattle.log_order.specs.Order.{after_all, broken_by}
@@ -17,6 +17,7 @@ use Rattle.log_file.specs.declared.counting.Walked.{Walked}
 use Rattle.log_file.specs.Layout.{file_bytes, IsFirst}
 use Rattle.log_file.specs.File.{HasFields}
 
+-- 1 if the record is a Header, else 0
 abbrev pub headers_of : Record → ℕ
 headers_of (Header hart interval ic pc x) = 1
 headers_of (FirstLoad hart skip value) = 0
@@ -43,7 +44,7 @@ Walks ran None harts = ran ≡ Ok harts
 Walks ran (Some found) harts = ran ≡ Err found
 
 -- the walk along the records of these bytes, from these views of the harts to those
-pub record IsWalked (format : ℕ) (t : Terms) (start harts : List HartView) (bytes : List ℕ) (w : Walked) : Type 0 where
+pub record IsWalked (format : ℕ) (t : OrderLimits) (start harts : List HartView) (bytes : List ℕ) (w : Walked) : Type 0 where
   pub records : List Record
   pub fit : AllByRecursion (Fits format) records
   pub parts : bytes ≡ flat_map bytes_of records

@@ -19,7 +19,7 @@ use bn_base::{HARTS, Settings};
 use le_numbers::laws::read_numbers_are_written;
 use le_numbers::read_u64;
 use log_order::walk::{any_unfinished, is_late, step};
-use log_order::{HartView, OrderBreak, Terms};
+use log_order::{HartView, OrderBreak, OrderLimits};
 use log_record::laws::tags_tell_sizes;
 use log_record::{Head, Record, read_as, size};
 
@@ -71,7 +71,7 @@ fn headers_of(entry: &Record) -> u64
 
 // The first break once a record has come, which begins at a place; the harts go on only where there was none.
 fn advance(
-    terms: &Terms,
+    terms: &OrderLimits,
     harts: &mut [HartView],
     broken: Option<OrderBreak>,
     at: u64,
@@ -93,7 +93,12 @@ fn advance(
 
 // Walks along the records of a log of this version whose bytes these are. The error is the first place
 // where a record should begin and none does.
-fn walk(format: u8, terms: &Terms, harts: &mut [HartView], bytes: &[u8]) -> Result<Walked, u64>
+fn walk(
+    format: u8,
+    terms: &OrderLimits,
+    harts: &mut [HartView],
+    bytes: &[u8],
+) -> Result<Walked, u64>
     ensures walked { IfOk result (IsWalked format terms.now harts.old harts.new bytes.now) }
     ensures refused { IfErr result (λ at. NoRecord format bytes.now at) }
 {
@@ -205,7 +210,7 @@ pub fn tally_of(format: u8, settings: &Settings, dropped: u64, bytes: &[u8]) -> 
     let all = dropped == 0;
     let mut views = [HartView::fresh(all); HARTS];
     let harts = &mut views[..settings.harts() as usize];
-    let walked = walk(format, &Terms::of(settings), harts, bytes)?;
+    let walked = walk(format, &OrderLimits::of(settings), harts, bytes)?;
     let broken = first_break(format, all, harts, walked.broken, bytes);
     let counts = LogCounts {
         records: walked.records,

@@ -5,7 +5,7 @@ use Rattle.std.proofs.lemmas.List.{length-append}
 use Rattle.std.proofs.lemmas.List.Concat.{flat_map-cons}
 use Rattle.log_record.specs.declared.record.Record.{Record}
 use Rattle.log_record.specs.Spelling.{bytes_of}
-use Rattle.log_order.specs.declared.view.Terms.{Terms}
+use Rattle.log_order.specs.declared.view.OrderLimits.{OrderLimits}
 use Rattle.log_order.specs.declared.view.HartView.{HartView}
 use Rattle.log_record.specs.Spelling.{total}
 use Rattle.log_order.specs.Order.{◌>>=◌, step, at_place, after_all, is_late, late_edge}
@@ -40,7 +40,7 @@ same_rule a b c d e = ap (λ (p : OrderBreak). p.rule) (same_break (order_break 
 total-cons : (r : Record) (rs : List Record) → total (r ∷ rs) ≡ length (bytes_of r) + total rs
 total-cons r rs = ap length (flat_map-cons bytes_of r rs) ∙ length-append (bytes_of r) _
 
-by_step : (t : Terms) (start : ℕ) (harts : Harts) (r : Record) (rs : List Record) (place rule : ℕ) (s : Result Harts ℕ) → step t harts r ≡ s
+by_step : (t : OrderLimits) (start : ℕ) (harts : Harts) (r : Record) (rs : List Record) (place rule : ℕ) (s : Result Harts ℕ) → step t harts r ≡ s
     → ((next : Harts) → after_all t (start + length (bytes_of r)) next rs ≡ ill place rule → BreaksFirst t (start + length (bytes_of r)) next rs place rule)
     → (at_place start s >>= λ next. after_all t (start + length (bytes_of r)) next rs) ≡ ill place rule → BreaksFirst t start harts (r ∷ rs) place rule
 unfolding after_all
@@ -67,7 +67,7 @@ by_step t start harts r rs place rule (Ok next) q later e =
       place_is = omega (arith, b.place_is, total-cons r b.front);
     }
 
-pub breaks_first : (t : Terms) (start : ℕ) (harts : Harts) (rs : List Record) (place rule : ℕ) → after_all t start harts rs ≡ ill place rule → BreaksFirst t start harts rs place rule
+pub breaks_first : (t : OrderLimits) (start : ℕ) (harts : Harts) (rs : List Record) (place rule : ℕ) → after_all t start harts rs ≡ ill place rule → BreaksFirst t start harts rs place rule
 unfolding after_all
 breaks_first t start harts [] place rule e = clash harts place rule e
 breaks_first t start harts (r ∷ rs) place rule e =

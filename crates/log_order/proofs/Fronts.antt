@@ -7,7 +7,7 @@ use Rattle.std.proofs.lemmas.List.{length-set}
 use Rattle.log_record.specs.declared.record.Record.{Record}
 use Rattle.log_record.specs.declared.record.Record.TheVariants.{Header, FirstLoad, ScOk, ScFailed, Edge, End}
 use Rattle.log_record.specs.Spelling.{bytes_of}
-use Rattle.log_order.specs.declared.view.Terms.{Terms}
+use Rattle.log_order.specs.declared.view.OrderLimits.{OrderLimits}
 use Rattle.log_order.specs.declared.view.Phase.{Phase}
 use Rattle.log_order.specs.declared.view.Phase.TheVariants.{Unknown, Awaiting, Open, Done}
 use Rattle.log_order.specs.declared.view.HartView.{HartView}
@@ -58,14 +58,14 @@ chosen false e x y h = absurd cc
 abbrev pub Steps2 : Result Harts ℕ → Harts → Type 0
 Steps2 r us = (xs : Harts) × (r ≡ Ok xs) × AreWeak xs us
 
-by_one : (t : Terms) (ws vs us : Harts) (r : Record) (w v : HartView) (s : Result HartView ℕ) → AreWeak ws vs → IsWeak w v → after_one t v r ≡ s
+by_one : (t : OrderLimits) (ws vs us : Harts) (r : Record) (w v : HartView) (s : Result HartView ℕ) → AreWeak ws vs → IsWeak w v → after_one t v r ≡ s
     → (s >>= λ z. good (slice_set vs (hart_of r) z)) ≡ Ok us → Steps2 (after_one t w r >>= λ z. good (slice_set ws (hart_of r) z)) us
 by_one t ws vs us r w v (Err x) k kk q e = absurd cc
 by_one t ws vs us r w v (Ok u) k kk q e =
     let f = weak_one t w v u r kk q in
     (slice_set ws (hart_of r) f.0, rw f.1 refl, subst (λ (x : Harts). AreWeak (slice_set ws (hart_of r) f.0) x) (same_harts _ us e) (weak_set ws vs (hart_of r) f.0 u k f.2))
 
-by_get : (t : Terms) (ws vs us : Harts) (r : Record) (o : Option HartView) → AreWeak ws vs → slice_get vs (hart_of r) ≡ o → step_at t vs r o ≡ Ok us
+by_get : (t : OrderLimits) (ws vs us : Harts) (r : Record) (o : Option HartView) → AreWeak ws vs → slice_get vs (hart_of r) ≡ o → step_at t vs r o ≡ Ok us
     → Steps2 (step_at t ws r (slice_get ws (hart_of r))) us
 by_get t ws vs us r None k q e = absurd cc
 by_get t ws vs us r (Some v) k q e =
@@ -76,7 +76,7 @@ by_get t ws vs us r (Some v) k q e =
     (s.0, rw (g.1, source) s.1, s.2)
 
 -- a record that may follow may also follow where less is known
-pub weak_step : (t : Terms) (ws vs us : Harts) (r : Record) → AreWeak ws vs → step t vs r ≡ Ok us → Steps2 (step t ws r) us
+pub weak_step : (t : OrderLimits) (ws vs us : Harts) (r : Record) → AreWeak ws vs → step t vs r ≡ Ok us → Steps2 (step t ws r) us
 unfolding step
 weak_step t ws vs us r k e = by_get t ws vs us r (slice_get vs (hart_of r)) k refl e
 
@@ -94,7 +94,7 @@ halves place (Ok mid) f us e = (mid, refl, e)
 abbrev pub Runs2 : Result Harts OrderBreak → Harts → Type 0
 Runs2 r us = (xs : Harts) × (r ≡ Ok xs) × AreWeak xs us
 
-pub weak_all : (t : Terms) (p q : ℕ) (ws vs us : Harts) (rs : List Record) → AreWeak ws vs → after_all t p vs rs ≡ Ok us → Runs2 (after_all t q ws rs) us
+pub weak_all : (t : OrderLimits) (p q : ℕ) (ws vs us : Harts) (rs : List Record) → AreWeak ws vs → after_all t p vs rs ≡ Ok us → Runs2 (after_all t q ws rs) us
 unfolding after_all
 weak_all t p q ws vs us [] k e = (ws, refl, subst (AreWeak ws) (same_well vs us e) k)
 weak_all t p q ws vs us (r ∷ rs) k e =
@@ -105,25 +105,25 @@ weak_all t p q ws vs us (r ∷ rs) k e =
 
 -- ---- parts
 
-pub place_free : (t : Terms) (p q : ℕ) (vs us : Harts) (rs : List Record) → after_all t p vs rs ≡ Ok us → after_all t q vs rs ≡ Ok us
+pub place_free : (t : OrderLimits) (p q : ℕ) (vs us : Harts) (rs : List Record) → after_all t p vs rs ≡ Ok us → after_all t q vs rs ≡ Ok us
 unfolding after_all
 place_free t p q vs us [] e = e
 place_free t p q vs us (r ∷ rs) e =
     let h = halves p (step t vs r) (λ next. after_all t (p + length (bytes_of r)) next rs) us e in
     rw h.1 (place_free t (p + length (bytes_of r)) (q + length (bytes_of r)) h.0 us rs h.2)
 
-pub joined : (t : Terms) (p q : ℕ) (vs mid us : Harts) (front back : List Record) → after_all t p vs front ≡ Ok mid → after_all t q mid back ≡ Ok us → after_all t p vs (front ++ back) ≡ Ok us
+pub joined : (t : OrderLimits) (p q : ℕ) (vs mid us : Harts) (front back : List Record) → after_all t p vs front ≡ Ok mid → after_all t q mid back ≡ Ok us → after_all t p vs (front ++ back) ≡ Ok us
 unfolding after_all
 joined t p q vs mid us [] back e f = subst (λ (x : Harts). after_all t p x back ≡ Ok us) (sym (same_well vs mid e)) (place_free t q p mid us back f)
 joined t p q vs mid us (r ∷ front) back e f =
     let h = halves p (step t vs r) (λ next. after_all t (p + length (bytes_of r)) next front) mid e in
     rw h.1 (joined t (p + length (bytes_of r)) q h.0 mid us front back h.2 f)
 
-goes : (t : Terms) (p : ℕ) (vs m x : Harts) (r : Record) (rs : List Record) → step t vs r ≡ Ok m → after_all t (p + length (bytes_of r)) m rs ≡ Ok x → after_all t p vs (r ∷ rs) ≡ Ok x
+goes : (t : OrderLimits) (p : ℕ) (vs m x : Harts) (r : Record) (rs : List Record) → step t vs r ≡ Ok m → after_all t (p + length (bytes_of r)) m rs ≡ Ok x → after_all t p vs (r ∷ rs) ≡ Ok x
 unfolding after_all
 goes t p vs m x r rs e f = rw e f
 
-pub parted : (t : Terms) (p q : ℕ) (vs us : Harts) (front back : List Record) → after_all t p vs (front ++ back) ≡ Ok us → (mid : Harts) × (after_all t p vs front ≡ Ok mid) × (after_all t q mid back ≡ Ok us)
+pub parted : (t : OrderLimits) (p q : ℕ) (vs us : Harts) (front back : List Record) → after_all t p vs (front ++ back) ≡ Ok us → (mid : Harts) × (after_all t p vs front ≡ Ok mid) × (after_all t q mid back ≡ Ok us)
 unfolding after_all
 parted t p q vs us [] back e = (vs, refl, place_free t p q vs us back e)
 parted t p q vs us (r ∷ front) back e =
@@ -132,7 +132,7 @@ parted t p q vs us (r ∷ front) back e =
     (l.0, goes t p vs h.0 l.0 r front h.1 l.1, l.2)
 
 -- one more record
-pub appended : (t : Terms) (p : ℕ) (vs mid us : Harts) (rs : List Record) (r : Record) → after_all t p vs rs ≡ Ok mid → step t mid r ≡ Ok us → after_all t p vs (rs ++ r ∷ []) ≡ Ok us
+pub appended : (t : OrderLimits) (p : ℕ) (vs mid us : Harts) (rs : List Record) (r : Record) → after_all t p vs rs ≡ Ok mid → step t mid r ≡ Ok us → after_all t p vs (rs ++ r ∷ []) ≡ Ok us
 unfolding after_all
 appended t p vs mid us rs r e f =
     let one : after_all t 0 mid (r ∷ []) ≡ Ok us = rw f refl in
@@ -140,7 +140,7 @@ appended t p vs mid us rs r e f =
 
 -- ---- lengths
 
-by_length : (t : Terms) (vs us : Harts) (r : Record) (o : Option HartView) → step_at t vs r o ≡ Ok us → length us ≡ length vs
+by_length : (t : OrderLimits) (vs us : Harts) (r : Record) (o : Option HartView) → step_at t vs r o ≡ Ok us → length us ≡ length vs
 by_length t vs us r None e = absurd cc
 by_length t vs us r (Some v) e =
     let c = chosen (has_source (length vs) r) 1 _ us e in
@@ -150,11 +150,11 @@ by_length t vs us r (Some v) e =
     from_one (Err x) h = absurd cc
     from_one (Ok u) h = ap length (sym (same_harts _ us h)) ∙ length-set vs (hart_of r) u
 
-step_length : (t : Terms) (vs us : Harts) (r : Record) → step t vs r ≡ Ok us → length us ≡ length vs
+step_length : (t : OrderLimits) (vs us : Harts) (r : Record) → step t vs r ≡ Ok us → length us ≡ length vs
 unfolding step
 step_length t vs us r e = by_length t vs us r (slice_get vs (hart_of r)) e
 
-all_length : (t : Terms) (p : ℕ) (vs us : Harts) (rs : List Record) → after_all t p vs rs ≡ Ok us → length us ≡ length vs
+all_length : (t : OrderLimits) (p : ℕ) (vs us : Harts) (rs : List Record) → after_all t p vs rs ≡ Ok us → length us ≡ length vs
 unfolding after_all
 all_length t p vs us [] e = ap length (sym (same_well vs us e))
 all_length t p vs us (r ∷ rs) e =
@@ -176,12 +176,12 @@ length_fresh zero v = refl
 length_fresh (suc n) v = ap suc (length_fresh n v)
 
 -- from a start of any views
-pub suffix_from : (t : Terms) (p q : ℕ) (vs us : Harts) (front back : List Record) → after_all t p vs (front ++ back) ≡ Ok us → Runs2 (after_all t q (replicate (length vs) (fresh false)) back) us
+pub suffix_from : (t : OrderLimits) (p q : ℕ) (vs us : Harts) (front back : List Record) → after_all t p vs (front ++ back) ≡ Ok us → Runs2 (after_all t q (replicate (length vs) (fresh false)) back) us
 suffix_from t p q vs us front back e =
     let m = parted t p p vs us front back e in
     weak_all t p q (replicate (length vs) (fresh false)) m.0 us back (all_fresh (length vs) m.0 (all_length t p vs m.0 front m.1)) m.2
 
-pub suffix_fresh : (t : Terms) (n : ℕ) (all : Bool) (us : Harts) (front back : List Record) → after_all t 0 (replicate n (fresh all)) (front ++ back) ≡ Ok us → Runs2 (after_all t 0 (replicate n (fresh false)) back) us
+pub suffix_fresh : (t : OrderLimits) (n : ℕ) (all : Bool) (us : Harts) (front back : List Record) → after_all t 0 (replicate n (fresh all)) (front ++ back) ≡ Ok us → Runs2 (after_all t 0 (replicate n (fresh false)) back) us
 suffix_fresh t n all us front back e =
     subst (λ (k : ℕ). Runs2 (after_all t 0 (replicate k (fresh false)) back) us) (length_fresh n (fresh all)) (suffix_from t 0 0 (replicate n (fresh all)) us front back e)
 
@@ -277,7 +277,7 @@ weak_ended all ws vs front back k e =
     let l = late_back vs 0 front back (no_place (late_edge vs 0 (front ++ back)) _ n.1) in
     rw (weak_any all ws vs k n.0, weak_late_edge ws vs l.0 0 back k l.1) refl
 
-by_run : (t : Terms) (count : ℕ) (all : Bool) (front back : List Record) (x : Result Harts OrderBreak) → after_all t 0 (replicate count (fresh all)) (front ++ back) ≡ x
+by_run : (t : OrderLimits) (count : ℕ) (all : Bool) (front back : List Record) (x : Result Harts OrderBreak) → after_all t 0 (replicate count (fresh all)) (front ++ back) ≡ x
     → broken_in all (front ++ back) x ≡ None → broken_in false back (after_all t 0 (replicate count (fresh false)) back) ≡ None
 by_run t count all front back (Err p) q e = absurd cc
 by_run t count all front back (Ok us) q e =
@@ -285,7 +285,7 @@ by_run t count all front back (Ok us) q e =
     rw s.1 (weak_ended all s.0 us front back s.2 e)
 
 -- records that keep all rules keep them without the first ones
-pub front_given_up : (t : Terms) (count : ℕ) (all : Bool) (front back : List Record) → broken t count all (front ++ back) ≡ None → broken t count false back ≡ None
+pub front_given_up : (t : OrderLimits) (count : ℕ) (all : Bool) (front back : List Record) → broken t count all (front ++ back) ≡ None → broken t count false back ≡ None
 unfolding broken
 front_given_up t count all front back e = by_run t count all front back (after_all t 0 (replicate count (fresh all)) (front ++ back)) refl e
 

@@ -3,7 +3,7 @@ use Rattle.std.proofs.Common.{◌≡◌, ℕ, ◌+◌, ◌≤◌, ◌<◌, ◌^�
 use Rattle.std.specs.Prelude.{nat_lt, nat_le, ◌==◌, slice_get, slice_set, ◌≢◌}
 use Rattle.bn_base.specs.declared.end_mark.EndMark.{EndMark}
 use Rattle.log_record.specs.declared.record.Record.TheVariants.{Header, FirstLoad, ScOk, ScFailed, Edge, End}
-use Rattle.log_order.specs.declared.view.Terms.{Terms}
+use Rattle.log_order.specs.declared.view.OrderLimits.{OrderLimits}
 use Rattle.log_order.specs.declared.view.Phase.TheVariants.{Awaiting, Open}
 use Rattle.log_order.specs.declared.view.HartView.{HartView}
 use Rattle.log_order.specs.Rules.{has_end, after_header, after_edge, after_end, after_other, phase_after}
@@ -30,19 +30,19 @@ eq_yes a b h = grind arith
 eq_no : (a b : ℕ) → a ≢ b → (a == b) ≡ false
 eq_no a b h = grind arith
 
-pub step_other : (t : Terms) (vs : Harts) (h skip value next since seen : ℕ) (met : Bool) (last : Option ℕ) → slice_get vs h ≡ Some (record { phase = Open next since; seen = seen; met = met; last = last })
+pub step_other : (t : OrderLimits) (vs : Harts) (h skip value next since seen : ℕ) (met : Bool) (last : Option ℕ) → slice_get vs h ≡ Some (record { phase = Open next since; seen = seen; met = met; last = last })
     → (step t vs (FirstLoad h skip value) ≡ Ok (slice_set vs h (record { phase = Open next since; seen = seen; met = true; last = last })))
     × (step t vs (ScOk h) ≡ Ok (slice_set vs h (record { phase = Open next since; seen = seen; met = true; last = last })))
     × (step t vs (ScFailed h) ≡ Ok (slice_set vs h (record { phase = Open next since; seen = seen; met = true; last = last })))
 unfolding step after_other
 step_other t vs h skip value next since seen met last e = (rw e refl, rw e refl, rw e refl)
 
-pub step_header : (t : Terms) (vs : Harts) (h n ic pc : ℕ) (x : List ℕ) (seen : ℕ) (met : Bool) (last : Option ℕ) → slice_get vs h ≡ Some (record { phase = Awaiting (Some n) ic; seen = seen; met = met; last = last })
+pub step_header : (t : OrderLimits) (vs : Harts) (h n ic pc : ℕ) (x : List ℕ) (seen : ℕ) (met : Bool) (last : Option ℕ) → slice_get vs h ≡ Some (record { phase = Awaiting (Some n) ic; seen = seen; met = met; last = last })
     → n ≤ 2 ^ 41 → seen ≤ ic → ic ≤ t.limit → step t vs (Header h n ic pc x) ≡ Ok (slice_set vs h (record { phase = Open (n + 1) ic; seen = seen; met = true; last = last }))
 unfolding step after_header
 step_header t vs h n ic pc x seen met last e small low high = rw (e, eq_yes ic ic refl, eq_yes n n refl, lt_no (2 ^ 41) n small, lt_no ic seen low, lt_no t.limit ic high) refl
 
-pub step_edge : (t : Terms) (vs : Harts) (h ic s j next since seen : ℕ) (met : Bool) (last : Option ℕ) → slice_get vs h ≡ Some (record { phase = Open next since; seen = seen; met = met; last = last })
+pub step_edge : (t : OrderLimits) (vs : Harts) (h ic s j next since seen : ℕ) (met : Bool) (last : Option ℕ) → slice_get vs h ≡ Some (record { phase = Open next since; seen = seen; met = met; last = last })
     → s < length vs → s ≢ h → ic < t.limit → j < t.limit → seen ≤ ic + 1 → since ≤ ic → ic < since + t.interval
     → step t vs (Edge h ic s j) ≡ Ok (slice_set vs h (record { phase = Open next since; seen = max seen (ic + 1); met = true; last = last }))
 unfolding step after_edge
@@ -55,7 +55,7 @@ limit_kept reason ic limit h = grind arith
 end_kept : (interval next since reason ic : ℕ) → since ≤ ic → ic ≤ since + interval → (reason ≡ 1 → ic ≡ since + interval) → has_end interval (Open next since) reason ic ≡ true
 end_kept interval next since reason ic low high full = grind arith
 
-pub step_end : (t : Terms) (vs : Harts) (h : ℕ) (mark : EndMark) (next since seen : ℕ) (met : Bool) (last : Option ℕ) → slice_get vs h ≡ Some (record { phase = Open next since; seen = seen; met = met; last = last })
+pub step_end : (t : OrderLimits) (vs : Harts) (h : ℕ) (mark : EndMark) (next since seen : ℕ) (met : Bool) (last : Option ℕ) → slice_get vs h ≡ Some (record { phase = Open next since; seen = seen; met = met; last = last })
     → seen ≤ mark.ic → mark.ic ≤ t.limit → (mark.reason ≡ 7 → mark.ic ≡ t.limit) → since ≤ mark.ic → mark.ic ≤ since + t.interval → (mark.reason ≡ 1 → mark.ic ≡ since + t.interval)
     → step t vs (End h mark) ≡ Ok (slice_set vs h (record { phase = phase_after (Open next since) mark; seen = seen; met = true; last = Some mark.ic }))
 unfolding step after_end

@@ -4,7 +4,7 @@ use Rattle.std.specs.Prelude.{nat_lt, nat_le, ◌==◌, if◌then◌else◌}
 use Rattle.bn_base.specs.declared.end_mark.EndMark.{EndMark}
 use Rattle.log_record.specs.declared.record.Record.{Record}
 use Rattle.log_record.specs.declared.record.Record.TheVariants.{Header, FirstLoad, ScOk, ScFailed, Edge, End}
-use Rattle.log_order.specs.declared.view.Terms.{Terms}
+use Rattle.log_order.specs.declared.view.OrderLimits.{OrderLimits}
 use Rattle.log_order.specs.declared.view.Phase.{Phase}
 use Rattle.log_order.specs.declared.view.Phase.TheVariants.{Unknown, Awaiting, Open, Done}
 use Rattle.log_order.specs.declared.view.HartView.{HartView}
@@ -125,7 +125,7 @@ same_view u v e = cc
 abbrev pub Follows : Result HartView ℕ → HartView → Type 0
 Follows r v = (w : HartView) × (r ≡ Ok w) × IsWeak w v
 
-weak_header : (t : Terms) (w v u : HartView) (n ic : ℕ) → IsWeak w v → after_header t v n ic ≡ Ok u → Follows (after_header t w n ic) u
+weak_header : (t : OrderLimits) (w v u : HartView) (n ic : ℕ) → IsWeak w v → after_header t v n ic ≡ Ok u → Follows (after_header t w n ic) u
 unfolding after_header
 weak_header t w v u n ic k h =
     let a = passes (not (takes_header v.phase)) 2 _ u h in
@@ -140,7 +140,7 @@ weak_header t w v u n ic k h =
     let new : HartView = record { phase = Open (n + 1) ic; seen = w.seen; met = true; last = w.last } in
     (new, rw (takes, awaited, c.0, low, e.0) refl, subst (λ (x : HartView). IsWeak new x) is (record { phase = (refl, refl); seen = k.seen; met = λ y. refl; last = k.last; over = λ y z. y }))
 
-weak_edge : (t : Terms) (w v u : HartView) (ic from_ic : ℕ) → IsWeak w v → after_edge t v ic from_ic ≡ Ok u → Follows (after_edge t w ic from_ic) u
+weak_edge : (t : OrderLimits) (w v u : HartView) (ic from_ic : ℕ) → IsWeak w v → after_edge t v ic from_ic ≡ Ok u → Follows (after_edge t w ic from_ic) u
 unfolding after_edge
 weak_edge t w v u ic from_ic k h =
     let a = passes (not (takes_other v.phase)) 3 _ u h in
@@ -156,7 +156,7 @@ weak_edge t w v u ic from_ic k h =
     let more : max w.seen (ic + 1) ≤ max v.seen (ic + 1) = omega (arith, k.seen) in
     (new, rw (takes, b.0, c.0, low, within) refl, subst (λ (x : HartView). IsWeak new x) is (record { phase = k.phase; seen = more; met = λ y. refl; last = k.last; over = λ y z. open_not_over v.phase (not_true _ a.0) y }))
 
-weak_end : (t : Terms) (w v u : HartView) (mark : EndMark) → IsWeak w v → after_end t v mark ≡ Ok u → Follows (after_end t w mark) u
+weak_end : (t : OrderLimits) (w v u : HartView) (mark : EndMark) → IsWeak w v → after_end t v mark ≡ Ok u → Follows (after_end t w mark) u
 unfolding after_end
 weak_end t w v u mark k h =
     let a = passes (not (takes_other v.phase)) 3 _ u h in
@@ -190,7 +190,7 @@ weak_other w v u k h =
     (new, rw takes refl, subst (λ (x : HartView). IsWeak new x) is (record { phase = k.phase; seen = k.seen; met = λ y. refl; last = k.last; over = λ y z. open_not_over v.phase (not_true _ a.0) y }))
 
 -- a record that may follow the one view may follow the weaker one
-pub weak_one : (t : Terms) (w v u : HartView) (r : Record) → IsWeak w v → after_one t v r ≡ Ok u → Follows (after_one t w r) u
+pub weak_one : (t : OrderLimits) (w v u : HartView) (r : Record) → IsWeak w v → after_one t v r ≡ Ok u → Follows (after_one t w r) u
 weak_one t w v u (Header h n ic pc x) k e = weak_header t w v u n ic k e
 weak_one t w v u (FirstLoad h skip value) k e = weak_other w v u k e
 weak_one t w v u (ScOk h) k e = weak_other w v u k e

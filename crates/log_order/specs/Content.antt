@@ -13,6 +13,7 @@ pub record Content : Type 0 where
   pub dropped : ℕ
   pub records : List Record
 
+-- a log's head, how many records were dropped before, and the records that are kept
 abbrev pub content : Head → ℕ → List Record → Content
 content head dropped records = record { head = head; dropped = dropped; records = records }
 

@@ -3,12 +3,12 @@ use Rattle.std.specs.Prelude.{◌≡◌, ℕ, ◌+◌, true, false, List, ◌∷
 use Rattle.std.specs.List.{AllByRecursion}
 use Rattle.log_record.specs.declared.record.Record.{Record}
 use Rattle.log_record.specs.Spelling.{total}
-use Rattle.log_order.specs.declared.view.Terms.{Terms}
+use Rattle.log_order.specs.declared.view.OrderLimits.{OrderLimits}
 use Rattle.log_order.specs.declared.view.HartView.{HartView}
 use Rattle.log_order.specs.Order.{step, after_all, is_late}
 
 -- the records before one keep the rules, and that one, which begins at the place, breaks this rule
-pub record BreaksFirst (t : Terms) (start : ℕ) (harts : List HartView) (rs : List Record) (place rule : ℕ) : Type 0 where
+pub record BreaksFirst (t : OrderLimits) (start : ℕ) (harts : List HartView) (rs : List Record) (place rule : ℕ) : Type 0 where
   pub front : List Record
   pub one : Record
   pub back : List Record

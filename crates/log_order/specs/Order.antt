@@ -6,7 +6,7 @@ use Rattle.bn_base.specs.declared.settings.RawSettings.{RawSettings}
 use Rattle.log_record.specs.declared.record.Record.{Record}
 use Rattle.log_record.specs.declared.record.Record.TheVariants.{Header, FirstLoad, ScOk, ScFailed, Edge, End}
 use Rattle.log_record.specs.Spelling.{bytes_of, hart_of, total}
-use Rattle.log_order.specs.declared.view.Terms.{Terms}
+use Rattle.log_order.specs.declared.view.OrderLimits.{OrderLimits}
 use Rattle.log_order.specs.declared.view.HartView.{HartView}
 use Rattle.log_order.specs.declared.walk.OrderBreak.{OrderBreak}
 use Rattle.log_order.specs.Rules.{after_one, fresh, is_unfinished}
@@ -26,12 +26,12 @@ has_source harts (Edge h ic s j) = nat_lt s harts && not (s == h)
 has_source harts (End h mark) = true
 
 -- the harts after a record of the one that has this view, if there is one
-abbrev pub step_at : Terms → List HartView → Record → Option HartView → Result (List HartView) ℕ
+abbrev pub step_at : OrderLimits → List HartView → Record → Option HartView → Result (List HartView) ℕ
 step_at t harts r None = Err 1
 step_at t harts r (Some v) = if has_source (length harts) r then (after_one t v r >>= λ w. Ok (slice_set harts (hart_of r) w)) else Err 1
 
 -- the harts after a record, or the lowest rule that it breaks
-unfoldable pub step : Terms → List HartView → Record → Result (List HartView) ℕ
+unfoldable pub step : OrderLimits → List HartView → Record → Result (List HartView) ℕ
 step t harts r = step_at t harts r (slice_get harts (hart_of r))
 
 abbrev pub order_break : ℕ → ℕ → OrderBreak
@@ -42,7 +42,7 @@ at_place place (Ok x) = Ok x
 at_place place (Err rule) = Err (order_break place rule)
 
 -- the harts after records of which the first begins at a place, or the first record that breaks a rule
-unfoldable pub after_all : Terms → ℕ → List HartView → List Record → Result (List HartView) OrderBreak
+unfoldable pub after_all : OrderLimits → ℕ → List HartView → List Record → Result (List HartView) OrderBreak
 after_all t place harts [] = Ok harts
 after_all t place harts (r ∷ rs) = at_place place (step t harts r) >>= λ next. after_all t (place + length (bytes_of r)) next rs
 
@@ -64,12 +64,12 @@ is_late harts (ScFailed h) = false
 is_late harts (Edge h ic s j) = is_past (slice_get harts s) j
 is_late harts (End h mark) = false
 
--- the place of the first such Edge, where the first record begins at a place
+-- the place of the first such Edge, if the first record begins at a place
 unfoldable pub late_edge : List HartView → ℕ → List Record → Option ℕ
 late_edge harts place [] = None
 late_edge harts place (r ∷ rs) = if is_late harts r then Some place else late_edge harts (place + length (bytes_of r)) rs
 
--- the first break of the two rules about the end, where the records left the harts so
+-- the first break of the two rules about the end, if the records left the harts so
 unfoldable pub ended : Bool → List HartView → List Record → Option OrderBreak
 ended all harts rs =
     if list_any (is_unfinished all) harts then Some (order_break (total rs) 6) else
@@ -80,16 +80,16 @@ broken_in all rs (Err b) = Some b
 broken_in all rs (Ok harts) = ended all harts rs
 
 -- the first break of the order of records of so many harts; none of records in order
-unfoldable pub broken : Terms → ℕ → Bool → List Record → Option OrderBreak
+unfoldable pub broken : OrderLimits → ℕ → Bool → List Record → Option OrderBreak
 broken t count all rs = broken_in all rs (after_all t 0 (replicate count (fresh all)) rs)
 
 -- what the order depends on
-abbrev pub terms_of : RawSettings → Terms
-terms_of s = record { interval = s.interval; limit = s.limit }
+abbrev pub order_limits_of : RawSettings → OrderLimits
+order_limits_of s = record { interval = s.interval; limit = s.limit }
 
--- the first break, where so many records were dropped before these
+-- the first break, if so many records were dropped before these
 abbrev pub broken_by : RawSettings → ℕ → List Record → Option OrderBreak
-broken_by s dropped rs = broken (terms_of s) s.harts (dropped == 0) rs
+broken_by s dropped rs = broken (order_limits_of s) s.harts (dropped == 0) rs
 
 -- a function that answered so and left the harts so has done what it should
 abbrev pub Steps : {S E : Type 0} → Result (Unit {0}) E → S → Result S E → Type 0

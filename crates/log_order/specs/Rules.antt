@@ -3,7 +3,7 @@ use Rattle.std.specs.Prelude.{ℕ, ◌+◌, ◌^◌, max, Bool, true, false, not
 use Rattle.bn_base.specs.declared.end_mark.EndMark.{EndMark}
 use Rattle.log_record.specs.declared.record.Record.{Record}
 use Rattle.log_record.specs.declared.record.Record.TheVariants.{Header, FirstLoad, ScOk, ScFailed, Edge, End}
-use Rattle.log_order.specs.declared.view.Terms.{Terms}
+use Rattle.log_order.specs.declared.view.OrderLimits.{OrderLimits}
 use Rattle.log_order.specs.declared.view.Phase.{Phase}
 use Rattle.log_order.specs.declared.view.Phase.TheVariants.{Unknown, Awaiting, Open, Done}
 use Rattle.log_order.specs.declared.view.HartView.{HartView}
@@ -22,49 +22,49 @@ takes_other (Awaiting next ic) = false
 takes_other (Open next since) = true
 takes_other Done = false
 
--- the number is the one awaited, where that is known
+-- the number is the one awaited, if that is known
 abbrev pub is_number : Option ℕ → ℕ → Bool
 is_number None n = true
 is_number (Some next) n = next == n
 
--- a Header's number and count are those awaited, where they are known
+-- a Header's number and count are those awaited, if they are known
 abbrev pub is_awaited : Phase → ℕ → ℕ → Bool
 is_awaited Unknown n ic = true
 is_awaited (Awaiting next count) n ic = count == ic && is_number next n
 is_awaited (Open next since) n ic = true
 is_awaited Done n ic = true
 
--- where the interval's start is known, an Edge's count is that of one of its instructions
+-- if the interval's start is known, an Edge's count is that of one of its instructions
 abbrev pub has_edge : ℕ → Phase → ℕ → Bool
 has_edge interval Unknown ic = true
 has_edge interval (Awaiting next count) ic = true
 has_edge interval (Open next since) ic = nat_le since ic && nat_lt ic (since + interval)
 has_edge interval Done ic = true
 
--- where the interval's start is known, an End's count is at most its full length away, for reason length (1) just that
+-- if the interval's start is known, an End's count is at most its full length away, for reason length (1) just that
 abbrev pub has_end : ℕ → Phase → ℕ → ℕ → Bool
 has_end interval Unknown reason ic = true
 has_end interval (Awaiting next count) reason ic = true
 has_end interval (Open next since) reason ic = nat_le since ic && (if reason == 1 then ic == since + interval else nat_le ic (since + interval))
 has_end interval Done reason ic = true
 
--- the number of the interval that comes next, where this one's is known
+-- the number of the interval that comes next, if this one's is known
 abbrev pub next_number : Phase → Option ℕ
 next_number Unknown = None
 next_number (Awaiting next count) = None
 next_number (Open next since) = Some next
 next_number Done = None
 
--- the reasons after which a hart goes on: length (1), call (2) and guard (6)
+-- the reasons after which a hart continues: length (1), call (2) and guard (6)
 abbrev pub goes_on : ℕ → Bool
 goes_on reason = reason == 1 || reason == 2 || reason == 6
 
--- where an End leaves its hart: after such a reason it awaits a Header, else it is done
+-- the place where an End leaves its hart: after such a reason it awaits a Header, else it is done
 abbrev pub phase_after : Phase → EndMark → Phase
 phase_after phase mark = if goes_on mark.reason then Awaiting (next_number phase) mark.ic else Done
 
 -- the hart after its Header with this number and count, or the lowest rule that the Header breaks
-unfoldable pub after_header : Terms → HartView → ℕ → ℕ → Result HartView ℕ
+unfoldable pub after_header : OrderLimits → HartView → ℕ → ℕ → Result HartView ℕ
 after_header t v n ic =
     if not (takes_header v.phase) then Err 2 else
     if not (is_awaited v.phase n ic) then Err 4 else
@@ -74,7 +74,7 @@ after_header t v n ic =
     Ok (record { phase = Open (n + 1) ic; seen = v.seen; met = true; last = v.last })
 
 -- the hart after its Edge with this count and its source's
-unfoldable pub after_edge : Terms → HartView → ℕ → ℕ → Result HartView ℕ
+unfoldable pub after_edge : OrderLimits → HartView → ℕ → ℕ → Result HartView ℕ
 after_edge t v ic from_ic =
     if not (takes_other v.phase) then Err 3 else
     if nat_le t.limit ic then Err 5 else
@@ -84,7 +84,7 @@ after_edge t v ic from_ic =
     Ok (record { phase = v.phase; seen = max v.seen (ic + 1); met = true; last = v.last })
 
 -- the hart after its End; the count of one of reason limit (7) is the limit
-unfoldable pub after_end : Terms → HartView → EndMark → Result HartView ℕ
+unfoldable pub after_end : OrderLimits → HartView → EndMark → Result HartView ℕ
 after_end t v mark =
     if not (takes_other v.phase) then Err 3 else
     if nat_lt mark.ic v.seen then Err 5 else
@@ -100,7 +100,7 @@ after_other v =
     Ok (record { phase = v.phase; seen = v.seen; met = true; last = v.last })
 
 -- the hart after a record of its own, or the lowest rule that the record breaks
-abbrev pub after_one : Terms → HartView → Record → Result HartView ℕ
+abbrev pub after_one : OrderLimits → HartView → Record → Result HartView ℕ
 after_one t v (Header h n ic pc x) = after_header t v n ic
 after_one t v (FirstLoad h skip value) = after_other v
 after_one t v (ScOk h) = after_other v
@@ -108,7 +108,7 @@ after_one t v (ScFailed h) = after_other v
 after_one t v (Edge h ic s j) = after_edge t v ic j
 after_one t v (End h mark) = after_end t v mark
 
--- a hart of which no record came; where all records are kept it awaits its first Header
+-- a hart of which no record came; if all records are kept it awaits its first Header
 abbrev pub fresh : Bool → HartView
 fresh all = record { phase = if all then Awaiting (Some 0) 0 else Unknown; seen = 0; met = false; last = None }
 

@@ -2,13 +2,13 @@
 use Rattle.std.specs.Prelude.{◌≡◌, ℕ, ◌<◌, ◌≤◌, true, List, ◌++◌, length, replicate, Ok, Some, slice_get}
 use Rattle.log_record.specs.declared.record.Record.{Record}
 use Rattle.log_record.specs.declared.record.Record.TheVariants.{Header, FirstLoad, ScOk, ScFailed, Edge, End}
-use Rattle.log_order.specs.declared.view.Terms.{Terms}
+use Rattle.log_order.specs.declared.view.OrderLimits.{OrderLimits}
 use Rattle.log_order.specs.declared.view.HartView.{HartView}
 use Rattle.log_order.specs.Rules.{fresh}
 use Rattle.log_order.specs.Order.{after_all}
 
 -- the kept records are the last ones of a list that keeps the rules of single records and leaves the harts so; the others are counted
-pub record Keeps (t : Terms) (count dropped : ℕ) (kept : List Record) (harts : List HartView) : Type 0 where
+pub record Keeps (t : OrderLimits) (count dropped : ℕ) (kept : List Record) (harts : List HartView) : Type 0 where
   pub gone : List Record
   pub dropped_is : dropped ≡ length gone
   pub ran : after_all t 0 (replicate count (fresh true)) (gone ++ kept) ≡ Ok harts

@@ -4,7 +4,7 @@ ghost use Rattle.std.specs.List.{AllByRecursion};
 ghost use Rattle.bn_base.specs.declared.settings.RawSettings.{RawSettings};
 ghost use Rattle.log_record.specs.declared.record.Record.{Record};
 ghost use Rattle.log_record.specs.declared.record.Record.TheVariants.{Header, FirstLoad, ScOk, ScFailed, Edge, End};
-ghost use Rattle.log_order.specs.declared.view.Terms.{Terms};
+ghost use Rattle.log_order.specs.declared.view.OrderLimits.{OrderLimits};
 ghost use Rattle.log_order.specs.declared.view.HartView.{HartView};
 ghost use Rattle.log_order.specs.Rules.{fresh};
 ghost use Rattle.log_order.specs.Order.{order_break, step, after_all, late_edge, broken_by};
@@ -14,7 +14,7 @@ ghost use Rattle.log_order.specs.Laws.{SuffixesKeepTheRules, SuffixesAreInOrder,
 
 /// A break of a rule of single records is that of the first record that breaks one.
 pub fn breaks_are_first()
-    ensures { (t : Terms) (start : ℕ) (harts : List HartView) (rs : List Record) (place rule : ℕ) → after_all t start harts rs ≡ Err (order_break place rule) → BreaksFirst t start harts rs place rule }
+    ensures { (t : OrderLimits) (start : ℕ) (harts : List HartView) (rs : List Record) (place rule : ℕ) → after_all t start harts rs ≡ Err (order_break place rule) → BreaksFirst t start harts rs place rule }
 {}
 
 /// A late Edge that is named is the first.
@@ -29,17 +29,17 @@ pub fn order_stays_without_the_first_records()
 
 /// A recorder begins with no records.
 pub fn no_records_are_kept()
-    ensures { (t : Terms) (count : ℕ) → Keeps t count 0 [] (replicate count (fresh true)) }
+    ensures { (t : OrderLimits) (count : ℕ) → Keeps t count 0 [] (replicate count (fresh true)) }
 {}
 
 /// It takes one more record that fits its hart's view.
 pub fn one_more_is_kept()
-    ensures { (t : Terms) (count dropped : ℕ) (kept : List Record) (harts next : List HartView) (r : Record) → Keeps t count dropped kept harts → step t harts r ≡ Ok next → Keeps t count dropped (kept ++ r ∷ []) next }
+    ensures { (t : OrderLimits) (count dropped : ℕ) (kept : List Record) (harts next : List HartView) (r : Record) → Keeps t count dropped kept harts → step t harts r ≡ Ok next → Keeps t count dropped (kept ++ r ∷ []) next }
 {}
 
 /// It gives up the first records, and counts them.
 pub fn the_first_are_given_up()
-    ensures { (t : Terms) (count dropped : ℕ) (front back : List Record) (harts : List HartView) → Keeps t count dropped (front ++ back) harts → Keeps t count (dropped + length front) back harts }
+    ensures { (t : OrderLimits) (count dropped : ℕ) (front back : List Record) (harts : List HartView) → Keeps t count dropped (front ++ back) harts → Keeps t count (dropped + length front) back harts }
 {}
 
 /// At all times the kept records keep the rules of single records, where each hart begins as it

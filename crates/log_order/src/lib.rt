@@ -7,5 +7,5 @@ pub mod view;
 pub mod walk;
 
 pub use kept_log::KeptLog;
-pub use view::{HartView, Phase, Terms};
+pub use view::{HartView, OrderLimits, Phase};
 pub use walk::{OrderBreak, broken_by};

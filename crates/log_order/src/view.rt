@@ -8,7 +8,7 @@ use log_record::Record;
 
 /// The settings on which the order depends.
 #[derive(Clone, Copy, Drop)]
-pub struct Terms {
+pub struct OrderLimits {
     /// The length of a full interval, in instructions.
     pub interval: u64,
     /// How many instructions each hart may do.
@@ -156,7 +156,7 @@ impl HartView {
     }
 
     #[tactic(auto, unfolding(crate::specs::Rules::after_header))]
-    fn after_header(self, terms: &Terms, number: u64, count: Ic) -> Result<HartView, u8>
+    fn after_header(self, terms: &OrderLimits, number: u64, count: Ic) -> Result<HartView, u8>
         ensures { result ≡ after_header terms.now self number count }
     {
         if !self.phase.takes_header() {
@@ -187,7 +187,7 @@ impl HartView {
     }
 
     #[tactic(auto, unfolding(crate::specs::Rules::after_edge))]
-    fn after_edge(self, terms: &Terms, count: Ic, from_count: Ic) -> Result<HartView, u8>
+    fn after_edge(self, terms: &OrderLimits, count: Ic, from_count: Ic) -> Result<HartView, u8>
         ensures { result ≡ after_edge terms.now self count from_count }
     {
         if !self.phase.takes_other() {
@@ -214,7 +214,7 @@ impl HartView {
     }
 
     #[tactic(auto, unfolding(crate::specs::Rules::after_end))]
-    fn after_end(self, terms: &Terms, mark: &EndMark) -> Result<HartView, u8>
+    fn after_end(self, terms: &OrderLimits, mark: &EndMark) -> Result<HartView, u8>
         ensures { result ≡ after_end terms.now self mark.now }
     {
         if !self.phase.takes_other() {
@@ -257,7 +257,7 @@ impl HartView {
 
     /// The hart after a record of its own. The error is the lowest rule that the record breaks.
     #[inline(always)]
-    pub fn after(self, terms: &Terms, entry: &Record) -> Result<HartView, u8>
+    pub fn after(self, terms: &OrderLimits, entry: &Record) -> Result<HartView, u8>
         ensures { result ≡ after_one terms.now self entry.now }
     {
         match entry {

@@ -4,9 +4,9 @@ ghost use Rattle.std.specs.List.{list_any};
 ghost use Rattle.bn_base.specs.declared.settings.TheConstants.{HARTS};
 ghost use Rattle.log_record.specs.Spelling.{total};
 ghost use Rattle.log_order.specs.Rules.{is_unfinished};
-ghost use Rattle.log_order.specs.Order.{has_source, step, Steps, after_all, is_late, late_edge, ended, broken, broken_by, terms_of};
+ghost use Rattle.log_order.specs.Order.{has_source, step, Steps, after_all, is_late, late_edge, ended, broken, broken_by, order_limits_of};
 
-use crate::view::{HartView, Terms};
+use crate::view::{HartView, OrderLimits};
 use bn_base::{HARTS, Settings};
 use log_record::{Record, RecordList};
 
@@ -19,12 +19,12 @@ pub struct OrderBreak {
     pub rule: u64,
 }
 
-impl Terms {
+impl OrderLimits {
     /// What of the settings the order depends on.
-    pub fn of(settings: &Settings) -> Terms
-        ensures { result ≡ terms_of settings.now }
+    pub fn of(settings: &Settings) -> OrderLimits
+        ensures { result ≡ order_limits_of settings.now }
     {
-        Terms {
+        OrderLimits {
             interval: settings.interval() as u64,
             limit: settings.limit(),
         }
@@ -43,7 +43,7 @@ fn has_source(harts: usize, entry: &Record) -> bool
 /// Takes one more record into the views of all harts. The error is the lowest rule that it breaks.
 #[tactic(auto, unfolding(crate::specs::Order::step))]
 #[inline(always)]
-pub fn step(terms: &Terms, harts: &mut [HartView], entry: &Record) -> Result<(), u8>
+pub fn step(terms: &OrderLimits, harts: &mut [HartView], entry: &Record) -> Result<(), u8>
     ensures { Steps result harts.new (step terms.now harts.old entry.now) }
 {
     let hart = entry.hart() as usize;
@@ -60,7 +60,11 @@ pub fn step(terms: &Terms, harts: &mut [HartView], entry: &Record) -> Result<(),
     }
 }
 
-fn after_all(terms: &Terms, harts: &mut [HartView], records: &RecordList) -> Result<(), OrderBreak>
+fn after_all(
+    terms: &OrderLimits,
+    harts: &mut [HartView],
+    records: &RecordList,
+) -> Result<(), OrderBreak>
     requires { total records.now < 2 ^ 63 }
     ensures { Steps result harts.new (after_all terms.now 0 harts.old records.now) }
 {
@@ -147,7 +151,7 @@ fn ended(all: bool, harts: &[HartView], records: &RecordList) -> Option<OrderBre
 }
 
 #[tactic(auto, unfolding(crate::specs::Order::broken))]
-fn broken(terms: &Terms, count: usize, all: bool, records: &RecordList) -> Option<OrderBreak>
+fn broken(terms: &OrderLimits, count: usize, all: bool, records: &RecordList) -> Option<OrderBreak>
     requires count { count ≤ HARTS }
     requires size { total records.now < 2 ^ 63 }
     ensures { result ≡ broken terms.now count all records.now }
@@ -167,5 +171,5 @@ pub fn broken_by(settings: &Settings, dropped: u64, records: &RecordList) -> Opt
     ensures { result ≡ broken_by settings.now dropped records.now }
 {
     let harts = settings.harts() as usize;
-    broken(&Terms::of(settings), harts, dropped == 0, records)
+    broken(&OrderLimits::of(settings), harts, dropped == 0, records)
 }

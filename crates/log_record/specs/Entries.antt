@@ -3,9 +3,10 @@ use Rattle.std.specs.Prelude.{ℕ, ◌<◌, List, [], ◌∷◌, slice_index_or}
 use Rattle.bn_base.specs.declared.state.HartState.{HartState}
 use Rattle.log_record.specs.declared.record.Record.{Record}
 use Rattle.log_record.specs.declared.record.Record.TheVariants.{Header, FirstLoad, ScOk, ScFailed, Edge, End}
-use Rattle.log_record.specs.declared.entry.Entry.{Entry}
-use Rattle.log_record.specs.declared.entry.Entry.TheVariants.{Header as KeptHeader, FirstLoad as KeptLoad, ScOk as KeptOk, ScFailed as KeptFailed, Edge as KeptEdge, End as KeptEnd}
+use Rattle.log_record.specs.declared.stored_record.StoredRecord.{StoredRecord}
+use Rattle.log_record.specs.declared.stored_record.StoredRecord.TheVariants.{Header as KeptHeader, FirstLoad as KeptLoad, ScOk as KeptOk, ScFailed as KeptFailed, Edge as KeptEdge, End as KeptEnd}
 
+-- the state of a hart with this pc, registers and count
 abbrev pub state_of : ℕ → List ℕ → ℕ → HartState
 state_of pc x ic = record { pc = pc; x = x; ic = ic }
 
@@ -19,7 +20,7 @@ states_of (Edge h ic s j) = []
 states_of (End h mark) = []
 
 -- what is kept of a record at its own place, where a Header's state has this place among the states
-abbrev pub entry_of : ℕ → Record → Entry
+abbrev pub entry_of : ℕ → Record → StoredRecord
 entry_of place (Header h n ic pc x) = KeptHeader h place n
 entry_of place (FirstLoad h skip value) = KeptLoad h skip value
 entry_of place (ScOk h) = KeptOk h
@@ -27,11 +28,12 @@ entry_of place (ScFailed h) = KeptFailed h
 entry_of place (Edge h ic s j) = KeptEdge h s ic j
 entry_of place (End h mark) = KeptEnd h mark
 
+-- the Header of an interval that begins in a state
 abbrev pub header_with : ℕ → ℕ → HartState → Record
 header_with h n state = Header h n state.ic state.pc state.x
 
 -- the record that is kept so beside these states
-abbrev pub record_of : List HartState → Entry → Record
+abbrev pub record_of : List HartState → StoredRecord → Record
 record_of states (KeptHeader h place n) = header_with h n (slice_index_or states place (state_of 0 [] 0))
 record_of states (KeptLoad h skip value) = FirstLoad h skip value
 record_of states (KeptOk h) = ScOk h
@@ -40,7 +42,7 @@ record_of states (KeptEdge h s ic j) = Edge h ic s j
 record_of states (KeptEnd h mark) = End h mark
 
 -- a Header's state is one of so many
-abbrev pub IsKept : ℕ → Entry → Type 0
+abbrev pub IsKept : ℕ → StoredRecord → Type 0
 IsKept count (KeptHeader h place n) = place < count
 IsKept count (KeptLoad h skip value) = Unit {0}
 IsKept count (KeptOk h) = Unit {0}

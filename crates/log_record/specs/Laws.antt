@@ -9,11 +9,11 @@ use Rattle.log_record.specs.Reading.{record_in}
 abbrev pub TellTheirSize : Type 0
 TellTheirSize = (r : Record) (rest : List ℕ) → FitsFields r → size_of (slice_index (bytes_of r ++ rest) 0) ≡ Some (length (bytes_of r))
 
--- where a record's bytes stand in front, their fields make the record, whatever follows
+-- if a record's bytes stand in front, their fields make the record, whatever follows
 abbrev pub AreRead : Type 0
 AreRead = (r : Record) (rest : List ℕ) → FitsFields r → record_in (bytes_of r ++ rest) ≡ r
 
--- where there are bytes enough for the first of them, they begin with those of the record that their fields make
+-- if there are bytes enough for the first of them, they begin with those of the record that their fields make
 abbrev pub AreWritten : Type 0
 AreWritten = (n : ℕ) (bytes : List ℕ) → AreBytes bytes → size_of (slice_index bytes 0) ≡ Some n → n ≤ length bytes → FitsFields (record_in bytes) × (bytes ≡ bytes_of (record_in bytes) ++ drop n bytes)
 

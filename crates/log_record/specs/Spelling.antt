@@ -81,7 +81,8 @@ FitsFields (ScFailed h) = h < 256
 FitsFields (Edge h ic s j) = (h < 256) × (ic < 2 ^ 64) × (s < 256) × (j < 2 ^ 64)
 FitsFields (End h mark) = (h < 256) × (mark.ic < 2 ^ 64) × (mark.reason < 256) × (mark.value < 2 ^ 32)
 
--- a log of this version has such a record
+-- a log of this version can have the record: its numbers fit their fields, and an End's reason and value are the version's. Version
+-- 2 has one reason more than version 1, the guard's, with value 0
 pub record Fits (format : ℕ) (r : Record) : Type 0 where
   pub fields : FitsFields r
   pub mark : IsTrue (is_marked format r)

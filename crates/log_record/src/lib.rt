@@ -1,16 +1,13 @@
-//! The records of a log and their bytes, lists of them in little memory, and a ring that keeps the latest
-//! whole ones.
+//! The records of a log, their bytes, and lists of them in little memory.
 #![tactic(auto)]
 
 pub mod bytes;
-mod entry;
 pub mod head;
-pub mod keeping;
 pub mod laws;
 pub mod list;
 pub mod reading;
 pub mod record;
-pub mod ring;
+mod stored_record;
 pub mod writing;
 
 pub use bytes::Bytes;
@@ -18,5 +15,4 @@ pub use head::Head;
 pub use list::RecordList;
 pub use reading::{read, read_as, size};
 pub use record::Record;
-pub use ring::Ring;
 pub use writing::write;

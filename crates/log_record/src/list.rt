@@ -3,7 +3,7 @@ ghost use Rattle.std.specs.Prelude.{◌≡◌, ◌<◌, ◌^◌, ◌++◌, ◌�
 ghost use Rattle.log_record.specs.Entries.{record_of};
 
 use crate::Record;
-use crate::entry::{Entry, keep_state};
+use crate::stored_record::{StoredRecord, keep_state};
 use bn_base::HartState;
 use std::alloc::{AllocError, Global};
 use std::marker::Model;
@@ -14,7 +14,7 @@ use std::marker::Model;
 /// apart.
 #[derive(Drop)]
 pub struct RecordList {
-    entries: Vec<Entry>,
+    entries: Vec<StoredRecord>,
     states: Vec<HartState>,
 }
 
@@ -58,7 +58,7 @@ impl RecordList {
     {
         let place = self.states.len();
         keep_state(&mut self.states, &entry)?;
-        self.entries.push(Entry::of(&entry, place))?;
+        self.entries.push(StoredRecord::of(&entry, place))?;
         Ok(())
     }
 
@@ -84,7 +84,7 @@ impl RecordList {
         ensures { result ≡ slice_index_or self.now place result }
     {
         match self.entries[place] {
-            Entry::Header {
+            StoredRecord::Header {
                 hart,
                 place,
                 interval,
@@ -98,10 +98,14 @@ impl RecordList {
                     x: state.x,
                 }
             }
-            Entry::FirstLoad { hart, skip, value } => Record::FirstLoad { hart, skip, value },
-            Entry::ScOk { hart } => Record::ScOk { hart },
-            Entry::ScFailed { hart } => Record::ScFailed { hart },
-            Entry::Edge {
+            StoredRecord::FirstLoad { hart, skip, value } => Record::FirstLoad {
+                hart,
+                skip,
+                value,
+            },
+            StoredRecord::ScOk { hart } => Record::ScOk { hart },
+            StoredRecord::ScFailed { hart } => Record::ScFailed { hart },
+            StoredRecord::Edge {
                 hart,
                 from,
                 ic,
@@ -112,7 +116,7 @@ impl RecordList {
                 from,
                 from_ic,
             },
-            Entry::End { hart, mark } => Record::End { hart, mark },
+            StoredRecord::End { hart, mark } => Record::End { hart, mark },
         }
     }
 }

@@ -2,7 +2,8 @@ ghost use Rattle.std.specs.Prelude.{◌≡◌, ◌≤◌, ◌<◌, ◌+◌, ◌^
 ghost use Rattle.log_record.specs.Spelling.{is_marked};
 
 use bn_base::Registers;
-use log_record::{Record, Ring};
+use log_record::Record;
+use log_ring::Ring;
 use std::alloc::{AllocError, Global};
 use std::test::*;
 

@@ -25,7 +25,7 @@ fn call_words(alloc: Global, words: &[&str]) -> Result<Vec<String>, AllocError> 
 
 /// What calls of the program meet and leave.
 #[derive(Drop)]
-pub struct Machine {
+pub struct Surroundings {
     alloc: Global,
     pub store: MemoryStore,
     /// The writes of the next call's out that fail.
@@ -42,10 +42,10 @@ pub struct Machine {
     pub err: MemorySink,
 }
 
-impl Machine {
+impl Surroundings {
     /// A machine with no file, whose store fails at these of its calls.
-    pub fn new(alloc: Global, failing: Vec<u64>) -> Machine {
-        Machine {
+    pub fn new(alloc: Global, failing: Vec<u64>) -> Surroundings {
+        Surroundings {
             alloc,
             store: MemoryStore::new(alloc, failing),
             failing: Vec::new(alloc),

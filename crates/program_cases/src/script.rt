@@ -1,5 +1,5 @@
 // The lines of a script of cases.
-use crate::machine::Machine;
+use crate::machine::Surroundings;
 use crate::runs::Runs;
 use crate::words::{code, number, numbers, words_of};
 use crate::{files, hex};
@@ -93,7 +93,7 @@ fn print_text<R: Print>(rt: &R, what: &str, text: &[u8]) -> anyhow::Result<()> {
 // Runs the program, and prints what came of it.
 fn run<G: Gate, R: Print + Threads + Wait + Sync>(
     rt: &R,
-    machine: &mut Machine,
+    machine: &mut Surroundings,
     line: &str,
     words: &[&str],
     gate: &G,
@@ -112,7 +112,7 @@ fn run<G: Gate, R: Print + Threads + Wait + Sync>(
 // Runs the program with a gate at which harts meet, and prints how many met.
 fn run_meet<R: Print + Threads + Wait + Sync>(
     rt: &R,
-    machine: &mut Machine,
+    machine: &mut Surroundings,
     line: &str,
     words: &[&str],
     gate: &MeetGate,
@@ -126,7 +126,7 @@ fn run_meet<R: Print + Threads + Wait + Sync>(
 // it.
 fn run_listed<R: Print + Threads + Wait + Sync>(
     rt: &R,
-    machine: &mut Machine,
+    machine: &mut Surroundings,
     line: &str,
     words: &[&str],
     gate: &ListGate,
@@ -147,7 +147,7 @@ fn list_gate(alloc: Global, text: &str) -> anyhow::Result<ListGate> {
 fn run_gated<R: Print + Threads + Wait + Sync>(
     rt: &R,
     alloc: Global,
-    machine: &mut Machine,
+    machine: &mut Surroundings,
     line: &str,
     words: &[&str],
 ) -> anyhow::Result<()> {
@@ -201,7 +201,7 @@ fn typed(alloc: Global, line: &str, words: &[&str]) -> anyhow::Result<Vec<u8>> {
 // Runs the program, and prints its status, and of what it wrote to out the last lines alone.
 fn run_last<R: Print + Threads + Wait + Sync>(
     rt: &R,
-    machine: &mut Machine,
+    machine: &mut Surroundings,
     line: &str,
     words: &[&str],
 ) -> anyhow::Result<()> {
@@ -218,14 +218,19 @@ fn run_last<R: Print + Threads + Wait + Sync>(
 }
 
 // Prints whether two files have the same bytes.
-fn compare<R: Print>(rt: &R, machine: &Machine, name: &str, other: &str) -> anyhow::Result<()> {
+fn compare<R: Print>(
+    rt: &R,
+    machine: &Surroundings,
+    name: &str,
+    other: &str,
+) -> anyhow::Result<()> {
     let same = machine.bytes(name) == machine.bytes(other);
     println!(rt; "{name} is {other}: {same}")?;
     Ok(())
 }
 
 // Prints how long a file is, and its bytes where they are to be seen.
-fn show<R: Print>(rt: &R, machine: &Machine, name: &str, whole: bool) -> anyhow::Result<()> {
+fn show<R: Print>(rt: &R, machine: &Surroundings, name: &str, whole: bool) -> anyhow::Result<()> {
     match machine.store.bytes(name) {
         Some(bytes) => {
             println!(rt; "{name} {}", bytes.len())?;
@@ -242,7 +247,7 @@ fn show<R: Print>(rt: &R, machine: &Machine, name: &str, whole: bool) -> anyhow:
 #[derive(Drop)]
 pub struct Case {
     alloc: Global,
-    machine: Machine,
+    machine: Surroundings,
     runs: Runs,
 }
 
@@ -251,7 +256,7 @@ impl Case {
     pub fn new(alloc: Global) -> Case {
         Case {
             alloc,
-            machine: Machine::new(alloc, Vec::new(alloc)),
+            machine: Surroundings::new(alloc, Vec::new(alloc)),
             runs: Runs::new(alloc),
         }
     }
@@ -260,7 +265,7 @@ impl Case {
     fn failing_step(&mut self, verb: &str, words: &[&str]) -> anyhow::Result<bool> {
         let calls = words.get(1..).unwrap_or(&[]);
         if verb == "failing-store" {
-            self.machine = Machine::new(self.alloc, numbers(self.alloc, calls)?);
+            self.machine = Surroundings::new(self.alloc, numbers(self.alloc, calls)?);
         } else if verb == "failing-out" {
             self.machine.failing = numbers(self.alloc, calls)?;
         } else if verb == "failing-err" {

@@ -14,8 +14,8 @@ use Rattle.race_log.specs.Tests.{edge, edges_into, sources_into, name_of}
 use Rattle.log_record.specs.declared.record.Record.{Record}
 use Rattle.log_record.specs.declared.record.Record.TheVariants.{Header, FirstLoad, ScOk, ScFailed, Edge, End}
 use Rattle.run_model.specs.declared.hart.Hart.{Hart}
-use Rattle.run_model.specs.declared.next.Next.{Next}
-use Rattle.run_model.specs.declared.next.Next.TheVariants.{GoesOn, NewInterval, HartOver, RunOver}
+use Rattle.run_model.specs.declared.turn_end.TurnEnd.{TurnEnd}
+use Rattle.run_model.specs.declared.turn_end.TurnEnd.TheVariants.{GoesOn, NewInterval, HartOver, RunOver}
 use Rattle.run_model.specs.Turn.{points_after, edges_from, edge_records, load_record, sc_record, next_records, run_over_records}
 use Rattle.run_model.specs.Runs.{first_headers}
 use Rattle.race_laws.specs.Edges.{edge_record, edge_between}
@@ -166,13 +166,13 @@ last_head points hart ic rest past = record {
   behind = λ m n low e. absurd (omega (arith, low, slice_get_within points n e.conflicts.second e.conflicts.second_at));
 }
 
-next_heads : (x : Next) (points : List Point) (k number : ℕ) (s : HartState) (ys : List Record) → IsPast points k s.ic → Heads points ys → Heads points (next_records x k number s ++ ys)
+next_heads : (x : TurnEnd) (points : List Point) (k number : ℕ) (s : HartState) (ys : List Record) → IsPast points k s.ic → Heads points ys → Heads points (next_records x k number s ++ ys)
 next_heads GoesOn points k number s ys past h = h
 next_heads (NewInterval r y) points k number s ys past h = (tt, (last_head points k s.ic ys past, h))
 next_heads (HartOver r y) points k number s ys past h = (tt, h)
 next_heads (RunOver r y) points k number s ys past h = (tt, h)
 
-rest_heads : (points : List Point) (o : Option Warm) (k skipped word : ℕ) (reply : Reply) (next : Next) (number : ℕ) (s : HartState) (count : ℕ) (harts : ℕ → Hart)
+rest_heads : (points : List Point) (o : Option Warm) (k skipped word : ℕ) (reply : Reply) (next : TurnEnd) (number : ℕ) (s : HartState) (count : ℕ) (harts : ℕ → Hart)
     → IsPast points k s.ic → Heads points (rest_of o k skipped word reply next number s count harts)
 rest_heads points o k skipped word reply next number s count harts past =
     let over = run_over_records next k count harts in
@@ -181,7 +181,7 @@ rest_heads points o k skipped word reply next number s count harts past =
     (next_heads next points k number s over past (only_plain points over (over_plain next k count harts))))
 
 -- a turn's records
-pub heads_after : EdgeLaws → (point : Option Point) (points : List Point) (stream : List Record) (o : Option Warm) (k skipped word : ℕ) (reply : Reply) (next : Next) (number : ℕ) (s : HartState) (count : ℕ)
+pub heads_after : EdgeLaws → (point : Option Point) (points : List Point) (stream : List Record) (o : Option Warm) (k skipped word : ℕ) (reply : Reply) (next : TurnEnd) (number : ℕ) (s : HartState) (count : ℕ)
     (harts : ℕ → Hart)
     → IsPast (points_after point points) k s.ic → Heads points stream
     → Heads (points_after point points) (stream ++ (edge_records point points ++ rest_of o k skipped word reply next number s count harts))

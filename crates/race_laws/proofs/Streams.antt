@@ -17,8 +17,8 @@ use Rattle.race_log.specs.Tests.{sources_into, edges_of_first}
 use Rattle.log_record.specs.declared.record.Record.{Record}
 use Rattle.log_record.specs.declared.record.Record.TheVariants.{Header, FirstLoad, ScOk, ScFailed, Edge, End}
 use Rattle.run_model.specs.declared.hart.Hart.{Hart}
-use Rattle.run_model.specs.declared.next.Next.{Next}
-use Rattle.run_model.specs.declared.next.Next.TheVariants.{GoesOn, NewInterval, HartOver, RunOver}
+use Rattle.run_model.specs.declared.turn_end.TurnEnd.{TurnEnd}
+use Rattle.run_model.specs.declared.turn_end.TurnEnd.TheVariants.{GoesOn, NewInterval, HartOver, RunOver}
 use Rattle.run_model.specs.Machine.{answer, call_of}
 use Rattle.run_model.specs.Turn.{Run, serve, served_if, is_guarded, guarded_run, guard_records, is_orderly, turn, ask_at, span_of, next_of, loading, warmth, word_before, point_of, points_after, edges_from, edge_records, load_record, sc_record, mark, next_records, stopped_records, run_over_records}
 use Rattle.run_model.specs.Runs.{start, first_headers, run_from}
@@ -64,7 +64,7 @@ stopped_plain zero own k harts = tt
 stopped_plain (suc count) own k harts =
     stopped_if (not (k == own) && (harts k).live) k (harts k).state.ic (stopped_records own (k + 1) count harts) (stopped_plain count own (k + 1) harts)
 
-pub over_plain : (x : Next) (k count : ℕ) (harts : ℕ → Hart) → ArePlain (run_over_records x k count harts)
+pub over_plain : (x : TurnEnd) (k count : ℕ) (harts : ℕ → Hart) → ArePlain (run_over_records x k count harts)
 over_plain GoesOn k count harts = tt
 over_plain (NewInterval r y) k count harts = tt
 over_plain (HartOver r y) k count harts = tt
@@ -90,18 +90,18 @@ plain_edges (ScFailed k ∷ xs) ys p = plain_edges xs ys p.1
 plain_edges (Edge k ic s j ∷ xs) ys p = absurd p.0
 plain_edges (End k m ∷ xs) ys p = plain_edges xs ys p.1
 
-next_edges : (x : Next) (k number : ℕ) (s : HartState) (ys : List Record) → edges_in (next_records x k number s ++ ys) ≡ edges_in ys
+next_edges : (x : TurnEnd) (k number : ℕ) (s : HartState) (ys : List Record) → edges_in (next_records x k number s ++ ys) ≡ edges_in ys
 next_edges GoesOn k number s ys = refl
 next_edges (NewInterval r y) k number s ys = refl
 next_edges (HartOver r y) k number s ys = refl
 next_edges (RunOver r y) k number s ys = refl
 
 -- what stands behind the Edges of a turn
-abbrev pub rest_of : Option Warm → (k skipped word : ℕ) → Reply → Next → (number : ℕ) → HartState → (count : ℕ) → (ℕ → Hart) → List Record
+abbrev pub rest_of : Option Warm → (k skipped word : ℕ) → Reply → TurnEnd → (number : ℕ) → HartState → (count : ℕ) → (ℕ → Hart) → List Record
 rest_of o k skipped word reply next number s count harts =
     load_record o k skipped word ++ (sc_record reply k ++ (next_records next k number s ++ run_over_records next k count harts))
 
-rest_edges : (o : Option Warm) (k skipped word : ℕ) (reply : Reply) (next : Next) (number : ℕ) (s : HartState) (count : ℕ) (harts : ℕ → Hart)
+rest_edges : (o : Option Warm) (k skipped word : ℕ) (reply : Reply) (next : TurnEnd) (number : ℕ) (s : HartState) (count : ℕ) (harts : ℕ → Hart)
     → edges_in (rest_of o k skipped word reply next number s count harts) ≡ []
 rest_edges o k skipped word reply next number s count harts =
     let over = run_over_records next k count harts in
@@ -152,7 +152,7 @@ served_edges true c i run k ask is =
     let g = is_guarded c run k ask.want in
     let at : Run = guarded_run g run k ask.state in
     let h : Hart = at.harts k in
-    let next : Next = next_of c call h ask.want reply s.ic in
+    let next : TurnEnd = next_of c call h ask.want reply s.ic in
     stream_after (point_of k ask.state.ic run.turns (span_of call ask.want reply)) run.points at.stream _
     (rest_edges (warmth c (loading ask.want) (at.events k)) k h.skipped (word_before run.machine.memory (loading ask.want)) reply next h.number s c.harts at.harts) (guarded_edges g run k ask.state is)
 

@@ -15,8 +15,8 @@ use Rattle.rv_meaning.specs.declared.asks.Want.{Want}
 use Rattle.rv_meaning.specs.Orderly.{is_cut}
 use Rattle.log_record.specs.Spelling.{total}
 use Rattle.run_model.specs.declared.hart.Hart.{Hart}
-use Rattle.run_model.specs.declared.next.Next.{Next}
-use Rattle.run_model.specs.declared.next.Next.TheVariants.{GoesOn, NewInterval, HartOver, RunOver}
+use Rattle.run_model.specs.declared.turn_end.TurnEnd.{TurnEnd}
+use Rattle.run_model.specs.declared.turn_end.TurnEnd.TheVariants.{GoesOn, NewInterval, HartOver, RunOver}
 use Rattle.run_model.specs.Machine.{answer, call_of}
 use Rattle.run_model.specs.Turn.{Run, serve, serve_orderly, serve_disorderly, served_if, is_orderly, is_guarded, guarded_run, asked_run, guard_records, by_guard, span_of, next_of, loading, warmth, word_before, skipped_after, point_of, hart_after, other_after, harts_after, dead}
 use Rattle.run_model.specs.Runs.{start, start_state, start_hart}
@@ -44,7 +44,7 @@ pub record Stands (c : RawSettings) (run : Run) : Type 0 where
 
 -- ---- the harts
 
-own_state : (next : Next) (s : HartState) (skipped bytes : ℕ) (h : Hart) → (hart_after next s skipped bytes h).state ≡ s
+own_state : (next : TurnEnd) (s : HartState) (skipped bytes : ℕ) (h : Hart) → (hart_after next s skipped bytes h).state ≡ s
 own_state GoesOn s skipped bytes h = refl
 own_state (NewInterval reason value) s skipped bytes h = refl
 own_state (HartOver reason value) s skipped bytes h = refl
@@ -54,26 +54,26 @@ stopped_state : (b : Bool) (h : Hart) → (elim b as (λ x. Hart) [ true ↦ rec
 stopped_state true h = refl
 stopped_state false h = refl
 
-other_state : (next : Next) (h : Hart) → (other_after next h).state ≡ h.state
+other_state : (next : TurnEnd) (h : Hart) → (other_after next h).state ≡ h.state
 other_state GoesOn h = refl
 other_state (NewInterval reason value) h = refl
 other_state (HartOver reason value) h = refl
 other_state (RunOver reason value) h = stopped_state h.live h
 
-own_is : (next : Next) (k j : ℕ) (own : Hart) (harts : ℕ → Hart) → (j == k) ≡ true → harts_after next k own harts j ≡ own
+own_is : (next : TurnEnd) (k j : ℕ) (own : Hart) (harts : ℕ → Hart) → (j == k) ≡ true → harts_after next k own harts j ≡ own
 own_is next k j own harts e = ap (λ (b : Bool). elim b as (λ x. Hart) [ true ↦ own | false ↦ other_after next (harts j) ]) e
 
-other_is : (next : Next) (k j : ℕ) (own : Hart) (harts : ℕ → Hart) → (j == k) ≡ false → harts_after next k own harts j ≡ other_after next (harts j)
+other_is : (next : TurnEnd) (k j : ℕ) (own : Hart) (harts : ℕ → Hart) → (j == k) ≡ false → harts_after next k own harts j ≡ other_after next (harts j)
 other_is next k j own harts e = ap (λ (b : Bool). elim b as (λ x. Hart) [ true ↦ own | false ↦ other_after next (harts j) ]) e
 
 eqb_same : (k : ℕ) → (k == k) ≡ true
 eqb_same k = grind arith
 
-own_count : (next : Next) (k : ℕ) (s : HartState) (skipped bytes : ℕ) (h : Hart) (harts : ℕ → Hart) → counts_of (harts_after next k (hart_after next s skipped bytes h) harts) k ≡ s.ic
+own_count : (next : TurnEnd) (k : ℕ) (s : HartState) (skipped bytes : ℕ) (h : Hart) (harts : ℕ → Hart) → counts_of (harts_after next k (hart_after next s skipped bytes h) harts) k ≡ s.ic
 own_count next k s skipped bytes h harts = ap (λ (x : Hart). x.state.ic) (own_is next k k (hart_after next s skipped bytes h) harts (eqb_same k)) ∙ ap (λ (x : HartState). x.ic) (own_state next s skipped bytes h)
 
 -- no count falls
-counts_rise : (next : Next) (k : ℕ) (s : HartState) (skipped bytes : ℕ) (harts : ℕ → Hart) → (harts k).state.ic ≤ s.ic
+counts_rise : (next : TurnEnd) (k : ℕ) (s : HartState) (skipped bytes : ℕ) (harts : ℕ → Hart) → (harts k).state.ic ≤ s.ic
     → (j : ℕ) → counts_of harts j ≤ counts_of (harts_after next k (hart_after next s skipped bytes (harts k)) harts) j
 counts_rise next k s skipped bytes harts up j = elim (eqb_tells j k) [
   | inl p ↦ subst (λ (n : ℕ). counts_of harts n ≤ counts_of (harts_after next k (hart_after next s skipped bytes (harts k)) harts) n) (sym p.1)
@@ -84,7 +84,7 @@ counts_rise next k s skipped bytes harts up j = elim (eqb_tells j k) [
       omega (arith, same)
 ]
 
-all_fit : (c : RawSettings) (next : Next) (k : ℕ) (own : Hart) (harts : ℕ → Hart) → OthersStayFit → IsRested c own → ((j : ℕ) → (j == k) ≡ false → IsRested c (harts j)) → (j : ℕ) → IsRested c (harts_after next k own harts j)
+all_fit : (c : RawSettings) (next : TurnEnd) (k : ℕ) (own : Hart) (harts : ℕ → Hart) → OthersStayFit → IsRested c own → ((j : ℕ) → (j == k) ≡ false → IsRested c (harts j)) → (j : ℕ) → IsRested c (harts_after next k own harts j)
 all_fit c next k own harts others fit each j = elim (eqb_tells j k) [
   | inl p ↦ subst (λ (x : Hart). IsRested c x) (sym (own_is next k j own harts p.0)) fit
   | inr p ↦ subst (λ (x : Hart). IsRested c x) (sym (other_is next k j own harts p.0)) (others c (harts j) next (each j p.0)).0
@@ -145,7 +145,7 @@ orderly_stands laws c i run k ask setting live o is =
     let at : Run = asked_run c run k ask in
     let a = asking (is_guarded c run k ask.want) laws c i run k ask setting live o before.from (uncut c run k ask.want) is in
     let h : Hart = at.harts k in
-    let next : Next = next_of c call h ask.want reply s.ic in
+    let next : TurnEnd = next_of c call h ask.want reply s.ic in
     let load = warmth c (loading ask.want) (at.events k) in
     let bytes = (serve_orderly c i run k ask).run.bytes in
     let own : Hart = hart_after next s (skipped_after load h.skipped) bytes h in

@@ -5,7 +5,7 @@ use Rattle.bn_base.specs.Ranges.{IsSetting}
 use Rattle.bn_base.specs.declared.settings.RawSettings.{RawSettings}
 use Rattle.bn_outside.specs.declared.turn_row.TurnRow.{TurnRow}
 use Rattle.log_record.specs.declared.record.Record.{Record}
-use Rattle.log_record.specs.Kept.{kept}
+use Rattle.log_ring.specs.Kept.{kept}
 use Rattle.race_log.specs.Points.{Point}
 use Rattle.race_log.specs.Netzer.{ProgramOrder, Conflict, Either, Chain, IsEdge, EndingAfter}
 use Rattle.race_log.specs.Netzer.Chain.{one, more}

@@ -2,7 +2,7 @@
 use Rattle.std.proofs.Common.{◌≡◌, ◌∷◌, [], true, false, refl}
 use Rattle.le_numbers.specs.Numbers.{number_bytes}
 use Rattle.log_record.specs.declared.record.Record.TheVariants.{Edge}
-use Rattle.log_record.specs.Kept.{kept}
+use Rattle.log_ring.specs.Kept.{kept}
 use Rattle.race_log.specs.Tests.{at_places, leads, any_below, before, edge, greatest_first, edges_into, edges_of_first, conflict}
 use Rattle.run_model.specs.Turn.{serve}
 use Rattle.run_model.specs.Examples.{recorded, a_relay}

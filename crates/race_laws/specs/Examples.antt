@@ -2,7 +2,7 @@
 use Rattle.std.specs.Prelude.{ℕ, List, [], ◌∷◌, map}
 use Rattle.log_record.specs.declared.record.Record.{Record}
 use Rattle.log_record.specs.declared.record.Record.TheVariants.{Header}
-use Rattle.log_record.specs.Kept.{kept}
+use Rattle.log_ring.specs.Kept.{kept}
 use Rattle.run_model.specs.Examples.{Recording, recorded}
 
 -- the points of a recording, by hart and count

@@ -1,8 +1,8 @@
 -- The times in one access of a shadow.
 use Rattle.std.proofs.Common.{◌≡◌, ◌≢◌, ℕ, ◌+◌, ◌-◌, ◌<◌, Bool, true, false, ◌==◌, refl, inl, inr, arith, sym, ap, ◌∙◌, slice_index_or, subst, if◌then◌else◌, nat_lt}
 use Rattle.std.proofs.lemmas.Option.{slice_get_read}
-use Rattle.race_log.specs.declared.times.Times.{Times}
-use Rattle.race_log.specs.Times.{count_of}
+use Rattle.vector_time.specs.declared.times.Times.{Times}
+use Rattle.vector_time.specs.Times.{count_of}
 use Rattle.race_log.specs.declared.mode.Mode.{Mode}
 use Rattle.race_log.specs.declared.shadow.Shadow.{Shadow}
 use Rattle.race_log.specs.Kept.{is_write}
@@ -47,7 +47,7 @@ counts_taken s t hart count turn first n mode taken h = elim (known (h == hart))
   | inr apart ↦ taken.others h (other_number h hart apart) h ∙ sym (there (count + 1) (next_count s h) h hart apart)
 ]
 
--- the times that are kept by the present stretch are those after the point
+-- the times that are kept by the present epoch are those after the point
 pub times_kept : (hart after : ℕ) (present found next : ℕ → ℕ) → ((h : ℕ) → next h ≡ (if h == hart then after else found h))
     → ((h : ℕ) → h ≢ hart → present h ≡ next h) → (h : ℕ) → counts_past present hart after h ≡ next h
 times_kept hart after present found next set own h = elim (known (h == hart)) [

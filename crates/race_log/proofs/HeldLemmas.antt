@@ -12,7 +12,7 @@ use Rattle.race_log.specs.Tests.{touches}
 use Rattle.race_log.specs.Kept.{Kept, In}
 use Rattle.race_log.specs.Slots.{kept_by, kept_here, write_in, read_in, reads_in, word_in}
 use Rattle.race_log.specs.Sweep.{sum_below, accessed_below}
-use Rattle.race_log.specs.Words.{place_of, page_of, stretch_counts}
+use Rattle.race_log.specs.Words.{place_of, page_of, epoch_counts}
 use Rattle.race_log.specs.Stands.{Stands, harts_of, kept_of, words_of, held_of}
 use Rattle.race_log.proofs.BoolFacts.{known}
 use Rattle.race_log.proofs.MergeLaws.{is_in}
@@ -36,7 +36,7 @@ none_held counts harts (x ∷ xs) (suc n) e = absurd (omega (arith, e))
 here_few : (counts : ℕ → ℕ → ℕ) (mode : Mode) (hart : ℕ) (s : Slot) → length (kept_here counts mode hart s) ≤ 1
 here_few counts mode hart s = go (s.after == 0)
   where
-    go : (b : Bool) → length (cond b [] (kept_by counts mode hart s.turn s.after s.stretch ∷ [])) ≤ 1
+    go : (b : Bool) → length (cond b [] (kept_by counts mode hart s.turn s.after s.epoch ∷ [])) ≤ 1
     go true = omega arith
     go false = omega arith
 
@@ -70,8 +70,8 @@ word_few counts harts page at =
 kept_few : (s : Shadow) (w : ℕ) → length (kept_of s w) ≤ harts_of s + 1
 kept_few s w = go (w % 4 == 0)
   where
-    go : (b : Bool) → length (cond b (word_in (stretch_counts s.words.stretches) s.words.harts (page_of s.words w) (place_of s.words.harts w)) []) ≤ s.harts + 1
-    go true = omega (arith, word_few (stretch_counts s.words.stretches) s.words.harts (page_of s.words w) (place_of s.words.harts w), s.same_harts)
+    go : (b : Bool) → length (cond b (word_in (epoch_counts s.words.epochs) s.words.harts (page_of s.words w) (place_of s.words.harts w)) []) ≤ s.harts + 1
+    go true = omega (arith, word_few (epoch_counts s.words.epochs) s.words.harts (page_of s.words w) (place_of s.words.harts w), s.same_harts)
     go false = omega arith
 
 -- ---- words that were accessed

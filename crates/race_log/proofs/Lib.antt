@@ -17,7 +17,7 @@ pub mod Sources
 pub mod Picks
 pub mod KeptLemmas
 pub mod SlotLemmas
-pub mod StretchLemmas
+pub mod EpochLemmas
 pub mod PageLemmas
 pub mod PagesLemmas
 pub mod Steps

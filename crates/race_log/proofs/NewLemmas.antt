@@ -1,7 +1,7 @@
 -- A shadow that knows of no point.
 use Rattle.std.proofs.Common.{◌≡◌, ℕ, zero, suc, Bool, refl, inl, arith, List, [], ◌∷◌, ◌++◌, slice_get, Some, subst}
-use Rattle.race_log.specs.declared.times.Times.{Times}
-use Rattle.race_log.specs.Times.{count_of}
+use Rattle.vector_time.specs.declared.times.Times.{Times}
+use Rattle.vector_time.specs.Times.{count_of}
 use Rattle.race_log.specs.declared.shadow.Shadow.{Shadow}
 use Rattle.race_log.specs.Points.{Point}
 use Rattle.race_log.specs.Kept.{Suffices}

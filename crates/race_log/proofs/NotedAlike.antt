@@ -25,12 +25,12 @@ page_same (p ∷ pages) (suc n) = page_same pages n
 
 -- what is kept of a word, by what is noted
 kept_by_notes : Noted → ℕ → List Kept
-kept_by_notes n word = cond (word % 4 == 0) (word_in (counts_in n.stretches) n.harts (slots_or (slice_get n.pages (word / 256))) (place_of n.harts word)) []
+kept_by_notes n word = cond (word % 4 == 0) (word_in (counts_in n.epochs) n.harts (slots_or (slice_get n.pages (word / 256))) (place_of n.harts word)) []
 
 kept_noted : (s : Shadow) (word : ℕ) → kept_of s word ≡ kept_by_notes (noted s) word
 unfolding kept_by_notes
 kept_noted s word =
-    ap₂ (λ harts page. cond (word % 4 == 0) (word_in (counts_in s.words.stretches.table.items) harts page (place_of harts word)) []) s.same_harts
+    ap₂ (λ harts page. cond (word % 4 == 0) (word_in (counts_in s.words.epochs.table.items) harts page (place_of harts word)) []) s.same_harts
     (page_same s.words.pages.items (word / 256))
 
 pub notes : NotesDecide

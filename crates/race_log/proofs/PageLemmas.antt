@@ -5,7 +5,7 @@ use Rattle.std.proofs.lemmas.Nat.{mul-le}
 use Rattle.race_log.specs.declared.mode.Mode.{Mode}
 use Rattle.race_log.specs.declared.mode.Mode.TheVariants.{Read, Write}
 use Rattle.race_log.specs.declared.slot.Slot.{Slot}
-use Rattle.race_log.specs.declared.stretches.Stretch.{Stretch}
+use Rattle.race_log.specs.declared.epochs.Epoch.{Epoch}
 use Rattle.race_log.specs.Kept.{Kept, In, Replaces, is_write, stays}
 use Rattle.race_log.specs.Slots.{counts_past, kept_by, kept_here, write_in, read_in, reads_in, word_in, is_settled, IsSettledPage}
 use Rattle.race_log.proofs.BoolFacts.{known, same_number, other_number}
@@ -68,12 +68,12 @@ word_none counts harts page at none =
 
 pub replaces_write : (counts : ℕ → ℕ → ℕ) (harts : ℕ) (old new : List Slot) (at : ℕ) (slot : Slot) → 0 < slot.after → slice_get new at ≡ Some slot
     → ((j : ℕ) (s : Slot) → at < j → j ≤ at + harts → slice_get new j ≡ Some s → s.after ≡ 0)
-    → Replaces (kept_by counts Write slot.hart slot.turn slot.after slot.stretch) (word_in counts harts old at) (word_in counts harts new at)
+    → Replaces (kept_by counts Write slot.hart slot.turn slot.after slot.epoch) (word_in counts harts old at) (word_in counts harts new at)
 replaces_write counts harts old new at slot more own none =
     subst (Replaces k (word_in counts harts old at)) (sym is) (record { last = inl refl; stay = λ x i t. absurd (false_true t); only = λ x i. alone x i })
   where
     k : Kept
-    k = kept_by counts Write slot.hart slot.turn slot.after slot.stretch
+    k = kept_by counts Write slot.hart slot.turn slot.after slot.epoch
 
     false_true : false ≡ true → ⊥
     false_true e = cc
@@ -135,7 +135,7 @@ here_is : (counts : ℕ → ℕ → ℕ) (hart : ℕ) (o : Option Slot) (x : Kep
 here_is counts hart None x i = absurd i
 here_is counts hart (Some s) x i = go (s.after == 0) i
   where
-    go : (z : Bool) → In (cond z [] (kept_by counts Read hart s.turn s.after s.stretch ∷ [])) x → (x.hart ≡ hart) × (is_write x.mode ≡ false)
+    go : (z : Bool) → In (cond z [] (kept_by counts Read hart s.turn s.after s.epoch ∷ [])) x → (x.hart ≡ hart) × (is_write x.mode ≡ false)
     go true j = absurd j
     go false (inl e) = (sym (ap (λ (y : Kept). y.hart) e), sym (ap (λ (y : Kept). is_write y.mode) e))
     go false (inr j) = absurd j
@@ -144,7 +144,7 @@ first_is : (counts : ℕ → ℕ → ℕ) (o : Option Slot) (x : Kept) → In (w
 first_is counts None x i = absurd i
 first_is counts (Some s) x i = go (s.after == 0) i
   where
-    go : (z : Bool) → In (cond z [] (kept_by counts Write s.hart s.turn s.after s.stretch ∷ [])) x → is_write x.mode ≡ true
+    go : (z : Bool) → In (cond z [] (kept_by counts Write s.hart s.turn s.after s.epoch ∷ [])) x → is_write x.mode ≡ true
     go true j = absurd j
     go false (inl e) = sym (ap (λ (y : Kept). is_write y.mode) e)
     go false (inr j) = absurd j
@@ -175,11 +175,11 @@ own_goes hart x same read t =
 pub replaces_read : (counts : ℕ → ℕ → ℕ) (harts : ℕ) (old new : List Slot) (at : ℕ) (slot : Slot) → 0 < slot.after → slot.hart < harts
     → slice_get new (at + 1 + slot.hart) ≡ Some slot
     → ((j : ℕ) → j ≢ at + 1 + slot.hart → slice_get new j ≡ slice_get old j)
-    → Replaces (kept_by counts Read slot.hart slot.turn slot.after slot.stretch) (word_in counts harts old at) (word_in counts harts new at)
+    → Replaces (kept_by counts Read slot.hart slot.turn slot.after slot.epoch) (word_in counts harts old at) (word_in counts harts new at)
 replaces_read counts harts old new at slot more low own others = record { last = last; stay = stay; only = only }
   where
     k : Kept
-    k = kept_by counts Read slot.hart slot.turn slot.after slot.stretch
+    k = kept_by counts Read slot.hart slot.turn slot.after slot.epoch
 
     here : (o : Option Slot) → o ≡ Some slot → read_in counts slot.hart o ≡ k ∷ []
     here o e = let t : (slot.after == 0) ≡ false = grind arith in rw e (rw t refl)
@@ -233,12 +233,12 @@ replaces_read counts harts old new at slot more low own others = record { last =
         one x (inl e) = inr e
         one x (inr i) = absurd i
 
--- ---- stretches that are settled
+-- ---- epochs that are settled
 
-pub settled_set : (table : List Stretch) (next : ℕ) (page : List Slot) (i : ℕ) (slot : Slot) → IsTrue (is_settled table next slot.stretch)
+pub settled_set : (table : List Epoch) (next : ℕ) (page : List Slot) (i : ℕ) (slot : Slot) → IsTrue (is_settled table next slot.epoch)
     → IsSettledPage table next page → IsSettledPage table next (slice_set page i slot)
 settled_set table next [] i slot own all at s e = all at s e
-settled_set table next (x ∷ xs) zero slot own all zero s e = subst (λ (y : Slot). IsTrue (is_settled table next y.stretch)) (some_is e) own
+settled_set table next (x ∷ xs) zero slot own all zero s e = subst (λ (y : Slot). IsTrue (is_settled table next y.epoch)) (some_is e) own
   where
     some_is : {a b : Slot} → ◌≡◌ {A = Option Slot} (Some a) (Some b) → a ≡ b
     some_is h = cc
@@ -246,13 +246,13 @@ settled_set table next (x ∷ xs) zero slot own all (suc at) s e = all (suc at) 
 settled_set table next (x ∷ xs) (suc i) slot own all zero s e = all zero s e
 settled_set table next (x ∷ xs) (suc i) slot own all (suc at) s e = settled_set table next xs i slot own (λ a. all (suc a)) at s e
 
--- ---- stretches that go on
+-- ---- epochs that go on
 
-here_counts : (counts news : ℕ → ℕ → ℕ) (mode : Mode) (hart : ℕ) (s : Slot) → news s.stretch ≡ counts s.stretch → kept_here news mode hart s ≡ kept_here counts mode hart s
+here_counts : (counts news : ℕ → ℕ → ℕ) (mode : Mode) (hart : ℕ) (s : Slot) → news s.epoch ≡ counts s.epoch → kept_here news mode hart s ≡ kept_here counts mode hart s
 here_counts counts news mode hart s e =
     ap (λ (f : ℕ → ℕ). cond (s.after == 0) [] (record { turn = s.turn; hart = hart; ic = s.after - 1; mode = mode; times = counts_past f hart s.after } ∷ [])) e
 
-reads_counts : (counts news : ℕ → ℕ → ℕ) (page : List Slot) → ((j : ℕ) (s : Slot) → slice_get page j ≡ Some s → news s.stretch ≡ counts s.stretch)
+reads_counts : (counts news : ℕ → ℕ → ℕ) (page : List Slot) → ((j : ℕ) (s : Slot) → slice_get page j ≡ Some s → news s.epoch ≡ counts s.epoch)
     → (at hart n : ℕ) → reads_in news page at hart n ≡ reads_in counts page at hart n
 reads_counts counts news page same at hart zero = refl
 reads_counts counts news page same at hart (suc n) =
@@ -263,7 +263,7 @@ reads_counts counts news page same at hart (suc n) =
     go (Some s) e = here_counts counts news Read hart s (same (at + hart) s e)
 
 pub word_counts : (counts news : ℕ → ℕ → ℕ) (harts : ℕ) (page : List Slot) (at : ℕ)
-    → ((j : ℕ) (s : Slot) → slice_get page j ≡ Some s → news s.stretch ≡ counts s.stretch) → word_in news harts page at ≡ word_in counts harts page at
+    → ((j : ℕ) (s : Slot) → slice_get page j ≡ Some s → news s.epoch ≡ counts s.epoch) → word_in news harts page at ≡ word_in counts harts page at
 word_counts counts news harts page at same = ap₂ (λ xs ys. xs ++ ys) (go (slice_get page at) refl) (reads_counts counts news page same (at + 1) 0 harts)
   where
     go : (o : Option Slot) → slice_get page at ≡ o → write_in news o ≡ write_in counts o

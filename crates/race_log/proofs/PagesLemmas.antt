@@ -5,7 +5,7 @@ use Rattle.std.specs.Global.{Global}
 use Rattle.std.proofs.lemmas.Option.{slice_get-get_or}
 use Rattle.std.proofs.lemmas.Bool.{cases_eq, cases_lt}
 use Rattle.race_log.specs.declared.slot.Slot.{Slot}
-use Rattle.race_log.specs.declared.stretches.Stretch.{Stretch}
+use Rattle.race_log.specs.declared.epochs.Epoch.{Epoch}
 use Rattle.race_log.specs.declared.words.KeptWords.{KeptWords}
 use Rattle.race_log.specs.Kept.{Kept, Replaces}
 use Rattle.race_log.specs.Slots.{word_in, slots_of, IsSettledPage, AreSettled, AreFull}
@@ -34,7 +34,7 @@ full_set harts pages n v low own all m = elim (cases_eq m n) [
   | inr apart ↦ subst (λ (xs : List Slot). 0 < length xs → length xs ≡ 64 * (harts + 1)) (sym (page_there pages n m v apart)) (all m)
 ]
 
-pub settled_page_set : (table : List Stretch) (next : ℕ) (pages : List (Vec Slot Global)) (n : ℕ) (v : Vec Slot Global) → n < length pages
+pub settled_page_set : (table : List Epoch) (next : ℕ) (pages : List (Vec Slot Global)) (n : ℕ) (v : Vec Slot Global) → n < length pages
     → IsSettledPage table next v.items → AreSettled table next pages → AreSettled table next (slice_set pages n v)
 settled_page_set table next pages n v low own all m = elim (cases_eq m n) [
   | inl e ↦ subst (IsSettledPage table next) (sym (ap (λ k. slots_of (slice_get (slice_set pages n v) k)) e ∙ page_here pages n v low)) own
@@ -62,7 +62,7 @@ push_most false old new e = omega (arith, e)
 pub full_same : (harts : ℕ) (pages news : List (Vec Slot Global)) → ((n : ℕ) → slots_of (slice_get news n) ≡ slots_of (slice_get pages n)) → AreFull harts pages → AreFull harts news
 full_same harts pages news same all n = subst (λ (xs : List Slot). 0 < length xs → length xs ≡ 64 * (harts + 1)) (sym (same n)) (all n)
 
-pub settled_same : (table : List Stretch) (next : ℕ) (pages news : List (Vec Slot Global)) → ((n : ℕ) → slots_of (slice_get news n) ≡ slots_of (slice_get pages n))
+pub settled_same : (table : List Epoch) (next : ℕ) (pages news : List (Vec Slot Global)) → ((n : ℕ) → slots_of (slice_get news n) ≡ slots_of (slice_get pages n))
     → AreSettled table next pages → AreSettled table next news
 settled_same table next pages news same all n = subst (IsSettledPage table next) (sym (same n)) (all n)
 

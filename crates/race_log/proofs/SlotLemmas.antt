@@ -5,7 +5,7 @@ use Rattle.race_log.specs.declared.slot.Slot.{Slot}
 use Rattle.race_log.specs.Kept.{Kept}
 use Rattle.race_log.specs.Search.{latest, newer}
 use Rattle.race_log.specs.declared.words.KeptWords.{KeptWords}
-use Rattle.race_log.specs.Words.{kept_in, page_of, place_of, stretch_counts}
+use Rattle.race_log.specs.Words.{kept_in, page_of, place_of, epoch_counts}
 use Rattle.race_log.specs.Slots.{kept_by, read_in, reads_in, word_in}
 use Rattle.race_log.proofs.BoolFacts.{known, same_number}
 use Rattle.race_log.proofs.Rounds.{latest-append}
@@ -28,10 +28,10 @@ read_not_source hart ks counts best other (Some s) = go (s.after == 0)
     none true b c = refl
     none false b c = refl
 
-    go : (z : Bool) → latest hart false ks best (cond z [] (kept_by counts Read other s.turn s.after s.stretch ∷ [])) ≡ best
+    go : (z : Bool) → latest hart false ks best (cond z [] (kept_by counts Read other s.turn s.after s.epoch ∷ [])) ≡ best
     go true = refl
     go false =
-        ap (λ t. cond t (Some (kept_by counts Read other s.turn s.after s.stretch)) best)
+        ap (λ t. cond t (Some (kept_by counts Read other s.turn s.after s.epoch)) best)
         (none (other == hart) _ (newer best s.turn))
 
 pub reads_not_sources : (hart : ℕ) (known_counts : ℕ → ℕ) (counts : ℕ → ℕ → ℕ) (best : Option Kept) (page : List Slot) (at other n : ℕ)
@@ -44,7 +44,7 @@ reads_not_sources hart ks counts best page at other (suc n) =
 
 -- what is kept of an aligned word is what its slots keep
 pub kept_aligned : (words : KeptWords) (word : ℕ) → word % 4 ≡ 0
-    → kept_in words word ≡ word_in (stretch_counts words.stretches) words.harts (page_of words word) (place_of words.harts word)
+    → kept_in words word ≡ word_in (epoch_counts words.epochs) words.harts (page_of words word) (place_of words.harts word)
 kept_aligned words word e = let t : (word % 4 == 0) ≡ true = grind arith in rw t refl
 
 pub kept_unaligned : (words : KeptWords) (word : ℕ) → word % 4 ≢ 0 → kept_in words word ≡ []

@@ -10,7 +10,7 @@ use Rattle.race_log.specs.Points.{Point}
 use Rattle.race_log.specs.Holds.{OwnUpTo, CountsOf}
 use Rattle.race_log.specs.Kept.{Kept, In, KeptAt, AllKnow, Suffices}
 use Rattle.race_log.specs.Sweep.{has_bit, all_below}
-use Rattle.race_log.specs.Words.{has_room, has_stretch, HasRoom}
+use Rattle.race_log.specs.Words.{has_room, has_epoch, HasRoom}
 use Rattle.race_log.specs.Stands.{Stands, harts_of, lasts, is_live, next_turn, times_of, kept_of, is_known}
 use Rattle.race_log.proofs.BoolFacts.{known, and_left, and_right, both, same_number}
 use Rattle.race_log.proofs.Rounds.{same_counts}
@@ -33,11 +33,11 @@ all_at_below test (suc n) k low h = elim (known (k == n)) [
 ]
 
 -- room is as it was
-pub room_swept : (old new : KeptWords) → new.harts ≡ old.harts → new.stretches ≡ old.stretches → ((w : ℕ) → has_room new w ≡ has_room old w)
+pub room_swept : (old new : KeptWords) → new.harts ≡ old.harts → new.epochs ≡ old.epochs → ((w : ℕ) → has_room new w ≡ has_room old w)
     → (first n : ℕ) → HasRoom old first n → HasRoom new first n
-room_swept old new harts stretches room first n h = record {
+room_swept old new harts epochs room first n h = record {
   pages = λ more i low. subst IsTrue (sym (room (first + 4 * i))) (h.pages (omega (arith, more, harts)) i low);
-  stretch = λ more. subst (λ s. IsTrue (has_stretch s)) (sym stretches) (h.stretch (omega (arith, more, harts)));
+  epoch = λ more. subst (λ s. IsTrue (has_epoch s)) (sym epochs) (h.epoch (omega (arith, more, harts)));
 }
 
 -- what is kept suffices for the harts whose bits were always set

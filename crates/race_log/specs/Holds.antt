@@ -1,4 +1,4 @@
--- Counts that stand for a set of points.
+-- Counts that represent a set of points.
 use Rattle.std.specs.Prelude.{◌≡◌, ℕ, suc, ◌<◌, ◌⊎◌, List, slice_get, Some, true}
 use Rattle.race_log.specs.Points.{Point}
 use Rattle.race_log.specs.Netzer.{Before}

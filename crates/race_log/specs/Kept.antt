@@ -57,9 +57,9 @@ AllKnow run live m = (hart : ℕ) → live hart ≡ true → OwnUpTo run hart m
 abbrev pub KeptSince : List Point → ℕ → List Kept → ℕ → (Kept → Type 0) → Type 0
 KeptSince run word ks m Serves = (j : ℕ) × (k : Kept) × In ks k × KeptAt run word j k × UpTo run m j × Serves k
 
--- what is kept of the word suffices for the live harts: each point that writes the word is, or is before, a kept write;
--- each point that accesses it is, or is before, a kept write or a kept access of its own hart; but for points that each
--- live hart knows of
+-- what is kept of the word suffices for the live harts. Each point that writes the word is, or is before, a kept write. Each
+-- point that accesses it is, or is before, a kept write or a kept access of its own hart. Points that each live hart knows of
+-- are excepted
 pub record Suffices (run : List Point) (live : ℕ → Bool) (word : ℕ) (ks : List Kept) : Type 0 where
   pub each : (k : Kept) → In ks k → (j : ℕ) × KeptAt run word j k
   pub writes : (m : ℕ) (p : Point) → slice_get run m ≡ Some p → writes_word word p ≡ true

@@ -87,6 +87,7 @@ abbrev pub ChainsStandForCounts : Type 0
 ChainsStandForCounts = (run : List Point) → IsInOrder run → (m n : ℕ) (p q : Point) → slice_get run m ≡ Some p → slice_get run n ≡ Some q
     → Before run m n ↔ Leads run p.hart p.count q.hart q.count
 
+-- an edge over places is one over instructions by hart and count
 abbrev pub EdgesStandForCounts : Type 0
 EdgesStandForCounts = (run : List Point) → IsInOrder run → (m n : ℕ) (p q : Point) → slice_get run m ≡ Some p → slice_get run n ≡ Some q
     → IsEdge run m n ↔ IsEdgeBetween run p q

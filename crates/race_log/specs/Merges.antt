@@ -13,7 +13,7 @@ abbrev pub count_up : ℕ → ℕ → List ℕ
 count_up m zero = []
 count_up m (suc n) = m ∷ count_up (suc m) n
 
--- where m first stands in the list, or the list's length
+-- the place where m first stands in the list, or the list's length
 abbrev pub place : List ℕ → ℕ → ℕ
 place [] m = 0
 place (x ∷ xs) m = cond (x == m) 0 (suc (place xs m))
@@ -39,6 +39,7 @@ abbrev pub own_part : List Point → List ℕ → ℕ → List ℕ
 own_part run order hart = filter (λ m. is_of_hart hart (slice_get run m)) order
 
 -- the order is a merge of the harts' lists
+-- (numbers that are no places of the run count for nothing)
 abbrev pub IsMerge : (ℕ → Bool) → List Point → List ℕ → Type 0
 IsMerge kept run order = (hart : ℕ) → own_part run order hart ≡ own_list kept run hart
 

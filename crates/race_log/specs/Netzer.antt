@@ -1,5 +1,5 @@
 -- Netzer's rule (1993): which conflicts of a run have to be recorded, so that the others follow. A run is the list of
--- its points in the order in which they were done, and a point goes by its place in that list.
+-- its points in the order in which they were done, and a point is determined by its place in that list.
 use Rattle.std.specs.Prelude.{◌≡◌, ℕ, ◌<◌, Bool, ◌⊎◌, List, slice_get, Some, IsTrue}
 use Rattle.race_log.specs.Points.{Point, IsConflict, IsSameHart}
 

@@ -12,12 +12,12 @@ abbrev pub is_source : ℕ → Bool → (ℕ → ℕ) → Kept → Bool
 is_source hart writes counts k =
     (not (k.hart == hart) && (is_write k.mode || writes)) && not (nat_lt k.ic (counts k.hart))
 
--- whether the turn is later than the best one's, where there is one
+-- whether the turn is later than the best one's, if there is one
 abbrev pub newer : Option Kept → ℕ → Bool
 newer None turn = true
 newer (Some k) turn = nat_lt k.turn turn
 
--- the latest source among the kept accesses, or best where none is later
+-- the latest source among the kept accesses, or best if none is later
 abbrev pub latest : ℕ → Bool → (ℕ → ℕ) → Option Kept → List Kept → Option Kept
 latest hart writes counts best [] = best
 latest hart writes counts best (k ∷ ks) =

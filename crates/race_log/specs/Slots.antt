@@ -2,35 +2,35 @@
 use Rattle.std.specs.Prelude.{◌≡◌, ℕ, zero, suc, ◌+◌, ◌-◌, ◌*◌, ◌<◌, ◌==◌, nat_lt, Bool, false, ◌||◌, cond, IsTrue, if◌then◌else◌}
 use Rattle.std.specs.Prelude.{List, [], ◌∷◌, ◌++◌, length, slice_get, slice_index, Option, Some, None, Vec}
 use Rattle.std.specs.Global.{Global}
-use Rattle.race_log.specs.Times.{count_of}
+use Rattle.vector_time.specs.Times.{count_of}
 use Rattle.race_log.specs.declared.mode.Mode.{Mode}
 use Rattle.race_log.specs.declared.mode.Mode.TheVariants.{Read, Write}
 use Rattle.race_log.specs.declared.slot.Slot.{Slot}
-use Rattle.race_log.specs.declared.slot.Found.{Found}
-use Rattle.race_log.specs.declared.stretches.Stretch.{Stretch}
+use Rattle.race_log.specs.declared.slot.FoundAccess.{FoundAccess}
+use Rattle.race_log.specs.declared.epochs.Epoch.{Epoch}
 use Rattle.race_log.specs.Kept.{Kept, Replaces}
 
--- the counts of a stretch's other harts, 0 where there is no stretch
-abbrev pub counts_of : Option Stretch → ℕ → ℕ
+-- the counts of a epoch's other harts, 0 where there is no epoch
+abbrev pub counts_of : Option Epoch → ℕ → ℕ
 counts_of None hart = 0
 counts_of (Some s) hart = count_of s.times hart
 
--- the same by the stretch's number
-abbrev pub counts_in : List Stretch → ℕ → ℕ → ℕ
-counts_in table stretch = counts_of (slice_get table stretch)
+-- the same by the epoch's number
+abbrev pub counts_in : List Epoch → ℕ → ℕ → ℕ
+counts_in table epoch = counts_of (slice_get table epoch)
 
--- the counts after a point of the hart in a stretch: its own, and those of the stretch
+-- the counts after a point of the hart in a epoch: its own, and those of the epoch
 abbrev pub counts_past : (ℕ → ℕ) → (hart after : ℕ) → ℕ → ℕ
 counts_past counts hart after h = if h == hart then after else counts h
 
--- what is kept by a turn, a count and a stretch, which are those of a point of the hart
-abbrev pub kept_by : (ℕ → ℕ → ℕ) → Mode → (hart turn after stretch : ℕ) → Kept
-kept_by counts mode hart turn after stretch =
-    record { turn = turn; hart = hart; ic = after - 1; mode = mode; times = counts_past (counts stretch) hart after }
+-- what is kept by a turn, a count and a epoch, which are those of a point of the hart
+abbrev pub kept_by : (ℕ → ℕ → ℕ) → Mode → (hart turn after epoch : ℕ) → Kept
+kept_by counts mode hart turn after epoch =
+    record { turn = turn; hart = hart; ic = after - 1; mode = mode; times = counts_past (counts epoch) hart after }
 
 -- what a slot keeps, as an access of the hart: nothing where the count after it is 0
 abbrev pub kept_here : (ℕ → ℕ → ℕ) → Mode → ℕ → Slot → List Kept
-kept_here counts mode hart s = cond (s.after == 0) [] (kept_by counts mode hart s.turn s.after s.stretch ∷ [])
+kept_here counts mode hart s = cond (s.after == 0) [] (kept_by counts mode hart s.turn s.after s.epoch ∷ [])
 
 -- the write in a word's first slot
 abbrev pub write_in : (ℕ → ℕ → ℕ) → Option Slot → List Kept
@@ -52,44 +52,44 @@ abbrev pub word_in : (ℕ → ℕ → ℕ) → (harts : ℕ) → List Slot → �
 word_in counts harts page at = write_in counts (slice_get page at) ++ reads_in counts page (at + 1) 0 harts
 
 -- an access that a search found
-abbrev pub found_as : (ℕ → ℕ → ℕ) → Option Found → Option Kept
+abbrev pub found_as : (ℕ → ℕ → ℕ) → Option FoundAccess → Option Kept
 found_as counts None = None
-found_as counts (Some f) = Some (kept_by counts f.mode f.hart f.turn f.after f.stretch)
+found_as counts (Some f) = Some (kept_by counts f.mode f.hart f.turn f.after f.epoch)
 
--- whether a stretch's number is marked as used
-abbrev pub is_marked : Option Stretch → Bool
+-- whether a epoch's number is marked as used
+abbrev pub is_marked : Option Epoch → Bool
 is_marked None = false
 is_marked (Some s) = s.used
 
--- whether the next stretch that begins can't take this one's place
-abbrev pub is_settled : List Stretch → (next stretch : ℕ) → Bool
-is_settled table next stretch = nat_lt stretch next || is_marked (slice_get table stretch)
+-- whether the next epoch that begins can't take this one's place
+abbrev pub is_settled : List Epoch → (next epoch : ℕ) → Bool
+is_settled table next epoch = nat_lt epoch next || is_marked (slice_get table epoch)
 
--- a page's slots all name settled stretches
-abbrev pub IsSettledPage : List Stretch → ℕ → List Slot → Type 0
-IsSettledPage table next page = (at : ℕ) (s : Slot) → slice_get page at ≡ Some s → IsTrue (is_settled table next s.stretch)
+-- a page's slots all name settled epochs
+abbrev pub IsSettledPage : List Epoch → ℕ → List Slot → Type 0
+IsSettledPage table next page = (at : ℕ) (s : Slot) → slice_get page at ≡ Some s → IsTrue (is_settled table next s.epoch)
 
--- where a page's slots name settled stretches, so do its slots when one more names the stretch
+-- where a page's slots name settled epochs, so do its slots when one more names the epoch
 abbrev pub StaysSettled : (old new : List Slot) → ℕ → Type 0
-StaysSettled old new stretch = (table : List Stretch) (next : ℕ) → IsTrue (is_settled table next 0) → IsTrue (is_settled table next stretch)
+StaysSettled old new epoch = (table : List Epoch) (next : ℕ) → IsTrue (is_settled table next 0) → IsTrue (is_settled table next epoch)
     → IsSettledPage table next old → IsSettledPage table next new
 
--- an access is kept in the slots of the word that begin there, whatever the counts of stretches are
+-- an access is kept in the slots of the word that begin there, whatever the counts of epochs are
 abbrev pub KeepsIn : (harts : ℕ) (old new : List Slot) (at : ℕ) → Mode → Slot → Type 0
 KeepsIn harts old new at mode s = (counts : ℕ → ℕ → ℕ)
-    → Replaces (kept_by counts mode s.hart s.turn s.after s.stretch) (word_in counts harts old at) (word_in counts harts new at)
+    → Replaces (kept_by counts mode s.hart s.turn s.after s.epoch) (word_in counts harts old at) (word_in counts harts new at)
 
 -- the slots of a page
 abbrev pub slots_of : Option (Vec Slot Global) → List Slot
 slots_of None = []
 slots_of (Some v) = v.items
 
--- all pages' slots name settled stretches
-abbrev pub AreSettled : List Stretch → ℕ → List (Vec Slot Global) → Type 0
+-- all pages' slots name settled epochs
+abbrev pub AreSettled : List Epoch → ℕ → List (Vec Slot Global) → Type 0
 AreSettled table next pages = (n : ℕ) → IsSettledPage table next (slots_of (slice_get pages n))
 
--- the harts' present stretches are settled
-abbrev pub AreSettledNow : List Stretch → ℕ → List ℕ → Type 0
+-- the harts' present epochs are settled
+abbrev pub AreSettledNow : List Epoch → ℕ → List ℕ → Type 0
 AreSettledNow table next present = (hart : ℕ) → IsTrue (is_settled table next (slice_index present hart))
 
 -- pages have no slots, or those of 64 words of so many harts

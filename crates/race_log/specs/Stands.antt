@@ -7,10 +7,10 @@ use Rattle.race_log.specs.ByCount.{IsInOrder}
 use Rattle.race_log.specs.Holds.{OwnUpTo, CountsOf}
 use Rattle.race_log.specs.Kept.{Kept, Suffices, is_write}
 use Rattle.race_log.specs.Search.{sources, counts_after, gathered}
-use Rattle.race_log.specs.Sweep.{has_bit, all_below, held_below}
+use Rattle.race_log.specs.Sweep.{has_bit, all_below, held_below, one_more}
 use Rattle.race_log.specs.Words.{kept_in, counts_at, KeepsAccess}
 
--- a number past the turn, where there is one
+-- a number past the turn, if there is one
 abbrev pub past_turn : Option ℕ → ℕ
 past_turn None = 0
 past_turn (Some turn) = turn + 1
@@ -63,8 +63,13 @@ is_known s set hart count = all_below (λ g. not (has_bit set g) || nat_lt count
 abbrev pub words_of : Shadow → ℕ
 words_of s = 64 * length s.words.pages.items
 
+-- how many accesses are kept of all words
 abbrev pub held_of : Shadow → ℕ
 held_of s = held_below (kept_of s) (words_of s)
+
+-- how many accesses were taken in since the last sweep, or since the shadow was new
+abbrev pub unswept_of : Shadow → ℕ
+unswept_of s = s.since
 
 -- the two know of the same points and keep the same
 pub record KnowsSame (old new : Shadow) : Type 0 where
@@ -74,7 +79,7 @@ pub record KnowsSame (old new : Shadow) : Type 0 where
   pub times : (hart other : ℕ) → times_of new hart other ≡ times_of old hart other
   pub kept : (word : ℕ) → kept_of new word ≡ kept_of old word
 
--- the shadow stands for the run: it knows of these points and no others, and what it keeps suffices for its live harts
+-- the shadow represents the run: it knows of these points and no others, and what it keeps suffices for its live harts
 pub record Stands (run : List Point) (live : ℕ → Bool) (s : Shadow) : Type 0 where
   pub in_order : IsInOrder run
   pub harts : All (λ p. p.hart < harts_of s) run
@@ -82,8 +87,8 @@ pub record Stands (run : List Point) (live : ℕ → Bool) (s : Shadow) : Type 0
   pub own : (hart : ℕ) → hart < harts_of s → CountsOf run (OwnUpTo run hart) (times_of s hart)
   pub kept : (word : ℕ) → Suffices run (is_live s live) word (kept_of s word)
 
--- The shadow takes in the hart's access at this count and turn: the sources of its edges are found among what is kept, the
--- hart's times take in theirs, and one access is kept, with these times, if there are other harts.
+-- The shadow takes in the hart's access at this count and turn. The sources of its edges are found among what is kept, the
+-- hart's times take in theirs, and one access is kept, with these times, if there are other harts
 pub record TakesIn (hart count turn first n : ℕ) (mode : Mode) (old new : Shadow) : Type 0 where
   pub edges : edges_of new ≡ sources hart (is_write mode) (harts_of old - 1) (times_of old hart) (gathered (kept_of old) first n)
   pub few : length (edges_of new) < harts_of old
@@ -101,3 +106,4 @@ pub record TakesIn (hart count turn first n : ℕ) (mode : Mode) (old new : Shad
   pub lasting : lasting_of new ≡ lasting_of old
   pub turns : next_turn new ≡ turn + 1
   pub reserved : reserved_range new ≡ None
+  pub unswept : unswept_of new ≡ one_more (unswept_of old)

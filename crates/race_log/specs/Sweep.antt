@@ -1,9 +1,9 @@
 -- How many accesses are kept, and which of them a sweep gives up.
-use Rattle.std.specs.Prelude.{◌≡◌, ℕ, zero, suc, ◌+◌, ◌*◌, ◌==◌, nat_lt, Bool, true, not, ◌&&◌, List, length, filter, Option, Some, None, if◌then◌else◌}
+use Rattle.std.specs.Prelude.{◌≡◌, ℕ, zero, suc, ◌+◌, ◌-◌, ◌*◌, ◌^◌, ◌==◌, min, nat_lt, Bool, true, not, ◌&&◌, List, length, filter, Option, Some, None, if◌then◌else◌}
 use Rattle.std.specs.Int.{bit_at}
 use Rattle.std.specs.List.{list_any}
-use Rattle.race_log.specs.declared.times.Times.{Times}
-use Rattle.race_log.specs.Times.{count_of}
+use Rattle.vector_time.specs.declared.times.Times.{Times}
+use Rattle.vector_time.specs.Times.{count_of}
 use Rattle.race_log.specs.Points.{Point}
 use Rattle.race_log.specs.Tests.{touches}
 use Rattle.race_log.specs.Kept.{Kept}
@@ -17,7 +17,7 @@ unfoldable pub all_below : (ℕ → Bool) → ℕ → Bool
 all_below test zero = true
 all_below test (suc n) = all_below test n && test n
 
--- whether the times cover the hart's point at the count; where there are none, each point is covered
+-- whether the times cover the hart's point at the count; if there are none, each point is covered
 abbrev pub is_covered : Option Times → (hart count : ℕ) → Bool
 is_covered None hart count = true
 is_covered (Some times) hart count = nat_lt count (count_of times hart)
@@ -43,3 +43,7 @@ held_below kept n = sum_below (λ i. length (kept (4 * i))) n
 -- how many of the first n words some point of the run accesses
 abbrev pub accessed_below : List Point → ℕ → ℕ
 accessed_below run n = sum_below (λ i. if list_any (touches (4 * i)) run then 1 else 0) n
+
+-- one access more since the last sweep; at the greatest number of 64 bits the count stays
+abbrev pub one_more : ℕ → ℕ
+one_more n = min (n + 1) (2 ^ 64 - 1)

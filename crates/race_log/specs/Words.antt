@@ -1,40 +1,40 @@
 -- Kept accesses by word.
 use Rattle.std.specs.Prelude.{◌≡◌, ◌≢◌, ℕ, ◌+◌, ◌*◌, ◌/◌, ◌%◌, ◌<◌, ◌==◌, Bool, not, ◌&&◌, List, [], cond, length, nat_lt, slice_get, slice_index, Option, Some, None, IsTrue}
-use Rattle.race_log.specs.declared.times.Times.{Times}
-use Rattle.race_log.specs.Times.{count_of}
+use Rattle.vector_time.specs.declared.times.Times.{Times}
+use Rattle.vector_time.specs.Times.{count_of}
 use Rattle.race_log.specs.declared.mode.Mode.{Mode}
 use Rattle.race_log.specs.declared.slot.Slot.{Slot}
-use Rattle.race_log.specs.declared.stretches.Stretches.{Stretches}
+use Rattle.race_log.specs.declared.epochs.Epochs.{Epochs}
 use Rattle.race_log.specs.declared.words.KeptWords.{KeptWords}
 use Rattle.race_log.specs.Kept.{Kept, Replaces}
 use Rattle.race_log.specs.Slots.{counts_in, kept_by, word_in, is_marked, slots_of}
 
--- the counts of the times, where there are any
+-- the counts of the times, if there are any
 abbrev pub counts_at : Option Times → ℕ → ℕ
 counts_at None hart = 0
 counts_at (Some times) hart = count_of times hart
 
--- for each stretch its counts
-abbrev pub stretch_counts : Stretches → ℕ → ℕ → ℕ
-stretch_counts s = counts_in s.table.items
+-- for each epoch its counts
+abbrev pub epoch_counts : Epochs → ℕ → ℕ → ℕ
+epoch_counts s = counts_in s.table.items
 
--- the number of a hart's present stretch
-abbrev pub stretch_of : Stretches → ℕ → ℕ
-stretch_of s hart = slice_index s.present hart
+-- the number of a hart's present epoch
+abbrev pub epoch_of : Epochs → ℕ → ℕ
+epoch_of s hart = slice_index s.present hart
 
--- the counts of a hart's present stretch
-abbrev pub present_counts : Stretches → ℕ → ℕ → ℕ
-present_counts s hart = stretch_counts s (stretch_of s hart)
+-- the counts of a hart's present epoch
+abbrev pub present_counts : Epochs → ℕ → ℕ → ℕ
+present_counts s hart = epoch_counts s (epoch_of s hart)
 
--- each hart's present stretch has the hart's counts of the others
-abbrev pub ArePresent : Stretches → (harts : ℕ) → List Times → Type 0
+-- each hart's present epoch has the hart's counts of the others
+abbrev pub ArePresent : Epochs → (harts : ℕ) → List Times → Type 0
 ArePresent s harts times = (g h : ℕ) → g < harts → h ≢ g → present_counts s g h ≡ counts_at (slice_get times g) h
 
--- whether a stretch can begin without memory
-abbrev pub has_stretch : Stretches → Bool
-has_stretch s = nat_lt s.next (length s.table.items) && not (is_marked (slice_get s.table.items s.next))
+-- whether a epoch can begin without memory
+abbrev pub has_epoch : Epochs → Bool
+has_epoch s = nat_lt s.next (length s.table.items) && not (is_marked (slice_get s.table.items s.next))
 
--- where the slots of an address's word begin in their page
+-- the place where the slots of an address's word begin in their page
 abbrev pub place_of : (harts word : ℕ) → ℕ
 place_of harts word = word / 4 % 64 * (harts + 1)
 
@@ -44,7 +44,7 @@ page_of words word = slots_of (slice_get words.pages.items (word / 256))
 
 -- the accesses kept of the aligned word of an address
 abbrev pub kept_in : KeptWords → ℕ → List Kept
-kept_in words word = cond (word % 4 == 0) (word_in (stretch_counts words.stretches) words.harts (page_of words word) (place_of words.harts word)) []
+kept_in words word = cond (word % 4 == 0) (word_in (epoch_counts words.epochs) words.harts (page_of words word) (place_of words.harts word)) []
 
 -- whether the page of an address is made
 abbrev pub has_room : KeptWords → ℕ → Bool
@@ -54,18 +54,18 @@ has_room words word = length (page_of words word) == 64 * (words.harts + 1)
 abbrev pub HasPages : KeptWords → ℕ → ℕ → Type 0
 HasPages words first n = (i : ℕ) → i < n → IsTrue (has_room words (first + 4 * i))
 
--- where accesses are kept, which takes other harts, one of so many words from the first can be kept without memory
+-- if accesses are kept, which takes other harts, one of so many words from the first can be kept without memory
 pub record HasRoom (words : KeptWords) (first n : ℕ) : Type 0 where
   pub pages : 1 < words.harts → HasPages words first n
-  pub stretch : 1 < words.harts → IsTrue (has_stretch words.stretches)
+  pub epoch : 1 < words.harts → IsTrue (has_epoch words.epochs)
 
--- what is kept of a point of the hart that is done in its present stretch
-abbrev pub kept_now : Stretches → Mode → (hart turn after : ℕ) → Kept
-kept_now s mode hart turn after = kept_by (stretch_counts s) mode hart turn after (stretch_of s hart)
+-- what is kept of a point of the hart that is done in its present epoch
+abbrev pub kept_now : Epochs → Mode → (hart turn after : ℕ) → Kept
+kept_now s mode hart turn after = kept_by (epoch_counts s) mode hart turn after (epoch_of s hart)
 
 -- what is kept by a slot
-abbrev pub kept_of_slot : Stretches → Mode → Slot → Kept
-kept_of_slot s mode slot = kept_by (stretch_counts s) mode slot.hart slot.turn slot.after slot.stretch
+abbrev pub kept_of_slot : Epochs → Mode → Slot → Kept
+kept_of_slot s mode slot = kept_by (epoch_counts s) mode slot.hart slot.turn slot.after slot.epoch
 
 -- the access is kept of each of so many words from the first, and nothing changes at other words
 pub record KeepsAccess (k : Kept) (first n : ℕ) (old new : ℕ → List Kept) : Type 0 where

@@ -13,6 +13,7 @@
 #![tactic(auto)]
 
 mod edges;
+mod epochs;
 mod examples;
 mod laws;
 mod mode;
@@ -20,10 +21,8 @@ mod page;
 mod search;
 mod shadow;
 mod slot;
-mod stretches;
 mod sweep;
 mod sweeping;
-mod times;
 mod words;
 
 pub use edges::Edges;
@@ -39,4 +38,3 @@ pub use laws::{
 };
 pub use mode::Mode;
 pub use shadow::Shadow;
-pub use times::Times;

@@ -1,19 +1,19 @@
 // The slots of a page: for each of its words one for a write, and after it one for a read of each hart.
 ghost use Rattle.std.specs.Prelude.{◌≡◌, ◌+◌, ◌<◌, ◌≤◌, ℕ, Some, IsOk, OnOk, IsTrue, length, slice_get, vec_len};
 ghost use Rattle.race_log.specs.Slots.{word_in, is_marked, KeepsIn, StaysSettled};
-ghost use Rattle.race_log.specs.Words.{stretch_counts};
+ghost use Rattle.race_log.specs.Words.{epoch_counts};
 ghost use Rattle.race_log.specs.declared.slot.Slot.{Slot};
 
+use crate::epochs::Epochs;
 use crate::mode::Mode;
 use crate::slot::Slot;
-use crate::stretches::Stretches;
 use bn_base::HartId;
 use std::alloc::AllocError;
 
 /// Gives a page its slots, which keep nothing, where it has none.
 pub fn make_slots(page: &mut Vec<Slot>, count: usize) -> Result<(), AllocError>
     ensures stays { 0 < vec_len page.old → page.new.items ≡ page.old.items }
-    ensures none { vec_len page.old ≡ 0 → (at : ℕ) (s : Slot) → slice_get page.new.items at ≡ Some s → (s.after ≡ 0) × (s.stretch ≡ 0) }
+    ensures none { vec_len page.old ≡ 0 → (at : ℕ) (s : Slot) → slice_get page.new.items at ≡ Some s → (s.after ≡ 0) × (s.epoch ≡ 0) }
     ensures count { OnOk result (vec_len page.old ≡ 0 → length page.new.items ≡ count) }
     ensures full { vec_len page.old ≡ 0 → 0 < length page.new.items → length page.new.items ≡ count }
     ensures ready { 0 < vec_len page.old → IsOk result }
@@ -34,7 +34,7 @@ pub fn keep_in(page: &mut Vec<Slot>, at: usize, harts: HartId, mode: Mode, slot:
     ensures kept { KeepsIn harts page.old.items page.new.items at mode slot.now }
     ensures below { (counts : ℕ → ℕ → ℕ) (place : ℕ) → place + harts < at → word_in counts harts page.new.items place ≡ word_in counts harts page.old.items place }
     ensures above { (counts : ℕ → ℕ → ℕ) (place : ℕ) → at + harts < place → word_in counts harts page.new.items place ≡ word_in counts harts page.old.items place }
-    ensures settled { StaysSettled page.old.items page.new.items slot.now.stretch }
+    ensures settled { StaysSettled page.old.items page.new.items slot.now.epoch }
 {
     match mode {
         Mode::Read => page[at + 1 + slot.hart as usize] = *slot,
@@ -47,7 +47,7 @@ fn write_in(page: &mut Vec<Slot>, at: usize, harts: HartId, slot: &Slot)
     requires within { at + harts < vec_len page.old }
     ensures len { length page.new.items ≡ length page.old.items }
     ensures own { slice_get page.new.items at ≡ Some slot.now }
-    ensures none { (j : ℕ) (s : Slot) → at < j → j ≤ at + harts → slice_get page.new.items j ≡ Some s → (s.after ≡ 0) × (s.stretch ≡ 0) }
+    ensures none { (j : ℕ) (s : Slot) → at < j → j ≤ at + harts → slice_get page.new.items j ≡ Some s → (s.after ≡ 0) × (s.epoch ≡ 0) }
     ensures below { (j : ℕ) → j < at → slice_get page.new.items j ≡ slice_get page.old.items j }
     ensures above { (j : ℕ) → at + harts < j → slice_get page.new.items j ≡ slice_get page.old.items j }
 {
@@ -57,16 +57,16 @@ fn write_in(page: &mut Vec<Slot>, at: usize, harts: HartId, slot: &Slot)
     }
 }
 
-/// Marks the stretches that a page's slots name as used.
-pub fn mark_page(stretches: &mut Stretches, page: &[Slot])
-    requires full { stretches.old.next ≡ length stretches.old.table.items }
-    ensures counts { (i h : ℕ) → stretch_counts stretches.new i h ≡ stretch_counts stretches.old i h }
-    ensures present { stretches.new.present ≡ stretches.old.present }
-    ensures full { (stretches.new.next ≡ stretches.old.next) × (length stretches.new.table.items ≡ length stretches.old.table.items) }
-    ensures marks { (i : ℕ) → IsTrue (is_marked (slice_get stretches.old.table.items i)) → IsTrue (is_marked (slice_get stretches.new.table.items i)) }
-    ensures marked { (at : ℕ) (s : Slot) → slice_get page.now at ≡ Some s → s.stretch < length stretches.old.table.items → IsTrue (is_marked (slice_get stretches.new.table.items s.stretch)) }
+/// Marks the epochs that a page's slots name as used.
+pub fn mark_page(epochs: &mut Epochs, page: &[Slot])
+    requires full { epochs.old.next ≡ length epochs.old.table.items }
+    ensures counts { (i h : ℕ) → epoch_counts epochs.new i h ≡ epoch_counts epochs.old i h }
+    ensures present { epochs.new.present ≡ epochs.old.present }
+    ensures full { (epochs.new.next ≡ epochs.old.next) × (length epochs.new.table.items ≡ length epochs.old.table.items) }
+    ensures marks { (i : ℕ) → IsTrue (is_marked (slice_get epochs.old.table.items i)) → IsTrue (is_marked (slice_get epochs.new.table.items i)) }
+    ensures marked { (at : ℕ) (s : Slot) → slice_get page.now at ≡ Some s → s.epoch < length epochs.old.table.items → IsTrue (is_marked (slice_get epochs.new.table.items s.epoch)) }
 {
     for slot in page {
-        stretches.mark(slot.stretch);
+        epochs.mark(slot.epoch);
     }
 }

@@ -1,19 +1,19 @@
 ghost use Rattle.std.specs.Prelude.{◌≡◌, ◌+◌, ◌*◌, ◌<◌, ◌≤◌, ◌^◌, ◌%◌, ℕ, true, None, length, slice_get};
-ghost use Rattle.race_log.specs.Times.{count_of};
+ghost use Rattle.vector_time.specs.Times.{count_of};
 ghost use Rattle.bn_base.specs.declared.settings.TheConstants.{HARTS};
 ghost use Rattle.race_log.specs.Search.{gathered, latest, newer, sources, counts_after};
 ghost use Rattle.race_log.specs.Slots.{kept_here, write_in, read_in, reads_in, word_in, found_as};
-ghost use Rattle.race_log.specs.Words.{kept_in, stretch_counts};
+ghost use Rattle.race_log.specs.Words.{kept_in, epoch_counts};
 
-use crate::Times;
 use crate::edges::Edges;
 use crate::mode::Mode;
-use crate::slot::{Found, Slot};
+use crate::slot::{FoundAccess, Slot};
 use crate::words::KeptWords;
 use bn_base::{Addr, HartId};
+use vector_time::Times;
 
 // Whether the turn is later than the best one's, if there is one.
-fn is_newer(best: &Option<Found>, turn: u64) -> bool
+fn is_newer(best: &Option<FoundAccess>, turn: u64) -> bool
     ensures { (counts : ℕ → ℕ → ℕ) → result ≡ newer (found_as counts best.now) turn }
 {
     match best {
@@ -25,14 +25,14 @@ fn is_newer(best: &Option<Found>, turn: u64) -> bool
 // What the slot keeps, as an access of the hart `other`, where that is a later source than the best one;
 // else the best one.
 fn later_of(
-    best: Option<Found>,
+    best: Option<FoundAccess>,
     times: &Times,
     hart: HartId,
     writes: bool,
     mode: Mode,
     other: HartId,
     slot: &Slot,
-) -> Option<Found>
+) -> Option<FoundAccess>
     requires { other < HARTS }
     ensures { (counts : ℕ → ℕ → ℕ) → found_as counts result ≡ latest hart writes (count_of times.now) (found_as counts best) (kept_here counts mode other slot.now) }
 {
@@ -42,10 +42,10 @@ fn later_of(
         && !times.covers(other, slot.after - 1)
         && is_newer(&best, slot.turn)
     {
-        Some(Found {
+        Some(FoundAccess {
             turn: slot.turn,
             after: slot.after,
-            stretch: slot.stretch,
+            epoch: slot.epoch,
             hart: other,
             mode,
         })
@@ -56,13 +56,13 @@ fn later_of(
 
 // The latest of the best source and the write in a word's first slot.
 fn later_write(
-    best: Option<Found>,
+    best: Option<FoundAccess>,
     times: &Times,
     hart: HartId,
     writes: bool,
     page: &[Slot],
     at: usize,
-) -> Option<Found>
+) -> Option<FoundAccess>
     ensures { (counts : ℕ → ℕ → ℕ) → found_as counts result ≡ latest hart writes (count_of times.now) (found_as counts best) (write_in counts (slice_get page.now at)) }
 {
     match page.get(at) {
@@ -73,13 +73,13 @@ fn later_write(
 
 // The latest of the best source for a write and the read in the slot of the hart `other`.
 fn later_read(
-    best: Option<Found>,
+    best: Option<FoundAccess>,
     times: &Times,
     hart: HartId,
     other: HartId,
     page: &[Slot],
     at: usize,
-) -> Option<Found>
+) -> Option<FoundAccess>
     requires { other < HARTS }
     ensures { (counts : ℕ → ℕ → ℕ) → found_as counts result ≡ latest hart true (count_of times.now) (found_as counts best) (read_in counts other (slice_get page.now at)) }
 {
@@ -91,13 +91,13 @@ fn later_read(
 
 // The latest source for a write among the reads that are kept of a word, whose slots begin at `at`.
 fn latest_read(
-    best: Option<Found>,
+    best: Option<FoundAccess>,
     times: &Times,
     hart: HartId,
     harts: HartId,
     page: &[Slot],
     at: usize,
-) -> Option<Found>
+) -> Option<FoundAccess>
     requires harts { harts ≤ HARTS }
     requires at { at < 2 ^ 32 }
     ensures { (counts : ℕ → ℕ → ℕ) → found_as counts result ≡ latest hart true (count_of times.now) (found_as counts best) (reads_in counts page.now at 0 harts) }
@@ -111,14 +111,14 @@ fn latest_read(
 
 // The latest source among what is kept of the word whose slots begin at `at`.
 fn latest_of(
-    best: Option<Found>,
+    best: Option<FoundAccess>,
     times: &Times,
     hart: HartId,
     writes: bool,
     harts: HartId,
     page: &[Slot],
     at: usize,
-) -> Option<Found>
+) -> Option<FoundAccess>
     requires harts { harts ≤ HARTS }
     requires at { at < 2 ^ 31 }
     ensures { (counts : ℕ → ℕ → ℕ) → found_as counts result ≡ latest hart writes (count_of times.now) (found_as counts best) (word_in counts harts page.now at) }
@@ -139,10 +139,10 @@ fn latest_in(
     writes: bool,
     first: Addr,
     count: u32,
-) -> Option<Found>
+) -> Option<FoundAccess>
     requires aligned { first % 4 ≡ 0 }
     requires range { first + 4 * count ≤ 2 ^ 32 }
-    ensures { found_as (stretch_counts words.now.stretches) result ≡ latest hart writes (count_of times.now) None (gathered (kept_in words.now) first count) }
+    ensures { found_as (epoch_counts words.now.epochs) result ≡ latest hart writes (count_of times.now) None (gathered (kept_in words.now) first count) }
 {
     let mut best = None;
     for i in 0..count {
@@ -188,7 +188,7 @@ pub fn find_sources(
             None => break,
             Some(k) => {
                 edges.push(k.hart, k.after - 1);
-                times.merge(&words.stretches.times_after(k.stretch, k.hart, k.after));
+                times.merge(&words.epochs.times_after(k.epoch, k.hart, k.after));
             }
         }
     }

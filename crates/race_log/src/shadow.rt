@@ -1,10 +1,9 @@
 ghost use Rattle.std.specs.Prelude.{◌≡◌, ◌≢◌, ◌+◌, ◌*◌, ◌<◌, ◌≤◌, ◌^◌, ◌%◌, ◌==◌, ℕ, Bool, IsTrue, if◌then◌else◌};
-ghost use Rattle.std.specs.Prelude.{List, [], filter, not, ◌&&◌, All, length, vec_len, Some, None, IfOk, IsOk, OnOk, OnErr};
+ghost use Rattle.std.specs.Prelude.{List, [], filter, not, nat_le, ◌&&◌, All, length, vec_len, Some, None, IfOk, IsOk, OnOk, OnErr};
 ghost use Rattle.std.specs.Option.{ForSome};
 ghost use Rattle.bn_base.specs.declared.settings.TheConstants.{HARTS};
 ghost use Rattle.race_log.specs.Words.{HasRoom, ArePresent};
 
-use crate::Times;
 use crate::edges::Edges;
 use crate::mode::Mode;
 use crate::search::find_sources;
@@ -12,6 +11,7 @@ use crate::sweep::{has_bit, least_with};
 use crate::words::KeptWords;
 use bn_base::{Addr, HartId, Ic, Settings};
 use std::alloc::{AllocError, Global};
+use vector_time::Times;
 
 /// What each hart knows of the others' points, and what is kept of each word's accesses.
 #[derive(Drop)]
@@ -31,19 +31,19 @@ pub struct Shadow {
     ghost some_hart: { 0 < harts },
     ghost few_harts: { harts ≤ HARTS },
     ghost each_hart: { vec_len times ≡ harts },
-    ghost present: { ArePresent words.stretches harts times.items },
+    ghost present: { ArePresent words.epochs harts times.items },
     ghost room: { ForSome reserved (λ r. HasRoom words r.0 r.1) },
 }
 
 impl Shadow {
-    ghost use Rattle.race_log.specs.Times.{count_of};
+    ghost use Rattle.vector_time.specs.Times.{count_of};
     ghost use Rattle.race_log.specs.Points.{Point};
     ghost use Rattle.race_log.specs.Tests.{sources_into};
     ghost use Rattle.race_log.specs.ByCount.{IsLatestPoint, IsTimesOf};
     ghost use Rattle.race_log.specs.Laws.{AreSources};
     ghost use Rattle.race_log.specs.Kept.{access_point, after};
-    ghost use Rattle.race_log.specs.Sweep.{has_bit, is_covered, accessed_below};
-    ghost use Rattle.race_log.specs.Stands.{Stands, KnowsSame, harts_of, lasting_of, lasts, next_turn, next_count, times_of, kept_of, words_of, held_of, is_known, reserved_range, edges_of, TakesIn};
+    ghost use Rattle.race_log.specs.Sweep.{has_bit, is_covered, accessed_below, one_more};
+    ghost use Rattle.race_log.specs.Stands.{Stands, KnowsSame, harts_of, lasting_of, lasts, next_turn, next_count, times_of, kept_of, words_of, held_of, is_known, reserved_range, edges_of, unswept_of, TakesIn};
 
     /// Knows of no point and keeps nothing.
     pub fn new(alloc: Global, settings: &Settings) -> Result<Shadow, AllocError>
@@ -52,6 +52,7 @@ impl Shadow {
         ensures counts { IfOk result (λ s. (h : ℕ) → next_count s h ≡ 0) }
         ensures reserved { IfOk result (λ s. reserved_range s ≡ None) }
         ensures edges { IfOk result (λ s. edges_of s ≡ []) }
+        ensures unswept { IfOk result (λ s. unswept_of s ≡ 0) }
         ensures lasting { IfOk result (λ s. (h : ℕ) → h < harts_of s → IsTrue (lasts s h)) }
         ensures stands { IfOk result (λ s. (live : ℕ → Bool) → Stands [] live s) }
     {
@@ -86,6 +87,7 @@ impl Shadow {
         ensures err { OnErr result (reserved_range self.new ≡ reserved_range self.old) }
         ensures ready { reserved_range self.old ≡ Some (first, count) → IsOk result }
         ensures edges { edges_of self.new ≡ edges_of self.old }
+        ensures unswept { unswept_of self.new ≡ unswept_of self.old }
     {
         self.words.make_room(first, count)?;
         self.reserved = Some((first, count));
@@ -125,6 +127,7 @@ impl Shadow {
         ensures turn { next_turn self.new ≡ turn + 1 }
         ensures counts { (h : ℕ) → next_count self.new h ≡ (if h == hart then ic + 1 else next_count self.old h) }
         ensures reserved { reserved_range self.new ≡ None }
+        ensures unswept { unswept_of self.new ≡ one_more (unswept_of self.old) }
     {
         self.take_in(hart, ic, turn, first, count, mode);
     }
@@ -236,6 +239,7 @@ impl Shadow {
         ensures times { (h other : ℕ) → times_of self.new h other ≡ times_of self.old h other }
         ensures reserved { reserved_range self.new ≡ reserved_range self.old }
         ensures edges { edges_of self.new ≡ edges_of self.old }
+        ensures unswept { unswept_of self.new ≡ 0 }
     {
         let known = self.known_to_all(live);
         self.lasting &= live;
@@ -245,7 +249,9 @@ impl Shadow {
 
     /// Whether a sweep is worth its walk: it goes over all words that have room, and by this comes no sooner than after as
     /// many accesses. So it costs each access a constant, whatever a guest does.
-    pub fn is_sweep_due(&self) -> bool {
+    pub fn is_sweep_due(&self) -> bool
+        ensures { result ≡ nat_le (words_of self.now) (unswept_of self.now) }
+    {
         self.since as usize / 64 >= self.words.pages.len()
     }
 

@@ -10,8 +10,8 @@ pub struct Slot {
     pub turn: u64,
     /// The count after the access's point.
     pub after: Ic,
-    /// The number of the stretch that the point is in.
-    pub stretch: u32,
+    /// The number of the epoch that the point is in.
+    pub epoch: u32,
     pub hart: HartId,
     ghost in_range: { hart < HARTS },
 }
@@ -20,12 +20,12 @@ impl Slot {
     /// A slot in which nothing is kept.
     pub fn empty() -> Slot
         ensures after { result.after ≡ 0 }
-        ensures stretch { result.stretch ≡ 0 }
+        ensures epoch { result.epoch ≡ 0 }
     {
         Slot {
             turn: 0,
             after: 0,
-            stretch: 0,
+            epoch: 0,
             hart: 0,
         }
     }
@@ -33,10 +33,10 @@ impl Slot {
 
 /// A kept access that a search found.
 #[derive(Clone, Copy)]
-pub struct Found {
+pub struct FoundAccess {
     pub turn: u64,
     pub after: Ic,
-    pub stretch: u32,
+    pub epoch: u32,
     pub hart: HartId,
     pub mode: Mode,
     ghost in_range: { hart < HARTS },

@@ -1,15 +1,15 @@
-// What is given up of a page, and how many accesses it keeps.
+//! What is given up of a page, and how many accesses it keeps.
 ghost use Rattle.std.specs.Prelude.{◌≡◌, ◌≢◌, ◌+◌, ◌-◌, ◌*◌, ◌<◌, ◌≤◌, ◌^◌, ◌⊎◌, ◌&&◌, ◌||◌, not, ℕ, Some, length, nat_lt, slice_get, vec_len};
 ghost use Rattle.bn_base.specs.declared.settings.TheConstants.{HARTS};
 ghost use Rattle.race_log.specs.declared.mode.Mode.{Mode};
 ghost use Rattle.race_log.specs.declared.slot.Slot.{Slot};
 ghost use Rattle.race_log.specs.Slots.{kept_here, write_in, read_in, reads_in, word_in, StaysSettled};
-ghost use Rattle.race_log.specs.Times.{count_of};
+ghost use Rattle.vector_time.specs.Times.{count_of};
 ghost use Rattle.race_log.specs.Sweep.{has_bit, is_covered, uncovered, GivesUp, sum_below};
 
-use crate::Times;
 use crate::slot::Slot;
 use bn_base::{HartId, Ic};
+use vector_time::Times;
 
 /// Whether a set of harts, one bit for each, has the hart.
 pub fn has_bit(set: u16, hart: HartId) -> bool
@@ -55,11 +55,12 @@ fn is_known(slot: &Slot, other: HartId, known: &Option<Times>) -> bool
 }
 
 // Gives up what a slot keeps, as an access of the hart `other`, if the times cover it; how many are given up.
+// An emptied slot names epoch 0: so an epoch that only accesses given up here named can be used again.
 fn give_up(slot: &mut Slot, other: HartId, known: &Option<Times>) -> u64
     requires { other < HARTS }
     ensures kept { (counts : ℕ → ℕ → ℕ) (mode : Mode) → GivesUp known.now result (kept_here counts mode other slot.old) (kept_here counts mode other slot.new) }
     ensures few { result ≤ 1 }
-    ensures slot { (slot.new ≡ slot.old) ⊎ ((slot.new.after ≡ 0) × (slot.new.stretch ≡ 0)) }
+    ensures slot { (slot.new ≡ slot.old) ⊎ ((slot.new.after ≡ 0) × (slot.new.epoch ≡ 0)) }
 {
     let known = is_known(slot, other, known);
     if known {

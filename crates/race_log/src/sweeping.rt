@@ -4,16 +4,16 @@ ghost use Rattle.bn_base.specs.declared.settings.TheConstants.{HARTS};
 ghost use Rattle.race_log.specs.Words.{kept_in, has_room};
 ghost use Rattle.race_log.specs.Sweep.{uncovered, sum_below, held_below};
 
-use crate::Times;
 use crate::sweep::{give_up_page, held_page};
 use crate::words::KeptWords;
+use vector_time::Times;
 
 impl KeptWords {
     /// Gives up the accesses that the times cover, all of them where there are no times, and answers how many. It takes
     /// no memory, and room stays.
     pub fn sweep(&mut self, known: &Option<Times>) -> u64
         ensures harts { self.new.harts ≡ self.old.harts }
-        ensures stretches { self.new.stretches ≡ self.old.stretches }
+        ensures epochs { self.new.epochs ≡ self.old.epochs }
         ensures pages { length self.new.pages.items ≡ length self.old.pages.items }
         ensures kept { (w : ℕ) → kept_in self.new w ≡ uncovered known.now (kept_in self.old w) }
         ensures gone { result + held_below (kept_in self.new) (64 * length self.new.pages.items) ≡ held_below (kept_in self.old) (64 * length self.old.pages.items) }
@@ -30,7 +30,7 @@ impl KeptWords {
     fn sweep_page(&mut self, number: usize, known: &Option<Times>) -> u64
         requires { number < vec_len self.old.pages }
         ensures harts { self.new.harts ≡ self.old.harts }
-        ensures stretches { self.new.stretches ≡ self.old.stretches }
+        ensures epochs { self.new.epochs ≡ self.old.epochs }
         ensures pages { length self.new.pages.items ≡ length self.old.pages.items }
         ensures kept { (w : ℕ) → w / 256 ≡ number → kept_in self.new w ≡ uncovered known.now (kept_in self.old w) }
         ensures others { (w : ℕ) → w / 256 ≢ number → kept_in self.new w ≡ kept_in self.old w }

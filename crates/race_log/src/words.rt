@@ -2,39 +2,41 @@ ghost use Rattle.std.specs.Prelude.{◌≡◌, ◌+◌, ◌*◌, ◌/◌, ◌%�
 ghost use Rattle.bn_base.specs.declared.settings.TheConstants.{HARTS};
 ghost use Rattle.race_log.specs.Slots.{AreFull, AreSettled};
 
-use crate::Times;
+use crate::epochs::Epochs;
 use crate::mode::Mode;
 use crate::page::{keep_in, make_slots, mark_page};
 use crate::slot::Slot;
-use crate::stretches::Stretches;
 use bn_base::{Addr, HartId, Ic};
 use std::alloc::{AllocError, Global};
+use vector_time::Times;
 
 /// The bytes of memory whose words have their slots in one page: 64 words.
 const PAGE_BYTES: u32 = 256;
 
-/// How many stretches there are before the table is looked through for the first time.
+/// How many epochs there are before the table is looked through for the first time.
 const FIRST_LIMIT: usize = 1024;
 
 /// The accesses that are kept, by word: of each word its last write, and of each hart its last read
 /// after that. Where there is one hart none is kept, since no edge can come from it.
 ///
 /// The slots of 64 words are a page, which is made with the first access of one of them.
+// A page is found by its number in a list: no key that a program chooses is hashed, and no word has a list on
+// the heap.
 #[derive(Drop)]
 pub struct KeptWords {
     pub harts: HartId,
     pub pages: Vec<Vec<Slot>>,
-    pub stretches: Stretches,
+    pub epochs: Epochs,
     limit: usize,
     ghost few: { harts ≤ HARTS },
     ghost few_pages: { vec_len pages ≤ 2 ^ 24 },
     ghost full: { AreFull harts pages.items },
-    ghost settled: { AreSettled stretches.table.items stretches.next pages.items },
+    ghost settled: { AreSettled epochs.table.items epochs.next pages.items },
 }
 
 impl KeptWords {
-    ghost use Rattle.race_log.specs.Times.{count_of};
-    ghost use Rattle.race_log.specs.Words.{page_of, place_of, kept_in, kept_now, kept_of_slot, stretch_counts, present_counts, has_stretch, has_room, HasPages, HasRoom, KeepsAccess};
+    ghost use Rattle.vector_time.specs.Times.{count_of};
+    ghost use Rattle.race_log.specs.Words.{page_of, place_of, kept_in, kept_now, kept_of_slot, epoch_counts, present_counts, has_epoch, has_room, HasPages, HasRoom, KeepsAccess};
     ghost use Rattle.race_log.specs.Kept.{Replaces};
     ghost use Rattle.race_log.specs.Slots.{slots_of, is_settled};
 
@@ -43,13 +45,13 @@ impl KeptWords {
         requires { harts ≤ HARTS }
         ensures harts { IfOk result (λ k. k.harts ≡ harts) }
         ensures none { IfOk result (λ k. (w : ℕ) → kept_in k w ≡ []) }
-        ensures counts { IfOk result (λ k. (stretch h : ℕ) → stretch_counts k.stretches stretch h ≡ 0) }
+        ensures counts { IfOk result (λ k. (epoch h : ℕ) → epoch_counts k.epochs epoch h ≡ 0) }
     {
-        let stretches = Stretches::new(alloc)?;
+        let epochs = Epochs::new(alloc)?;
         Ok(KeptWords {
             harts,
             pages: Vec::new(alloc),
-            stretches,
+            epochs,
             limit: FIRST_LIMIT,
         })
     }
@@ -78,7 +80,7 @@ impl KeptWords {
         requires range { first + 4 * count ≤ 2 ^ 32 }
         ensures harts { self.new.harts ≡ self.old.harts }
         ensures same { (w : ℕ) → kept_in self.new w ≡ kept_in self.old w }
-        ensures present { (g h : ℕ) → present_counts self.new.stretches g h ≡ present_counts self.old.stretches g h }
+        ensures present { (g h : ℕ) → present_counts self.new.epochs g h ≡ present_counts self.old.epochs g h }
         ensures room { OnOk result (HasRoom self.new first count) }
         ensures stays { (f n : ℕ) → HasRoom self.old f n → HasRoom self.new f n }
         ensures ready { HasRoom self.old first count → IsOk result }
@@ -97,47 +99,47 @@ impl KeptWords {
         requires range { first + 4 * count ≤ 2 ^ 32 }
         ensures harts { self.new.harts ≡ self.old.harts }
         ensures same { (w : ℕ) → kept_in self.new w ≡ kept_in self.old w }
-        ensures present { (g h : ℕ) → present_counts self.new.stretches g h ≡ present_counts self.old.stretches g h }
+        ensures present { (g h : ℕ) → present_counts self.new.epochs g h ≡ present_counts self.old.epochs g h }
         ensures room { OnOk result (HasRoom self.new first count) }
         ensures stays { (f n : ℕ) → HasRoom self.old f n → HasRoom self.new f n }
         ensures ready { HasRoom self.old first count → IsOk result }
     {
         self.make_pages(first, count)?;
         self.look_through();
-        self.stretches.make_room()
+        self.epochs.make_room()
     }
 
-    // Frees stretches where none can begin but by growth, and the table has grown to its limit.
+    // Frees epochs where none can begin but by growth, and the table has grown to its limit.
     fn look_through(&mut self)
         ensures harts { self.new.harts ≡ self.old.harts }
         ensures pages { self.new.pages ≡ self.old.pages }
-        ensures counts { (stretch h : ℕ) → stretch_counts self.new.stretches stretch h ≡ stretch_counts self.old.stretches stretch h }
-        ensures present { self.new.stretches.present ≡ self.old.stretches.present }
-        ensures room { IsTrue (has_stretch self.old.stretches) → IsTrue (has_stretch self.new.stretches) }
+        ensures counts { (epoch h : ℕ) → epoch_counts self.new.epochs epoch h ≡ epoch_counts self.old.epochs epoch h }
+        ensures present { self.new.epochs.present ≡ self.old.epochs.present }
+        ensures room { IsTrue (has_epoch self.old.epochs) → IsTrue (has_epoch self.new.epochs) }
     {
-        if self.stretches.is_full() && self.stretches.len() >= self.limit {
-            self.free_stretches();
+        if self.epochs.is_full() && self.epochs.len() >= self.limit {
+            self.free_epochs();
         }
     }
 
-    // Frees the stretches that no kept access names and that are no hart's present one. Until the table
+    // Frees the epochs that no kept access names and that are no hart's present one. Until the table
     // is looked through again, as many begin as it then has in use, and more by the number of pages.
-    fn free_stretches(&mut self)
-        requires { self.old.stretches.next ≡ length self.old.stretches.table.items }
+    fn free_epochs(&mut self)
+        requires { self.old.epochs.next ≡ length self.old.epochs.table.items }
         ensures harts { self.new.harts ≡ self.old.harts }
         ensures pages { self.new.pages ≡ self.old.pages }
-        ensures counts { (stretch h : ℕ) → stretch_counts self.new.stretches stretch h ≡ stretch_counts self.old.stretches stretch h }
-        ensures present { self.new.stretches.present ≡ self.old.stretches.present }
+        ensures counts { (epoch h : ℕ) → epoch_counts self.new.epochs epoch h ≡ epoch_counts self.old.epochs epoch h }
+        ensures present { self.new.epochs.present ≡ self.old.epochs.present }
     {
-        self.stretches.begin_marks();
+        self.epochs.begin_marks();
         for number in 0..self.pages.len() {
-            mark_page(&mut self.stretches, &self.pages[number]);
+            mark_page(&mut self.epochs, &self.pages[number]);
         }
-        let used = self.stretches.used();
+        let used = self.epochs.used();
         self.limit = used
             .saturating_add(used)
             .saturating_add(self.pages.len().saturating_mul(8));
-        self.stretches.restart();
+        self.epochs.restart();
     }
 
     // Makes the pages of `count` words from `first`.
@@ -145,7 +147,7 @@ impl KeptWords {
         requires aligned { first % 4 ≡ 0 }
         requires range { first + 4 * count ≤ 2 ^ 32 }
         ensures harts { self.new.harts ≡ self.old.harts }
-        ensures stretches { self.new.stretches ≡ self.old.stretches }
+        ensures epochs { self.new.epochs ≡ self.old.epochs }
         ensures same { (w : ℕ) → kept_in self.new w ≡ kept_in self.old w }
         ensures stays { (w : ℕ) → IsTrue (has_room self.old w) → IsTrue (has_room self.new w) }
         ensures room { OnOk result (HasPages self.new first count) }
@@ -166,7 +168,7 @@ impl KeptWords {
     fn reach(&mut self, count: usize) -> Result<(), AllocError>
         requires { count ≤ 2 ^ 24 }
         ensures harts { self.new.harts ≡ self.old.harts }
-        ensures stretches { self.new.stretches ≡ self.old.stretches }
+        ensures epochs { self.new.epochs ≡ self.old.epochs }
         ensures same { (n : ℕ) → slots_of (slice_get self.new.pages.items n) ≡ slots_of (slice_get self.old.pages.items n) }
         ensures count { OnOk result (count ≤ vec_len self.new.pages) }
         ensures ready { count ≤ vec_len self.old.pages → IsOk result }
@@ -182,7 +184,7 @@ impl KeptWords {
     fn make_page(&mut self, number: usize) -> Result<(), AllocError>
         requires { number < vec_len self.old.pages }
         ensures harts { self.new.harts ≡ self.old.harts }
-        ensures stretches { self.new.stretches ≡ self.old.stretches }
+        ensures epochs { self.new.epochs ≡ self.old.epochs }
         ensures count { vec_len self.new.pages ≡ vec_len self.old.pages }
         ensures same { (w : ℕ) → kept_in self.new w ≡ kept_in self.old w }
         ensures stays { (w : ℕ) → IsTrue (has_room self.old w) → IsTrue (has_room self.new w) }
@@ -193,24 +195,24 @@ impl KeptWords {
         make_slots(&mut self.pages[number], slots)
     }
 
-    /// The hart's present stretch goes on, or where `learns` holds ends and another begins with these
+    /// The hart's present epoch goes on, or where `learns` holds ends and another begins with these
     /// times. What is kept stays, and so do pages.
     pub fn go_on(&mut self, hart: HartId, learns: bool, times: &Times)
         requires hart { hart < HARTS }
-        requires room { learns ≡ true → IsTrue (has_stretch self.old.stretches) }
-        requires same { learns ≡ false → (h : ℕ) → h ≢ hart → present_counts self.old.stretches hart h ≡ count_of times.now h }
+        requires room { learns ≡ true → IsTrue (has_epoch self.old.epochs) }
+        requires same { learns ≡ false → (h : ℕ) → h ≢ hart → present_counts self.old.epochs hart h ≡ count_of times.now h }
         ensures harts { self.new.harts ≡ self.old.harts }
         ensures pages { self.new.pages ≡ self.old.pages }
         ensures kept { (w : ℕ) → kept_in self.new w ≡ kept_in self.old w }
-        ensures own { (h : ℕ) → h ≢ hart → present_counts self.new.stretches hart h ≡ count_of times.now h }
-        ensures others { (g : ℕ) → g ≢ hart → (h : ℕ) → present_counts self.new.stretches g h ≡ present_counts self.old.stretches g h }
+        ensures own { (h : ℕ) → h ≢ hart → present_counts self.new.epochs hart h ≡ count_of times.now h }
+        ensures others { (g : ℕ) → g ≢ hart → (h : ℕ) → present_counts self.new.epochs g h ≡ present_counts self.old.epochs g h }
     {
         if learns {
-            self.stretches.begin(hart, times);
+            self.epochs.begin(hart, times);
         }
     }
 
-    /// Keeps an access of `count` words from `first` by the hart in its present stretch, in the place of
+    /// Keeps an access of `count` words from `first` by the hart in its present epoch, in the place of
     /// those that it puts out. `after` is the count after its point.
     pub fn keep(&mut self, first: Addr, count: u32, hart: HartId, mode: Mode, turn: u64, after: Ic)
         requires aligned { first % 4 ≡ 0 }
@@ -219,14 +221,14 @@ impl KeptWords {
         requires after { 0 < after }
         requires pages { 1 < self.old.harts → HasPages self.old first count }
         ensures harts { self.new.harts ≡ self.old.harts }
-        ensures stretches { self.new.stretches ≡ self.old.stretches }
-        ensures many { 1 < self.old.harts → KeepsAccess (kept_now self.old.stretches mode hart turn after) first count (kept_in self.old) (kept_in self.new) }
+        ensures epochs { self.new.epochs ≡ self.old.epochs }
+        ensures many { 1 < self.old.harts → KeepsAccess (kept_now self.old.epochs mode hart turn after) first count (kept_in self.old) (kept_in self.new) }
         ensures alone { self.old.harts ≤ 1 → (w : ℕ) → kept_in self.new w ≡ kept_in self.old w }
     {
         let slot = Slot {
             turn,
             after,
-            stretch: self.stretches.present[hart as usize],
+            epoch: self.epochs.present[hart as usize],
             hart,
         };
         if self.harts > 1 {
@@ -240,11 +242,11 @@ impl KeptWords {
         requires range { first + 4 * count ≤ 2 ^ 32 }
         requires hart { slot.now.hart < self.old.harts }
         requires after { 0 < slot.now.after }
-        requires settled { IsTrue (is_settled self.old.stretches.table.items self.old.stretches.next slot.now.stretch) }
+        requires settled { IsTrue (is_settled self.old.epochs.table.items self.old.epochs.next slot.now.epoch) }
         requires pages { HasPages self.old first count }
         ensures harts { self.new.harts ≡ self.old.harts }
-        ensures stretches { self.new.stretches ≡ self.old.stretches }
-        ensures kept { KeepsAccess (kept_of_slot self.old.stretches mode slot.now) first count (kept_in self.old) (kept_in self.new) }
+        ensures epochs { self.new.epochs ≡ self.old.epochs }
+        ensures kept { KeepsAccess (kept_of_slot self.old.epochs mode slot.now) first count (kept_in self.old) (kept_in self.new) }
     {
         for i in 0..count {
             self.keep_at(first + 4 * i, mode, slot);
@@ -256,11 +258,11 @@ impl KeptWords {
         requires aligned { word % 4 ≡ 0 }
         requires hart { slot.now.hart < self.old.harts }
         requires after { 0 < slot.now.after }
-        requires settled { IsTrue (is_settled self.old.stretches.table.items self.old.stretches.next slot.now.stretch) }
+        requires settled { IsTrue (is_settled self.old.epochs.table.items self.old.epochs.next slot.now.epoch) }
         requires room { IsTrue (has_room self.old word) }
         ensures harts { self.new.harts ≡ self.old.harts }
-        ensures stretches { self.new.stretches ≡ self.old.stretches }
-        ensures kept { Replaces (kept_of_slot self.old.stretches mode slot.now) (kept_in self.old word) (kept_in self.new word) }
+        ensures epochs { self.new.epochs ≡ self.old.epochs }
+        ensures kept { Replaces (kept_of_slot self.old.epochs mode slot.now) (kept_in self.old word) (kept_in self.new word) }
         ensures others { (w : ℕ) → w ≢ word → kept_in self.new w ≡ kept_in self.old w }
         ensures room { (w : ℕ) → has_room self.new w ≡ has_room self.old w }
     {

@@ -18,7 +18,7 @@ use Rattle.joint_replay.specs.declared.kinds.Readiness.{Readiness}
 use Rattle.joint_replay.specs.declared.kinds.Readiness.TheVariants as is
 use Rattle.joint_replay.specs.declared.kinds.Next.{Next}
 use Rattle.joint_replay.specs.declared.kinds.Next.TheVariants.{Hart, AllDone, NoneReady}
-use Rattle.joint_replay.specs.Lanes.{Course, Lane, Item, Passing, Doing, Ending, row_given, lane_step, course_step, is_within, has_row, coming_of, count_of, point_of}
+use Rattle.joint_replay.specs.Lanes.{Cursor, Lane, Item, Passing, Doing, Ending, row_given, lane_step, cursor_step, is_within, has_row, coming_of, count_of, point_of}
 use Rattle.joint_replay.specs.Memory.{memory_after}
 use Rattle.joint_replay.specs.Joining.{Joining, Taken, Walk, Ran, longer, ran, fresh, lanes_from, choice, readiness, is_passed, move, next_step, error_of, positions_from, steps_left, run_on, run_for, run_all}
 use Rattle.joint_replay.specs.Orders.{ready_step}
@@ -67,20 +67,20 @@ no_some : (o : Option (Fault × ℕ)) → o ≡ None → is_some o ≡ true → 
 no_some None e f = cc
 no_some (Some x) e f = cc
 
--- the course under way once the row is given
-after_count : (i : Program) (c : Course) (row : Row) (rs : List Row) (cs : List Course) → (after_row i c.state row).ic ≡ row.ic + 1 → row.ic < c.mark.ic → is_passed (Some (record { points = []; courses = row_given i c row rs ∷ cs })) row.ic ≡ true
+-- the cursor under way once the row is given
+after_count : (i : Program) (c : Cursor) (row : Row) (rs : List Row) (cs : List Cursor) → (after_row i c.state row).ic ≡ row.ic + 1 → row.ic < c.mark.ic → is_passed (Some (record { points = []; cursors = row_given i c row rs ∷ cs })) row.ic ≡ true
 after_count i c row rs cs e low = by (has_row (row_given i c row rs))
   where
     by : (b : Bool) → elim (elim b as (λ y. Option Coming) [ true ↦ Some (RowAt (after_row i c.state row).ic) | false ↦ Some (EndAt c.mark.ic) ]) as (λ y. Bool) [ None ↦ true | Some d ↦ nat_lt row.ic (count_of d) ] ≡ true
     by true = is_lt row.ic (after_row i c.state row).ic (omega (arith, e))
     by false = is_lt row.ic c.mark.ic low
 
--- what comes of the course before it
-before_count : (c : Course) (cs : List Course) (k : ℕ) → c.state.ic < c.mark.ic → is_passed (Some (record { points = []; courses = c ∷ cs })) k ≡ true → k < c.state.ic
+-- what comes of the cursor before it
+before_count : (c : Cursor) (cs : List Cursor) (k : ℕ) → c.state.ic < c.mark.ic → is_passed (Some (record { points = []; cursors = c ∷ cs })) k ≡ true → k < c.state.ic
 before_count c cs k low e =
     true_lt k c.state.ic (sym (ap (λ (b : Bool). elim (elim (b || (nat_lt 16 c.mark.reason && not c.faulted)) as (λ y. Option Coming) [ true ↦ Some (RowAt c.state.ic) | false ↦ Some (EndAt c.mark.ic) ]) as (λ y. Bool) [ None ↦ true | Some d ↦ nat_lt k (count_of d) ]) (is_lt c.state.ic c.mark.ic low)) ∙ e)
 
-first_goes : (i : Program) (c : Course) (cs : List Course) → AreFrom i c cs → GoesOn i c
+first_goes : (i : Program) (c : Cursor) (cs : List Cursor) → AreFrom i c cs → GoesOn i c
 first_goes i c [] a = a
 first_goes i c (d ∷ ds) a = a.0
 
@@ -102,11 +102,11 @@ no_error e x f = cc
 some_item : (x y : Item × Lane) → ◌≡◌ {A = Option (Result (Item × Lane) ReplayError)} (Some (Ok x)) (Some (Ok y)) → x ≡ y
 some_item x y e = cc
 
-course_done : (i : Program) (c : Course) (cs : List Course) (before : HartState) (row : Row) (next : Lane) → row.fault ≡ None → GoesOn i c → course_step i c cs ≡ Ok (Doing before row, next) → IsDone (record { points = []; courses = c ∷ cs }) next row
-course_done i c cs before row next none goes e = by c.left.rows goes.1 e
+cursor_done : (i : Program) (c : Cursor) (cs : List Cursor) (before : HartState) (row : Row) (next : Lane) → row.fault ≡ None → GoesOn i c → cursor_step i c cs ≡ Ok (Doing before row, next) → IsDone (record { points = []; cursors = c ∷ cs }) next row
+cursor_done i c cs before row next none goes e = by c.left.rows goes.1 e
   where
     low : (r : Row) (rs : List Row) (b : Bool) → nat_lt c.state.ic c.mark.ic ≡ b → r.fault ≡ None → r.ic ≡ c.state.ic → (c.state.ic < c.mark.ic → (r.fault ≡ None) × ((after_row i c.state r).ic ≡ c.state.ic + 1))
-        → (c.mark.ic ≤ c.state.ic → (is_some r.fault ≡ true) × (after_row i c.state r ≡ c.state)) → IsDone (record { points = []; courses = c ∷ cs }) (record { points = []; courses = row_given i c r rs ∷ cs }) r
+        → (c.mark.ic ≤ c.state.ic → (is_some r.fault ≡ true) × (after_row i c.state r ≡ c.state)) → IsDone (record { points = []; cursors = c ∷ cs }) (record { points = []; cursors = row_given i c r rs ∷ cs }) r
     low r rs true f plain count within past =
         let less = true_lt c.state.ic c.mark.ic f in
         let up = (within less).1 in
@@ -116,31 +116,31 @@ course_done i c cs before row next none goes e = by c.left.rows goes.1 e
         }
     low r rs false f plain count within past = absurd (no_some r.fault plain (past (false_le c.state.ic c.mark.ic f)).0)
 
-    done : (r : Row) (rs : List Row) → r ≡ row → ◌≡◌ {A = Lane} (record { points = []; courses = row_given i c r rs ∷ cs }) next → r.ic ≡ c.state.ic → (c.state.ic < c.mark.ic → (r.fault ≡ None) × ((after_row i c.state r).ic ≡ c.state.ic + 1))
-        → (c.mark.ic ≤ c.state.ic → (is_some r.fault ≡ true) × (after_row i c.state r ≡ c.state)) → IsDone (record { points = []; courses = c ∷ cs }) next row
+    done : (r : Row) (rs : List Row) → r ≡ row → ◌≡◌ {A = Lane} (record { points = []; cursors = row_given i c r rs ∷ cs }) next → r.ic ≡ c.state.ic → (c.state.ic < c.mark.ic → (r.fault ≡ None) × ((after_row i c.state r).ic ≡ c.state.ic + 1))
+        → (c.mark.ic ≤ c.state.ic → (is_some r.fault ≡ true) × (after_row i c.state r ≡ c.state)) → IsDone (record { points = []; cursors = c ∷ cs }) next row
     done r rs same is count within past =
-        subst (λ (l : Lane). IsDone (record { points = []; courses = c ∷ cs }) l row) is (subst (λ (x : Row). IsDone (record { points = []; courses = c ∷ cs }) (record { points = []; courses = row_given i c r rs ∷ cs }) x) same
+        subst (λ (l : Lane). IsDone (record { points = []; cursors = c ∷ cs }) l row) is (subst (λ (x : Row). IsDone (record { points = []; cursors = c ∷ cs }) (record { points = []; cursors = row_given i c r rs ∷ cs }) x) same
         (low r rs (nat_lt c.state.ic c.mark.ic) refl (ap (λ (x : Row). x.fault) same ∙ none) count within past))
 
     by : (rows : List Row) → RowsFrom i c.mark.ic c.left.outcome c.state rows
         → elim rows as (λ y. Result (Item × Lane) ReplayError) [
-          | r ∷ rs ↦ Ok (Doing c.state r, record { points = []; courses = row_given i c r rs ∷ cs })
-          | [] ↦ elim c.left.outcome as (λ y. Result (Item × Lane) ReplayError) [ Done ↦ Ok (Ending c.number c.mark, record { points = []; courses = cs }) | Refused e ↦ Err e ]
-        ] ≡ Ok (Doing before row, next) → IsDone (record { points = []; courses = c ∷ cs }) next row
+          | r ∷ rs ↦ Ok (Doing c.state r, record { points = []; cursors = row_given i c r rs ∷ cs })
+          | [] ↦ elim c.left.outcome as (λ y. Result (Item × Lane) ReplayError) [ Done ↦ Ok (Ending c.number c.mark, record { points = []; cursors = cs }) | Refused e ↦ Err e ]
+        ] ≡ Ok (Doing before row, next) → IsDone (record { points = []; cursors = c ∷ cs }) next row
     by (r ∷ rs) f g =
-        let both = same_done (Doing c.state r, record { points = []; courses = row_given i c r rs ∷ cs }) (Doing before row, next) g in
+        let both = same_done (Doing c.state r, record { points = []; cursors = row_given i c r rs ∷ cs }) (Doing before row, next) g in
         done r rs (same_row c.state before r row (ap (λ (x : Item × Lane). x.0) both)) (ap (λ (x : Item × Lane). x.1) both) f.0 f.1 f.2
     by [] f g = absurd (over c.left.outcome g)
       where
-        over : (o : Outcome) → elim o as (λ y. Result (Item × Lane) ReplayError) [ Done ↦ Ok (Ending c.number c.mark, record { points = []; courses = cs }) | Refused e ↦ Err e ] ≡ Ok (Doing before row, next) → ⊥
-        over Done h = no_doing c.number c.mark before row (ap (λ (x : Item × Lane). x.0) (same_done (Ending c.number c.mark, record { points = []; courses = cs }) (Doing before row, next) h))
+        over : (o : Outcome) → elim o as (λ y. Result (Item × Lane) ReplayError) [ Done ↦ Ok (Ending c.number c.mark, record { points = []; cursors = cs }) | Refused e ↦ Err e ] ≡ Ok (Doing before row, next) → ⊥
+        over Done h = no_doing c.number c.mark before row (ap (λ (x : Item × Lane). x.0) (same_done (Ending c.number c.mark, record { points = []; cursors = cs }) (Doing before row, next) h))
         over (Refused e) h = no_error e (Doing before row, next) h
 
-lane_done : (i : Program) (points : List ℕ) (courses : List Course) (before : HartState) (row : Row) (next : Lane) → row.fault ≡ None → IsLane i (record { points = points; courses = courses })
-    → lane_step i (record { points = points; courses = courses }) ≡ Some (Ok (Doing before row, next)) → IsDone (record { points = points; courses = courses }) next row
-lane_done i (p ∷ ps) courses before row next none lane e = absurd (no_passing p before row (ap (λ (x : Item × Lane). x.0) (some_item (Passing p, record { points = ps; courses = courses }) (Doing before row, next) e)))
+lane_done : (i : Program) (points : List ℕ) (cursors : List Cursor) (before : HartState) (row : Row) (next : Lane) → row.fault ≡ None → IsLane i (record { points = points; cursors = cursors })
+    → lane_step i (record { points = points; cursors = cursors }) ≡ Some (Ok (Doing before row, next)) → IsDone (record { points = points; cursors = cursors }) next row
+lane_done i (p ∷ ps) cursors before row next none lane e = absurd (no_passing p before row (ap (λ (x : Item × Lane). x.0) (some_item (Passing p, record { points = ps; cursors = cursors }) (Doing before row, next) e)))
 lane_done i [] [] before row next none lane e = absurd cc
-lane_done i [] (c ∷ cs) before row next none lane e = course_done i c cs before row next none (first_goes i c cs lane.courses) (some_same (course_step i c cs) (Ok (Doing before row, next)) e)
+lane_done i [] (c ∷ cs) before row next none lane e = cursor_done i c cs before row next none (first_goes i c cs lane.cursors) (some_same (cursor_step i c cs) (Ok (Doing before row, next)) e)
 
 -- ---- the step of all
 
@@ -233,7 +233,7 @@ module _ (law : RunsByStep) (steps : StepsPass) (stays : SoundnessStays) (harts 
       → x.0 ≡ Doing before row → touch_of before row ≡ Some t → IsCounted harts j run → IsCounted harts x.1 (run ++ record { hart = h; row = row; touch = t } ∷ [])
   one_more j h x before row t run lowest s p sound long item touch c =
       let lane : IsLane j.program s.lane = c.sound.lanes h s.lane s.at in
-      let d = lane_done j.program s.lane.points s.lane.courses before row s.next (no_fault before row t touch) lane (s.step ∙ ap (λ (i : Item). Some (Ok (i, s.next))) item) in
+      let d = lane_done j.program s.lane.points s.lane.cursors before row s.next (no_fault before row t touch) lane (s.step ∙ ap (λ (i : Item). Some (Ok (i, s.next))) item) in
       let new : Accessing = record { hart = h; row = row; touch = t } in
       record {
         sound = sound;

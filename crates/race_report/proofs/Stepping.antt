@@ -13,7 +13,7 @@ use Rattle.joint_replay.specs.declared.error.JointError.TheVariants as why
 use Rattle.joint_replay.specs.declared.kinds.Stepped.{Stepped}
 use Rattle.joint_replay.specs.declared.kinds.Stepped.TheVariants.{Passed, Did, Ended}
 use Rattle.joint_replay.specs.declared.kinds.Next.TheVariants.{Hart, AllDone, NoneReady}
-use Rattle.joint_replay.specs.Lanes.{Course, Lane, Item, Passing, Doing, Ending, row_given, lane_step, course_step, state_of}
+use Rattle.joint_replay.specs.Lanes.{Cursor, Lane, Item, Passing, Doing, Ending, row_given, lane_step, cursor_step, state_of}
 use Rattle.joint_replay.specs.Memory.{memory_after}
 use Rattle.hart_replay.specs.Replay.{Outcome, Done, Refused}
 use Rattle.joint_replay.specs.Joining.{Joining, Taken, Ran, fresh, lanes_from, begun, ran, choice, move, next_step, error_of, positions_from, steps_left, run_all}
@@ -63,28 +63,28 @@ same_moved x y e = cc
 same_doing : (a b : HartState) (r s : Row) → Doing a r ≡ Doing b s → a ≡ b
 same_doing a b r s e = cc
 
-shown_row : (i : Program) (c : Course) (cs : List Course) (before : HartState) (row : Row) (next : Lane) → course_step i c cs ≡ Ok (Doing before row, next) → c.state ≡ before
+shown_row : (i : Program) (c : Cursor) (cs : List Cursor) (before : HartState) (row : Row) (next : Lane) → cursor_step i c cs ≡ Ok (Doing before row, next) → c.state ≡ before
 shown_row i c cs before row next e = by c.left.rows e
   where
     same_ok : (x y : Item × Lane) → ◌≡◌ {A = Result (Item × Lane) ReplayError} (Ok x) (Ok y) → x ≡ y
     same_ok x y f = cc
 
     by : (rows : List Row) → elim rows as (λ y. Result (Item × Lane) ReplayError) [
-      | r ∷ rs ↦ Ok (Doing c.state r, record { points = []; courses = row_given i c r rs ∷ cs })
-      | [] ↦ elim c.left.outcome as (λ y. Result (Item × Lane) ReplayError) [ Done ↦ Ok (Ending c.number c.mark, record { points = []; courses = cs }) | Refused e ↦ Err e ]
+      | r ∷ rs ↦ Ok (Doing c.state r, record { points = []; cursors = row_given i c r rs ∷ cs })
+      | [] ↦ elim c.left.outcome as (λ y. Result (Item × Lane) ReplayError) [ Done ↦ Ok (Ending c.number c.mark, record { points = []; cursors = cs }) | Refused e ↦ Err e ]
     ] ≡ Ok (Doing before row, next) → c.state ≡ before
-    by (r ∷ rs) f = same_doing c.state before r row (ap (λ (x : Item × Lane). x.0) (same_ok (Doing c.state r, record { points = []; courses = row_given i c r rs ∷ cs }) (Doing before row, next) f))
+    by (r ∷ rs) f = same_doing c.state before r row (ap (λ (x : Item × Lane). x.0) (same_ok (Doing c.state r, record { points = []; cursors = row_given i c r rs ∷ cs }) (Doing before row, next) f))
     by [] f = done c.left.outcome f
       where
-        done : (o : Outcome) → elim o as (λ y. Result (Item × Lane) ReplayError) [ Done ↦ Ok (Ending c.number c.mark, record { points = []; courses = cs }) | Refused e ↦ Err e ] ≡ Ok (Doing before row, next) → c.state ≡ before
-        done Done f = absurd (no (ap (λ (x : Item × Lane). x.0) (same_ok (Ending c.number c.mark, record { points = []; courses = cs }) (Doing before row, next) f)))
+        done : (o : Outcome) → elim o as (λ y. Result (Item × Lane) ReplayError) [ Done ↦ Ok (Ending c.number c.mark, record { points = []; cursors = cs }) | Refused e ↦ Err e ] ≡ Ok (Doing before row, next) → c.state ≡ before
+        done Done f = absurd (no (ap (λ (x : Item × Lane). x.0) (same_ok (Ending c.number c.mark, record { points = []; cursors = cs }) (Doing before row, next) f)))
           where
             no : ◌≡◌ {A = Item} (Ending c.number c.mark) (Doing before row) → ⊥
             no g = cc
         done (Refused e) f = absurd cc
 
 shown_lane : (i : Program) (lane next : Lane) (before : HartState) (row : Row) → lane_step i lane ≡ Some (Ok (Doing before row, next)) → state_of lane ≡ Some before
-shown_lane i lane next before row e = by lane.points lane.courses e
+shown_lane i lane next before row e = by lane.points lane.cursors e
   where
     some_same : (x y : Result (Item × Lane) ReplayError) → ◌≡◌ {A = Option (Result (Item × Lane) ReplayError)} (Some x) (Some y) → x ≡ y
     some_same x y f = cc
@@ -92,15 +92,15 @@ shown_lane i lane next before row e = by lane.points lane.courses e
     no : (p : ℕ) → ◌≡◌ {A = Item} (Passing p) (Doing before row) → ⊥
     no p g = cc
 
-    by : (points : List ℕ) (courses : List Course)
+    by : (points : List ℕ) (cursors : List Cursor)
         → elim points as (λ y. Option (Result (Item × Lane) ReplayError)) [
-          | p ∷ ps ↦ Some (Ok (Passing p, record { points = ps; courses = lane.courses }))
-          | [] ↦ elim courses as (λ y. Option (Result (Item × Lane) ReplayError)) [ [] ↦ None | c ∷ cs ↦ Some (course_step i c cs) ]
+          | p ∷ ps ↦ Some (Ok (Passing p, record { points = ps; cursors = lane.cursors }))
+          | [] ↦ elim cursors as (λ y. Option (Result (Item × Lane) ReplayError)) [ [] ↦ None | c ∷ cs ↦ Some (cursor_step i c cs) ]
         ] ≡ Some (Ok (Doing before row, next))
-        → elim points as (λ y. Option HartState) [ p ∷ ps ↦ None | [] ↦ elim courses as (λ y. Option HartState) [ [] ↦ None | c ∷ cs ↦ Some c.state ] ] ≡ Some before
-    by (p ∷ ps) courses f = absurd (no p (ap (λ (x : Item × Lane). x.0) (same_item (Passing p, record { points = ps; courses = lane.courses }) (Doing before row, next) f)))
+        → elim points as (λ y. Option HartState) [ p ∷ ps ↦ None | [] ↦ elim cursors as (λ y. Option HartState) [ [] ↦ None | c ∷ cs ↦ Some c.state ] ] ≡ Some before
+    by (p ∷ ps) cursors f = absurd (no p (ap (λ (x : Item × Lane). x.0) (same_item (Passing p, record { points = ps; cursors = lane.cursors }) (Doing before row, next) f)))
     by [] [] f = absurd cc
-    by [] (c ∷ cs) f = ap (λ (s : HartState). Some s) (shown_row i c cs before row next (some_same (course_step i c cs) (Ok (Doing before row, next)) f))
+    by [] (c ∷ cs) f = ap (λ (s : HartState). Some s) (shown_row i c cs before row next (some_same (cursor_step i c cs) (Ok (Doing before row, next)) f))
 
 shown_move : (j : Joining) (h : ℕ) (lane : Lane) (o : Option (Result (Item × Lane) ReplayError)) (before : HartState) (row : Row) (next : Joining) → lane_step j.program lane ≡ o
     → move j h o ≡ Some (Ok (Doing before row, next)) → state_of lane ≡ Some before

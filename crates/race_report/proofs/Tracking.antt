@@ -2,7 +2,7 @@
 use Rattle.std.proofs.Common.{rules, ◌≡◌, ◌≢◌, ℕ, zero, suc, ◌+◌, ◌<◌, ◌≤◌, ◌/◌, ◌==◌, nat_lt, Bool, true, false, cond, ◌&&◌, if◌then◌else◌, refl, sym, ap, ◌∙◌, subst, arith, List, [], ◌∷◌, ◌++◌, length, slice_get, slice_set, slice_index_or, Option, Some, None, IfSome, Result, Ok, Err, OnOk, IsOk}
 use Rattle.std.proofs.lemmas.Option.{slice_get-get_or}
 use Rattle.hart_replay.specs.Pages.{Known, word_at}
-use Rattle.race_report.specs.declared.track.Entry.{Entry}
+use Rattle.race_report.specs.declared.track.TrackEntry.{TrackEntry}
 use Rattle.race_report.specs.Tracks.{known_at, head_at, room_in, room_at, IsChain, IsTrackedIn, AreLinked, AreBelow, noted_one}
 use Rattle.race_report.proofs.Prefixes.{get_front, get_last, get_none, length_more}
 
@@ -44,7 +44,7 @@ heads_same heads hart old new low there same h w = by (hart == h) refl
     by true e = subst (λ (k : ℕ). head_at (slice_set heads hart new) k w ≡ head_at heads k w) (same_number hart h e) (ap (λ (o : Option Known). known_at o w) (set_here heads hart new low) ∙ same (w / 4) ∙ ap (λ (o : Option Known). known_at o w) (sym there))
     by false e = ap (λ (o : Option Known). known_at o w) (set_there heads hart h new e)
 
-pub linked_same : (heads other : List Known) (entries : List Entry) → ((h w : ℕ) → head_at other h w ≡ head_at heads h w) → AreLinked heads entries → AreLinked other entries
+pub linked_same : (heads other : List Known) (entries : List TrackEntry) → ((h w : ℕ) → head_at other h w ≡ head_at heads h w) → AreLinked heads entries → AreLinked other entries
 linked_same heads other entries same l = record { heads_there = λ h w k e. l.heads_there h w k (sym (same h w) ∙ e); links_back = l.links_back }
 
 pub room_here : (heads : List Known) (hart : ℕ) (new : Known) → hart < length heads → 1 ≤ new.room → 0 < room_at (slice_set heads hart new) hart
@@ -52,20 +52,20 @@ room_here heads hart new low room = subst (λ (o : Option Known). 0 < room_in o)
 
 -- ---- one entry more
 
-get_cases : (entries : List Entry) (e x : Entry) (k : ℕ) → slice_get (entries ++ e ∷ []) k ≡ Some x → (P : ℕ → Entry → Type 0) → (slice_get entries k ≡ Some x → P k x) → P (length entries) e → P k x
-get_cases [] e x zero f P old last = let same : e ≡ x = cc in subst (λ (y : Entry). P 0 y) same last
+get_cases : (entries : List TrackEntry) (e x : TrackEntry) (k : ℕ) → slice_get (entries ++ e ∷ []) k ≡ Some x → (P : ℕ → TrackEntry → Type 0) → (slice_get entries k ≡ Some x → P k x) → P (length entries) e → P k x
+get_cases [] e x zero f P old last = let same : e ≡ x = cc in subst (λ (y : TrackEntry). P 0 y) same last
 get_cases [] e x (suc k) f P old last = absurd cc
 get_cases (y ∷ ys) e x zero f P old last = old f
 get_cases (y ∷ ys) e x (suc k) f P old last = get_cases ys e x k f (λ j z. P (suc j) z) old last
 
-pub below_more : (entries : List Entry) (e : Entry) (count : ℕ) → e.place < count → AreBelow count entries → AreBelow count (entries ++ e ∷ [])
+pub below_more : (entries : List TrackEntry) (e : TrackEntry) (count : ℕ) → e.place < count → AreBelow count entries → AreBelow count (entries ++ e ∷ [])
 below_more entries e count low below = λ k x f. get_cases entries e x k f (λ j y. y.place < count) (λ g. below k x g) low
 
 pub if_some_is : (o : Option ℕ) (P : ℕ → Type 0) (j : ℕ) → o ≡ Some j → IfSome o P → P j
 if_some_is None P j e i = absurd cc
 if_some_is (Some x) P j e i = let same : x ≡ j = cc in subst P same i
 
-pub linked_more : (heads : List Known) (entries : List Entry) (e : Entry) → IfSome e.previous (λ k. k < length entries) → AreLinked heads entries → AreLinked heads (entries ++ e ∷ [])
+pub linked_more : (heads : List Known) (entries : List TrackEntry) (e : TrackEntry) → IfSome e.previous (λ k. k < length entries) → AreLinked heads entries → AreLinked heads (entries ++ e ∷ [])
 linked_more heads entries e previous l = record {
   heads_there = λ h w k f. let low = l.heads_there h w k f in let long = length_more entries e in omega (arith, low, long);
   links_back = λ k j x f g. get_cases entries e x k f (λ i y. y.previous ≡ Some j → j < i) (λ there i. l.links_back k j x there i) (λ i. if_some_is e.previous (λ k. k < length entries) j i previous) g;
@@ -101,7 +101,7 @@ heads_set heads hart word number old new low there put h w = by (hart == h) refl
         ∙ ap (λ (o : Option Known). cond (word / 4 == w / 4) (Some number) (known_at o w)) (sym there))
     by false e = ap (λ (o : Option Known). known_at o w) (set_there heads hart h new e)
 
-pub linked_set : (heads other : List Known) (entries : List Entry) (hart word number : ℕ) → number < length entries
+pub linked_set : (heads other : List Known) (entries : List TrackEntry) (hart word number : ℕ) → number < length entries
     → ((h w : ℕ) → head_at other h w ≡ cond (hart == h && (word / 4 == w / 4)) (Some number) (head_at heads h w)) → AreLinked heads entries → AreLinked other entries
 linked_set heads other entries hart word number low set l = record { heads_there = λ h w k e. by (hart == h && (word / 4 == w / 4)) h w k (sym (set h w) ∙ e); links_back = l.links_back }
   where
@@ -111,19 +111,19 @@ linked_set heads other entries hart word number low set l = record { heads_there
 
 -- ---- an access more
 
-chain_more : (entries more : List Entry) (o : Option ℕ) (ps : List ℕ) → IsChain entries o ps → IsChain (entries ++ more) o ps
+chain_more : (entries more : List TrackEntry) (o : Option ℕ) (ps : List ℕ) → IsChain entries o ps → IsChain (entries ++ more) o ps
 chain_more entries more o [] c = c
 chain_more entries more o (p ∷ ps) c = (c.0, c.1, c.2, get_front entries more c.0 (within entries c.0 c.1 c.3) ∙ c.3, c.4, chain_more entries more c.1.previous ps c.5)
   where
-    within : (xs : List Entry) (k : ℕ) (x : Entry) → slice_get xs k ≡ Some x → k < length xs
+    within : (xs : List TrackEntry) (k : ℕ) (x : TrackEntry) → slice_get xs k ≡ Some x → k < length xs
     within [] k x e = absurd cc
     within (y ∷ ys) zero x e = omega arith
     within (y ∷ ys) (suc k) x e = let low = within ys k x e in omega (arith, low)
 
-pub tracked_more : (heads other : List Known) (entries new : List Entry) (e : Entry) (hart word : ℕ) → new ≡ entries ++ e ∷ [] → e.previous ≡ head_at heads hart word
+pub tracked_more : (heads other : List Known) (entries new : List TrackEntry) (e : TrackEntry) (hart word : ℕ) → new ≡ entries ++ e ∷ [] → e.previous ≡ head_at heads hart word
     → ((h w : ℕ) → head_at other h w ≡ cond (hart == h && (word / 4 == w / 4)) (Some (length entries)) (head_at heads h w))
     → (h w : ℕ) (ps : List ℕ) → IsTrackedIn heads entries h w ps → IsTrackedIn other new h w (noted_one h w hart e.place word ps)
-tracked_more heads other entries new e hart word is previous set h w ps t = subst (λ (es : List Entry). IsTrackedIn other es h w (noted_one h w hart e.place word ps)) (sym is) (by (hart == h) refl (word / 4 == w / 4) refl (set h w))
+tracked_more heads other entries new e hart word is previous set h w ps t = subst (λ (es : List TrackEntry). IsTrackedIn other es h w (noted_one h w hart e.place word ps)) (sym is) (by (hart == h) refl (word / 4 == w / 4) refl (set h w))
   where
     near : (o : Option Known) → word / 4 ≡ w / 4 → known_at o word ≡ known_at o w
     near None n = refl

@@ -1,21 +1,21 @@
 -- A walk back over a hart's accesses of a word, and over words one after another.
 use Rattle.std.proofs.Common.{◌≡◌, ◌≢◌, ℕ, zero, suc, ◌+◌, ◌-◌, ◌<◌, ◌≤◌, ◌%◌, ◌^◌, ◌==◌, nat_lt, Bool, true, false, cond, refl, sym, ap, ◌∙◌, subst, arith, List, [], ◌∷◌, length, slice_get, Option, Some, None}
 use Rattle.race_report.specs.declared.meeting.Meeting.{Meeting}
-use Rattle.race_report.specs.declared.track.Entry.{Entry}
+use Rattle.race_report.specs.declared.track.TrackEntry.{TrackEntry}
 use Rattle.race_report.specs.Points.{words_from}
 use Rattle.race_report.specs.Tracks.{IsChain}
 use Rattle.race_report.specs.Found.{met_at, met_all, uncovered}
 
 -- what is left of a walk: the places from an entry on, and what their races make of what is found
-pub record IsLeft (entries : List Entry) (number : Option ℕ) (count n w : ℕ) (end now : List (List Meeting)) : Type 0 where
+pub record IsLeft (entries : List TrackEntry) (number : Option ℕ) (count n w : ℕ) (end now : List (List Meeting)) : Type 0 where
   pub places : List ℕ
   pub chain : IsChain entries number places
   pub rest : end ≡ met_all n w (uncovered count places) now
 
-pub left_first : (entries : List Entry) (number : Option ℕ) (count n w : ℕ) (ps : List ℕ) (ls : List (List Meeting)) → IsChain entries number ps → IsLeft entries number count n w (met_all n w (uncovered count ps) ls) ls
+pub left_first : (entries : List TrackEntry) (number : Option ℕ) (count n w : ℕ) (ps : List ℕ) (ls : List (List Meeting)) → IsChain entries number ps → IsLeft entries number count n w (met_all n w (uncovered count ps) ls) ls
 left_first entries number count n w ps ls c = record { places = ps; chain = c; rest = refl }
 
-pub left_none : (entries : List Entry) (count n w : ℕ) (end now : List (List Meeting)) → IsLeft entries None count n w end now → now ≡ end
+pub left_none : (entries : List TrackEntry) (count n w : ℕ) (end now : List (List Meeting)) → IsLeft entries None count n w end now → now ≡ end
 left_none entries count n w end now l = by l.places l.chain l.rest
   where
     by : (ps : List ℕ) → IsChain entries None ps → end ≡ met_all n w (uncovered count ps) now → now ≡ end
@@ -26,12 +26,12 @@ left_none entries count n w end now l = by l.places l.chain l.rest
         no k e = cc
 
 -- the first place that is left is the entry's
-pub record IsFirst (entries : List Entry) (e : Entry) (count n w : ℕ) (end now : List (List Meeting)) : Type 0 where
+pub record IsFirst (entries : List TrackEntry) (e : TrackEntry) (count n w : ℕ) (end now : List (List Meeting)) : Type 0 where
   pub places : List ℕ
   pub chain : IsChain entries e.previous places
   pub rest : end ≡ met_all n w (uncovered count (e.place ∷ places)) now
 
-first_left : (entries : List Entry) (k : ℕ) (e : Entry) (count n w : ℕ) (end now : List (List Meeting)) → slice_get entries k ≡ Some e → IsLeft entries (Some k) count n w end now → IsFirst entries e count n w end now
+first_left : (entries : List TrackEntry) (k : ℕ) (e : TrackEntry) (count n w : ℕ) (end now : List (List Meeting)) → slice_get entries k ≡ Some e → IsLeft entries (Some k) count n w end now → IsFirst entries e count n w end now
 first_left entries k e count n w end now at l = by l.places l.chain l.rest
   where
     by : (ps : List ℕ) → IsChain entries (Some k) ps → end ≡ met_all n w (uncovered count ps) now → IsFirst entries e count n w end now
@@ -44,14 +44,14 @@ first_left entries k e count n w end now at l = by l.places l.chain l.rest
         let entry : e ≡ c.1 = same_entry e c.1 (sym at ∙ ap (slice_get entries) number ∙ c.3) in
         record {
           places = ps;
-          chain = subst (λ (x : Entry). IsChain entries x.previous ps) (sym entry) c.5;
-          rest = r ∙ ap (λ (x : ℕ). met_all n w (uncovered count (x ∷ ps)) now) (sym c.4 ∙ ap (λ (x : Entry). x.place) (sym entry));
+          chain = subst (λ (x : TrackEntry). IsChain entries x.previous ps) (sym entry) c.5;
+          rest = r ∙ ap (λ (x : ℕ). met_all n w (uncovered count (x ∷ ps)) now) (sym c.4 ∙ ap (λ (x : TrackEntry). x.place) (sym entry));
         }
       where
         same_some : (a b : ℕ) → ◌≡◌ {A = Option ℕ} (Some a) (Some b) → a ≡ b
         same_some a b f = cc
 
-        same_entry : (a b : Entry) → ◌≡◌ {A = Option Entry} (Some a) (Some b) → a ≡ b
+        same_entry : (a b : TrackEntry) → ◌≡◌ {A = Option TrackEntry} (Some a) (Some b) → a ≡ b
         same_entry a b f = cc
 
 is_lt : (m n : ℕ) → m < n → nat_lt m n ≡ true
@@ -60,12 +60,12 @@ is_lt m n h = grind arith
 not_lt : (m n : ℕ) → n ≤ m → nat_lt m n ≡ false
 not_lt m n h = grind arith
 
-pub left_covered : (entries : List Entry) (k : ℕ) (e : Entry) (count n w : ℕ) (end now : List (List Meeting)) → slice_get entries k ≡ Some e → e.place < count → IsLeft entries (Some k) count n w end now → now ≡ end
+pub left_covered : (entries : List TrackEntry) (k : ℕ) (e : TrackEntry) (count n w : ℕ) (end now : List (List Meeting)) → slice_get entries k ≡ Some e → e.place < count → IsLeft entries (Some k) count n w end now → now ≡ end
 left_covered entries k e count n w end now at low l =
     let f = first_left entries k e count n w end now at l in
     sym (f.rest ∙ ap (λ (b : Bool). met_all n w (cond b [] (e.place ∷ uncovered count f.places)) now) (is_lt e.place count low))
 
-pub left_next : (entries : List Entry) (k : ℕ) (e : Entry) (count n w : ℕ) (end now new : List (List Meeting)) → slice_get entries k ≡ Some e → count ≤ e.place → new ≡ met_at n w e.place now
+pub left_next : (entries : List TrackEntry) (k : ℕ) (e : TrackEntry) (count n w : ℕ) (end now new : List (List Meeting)) → slice_get entries k ≡ Some e → count ≤ e.place → new ≡ met_at n w e.place now
     → IsLeft entries (Some k) count n w end now → IsLeft entries e.previous count n w end new
 left_next entries k e count n w end now new at high is l =
     let f = first_left entries k e count n w end now at l in
@@ -76,13 +76,13 @@ left_next entries k e count n w end now new at high is l =
     }
 
 -- the same of a number that is known by an equation
-pub none_left : (entries : List Entry) (o : Option ℕ) (count n w : ℕ) (end now : List (List Meeting)) → o ≡ None → IsLeft entries o count n w end now → now ≡ end
+pub none_left : (entries : List TrackEntry) (o : Option ℕ) (count n w : ℕ) (end now : List (List Meeting)) → o ≡ None → IsLeft entries o count n w end now → now ≡ end
 none_left entries o count n w end now e l = left_none entries count n w end now (subst (λ (u : Option ℕ). IsLeft entries u count n w end now) e l)
 
-pub covered_left : (entries : List Entry) (o : Option ℕ) (k : ℕ) (e : Entry) (count n w : ℕ) (end now : List (List Meeting)) → o ≡ Some k → slice_get entries k ≡ Some e → e.place < count → IsLeft entries o count n w end now → now ≡ end
+pub covered_left : (entries : List TrackEntry) (o : Option ℕ) (k : ℕ) (e : TrackEntry) (count n w : ℕ) (end now : List (List Meeting)) → o ≡ Some k → slice_get entries k ≡ Some e → e.place < count → IsLeft entries o count n w end now → now ≡ end
 covered_left entries o k e count n w end now is at low l = left_covered entries k e count n w end now at low (subst (λ (u : Option ℕ). IsLeft entries u count n w end now) is l)
 
-pub next_left : (entries : List Entry) (o : Option ℕ) (k : ℕ) (e : Entry) (count n w : ℕ) (end now new : List (List Meeting)) → o ≡ Some k → slice_get entries k ≡ Some e → count ≤ e.place → new ≡ met_at n w e.place now
+pub next_left : (entries : List TrackEntry) (o : Option ℕ) (k : ℕ) (e : TrackEntry) (count n w : ℕ) (end now new : List (List Meeting)) → o ≡ Some k → slice_get entries k ≡ Some e → count ≤ e.place → new ≡ met_at n w e.place now
     → IsLeft entries o count n w end now → IsLeft entries e.previous count n w end new
 next_left entries o k e count n w end now new is at high met l = left_next entries k e count n w end now new at high met (subst (λ (u : Option ℕ). IsLeft entries u count n w end now) is l)
 

@@ -19,7 +19,7 @@ total_of (l ∷ ls) = length l + total_of ls
 abbrev pub total : List (Vec Meeting Global) → ℕ
 total vs = total_of (lists_in vs)
 
--- the word of the last one, where that is with place n
+-- the word of the last one, if that is with place n
 abbrev pub last_meets : ℕ → List Meeting → Option ℕ
 last_meets n [] = None
 last_meets n (x ∷ []) = elim (x.second == n) [ true ↦ Some x.word | false ↦ None ]

@@ -18,7 +18,7 @@ use Rattle.race_report.specs.Kept.{IsTracked, lists_of}
 abbrev pub everyone : ℕ → Bool
 everyone h = true
 
--- a point with its accesses where it is a sync point, and with none where it isn't
+-- a point with its accesses if it is a sync point, and with none if it isn't
 abbrev pub sync_of : ℕ → ℕ → Touch → Point
 sync_of hart place touch = with_accesses hart place (sync_accesses touch)
 

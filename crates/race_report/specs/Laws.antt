@@ -12,7 +12,7 @@ use Rattle.race_report.specs.declared.race.Race.{Race}
 use Rattle.race_report.specs.Points.{Accessing, points_of}
 use Rattle.race_report.specs.Races.{IsRace, race_at, races_of, whole_point}
 
--- the tests say what a race is: the two places are one, with that word, exactly where the test gives the word
+-- the tests say what a race is: the two places are one, with that word, exactly if the test gives the word
 abbrev pub TestsSayRaces : Type 0
 TestsSayRaces = (run : List Accessing) (m n word : ℕ) → (race_at run m n ≡ Some word) ↔ IsRace run m n word
 
@@ -51,11 +51,11 @@ HaveOwnRows run = (m : ℕ) (p : Accessing) → slice_get run m ≡ Some p → p
 abbrev pub IsRowBefore : Row → Row → Type 0
 IsRowBefore r s = (r.hart < s.hart) ⊎ ((r.hart ≡ s.hart) × (r.ic < s.ic))
 
--- by the first row, and where these agree by the second
+-- by the first row, and if these agree by the second
 abbrev pub IsRaceBefore : Race → Race → Type 0
 IsRaceBefore x y = IsRowBefore x.first y.first ⊎ ((x.first.hart ≡ y.first.hart) × (x.first.ic ≡ y.first.ic) × IsRowBefore x.second y.second)
 
--- each race comes before all that stand behind it; so none stands there twice
+-- each race comes before all that come after it; so none stands there twice
 abbrev pub Ascend : List Race → Type 0
 Ascend [] = Unit {0}
 Ascend (x ∷ xs) = ((y : Race) → In xs y → IsRaceBefore x y) × Ascend xs
@@ -73,7 +73,7 @@ pub record AreAlike (run other : List Accessing) : Type 0 where
   pub order : (m n j k : ℕ) (p q : Accessing) → slice_get run m ≡ Some p → slice_get run n ≡ Some q → slice_get other j ≡ Some p → slice_get other k ≡ Some q
       → IsConflict (whole_point m p) (whole_point n q) → m < n → j < k
 
--- such lists have the same races: they go by the order of conflicting points alone
+-- such lists have the same races: they depend on the order of conflicting points alone
 abbrev pub RacesGoByConflicts : Type 0
 RacesGoByConflicts = (harts : ℕ) (run other : List Accessing) → AreCounted harts run → AreCounted harts other → HaveOwnRows run → AreAlike run other
     → races_of harts run ≡ races_of harts other

@@ -2,9 +2,9 @@
 use Rattle.std.specs.Prelude.{◌≡◌, ◌<◌, ◌++◌, ◌%◌, ℕ, List}
 use Rattle.bn_base.specs.declared.row.Row.{Row}
 use Rattle.bn_base.specs.declared.state.HartState.{HartState}
-use Rattle.race_log.specs.Times.{count_of}
+use Rattle.vector_time.specs.Times.{count_of}
 use Rattle.race_report.specs.declared.calls.Asked.{Asked}
-use Rattle.race_report.specs.declared.found.Found.{Found}
+use Rattle.race_report.specs.declared.race_lists.RaceLists.{RaceLists}
 use Rattle.race_report.specs.declared.gathered.Gathered.{Gathered}
 use Rattle.race_report.specs.declared.meets.Reached.{Reached}
 use Rattle.race_report.specs.declared.touch.Touch.{Touch}
@@ -19,12 +19,12 @@ abbrev pub HasPlaces : Track → (ℕ → ℕ → List ℕ) → Type 0
 HasPlaces track places = (g w : ℕ) → w % 4 ≡ 0 → IsTracked track g w (places g w)
 
 -- the races of a point with all tracked accesses of one word were added
-abbrev pub MetWord : Track → (harts : ℕ) → (word : ℕ) → Reached → (old new : Found) → Type 0
+abbrev pub MetWord : Track → (harts : ℕ) → (word : ℕ) → Reached → (old new : RaceLists) → Type 0
 MetWord track harts word point old new = (places : ℕ → List ℕ) → ((g : ℕ) → IsTracked track g word (places g))
     → lists_of new ≡ met_harts point.place word point.hart (count_of point.known) places harts (lists_of old)
 
 -- the races of a point with all tracked accesses of its words were added
-abbrev pub MetWords : Track → (harts : ℕ) → Touch → Reached → (old new : Found) → Type 0
+abbrev pub MetWords : Track → (harts : ℕ) → Touch → Reached → (old new : RaceLists) → Type 0
 MetWords track harts touch point old new = (places : ℕ → ℕ → List ℕ) → HasPlaces track places
     → lists_of new ≡ met_words point.place point.hart (count_of point.known) places harts (words_from touch.first touch.count) (lists_of old)
 

@@ -68,6 +68,7 @@ word_with (Some access) writes syncs = Some (record { first = aligned access.0; 
 abbrev pub call_touch : HartState → Row → Option Touch
 call_touch before row = or_else (words_with (filled before row) true) (words_with (sent before row) false)
 
+-- the word of a load, else the words of a call
 abbrev pub loaded_touch : HartState → Row → Option Touch
 loaded_touch before row = or_else (word_with row.load false (is_atomic row)) (call_touch before row)
 
@@ -76,7 +77,7 @@ loaded_touch before row = or_else (word_with row.load false (is_atomic row)) (ca
 abbrev pub touch_of : HartState → Row → Option Touch
 touch_of before row = elim row.fault [ Some f ↦ None | None ↦ or_else (word_with row.store true (is_atomic row)) (loaded_touch before row) ]
 
--- whole words, and one of them where it is a sync point
+-- whole words, and one of them if it is a sync point
 pub record IsTouch (t : Touch) : Type 0 where
   pub aligned : t.first % 4 ≡ 0
   pub one : t.syncs ≡ true → t.count ≡ 1
@@ -86,6 +87,7 @@ abbrev pub words_from : ℕ → ℕ → List ℕ
 words_from first zero = []
 words_from first (suc n) = first ∷ words_from ((first + 4) % 2 ^ 32) n
 
+-- the accesses of the words of a touch
 abbrev pub accesses_of : Touch → List Access
 accesses_of t = map (λ w. record { word = w; writes = t.writes }) (words_from t.first t.count)
 
@@ -97,6 +99,7 @@ pub record Accessing : Type 0 where
   pub row : Row
   pub touch : Touch
 
+-- an instruction as a point, if it accesses words
 abbrev pub accessing : ℕ → Row → Option Touch → List Accessing
 accessing h row None = []
 accessing h row (Some t) = record { hart = h; row = row; touch = t } ∷ []

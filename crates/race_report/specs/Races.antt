@@ -1,4 +1,4 @@
--- Races: conflicting points that no chain of program order and synchronisation orders. A point goes by its place among the points
+-- Races: conflicting points that no chain of program order and synchronisation orders. A point is determined by its place among the points
 -- of the joint replay.
 use Rattle.std.specs.Prelude.{◌≡◌, ◌≤◌, ◌<◌, ℕ, zero, suc, ◌+◌, ◌==◌, nat_lt, Bool, true, false, not, cond, ◌&&◌, List, [], ◌∷◌, ◌++◌, filter, map, length, min, slice_get, Option, Some, None}
 use Rattle.std.specs.List.{list_any}
@@ -20,7 +20,7 @@ with_accesses hart place accesses = record { hart = hart; count = place; turn = 
 abbrev pub whole_point : ℕ → Accessing → Point
 whole_point place p = with_accesses p.hart place (accesses_of p.touch)
 
--- a point with its accesses where it is a sync point, and with none where it isn't
+-- a point with its accesses if it is a sync point, and with none if it isn't
 abbrev pub sync_accesses : Touch → List Access
 sync_accesses t = elim t.syncs [ true ↦ accesses_of t | false ↦ [] ]
 
@@ -32,8 +32,8 @@ abbrev pub syncs_from : ℕ → List Accessing → List Point
 syncs_from place [] = []
 syncs_from place (p ∷ ps) = sync_point place p ∷ syncs_from (suc place) ps
 
--- one point is ordered before another: a chain leads there, of steps from a point to a later one of its hart, or from a sync point
--- to a later sync point that conflicts with it
+-- one point is ordered before another: a chain leads there. Its steps lead from a point to a later one of its hart, or from a
+-- sync point to a later sync point that conflicts with it
 abbrev pub IsOrdered : List Accessing → ℕ → ℕ → Type 0
 IsOrdered run = Before (syncs_from 0 run)
 
@@ -64,7 +64,7 @@ abbrev pub least_from : Option ℕ → List ℕ → Option ℕ
 least_from o [] = o
 least_from o (w ∷ ws) = least_from (lesser o w) ws
 
--- the words of the second's accesses that the first accesses too, where one of the two writes
+-- the words of the second's accesses that the first accesses too, if one of the two writes
 abbrev pub shared : List Access → List Access → List ℕ
 shared first second = map (λ x. x.word) (filter (λ x. list_any (λ y. clashes y x) first) second)
 
@@ -72,6 +72,7 @@ shared first second = map (λ x. x.word) (filter (λ x. list_any (λ y. clashes 
 abbrev pub is_apart : List Accessing → ℕ → ℕ → Accessing → Accessing → Bool
 is_apart run m n p q = nat_lt m n && (not (p.hart == q.hart) && not (before (syncs_from 0 run) m n))
 
+-- the lowest word of the race of two points, if they are one
 abbrev pub race_word : List Accessing → ℕ → ℕ → Accessing → Accessing → Option ℕ
 race_word run m n p q = cond (is_apart run m n p q) (least_from None (shared (accesses_of p.touch) (accesses_of q.touch))) None
 
@@ -90,6 +91,7 @@ unfoldable pub meetings_below : List Accessing → ℕ → ℕ → List Meeting
 meetings_below run m zero = []
 meetings_below run m (suc n) = meetings_below run m n ++ meeting_at n (race_at run m n)
 
+-- all races of place m with later places, by ascending place
 abbrev pub meetings_of : List Accessing → ℕ → List Meeting
 meetings_of run m = meetings_below run m (length run)
 
@@ -102,7 +104,7 @@ count_below run (suc m) = count_below run m + length (meetings_of run m)
 abbrev pub race_count : List Accessing → ℕ
 race_count run = count_below run (length run)
 
--- the row of the point at a place, where that is of hart g
+-- the row of the point at a place, if that is of hart g
 abbrev pub row_if : ℕ → Option Accessing → Option Row
 row_if g None = None
 row_if g (Some p) = cond (p.hart == g) (Some p.row) None
@@ -115,7 +117,7 @@ race_by None other word = []
 race_by (Some p) None word = []
 race_by (Some p) (Some row) word = record { first = p.row; second = row; word = word } ∷ []
 
--- the race of place m with another, where that one is of hart g
+-- the race of place m with another, if that one is of hart g
 abbrev pub race_if : List Accessing → ℕ → ℕ → Meeting → List Race
 race_if run m g x = race_by (slice_get run m) (row_of run x.second g) x.word
 

@@ -25,7 +25,7 @@ joint_of i log = run_all (fresh i log.head.settings.harts log.records)
 abbrev pub points_in : Ran → List Accessing
 points_in r = points_of r.walk.taken
 
--- the report of a joint replay of so many harts: where it stops, why it does; else where there are more than `most` races, that
+-- the report of a joint replay of so many harts: if it stops, why it does; else if there are more than `most` races, that
 -- there are; else all races. Memory may be wanting at any time
 abbrev pub IsReport : ℕ → ℕ → Ran → Result (List Race) RaceError → Type 0
 IsReport harts most r (Ok races) = (r.stopped ≡ None) × (race_count (points_in r) ≤ most) × (races ≡ races_of harts (points_in r))
@@ -35,7 +35,7 @@ IsReport harts most r (Err OutOfMemory) = Unit {0}
 
 -- ---- its parts
 
--- how an error of the joint replay is told: want of memory as such, and any other as what it is
+-- how an error of the joint replay is told: running out of memory as such, and any other as what it is
 abbrev pub Tells : JointError → RaceError → Type 0
 Tells e (Joint f) = (f ≡ e) × (f ≢ why.OutOfMemory)
 Tells e (TooMany max) = ⊥
@@ -47,7 +47,7 @@ Stops j (Joint e) = ((run_all j).stopped ≡ Some e) × (e ≢ why.OutOfMemory)
 Stops j (TooMany max) = ⊥
 Stops j OutOfMemory = Unit {0}
 
--- a row of a hart that asked this before it is taken in, where the hart was there
+-- a row of a hart that asked this before it is taken in, if the hart was there
 abbrev pub TakesRow : ℕ → ℕ → Option Asked → Row → Gathered → Result (Unit {0}) RaceError → Gathered → Type 0
 TakesRow h most None row g result next = (e : RaceError) → result ≡ Err e → e ≡ OutOfMemory
 TakesRow h most (Some asked) row g (Ok u) next = (harts : ℕ) (run : List Accessing) (before : HartState) → h < harts → asked ≡ asked_by before

@@ -6,8 +6,8 @@ ghost use Rattle.race_report.specs.Gathering.{IsGathered, IsState, point_by};
 ghost use Rattle.race_report.specs.Meets.{TookRow};
 
 use crate::calls::Asked;
-use crate::found::Found;
 use crate::meets::{Reached, meet_point, note_point};
+use crate::race_lists::RaceLists;
 use crate::reach::reach;
 use crate::touch::{Touch, touch_of};
 use crate::track::Track;
@@ -26,7 +26,7 @@ pub(crate) struct Gathered {
     all: Track,
     written: Track,
     shadow: Shadow,
-    pub(crate) found: Found,
+    pub(crate) found: RaceLists,
 }
 
 impl Gathered {
@@ -45,7 +45,7 @@ impl Gathered {
             all,
             written,
             shadow,
-            found: Found::new(alloc),
+            found: RaceLists::new(alloc),
         })
     }
 

@@ -11,13 +11,13 @@
 mod calls;
 mod error;
 mod examples;
-mod found;
 mod gathered;
 pub mod laws;
 mod listing;
 mod meeting;
 mod meets;
 mod race;
+mod race_lists;
 mod reach;
 mod reporting;
 mod telling;

@@ -1,19 +1,19 @@
 //! The races of a point with the points before it.
 ghost use Rattle.std.specs.Prelude.{◌≡◌, ◌<◌, ◌≤◌, ◌%◌, ◌^◌, true, false, ℕ, List, length, OnOk};
 ghost use Rattle.bn_base.specs.declared.settings.TheConstants.{HARTS};
-ghost use Rattle.race_log.specs.Times.{count_of};
+ghost use Rattle.vector_time.specs.Times.{count_of};
 ghost use Rattle.race_report.specs.Points.{words_from};
 ghost use Rattle.race_report.specs.Tracks.{AreBelow, noted};
 ghost use Rattle.race_report.specs.Found.{met_all, uncovered};
 ghost use Rattle.race_report.specs.Kept.{IsTracked, lists_of};
 ghost use Rattle.race_report.specs.Meets.{MetWord, MetWords};
 
-use crate::found::Found;
+use crate::race_lists::RaceLists;
 use crate::touch::Touch;
 use crate::track::Track;
 use bn_base::{Addr, HartId};
-use race_log::Times;
 use std::alloc::AllocError;
+use vector_time::Times;
 
 /// A point: its hart and place, and how many of each hart's points are ordered before it.
 #[derive(Clone, Copy)]
@@ -26,7 +26,7 @@ pub(crate) struct Reached {
 // Its races with a hart's accesses of a word, from the latest on, as far as none is ordered before it.
 fn meet_hart(
     track: &Track,
-    found: &mut Found,
+    found: &mut RaceLists,
     hart: HartId,
     word: Addr,
     point: &Reached,
@@ -56,7 +56,7 @@ fn meet_hart(
 // Its races with all other harts' accesses of a word.
 fn meet_word(
     track: &Track,
-    found: &mut Found,
+    found: &mut RaceLists,
     harts: HartId,
     word: Addr,
     point: &Reached,
@@ -78,7 +78,7 @@ fn meet_word(
 /// Its races with all other harts' accesses of its words.
 pub(crate) fn meet_words(
     track: &Track,
-    found: &mut Found,
+    found: &mut RaceLists,
     harts: HartId,
     touch: Touch,
     point: &Reached,
@@ -123,7 +123,7 @@ pub(crate) fn note_words(
 pub(crate) fn meet_point(
     all: &Track,
     written: &Track,
-    found: &mut Found,
+    found: &mut RaceLists,
     harts: HartId,
     touch: Touch,
     point: &Reached,

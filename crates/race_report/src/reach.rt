@@ -1,7 +1,7 @@
 //! Which points are ordered before a point.
 ghost use Rattle.std.specs.Prelude.{◌≡◌, ◌<◌, ◌≤◌, ◌+◌, ◌^◌, ◌==◌, ℕ, List, IsTrue, OnOk, IfOk, if◌then◌else◌};
 ghost use Rattle.bn_base.specs.declared.settings.TheConstants.{HARTS};
-ghost use Rattle.race_log.specs.Times.{count_of};
+ghost use Rattle.vector_time.specs.Times.{count_of};
 ghost use Rattle.race_log.specs.Points.{Point};
 ghost use Rattle.race_log.specs.ByCount.{IsTimesOf};
 ghost use Rattle.race_log.specs.Kept.{after, is_write};
@@ -11,8 +11,9 @@ ghost use Rattle.race_report.specs.Gathering.{everyone, sync_of};
 
 use crate::touch::Touch;
 use bn_base::HartId;
-use race_log::{Mode, Shadow, Times};
+use race_log::{Mode, Shadow};
 use std::alloc::AllocError;
+use vector_time::Times;
 
 // The mode of an access.
 fn mode_of(writes: bool) -> Mode

@@ -8,7 +8,7 @@ use std::alloc::{AllocError, Global};
 
 /// The place of an access, and the number of the entry of the hart's access of the word before it.
 #[derive(Clone, Copy, Drop)]
-pub(crate) struct Entry {
+pub(crate) struct TrackEntry {
     pub(crate) place: u32,
     pub(crate) previous: Option<u32>,
 }
@@ -18,7 +18,7 @@ pub(crate) struct Entry {
 pub(crate) struct Track {
     // For each hart the number of the latest entry of each word.
     heads: Vec<Words>,
-    entries: Vec<Entry>,
+    entries: Vec<TrackEntry>,
     ghost linked: { AreLinked heads.items entries.items },
 }
 
@@ -51,7 +51,7 @@ impl Track {
     }
 
     // Adds an entry, and answers its number.
-    fn add_entry(&mut self, entry: Entry) -> Result<u32, AllocError>
+    fn add_entry(&mut self, entry: TrackEntry) -> Result<u32, AllocError>
         requires { IfSome entry.previous (λ k. k < length self.old.entries.items) }
         ensures heads { self.new.heads ≡ self.old.heads }
         ensures below { (count : ℕ) → entry.place < count → AreBelow count self.old.entries.items → AreBelow count self.new.entries.items }
@@ -91,7 +91,7 @@ impl Track {
     {
         self.make_room(hart)?;
         let previous = self.latest(hart, word);
-        let number = self.add_entry(Entry { place, previous })?;
+        let number = self.add_entry(TrackEntry { place, previous })?;
         self.set_head(hart, word, number);
         Ok(())
     }
@@ -106,7 +106,7 @@ impl Track {
     }
 
     /// An entry.
-    pub(crate) fn entry(&self, number: u32) -> Entry
+    pub(crate) fn entry(&self, number: u32) -> TrackEntry
         requires { number < length self.now.entries.items }
         ensures value { slice_get self.now.entries.items number ≡ Some result }
         ensures earlier { IfSome result.previous (λ k. k < number) }

@@ -20,7 +20,7 @@ use Rattle.first_load_bits.specs.Events.{Touch, Drop}
 use Rattle.first_load_bits.specs.Stands.{geometry_of}
 use Rattle.first_load_bits.specs.Warm.{warm, held}
 use Rattle.run_model.specs.declared.span.Span.{Span}
-use Rattle.run_model.specs.declared.next.Next.{Next}
+use Rattle.run_model.specs.declared.turn_end.TurnEnd.{TurnEnd}
 use Rattle.run_model.specs.Machine.{Machine, answer_call, answer_sc, call_of, filled, put_byte, word_count, is_reserved, sent, planned}
 use Rattle.run_model.specs.Turn.{Run, ask_at, drops, dropped, other_events, own_events, events_after, cleared, call_span, sc_span}
 use Rattle.replay_laws.proofs.Asked.{memory_after, span_to, next_to, served_ask, served_turn}
@@ -141,7 +141,7 @@ spared (Faulted f v) c i m h s b p = refl
 abbrev pub Agrees : RawSettings → Run → ℕ → (ℕ → Option ℕ) → Type 0
 Agrees c run k known = (b : ℕ) → aligned b ≡ b → warm (geometry_of c) b (run.events k) ≡ true → known b ≡ Some (run.machine.memory b)
 
-other_history : (n : Next) (h k : ℕ) (call : Option Plan) (o : Option Span) (events : ℕ → List Event) → (h == k) ≡ false
+other_history : (n : TurnEnd) (h k : ℕ) (call : Option Plan) (o : Option Span) (events : ℕ → List Event) → (h == k) ≡ false
     → events_after n k call o events h ≡ other_events o (events h)
 other_history n h k call o events e = ap (λ x. elim x as (λ y. List Event) [ true ↦ cleared n (own_events call o (events k)) | false ↦ other_events o (events h) ]) e
 

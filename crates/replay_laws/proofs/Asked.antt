@@ -8,7 +8,7 @@ use Rattle.rv_meaning.specs.declared.asks.Ask.{Ask}
 use Rattle.rv_meaning.specs.declared.asks.Want.{Want}
 use Rattle.rv_meaning.specs.declared.asks.Reply.{Reply}
 use Rattle.run_model.specs.declared.hart.Hart.{Hart}
-use Rattle.run_model.specs.declared.next.Next.{Next}
+use Rattle.run_model.specs.declared.turn_end.TurnEnd.{TurnEnd}
 use Rattle.run_model.specs.declared.span.Span.{Span}
 use Rattle.run_model.specs.Machine.{Machine, Answered, answer, call_of}
 use Rattle.run_model.specs.Turn.{Run, span_of, next_of, ask_at, serve_call}
@@ -37,7 +37,7 @@ abbrev pub span_to : RawSettings → Program → Machine → ℕ → Want → Ha
 span_to c i m k w s = span_of (call_of i m w) w (reply_to c i m k w s)
 
 -- what comes next, the hart being t before
-abbrev pub next_to : RawSettings → Program → Machine → ℕ → Hart → Want → HartState → Next
+abbrev pub next_to : RawSettings → Program → Machine → ℕ → Hart → Want → HartState → TurnEnd
 next_to c i m k t w s = next_of c (call_of i m w) t w (reply_to c i m k w s) (state_after c i m k w s).ic
 
 -- the word that is touched in the hart's own cache
@@ -46,7 +46,7 @@ touched_to c i m k w s = touched (call_of i m w) (span_to c i m k w s)
 
 -- ---- a turn of hart k
 
-abbrev pub next_at : RawSettings → Program → Run → ℕ → Next
+abbrev pub next_at : RawSettings → Program → Run → ℕ → TurnEnd
 next_at c i run k = next_to c i run.machine k (run.harts k) (ask_at c i (run.harts k)).want (ask_at c i (run.harts k)).state
 
 -- the run after an ask without a guard

@@ -16,8 +16,8 @@ use Rattle.first_load_bits.specs.Warm.{warm}
 use Rattle.log_record.specs.declared.record.Record.{Record}
 use Rattle.hart_replay.specs.Replay.{Interval, puts, nothing, interval_from, interval_of}
 use Rattle.run_model.specs.declared.hart.Hart.{Hart}
-use Rattle.run_model.specs.declared.next.Next.{Next}
-use Rattle.run_model.specs.declared.next.Next.TheVariants.{GoesOn, NewInterval, HartOver, RunOver}
+use Rattle.run_model.specs.declared.turn_end.TurnEnd.{TurnEnd}
+use Rattle.run_model.specs.declared.turn_end.TurnEnd.TheVariants.{GoesOn, NewInterval, HartOver, RunOver}
 use Rattle.run_model.specs.declared.span.Span.{Span}
 use Rattle.run_model.specs.Turn.{Run, next_records, events_after, own_events, other_events, header}
 use Rattle.run_model.specs.Machine.{call_of}
@@ -219,7 +219,7 @@ begun_clear c i false run h r x e b = ap (λ (es : List Event). warm (geometry_o
 
     begun : (served_turn c i run h).events h ≡ Clear ∷ own_events call words (run.events h)
     begun =
-        ap (λ (n : Next). events_after n h call words run.events h) e
+        ap (λ (n : TurnEnd). events_after n h call words run.events h) e
         ∙ ap (λ y. elim y as (λ z. List Event) [ true ↦ Clear ∷ own_events call words (run.events h) | false ↦ other_events words (run.events h) ]) (eq-eqb h h refl)
 
 -- a move that begins it
@@ -247,18 +247,18 @@ gives_now c i guard h n ks run y x z l f e small q m v found =
     ]
 
 -- h's own move before it
-gives_own : (x : Next) (c : RawSettings) (i : Program) (guard : Bool) (h n : ℕ) (ks : List Move) (run : Run) → Sound c i → IsServed c i (moved_run c i guard run h) ks → Fit c (run.harts h)
+gives_own : (x : TurnEnd) (c : RawSettings) (i : Program) (guard : Bool) (h n : ℕ) (ks : List Move) (run : Run) → Sound c i → IsServed c i (moved_run c i guard run h) ks → Fit c (run.harts h)
     → next_by c i guard run h ≡ x → (run.harts h).number < n → (((moved_run c i guard run h).harts h).number < n → Fit c ((moved_run c i guard run h).harts h) → Gives c i h n ks (moved_run c i guard run h))
     → Gives c i h n (Moves guard h ∷ ks) run
 gives_own GoesOn c i guard h n ks run z l f e q rest =
     let is = own_harts c i guard run h GoesOn e in
-    gives_later c i guard h n h ks run (subst (λ (w : Next). Passes h n (next_records w h (run.harts h).number (state_by c i guard run h))) (sym e) tt)
+    gives_later c i guard h n h ks run (subst (λ (w : TurnEnd). Passes h n (next_records w h (run.harts h).number (state_by c i guard run h))) (sym e) tt)
     (λ v b. begins_after c i guard h n ks run v z f q (ap (λ (w : Hart). w.state) is) (ap extra e) b) (rest (subst (λ (w : Hart). w.number < n) (sym is) q) (own_fit c i guard run h z e f))
 gives_own (HartOver y x) c i guard h n ks run z l f e q rest =
-    gives_none c i guard h n h ks run (subst (λ (w : Next). Passes h n (next_records w h (run.harts h).number (state_by c i guard run h))) (sym e) (refl, tt))
+    gives_none c i guard h n h ks run (subst (λ (w : TurnEnd). Passes h n (next_records w h (run.harts h).number (state_by c i guard run h))) (sym e) (refl, tt))
     (ap (λ (w : Hart). w.live) (own_harts c i guard run h (HartOver y x) e)) l
 gives_own (RunOver y x) c i guard h n ks run z l f e q rest =
-    gives_none c i guard h n h ks run (subst (λ (w : Next). Passes h n (next_records w h (run.harts h).number (state_by c i guard run h))) (sym e) (refl, tt))
+    gives_none c i guard h n h ks run (subst (λ (w : TurnEnd). Passes h n (next_records w h (run.harts h).number (state_by c i guard run h))) (sym e) (refl, tt))
     (ap (λ (w : Hart). w.live) (own_harts c i guard run h (RunOver y x) e)) l
 gives_own (NewInterval y x) c i guard h n ks run z l f e q rest =
     let is = own_harts c i guard run h (NewInterval y x) e in
@@ -272,7 +272,7 @@ gives_own (NewInterval y x) c i guard h n ks run z l f e q rest =
     ]
 
 -- another hart's move before it
-gives_other : (x : Next) (c : RawSettings) (i : Program) (guard : Bool) (h n k : ℕ) (ks : List Move) (run : Run) → IsServed c i (moved_run c i guard run k) ks → Fit c (run.harts h)
+gives_other : (x : TurnEnd) (c : RawSettings) (i : Program) (guard : Bool) (h n k : ℕ) (ks : List Move) (run : Run) → IsServed c i (moved_run c i guard run k) ks → Fit c (run.harts h)
     → (k == h) ≡ false
     → (h == k) ≡ false → next_by c i guard run k ≡ x → (run.harts h).number < n
     → (((moved_run c i guard run k).harts h).number < n → Fit c ((moved_run c i guard run k).harts h) → Gives c i h n ks (moved_run c i guard run k)) → Gives c i h n (Moves guard k ∷ ks) run
@@ -285,7 +285,7 @@ gives_other x c i guard h n k ks run l f p p2 e q rest = by_next x e
     left is =
         gives_later c i guard h n k ks run passing (λ v b. begins_past c i guard h n k ks run v p is b) (rest (subst (λ (w : Hart). w.number < n) (sym is) q) (subst (λ (w : Hart). Fit c w) (sym is) f))
 
-    by_next : (y : Next) → next_by c i guard run k ≡ y → Gives c i h n (Moves guard k ∷ ks) run
+    by_next : (y : TurnEnd) → next_by c i guard run k ≡ y → Gives c i h n (Moves guard k ∷ ks) run
     by_next GoesOn d = left (other_harts c i guard run h k GoesOn d p2)
     by_next (NewInterval r y) d = left (other_harts c i guard run h k (NewInterval r y) d p2)
     by_next (HartOver r y) d = left (other_harts c i guard run h k (HartOver r y) d p2)

@@ -17,11 +17,11 @@ use Rattle.system_calls.specs.Calls.{plan_of}
 use Rattle.system_calls.specs.Laws.{is_end, ExitsAloneEnd}
 use Rattle.rv_meaning.specs.Rows.{call_row}
 use Rattle.hart_replay.specs.Replay.{Interval, Position, Logged, puts, system_step, call_reason, found}
-use Rattle.hart_replay.specs.Replay.{Next as Goal}
+use Rattle.hart_replay.specs.Replay.{TurnEnd as Goal}
 use Rattle.hart_replay.specs.Replay.{On, Stop, Refused}
 use Rattle.hart_replay.specs.declared.error.ReplayError.TheVariants.{EndDiffers}
-use Rattle.run_model.specs.declared.next.Next.{Next}
-use Rattle.run_model.specs.declared.next.Next.TheVariants.{GoesOn, NewInterval, HartOver, RunOver}
+use Rattle.run_model.specs.declared.turn_end.TurnEnd.{TurnEnd}
+use Rattle.run_model.specs.declared.turn_end.TurnEnd.TheVariants.{GoesOn, NewInterval, HartOver, RunOver}
 use Rattle.run_model.specs.Machine.{Machine, answer_call, planned, kernel_of}
 use Rattle.run_model.specs.Turn.{after_call, sc_record, mark}
 use Rattle.replay_laws.proofs.Asked.{asking}
@@ -132,7 +132,7 @@ abbrev pub Plain : ℕ → Bool → Type 0
 Plain r called = (nat_lt 16 r ≡ false) × ((is_call r && not called) ≡ false)
 
 -- what comes next is no end, or a plain one
-abbrev pub Fine : Next → Bool → Type 0
+abbrev pub Fine : TurnEnd → Bool → Type 0
 Fine GoesOn called = Unit {0}
 Fine (NewInterval r x) called = Plain r called
 Fine (HartOver r x) called = Plain r called

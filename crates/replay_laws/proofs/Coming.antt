@@ -12,8 +12,8 @@ use Rattle.first_load_bits.specs.declared.warm.Warm.{Warm}
 use Rattle.first_load_bits.specs.declared.warm.Warm.TheVariants as answers
 use Rattle.hart_replay.specs.Replay.{Logged, puts}
 use Rattle.run_model.specs.declared.hart.Hart.{Hart}
-use Rattle.run_model.specs.declared.next.Next.{Next}
-use Rattle.run_model.specs.declared.next.Next.TheVariants.{GoesOn, NewInterval, HartOver, RunOver}
+use Rattle.run_model.specs.declared.turn_end.TurnEnd.{TurnEnd}
+use Rattle.run_model.specs.declared.turn_end.TurnEnd.TheVariants.{GoesOn, NewInterval, HartOver, RunOver}
 use Rattle.run_model.specs.Turn.{Run, load_record, skipped_after, sc_record, hart_after}
 use Rattle.run_model.specs.Runs.{any_live}
 use Rattle.replay_laws.proofs.Counts.{Fit, Move, Moves, moved_run, next_by, state_by, skip_by, warmth_by, reply_by, word_at, log_from, own_turn_log, other_turn_log, own_bounds, own_harts, other_harts, own_fit}
@@ -74,7 +74,7 @@ own_mark c i guard run ks h =
 abbrev pub Coming : Hart → Logged → Type 0
 Coming t l = Ahead t.skipped l.loads × (t.state.ic ≤ l.mark.ic)
 
-own_coming : (c : RawSettings) (i : Program) (guard : Bool) (run : Run) (ks : List Move) (h : ℕ) (n : Next) → next_by c i guard run h ≡ n
+own_coming : (c : RawSettings) (i : Program) (guard : Bool) (run : Run) (ks : List Move) (h : ℕ) (n : TurnEnd) → next_by c i guard run h ≡ n
     → Ahead (skip_by c i guard run h) (end_log n (state_by c i guard run h) (log_from c i (moved_run c i guard run h) ks h)).loads
     → (run.harts h).state.ic ≤ (end_log n (state_by c i guard run h) (log_from c i (moved_run c i guard run h) ks h)).mark.ic → Coming (run.harts h) (log_from c i run (Moves guard h ∷ ks) h)
 own_coming c i guard run ks h n e a b =
@@ -108,7 +108,7 @@ no_live (suc n) h harts b e f = elim (eqb_tells n h) [
 pub equal_flip : (k h : ℕ) → k ≢ h → (h == k) ≡ false
 equal_flip k h p = elim (eqb_tells h k) [ inl q ↦ absurd (p (sym q.1)) | inr q ↦ q.0 ]
 
-coming_own : (n : Next) (c : RawSettings) (i : Program) (guard : Bool) (h : ℕ) (ks : List Move) (run : Run) → Sound c i → Fit c (run.harts h) → next_by c i guard run h ≡ n
+coming_own : (n : TurnEnd) (c : RawSettings) (i : Program) (guard : Bool) (h : ℕ) (ks : List Move) (run : Run) → Sound c i → Fit c (run.harts h) → next_by c i guard run h ≡ n
     → (Fit c ((moved_run c i guard run h).harts h) → Coming ((moved_run c i guard run h).harts h) (log_from c i (moved_run c i guard run h) ks h)) → Coming (run.harts h) (log_from c i run (Moves guard h ∷ ks) h)
 coming_own GoesOn c i guard h ks run z f e rest =
     let r : Coming (hart_after GoesOn (state_by c i guard run h) (skip_by c i guard run h) (moved_run c i guard run h).bytes (run.harts h)) (log_from c i (moved_run c i guard run h) ks h) =
@@ -126,7 +126,7 @@ coming_past c i guard h k ks run f is log rest =
     let r = rest (subst (λ (x : Hart). Fit c x) (sym is) f) in
     subst (λ (x : Logged). Coming (run.harts h) x) (sym log) (subst (λ (x : Hart). Coming x (log_from c i (moved_run c i guard run k) ks h)) is r)
 
-coming_other : (n : Next) (c : RawSettings) (i : Program) (guard : Bool) (h k : ℕ) (ks : List Move) (run : Run) → (k == h) ≡ false → (h == k) ≡ false → h < c.harts → Fit c (run.harts h)
+coming_other : (n : TurnEnd) (c : RawSettings) (i : Program) (guard : Bool) (h k : ℕ) (ks : List Move) (run : Run) → (k == h) ≡ false → (h == k) ≡ false → h < c.harts → Fit c (run.harts h)
     → next_by c i guard run k ≡ n → (Fit c ((moved_run c i guard run k).harts h) → Coming ((moved_run c i guard run k).harts h) (log_from c i (moved_run c i guard run k) ks h))
     → Coming (run.harts h) (log_from c i run (Moves guard k ∷ ks) h)
 coming_other (RunOver y x) c i guard h k ks run p q b f e rest =

@@ -17,8 +17,8 @@ use Rattle.race_log.specs.Points.{Point}
 use Rattle.log_record.specs.declared.record.Record.{Record}
 use Rattle.hart_replay.specs.Replay.{Interval, Logged, puts, nothing, first}
 use Rattle.run_model.specs.declared.hart.Hart.{Hart}
-use Rattle.run_model.specs.declared.next.Next.{Next}
-use Rattle.run_model.specs.declared.next.Next.TheVariants.{GoesOn, NewInterval}
+use Rattle.run_model.specs.declared.turn_end.TurnEnd.{TurnEnd}
+use Rattle.run_model.specs.declared.turn_end.TurnEnd.TheVariants.{GoesOn, NewInterval}
 use Rattle.run_model.specs.Machine.{Machine, answer_sc, is_reserved}
 use Rattle.run_model.specs.Turn.{Run, ask_at, by_guard, begun_anew, budget, loading, warmth, word_before, load_record, sc_record, skipped_after, point_of, hart_after, other_after, mark}
 use Rattle.run_model.specs.Rows.{reply_at}
@@ -111,7 +111,7 @@ moved_run c i true run k = begun_anew run k (asked_at c i run k)
 moved_run c i false run k = served_turn c i run k
 
 -- what comes next, and the hart's state then; whether a word that it loads is warm, how many are skipped, the reply, and the point
-abbrev pub next_by : RawSettings → Program → Bool → Run → ℕ → Next
+abbrev pub next_by : RawSettings → Program → Bool → Run → ℕ → TurnEnd
 next_by c i true run k = by_guard
 next_by c i false run k = next_at c i run k
 
@@ -195,14 +195,14 @@ own_is : (c : RawSettings) (i : Program) (guard : Bool) (run : Run) (h : ℕ)
 own_is c i true run h = own_hart by_guard h (hart_after by_guard (asked_at c i run h) 0 (moved_run c i true run h).bytes (run.harts h)) run.harts
 own_is c i false run h = own_hart (next_at c i run h) h (hart_after (next_at c i run h) (next_state c i run h) (skip_next c i run h) (served_turn c i run h).bytes (run.harts h)) run.harts
 
-pub own_harts : (c : RawSettings) (i : Program) (guard : Bool) (run : Run) (h : ℕ) (n : Next) → next_by c i guard run h ≡ n
+pub own_harts : (c : RawSettings) (i : Program) (guard : Bool) (run : Run) (h : ℕ) (n : TurnEnd) → next_by c i guard run h ≡ n
     → (moved_run c i guard run h).harts h ≡ hart_after n (state_by c i guard run h) (skip_by c i guard run h) (moved_run c i guard run h).bytes (run.harts h)
 own_harts c i guard run h n e =
     own_is c i guard run h ∙ ap (λ x. hart_after x (state_by c i guard run h) (skip_by c i guard run h) (moved_run c i guard run h).bytes (run.harts h)) e
 
 -- ---- another hart's move
 
-pub other_turn_log : (c : RawSettings) (i : Program) (guard : Bool) (run : Run) (ks : List Move) (h k : ℕ) (n : Next) → next_by c i guard run k ≡ n → (k == h) ≡ false → (h == k) ≡ false
+pub other_turn_log : (c : RawSettings) (i : Program) (guard : Bool) (run : Run) (ks : List Move) (h k : ℕ) (n : TurnEnd) → next_by c i guard run k ≡ n → (k == h) ≡ false → (h == k) ≡ false
     → (run.harts h).live ≡ true → h < c.harts → log_from c i run (Moves guard k ∷ ks) h ≡ other_log n (run.harts h) (log_from c i (moved_run c i guard run k) ks h)
 other_turn_log c i guard run ks h k n e f g live b =
     puts_append h (added c i guard run k) (served_records c i (moved_run c i guard run k) ks) nothing
@@ -214,7 +214,7 @@ other_is : (c : RawSettings) (i : Program) (guard : Bool) (run : Run) (h k : ℕ
 other_is c i true run h k g = foreign_hart by_guard h k (hart_after by_guard (asked_at c i run k) 0 (moved_run c i true run k).bytes (run.harts k)) run.harts g
 other_is c i false run h k g = foreign_hart (next_at c i run k) h k (hart_after (next_at c i run k) (next_state c i run k) (skip_next c i run k) (served_turn c i run k).bytes (run.harts k)) run.harts g
 
-pub other_harts : (c : RawSettings) (i : Program) (guard : Bool) (run : Run) (h k : ℕ) (n : Next) → next_by c i guard run k ≡ n → (h == k) ≡ false
+pub other_harts : (c : RawSettings) (i : Program) (guard : Bool) (run : Run) (h k : ℕ) (n : TurnEnd) → next_by c i guard run k ≡ n → (h == k) ≡ false
     → (moved_run c i guard run k).harts h ≡ other_after n (run.harts h)
 other_harts c i guard run h k n e g = other_is c i guard run h k g ∙ ap (λ x. other_after x (run.harts h)) e
 

@@ -17,8 +17,8 @@ use Rattle.log_record.specs.declared.record.Record.{Record}
 use Rattle.log_record.specs.declared.record.Record.TheVariants.{Header, FirstLoad, ScOk, ScFailed, Edge, End}
 use Rattle.hart_replay.specs.Replay.{Interval, Logged, puts, nothing, interval_from, interval_of}
 use Rattle.run_model.specs.declared.hart.Hart.{Hart}
-use Rattle.run_model.specs.declared.next.Next.{Next}
-use Rattle.run_model.specs.declared.next.Next.TheVariants.{GoesOn, NewInterval, HartOver, RunOver}
+use Rattle.run_model.specs.declared.turn_end.TurnEnd.{TurnEnd}
+use Rattle.run_model.specs.declared.turn_end.TurnEnd.TheVariants.{GoesOn, NewInterval, HartOver, RunOver}
 use Rattle.run_model.specs.Turn.{edges_from, edge_records, load_record, sc_record, next_records, stopped_records, run_over_records, header, mark}
 use Rattle.run_model.specs.Runs.{first_headers}
 use Rattle.replay_laws.proofs.Turns.{turn_records}
@@ -99,7 +99,7 @@ sc_passes (replies.Answer x) h n k = tt
 sc_passes replies.Went h n k = tt
 sc_passes replies.Over h n k = tt
 
-pub next_passes : (x : Next) (h n k number : ℕ) (s : HartState) → (k == h && (number + 1 == n)) ≡ false → Passes h n (next_records x k number s)
+pub next_passes : (x : TurnEnd) (h n k number : ℕ) (s : HartState) → (k == h && (number + 1 == n)) ≡ false → Passes h n (next_records x k number s)
 next_passes GoesOn h n k number s e = tt
 next_passes (NewInterval r y) h n k number s e = (refl, (e, tt))
 next_passes (HartOver r y) h n k number s e = (refl, tt)
@@ -115,13 +115,13 @@ stopped_passes zero h n own k harts = tt
 stopped_passes (suc count) h n own k harts =
     stopped_if (not (k == own) && (harts k).live) h n k (harts k).state.ic (stopped_records own (k + 1) count harts) (stopped_passes count h n own (k + 1) harts)
 
-over_passes : (x : Next) (h n k count : ℕ) (harts : ℕ → Hart) → Passes h n (run_over_records x k count harts)
+over_passes : (x : TurnEnd) (h n k count : ℕ) (harts : ℕ → Hart) → Passes h n (run_over_records x k count harts)
 over_passes GoesOn h n k count harts = tt
 over_passes (NewInterval r y) h n k count harts = tt
 over_passes (HartOver r y) h n k count harts = tt
 over_passes (RunOver r y) h n k count harts = stopped_passes count h n k 0 harts
 
-pub turn_passes : (h n k : ℕ) (point : Option Point) (points : List Point) (o : Option Warm) (skipped word : ℕ) (r : Reply) (x : Next) (number : ℕ) (s : HartState)
+pub turn_passes : (h n k : ℕ) (point : Option Point) (points : List Point) (o : Option Warm) (skipped word : ℕ) (r : Reply) (x : TurnEnd) (number : ℕ) (s : HartState)
     (count : ℕ) (harts : ℕ → Hart)
     → Passes h n (next_records x k number s) → Passes h n (turn_records k point points o skipped word r x number s count harts)
 turn_passes h n k point points o skipped word r x number s count harts p =

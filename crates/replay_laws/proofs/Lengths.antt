@@ -16,8 +16,8 @@ use Rattle.system_calls.specs.declared.effect.Plan.{Plan}
 use Rattle.system_calls.specs.declared.effect.Plan.TheVariants as plans
 use Rattle.rv_meaning.specs.Rows.{row_of}
 use Rattle.run_model.specs.declared.hart.Hart.{Hart}
-use Rattle.run_model.specs.declared.next.Next.{Next}
-use Rattle.run_model.specs.declared.next.Next.TheVariants.{GoesOn, NewInterval, HartOver, RunOver}
+use Rattle.run_model.specs.declared.turn_end.TurnEnd.{TurnEnd}
+use Rattle.run_model.specs.declared.turn_end.TurnEnd.TheVariants.{GoesOn, NewInterval, HartOver, RunOver}
 use Rattle.run_model.specs.Machine.{Machine, answer_call, planned}
 use Rattle.run_model.specs.Turn.{Run, ask_at, budget, after_call, counted}
 use Rattle.run_model.specs.Rows.{quiet_rows, want_rows, quiet_part, turn_rows}
@@ -47,13 +47,13 @@ quiet_count c i h (suc n) s z b = quiet_at c i h n s (step i s) z refl b (λ t g
 -- ---- the row of the ask
 
 -- how many rows the end of an interval adds to its counts
-abbrev pub extra : Next → ℕ
+abbrev pub extra : TurnEnd → ℕ
 extra GoesOn = 0
 extra (NewInterval r x) = rows_at_end r
 extra (HartOver r x) = rows_at_end r
 extra (RunOver r x) = rows_at_end r
 
-counted_if : (x y : Bool) → extra (elim x as (λ z. Next) [ true ↦ HartOver 7 0 | false ↦ elim y as (λ z. Next) [ true ↦ NewInterval 1 0 | false ↦ GoesOn ] ]) ≡ 0
+counted_if : (x y : Bool) → extra (elim x as (λ z. TurnEnd) [ true ↦ HartOver 7 0 | false ↦ elim y as (λ z. TurnEnd) [ true ↦ NewInterval 1 0 | false ↦ GoesOn ] ]) ≡ 0
 counted_if true y = refl
 counted_if false true = refl
 counted_if false false = refl

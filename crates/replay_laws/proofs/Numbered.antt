@@ -15,8 +15,8 @@ use Rattle.rv_meaning.specs.declared.asks.Want.TheVariants.{Load, Store, LoadRes
 use Rattle.rv_meaning.specs.declared.asks.Reply.{Reply}
 use Rattle.rv_meaning.specs.Rows.{row_of}
 use Rattle.run_model.specs.declared.hart.Hart.{Hart}
-use Rattle.run_model.specs.declared.next.Next.{Next}
-use Rattle.run_model.specs.declared.next.Next.TheVariants.{GoesOn, NewInterval, HartOver, RunOver}
+use Rattle.run_model.specs.declared.turn_end.TurnEnd.{TurnEnd}
+use Rattle.run_model.specs.declared.turn_end.TurnEnd.TheVariants.{GoesOn, NewInterval, HartOver, RunOver}
 use Rattle.run_model.specs.Turn.{Run, budget}
 use Rattle.run_model.specs.Rows.{quiet_rows, want_rows}
 use Rattle.replay_laws.proofs.Asked.{reply_to}
@@ -106,7 +106,7 @@ last_numbered c i guard h ks run z f dead l =
     let is : served_all c i run (Moves guard h ∷ ks) h ≡ rows = all_own c i guard run ks h ∙ (ap (λ x. rows ++ x) (dead_all c i h ks (moved_run c i guard run h) dead l) ∙ append-nil rows) in
     subst (Numbered (run.harts h).state.ic) (sym is) (turn_numbered c i guard run h z f)
 
-own_numbered : (n : Next) (c : RawSettings) (i : Program) (guard : Bool) (h : ℕ) (ks : List Move) (run : Run) → Sound c i → Fit c (run.harts h) → IsServed c i (moved_run c i guard run h) ks
+own_numbered : (n : TurnEnd) (c : RawSettings) (i : Program) (guard : Bool) (h : ℕ) (ks : List Move) (run : Run) → Sound c i → Fit c (run.harts h) → IsServed c i (moved_run c i guard run h) ks
     → next_by c i guard run h ≡ n → (Fit c ((moved_run c i guard run h).harts h) → Goal c i h ks (moved_run c i guard run h)) → Goal c i h (Moves guard h ∷ ks) run
 own_numbered GoesOn c i guard h ks run z f l e rest =
     goes_numbered c i guard h ks run z f (ap (λ (x : Hart). x.state) (own_harts c i guard run h GoesOn e)) (ap extra e) (rest (own_fit c i guard run h z e f))
@@ -116,7 +116,7 @@ own_numbered (NewInterval r x) c i guard h ks run z f l e rest =
 own_numbered (HartOver r x) c i guard h ks run z f l e rest = last_numbered c i guard h ks run z f (ap (λ (y : Hart). y.live) (own_harts c i guard run h (HartOver r x) e)) l
 own_numbered (RunOver r x) c i guard h ks run z f l e rest = last_numbered c i guard h ks run z f (ap (λ (y : Hart). y.live) (own_harts c i guard run h (RunOver r x) e)) l
 
-other_numbered : (n : Next) (c : RawSettings) (i : Program) (guard : Bool) (h k : ℕ) (ks : List Move) (run : Run) → Fit c (run.harts h) → IsServed c i (moved_run c i guard run k) ks
+other_numbered : (n : TurnEnd) (c : RawSettings) (i : Program) (guard : Bool) (h k : ℕ) (ks : List Move) (run : Run) → Fit c (run.harts h) → IsServed c i (moved_run c i guard run k) ks
     → (k == h) ≡ false
     → (h == k) ≡ false → next_by c i guard run k ≡ n → (Fit c ((moved_run c i guard run k).harts h) → Goal c i h ks (moved_run c i guard run k)) → Goal c i h (Moves guard k ∷ ks) run
 other_numbered n c i guard h k ks run f l p q e rest = subst (Numbered (run.harts h).state.ic) (sym (all_skip c i guard run ks h k p)) (by_next n e)
@@ -124,7 +124,7 @@ other_numbered n c i guard h k ks run f l p q e rest = subst (Numbered (run.hart
     left : (moved_run c i guard run k).harts h ≡ run.harts h → Numbered (run.harts h).state.ic (served_all c i (moved_run c i guard run k) ks h)
     left is = subst (λ (x : Hart). Numbered x.state.ic (served_all c i (moved_run c i guard run k) ks h)) is (rest (subst (λ (x : Hart). Fit c x) (sym is) f))
 
-    by_next : (y : Next) → next_by c i guard run k ≡ y → Numbered (run.harts h).state.ic (served_all c i (moved_run c i guard run k) ks h)
+    by_next : (y : TurnEnd) → next_by c i guard run k ≡ y → Numbered (run.harts h).state.ic (served_all c i (moved_run c i guard run k) ks h)
     by_next GoesOn d = left (other_harts c i guard run h k GoesOn d q)
     by_next (NewInterval r x) d = left (other_harts c i guard run h k (NewInterval r x) d q)
     by_next (HartOver r x) d = left (other_harts c i guard run h k (HartOver r x) d q)

@@ -23,8 +23,8 @@ use Rattle.rv_meaning.specs.Rows.{known, fault_row}
 use Rattle.hart_replay.specs.Replay.{Interval, Position, Logged, Replayed, puts, steps, onto}
 use Rattle.hart_replay.specs.Replay.{Done}
 use Rattle.run_model.specs.declared.hart.Hart.{Hart}
-use Rattle.run_model.specs.declared.next.Next.{Next}
-use Rattle.run_model.specs.declared.next.Next.TheVariants.{GoesOn, NewInterval, HartOver, RunOver}
+use Rattle.run_model.specs.declared.turn_end.TurnEnd.{TurnEnd}
+use Rattle.run_model.specs.declared.turn_end.TurnEnd.TheVariants.{GoesOn, NewInterval, HartOver, RunOver}
 use Rattle.run_model.specs.Turn.{Run, ask_at, by_guard, cleared, budget, loading, warmth, word_before, load_record, sc_record, hart_after}
 use Rattle.run_model.specs.Rows.{turn_rows, quiet_rows, want_rows, reply_at}
 use Rattle.replay_laws.proofs.Agree.{Agrees, agrees_other}
@@ -100,7 +100,7 @@ other_ends c i guard h k ks run v lo co rows called p e g l o =
     (sym (rows_skip c i guard run ks h k (run.harts h).number (false_and (k == h) ((run.harts h).number == (run.harts h).number) p) ∙ dead_rows c i h
     (run.harts h).number ks (moved_run c i guard run k) e l)))
 
-other_turn : (n : Next) (c : RawSettings) (i : Program) (guard : Bool) (h k : ℕ) (ks : List Move) (run : Run) (v : Interval) (lo co : ℕ) (rows : List Row) (called : Bool)
+other_turn : (n : TurnEnd) (c : RawSettings) (i : Program) (guard : Bool) (h k : ℕ) (ks : List Move) (run : Run) (v : Interval) (lo co : ℕ) (rows : List Row) (called : Bool)
     → next_by c i guard run k ≡ n → (k == h) ≡ false → (h == k) ≡ false → h < c.harts → IsServed c i (moved_run c i guard run k) ks → Inv c i run (Moves guard k ∷ ks) h v lo co rows
     → AllSuffice c i (moved_run c i guard run k) ks h v → Suffices c i run (Moves guard k ∷ ks) h v lo co rows called
 other_turn (RunOver r x) c i guard h k ks run v lo co rows called e p q b l o rest =
@@ -152,7 +152,7 @@ own_way : (c : RawSettings) (i : Program) (h : ℕ) (run : Run) (v : Interval) (
 own_way c i h run v lo co rows called z f =
     (way c i h v (budget c (run.harts h)) (place (run.harts h) lo co rows called) z (let w = f.within in let b = z.limit in omega (arith, w, b))).0
 
-abbrev TurnDone : RawSettings → Program → ℕ → List Move → Run → Interval → ℕ → ℕ → List Row → Bool → Next → Type 0
+abbrev TurnDone : RawSettings → Program → ℕ → List Move → Run → Interval → ℕ → ℕ → List Row → Bool → TurnEnd → Type 0
 TurnDone c i h ks run v lo co rows called n =
     Turned i h v (place (run.harts h) lo co rows called) (next_state c i run h) (turn_rows c i run h)
     (touched_to c i run.machine h (want_at c i run h) (asked_at c i run h)) (served_turn c i run h).machine.memory (skip_next c i run h) n (log_from c i (served_turn c i run h) ks h)
@@ -200,7 +200,7 @@ own_ends c i guard h ks run v lo co rows called e g = g ∙ ap (λ x. done_with 
 abbrev Later : RawSettings → Program → ℕ → List Move → Run → Type 0
 Later c i h ks r = Fit c (r.harts h) → Coming (r.harts h) (log_from c i r ks h)
 
-own_plain : (n : Next) (c : RawSettings) (i : Program) (h : ℕ) (ks : List Move) (run : Run) (v : Interval) (lo co : ℕ) (rows : List Row) (called : Bool) → Sound c i
+own_plain : (n : TurnEnd) (c : RawSettings) (i : Program) (h : ℕ) (ks : List Move) (run : Run) (v : Interval) (lo co : ℕ) (rows : List Row) (called : Bool) → Sound c i
     → next_at c i run h ≡ n → IsServed c i (served_turn c i run h) ks → Later c i h ks (served_turn c i run h) → Inv c i run (Moves false h ∷ ks) h v lo co rows
     → TurnDone c i h ks run v lo co rows called n → AllSuffice c i (served_turn c i run h) ks h v → Suffices c i run (Moves false h ∷ ks) h v lo co rows called
 own_plain GoesOn c i h ks run v lo co rows called z e l w o d rest = own_goes c i h ks run v lo co rows called z e (w (own_fit c i false run h z e o.fit)) o d rest
@@ -221,7 +221,7 @@ own_plain (RunOver r x) c i h ks run v lo co rows called z e l w o d rest =
     (end_turn i h v (place (run.harts h) lo co rows called) (next_state c i run h) (turn_rows c i run h) _ _ (skip_next c i run h) (RunOver r x) r x
     (log_from c i (served_turn c i run h) ks h) d refl (λ b y. y))
 
-own_ahead : (n : Next) (c : RawSettings) (i : Program) (h : ℕ) (ks : List Move) (run : Run) → Sound c i → Fit c (run.harts h) → next_at c i run h ≡ n
+own_ahead : (n : TurnEnd) (c : RawSettings) (i : Program) (h : ℕ) (ks : List Move) (run : Run) → Sound c i → Fit c (run.harts h) → next_at c i run h ≡ n
     → Later c i h ks (served_turn c i run h) → Ahead (skip_next c i run h) (end_log n (next_state c i run h) (log_from c i (served_turn c i run h) ks h)).loads
 own_ahead GoesOn c i h ks run z f e w =
     (subst (λ (y : Hart). Coming y (log_from c i (served_turn c i run h) ks h)) (own_harts c i false run h GoesOn e) (w (own_fit c i false run h z e f))).0

@@ -18,8 +18,8 @@ use Rattle.first_load_bits.specs.Events.{Geometry, Event, word_of}
 use Rattle.first_load_bits.specs.Stands.{geometry_of}
 use Rattle.first_load_bits.specs.Warm.{warm}
 use Rattle.run_model.specs.declared.span.Span.{Span}
-use Rattle.run_model.specs.declared.next.Next.{Next}
-use Rattle.run_model.specs.declared.next.Next.TheVariants.{GoesOn}
+use Rattle.run_model.specs.declared.turn_end.TurnEnd.{TurnEnd}
+use Rattle.run_model.specs.declared.turn_end.TurnEnd.TheVariants.{GoesOn}
 use Rattle.run_model.specs.Machine.{Machine, answer_sc, call_of, is_reserved}
 use Rattle.run_model.specs.Turn.{Run, ask_at, own_events, other_events, events_after, sc_span}
 use Rattle.replay_laws.proofs.Agree.{Agrees, Spared, Unwritten, Outside, warm_touch, warm_dropped, not_equal, spared}
@@ -77,10 +77,10 @@ own_spared None (Some s) g b es one own p e = (apart_spared s.mode s.first s.cou
 own_spared (Some plan) (Some s) g b es one own p e = warm_dropped g s b es e
 
 -- the history of the hart whose turn it is, where it goes on
-own_history : (n : Next) (k : ℕ) (call : Option Plan) (o : Option Span) (events : ℕ → List Event) → n ≡ GoesOn
+own_history : (n : TurnEnd) (k : ℕ) (call : Option Plan) (o : Option Span) (events : ℕ → List Event) → n ≡ GoesOn
     → events_after n k call o events k ≡ own_events call o (events k)
 own_history n k call o events e =
-    subst (λ (x : Next). events_after x k call o events k ≡ own_events call o (events k)) (sym e)
+    subst (λ (x : TurnEnd). events_after x k call o events k ≡ own_events call o (events k)) (sym e)
     (ap (λ x. elim x as (λ y. List Event) [ true ↦ own_events call o (events k) | false ↦ other_events o (events k) ]) (eq-eqb k k refl))
 
 learned_at : (t : Option ℕ) (m : ℕ → ℕ) (known : ℕ → Option ℕ) (b : ℕ) → (Apart t b → known b ≡ Some (m b)) → learned t m known b ≡ Some (m b)

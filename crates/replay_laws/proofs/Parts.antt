@@ -10,8 +10,8 @@ use Rattle.bn_base.specs.declared.row.Row.{Row}
 use Rattle.bn_base.specs.declared.settings.RawSettings.{RawSettings}
 use Rattle.hart_replay.specs.Replay.{Interval, Logged}
 use Rattle.run_model.specs.declared.hart.Hart.{Hart}
-use Rattle.run_model.specs.declared.next.Next.{Next}
-use Rattle.run_model.specs.declared.next.Next.TheVariants.{GoesOn, NewInterval, HartOver, RunOver}
+use Rattle.run_model.specs.declared.turn_end.TurnEnd.{TurnEnd}
+use Rattle.run_model.specs.declared.turn_end.TurnEnd.TheVariants.{GoesOn, NewInterval, HartOver, RunOver}
 use Rattle.run_model.specs.Turn.{Run}
 use Rattle.replay_laws.specs.Law.{rows_at_end, end_of}
 use Rattle.replay_laws.proofs.Begins.{Begins}
@@ -47,22 +47,22 @@ left_ended c i guard h ks run z f none e =
     now ∙ (e ∙ ap mark_end (sym (own_mark c i guard run ks h)))
 
 -- the end of an interval, by what comes next
-abbrev Ended : Next → Type 0
+abbrev Ended : TurnEnd → Type 0
 Ended GoesOn = false ≡ true
 Ended n = Unit {0}
 
-end_is : (n : Next) (c : RawSettings) (i : Program) (guard : Bool) (run : Run) (ks : List Move) (h : ℕ) → next_by c i guard run h ≡ n → Ended n
+end_is : (n : TurnEnd) (c : RawSettings) (i : Program) (guard : Bool) (run : Run) (ks : List Move) (h : ℕ) → next_by c i guard run h ≡ n → Ended n
     → (state_by c i guard run h).ic + extra (next_by c i guard run h) ≡ mark_end (end_log (next_by c i guard run h) (state_by c i guard run h) (log_from c i (moved_run c i guard run h) ks h)).mark
 end_is n c i guard run ks h e d =
-    subst (λ (x : Next). (state_by c i guard run h).ic + extra x ≡ mark_end (end_log x (state_by c i guard run h) (log_from c i (moved_run c i guard run h) ks h)).mark) (sym e) (by n d)
+    subst (λ (x : TurnEnd). (state_by c i guard run h).ic + extra x ≡ mark_end (end_log x (state_by c i guard run h) (log_from c i (moved_run c i guard run h) ks h)).mark) (sym e) (by n d)
   where
-    by : (n : Next) → Ended n → (state_by c i guard run h).ic + extra n ≡ mark_end (end_log n (state_by c i guard run h) (log_from c i (moved_run c i guard run h) ks h)).mark
+    by : (n : TurnEnd) → Ended n → (state_by c i guard run h).ic + extra n ≡ mark_end (end_log n (state_by c i guard run h) (log_from c i (moved_run c i guard run h) ks h)).mark
     by GoesOn d = absurd (false≢true d)
     by (NewInterval r x) d = refl
     by (HartOver r x) d = refl
     by (RunOver r x) d = refl
 
-left_own : (n : Next) (c : RawSettings) (i : Program) (guard : Bool) (h : ℕ) (ks : List Move) (run : Run) → Sound c i → Fit c (run.harts h) → IsServed c i (moved_run c i guard run h) ks
+left_own : (n : TurnEnd) (c : RawSettings) (i : Program) (guard : Bool) (h : ℕ) (ks : List Move) (run : Run) → Sound c i → Fit c (run.harts h) → IsServed c i (moved_run c i guard run h) ks
     → next_by c i guard run h ≡ n → (Fit c ((moved_run c i guard run h).harts h) → Left c i h ks (moved_run c i guard run h)) → Left c i h (Moves guard h ∷ ks) run
 left_own GoesOn c i guard h ks run z f l e rest =
     let is = own_harts c i guard run h GoesOn e in
@@ -90,7 +90,7 @@ left_own (RunOver r x) c i guard h ks run z f l e rest =
     left_ended c i guard h ks run z f (dead_rows c i h (run.harts h).number ks (moved_run c i guard run h) (ap (λ (y : Hart). y.live) (own_harts c i guard run h (RunOver r x) e)) l)
     (end_is (RunOver r x) c i guard run ks h e tt)
 
-left_other : (n : Next) (c : RawSettings) (i : Program) (guard : Bool) (h k : ℕ) (ks : List Move) (run : Run) → (k == h) ≡ false → (h == k) ≡ false → h < c.harts → Fit c (run.harts h)
+left_other : (n : TurnEnd) (c : RawSettings) (i : Program) (guard : Bool) (h k : ℕ) (ks : List Move) (run : Run) → (k == h) ≡ false → (h == k) ≡ false → h < c.harts → Fit c (run.harts h)
     → IsServed c i (moved_run c i guard run k) ks → next_by c i guard run k ≡ n → (Fit c ((moved_run c i guard run k).harts h) → Left c i h ks (moved_run c i guard run k)) → Left c i h (Moves guard k ∷ ks) run
 left_other n c i guard h k ks run p q b f l e rest = by_next n e
   where
@@ -107,7 +107,7 @@ left_other n c i guard h k ks run p q b f l e rest = by_next n e
         (rest (subst (λ (y : Hart). Fit c y) (sym is) f)) in
         ap (λ x. t.state.ic + length x) skip ∙ (r ∙ ap (λ (y : Logged). mark_end y.mark) (sym log))
 
-    by_next : (y : Next) → next_by c i guard run k ≡ y → Left c i h (Moves guard k ∷ ks) run
+    by_next : (y : TurnEnd) → next_by c i guard run k ≡ y → Left c i h (Moves guard k ∷ ks) run
     by_next GoesOn d = same (other_harts c i guard run h k GoesOn d q) (other_turn_log c i guard run ks h k GoesOn d p q f.live b)
     by_next (NewInterval r x) d = same (other_harts c i guard run h k (NewInterval r x) d q) (other_turn_log c i guard run ks h k (NewInterval r x) d p q f.live b)
     by_next (HartOver r x) d = same (other_harts c i guard run h k (HartOver r x) d q) (other_turn_log c i guard run ks h k (HartOver r x) d p q f.live b)

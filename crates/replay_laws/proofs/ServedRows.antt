@@ -7,8 +7,8 @@ use Rattle.bn_base.specs.Programs.{Program}
 use Rattle.bn_base.specs.declared.row.Row.{Row}
 use Rattle.bn_base.specs.declared.settings.RawSettings.{RawSettings}
 use Rattle.run_model.specs.declared.hart.Hart.{Hart}
-use Rattle.run_model.specs.declared.next.Next.{Next}
-use Rattle.run_model.specs.declared.next.Next.TheVariants.{GoesOn, NewInterval, HartOver, RunOver}
+use Rattle.run_model.specs.declared.turn_end.TurnEnd.{TurnEnd}
+use Rattle.run_model.specs.declared.turn_end.TurnEnd.TheVariants.{GoesOn, NewInterval, HartOver, RunOver}
 use Rattle.run_model.specs.Turn.{Run, other_after}
 use Rattle.replay_laws.proofs.Agree.{not_equal}
 use Rattle.replay_laws.proofs.Coming.{IsServed, equal_flip}
@@ -61,7 +61,7 @@ all_own c i guard run ks h = ap (λ x. rows_if x (rows_by c i guard run h) (serv
 
 -- ---- the number of a hart's interval never falls
 
-number_own : (n : Next) (c : RawSettings) (i : Program) (guard : Bool) (run : Run) (h : ℕ) → next_by c i guard run h ≡ n → (run.harts h).number ≤ ((moved_run c i guard run h).harts h).number
+number_own : (n : TurnEnd) (c : RawSettings) (i : Program) (guard : Bool) (run : Run) (h : ℕ) → next_by c i guard run h ≡ n → (run.harts h).number ≤ ((moved_run c i guard run h).harts h).number
 number_own GoesOn c i guard run h e = subst (λ (x : Hart). (run.harts h).number ≤ x.number) (sym (own_harts c i guard run h GoesOn e)) (omega arith)
 number_own (NewInterval r x) c i guard run h e = subst (λ (y : Hart). (run.harts h).number ≤ y.number) (sym (own_harts c i guard run h (NewInterval r x) e)) (omega arith)
 number_own (HartOver r x) c i guard run h e = subst (λ (y : Hart). (run.harts h).number ≤ y.number) (sym (own_harts c i guard run h (HartOver r x) e)) (omega arith)
@@ -79,7 +79,7 @@ stopped_live : (x : Bool) (t : Hart) → t.live ≡ x → (stopped_if x t).live 
 stopped_live true t e = refl
 stopped_live false t e = e
 
-pub number_of : (n : Next) (t : Hart) → (other_after n t).number ≡ t.number
+pub number_of : (n : TurnEnd) (t : Hart) → (other_after n t).number ≡ t.number
 number_of GoesOn t = refl
 number_of (NewInterval r x) t = refl
 number_of (HartOver r x) t = refl
@@ -104,7 +104,7 @@ gone_rows c i h n (Moves guard k ∷ ks) run b =
 pub over_live : (r x : ℕ) (t : Hart) → (other_after (RunOver r x) t).live ≡ false
 over_live r x t = stopped_live t.live t refl
 
-pub dead_of : (n : Next) (t : Hart) → t.live ≡ false → (other_after n t).live ≡ false
+pub dead_of : (n : TurnEnd) (t : Hart) → t.live ≡ false → (other_after n t).live ≡ false
 dead_of GoesOn t e = e
 dead_of (NewInterval r x) t e = e
 dead_of (HartOver r x) t e = e

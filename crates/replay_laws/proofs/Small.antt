@@ -8,21 +8,21 @@ use Rattle.rv_meaning.specs.declared.asks.Want.TheVariants.{Load, Store, LoadRes
 use Rattle.system_calls.specs.declared.effect.Plan.{Plan}
 use Rattle.system_calls.specs.declared.effect.Plan.TheVariants as plans
 use Rattle.run_model.specs.declared.hart.Hart.{Hart}
-use Rattle.run_model.specs.declared.next.Next.{Next}
-use Rattle.run_model.specs.declared.next.Next.TheVariants.{GoesOn, NewInterval, HartOver, RunOver}
+use Rattle.run_model.specs.declared.turn_end.TurnEnd.{TurnEnd}
+use Rattle.run_model.specs.declared.turn_end.TurnEnd.TheVariants.{GoesOn, NewInterval, HartOver, RunOver}
 use Rattle.run_model.specs.Machine.{Machine, answer_call, planned}
 use Rattle.run_model.specs.Turn.{Run, after_call, counted}
 use Rattle.replay_laws.proofs.Asked.{next_to}
 use Rattle.replay_laws.proofs.Counts.{want_at, asked_at, next_by}
 
 -- what comes next is no new interval, or one for such a reason
-abbrev Small : Next → Type 0
+abbrev Small : TurnEnd → Type 0
 Small (NewInterval r x) = nat_lt 16 r ≡ false
 Small GoesOn = Unit {0}
 Small (HartOver r x) = Unit {0}
 Small (RunOver r x) = Unit {0}
 
-counted_if : (x y : Bool) → Small (elim x as (λ z. Next) [ true ↦ HartOver 7 0 | false ↦ elim y as (λ z. Next) [ true ↦ NewInterval 1 0 | false ↦ GoesOn ] ])
+counted_if : (x y : Bool) → Small (elim x as (λ z. TurnEnd) [ true ↦ HartOver 7 0 | false ↦ elim y as (λ z. TurnEnd) [ true ↦ NewInterval 1 0 | false ↦ GoesOn ] ])
 counted_if true y = tt
 counted_if false true = refl
 counted_if false false = tt

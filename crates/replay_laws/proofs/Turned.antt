@@ -25,8 +25,8 @@ use Rattle.rv_meaning.specs.Rows.{known, fault_row}
 use Rattle.hart_replay.specs.Replay.{Interval, Position, Logged, puts, steps, onto}
 use Rattle.hart_replay.specs.Replay.{Done}
 use Rattle.run_model.specs.declared.hart.Hart.{Hart}
-use Rattle.run_model.specs.declared.next.Next.{Next}
-use Rattle.run_model.specs.declared.next.Next.TheVariants.{GoesOn, NewInterval, HartOver}
+use Rattle.run_model.specs.declared.turn_end.TurnEnd.{TurnEnd}
+use Rattle.run_model.specs.declared.turn_end.TurnEnd.TheVariants.{GoesOn, NewInterval, HartOver}
 use Rattle.run_model.specs.Machine.{Machine, answer_call, call_of, planned}
 use Rattle.run_model.specs.Turn.{counted, next_of, after_call, warmth, word_before, load_record, loading, sc_record, skipped_after}
 use Rattle.run_model.specs.Rows.{want_rows}
@@ -42,7 +42,7 @@ use Rattle.replay_laws.proofs.Way.{Sound, Way, moved}
 
 -- from p the replay has gone through a turn, with rows rs, to state t; the word at tc was touched, and m2 is the memory
 -- after the turn
-pub record Turned (i : Program) (h : ℕ) (v : Interval) (p : Position) (t : HartState) (rs : List Row) (tc : Option ℕ) (m2 : ℕ → ℕ) (sk : ℕ) (n : Next) (l : Logged) : Type 0 where
+pub record Turned (i : Program) (h : ℕ) (v : Interval) (p : Position) (t : HartState) (rs : List Row) (tc : Option ℕ) (m2 : ℕ → ℕ) (sk : ℕ) (n : TurnEnd) (l : Logged) : Type 0 where
   pub next : Position
   pub on : (m : ℕ) → steps i h v (t.ic - p.state.ic + m) p ≡ steps i h v m next
   pub state : next.state ≡ t
@@ -56,7 +56,7 @@ learned_same None m2 f g b e = e
 learned_same (Some a) m2 f g b e = ap (λ x. cond (b == a) (Some (m2 a)) x) e
 
 -- the way to an ask, and its step
-join : (i : Program) (h : ℕ) (v : Interval) (p : Position) (s : HartState) (qs : List Row) (w : Want) (m m2 : ℕ → ℕ) (r : Reply) (tc : Option ℕ) (sk : ℕ) (n : Next)
+join : (i : Program) (h : ℕ) (v : Interval) (p : Position) (s : HartState) (qs : List Row) (w : Want) (m m2 : ℕ → ℕ) (r : Reply) (tc : Option ℕ) (sk : ℕ) (n : TurnEnd)
     (l : Logged) (wy : Way i h v p s qs) (st : Stepped i h v (moved p s wy.rows_now wy.called_now) w m m2 r tc sk (end_log n (absorbed (asking w s) r) l))
     → (absorbed (asking w s) r).ic ≡ s.ic + 1 → Fine n st.next.called
     → Turned i h v p (absorbed (asking w s) r) (qs ++ want_rows h i m w s (absorbed (asking w s) r) r) tc m2 sk n l
@@ -73,7 +73,7 @@ join i h v p s qs w m m2 r tc sk n l wy st up fine =
       fine = fine;
     }
 
-counted_fine_if : (x y b : Bool) → Fine (elim x as (λ z. Next) [ true ↦ HartOver 7 0 | false ↦ elim y as (λ z. Next) [ true ↦ NewInterval 1 0 | false ↦ GoesOn ] ]) b
+counted_fine_if : (x y b : Bool) → Fine (elim x as (λ z. TurnEnd) [ true ↦ HartOver 7 0 | false ↦ elim y as (λ z. TurnEnd) [ true ↦ NewInterval 1 0 | false ↦ GoesOn ] ]) b
 counted_fine_if true y b = (refl, refl)
 counted_fine_if false true b = (refl, refl)
 counted_fine_if false false b = tt
@@ -110,7 +110,7 @@ memory_turn w c i m h t s es v p qs l wy e b o =
     let st = memory_step w c i h v (moved p s wy.rows_now wy.called_now) s m t.skipped es (left_log c i m h t w s l) e o in
     let up : (state_after c i m h w s).ic ≡ count_up s.ic = memory_counts w c i m h s e in
     let fine : Fine (next_to c i m h t w s) st.next.called =
-    subst (λ (x : Next). Fine x st.next.called) (sym (memory_next w c i m t (reply_to c i m h w s) (state_after c i m h w s).ic e))
+    subst (λ (x : TurnEnd). Fine x st.next.called) (sym (memory_next w c i m t (reply_to c i m h w s) (state_after c i m h w s).ic e))
     (counted_fine c t (state_after c i m h w s).ic st.next.called) in
     join i h v p s qs w m.memory (memory_after c i m h w s) (reply_to c i m h w s) (touched_to c i m h w s) (skipped_after (warmth c (loading w) es) t.skipped)
     (next_to c i m h t w s) l wy st (omega arith) fine
@@ -199,7 +199,7 @@ fault_turn f y i h t s v p qs wy e o =
     (none_left h v t.skipped (ended_at s.ic (16 + fault_number f) y) q o refl refl) ∙ ap (λ x. record { rows = x; outcome = Done }) (wy.rows (fault_row h i s f y ∷ []))))
 
 -- and any other end without one
-pub end_turn : (i : Program) (h : ℕ) (v : Interval) (p : Position) (t : HartState) (rs : List Row) (tc : Option ℕ) (m2 : ℕ → ℕ) (sk : ℕ) (n : Next) (r x : ℕ) (l : Logged)
+pub end_turn : (i : Program) (h : ℕ) (v : Interval) (p : Position) (t : HartState) (rs : List Row) (tc : Option ℕ) (m2 : ℕ → ℕ) (sk : ℕ) (n : TurnEnd) (r x : ℕ) (l : Logged)
     → Turned i h v p t rs tc m2 sk n l → end_log n t l ≡ ended_at t.ic r x → ((b : Bool) → Fine n b → Plain r b)
     → steps i h v (v.mark.ic - p.state.ic) p ≡ record { rows = onto p.rows (rs ++ []); outcome = Done }
 end_turn i h v p t rs tc m2 sk n r x l d e g =

@@ -15,8 +15,8 @@ use Rattle.log_record.specs.declared.record.Record.{Record}
 use Rattle.log_record.specs.declared.record.Record.TheVariants.{End}
 use Rattle.hart_replay.specs.Replay.{Logged, put, puts}
 use Rattle.run_model.specs.declared.hart.Hart.{Hart}
-use Rattle.run_model.specs.declared.next.Next.{Next}
-use Rattle.run_model.specs.declared.next.Next.TheVariants.{GoesOn, NewInterval, HartOver, RunOver}
+use Rattle.run_model.specs.declared.turn_end.TurnEnd.{TurnEnd}
+use Rattle.run_model.specs.declared.turn_end.TurnEnd.TheVariants.{GoesOn, NewInterval, HartOver, RunOver}
 use Rattle.run_model.specs.Turn.{edges_from, edge_records, load_record, sc_record, next_records, stopped_records, run_over_records, harts_after, other_after, mark}
 use Rattle.replay_laws.proofs.Step.{with_load, with_sc}
 
@@ -29,7 +29,7 @@ abbrev pub ended_at : ℕ → ℕ → ℕ → Logged
 ended_at ic reason value = record { loads = []; conditionals = []; mark = mark ic reason value }
 
 -- the records of hart k's turn, in their order
-abbrev pub turn_records : ℕ → Option Point → List Point → Option Warm → ℕ → ℕ → Reply → Next → ℕ → HartState → ℕ → (ℕ → Hart) → List Record
+abbrev pub turn_records : ℕ → Option Point → List Point → Option Warm → ℕ → ℕ → Reply → TurnEnd → ℕ → HartState → ℕ → (ℕ → Hart) → List Record
 turn_records k point points warmth skipped word reply next number s count harts =
     edge_records point points ++ (load_record warmth k skipped word ++ (sc_record reply k ++ (next_records next k number s ++ run_over_records next k count harts)))
 
@@ -61,7 +61,7 @@ sc_pass h k (replies.Answer x) l e = refl
 sc_pass h k replies.Went l e = refl
 sc_pass h k replies.Over l e = refl
 
-next_pass : (n : Next) (h k number : ℕ) (s : HartState) (l : Logged) → (k == h) ≡ false → puts h (next_records n k number s) l ≡ l
+next_pass : (n : TurnEnd) (h k number : ℕ) (s : HartState) (l : Logged) → (k == h) ≡ false → puts h (next_records n k number s) l ≡ l
 next_pass GoesOn h k number s l e = refl
 next_pass (NewInterval r x) h k number s l e = end_pass h k s.ic r x l e
 next_pass (HartOver r x) h k number s l e = end_pass h k s.ic r x l e
@@ -70,20 +70,20 @@ next_pass (RunOver r x) h k number s l e = end_pass h k s.ic r x l e
 -- ---- a hart's own turn
 
 -- what its records say after those of its ask
-abbrev pub end_log : Next → HartState → Logged → Logged
+abbrev pub end_log : TurnEnd → HartState → Logged → Logged
 end_log GoesOn s l = l
 end_log (NewInterval r x) s l = ended_at s.ic r x
 end_log (HartOver r x) s l = ended_at s.ic r x
 end_log (RunOver r x) s l = ended_at s.ic r x
 
-next_own : (n : Next) (h number : ℕ) (s : HartState) (l : Logged) (count : ℕ) (harts : ℕ → Hart)
+next_own : (n : TurnEnd) (h number : ℕ) (s : HartState) (l : Logged) (count : ℕ) (harts : ℕ → Hart)
     → puts h (next_records n h number s ++ run_over_records n h count harts) l ≡ end_log n s l
 next_own GoesOn h number s l count harts = refl
 next_own (NewInterval r x) h number s l count harts = end_own h s.ic r x l
 next_own (HartOver r x) h number s l count harts = end_own h s.ic r x l
 next_own (RunOver r x) h number s l count harts = end_own h s.ic r x (puts h (stopped_records h 0 count harts) l)
 
-pub own_log : (h : ℕ) (point : Option Point) (points : List Point) (o : Option Warm) (skipped word : ℕ) (r : Reply) (n : Next) (number : ℕ) (s : HartState) (count : ℕ)
+pub own_log : (h : ℕ) (point : Option Point) (points : List Point) (o : Option Warm) (skipped word : ℕ) (r : Reply) (n : TurnEnd) (number : ℕ) (s : HartState) (count : ℕ)
     (harts : ℕ → Hart) (l : Logged)
     → puts h (turn_records h point points o skipped word r n number s count harts) l ≡ puts h (load_record o h skipped word) (puts h (sc_record r h) (end_log n s l))
 own_log h point points o skipped word r n number s count harts l =
@@ -118,18 +118,18 @@ stopped_log (suc n) h own k harts l e a f g = elim (eqb_tells k h) [
 ]
 
 -- what another hart's turn says to h
-abbrev pub other_log : Next → Hart → Logged → Logged
+abbrev pub other_log : TurnEnd → Hart → Logged → Logged
 other_log (RunOver r x) t l = ended_at t.state.ic 5 0
 other_log n t l = l
 
-over_pass : (n : Next) (h k count : ℕ) (harts : ℕ → Hart) (l : Logged) → (h == k) ≡ false → (harts h).live ≡ true → h < count
+over_pass : (n : TurnEnd) (h k count : ℕ) (harts : ℕ → Hart) (l : Logged) → (h == k) ≡ false → (harts h).live ≡ true → h < count
     → puts h (run_over_records n k count harts) l ≡ other_log n (harts h) l
 over_pass GoesOn h k count harts l e a g = refl
 over_pass (NewInterval r x) h k count harts l e a g = refl
 over_pass (HartOver r x) h k count harts l e a g = refl
 over_pass (RunOver r x) h k count harts l e a g = stopped_log count h k 0 harts l e a (omega arith) (omega arith)
 
-pub foreign_log : (h k : ℕ) (point : Option Point) (points : List Point) (o : Option Warm) (skipped word : ℕ) (r : Reply) (n : Next) (number : ℕ) (s : HartState)
+pub foreign_log : (h k : ℕ) (point : Option Point) (points : List Point) (o : Option Warm) (skipped word : ℕ) (r : Reply) (n : TurnEnd) (number : ℕ) (s : HartState)
     (count : ℕ) (harts : ℕ → Hart) (l : Logged)
     → (k == h) ≡ false → (h == k) ≡ false → (harts h).live ≡ true → h < count
     → puts h (turn_records k point points o skipped word r n number s count harts) l ≡ other_log n (harts h) l
@@ -149,8 +149,8 @@ foreign_log h k point points o skipped word r n number s count harts l e f live 
 
 -- ---- the harts after it
 
-pub own_hart : (n : Next) (h : ℕ) (t : Hart) (harts : ℕ → Hart) → harts_after n h t harts h ≡ t
+pub own_hart : (n : TurnEnd) (h : ℕ) (t : Hart) (harts : ℕ → Hart) → harts_after n h t harts h ≡ t
 own_hart n h t harts = ap (λ b. elim b as (λ y. Hart) [ true ↦ t | false ↦ other_after n (harts h) ]) (eq-eqb h h refl)
 
-pub foreign_hart : (n : Next) (h k : ℕ) (t : Hart) (harts : ℕ → Hart) → (h == k) ≡ false → harts_after n k t harts h ≡ other_after n (harts h)
+pub foreign_hart : (n : TurnEnd) (h k : ℕ) (t : Hart) (harts : ℕ → Hart) → (h == k) ≡ false → harts_after n k t harts h ≡ other_after n (harts h)
 foreign_hart n h k t harts e = ap (λ b. elim b as (λ y. Hart) [ true ↦ t | false ↦ other_after n (harts h) ]) e

@@ -10,7 +10,7 @@ use Rattle.first_load_bits.specs.Events.{Event}
 use Rattle.first_load_bits.specs.Events.{Clear}
 use Rattle.first_load_bits.specs.Stands.{geometry_of}
 use Rattle.first_load_bits.specs.Warm.{warm}
-use Rattle.run_model.specs.declared.next.Next.TheVariants.{GoesOn}
+use Rattle.run_model.specs.declared.turn_end.TurnEnd.TheVariants.{GoesOn}
 use Rattle.run_model.specs.Turn.{Run, turn, ask_at, is_guarded, is_orderly, guarded_run, budget}
 use Rattle.replay_laws.specs.Known.{Agrees, learned, touched_at, next_at, WarmWordsStayKnown}
 use Rattle.replay_laws.proofs.Agree.{agrees_past}

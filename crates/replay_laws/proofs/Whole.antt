@@ -13,11 +13,11 @@ use Rattle.rv_meaning.specs.Orderly.{is_cut, passes, orderly}
 use Rattle.rv_meaning.specs.declared.asks.Want.{Want}
 use Rattle.system_calls.specs.Laws.{ExitsAloneEnd}
 use Rattle.log_record.specs.declared.record.Record.{Record}
-use Rattle.log_record.specs.Kept.{kept}
+use Rattle.log_ring.specs.Kept.{kept}
 use Rattle.hart_replay.specs.Replay.{Interval, interval_of, interval_from, replayed_in}
 use Rattle.run_model.specs.declared.hart.Hart.{Hart}
-use Rattle.run_model.specs.declared.next.Next.{Next}
-use Rattle.run_model.specs.declared.next.Next.TheVariants.{GoesOn, NewInterval, HartOver, RunOver}
+use Rattle.run_model.specs.declared.turn_end.TurnEnd.{TurnEnd}
+use Rattle.run_model.specs.declared.turn_end.TurnEnd.TheVariants.{GoesOn, NewInterval, HartOver, RunOver}
 use Rattle.run_model.specs.Turn.{Run, other_after, turn, by_guard}
 use Rattle.run_model.specs.Files.{kept_of, IsEndOf}
 use Rattle.run_model.specs.Runs.{start, run_of, run_from, legal_from, any_live}
@@ -40,7 +40,7 @@ use Rattle.replay_laws.proofs.Way.{Sound}
 abbrev Early : RawSettings → Hart → Type 0
 Early c t = Fit c t ⊎ (t.live ≡ false)
 
-early_other : (n : Next) (c : RawSettings) (t : Hart) → Early c t → Early c (other_after n t)
+early_other : (n : TurnEnd) (c : RawSettings) (t : Hart) → Early c t → Early c (other_after n t)
 early_other (RunOver r x) c t e = inr (over_live r x t)
 early_other GoesOn c t e = e
 early_other (NewInterval r x) c t e = e
@@ -50,7 +50,7 @@ fit_live : (c : RawSettings) (t : Hart) → Early c t → t.live ≡ true → Fi
 fit_live c t (inl f) e = f
 fit_live c t (inr d) e = absurd (false≢true (sym d ∙ e))
 
-early_own : (n : Next) (c : RawSettings) (i : Program) (guard : Bool) (run : Run) (h : ℕ) → Sound c i → next_by c i guard run h ≡ n → Fit c (run.harts h)
+early_own : (n : TurnEnd) (c : RawSettings) (i : Program) (guard : Bool) (run : Run) (h : ℕ) → Sound c i → next_by c i guard run h ≡ n → Fit c (run.harts h)
     → Early c ((moved_run c i guard run h).harts h)
 early_own GoesOn c i guard run h z e f = inl (own_fit c i guard run h z e f)
 early_own (NewInterval y x) c i guard run h z e f = inl (begun_fit c i guard run h y x z e f)

@@ -2,7 +2,7 @@
 use Rattle.std.proofs.Common.{◌≡◌, [], ◌∷◌, map, Some, None, refl}
 use Rattle.le_numbers.specs.Numbers.{number_bytes}
 use Rattle.race_log.specs.Tests.{at_places, leads, any_below, before, edge, greatest_first, edges_into}
-use Rattle.log_record.specs.Kept.{kept}
+use Rattle.log_ring.specs.Kept.{kept}
 use Rattle.hart_replay.specs.Replay.{Done, Refused}
 use Rattle.hart_replay.specs.declared.error.ReplayError.TheVariants.{NoInterval}
 use Rattle.run_model.specs.Examples.{a_fault, a_filled_word, a_guarded_load, a_late_fault, a_late_fault_unguarded, row_of_a_fault}

@@ -1,4 +1,5 @@
--- What the last records of a run, as those that its log keeps, say of it.
+-- What the last records of a run, as those that its log keeps, say of it. They are any end of a run's records in whole records.
+-- The limit is below 2^63; the format is either.
 use Rattle.std.specs.Prelude.{ℕ, ◌≡◌, ◌⊎◌, ◌+◌, ◌-◌, ◌<◌, ◌^◌, nat_lt, true, List, [], ◌∷◌, ◌++◌, length, map, take, drop, Some, if◌then◌else◌}
 use Rattle.std.specs.List.{range_with_len}
 use Rattle.bn_base.specs.Programs.{Program}
@@ -18,14 +19,15 @@ pub record IsWhole (c : RawSettings) (i : Program) (input b : List ℕ) : Type 0
   pub legal : legal_from c i (start c i input) b ≡ true
   pub over : is_over c (run_of c i input b) ≡ true
 
--- Log sufficiency: for every list of turns that is legal and finished, every end of its stream, and every interval of a hart
--- whose Header stands there, the replay of that interval is done, and its rows are the recorded run's of that interval
+-- Log sufficiency: what is left of a log is enough to replay it. Take a list of turns that is legal and finished, an end of its
+-- stream, and an interval whose Header stands in that end. The replay of the interval is done, and its rows are the recorded
+-- run's of it
 abbrev pub EndsSuffice : Type 0
 EndsSuffice = (c : RawSettings) (i : Program) (input b : List ℕ) (h n : ℕ) → c.limit < 2 ^ 63 → IsWhole c i input b → (rs : List Record) → IsEndOf (run_of c i input b).stream rs
     → (v : Interval) → interval_of h n rs ≡ Some v
     → replayed i rs h n ≡ record { rows = rows_in c i (start c i input) b h n; outcome = Done }
 
--- so it is of what the log keeps
+-- so it is of what the log keeps, which is one such end
 abbrev pub LogSuffices : Type 0
 LogSuffices = (c : RawSettings) (i : Program) (input b : List ℕ) (h n : ℕ) → c.limit < 2 ^ 63 → IsWhole c i input b
     → (v : Interval) → interval_of h n (kept_of c (run_of c i input b)) ≡ Some v
@@ -60,8 +62,8 @@ pub record IsAtGuard (c : RawSettings) (i : Program) (run : Run) (left : List �
   pub state : s ≡ (ask_at c i (run.harts h)).state
   pub quiet : before ≡ quiet_part c i run h
 
--- where an interval begins in a list of turns: behind some of them, which lead its hart to the Header's state, or in the next
--- one, where its ask is guarded; from there on the interval's rows are the hart's first ones
+-- the point where an interval begins in a list of turns: behind some of them, which lead its hart to the Header's state, or in the next
+-- one, if its ask is guarded; from there on the interval's rows are the hart's first ones
 pub record BeginsIn (c : RawSettings) (i : Program) (input b : List ℕ) (h n : ℕ) (v : Interval) : Type 0 where
   pub past : List ℕ
   pub left : List ℕ

@@ -13,7 +13,7 @@ pub use examples::{
     a_fault_is_replayed, a_filled_word_is_loaded_again, a_guarded_load_is_replayed,
     a_late_fault_is_replayed, the_last_interval_is_replayed,
 };
-use log_record::keeping::a_suffix_is_kept;
+use log_ring::keeping::a_suffix_is_kept;
 use rv_meaning::{each_ask_is_orderly, each_instruction_is_counted_or_asks};
 use system_calls::exits_alone_end;
 

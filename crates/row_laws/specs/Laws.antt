@@ -24,13 +24,13 @@ use Rattle.row_laws.specs.Calls.{IsSendRow, AddsCall, HasCall}
 
 -- ---- states
 
--- Rows tell states: along the rows of a turn, from the hart's state before it, each row is that of the instruction at the state
--- reached, and the last state is the hart's after the turn
+-- Rows tell states. Along the rows of a turn, from the hart's state before it, each row is that of the instruction at the state
+-- reached. The last state is the hart's after the turn
 pub record RowsTellStates : Type 0 where
   pub each : (c : RawSettings) (i : Program) (run : Run) (h : ℕ) → AreRowsFrom h i (run.harts h).state (turn_rows c i run h)
   pub last : (c : RawSettings) (i : Program) (run : Run) (h : ℕ) → AsksOrderly c i run h → state_after i (run.harts h).state (turn_rows c i run h) ≡ ((turn c i run h).harts h).state
 
--- A register that a row writes has the row's contents in the state after it, where the hart has such a register
+-- A register that a row writes has the row's contents in the state after it, if the hart has such a register
 abbrev pub RowsTellRegisters : Type 0
 RowsTellRegisters = (c : RawSettings) (i : Program) (run : Run) (h : ℕ) (before : HartState) (r : Row) (q : ℕ × ℕ)
     → TurnHasRow c i run h before r → r.reg ≡ Some q → q.0 < length before.x → slice_index (after_row i before r).x q.0 ≡ q.1
@@ -51,13 +51,13 @@ abbrev pub TurnRowsAreRows : Type 0
 TurnRowsAreRows = (c : RawSettings) (i : Program) (input b : List ℕ) (h : ℕ) (before : HartState) (r : Row) → IsSetting c → legal_from c i (start c i input) b ≡ true
     → IsRowOfTurn c i input b h before r → RunHasRow c i input b h before r
 
--- Where an interval begins in the run, the rows of its hart before it lead to the Header's state
+-- If an interval begins in the run, the rows of its hart before it lead to the Header's state
 abbrev pub BeginningsTellStates : Type 0
 BeginningsTellStates = (c : RawSettings) (i : Program) (input b : List ℕ) (h n : ℕ) (v : Interval) (x : BeginsIn c i input b h n v)
     → state_after i ((run_of c i input x.past).harts h).state x.before ≡ v.start
 
--- So it is of the rows of an interval whose Header stands in an end of the records, from the Header's state on: the state that a
--- replay of the interval has before each row is the run's
+-- So it is of the rows of an interval whose Header stands in an end of the records, from the Header's state on. The state that
+-- a replay of the interval has before each row is the run's
 abbrev pub IntervalRowsAreOfTurns : Type 0
 IntervalRowsAreOfTurns = (c : RawSettings) (i : Program) (input b : List ℕ) (h n : ℕ) → IsSetting c → IsWhole c i input b
     → (rs : List Record) → IsEndOf (run_of c i input b).stream rs → (v : Interval) → interval_of h n rs ≡ Some v
@@ -65,8 +65,8 @@ IntervalRowsAreOfTurns = (c : RawSettings) (i : Program) (input b : List ℕ) (h
 
 -- ---- words
 
--- Rows tell words: where a row of a turn tells a word, memory has it after that turn, and the turn adds the point of the row's
--- hart and count that accesses this word alone, and writes it exactly where the row stores
+-- Rows tell words. If a row of a turn tells a word, memory has it after that turn. The turn adds the point of the row's hart
+-- and count that accesses this word alone, and writes it exactly if the row stores
 abbrev pub RowsTellWords : Type 0
 RowsTellWords = (c : RawSettings) (i : Program) (run : Run) (h : ℕ) (before : HartState) (r : Row) (a word : ℕ) → AsksOrderly c i run h
     → TurnHasRow c i run h before r → word_told r a ≡ Some word
@@ -99,7 +99,7 @@ abbrev pub RunWritersHaveRows : Type 0
 RunWritersHaveRows = (c : RawSettings) (i : Program) (input b : List ℕ) (m : ℕ) (p : Point) (a : ℕ) → IsSetting c → HasCodeWords i → legal_from c i (start c i input) b ≡ true
     → slice_get (run_of c i input b).points m ≡ Some p → Writes a p → HasWriterRow c i input b p a
 
--- The code words of a program have 32 bits where those of its segments have
+-- The code words of a program have 32 bits if those of its segments have
 abbrev pub PartsHaveCodeWords : Type 0
 PartsHaveCodeWords = (i : Program) → AllByRecursion (λ p. AllByRecursion (λ w. w < 2 ^ 32) p.words) i.parts → HasCodeWords i
 

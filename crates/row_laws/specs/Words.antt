@@ -12,7 +12,7 @@ use Rattle.run_model.specs.Runs.{run_of}
 abbrev pub word_told : Row → ℕ → Option ℕ
 word_told r a = at_address a r.store (at_address a r.load None)
 
--- the point of hart h's row that tells the word at a: it accesses that word alone, and writes it where the row stores
+-- the point of hart h's row that tells the word at a: it accesses that word alone, and writes it if the row stores
 abbrev pub word_point : (h turn : ℕ) → Row → ℕ → Point
 word_point h turn r a = record { hart = h; count = r.ic; turn = turn; accesses = record { word = a; writes = is_some r.store } ∷ [] }
 

@@ -22,8 +22,8 @@ use Rattle.log_record.specs.declared.record.Record.{Record}
 use Rattle.log_record.specs.declared.record.Record.TheVariants.{End}
 use Rattle.log_record.specs.Spelling.{total}
 use Rattle.run_model.specs.declared.hart.Hart.{Hart}
-use Rattle.run_model.specs.declared.next.Next.{Next}
-use Rattle.run_model.specs.declared.next.Next.TheVariants.{GoesOn, NewInterval, HartOver, RunOver}
+use Rattle.run_model.specs.declared.turn_end.TurnEnd.{TurnEnd}
+use Rattle.run_model.specs.declared.turn_end.TurnEnd.TheVariants.{GoesOn, NewInterval, HartOver, RunOver}
 use Rattle.run_model.specs.declared.span.Span.{Span}
 use Rattle.run_model.specs.Machine.{Answered, answer, call_of}
 use Rattle.run_model.specs.Turn.{Run, serve, served_if, is_orderly, is_guarded, by_guard, guarded_run, guard_records, after_ask, loading, warmth, skipped_after, word_before, point_of, edges_from, edge_records, load_record, sc_record, next_records, stopped_records, run_over_records, hart_after, other_after, harts_after, mark}
@@ -81,13 +81,13 @@ own_end h k m e = ap (λ (b : Bool). elim b as (λ x. Option EndMark) [ true ↦
 other_end : (h k : ℕ) (m : EndMark) → (h == k) ≡ false → end_of h (End k m) ≡ None
 other_end h k m e = ap (λ (b : Bool). elim b as (λ x. Option EndMark) [ true ↦ Some m | false ↦ None ]) e
 
-own_next : (next : Next) (h k number : ℕ) (s : HartState) (skipped bytes : ℕ) (own : Hart) → (h == k) ≡ true → (hart_after next s skipped bytes own).mark ≡ option_or (last_end h (next_records next k number s)) own.mark
+own_next : (next : TurnEnd) (h k number : ℕ) (s : HartState) (skipped bytes : ℕ) (own : Hart) → (h == k) ≡ true → (hart_after next s skipped bytes own).mark ≡ option_or (last_end h (next_records next k number s)) own.mark
 own_next GoesOn h k number s skipped bytes own e = refl
 own_next (NewInterval reason value) h k number s skipped bytes own e = sym (ap (λ (m : Option EndMark). option_or m own.mark) (own_end h k (mark s.ic reason value) e))
 own_next (HartOver reason value) h k number s skipped bytes own e = sym (ap (λ (m : Option EndMark). option_or m own.mark) (own_end h k (mark s.ic reason value) e))
 own_next (RunOver reason value) h k number s skipped bytes own e = sym (ap (λ (m : Option EndMark). option_or m own.mark) (own_end h k (mark s.ic reason value) e))
 
-other_next : (next : Next) (h k number : ℕ) (s : HartState) → (h == k) ≡ false → last_end h (next_records next k number s) ≡ None
+other_next : (next : TurnEnd) (h k number : ℕ) (s : HartState) → (h == k) ≡ false → last_end h (next_records next k number s) ≡ None
 other_next GoesOn h k number s e = refl
 other_next (NewInterval reason value) h k number s e = other_end h k (mark s.ic reason value) e
 other_next (HartOver reason value) h k number s e = other_end h k (mark s.ic reason value) e
@@ -164,13 +164,13 @@ stopped_mark : (b : Bool) (x : Hart) → (elim b as (λ z. Hart) [ true ↦ reco
 stopped_mark true x = refl
 stopped_mark false x = refl
 
-own_over : (next : Next) (h k n : ℕ) (harts : ℕ → Hart) → (h == k) ≡ true → last_end h (run_over_records next k n harts) ≡ None
+own_over : (next : TurnEnd) (h k n : ℕ) (harts : ℕ → Hart) → (h == k) ≡ true → last_end h (run_over_records next k n harts) ≡ None
 own_over GoesOn h k n harts e = refl
 own_over (NewInterval reason value) h k n harts e = refl
 own_over (HartOver reason value) h k n harts e = refl
 own_over (RunOver reason value) h k n harts e = stops_own h k 0 n harts e
 
-other_over : (next : Next) (h k n : ℕ) (harts : ℕ → Hart) → (h == k) ≡ false → h < n → (other_after next (harts h)).mark ≡ option_or (last_end h (run_over_records next k n harts)) (harts h).mark
+other_over : (next : TurnEnd) (h k n : ℕ) (harts : ℕ → Hart) → (h == k) ≡ false → h < n → (other_after next (harts h)).mark ≡ option_or (last_end h (run_over_records next k n harts)) (harts h).mark
 other_over GoesOn h k n harts e within = refl
 other_over (NewInterval reason value) h k n harts e within = refl
 other_over (HartOver reason value) h k n harts e within = refl
@@ -178,14 +178,14 @@ other_over (RunOver reason value) h k n harts e within = stopped_mark (harts h).
 
 -- ---- the harts after a turn
 
-own_is : (next : Next) (k j : ℕ) (own : Hart) (harts : ℕ → Hart) → (j == k) ≡ true → harts_after next k own harts j ≡ own
+own_is : (next : TurnEnd) (k j : ℕ) (own : Hart) (harts : ℕ → Hart) → (j == k) ≡ true → harts_after next k own harts j ≡ own
 own_is next k j own harts e = ap (λ (b : Bool). elim b as (λ x. Hart) [ true ↦ own | false ↦ other_after next (harts j) ]) e
 
-other_is : (next : Next) (k j : ℕ) (own : Hart) (harts : ℕ → Hart) → (j == k) ≡ false → harts_after next k own harts j ≡ other_after next (harts j)
+other_is : (next : TurnEnd) (k j : ℕ) (own : Hart) (harts : ℕ → Hart) → (j == k) ≡ false → harts_after next k own harts j ≡ other_after next (harts j)
 other_is next k j own harts e = ap (λ (b : Bool). elim b as (λ x. Hart) [ true ↦ own | false ↦ other_after next (harts j) ]) e
 
 -- each hart's mark is that of its last End among the records of a turn, or the one that it had
-turn_marks : (next : Next) (h k number n : ℕ) (s : HartState) (skipped bytes : ℕ) (harts : ℕ → Hart) → h < n
+turn_marks : (next : TurnEnd) (h k number n : ℕ) (s : HartState) (skipped bytes : ℕ) (harts : ℕ → Hart) → h < n
     → (harts_after next k (hart_after next s skipped bytes (harts k)) harts h).mark ≡ option_or (last_end h (next_records next k number s ++ run_over_records next k n harts)) (harts h).mark
 turn_marks next h k number n s skipped bytes harts within =
     let own : Hart = hart_after next s skipped bytes (harts k) in
@@ -220,7 +220,7 @@ guard_marked true n run k s are h within =
     marked_more h run.stream rs (run.harts h).mark (harts_after by_guard k (hart_after by_guard s 0 bytes (run.harts k)) run.harts h).mark (are h within)
     (more ∙ ap (λ (x : List Record). option_or (last_end h x) (run.harts h).mark) (append-nil rs))
 
-after_marked : (c : RawSettings) (run : Run) (k : ℕ) (ask : Ask) (call : Option Plan) (answered : Answered) (span : Option Span) (next : Next) (s : HartState) → AreMarked c.harts run → AreMarked c.harts (after_ask c run k ask call answered span next s)
+after_marked : (c : RawSettings) (run : Run) (k : ℕ) (ask : Ask) (call : Option Plan) (answered : Answered) (span : Option Span) (next : TurnEnd) (s : HartState) → AreMarked c.harts run → AreMarked c.harts (after_ask c run k ask call answered span next s)
 unfolding AreMarked
 after_marked c run k ask call answered span next s are h within =
     let new = after_ask c run k ask call answered span next s in

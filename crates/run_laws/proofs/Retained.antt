@@ -24,10 +24,10 @@ use Rattle.race_log.specs.Tests.{sources_into}
 use Rattle.log_record.specs.declared.record.Record.{Record}
 use Rattle.log_record.specs.declared.record.Record.TheVariants.{Header, FirstLoad, Edge, End}
 use Rattle.log_record.specs.Spelling.{total}
-use Rattle.log_record.specs.Kept.{kept}
+use Rattle.log_ring.specs.Kept.{kept}
 use Rattle.run_model.specs.declared.hart.Hart.{Hart}
-use Rattle.run_model.specs.declared.next.Next.{Next}
-use Rattle.run_model.specs.declared.next.Next.TheVariants.{GoesOn, NewInterval, HartOver, RunOver}
+use Rattle.run_model.specs.declared.turn_end.TurnEnd.{TurnEnd}
+use Rattle.run_model.specs.declared.turn_end.TurnEnd.TheVariants.{GoesOn, NewInterval, HartOver, RunOver}
 use Rattle.run_model.specs.Counts.{IsFit, anew}
 use Rattle.run_model.specs.Files.{kept_of}
 use Rattle.run_model.specs.Machine.{Machine, answer, call_of}
@@ -70,20 +70,20 @@ stops_bytes : (k j n : ℕ) (harts : ℕ → Hart) → total (stopped_records k 
 stops_bytes k j zero harts = omega arith
 stops_bytes k j (suc n) harts = stop_bytes (not (j == k) && (harts j).live) j (harts j).state.ic n (stopped_records k (j + 1) n harts) (stops_bytes k (j + 1) n harts)
 
-over_bytes : (next : Next) (k n : ℕ) (harts : ℕ → Hart) → total (run_over_records next k n harts) ≤ 15 * n
+over_bytes : (next : TurnEnd) (k n : ℕ) (harts : ℕ → Hart) → total (run_over_records next k n harts) ≤ 15 * n
 over_bytes (RunOver r v) k n harts = stops_bytes k 0 n harts
 over_bytes GoesOn k n harts = omega arith
 over_bytes (NewInterval r v) k n harts = omega arith
 over_bytes (HartOver r v) k n harts = omega arith
 
 -- the End of a turn that begins no interval
-abbrev pub Begins : Next → Bool
+abbrev pub Begins : TurnEnd → Bool
 Begins (NewInterval r v) = true
 Begins GoesOn = false
 Begins (HartOver r v) = false
 Begins (RunOver r v) = false
 
-end_bytes : (next : Next) (k number : ℕ) (s : HartState) → Begins next ≡ false → total (next_records next k number s) ≤ 15
+end_bytes : (next : TurnEnd) (k number : ℕ) (s : HartState) → Begins next ≡ false → total (next_records next k number s) ≤ 15
 end_bytes GoesOn k number s e = omega arith
 end_bytes (NewInterval r v) k number s e = cc
 end_bytes (HartOver r v) k number s e = omega (arith, total_more (End k (mark s.ic r v)) [], end_size_is k (mark s.ic r v))
@@ -143,13 +143,13 @@ half_room false c run k want s guarding cut e =
 -- ---- a cut ends its hart's interval
 
 -- what a cut leads to: the next interval, or the hart's end at the limit
-abbrev pub Cuts : Next → Type 0
+abbrev pub Cuts : TurnEnd → Type 0
 Cuts (NewInterval r v) = Unit {0}
 Cuts (HartOver r v) = Unit {0}
 Cuts GoesOn = ⊥
 Cuts (RunOver r v) = ⊥
 
-cuts_by : (x y : Bool) → (x ≡ false → y ≡ false → ⊥) → Cuts (elim x as (λ z. Next) [ true ↦ HartOver 7 0 | false ↦ elim y as (λ z. Next) [ true ↦ NewInterval 1 0 | false ↦ GoesOn ] ])
+cuts_by : (x y : Bool) → (x ≡ false → y ≡ false → ⊥) → Cuts (elim x as (λ z. TurnEnd) [ true ↦ HartOver 7 0 | false ↦ elim y as (λ z. TurnEnd) [ true ↦ NewInterval 1 0 | false ↦ GoesOn ] ])
 cuts_by true y f = tt
 cuts_by false true f = tt
 cuts_by false false f = f refl refl
@@ -177,7 +177,7 @@ cut_count t c i w s e o = same (subst (λ (x : Want). is_orderly c i t (record {
         equal a b e = grind arith
 
 -- what comes after the answer to a want in a state
-abbrev pub next_to : RawSettings → Program → Machine → ℕ → Hart → Want → HartState → Next
+abbrev pub next_to : RawSettings → Program → Machine → ℕ → Hart → Want → HartState → TurnEnd
 next_to c i m k t w s =
     let ask : Ask = record { state = s; want = w } in
     let reply = (answer c (call_of i m w) m k ask).reply in
@@ -201,7 +201,7 @@ cut_or (Faulted f v) = inr refl
 -- ---- a turn
 
 -- the Header behind a turn, by what comes after it
-pub own_kept : (next : Next) (stream es ls cs : List Record) (bytes k n skipped size : ℕ) (s : HartState) (t : Hart) (harts : ℕ → Hart) → length s.x ≡ 32 → StandsIn stream bytes k t → 146 ≤ size
+pub own_kept : (next : TurnEnd) (stream es ls cs : List Record) (bytes k n skipped size : ℕ) (s : HartState) (t : Hart) (harts : ℕ → Hart) → length s.x ≡ 32 → StandsIn stream bytes k t → 146 ≤ size
     → (Begins next ≡ false → 146 + (bytes - t.headed) + (total es + total ls + total cs + 15 + 15 * n) ≤ size)
     → let rs = turn_records next es ls cs k t.number n s harts in let u = hart_after next s skipped (bytes + total rs) t in HasHeader k u.number u.begun (kept size (stream ++ rs))
 own_kept next stream es ls cs bytes k n skipped size s t harts registers st some room =
@@ -210,7 +210,7 @@ own_kept next stream es ls cs bytes k n skipped size s t harts registers st some
     let new : StandsIn (stream ++ rs) (bytes + total rs) k u = own_stands next stream es ls cs bytes k n skipped s t harts registers st in
     header_kept (stream ++ rs) (bytes + total rs) k size u new (by next room new)
   where
-    by : (next : Next) → (Begins next ≡ false → 146 + (bytes - t.headed) + (total es + total ls + total cs + 15 + 15 * n) ≤ size)
+    by : (next : TurnEnd) → (Begins next ≡ false → 146 + (bytes - t.headed) + (total es + total ls + total cs + 15 + 15 * n) ≤ size)
         → let rs = turn_records next es ls cs k t.number n s harts in let u = hart_after next s skipped (bytes + total rs) t in
         (new : StandsIn (stream ++ rs) (bytes + total rs) k u) → 146 + total new.back ≤ size
     by (NewInterval r v) room new = omega (arith, new.since, some)
@@ -293,7 +293,7 @@ answer_kept laws c i run k guarding h low how =
         false_true e = cc
 
 -- a live hart after a cut has begun an interval
-live_begins : (next : Next) (s : HartState) (skipped bytes : ℕ) (t : Hart) → Cuts next → (hart_after next s skipped bytes t).live ≡ true → Begins next ≡ true
+live_begins : (next : TurnEnd) (s : HartState) (skipped bytes : ℕ) (t : Hart) → Cuts next → (hart_after next s skipped bytes t).live ≡ true → Begins next ≡ true
 live_begins (NewInterval r v) s skipped bytes t cuts live = refl
 live_begins (HartOver r v) s skipped bytes t cuts live = absurd (not_live live)
   where
@@ -385,7 +385,7 @@ answer_ended laws c i run k kind value guarding h low fault =
     let next : next_at c i run k ≡ RunOver reason value = ap (λ (w : Want). next_to c i run.machine k t w ask.state) fault in
     subst (λ (u : Hart). HasEnded k u.number u.begun (mark u.state.ic reason value) (kept c.log_size (answered_at c i run k).stream)) (sym (own_is c i run k))
     (subst
-    (λ (x : Next). let rs = turn_records x es ls cs k t.number c.harts s r.harts in let u = hart_after x s (skipped_after load t.skipped) (r.bytes + total rs) t in
+    (λ (x : TurnEnd). let rs = turn_records x es ls cs k t.number c.harts s r.harts in let u = hart_after x s (skipped_after load t.skipped) (r.bytes + total rs) t in
     HasEnded k u.number u.begun (mark u.state.ic reason value) (kept c.log_size (r.stream ++ rs))) (sym next)
     (ended_by reason value r.stream es ls cs r.bytes k c.harts (skipped_after load t.skipped) c.log_size s t r.harts (state_size c i run k h) (asked_stands c i run k h low) (omega (arith, guarding.log_size_low))
     (turn_room laws c i run k guarding h uncut)))

@@ -14,8 +14,8 @@ use Rattle.log_record.specs.declared.record.Record.{Record}
 use Rattle.log_record.specs.declared.record.Record.TheVariants.{Header, End}
 use Rattle.log_record.specs.Spelling.{total}
 use Rattle.run_model.specs.declared.hart.Hart.{Hart}
-use Rattle.run_model.specs.declared.next.Next.{Next}
-use Rattle.run_model.specs.declared.next.Next.TheVariants.{GoesOn, NewInterval, HartOver, RunOver}
+use Rattle.run_model.specs.declared.turn_end.TurnEnd.{TurnEnd}
+use Rattle.run_model.specs.declared.turn_end.TurnEnd.TheVariants.{GoesOn, NewInterval, HartOver, RunOver}
 use Rattle.run_model.specs.declared.span.Span.{Span}
 use Rattle.run_model.specs.Counts.{IsRested, anew}
 use Rattle.run_model.specs.Machine.{Answered, answer, call_of}
@@ -75,11 +75,11 @@ push_out : (xs ys : List Record) (z : Record) (zs : List Record) → zs ≡ ys +
 push_out xs ys z zs e = ap (λ (y : List Record). xs ++ y) e ∙ sym (append_assoc xs ys (z ∷ []))
 
 -- the records of hart k's turn
-abbrev pub turn_records : Next → (es ls cs : List Record) → (k number n : ℕ) → HartState → (ℕ → Hart) → List Record
+abbrev pub turn_records : TurnEnd → (es ls cs : List Record) → (k number n : ℕ) → HartState → (ℕ → Hart) → List Record
 turn_records next es ls cs k number n s harts = es ++ (ls ++ (cs ++ (next_records next k number s ++ run_over_records next k n harts)))
 
 -- the Header of the hart whose turn it was
-pub own_stands : (next : Next) (stream es ls cs : List Record) (bytes k n skipped : ℕ) (s : HartState) (t : Hart) (harts : ℕ → Hart) → length s.x ≡ 32 → StandsIn stream bytes k t
+pub own_stands : (next : TurnEnd) (stream es ls cs : List Record) (bytes k n skipped : ℕ) (s : HartState) (t : Hart) (harts : ℕ → Hart) → length s.x ≡ 32 → StandsIn stream bytes k t
     → let rs = turn_records next es ls cs k t.number n s harts in StandsIn (stream ++ rs) (bytes + total rs) k (hart_after next s skipped (bytes + total rs) t)
 own_stands GoesOn stream es ls cs bytes k n skipped s t harts size st = grown stream _ bytes k t _ st (record { number = refl; begun = refl; headed = refl })
 own_stands (HartOver r v) stream es ls cs bytes k n skipped s t harts size st = grown stream _ bytes k t _ st (record { number = refl; begun = refl; headed = refl })
@@ -103,7 +103,7 @@ stopped_same : (b : Bool) (t : Hart) → IsSame t (elim b as (λ x. Hart) [ true
 stopped_same true t = record { number = refl; begun = refl; headed = refl }
 stopped_same false t = record { number = refl; begun = refl; headed = refl }
 
-other_same : (next : Next) (t : Hart) → IsSame t (other_after next t)
+other_same : (next : TurnEnd) (t : Hart) → IsSame t (other_after next t)
 other_same GoesOn t = record { number = refl; begun = refl; headed = refl }
 other_same (NewInterval r v) t = record { number = refl; begun = refl; headed = refl }
 other_same (HartOver r v) t = record { number = refl; begun = refl; headed = refl }
@@ -128,7 +128,7 @@ guard_stands true run k j s size st = elim (eqb_tells j k) [
 ]
 
 -- the answer
-ask_stands : (c : RawSettings) (run : Run) (k j : ℕ) (ask : Ask) (call : Option Plan) (answered : Answered) (span : Option Span) (next : Next) (s : HartState) → length s.x ≡ 32 → Stands run j
+ask_stands : (c : RawSettings) (run : Run) (k j : ℕ) (ask : Ask) (call : Option Plan) (answered : Answered) (span : Option Span) (next : TurnEnd) (s : HartState) → length s.x ≡ 32 → Stands run j
     → Stands (after_ask c run k ask call answered span next s) j
 ask_stands c run k j ask call answered span next s size st =
     let new : Run = after_ask c run k ask call answered span next s in

@@ -17,8 +17,8 @@ use Rattle.system_calls.specs.declared.effect.Plan.{Plan}
 use Rattle.system_calls.specs.declared.effect.Plan.TheVariants as plans
 use Rattle.bn_outside.specs.declared.turn_row.TurnRow.{TurnRow}
 use Rattle.run_model.specs.declared.hart.Hart.{Hart}
-use Rattle.run_model.specs.declared.next.Next.{Next}
-use Rattle.run_model.specs.declared.next.Next.TheVariants.{GoesOn, NewInterval, HartOver, RunOver}
+use Rattle.run_model.specs.declared.turn_end.TurnEnd.{TurnEnd}
+use Rattle.run_model.specs.declared.turn_end.TurnEnd.TheVariants.{GoesOn, NewInterval, HartOver, RunOver}
 use Rattle.run_model.specs.Machine.{Machine, answer, call_of, planned}
 use Rattle.run_model.specs.Turn.{Run, Served, serve, serve_orderly, served_if, turn, ask_at, is_orderly, budget, next_of, loading, warmth, skipped_after, hart_after, other_after, harts_after, is_guarded, guarded_run, asked_run, guard_records}
 use Rattle.log_record.specs.Spelling.{total}
@@ -145,7 +145,7 @@ reply_of c i run k = let ask = ask_at c i (run.harts k) in (answer c (call_of i 
 abbrev pub state_of : RawSettings → Program → Run → ℕ → HartState
 state_of c i run k = absorbed (ask_at c i (run.harts k)) (reply_of c i run k)
 
-abbrev pub next_at : RawSettings → Program → Run → ℕ → Next
+abbrev pub next_at : RawSettings → Program → Run → ℕ → TurnEnd
 next_at c i run k = let ask = ask_at c i (run.harts k) in next_of c (call_of i run.machine ask.want) ((asked_at c i run k).harts k) ask.want (reply_of c i run k) (state_of c i run k).ic
 
 abbrev load_at : RawSettings → Program → Run → ℕ → Option Warm
@@ -251,7 +251,7 @@ all_first c i (suc n) = omega (arith, all_first c i n)
 -- ---- a hart's own rows
 
 counted_place : (over full : Bool) (s : HartState) (skipped bytes : ℕ) (h : Hart)
-    → place_of (hart_after (elim over as (λ x. Next) [ true ↦ HartOver 7 0 | false ↦ elim full as (λ x. Next) [ true ↦ NewInterval 1 0 | false ↦ GoesOn ] ]) s skipped bytes h)
+    → place_of (hart_after (elim over as (λ x. TurnEnd) [ true ↦ HartOver 7 0 | false ↦ elim full as (λ x. TurnEnd) [ true ↦ NewInterval 1 0 | false ↦ GoesOn ] ]) s skipped bytes h)
     ≡ record { state = s; begun = elim (not over && full) as (λ x. ℕ) [ true ↦ s.ic | false ↦ h.begun ] }
 counted_place true full s skipped bytes h = refl
 counted_place false true s skipped bytes h = refl
@@ -291,7 +291,7 @@ stopped_place : (b : Bool) (h : Hart) → place_of (elim b as (λ x. Hart) [ tru
 stopped_place true h = refl
 stopped_place false h = refl
 
-pub other_place : (next : Next) (h : Hart) → place_of (other_after next h) ≡ place_of h
+pub other_place : (next : TurnEnd) (h : Hart) → place_of (other_after next h) ≡ place_of h
 other_place GoesOn h = refl
 other_place (NewInterval reason value) h = refl
 other_place (HartOver reason value) h = refl
@@ -348,7 +348,7 @@ pub orderly_after : Laws → (c : RawSettings) (i : Program) (run : Run) (b : Li
     → is_orderly c i ((run_from c i run b).harts k) (ask_at c i ((run_from c i run b).harts k)) ≡ true
 orderly_after laws c i run b k setting fit e = ordered laws.asks c i ((run_from c i run b).harts k) (omega (arith, setting.limit_high)) (fit_run laws c i run b setting fit e k).fit
 
-own_state : (next : Next) (s : HartState) (skipped bytes : ℕ) (h : Hart) → (hart_after next s skipped bytes h).state ≡ s
+own_state : (next : TurnEnd) (s : HartState) (skipped bytes : ℕ) (h : Hart) → (hart_after next s skipped bytes h).state ≡ s
 own_state GoesOn s skipped bytes h = refl
 own_state (NewInterval reason value) s skipped bytes h = refl
 own_state (HartOver reason value) s skipped bytes h = refl

@@ -5,7 +5,7 @@ use Rattle.bn_base.specs.declared.end_mark.EndMark.{EndMark}
 use Rattle.log_record.specs.declared.record.Record.{Record}
 use Rattle.log_record.specs.declared.record.Record.TheVariants.{Header, FirstLoad, ScOk, ScFailed, Edge, End}
 
--- the mark of a record, where it is an End of hart h
+-- the mark of a record, if it is an End of hart h
 abbrev pub end_of : ℕ → Record → Option EndMark
 end_of h (Header k n ic pc x) = None
 end_of h (FirstLoad k skip value) = None
@@ -14,7 +14,7 @@ end_of h (ScFailed k) = None
 end_of h (Edge k ic s j) = None
 end_of h (End k mark) = elim (h == k) [ true ↦ Some mark | false ↦ None ]
 
--- the mark of hart h's last End among records; None where it has none
+-- the mark of hart h's last End among records; None if it has none
 abbrev pub last_end : ℕ → List Record → Option EndMark
 last_end h [] = None
 last_end h (r ∷ rs) = option_or (last_end h rs) (end_of h r)

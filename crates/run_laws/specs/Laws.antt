@@ -55,7 +55,7 @@ KeptIsAnEnd = (c : RawSettings) (run : Run) → IsEndOf run.stream (kept_of c ru
 abbrev pub harts_of : List TurnRow → List ℕ
 harts_of rows = map (λ (r : TurnRow). r.hart) rows
 
--- each hart's rows are the hart's own from where it is in a run
+-- each hart's rows are the hart's own from the point where it is in a run
 abbrev pub AreOwn : RawSettings → Program → Run → List TurnRow → Type 0
 AreOwn c i run rows = (h : ℕ) → h < c.harts → IsOwn c i h (place_of (run.harts h)) (rows_by h rows)
 
@@ -75,9 +75,9 @@ abbrev pub OwnRowsAreTurns : Type 0
 OwnRowsAreTurns = (c : RawSettings) (i : Program) (input : List ℕ) (rows : List TurnRow) → IsSetting c → IsLawful c i (start c i input) rows
     → AreOwn c i (start c i input) rows → AreTurns c i (start c i input) rows
 
--- ---- a hart that makes its own rows, and rows that go on
+-- ---- a hart that makes its own rows, and rows that continue
 
--- where a hart is after rows of its own
+-- the point where a hart is after rows of its own
 abbrev pub place_over : RawSettings → Place → List TurnRow → Place
 place_over c p [] = p
 place_over c p (r ∷ rs) = place_over c (place_after c p r.ask r.guarded r.reply) rs
@@ -87,14 +87,14 @@ abbrev pub OwnRowsGrow : Type 0
 OwnRowsGrow = (c : RawSettings) (i : Program) (h : ℕ) (p : Place) (rows : List TurnRow) (r : TurnRow) → IsOwn c i h p rows → r.hart ≡ h → r.ask ≡ ask_from c i (place_over c p rows)
     → IsOwn c i h p (rows ++ r ∷ []) × (place_over c p (rows ++ r ∷ []) ≡ place_after c (place_over c p rows) r.ask r.guarded r.reply)
 
--- the run and the rows of a list that goes on
+-- the run and the rows of a list that continues
 pub record ListsGoOn : Type 0 where
   pub run : (c : RawSettings) (i : Program) (run : Run) (b more : List ℕ) → run_from c i run (b ++ more) ≡ run_from c i (run_from c i run b) more
   pub rows : (c : RawSettings) (i : Program) (run : Run) (b more : List ℕ) → rows_from c i run (b ++ more) ≡ rows_from c i run b ++ rows_from c i (run_from c i run b) more
   pub legal : (c : RawSettings) (i : Program) (run : Run) (b more : List ℕ) → legal_from c i run b ≡ true → legal_from c i (run_from c i run b) more ≡ true → legal_from c i run (b ++ more) ≡ true
 
--- Rows in threads, and the turns of a list after them: where the rows are lawful from the start, each hart's are its own, and
--- the list is legal after them, all together are the rows of one legal list, lawful and each hart's own
+-- Rows in threads, and the turns of a list after them. If the rows are lawful from the start, each hart's are its own, and the
+-- list is legal after them, then all together are the rows of one legal list, lawful and each hart's own
 pub record AreJoined (c : RawSettings) (i : Program) (input : List ℕ) (rows : List TurnRow) (more : List ℕ) : Type 0 where
   pub legal : legal_from c i (start c i input) (harts_of rows ++ more) ≡ true
   pub rows_are : rows ++ rows_from c i (after_rows c i (start c i input) rows) more ≡ rows_from c i (start c i input) (harts_of rows ++ more)
@@ -102,6 +102,7 @@ pub record AreJoined (c : RawSettings) (i : Program) (input : List ℕ) (rows : 
   pub lawful : IsLawful c i (start c i input) (rows ++ rows_from c i (after_rows c i (start c i input) rows) more)
   pub own : AreOwn c i (start c i input) (rows ++ rows_from c i (after_rows c i (start c i input) rows) more)
 
+-- so it is with lawful rows, each hart's own, and a list that is legal after them
 abbrev pub OwnRowsAreJoined : Type 0
 OwnRowsAreJoined = (c : RawSettings) (i : Program) (input : List ℕ) (rows : List TurnRow) (more : List ℕ) → IsSetting c → IsLawful c i (start c i input) rows → AreOwn c i (start c i input) rows
     → legal_from c i (after_rows c i (start c i input) rows) more ≡ true → AreJoined c i input rows more
@@ -112,13 +113,13 @@ RepliesFit = (c : RawSettings) (i : Program) (run : Run) (k : ℕ) (ask : Ask) �
 
 -- ---- marks
 
--- After any rows, whoever made their asks, each hart's last mark is that of its last End in the stream, and it has none where
+-- After any rows, whoever made their asks, each hart's last mark is that of its last End in the stream, and it has none if
 -- it has no End
 abbrev pub LastEndsAreMarks : Type 0
 LastEndsAreMarks = (c : RawSettings) (i : Program) (input : List ℕ) (rows : List TurnRow) (h : ℕ) → h < c.harts
     → let run = after_rows c i (start c i input) rows in last_end h run.stream ≡ (run.harts h).mark
 
--- So is that of its last End at the end of the stream, where it has one there
+-- So is that of its last End at the end of the stream, if it has one there
 abbrev pub KeptEndsAreMarks : Type 0
 KeptEndsAreMarks = (c : RawSettings) (i : Program) (input : List ℕ) (rows : List TurnRow) (rs : List Record) (h : ℕ) (m : EndMark) → h < c.harts
     → let run = after_rows c i (start c i input) rows in IsEndOf run.stream rs → last_end h rs ≡ Some m → (run.harts h).mark ≡ Some m

@@ -13,8 +13,8 @@ use Rattle.run_model.specs.Runs.{start, run_of, legal_from}
 use Rattle.run_model.specs.Turn.{ask_at, mark}
 use Rattle.run_laws.specs.Ends.{last_end}
 
--- format 2, and those of its settings in their ranges that say something here: 1 to 16 harts, an interval and a limit of at
--- least and at most so many instructions, and a log of 16,384 bytes at least
+-- format 2, and those of its ranges that say something here: at most 16 harts, an interval of 1 at least, a limit of 2^40 at
+-- most, and a log of 16,384 bytes at least
 pub record IsGuarding (c : RawSettings) : Type 0 where
   pub format : c.format ≡ 2
   pub harts_high : c.harts ≤ 16
@@ -41,7 +41,7 @@ HeadersAreKept = (c : RawSettings) (i : Program) (input b : List ℕ) (k : ℕ) 
     → let run = run_of c i input (b ++ k ∷ []) in let h = run.harts k in
     h.live ≡ true → HasHeader k h.number h.begun (kept_of c run)
 
--- Where the run ends in a fault, the interval of the fault is retained: its Header is kept, and behind it its End with the fault
+-- If the run ends in a fault, the interval of the fault is retained: its Header is kept, and behind it its End with the fault
 abbrev pub FaultsAreKept : Type 0
 FaultsAreKept = (c : RawSettings) (i : Program) (input b : List ℕ) (k : ℕ) (kind : Fault) (value : ℕ) → IsGuarding c → legal_from c i (start c i input) (b ++ k ∷ []) ≡ true
     → (ask_at c i ((run_of c i input b).harts k)).want ≡ Faulted kind value

@@ -11,7 +11,7 @@ pub use examples::{
     a_relay_goes_on_over_intervals, a_seeded_list_ends, seed_0_begins_with_hart_1,
     the_latest_end_is_the_last,
 };
-use log_record::keeping::a_suffix_is_kept;
+use log_ring::keeping::a_suffix_is_kept;
 use race_log::listed_edges_are_all;
 use run_model::{each_turn_fits, each_turn_moves_on, guarded_asks_fit, others_stay_fit};
 use rv_meaning::each_ask_is_orderly;

@@ -5,7 +5,7 @@ use Rattle.bn_base.specs.Programs.{Program}
 use Rattle.bn_base.specs.Ranges.{IsSetting}
 use Rattle.bn_base.specs.declared.settings.RawSettings.{RawSettings}
 use Rattle.bn_base.specs.declared.settings.TheConstants.{HARTS}
-use Rattle.log_record.specs.Kept.{Held, HoldsLog, held, kept}
+use Rattle.log_ring.specs.Kept.{Held, HoldsLog, held, kept}
 use Rattle.run_model.specs.declared.log.Log.{Log}
 use Rattle.race_log.specs.Stands.{Stands, harts_of, lasts, next_turn, next_count}
 use Rattle.run_model.specs.declared.hart.Hart.{Hart}

@@ -8,8 +8,8 @@ use Rattle.first_load_bits.specs.Stands.{geometry_of}
 use Rattle.first_load_bits.specs.Warm.{warm}
 use Rattle.first_load_bits.specs.declared.warm.Warm.TheVariants as answers
 use Rattle.run_model.specs.declared.hart.Hart.{Hart}
-use Rattle.run_model.specs.declared.next.Next.{Next}
-use Rattle.run_model.specs.declared.next.Next.TheVariants.{GoesOn, NewInterval, HartOver, RunOver}
+use Rattle.run_model.specs.declared.turn_end.TurnEnd.{TurnEnd}
+use Rattle.run_model.specs.declared.turn_end.TurnEnd.TheVariants.{GoesOn, NewInterval, HartOver, RunOver}
 use Rattle.run_model.specs.declared.span.Span.{Span}
 use Rattle.run_model.specs.Turn.{budget, is_orderly, warmth, skipped_after, hart_after, stopped, other_after, mark}
 use Rattle.run_model.specs.Runs.{start_hart}
@@ -25,7 +25,7 @@ skip_by : (b : Bool) (skipped begun low after : ℕ) → begun + skipped ≤ low
 skip_by true skipped begun low after e a = omega (arith, e, a)
 skip_by false skipped begun low after e a = omega (arith, e, a)
 
-skip_bound : (load : Option ℕ) (c : RawSettings) (h : Hart) (asked after : ℕ) (next : Next) (span : Option Span) (es : List Event) → IsFit c h → MovesOn c h asked after next span load
+skip_bound : (load : Option ℕ) (c : RawSettings) (h : Hart) (asked after : ℕ) (next : TurnEnd) (span : Option Span) (es : List Event) → IsFit c h → MovesOn c h asked after next span load
     → h.begun + skipped_after (warmth c load es) h.skipped ≤ after
 skip_bound None c h asked after next span es fit on = omega (arith, fit.skipped, on.from, on.low)
 skip_bound (Some a) c h asked after next span es fit on = skip_by (warm (geometry_of c) a es) h.skipped h.begun asked after (omega (arith, fit.skipped, on.from)) (on.loaded refl)
@@ -35,13 +35,13 @@ record After (c : RawSettings) (h : Hart) (after : ℕ) : Type 0 where
   pub interval : after ≤ h.begun + c.interval
   pub limit : after ≤ c.limit
 
-after_bounds : (c : RawSettings) (h : Hart) (asked after : ℕ) (next : Next) (span : Option Span) (load : Option ℕ) → IsFit c h → MovesOn c h asked after next span load → After c h after
+after_bounds : (c : RawSettings) (h : Hart) (asked after : ℕ) (next : TurnEnd) (span : Option Span) (load : Option ℕ) → IsFit c h → MovesOn c h asked after next span load → After c h after
 after_bounds c h asked after next span load fit on = record {
   interval = omega (arith, on.high, budget_interval c h, fit.interval, fit.skipped);
   limit = omega (arith, on.high, budget_limit c h, fit.limit);
 }
 
-pub fit_by : (next : Next) (c : RawSettings) (h : Hart) (asked : ℕ) (s : HartState) (span : Option Span) (load : Option ℕ) (skipped bytes : ℕ) → 1 ≤ c.interval → IsFit c h → MovesOn c h asked s.ic next span load → h.begun + skipped ≤ s.ic
+pub fit_by : (next : TurnEnd) (c : RawSettings) (h : Hart) (asked : ℕ) (s : HartState) (span : Option Span) (load : Option ℕ) (skipped bytes : ℕ) → 1 ≤ c.interval → IsFit c h → MovesOn c h asked s.ic next span load → h.begun + skipped ≤ s.ic
     → IsRested c (hart_after next s skipped bytes h)
 fit_by GoesOn c h asked s span load skipped bytes some fit on skip =
     let b = after_bounds c h asked s.ic GoesOn span load fit on in
@@ -68,7 +68,7 @@ fit_by (RunOver reason value) c h asked s span load skipped bytes some fit on sk
     let b = after_bounds c h asked s.ic (RunOver reason value) span load fit on in
     record { fit = record { number = omega (arith, fit.number, on.from, on.low); skipped = skip; interval = b.interval; limit = b.limit; unfilled = λ p. cc }; number = λ p. cc }
 
-pub fit_after : (c : RawSettings) (h : Hart) (asked bytes : ℕ) (s : HartState) (next : Next) (span : Option Span) (load : Option ℕ) (es : List Event) → 1 ≤ c.interval → IsFit c h → MovesOn c h asked s.ic next span load
+pub fit_after : (c : RawSettings) (h : Hart) (asked bytes : ℕ) (s : HartState) (next : TurnEnd) (span : Option Span) (load : Option ℕ) (es : List Event) → 1 ≤ c.interval → IsFit c h → MovesOn c h asked s.ic next span load
     → IsRested c (hart_after next s (skipped_after (warmth c load es) h.skipped) bytes h)
 fit_after c h asked bytes s next span load es some fit on = fit_by next c h asked s span load _ bytes some fit on (skip_bound load c h asked s.ic next span es fit on)
 
@@ -76,7 +76,7 @@ pub left_live : (c : RawSettings) (h : Hart) → h.live ≡ true → turns_left 
 left_live c h live = ap (λ (b : Bool). elim b [ true ↦ c.limit - h.state.ic + 1 | false ↦ 0 ]) live
 
 -- fewer turns are left
-pub fewer_left : (next : Next) (c : RawSettings) (h : Hart) (asked : ℕ) (s : HartState) (span : Option Span) (load : Option ℕ) (skipped bytes : ℕ) → h.live ≡ true → IsFit c h → MovesOn c h asked s.ic next span load
+pub fewer_left : (next : TurnEnd) (c : RawSettings) (h : Hart) (asked : ℕ) (s : HartState) (span : Option Span) (load : Option ℕ) (skipped bytes : ℕ) → h.live ≡ true → IsFit c h → MovesOn c h asked s.ic next span load
     → turns_left c (hart_after next s skipped bytes h) < turns_left c h
 fewer_left GoesOn c h asked s span load skipped bytes live fit on =
     let b = after_bounds c h asked s.ic GoesOn span load fit on in
@@ -96,7 +96,7 @@ fit_stop false c h rested = rested
 pub fit_stopped : (c : RawSettings) (h : Hart) → IsRested c h → IsRested c (stopped h)
 fit_stopped c h fit = fit_stop h.live c h fit
 
-pub fit_other : (next : Next) (c : RawSettings) (h : Hart) → IsRested c h → IsRested c (other_after next h)
+pub fit_other : (next : TurnEnd) (c : RawSettings) (h : Hart) → IsRested c h → IsRested c (other_after next h)
 fit_other GoesOn c h fit = fit
 fit_other (NewInterval reason value) c h fit = fit
 fit_other (HartOver reason value) c h fit = fit
@@ -107,7 +107,7 @@ no_more_by true c h e = rw e (omega arith)
 no_more_by false c h e = rw e (omega arith)
 
 -- another hart has no more turns left
-pub no_more_left : (next : Next) (c : RawSettings) (h : Hart) → turns_left c (other_after next h) ≤ turns_left c h
+pub no_more_left : (next : TurnEnd) (c : RawSettings) (h : Hart) → turns_left c (other_after next h) ≤ turns_left c h
 no_more_left GoesOn c h = omega arith
 no_more_left (NewInterval reason value) c h = omega arith
 no_more_left (HartOver reason value) c h = omega arith

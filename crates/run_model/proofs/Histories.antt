@@ -6,7 +6,7 @@ use Rattle.bn_base.specs.declared.settings.RawSettings.{RawSettings}
 use Rattle.first_load_bits.specs.Events.{Event}
 use Rattle.first_load_bits.specs.Events.{Touch}
 use Rattle.first_load_bits.specs.Stands.{Contents, StandsFor}
-use Rattle.run_model.specs.declared.next.Next.TheVariants.{GoesOn}
+use Rattle.run_model.specs.declared.turn_end.TurnEnd.TheVariants.{GoesOn}
 use Rattle.system_calls.specs.declared.effect.Plan.{Plan}
 use Rattle.run_model.specs.declared.span.Span.{Span}
 use Rattle.run_model.specs.Turn.{dropped, events_after}

@@ -19,8 +19,8 @@ use Rattle.log_record.specs.declared.record.Record.{Record}
 use Rattle.log_record.specs.Spelling.{total}
 use Rattle.run_model.specs.declared.hart.Hart.{Hart}
 use Rattle.run_model.specs.declared.log.Log.{Log}
-use Rattle.run_model.specs.declared.next.Next.{Next}
-use Rattle.run_model.specs.declared.next.Next.TheVariants.{GoesOn, NewInterval, HartOver, RunOver}
+use Rattle.run_model.specs.declared.turn_end.TurnEnd.{TurnEnd}
+use Rattle.run_model.specs.declared.turn_end.TurnEnd.TheVariants.{GoesOn, NewInterval, HartOver, RunOver}
 use Rattle.run_model.specs.declared.trace.Trace.{Trace}
 use Rattle.run_model.specs.Machine.{answer}
 use Rattle.run_model.specs.Turn.{Run, budget, is_orderly, serve_call, span_of, counted, next_of, point_of, edge_records, load_record, sc_record, next_records, run_over_records, warmth, loading, word_before, hart_after, harts_after, other_after, skipped_after, events_after, is_guarded, bytes_since}
@@ -239,7 +239,7 @@ like_itself t = record { harts = refl; caches = refl; shadow = record { stands =
 none_over : (c : RawSettings) (h : Hart) (ic k n : ℕ) (f : ℕ → Hart) → run_over_records (counted c h ic) k n f ≡ []
 none_over c h ic k n f = by (nat_le c.limit ic) (nat_le c.interval (ic - h.begun))
   where
-    by : (a b : Bool) → run_over_records (elim a as (λ x. Next) [ true ↦ HartOver 7 0 | false ↦ elim b as (λ x. Next) [ true ↦ NewInterval 1 0 | false ↦ GoesOn ] ]) k n f ≡ []
+    by : (a b : Bool) → run_over_records (elim a as (λ x. TurnEnd) [ true ↦ HartOver 7 0 | false ↦ elim b as (λ x. TurnEnd) [ true ↦ NewInterval 1 0 | false ↦ GoesOn ] ]) k n f ≡ []
     by true b = refl
     by false true = refl
     by false false = refl
@@ -247,12 +247,12 @@ none_over c h ic k n f = by (nat_le c.limit ic) (nat_le c.interval (ic - h.begun
 none_stop : (c : RawSettings) (h : Hart) (ic : ℕ) (x : Hart) → other_after (counted c h ic) x ≡ x
 none_stop c h ic x = by (nat_le c.limit ic) (nat_le c.interval (ic - h.begun))
   where
-    by : (a b : Bool) → other_after (elim a as (λ y. Next) [ true ↦ HartOver 7 0 | false ↦ elim b as (λ y. Next) [ true ↦ NewInterval 1 0 | false ↦ GoesOn ] ]) x ≡ x
+    by : (a b : Bool) → other_after (elim a as (λ y. TurnEnd) [ true ↦ HartOver 7 0 | false ↦ elim b as (λ y. TurnEnd) [ true ↦ NewInterval 1 0 | false ↦ GoesOn ] ]) x ≡ x
     by true b = refl
     by false true = refl
     by false false = refl
 
-own_same : (next : Next) (s to : HartState) (skipped bytes : ℕ) (h : Hart) → hart_after next to skipped bytes (in_state s h) ≡ hart_after next to skipped bytes h
+own_same : (next : TurnEnd) (s to : HartState) (skipped bytes : ℕ) (h : Hart) → hart_after next to skipped bytes (in_state s h) ≡ hart_after next to skipped bytes h
 own_same GoesOn s to skipped bytes h = refl
 own_same (NewInterval reason value) s to skipped bytes h = refl
 own_same (HartOver reason value) s to skipped bytes h = refl
@@ -262,7 +262,7 @@ pub moved_own : (f : ℕ → Hart) (k : ℕ) (s : HartState) → moved_harts f k
 moved_own f k s = ap (λ (b : Bool). elim b as (λ x. Hart) [ true ↦ in_state s (f k) | false ↦ f k ]) (eqb_same k)
 
 -- the harts after, of harts that are the same but for hart k
-same_after : (b : Bool) (next : Next) (own a x : Hart) → ((y : Hart) → other_after next y ≡ y)
+same_after : (b : Bool) (next : TurnEnd) (own a x : Hart) → ((y : Hart) → other_after next y ≡ y)
     → elim b as (λ z. Hart) [ true ↦ own | false ↦ other_after next (elim b as (λ z. Hart) [ true ↦ a | false ↦ x ]) ] ≡ elim b as (λ z. Hart) [ true ↦ own | false ↦ other_after next x ]
 same_after true next own a x stays = refl
 same_after false next own a x stays = refl
@@ -276,7 +276,7 @@ served_moved c t run k s a w g rd is =
     let to : HartState = absorbed ask reply in
     let load = warmth c (loading ask.want) (run.events k) in
     let point = point_of k s.ic run.turns (span_of None ask.want reply) in
-    let next : Hart → Next = λ (y : Hart). counted c y to.ic in
+    let next : Hart → TurnEnd = λ (y : Hart). counted c y to.ic in
     let recs : Hart → List Record → List Record = λ (y : Hart) (o : List Record). edge_records point run.points ++ (load_record load k y.skipped (word_before run.machine.memory (loading ask.want)) ++ (sc_record reply k ++ (next_records (next y) k y.number to ++ o))) in
     let f : ℕ → Hart = moved_harts run.harts k s in
     let e : f k ≡ in_state s h = moved_own run.harts k s in
@@ -329,7 +329,7 @@ stored_moved c t run k s a w v is =
     let to : HartState = absorbed ask reply in
     let load = warmth c (loading ask.want) (run.events k) in
     let point = point_of k s.ic run.turns (span_of None ask.want reply) in
-    let next : Hart → Next = λ (y : Hart). counted c y to.ic in
+    let next : Hart → TurnEnd = λ (y : Hart). counted c y to.ic in
     let recs : Hart → List Record → List Record = λ (y : Hart) (o : List Record). edge_records point run.points ++ (load_record load k y.skipped (word_before run.machine.memory (loading ask.want)) ++ (sc_record reply k ++ (next_records (next y) k y.number to ++ o))) in
     let f : ℕ → Hart = moved_harts run.harts k s in
     let e : f k ≡ in_state s h = moved_own run.harts k s in

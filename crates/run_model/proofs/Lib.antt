@@ -29,3 +29,4 @@ pub mod AuditsWorked
 pub mod Verdicts
 pub mod Dropping
 pub mod InPlace
+pub mod LogVersions

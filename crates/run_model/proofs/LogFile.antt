@@ -2,7 +2,7 @@
 use Rattle.std.proofs.Common.{◌≡◌, ℕ, List, length, ◌∙◌, ap, arith}
 use Rattle.bn_base.specs.declared.settings.RawSettings.{RawSettings}
 use Rattle.log_record.specs.declared.head.Head.{Head}
-use Rattle.log_record.specs.Kept.{Held, HoldsLog, kept}
+use Rattle.log_ring.specs.Kept.{Held, HoldsLog, kept}
 use Rattle.log_order.specs.Content.{Content, content}
 use Rattle.log_file.specs.Layout.{saved_bytes}
 use Rattle.run_model.specs.Turn.{Run}

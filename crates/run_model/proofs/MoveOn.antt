@@ -19,8 +19,8 @@ use Rattle.system_calls.specs.declared.effect.Plan.{Plan}
 use Rattle.system_calls.specs.declared.effect.Plan.TheVariants as plans
 use Rattle.system_calls.specs.Laws.{is_end, ExitsAloneEnd}
 use Rattle.run_model.specs.declared.hart.Hart.{Hart}
-use Rattle.run_model.specs.declared.next.Next.{Next}
-use Rattle.run_model.specs.declared.next.Next.TheVariants.{GoesOn, NewInterval, HartOver, RunOver}
+use Rattle.run_model.specs.declared.turn_end.TurnEnd.{TurnEnd}
+use Rattle.run_model.specs.declared.turn_end.TurnEnd.TheVariants.{GoesOn, NewInterval, HartOver, RunOver}
 use Rattle.run_model.specs.declared.span.Span.{Span}
 use Rattle.run_model.specs.Machine.{Machine, answer_call, answer_sc, is_reserved, planned, kernel_of}
 use Rattle.run_model.specs.Turn.{budget, span_of, counted, after_call, is_orderly}
@@ -57,7 +57,7 @@ one_up : (n : ℕ) → n < 2 ^ 63 → count_up n ≡ n + 1
 one_up n small = grind (arith, common_steps)
 
 -- what a count that goes on says
-pub record OnCount (c : RawSettings) (h : Hart) (ic : ℕ) (next : Next) : Type 0 where
+pub record OnCount (c : RawSettings) (h : Hart) (ic : ℕ) (next : TurnEnd) : Type 0 where
   pub below : is_on next ≡ true → ic < c.limit
   pub within : next ≡ GoesOn → ic < h.begun + c.interval
   pub marked : is_marked_next next ≡ true
@@ -87,7 +87,7 @@ access_moves c h asked after span load small fit from below e =
     }
 
 -- a call moves on by one instruction, and ends its interval
-call_moves : (c : RawSettings) (h : Hart) (asked after : ℕ) (next : Next) (span : Option Span) → c.limit < 2 ^ 63 → IsFit c h → h.state.ic ≤ asked → asked < h.state.ic + budget c h → after ≡ count_up asked → is_marked_next next ≡ true
+call_moves : (c : RawSettings) (h : Hart) (asked after : ℕ) (next : TurnEnd) (span : Option Span) → c.limit < 2 ^ 63 → IsFit c h → h.state.ic ≤ asked → asked < h.state.ic + budget c h → after ≡ count_up asked → is_marked_next next ≡ true
     → (next ≡ GoesOn → ⊥) → MovesOn c h asked after next span None
 call_moves c h asked after next span small fit from below e marked ends =
     let one : after ≡ asked + 1 = e ∙ one_up asked (omega (arith, small, below, fit.limit, budget_limit c h)) in

@@ -10,8 +10,8 @@ use Rattle.rv_meaning.specs.declared.asks.Reply.{Reply}
 use Rattle.system_calls.specs.declared.effect.Plan.{Plan}
 use Rattle.first_load_bits.specs.declared.warm.Warm.{Warm}
 use Rattle.run_model.specs.declared.hart.Hart.{Hart}
-use Rattle.run_model.specs.declared.next.Next.{Next}
-use Rattle.run_model.specs.declared.next.Next.TheVariants.{GoesOn, NewInterval, HartOver, RunOver}
+use Rattle.run_model.specs.declared.turn_end.TurnEnd.{TurnEnd}
+use Rattle.run_model.specs.declared.turn_end.TurnEnd.TheVariants.{GoesOn, NewInterval, HartOver, RunOver}
 use Rattle.run_model.specs.Turn.{next_of, hart_after, skipped_after}
 use Rattle.run_model.specs.Stands.Harts.{AreHarts, hart_in}
 
@@ -23,7 +23,7 @@ hart_at hs k x within e = e ∙ get_or_from_slice_get hs k (hart_in hs k) x (sli
 pub hart_of_run : (hs : List Hart) (k : ℕ) (f : ℕ → Hart) → AreHarts hs f → k < length hs → hart_in hs k ≡ f k
 hart_of_run hs k f are within = get_or_from_slice_get hs k (f k) _ (are k within)
 
-after_same : (next : Next) (s : HartState) (skipped bytes : ℕ) (h : Hart) → hart_after next s skipped bytes (record h { state = s }) ≡ hart_after next s skipped bytes h
+after_same : (next : TurnEnd) (s : HartState) (skipped bytes : ℕ) (h : Hart) → hart_after next s skipped bytes (record h { state = s }) ≡ hart_after next s skipped bytes h
 after_same GoesOn s skipped bytes h = refl
 after_same (NewInterval reason value) s skipped bytes h = refl
 after_same (HartOver reason value) s skipped bytes h = refl
@@ -41,12 +41,12 @@ next_same c None Cut reply h s ic = refl
 next_same c None (Faulted kind value) reply h s ic = refl
 
 -- what comes next, by the hart in its new state
-pub next_here : (c : RawSettings) (call : Option Plan) (want : Want) (reply : Reply) (x a : Hart) (s : HartState) (n : Next) → a ≡ record x { state = s } → n ≡ next_of c call a want reply a.state.ic → n ≡ next_of c call x want reply s.ic
+pub next_here : (c : RawSettings) (call : Option Plan) (want : Want) (reply : Reply) (x a : Hart) (s : HartState) (n : TurnEnd) → a ≡ record x { state = s } → n ≡ next_of c call a want reply a.state.ic → n ≡ next_of c call x want reply s.ic
 next_here c call want reply x a s n ea en =
     en ∙ ap (λ (y : Hart). next_of c call y want reply y.state.ic) ea ∙ next_same c call want reply x s s.ic
 
 -- the hart itself, put together in its place
-pub own_here : (load : Option Warm) (x a own : Hart) (s : HartState) (n : Next) (k bytes : ℕ) → a ≡ record x { state = s } → k ≡ skipped_after load x.skipped
+pub own_here : (load : Option Warm) (x a own : Hart) (s : HartState) (n : TurnEnd) (k bytes : ℕ) → a ≡ record x { state = s } → k ≡ skipped_after load x.skipped
     → own ≡ hart_after n a.state k bytes a → own ≡ hart_after n s (skipped_after load x.skipped) bytes x
 own_here load x a own s n k bytes ea ek eo =
     eo ∙ ap (λ (j : ℕ). hart_after n a.state j bytes a) ek
@@ -54,11 +54,11 @@ own_here load x a own s n k bytes ea ek eo =
     ∙ after_same n s (skipped_after load x.skipped) bytes x
 
 -- what comes next, by the hart of the list
-pub next_at : (c : RawSettings) (call : Option Plan) (want : Want) (reply : Reply) (x h : Hart) (ic : ℕ) (n : Next) → x ≡ h → n ≡ next_of c call x want reply ic → n ≡ next_of c call h want reply ic
+pub next_at : (c : RawSettings) (call : Option Plan) (want : Want) (reply : Reply) (x h : Hart) (ic : ℕ) (n : TurnEnd) → x ≡ h → n ≡ next_of c call x want reply ic → n ≡ next_of c call h want reply ic
 next_at c call want reply x h ic n ex en = en ∙ ap (λ (y : Hart). next_of c call y want reply ic) ex
 
 -- the hart after its turn, whatever the records took in since
-pub own_after : (load : Option Warm) (x h own : Hart) (s : HartState) (n m : Next) (old new : ℕ) → x ≡ h → n ≡ m → own ≡ hart_after n s (skipped_after load x.skipped) old x
+pub own_after : (load : Option Warm) (x h own : Hart) (s : HartState) (n m : TurnEnd) (old new : ℕ) → x ≡ h → n ≡ m → own ≡ hart_after n s (skipped_after load x.skipped) old x
     → hart_after n s (skipped_after load x.skipped) old x ≡ hart_after n s (skipped_after load x.skipped) new x → own ≡ hart_after m s (skipped_after load h.skipped) new h
 own_after load x h own s n m old new ex en eo headed =
-    eo ∙ headed ∙ ap (λ (k : Next). hart_after k s (skipped_after load x.skipped) new x) en ∙ ap (λ (y : Hart). hart_after m s (skipped_after load y.skipped) new y) ex
+    eo ∙ headed ∙ ap (λ (k : TurnEnd). hart_after k s (skipped_after load x.skipped) new x) en ∙ ap (λ (y : Hart). hart_after m s (skipped_after load y.skipped) new y) ex

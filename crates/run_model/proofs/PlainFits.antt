@@ -18,8 +18,8 @@ use Rattle.first_load_bits.specs.declared.warm.Warm.TheVariants as answers
 use Rattle.race_log.specs.Sweep.{has_bit}
 use Rattle.race_log.specs.Stands.{harts_of, lasting_of, next_turn, next_count}
 use Rattle.run_model.specs.declared.hart.Hart.{Hart}
-use Rattle.run_model.specs.declared.next.Next.{Next}
-use Rattle.run_model.specs.declared.next.Next.TheVariants.{GoesOn, NewInterval, HartOver, RunOver}
+use Rattle.run_model.specs.declared.turn_end.TurnEnd.{TurnEnd}
+use Rattle.run_model.specs.declared.turn_end.TurnEnd.TheVariants.{GoesOn, NewInterval, HartOver, RunOver}
 use Rattle.run_model.specs.declared.span.Span.{Span}
 use Rattle.run_model.specs.declared.trace.Trace.{Trace}
 use Rattle.run_model.specs.Machine.{Machine, answer, call_of}
@@ -39,13 +39,13 @@ skip_any None h low after fit a b on = omega (arith, fit, a, b)
 skip_any (Some answers.Warm) h low after fit a b on = omega (arith, fit, a, on refl)
 skip_any (Some answers.Cold) h low after fit a b on = omega (arith, fit, a, b)
 
-ic_after : (next : Next) (s : HartState) (skipped bytes : ℕ) (h : Hart) → (hart_after next s skipped bytes h).state.ic ≡ s.ic
+ic_after : (next : TurnEnd) (s : HartState) (skipped bytes : ℕ) (h : Hart) → (hart_after next s skipped bytes h).state.ic ≡ s.ic
 ic_after GoesOn s skipped bytes h = refl
 ic_after (NewInterval reason value) s skipped bytes h = refl
 ic_after (HartOver reason value) s skipped bytes h = refl
 ic_after (RunOver reason value) s skipped bytes h = refl
 
-number_after : (next : Next) (s : HartState) (skipped bytes : ℕ) (h : Hart) → h.number + clears next ≤ (hart_after next s skipped bytes h).number
+number_after : (next : TurnEnd) (s : HartState) (skipped bytes : ℕ) (h : Hart) → h.number + clears next ≤ (hart_after next s skipped bytes h).number
 number_after GoesOn s skipped bytes h = omega arith
 number_after (NewInterval reason value) s skipped bytes h = omega arith
 number_after (HartOver reason value) s skipped bytes h = omega arith
@@ -53,7 +53,7 @@ number_after (RunOver reason value) s skipped bytes h = omega arith
 
 -- ---- the others
 
-other_ic : (next : Next) (h : Hart) → (other_after next h).state.ic ≡ h.state.ic
+other_ic : (next : TurnEnd) (h : Hart) → (other_after next h).state.ic ≡ h.state.ic
 other_ic GoesOn h = refl
 other_ic (NewInterval reason value) h = refl
 other_ic (HartOver reason value) h = refl
@@ -63,7 +63,7 @@ other_ic (RunOver reason value) h = by_live h.live h
     by_live true x = refl
     by_live false x = refl
 
-other_number : (next : Next) (h : Hart) → (other_after next h).number ≡ h.number
+other_number : (next : TurnEnd) (h : Hart) → (other_after next h).number ≡ h.number
 other_number GoesOn h = refl
 other_number (NewInterval reason value) h = refl
 other_number (HartOver reason value) h = refl
@@ -73,7 +73,7 @@ other_number (RunOver reason value) h = by_live h.live h
     by_live true x = refl
     by_live false x = refl
 
-other_live : (next : Next) (h : Hart) → (other_after next h).live ≡ true → h.live ≡ true
+other_live : (next : TurnEnd) (h : Hart) → (other_after next h).live ≡ true → h.live ≡ true
 other_live GoesOn h e = e
 other_live (NewInterval reason value) h e = e
 other_live (HartOver reason value) h e = e
@@ -128,10 +128,10 @@ counted_less (Some x) low before after a b on = omega (arith, on refl)
 in_new : (hs : List Hart) (j : ℕ) (f : ℕ → Hart) → AreHarts hs f → j < length hs → hart_in hs j ≡ f j
 in_new hs j f are within = get_or_from_slice_get hs j (f j) _ (are j within)
 
-own_at : (j k : ℕ) (next : Next) (own : Hart) (f : ℕ → Hart) → (j == k) ≡ true → harts_after next k own f j ≡ own
+own_at : (j k : ℕ) (next : TurnEnd) (own : Hart) (f : ℕ → Hart) → (j == k) ≡ true → harts_after next k own f j ≡ own
 own_at j k next own f e = ap (λ (b : Bool). elim b as (λ x. Hart) [ true ↦ own | false ↦ other_after next (f j) ]) e
 
-other_at : (j k : ℕ) (next : Next) (own : Hart) (f : ℕ → Hart) → (j == k) ≡ false → harts_after next k own f j ≡ other_after next (f j)
+other_at : (j k : ℕ) (next : TurnEnd) (own : Hart) (f : ℕ → Hart) → (j == k) ≡ false → harts_after next k own f j ≡ other_after next (f j)
 other_at j k next own f e = ap (λ (b : Bool). elim b as (λ x. Hart) [ true ↦ own | false ↦ other_after next (f j) ]) e
 
 -- the turn moves on, where the call and the reply are these
@@ -142,7 +142,7 @@ moves_as c i m h k ask call reply ec er on =
     subst (λ (r : Reply). Q call r) (sym er) (subst (λ (x : Option Plan). Q x (answer c x m k ask).reply) (sym ec) on)
 
 -- the hart whose turn it was
-own_hart : (c : RawSettings) (old new : Trace) (turns k : ℕ) (ask : Ask) (call : Option Plan) (reply : Reply) (load : Option Warm) (next : Next) (own : Hart)
+own_hart : (c : RawSettings) (old new : Trace) (turns k : ℕ) (ask : Ask) (call : Option Plan) (reply : Reply) (load : Option Warm) (next : TurnEnd) (own : Hart)
     → let h = hart_in old.harts.items k in let s = absorbed ask reply in
     next ≡ next_of c call h ask.want reply s.ic → own ≡ hart_after next s (skipped_after load h.skipped) new.log.bytes h → 1 ≤ c.interval → (hart_in old.harts.items k).live ≡ true → IsOwnFit c old k → MovesOn c h ask.state.ic s.ic next (span_of call ask.want reply) (loading ask.want)
     → Steps c old new turns k ask call reply load → hart_in new.harts.items k ≡ own → (k == k) ≡ true → IsHartFit c new k
@@ -163,7 +163,7 @@ own_hart c old new turns k ask call reply load next own en eo some live fit on s
     }
 
 -- another hart
-other_hart : (c : RawSettings) (old new : Trace) (turns k j : ℕ) (ask : Ask) (call : Option Plan) (reply : Reply) (load : Option Warm) (next : Next) → IsHartFit c old j → Steps c old new turns k ask call reply load
+other_hart : (c : RawSettings) (old new : Trace) (turns k j : ℕ) (ask : Ask) (call : Option Plan) (reply : Reply) (load : Option Warm) (next : TurnEnd) → IsHartFit c old j → Steps c old new turns k ask call reply load
     → hart_in new.harts.items j ≡ other_after next (hart_in old.harts.items j) → (j == k) ≡ false → j ≢ k → IsHartFit c new j
 other_hart c old new turns k j ask call reply load next fit st at apart differ =
     let h = hart_in old.harts.items j in

@@ -8,8 +8,8 @@ use Rattle.log_record.specs.declared.record.Record.{Record}
 use Rattle.log_record.specs.declared.record.Record.TheVariants.{End}
 use Rattle.bn_base.specs.declared.state.HartState.{HartState}
 use Rattle.run_model.specs.declared.hart.Hart.{Hart}
-use Rattle.run_model.specs.declared.next.Next.{Next}
-use Rattle.run_model.specs.declared.next.Next.TheVariants.{GoesOn, NewInterval, HartOver, RunOver}
+use Rattle.run_model.specs.declared.turn_end.TurnEnd.{TurnEnd}
+use Rattle.run_model.specs.declared.turn_end.TurnEnd.TheVariants.{GoesOn, NewInterval, HartOver, RunOver}
 use Rattle.run_model.specs.Turn.{other_after, harts_after, stopped_records, run_over_records, next_records, mark}
 use Rattle.run_model.specs.Stands.Harts.{AreHarts, others_after, stopped_at, stopped_below, stop_record, stop_records}
 
@@ -105,7 +105,7 @@ no_change true h = refl
 no_change false h = refl
 
 -- where the run goes on, the other harts stay
-pub others_stay : (next : Next) (hs : List Hart) (own : ℕ) (f : ℕ → Hart) → other_after next ≡ (λ h. h) → AreHarts hs f → AreHarts hs (others_after next own f)
+pub others_stay : (next : TurnEnd) (hs : List Hart) (own : ℕ) (f : ℕ → Hart) → other_after next ≡ (λ h. h) → AreHarts hs f → AreHarts hs (others_after next own f)
 others_stay next hs own f e are k below = are k below ∙ ap Some (no_change (k == own) (f k) ∙ ap (λ (g : Hart → Hart). elim (k == own) as (λ x. Hart) [ true ↦ f k | false ↦ g (f k) ]) (sym e))
 
 pub all_stopped : (hs : List Hart) (own n : ℕ) (f : ℕ → Hart) → AreHarts hs (stopped_below own n f) → n ≡ length hs → AreHarts hs (stopped_at own f)
@@ -118,12 +118,12 @@ with_own own t f j = elim (j == own) [ true ↦ t | false ↦ f j ]
 pub own_set : (hs : List Hart) (own : ℕ) (t : Hart) (f : ℕ → Hart) → AreHarts hs f → own < length hs → AreHarts (slice_set hs own t) (with_own own t f)
 own_set hs own t f are within = are_set hs own t f (with_own own t f) are within (λ k. refl)
 
-after_by : (next : Next) (b : Bool) (t x : Hart) → elim b as (λ z. Hart) [ true ↦ elim b as (λ z. Hart) [ true ↦ t | false ↦ x ] | false ↦ other_after next (elim b as (λ z. Hart) [ true ↦ t | false ↦ x ]) ] ≡ elim b as (λ z. Hart) [ true ↦ t | false ↦ other_after next x ]
+after_by : (next : TurnEnd) (b : Bool) (t x : Hart) → elim b as (λ z. Hart) [ true ↦ elim b as (λ z. Hart) [ true ↦ t | false ↦ x ] | false ↦ other_after next (elim b as (λ z. Hart) [ true ↦ t | false ↦ x ]) ] ≡ elim b as (λ z. Hart) [ true ↦ t | false ↦ other_after next x ]
 after_by next true t x = refl
 after_by next false t x = refl
 
 -- they are those after the turn, once the others are
-pub others_then : (next : Next) (hs : List Hart) (own : ℕ) (t : Hart) (f : ℕ → Hart) → AreHarts hs (others_after next own (with_own own t f)) → AreHarts hs (harts_after next own t f)
+pub others_then : (next : TurnEnd) (hs : List Hart) (own : ℕ) (t : Hart) (f : ℕ → Hart) → AreHarts hs (others_after next own (with_own own t f)) → AreHarts hs (harts_after next own t f)
 others_then next hs own t f are k below = are k below ∙ ap Some (after_by next (k == own) t (f k))
 
 -- and the Ends of the others are the same
@@ -139,23 +139,23 @@ stops_with_own (suc n) own j t f =
     one_end (j == own) j t (f j) (stopped_records own (j + 1) n (with_own own t f))
     ∙ ap (λ (rs : List Record). elim (not (j == own) && (f j).live) as (λ z. List Record) [ true ↦ End j (mark (f j).state.ic 5 0) ∷ rs | false ↦ rs ]) (stops_with_own n own (j + 1) t f)
 
-pub ends_with_own : (next : Next) (own n : ℕ) (t : Hart) (f : ℕ → Hart) → run_over_records next own n (with_own own t f) ≡ run_over_records next own n f
+pub ends_with_own : (next : TurnEnd) (own n : ℕ) (t : Hart) (f : ℕ → Hart) → run_over_records next own n (with_own own t f) ≡ run_over_records next own n f
 ends_with_own GoesOn own n t f = refl
 ends_with_own (NewInterval reason value) own n t f = refl
 ends_with_own (HartOver reason value) own n t f = refl
 ends_with_own (RunOver reason value) own n t f = stops_with_own n own 0 t f
 
 -- the records of a turn, by what the code appends one after the other
-pub ends_are : (n m : Next) (own : ℕ) (x h t : Hart) (s : HartState) (hs kept : List Hart) (f : ℕ → Hart) (rs : List Record) → n ≡ m → x ≡ h → length kept ≡ length hs
+pub ends_are : (n m : TurnEnd) (own : ℕ) (x h t : Hart) (s : HartState) (hs kept : List Hart) (f : ℕ → Hart) (rs : List Record) → n ≡ m → x ≡ h → length kept ≡ length hs
     → (rs ++ next_records n own x.number s) ++ run_over_records n own (length kept) (with_own own t f) ≡ rs ++ next_records m own h.number s ++ run_over_records m own (length hs) f
 ends_are n m own x h t s hs kept f rs en ex el =
     ap (λ (ys : List Record). (rs ++ next_records n own x.number s) ++ ys) (ends_with_own n own (length kept) t f)
     ∙ ap (λ (l : ℕ). (rs ++ next_records n own x.number s) ++ run_over_records n own l f) el
     ∙ ap (λ (y : Hart). (rs ++ next_records n own y.number s) ++ run_over_records n own (length hs) f) ex
-    ∙ ap (λ (j : Next). (rs ++ next_records j own h.number s) ++ run_over_records j own (length hs) f) en
+    ∙ ap (λ (j : TurnEnd). (rs ++ next_records j own h.number s) ++ run_over_records j own (length hs) f) en
 
-pub over_harts : (next : Next) (reason value : ℕ) (hs : List Hart) (own : ℕ) (f : ℕ → Hart) → next ≡ RunOver reason value → AreHarts hs (stopped_at own f) → AreHarts hs (others_after next own f)
-over_harts next reason value hs own f e are = subst (λ (n : Next). AreHarts hs (others_after n own f)) (sym e) are
+pub over_harts : (next : TurnEnd) (reason value : ℕ) (hs : List Hart) (own : ℕ) (f : ℕ → Hart) → next ≡ RunOver reason value → AreHarts hs (stopped_at own f) → AreHarts hs (others_after next own f)
+over_harts next reason value hs own f e are = subst (λ (n : TurnEnd). AreHarts hs (others_after n own f)) (sym e) are
 
-pub over_records : (next : Next) (reason value own n : ℕ) (f : ℕ → Hart) → next ≡ RunOver reason value → stop_records own n f ≡ run_over_records next own n f
-over_records next reason value own n f e = stops_are own n f ∙ ap (λ (x : Next). run_over_records x own n f) (sym e)
+pub over_records : (next : TurnEnd) (reason value own n : ℕ) (f : ℕ → Hart) → next ≡ RunOver reason value → stop_records own n f ≡ run_over_records next own n f
+over_records next reason value own n f e = stops_are own n f ∙ ap (λ (x : TurnEnd). run_over_records x own n f) (sym e)

@@ -1,18 +1,51 @@
--- What an audit finds.
-use Rattle.std.specs.Prelude.{◌≡◌, ◌≢◌, ℕ, ◌+◌, ◌==◌, true, false, List, [], ◌∷◌, take, slice_get, Option}
+-- What an audit compares, and what it finds.
+use Rattle.std.specs.Prelude.{◌≡◌, ◌≢◌, ℕ, ◌+◌, ◌==◌, Bool, true, false, List, [], ◌∷◌, take, drop, slice_get, Option}
+use Rattle.std.specs.Str.{bytes_eq}
+use Rattle.bn_base.specs.Programs.{Program}
+use Rattle.bn_base.specs.declared.settings.RawSettings.{RawSettings}
+use Rattle.log_order.specs.Content.{Content}
+use Rattle.log_file.specs.Layout.{file_bytes, file_bytes2, saved_bytes}
 use Rattle.run_model.specs.declared.error.TurnError.{TurnError}
 use Rattle.run_model.specs.declared.verdict.Verdict.{Verdict}
 use Rattle.run_model.specs.declared.verdict.Verdict.TheVariants.{Agree, Differ}
+use Rattle.run_model.specs.Files.{content_of}
 use Rattle.run_model.specs.Lists.{list_error}
+use Rattle.run_model.specs.Runs.{run_of}
 use Rattle.run_model.specs.Examples.{Recording, program_of}
 
--- the first place where two lists of bytes differ, or where one of the two ends: up to there they are the same, and what
+-- ---- the file that a log is compared with
+
+-- the bytes 8 to 11 of a log file are the number of its version; here it is 2
+abbrev pub is_version2 : (log : List ℕ) → Bool
+is_version2 log = bytes_eq (take 4 (drop 8 log)) (2 ∷ 0 ∷ 0 ∷ 0 ∷ [])
+
+-- the file of the run of a list of turns in version 2, whatever the format of the settings
+abbrev pub version2_of : RawSettings → Program → (digest input : List ℕ) → List ℕ → List ℕ
+version2_of c i digest input b = file_bytes2 (content_of c digest (run_of c i input b))
+
+-- a log in version 2, or in the version of its settings' format
+abbrev pub bytes_in : (second : Bool) → Content → List ℕ
+bytes_in true d = file_bytes2 d
+bytes_in false d = saved_bytes d
+
+-- the file of the run of a list of turns: a log of version 2 is compared with the run's file in that version, whatever the
+-- format, and any other log with the file that the recording saves
+abbrev pub audited_file : (second : Bool) → RawSettings → Program → (digest input : List ℕ) → List ℕ → List ℕ
+audited_file second c i digest input b = bytes_in second (content_of c digest (run_of c i input b))
+
+-- a file of version 2 has the number of version 2, and one of version 1 hasn't
+abbrev pub FilesNumberTheirVersion : Type 0
+FilesNumberTheirVersion = (d : Content) → (is_version2 (file_bytes2 d) ≡ true) × (is_version2 (file_bytes d) ≡ false)
+
+-- ---- the verdict
+
+-- the first place where two lists of bytes differ, or the place where one of the two ends: up to there they are the same, and what
 -- stands there isn't
 pub record DifferFirst (xs ys : List ℕ) (place : ℕ) : Type 0 where
   pub before : take place xs ≡ take place ys
   pub there : slice_get xs place ≢ slice_get ys place
 
--- the log is the file, or it is said where they differ first
+-- the log is the file, or the verdict is the place where they differ first
 abbrev pub IsVerdict : (file log : List ℕ) → Verdict → Type 0
 IsVerdict file log Agree = log ≡ file
 IsVerdict file log (Differ place) = DifferFirst log file place
@@ -24,10 +57,11 @@ verdict_from place [] (y ∷ ys) = Differ place
 verdict_from place (x ∷ xs) [] = Differ place
 verdict_from place (x ∷ xs) (y ∷ ys) = elim (x == y) [ true ↦ verdict_from (place + 1) xs ys | false ↦ Differ place ]
 
+-- the verdict as a function of the bytes
 abbrev pub verdict_of : (file log : List ℕ) → Verdict
 verdict_of file log = verdict_from 0 file log
 
--- bytes have one verdict: they agree exactly where they are those of the file, and else differ first at one place
+-- bytes have one verdict: they agree exactly if they are those of the file, and else differ first at one place
 pub record VerdictsAreUnique : Type 0 where
   pub one : (file log : List ℕ) (v w : Verdict) → IsVerdict file log v → IsVerdict file log w → v ≡ w
   pub is : (file log : List ℕ) → IsVerdict file log (verdict_of file log)

@@ -12,8 +12,8 @@ abbrev pub unfinished : List ℕ → Option TurnError
 unfinished [] = None
 unfinished (k ∷ ks) = Some (NotFinished k)
 
--- the first turn whose hart isn't live then, where the list begins with turn `at`; else the lowest hart that is live after
--- the last turn; None where the list is legal and finished
+-- the first turn whose hart isn't live then, if the list begins with turn `at`; else the lowest hart that is live after
+-- the last turn; None if the list is legal and finished
 abbrev pub error_from : RawSettings → Program → Run → ℕ → List ℕ → Option TurnError
 error_from c i run at [] = unfinished (live_harts 0 c.harts run.harts)
 error_from c i run at (k ∷ ks) = elim (is_live c run k) [ true ↦ error_from c i (turn c i run k) (at + 1) ks | false ↦ Some (IllegalTurn at k) ]

@@ -1,5 +1,6 @@
--- The machine that all harts share: its memory, the harts' reservations, and what system calls change; and how it
--- answers what a hart asks.
+-- The machine that all harts share: its memory, the harts' reservations, and what system calls change; and how it answers what
+-- a hart asks. The files of this folder say what a recording is, and nothing of code. Those of `Stands` say which machines and
+-- runs the parts of the code represent.
 use Rattle.std.specs.Prelude.{ℕ, zero, suc, ◌+◌, ◌-◌, ◌*◌, ◌/◌, ◌%◌, ◌==◌, nat_lt, nat_le, Bool, true, false, ◌&&◌, List, [], ◌∷◌, ◌++◌, length, take, drop, slice_index, Option, Some, None, cond, if◌then◌else◌}
 use Rattle.bn_base.specs.Programs.{Program}
 use Rattle.bn_base.specs.declared.settings.RawSettings.{RawSettings}
@@ -35,7 +36,7 @@ kernel_of m = record { brk = m.brk; input_left = length m.input; out_len = lengt
 abbrev pub planned : Program → Machine → (number : ℕ) (args : List ℕ) → Plan
 planned i m number args = plan_of number (slice_index args 0) (slice_index args 1) (slice_index args 2) (kernel_of m) i
 
--- what is planned where a hart asks for a system call
+-- what is planned if a hart asks for a system call
 abbrev pub call_of : Program → Machine → Want → Option Plan
 call_of i m (System number args) = Some (planned i m number args)
 call_of i m want = None
@@ -95,6 +96,7 @@ pub record Answered : Type 0 where
   pub reply : Reply
   pub machine : Machine
 
+-- the two together
 abbrev pub answered : Reply → Machine → Answered
 answered reply m = record { reply = reply; machine = m }
 
@@ -130,12 +132,12 @@ answer_store a width v h m =
 abbrev pub answer_amo : ℕ → AmoOp → (v h : ℕ) → Machine → Answered
 answer_amo a op v h m = answered (replies.Word (m.memory a)) (with_memory (updated a (amo_result op (m.memory a) v) m.memory) (others_lose h a m.reserved) m)
 
--- what an SC of hart h does: it writes where the hart has reserved that word, and ends the reservation (section 8.2)
+-- what an SC of hart h does: it writes if the hart has reserved that word, and ends the reservation (section 8.2)
 abbrev pub answer_sc : Bool → ℕ → ℕ → ℕ → Machine → Answered
 answer_sc true a v h m = answered replies.ScOk (with_memory (updated a v m.memory) (reserving h None (others_lose h a m.reserved)) m)
 answer_sc false a v h m = answered replies.ScFailed (with_reserved (reserving h None m.reserved) m)
 
--- a cut at the limit ends the hart; after any other it goes on
+-- a cut at the limit ends the hart; after any other it continues
 abbrev pub cut_reply : RawSettings → ℕ → Reply
 cut_reply c ic = if nat_le c.limit ic then replies.Over else replies.Went
 
@@ -152,7 +154,8 @@ answer_access c m h ask = elim (ask.want) [
   | Faulted kind value ↦ answered replies.Over m
 ]
 
--- the answer to what hart h asks, by the call that is planned for it, if one is
+-- the answer to what hart h asks, by the call that is planned for it, if one is. A written word ends the other harts'
+-- reservations of it; a system call ends its own hart's, and all harts' of the words that it fills
 abbrev pub answer : RawSettings → Option Plan → Machine → ℕ → Ask → Answered
 answer c None m h ask = answer_access c m h ask
 answer c (Some plan) m h ask = answer_call plan h m

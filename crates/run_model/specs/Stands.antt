@@ -1,5 +1,5 @@
--- How what runs stands for a recording: which machines, histories, harts, logs and runs of the definitions the code's values
--- stand for.
+-- How what runs represents a recording: which machines, histories, harts, logs and runs of the definitions the code's values
+-- represent.
 pub mod Taken
 pub mod Logs
 pub mod Harts

@@ -4,8 +4,7 @@ ghost use Rattle.run_model.specs.declared.error.TurnError.TheVariants.{OutOfMemo
 ghost use Rattle.run_model.specs.Turn.{Run};
 ghost use Rattle.run_model.specs.Runs.{start, run_from, run_of, live_harts};
 ghost use Rattle.run_model.specs.Lists.{unfinished, error_from, list_error};
-ghost use Rattle.run_model.specs.Files.{file_of};
-ghost use Rattle.run_model.specs.Audits.{IsVerdict};
+ghost use Rattle.run_model.specs.Audits.{is_version2, audited_file, IsVerdict};
 ghost use Rattle.run_model.specs.Stands.Plain.{IsRun};
 ghost use Rattle.run_model.specs.Stands.Turning.{parts};
 
@@ -85,9 +84,24 @@ fn whole_run(alloc: Global, from: &Start, list: &[u8]) -> Result<Plain, TurnErro
     Ok(plain)
 }
 
-// The log file of the run of a list that leaves no hart live.
-fn file_of(alloc: Global, from: &Start, list: &[u8]) -> Result<Vec<u8>, TurnError>
-    ensures file { IfOk result (λ file. file.items ≡ file_of from.now.settings from.now.image from.now.digest from.now.input.items list.now) }
+// Whether the number of a log's version, in its bytes 8 to 11, is 2.
+fn is_version2(log: &[u8]) -> bool
+    ensures { result ≡ is_version2 log.now }
+{
+    let rest = &log[8usize.min(log.len())..];
+    let number = &rest[..4usize.min(rest.len())];
+    number == &[2, 0, 0, 0][..]
+}
+
+// The file that a log is compared with, of the run of a list that leaves no hart live. All but what was recorded is
+// dropped before the file is made.
+fn audited_file(
+    alloc: Global,
+    from: &Start,
+    second: bool,
+    list: &[u8],
+) -> Result<Vec<u8>, TurnError>
+    ensures file { IfOk result (λ file. file.items ≡ audited_file second from.now.settings from.now.image from.now.digest from.now.input.items list.now) }
     ensures whole { OnOk result (list_error from.now.settings from.now.image from.now.input.items list.now ≡ None) }
     ensures refused { IfErr result (λ e. (e ≡ OutOfMemory) ⊎ (list_error from.now.settings from.now.image from.now.input.items list.now ≡ Some e)) }
 {
@@ -95,7 +109,7 @@ fn file_of(alloc: Global, from: &Start, list: &[u8]) -> Result<Vec<u8>, TurnErro
         Err(error) => Err(error),
         Ok(plain) => {
             let recorded = plain.into_recorded();
-            match from.log_file(alloc, &recorded.ring) {
+            match from.log_file_in(alloc, second, &recorded.ring) {
                 Err(_) => Err(TurnError::OutOfMemory),
                 Ok(file) => Ok(file),
             }
@@ -123,17 +137,19 @@ fn compare(file: &[u8], log: &[u8]) -> Verdict
 }
 
 /// Whether a log is the file of the run of a list of turns, one byte for each turn, the number of its
-/// hart; and where it isn't, the first place where the two differ or one ends. The run is made again, by
-/// code that is decoded ahead.
+/// hart; and where it isn't, the first place where the two differ or one ends. A log whose bytes 8 to 11
+/// are 2, 0, 0, 0 is of version 2: it is compared with the run's file in that version, whatever the
+/// format, and any other log with the file that the recording saves. The run is made again, by code that
+/// is decoded ahead.
 ///
 /// The list is refused exactly where one of its harts isn't live at its turn, or some hart is live after
-/// the last; the error names the first such turn, or the lowest such hart. Want of memory may come in
+/// the last; the error names the first such turn, or the lowest such hart. Out of memory may come in
 /// place of any answer.
 pub fn audit(alloc: Global, from: &Start, list: &[u8], log: &[u8]) -> Result<Verdict, TurnError>
-    ensures verdict { IfOk result (λ v. IsVerdict (file_of from.now.settings from.now.image from.now.digest from.now.input.items list.now) log.now v) }
+    ensures verdict { IfOk result (λ v. IsVerdict (audited_file (is_version2 log.now) from.now.settings from.now.image from.now.digest from.now.input.items list.now) log.now v) }
     ensures whole { OnOk result (list_error from.now.settings from.now.image from.now.input.items list.now ≡ None) }
     ensures refused { IfErr result (λ e. (e ≡ OutOfMemory) ⊎ (list_error from.now.settings from.now.image from.now.input.items list.now ≡ Some e)) }
 {
-    let file = file_of(alloc, from, list)?;
+    let file = audited_file(alloc, from, is_version2(log), list)?;
     Ok(compare(&file, log))
 }

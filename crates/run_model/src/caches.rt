@@ -8,7 +8,7 @@ ghost use Rattle.system_calls.specs.declared.effect.Plan.{Plan};
 ghost use Rattle.first_load_bits.specs.Events.{Event};
 ghost use Rattle.first_load_bits.specs.Events.{Touch, Clear};
 ghost use Rattle.first_load_bits.specs.Stands.{Contents, StandsFor};
-ghost use Rattle.run_model.specs.declared.next.Next.TheVariants.{GoesOn, NewInterval};
+ghost use Rattle.run_model.specs.declared.turn_end.TurnEnd.TheVariants.{GoesOn, NewInterval};
 ghost use Rattle.run_model.specs.Machine.{Machine};
 ghost use Rattle.run_model.specs.declared.span.Span.{Span};
 ghost use Rattle.run_model.specs.Turn.{drops, dropped, events_after, loading, span_of, warmth};

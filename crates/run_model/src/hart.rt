@@ -7,7 +7,7 @@ ghost use Rattle.run_model.specs.Counts.{anew};
 ghost use Rattle.run_model.specs.Turn.{budget, hart_after, mark, stopped, dead, skipped_after};
 ghost use Rattle.run_model.specs.Stands.InPlace.{ask_here};
 
-use crate::next::Next;
+use crate::turn_end::TurnEnd;
 use bn_base::end_mark::STOPPED;
 use bn_base::{EndMark, HartId, HartState, Ic, Settings};
 use first_load_bits::Warm;
@@ -83,20 +83,20 @@ impl Hart {
     /// Takes in what comes after its turn, its state being the one after the reply; the log took so
     /// many bytes by now.
     #[inline(always)]
-    pub fn take(&mut self, next: Next, skipped: u32, bytes: u64)
+    pub fn take(&mut self, next: TurnEnd, skipped: u32, bytes: u64)
         requires { self.old.number < 2 ^ 64 - 1 }
         ensures { self.new ≡ hart_after next self.old.state skipped bytes self.old }
     {
         match next {
-            Next::GoesOn => self.skipped = skipped,
-            Next::NewInterval { reason, value } => {
+            TurnEnd::GoesOn => self.skipped = skipped,
+            TurnEnd::NewInterval { reason, value } => {
                 self.mark = Some(self.mark_here(reason, value));
                 self.number += 1;
                 self.begun = self.state.ic;
                 self.headed = bytes;
                 self.skipped = 0;
             }
-            Next::HartOver { reason, value } | Next::RunOver { reason, value } => {
+            TurnEnd::HartOver { reason, value } | TurnEnd::RunOver { reason, value } => {
                 self.mark = Some(self.mark_here(reason, value));
                 self.live = false;
                 self.skipped = skipped;
@@ -110,7 +110,7 @@ impl Hart {
         ensures { self.new ≡ anew state.now bytes self.old }
     {
         self.state = *state;
-        self.take(Next::by_guard(), 0, bytes);
+        self.take(TurnEnd::by_guard(), 0, bytes);
     }
 
     // A mark at its present count.

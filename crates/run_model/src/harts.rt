@@ -10,8 +10,8 @@ ghost use Rattle.run_model.specs.Stands.Logs.{taken, IsLog};
 
 use crate::hart::Hart;
 use crate::log::Log;
-use crate::next::Next;
 use crate::records::append_end;
+use crate::turn_end::TurnEnd;
 use bn_base::HartId;
 use bn_base::end_mark::STOPPED;
 
@@ -49,7 +49,7 @@ fn stop_others(harts: &mut Vec<Hart>, log: &mut Log, own: HartId)
 
 /// Where a turn ends the run, the other harts are stopped and their Ends appended.
 #[inline(always)]
-pub fn end_others(harts: &mut Vec<Hart>, log: &mut Log, own: HartId, next: Next)
+pub fn end_others(harts: &mut Vec<Hart>, log: &mut Log, own: HartId, next: TurnEnd)
     requires few { length harts.old.items ≤ HARTS }
     requires room { taken log.old.ring + HARTS < 2 ^ 56 }
     ensures harts { (f : ℕ → Hart) → AreHarts harts.old.items f → AreHarts harts.new.items (others_after next own f) }
@@ -60,8 +60,8 @@ pub fn end_others(harts: &mut Vec<Hart>, log: &mut Log, own: HartId, next: Next)
     ensures len { length harts.new.items ≡ length harts.old.items }
 {
     match next {
-        Next::RunOver { .. } => stop_others(harts, log, own),
-        Next::GoesOn | Next::NewInterval { .. } | Next::HartOver { .. } => {}
+        TurnEnd::RunOver { .. } => stop_others(harts, log, own),
+        TurnEnd::GoesOn | TurnEnd::NewInterval { .. } | TurnEnd::HartOver { .. } => {}
     }
 }
 

@@ -1,6 +1,6 @@
 // Laws of turns.
 ghost use Rattle.run_model.specs.Counts.{EachTurnMovesOn, EachTurnFits, OthersStayFit, GuardedAsksFit};
-ghost use Rattle.run_model.specs.Audits.{VerdictsAreUnique};
+ghost use Rattle.run_model.specs.Audits.{FilesNumberTheirVersion, VerdictsAreUnique};
 ghost use Rattle.run_model.specs.Files.{FormatOneIsVersionOne};
 ghost use Rattle.run_model.specs.Guards.{FormatOneIsUnguarded, RecordsDecideNothing};
 
@@ -47,6 +47,12 @@ pub fn format_1_is_version_1()
 /// do.
 pub fn records_decide_nothing()
     ensures { RecordsDecideNothing }
+{}
+
+/// A log file of version 2 has the number 2 in its bytes 8 to 11, and one of version 1 hasn't.
+#[tactic(auto, using(crate::proofs::LogVersions::numbered))]
+pub fn files_number_their_version()
+    ensures { FilesNumberTheirVersion }
 {}
 
 /// Bytes have one verdict, which is also told as a function: they agree exactly where they are those of

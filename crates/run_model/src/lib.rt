@@ -14,7 +14,6 @@ mod laws;
 mod live;
 mod log;
 mod machine;
-mod next;
 mod plain;
 mod quick;
 mod race;
@@ -23,6 +22,7 @@ mod span;
 mod start;
 mod taking;
 mod trace;
+mod turn_end;
 mod turning;
 mod verdict;
 
@@ -48,15 +48,16 @@ pub use guarded_examples::{
 };
 pub use hart::{Hart, skipped_after};
 pub use laws::{
-    each_turn_fits, each_turn_moves_on, format_1_is_unguarded, format_1_is_version_1,
-    guarded_asks_fit, others_stay_fit, records_decide_nothing, verdicts_are_unique,
+    each_turn_fits, each_turn_moves_on, files_number_their_version, format_1_is_unguarded,
+    format_1_is_version_1, guarded_asks_fit, others_stay_fit, records_decide_nothing,
+    verdicts_are_unique,
 };
 pub use log::Log;
 pub use machine::{Machine, Streams};
-pub use next::Next;
 pub use plain::Plain;
 pub use span::{Span, loading};
 pub use start::Start;
 pub use trace::Trace;
+pub use turn_end::TurnEnd;
 pub use turning::Recorded;
 pub use verdict::Verdict;

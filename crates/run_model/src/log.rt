@@ -1,10 +1,12 @@
-// The log of a run, and how many bytes it took.
+//! The log of a run, and how many bytes it took.
 ghost use Rattle.std.specs.Prelude.{◌≤◌, ◌*◌};
 ghost use Rattle.run_model.specs.Stands.Taken.{taken};
 
-use log_record::Ring;
+use log_ring::Ring;
 
 /// The ring of the records that are kept, and how many bytes all records had that it took.
+// The bytes are counted beside the ring, in a type that bounds them by 146 a record: so no append overflows, and
+// no caller needs a bound of its own.
 #[derive(Drop)]
 pub struct Log {
     pub ring: Ring,

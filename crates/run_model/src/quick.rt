@@ -11,7 +11,7 @@ ghost use Rattle.log_record.specs.declared.record.Record.{Record};
 ghost use Rattle.race_log.specs.Points.{Point};
 ghost use Rattle.race_log.specs.Stands.{Stands, harts_of, lasting_of, lasts, next_turn, next_count};
 ghost use Rattle.run_model.specs.declared.hart.Hart.{Hart};
-ghost use Rattle.run_model.specs.declared.next.Next.TheVariants.{GoesOn};
+ghost use Rattle.run_model.specs.declared.turn_end.TurnEnd.TheVariants.{GoesOn};
 ghost use Rattle.run_model.specs.declared.span.Span.{Span};
 ghost use Rattle.rv_meaning.specs.Words.{aligned};
 ghost use Rattle.rv_meaning.specs.declared.asks.Want.TheVariants.{Load, Store};
@@ -35,12 +35,12 @@ use crate::hart::{Hart, skipped_after};
 use crate::harts::end_others;
 use crate::laws::each_turn_moves_on;
 use crate::log::Log;
-use crate::next::Next;
 use crate::plain::Plain;
 use crate::race::record_access;
 use crate::records::{append_load, append_next};
 use crate::span::Span;
 use crate::trace::Trace;
+use crate::turn_end::TurnEnd;
 use bn_base::{Addr, HartId, HartState, Ic, Register, Registers, Settings};
 use first_load_bits::Warm;
 use race_log::Mode;
@@ -56,7 +56,7 @@ fn take_turn_here(
     want: &Want,
     reply: Reply,
     load: Option<Warm>,
-) -> Next
+) -> TurnEnd
     requires fits { IsTrue (is_reply_to want.now reply) }
     requires number { own.old.number < 2 ^ 62 }
     requires skipped { own.old.skipped < 2 ^ 32 - 1 }
@@ -70,7 +70,7 @@ fn take_turn_here(
 {
     let skipped = skipped_after(load, own.skipped);
     own.absorb_here(want, reply);
-    let next = Next::of(settings, None, own, want, reply, own.state.ic);
+    let next = TurnEnd::of(settings, None, own, want, reply, own.state.ic);
     append_next(log, next, hart, own.number, &own.state);
     own.take(next, skipped, log.bytes);
     next
@@ -110,7 +110,7 @@ impl Trace {
         want: &Want,
         reply: Reply,
         load: Option<Warm>,
-    ) -> Next
+    ) -> TurnEnd
         requires hart { hart < length self.old.harts.items }
         requires few { length self.old.harts.items ≤ HARTS }
         requires caches { hart < length self.old.caches }

@@ -3,15 +3,16 @@ ghost use Rattle.std.specs.Prelude.{◌≡◌, ◌≤◌, ◌<◌, ◌+◌, ◌*
 ghost use Rattle.log_record.specs.declared.record.Record.{Record};
 ghost use Rattle.log_record.specs.declared.record.Record.TheVariants.{End, FirstLoad};
 ghost use Rattle.log_record.specs.Spelling.{bytes_of, is_mark, is_marked};
-ghost use Rattle.log_record.specs.Kept.{held};
+ghost use Rattle.log_ring.specs.Kept.{held};
 ghost use Rattle.run_model.specs.Turn.{edges_from, load_record, sc_record, header, mark, next_records};
 ghost use Rattle.run_model.specs.Stands.Logs.{taken, Took, IsLog, is_marked_next};
 
 use crate::log::Log;
-use crate::next::Next;
+use crate::turn_end::TurnEnd;
 use bn_base::{EndMark, HartId, HartState, Ic};
 use first_load_bits::Warm;
-use log_record::{Record, Ring};
+use log_record::Record;
+use log_ring::Ring;
 use race_log::Edges;
 use rv_meaning::Reply;
 use std::alloc::{AllocError, Global};
@@ -163,7 +164,7 @@ pub fn append_header(log: &mut Log, hart: HartId, number: u64, state: &HartState
 /// Appends the End of an interval that a turn ends, and the Header of the one that it begins, by its
 /// number.
 #[inline(always)]
-pub fn append_next(log: &mut Log, next: Next, hart: HartId, number: u64, state: &HartState)
+pub fn append_next(log: &mut Log, next: TurnEnd, hart: HartId, number: u64, state: &HartState)
     requires marked { IsTrue (is_marked_next next) }
     requires room { taken log.old.ring + 2 < 2 ^ 56 }
     requires number { number < 2 ^ 63 }
@@ -171,12 +172,12 @@ pub fn append_next(log: &mut Log, next: Next, hart: HartId, number: u64, state: 
     ensures took { Took log.old (length (next_records next hart number state.now)) log.new }
 {
     match next {
-        Next::GoesOn => {}
-        Next::NewInterval { reason, value } => {
+        TurnEnd::GoesOn => {}
+        TurnEnd::NewInterval { reason, value } => {
             append_end(log, hart, state.ic, reason, value);
             append_header(log, hart, number + 1, state);
         }
-        Next::HartOver { reason, value } | Next::RunOver { reason, value } => {
+        TurnEnd::HartOver { reason, value } | TurnEnd::RunOver { reason, value } => {
             append_end(log, hart, state.ic, reason, value)
         }
     }

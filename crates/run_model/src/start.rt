@@ -3,11 +3,13 @@ ghost use Rattle.std.specs.Prelude.{◌≡◌, IfOk};
 ghost use Rattle.std.specs.Bool.{Decides};
 ghost use Rattle.log_order.specs.Content.{content};
 ghost use Rattle.log_file.specs.Layout.{file_bytes, file_bytes2, saved_bytes};
+ghost use Rattle.run_model.specs.Audits.{bytes_in};
 
 use bn_base::{Image, Settings};
 use log_blocks::write_file2;
 use log_file::write_file;
-use log_record::{Head, Ring};
+use log_record::Head;
+use log_ring::Ring;
 use std::alloc::{AllocError, Global};
 
 /// What a recording begins with: the loaded program, the settings, the input, and the SHA-256 digest
@@ -92,6 +94,23 @@ impl Start {
             self.second_file(alloc, ring)
         } else {
             self.first_file(alloc, ring)
+        }
+    }
+    /// The log file as `log_file` has it, or where the second version is asked for the file of version 2,
+    /// whatever the format. The only error is want of memory.
+    pub fn log_file_in(
+        &self,
+        alloc: Global,
+        second: bool,
+        ring: &Ring,
+    ) -> Result<Vec<u8>, AllocError>
+        requires { ring.now.size ≡ self.now.settings.log_size }
+        ensures { IfOk result (λ log. log.items ≡ bytes_in second (content (record { settings = self.now.settings; digest = self.now.digest }) ring.now.dropped ring.now.records)) }
+    {
+        if second {
+            self.second_file(alloc, ring)
+        } else {
+            self.log_file(alloc, ring)
         }
     }
 }

@@ -1,4 +1,4 @@
-// What is traced of a run: its harts, their caches, the race log and the log.
+//! What is traced of a run: its harts, their caches, the race log and the log.
 ghost use Rattle.std.specs.Prelude.{◌≡◌, ◌≤◌, ◌<◌, ◌+◌, ◌-◌, ◌*◌, ◌^◌, ◌++◌, ◌==◌, ◌≢◌, ℕ, List, length, IsTrue, true, false, is_some, Option, OnOk, if◌then◌else◌};
 ghost use Rattle.bn_base.specs.Programs.{Program};
 ghost use Rattle.bn_base.specs.declared.settings.RawSettings.{RawSettings};
@@ -10,7 +10,7 @@ ghost use Rattle.bn_base.specs.declared.settings.TheConstants.{HARTS};
 ghost use Rattle.race_log.specs.Points.{Point};
 ghost use Rattle.race_log.specs.Stands.{Stands, KnowsSame, harts_of, lasting_of, lasts, next_turn, next_count};
 ghost use Rattle.run_model.specs.declared.hart.Hart.{Hart};
-ghost use Rattle.run_model.specs.declared.next.Next.TheVariants.{GoesOn};
+ghost use Rattle.run_model.specs.declared.turn_end.TurnEnd.TheVariants.{GoesOn};
 ghost use Rattle.run_model.specs.declared.span.Span.{Span};
 ghost use Rattle.run_model.specs.Machine.{Machine, call_of};
 ghost use Rattle.run_model.specs.Turn.{Run, begun_anew, guarded_run, span_of, next_of, next_records, hart_after, loading, warmth, point_of, points_after, events_after, skipped_after};
@@ -26,10 +26,10 @@ use crate::caches::Caches;
 use crate::hart::{Hart, skipped_after};
 use crate::harts::end_others;
 use crate::log::Log;
-use crate::next::Next;
 use crate::race::{record_access, sweep_known};
 use crate::records::{append_conditional, append_load, append_next};
 use crate::span::{Span, loading};
+use crate::turn_end::TurnEnd;
 use bn_base::{HartId, HartState, Settings};
 use first_load_bits::Warm;
 use race_log::Shadow;
@@ -67,7 +67,7 @@ fn take_turn(
     ask: &Ask,
     reply: Reply,
     load: Option<Warm>,
-) -> Next
+) -> TurnEnd
     requires fits { IsTrue (is_reply_to ask.now.want reply) }
     requires number { own.old.number < 2 ^ 62 }
     requires skipped { own.old.skipped < 2 ^ 32 - 1 }
@@ -81,7 +81,7 @@ fn take_turn(
 {
     let skipped = skipped_after(load, own.skipped);
     own.absorb(ask, reply);
-    let next = Next::of(settings, call, own, &ask.want, reply, own.state.ic);
+    let next = TurnEnd::of(settings, call, own, &ask.want, reply, own.state.ic);
     append_next(log, next, hart, own.number, &own.state);
     own.take(next, skipped, log.bytes);
     next
@@ -119,7 +119,7 @@ impl Trace {
     {
         let before = &self.harts[hart as usize];
         let mut own = *before;
-        append_next(&mut self.log, Next::by_guard(), hart, own.number, state);
+        append_next(&mut self.log, TurnEnd::by_guard(), hart, own.number, state);
         self.caches.clear(hart);
         own.begin_anew(state, self.log.bytes);
         self.harts[hart as usize] = own;
@@ -207,7 +207,7 @@ impl Trace {
 
     // Clears the bits of a hart's cache, where it begins an interval.
     #[inline(always)]
-    pub(crate) fn begin(&mut self, hart: HartId, next: Next)
+    pub(crate) fn begin(&mut self, hart: HartId, next: TurnEnd)
         requires caches { hart < length self.old.caches }
         requires steps { steps_in self.old.caches hart < 2 ^ 42 }
         ensures caches { (c : RawSettings) (call : Option Plan) (span : Option Span) (events : ℕ → List Event) →
@@ -219,10 +219,10 @@ impl Trace {
         ensures log { self.new.log ≡ self.old.log }
     {
         match next {
-            Next::NewInterval { .. } => self.caches.clear(hart),
-            Next::GoesOn => {}
-            Next::HartOver { .. } => {}
-            Next::RunOver { .. } => {}
+            TurnEnd::NewInterval { .. } => self.caches.clear(hart),
+            TurnEnd::GoesOn => {}
+            TurnEnd::HartOver { .. } => {}
+            TurnEnd::RunOver { .. } => {}
         }
     }
 
@@ -237,7 +237,7 @@ impl Trace {
         ask: &Ask,
         reply: Reply,
         load: Option<Warm>,
-    ) -> Next
+    ) -> TurnEnd
         requires hart { hart < length self.old.harts.items }
         requires few { length self.old.harts.items ≤ HARTS }
         requires caches { hart < length self.old.caches }
@@ -269,8 +269,9 @@ impl Trace {
     }
 
     /// Where an interval ended, the race log gives up the accesses that all live harts know of, if the walk is due.
+    // A hart that isn't live then can access nothing any more: so what is kept suffices for the live ones.
     #[inline(always)]
-    pub fn forget(&mut self, next: Next)
+    pub fn forget(&mut self, next: TurnEnd)
         requires few { length self.old.harts.items ≤ HARTS }
         requires shadow { harts_of self.old.shadow ≡ length self.old.harts.items }
         ensures shadow { IsSwept self.old.shadow self.new.shadow self.old.harts.items }
@@ -279,8 +280,8 @@ impl Trace {
         ensures log { self.new.log ≡ self.old.log }
     {
         match next {
-            Next::GoesOn => {}
-            Next::NewInterval { .. } | Next::HartOver { .. } | Next::RunOver { .. } => {
+            TurnEnd::GoesOn => {}
+            TurnEnd::NewInterval { .. } | TurnEnd::HartOver { .. } | TurnEnd::RunOver { .. } => {
                 sweep_known(&mut self.shadow, &self.harts)
             }
         }

@@ -8,7 +8,7 @@ ghost use Rattle.run_model.specs.Turn.{Run, span_of, is_orderly, is_guarded, byt
 ghost use Rattle.run_model.specs.Stands.Parts.{HasRoom, IsMachine, AreAddresses};
 ghost use Rattle.run_model.specs.Stands.Harts.{hart_in};
 ghost use Rattle.run_model.specs.Stands.Plain.{IsRun, IsRaceReady};
-ghost use Rattle.log_record.specs.Kept.{HoldsLog};
+ghost use Rattle.log_ring.specs.Kept.{HoldsLog};
 ghost use Rattle.run_model.specs.Runs.{start, most_turns};
 ghost use Rattle.run_model.specs.Runs as runs;
 ghost use Rattle.run_model.specs.Stands.Turning.{parts, is_live};
@@ -22,7 +22,7 @@ use crate::span::Span;
 use crate::start::Start;
 use crate::trace::Trace;
 use bn_base::{HartId, HartState};
-use log_record::Ring;
+use log_ring::Ring;
 use rv_meaning::{Ask, Reply, Want};
 use std::alloc::{AllocError, Global};
 use system_calls::Plan;

@@ -144,7 +144,7 @@ laid_b n = n / 2 ^ 12 * 2 ^ 31 + n / 2 ^ 11 % 2 * 2 ^ 7 + n / 2 ^ 5 % 2 ^ 6 * 2 
 abbrev pub laid_j : ℕ → ℕ
 laid_j n = n / 2 ^ 20 * 2 ^ 31 + n / 2 ^ 12 % 2 ^ 8 * 2 ^ 12 + n / 2 ^ 11 % 2 * 2 ^ 20 + n / 2 % 2 ^ 10 * 2 ^ 21
 
--- the bits of the fields, where the format has them
+-- the bits of the fields, if the format has them
 abbrev pub laid : Format → Instruction → ℕ
 laid U i = i.rd * 2 ^ 7 + imm_bits i / 2 ^ 12 * 2 ^ 12
 laid J i = i.rd * 2 ^ 7 + laid_j (imm_bits i % 2 ^ 21)

@@ -235,6 +235,8 @@ fn placed(name: Name, format: Format, word: u32) -> Instr
 
 /// The instruction that a word spells: `None` exactly where the word fits no row of the table, else
 /// the instruction of its row with the fields of the word.
+// It has one clause, and that it is exactly the table is a law over `decoded`: so no caller's proof carries the
+// table's 59 rows.
 pub fn decode(word: u32) -> Option<Instr>
     ensures { option_map seen result ≡ decoded word }
 {

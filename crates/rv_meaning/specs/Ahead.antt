@@ -14,7 +14,7 @@ IsAhead i a (o ∷ os) = (option_map seen o ≡ instruction_in (code_at i a)) ×
 abbrev pub IsBelowEnd : ℕ → List (Option Instr) → Type 0
 IsBelowEnd a os = a + 4 * length os < 2 ^ 32 + 4
 
--- where the segment that a program starts in begins; 0 where it starts in none
+-- the place where the segment that a program starts in begins; 0 if it starts in none
 abbrev pub start_of : Option Part → ℕ
 start_of None = 0
 start_of (Some p) = p.first

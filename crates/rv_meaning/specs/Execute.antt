@@ -72,7 +72,7 @@ jump d target s =
     if target % 4 == 0 then Quiet (record { pc = target; x = put_reg d.rd (add s.pc 4) s.x; ic = count_up s.ic })
     else Asks (Faulted TargetMisaligned target)
 
--- a branch to a target where it is taken; only then the target is tested (section 2.5)
+-- a branch to a target if it is taken; only then the target is tested (section 2.5)
 abbrev pub branch : Bool → ℕ → HartState → Step
 branch taken target s =
     if taken then (if target % 4 == 0 then Quiet (next_at target s) else Asks (Faulted TargetMisaligned target))
@@ -92,17 +92,22 @@ store_or i addr width w =
     if addr % width == 0 then (if may_load i addr then (if may_store i addr then w else Faulted StoreReadOnly addr) else Faulted StoreOutside addr)
     else Faulted StoreMisaligned addr
 
+-- a load asks for its word, or faults if it is misaligned or unmapped
 abbrev pub load : Program → Instruction → ℕ → Bool → HartState → Step
 load i d width signed s = Asks (load_or i (there s d) width (Load (there s d) width signed d.rd))
 
+-- a store asks to write, or faults if it is misaligned, unmapped or in a read-only part
 abbrev pub store : Program → Instruction → ℕ → HartState → Step
 store i d width s = Asks (store_or i (there s d) width (Store (there s d) width (src2 s d)))
 
+-- an AMO asks to read and write a word, with the tests of a store
 abbrev pub amo : Program → Instruction → AmoOp → HartState → Step
 amo i d op s = Asks (store_or i (src1 s d) 4 (Amo (src1 s d) op d.rd (src2 s d)))
 
 -- ---- the instructions, by their names
 
+-- what an instruction does, one clause each, after the RISC-V unprivileged specification: it is local, and gives the next
+-- state, or it asks the bus
 abbrev pub meaning : Name → Program → Instruction → HartState → Step
 -- section 2.4.1: LUI places its immediate in the upper 20 bits of rd, and zeros below; AUIPC adds it to the pc
 meaning Lui i d s = gives d (imm d) s
@@ -110,7 +115,7 @@ meaning Auipc i d s = gives d (add s.pc (imm d)) s
 -- section 2.5.1: JAL jumps by its immediate from the pc; JALR to rs1 plus its immediate, with the lowest bit set to 0
 meaning Jal i d s = jump d (near s d) s
 meaning Jalr i d s = jump d (there s d / 2 * 2) s
--- section 2.5.2: a branch is taken where rs1 and rs2 are equal, unequal, less or not less, as signed or unsigned numbers
+-- section 2.5.2: a branch is taken if rs1 and rs2 are equal, unequal, less or not less, as signed or unsigned numbers
 meaning Beq i d s = branch (src1 s d == src2 s d) (near s d) s
 meaning Bne i d s = branch (not (src1 s d == src2 s d)) (near s d) s
 meaning Blt i d s = branch (less (src1 s d) (src2 s d)) (near s d) s
@@ -126,7 +131,7 @@ meaning Lhu i d s = load i d 2 false s
 meaning Sb i d s = store i d 1 s
 meaning Sh i d s = store i d 2 s
 meaning Sw i d s = store i d 4 s
--- section 2.4.1: an operation on rs1 and the immediate; SLTI and SLTIU place 1 in rd where rs1 is less, else 0
+-- section 2.4.1: an operation on rs1 and the immediate; SLTI and SLTIU place 1 in rd if rs1 is less, else 0
 meaning Addi i d s = gives d (add (src1 s d) (imm d)) s
 meaning Slti i d s = gives d (flag (less (src1 s d) (imm d))) s
 meaning Sltiu i d s = gives d (flag (nat_lt (src1 s d) (imm d))) s
@@ -136,7 +141,7 @@ meaning Andi i d s = gives d (bit_and (src1 s d) (imm d)) s
 meaning Slli i d s = gives d (shift_left (src1 s d) (imm d)) s
 meaning Srli i d s = gives d (shift_right (src1 s d) (imm d)) s
 meaning Srai i d s = gives d (shift_right_signed (src1 s d) (imm d)) s
--- section 2.4.2: an operation on rs1 and rs2; SLT and SLTU place 1 in rd where rs1 is less, else 0
+-- section 2.4.2: an operation on rs1 and rs2; SLT and SLTU place 1 in rd if rs1 is less, else 0
 meaning Add i d s = gives d (add (src1 s d) (src2 s d)) s
 meaning Sub i d s = gives d (sub (src1 s d) (src2 s d)) s
 meaning Slt i d s = gives d (flag (less (src1 s d) (src2 s d))) s
@@ -184,11 +189,12 @@ abbrev pub executed : Option Instruction → ℕ → Program → HartState → S
 executed None w i s = Asks (Faulted Illegal w)
 executed (Some d) w i s = meaning d.name i d s
 
--- of the code word at the pc; a fetch where there is none faults
+-- the instruction of the code word at the pc; a fetch faults if there is no code word there
 abbrev pub fetched : Option ℕ → Program → HartState → Step
 fetched None i s = Asks (Faulted FetchOutside s.pc)
 fetched (Some w) i s = executed (decoded w) w i s
 
+-- the next instruction of a hart: the code word at its pc is fetched, decoded and done
 abbrev pub step : Program → HartState → Step
 step i s = fetched (code_at i s.pc) i s
 
@@ -203,7 +209,7 @@ ask_of i (suc n) s = elim (step i s) [ Quiet t ↦ ask_of i n t | Asks w ↦ rec
 abbrev pub is_exit : ℕ → Bool
 is_exit number = (number == 93) || (number == 94)
 
--- one instruction more where the test holds, else as many as before
+-- one instruction more if the test holds, else as many as before
 abbrev pub count_up_if : Bool → ℕ → ℕ
 count_up_if true n = count_up n
 count_up_if false n = n
@@ -214,15 +220,16 @@ after (Load addr width signed rd) (Word w) s = next_with rd (loaded_value addr w
 after (LoadReserved addr rd) (Word w) s = next_with rd w s
 after (Amo addr op rd value) (Word w) s = next_with rd w s
 after (Store addr width value) Stored s = next_at (add s.pc 4) s
--- SC.W writes 0 to rd where it stored, else 1 (section 8.2)
+-- SC.W writes 0 to rd if it stored, else 1 (section 8.2)
 after (StoreConditional addr rd value) ScOk s = next_with rd 0 s
 after (StoreConditional addr rd value) ScFailed s = next_with rd 1 s
 -- the result of a system call goes to a0
 after (System number args) (Answer v) s = next_with 10 v s
 -- of the calls that Over answers, the ECALL of an exit is counted, and nothing else of the state changes
 after (System number args) Over s = record { pc = s.pc; x = s.x; ic = count_up_if (is_exit number) s.ic }
--- after a cut the hart goes on as it is, and where a hart is over, it stays as it is
+-- after a cut the hart continues as it is, and if a hart is over, it stays as it is
 after want reply s = s
 
+-- the hart's state after the reply to its ask
 abbrev pub absorbed : Ask → Reply → HartState
 absorbed ask reply = after ask.want reply ask.state

@@ -36,6 +36,6 @@ done_row f x load store = record { hart = f.hart; ic = f.ic; pc = f.pc; word = f
 abbrev pub called_row : Fetched → (reg : Option (ℕ × ℕ)) → Row
 called_row f reg = record { hart = f.hart; ic = f.ic; pc = f.pc; word = f.word; reg = reg; load = None; store = None; fault = None }
 
--- its row where it faults
+-- its row if it faults
 abbrev pub faulted_row : Fetched → Fault → ℕ → Row
 faulted_row f kind value = record { hart = f.hart; ic = f.ic; pc = f.pc; word = f.word; reg = None; load = None; store = None; fault = Some (kind, value) }

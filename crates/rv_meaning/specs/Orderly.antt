@@ -50,6 +50,7 @@ passes i (System number args) = true
 passes i Cut = true
 passes i (Faulted kind value) = has_value kind value
 
+-- whether it is a cut, the ask of a hart whose budget is used up
 abbrev pub is_cut : Want → Bool
 is_cut Cut = true
 is_cut want = false
@@ -60,6 +61,7 @@ abbrev pub is_counted : ℕ → ℕ → Want → ℕ → Bool
 is_counted from budget want ic =
     if is_cut want then ic == from + budget else nat_le from ic && nat_lt ic (from + budget)
 
--- an ask of a hart whose count was `from` and that may do `budget` instructions
+-- An ask is orderly if it comes within the budget and its access passes its tests: alignment, mapping, read-only parts. `from`
+-- is the hart's count before its local instructions, `budget` how many it may do.
 abbrev pub orderly : Program → ℕ → ℕ → Ask → Bool
 orderly i from budget ask = is_counted from budget ask.want ask.state.ic && passes i ask.want

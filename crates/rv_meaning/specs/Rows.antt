@@ -35,7 +35,7 @@ row_of h i before after load store = record {
   fault = None;
 }
 
--- the row of a system call: a call that goes on writes its result to a0, an exit writes nothing
+-- the row of a system call: a call that continues writes its result to a0, an exit writes nothing
 abbrev pub call_row : ℕ → Program → HartState → (reg : Option (ℕ × ℕ)) → Row
 call_row h i before reg = record {
   hart = h;
@@ -61,7 +61,7 @@ fault_row h i before kind value = record {
   fault = Some (kind, value);
 }
 
--- the word of an access where it is of the aligned word at a, else what is known without it
+-- the word of an access if it is of the aligned word at a, else what is known without it
 abbrev pub at_address : ℕ → Option (ℕ × ℕ) → Option ℕ → Option ℕ
 at_address a None rest = rest
 at_address a (Some access) rest = elim (aligned access.0 == a) [ true ↦ Some access.1 | false ↦ rest ]

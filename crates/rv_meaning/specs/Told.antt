@@ -9,7 +9,7 @@ abbrev pub Told : Bool → HartState → HartState → Want → Step → Type 0
 Told true s t w x = Quiet t ≡ x
 Told false s t w x = (t ≡ s) × (Asks w ≡ x)
 
--- the count after an instruction that was n before it: one more where it was quiet
+-- the count after an instruction that was n before it: one more if it was quiet
 abbrev pub count_after : Bool → ℕ → ℕ
 count_after true n = count_up n
 count_after false n = n

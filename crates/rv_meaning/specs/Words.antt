@@ -21,7 +21,7 @@ signed_of a = cast_signed w32 a
 abbrev pub bits_of : ℤ → ℕ
 bits_of z = cast_unsigned w32 z
 
--- 1 where a comparison holds, else 0
+-- 1 if a comparison holds, else 0
 abbrev pub flag : Bool → ℕ
 flag b = if b then 1 else 0
 
@@ -29,7 +29,7 @@ flag b = if b then 1 else 0
 abbrev pub less : ℕ → ℕ → Bool
 less a b = int_lt (signed_of a) (signed_of b)
 
--- shifts go by the low 5 bits of the amount (section 2.4.2); zeros come in at the lower bits
+-- shifts use the low 5 bits of the amount (section 2.4.2); zeros come in at the lower bits
 abbrev pub shift_left : ℕ → ℕ → ℕ
 shift_left a n = wrap (a * 2 ^ (n % 32))
 

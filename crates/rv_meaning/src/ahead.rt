@@ -19,6 +19,7 @@ use std::alloc::{AllocError, Global};
 use std::marker::Model;
 
 /// How many words are decoded ahead, at most.
+// At 16 bytes a word the list stays within 16 MiB, whatever sizes a file's header claims.
 const LIMIT: u32 = 1 << 20;
 
 /// A program with the segment that it starts in decoded ahead, up to its first 2^20 words.
@@ -149,6 +150,8 @@ impl<'a> DecodedImage<'a> {
         let mut pc = state.pc;
         for done in 0..budget {
             match instr_at(instrs, first, pc) {
+                // Code outside the list is decoded word by word up to the next ask or the budget's end; the next
+                // run begins in the list again.
                 None => {
                     put_back(state, pc, ic.saturating_add(done));
                     return quiet_run_in_place(image, state, budget - done);

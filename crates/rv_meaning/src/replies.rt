@@ -9,6 +9,7 @@ use crate::moves::{count_up, next_at, next_with};
 use bn_base::{HartState, Register};
 
 // Whether the system call of this number ends its hart or the run.
+// By the call's number and not by the reply: a hart that is over without an exit keeps its count.
 fn is_exit(number: u32) -> bool
     ensures { result ≡ is_exit number }
 {

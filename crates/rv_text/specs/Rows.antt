@@ -20,17 +20,17 @@ abbrev pub is_illegal : Fault → Bool
 is_illegal Illegal = true
 is_illegal _ = false
 
--- the word, but none where the fetch faulted
+-- the word, but none if the fetch faulted
 abbrev pub shown_word : Option (Fault × ℕ) → Option ℕ → Option ℕ
 shown_word None word = word
 shown_word (Some fault) word = elim (is_fetch_outside fault.0) [ true ↦ None | false ↦ word ]
 
--- the instruction of a word, but none where the word is illegal
+-- the instruction of a word, but none if the word is illegal
 abbrev pub shown_instruction : Option (Fault × ℕ) → ℕ → Option Instruction
 shown_instruction None word = decoded word
 shown_instruction (Some fault) word = elim (is_illegal fault.0) [ true ↦ None | false ↦ decoded word ]
 
--- the text of an instruction, where there is one
+-- the text of an instruction, if there is one
 abbrev pub text_or_illegal : ℕ → Option Instruction → List ℕ
 text_or_illegal pc None = codes "illegal"
 text_or_illegal pc (Some i) = instruction_text pc i

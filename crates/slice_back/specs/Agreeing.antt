@@ -22,7 +22,7 @@ address_of (Some x) = Some x.0
 abbrev pub took_word : Noted → Option ℕ
 took_word e = elim (e.first_load) [ None ↦ None | Some v ↦ used_word e.row ]
 
--- two rows have one pc and one word, stored at one address or both didn't (a store-conditional stores where it succeeds), and took
+-- two rows have one pc and one word, stored at one address or both didn't (a store-conditional stores if it succeeds), and took
 -- first loads of one word or both took none
 pub record AreAlike (e f : Noted) : Type 0 where
   pub pc : e.row.pc ≡ f.row.pc
@@ -37,7 +37,7 @@ AllAlike (e ∷ es) (f ∷ fs) = AreAlike e f × AllAlike es fs
 AllAlike [] (f ∷ fs) = ⊥
 AllAlike (e ∷ es) [] = ⊥
 
--- where a first load of the former rows is among the words of their slice, that of the same row of the latter has its value
+-- if a first load of the former rows is among the words of their slice, that of the same row of the latter has its value
 abbrev pub WordsAgree : List Noted → List Noted → Type 0
 WordsAgree [] fs = Unit {0}
 WordsAgree (e ∷ es) [] = ⊥

@@ -1,5 +1,5 @@
 -- The dynamic slice of a row by data alone (Agrawal and Horgan, 1990): the rows that it needs, the rows that these need, and so
--- on. Rows go by their places in the list of an interval's rows, oldest first.
+-- on. Rows are named by their places in the list of an interval's rows, oldest first.
 use Rattle.std.specs.Prelude.{ℕ, ◌<◌, ◌≤◌, ◌⊎◌, Bool, false, List, slice_get, Option, Some, None, IsTrue, IsFalse}
 use Rattle.slice_back.specs.declared.noted.Noted.{Noted}
 use Rattle.slice_back.specs.Uses.{uses_register, writes_register, uses_word, stores_word, takes_word}
@@ -19,7 +19,7 @@ pub record NeedsRegister (es : List Noted) (n m q : ℕ) : Type 0 where
   pub written : IsTrue (at es m (λ e. writes_register q e.row))
   pub latest : (k : ℕ) → m < k → k < n → IsFalse (at es k (λ e. writes_register q e.row))
 
--- the row at m is the latest before n that stored the aligned word at a, which the row at n uses, and no row after m, that at n
+-- the row at m is the latest before n that stored the aligned word at a, which the row at n uses. No row after m, that at n
 -- included, took a first load of it
 pub record NeedsWord (es : List Noted) (n m a : ℕ) : Type 0 where
   pub earlier : m < n
@@ -37,8 +37,8 @@ pub data InSlice (es : List Noted) (n : ℕ) : ℕ → Type 0 where
   itself : InSlice es n n
   needed : {m k : ℕ} → InSlice es n m → Needs es m k → InSlice es n k
 
--- the aligned word at a, which the row at n uses, is taken by the row at m: m is the latest place up to n whose row took a first
--- load of it, and no row from m on, before n, stored it
+-- the aligned word at a, which the row at n uses, is taken by the row at m. m is the latest place up to n whose row took a
+-- first load of the word, and no row from m on, before n, stored it
 pub record TakenBy (es : List Noted) (n m a : ℕ) : Type 0 where
   pub earlier : m ≤ n
   pub used : IsTrue (at es n (λ e. uses_word a e.row))

@@ -1,4 +1,5 @@
--- The backward slice of a row of an interval, by tests that compute.
+-- The backward slice of a row of an interval, by tests that compute. It is of the rows of the interval's replay, whatever its
+-- log says.
 use Rattle.std.specs.Prelude.{ℕ, zero, suc, ◌+◌, ◌==◌, Bool, true, false, not, ◌&&◌, ◌||◌, List, [], ◌∷◌, slice_index, Option, Some, None, Result, Ok, Err}
 use Rattle.bn_base.specs.Programs.{Program}
 use Rattle.bn_base.specs.declared.row.Row.{Row}
@@ -13,7 +14,7 @@ use Rattle.slice_back.specs.Uses.{uses_register, writes_register, used_word, use
 
 -- ---- the rows with the first loads that they took
 
--- a row with the first load that it takes: a loading access takes the next one where as many were skipped since the last one as
+-- a row with the first load that it takes: a loading access takes the next one if as many were skipped since the last one as
 -- that says
 abbrev pub note : Pending → Row → Noted
 note p r = record { row = r; first_load = elim (used_word r) [ None ↦ None | Some a ↦ due p.skipped p.loads ] }
@@ -27,6 +28,7 @@ abbrev pub noted_from : Pending → List Row → List Noted
 noted_from p [] = []
 noted_from p (r ∷ rs) = note p r ∷ noted_from (passed p r) rs
 
+-- the rows of an interval, each with the first load that it takes; a row itself doesn't tell that
 abbrev pub noted : List (ℕ × ℕ) → List Row → List Noted
 noted loads rows = noted_from (record { loads = loads; skipped = 0 }) rows
 
@@ -56,6 +58,7 @@ abbrev pub stores_live : Live → Option ℕ → Bool
 stores_live l None = false
 stores_live l (Some a) = l.words a
 
+-- whether a row gives something that is live after it
 abbrev pub gives : Live → Row → Bool
 gives l r = writes_live l r.reg || stores_live l (word_of r.store)
 
@@ -87,6 +90,7 @@ abbrev pub row_if : Bool → Row → List Row → List Row
 row_if true r rs = r ∷ rs
 row_if false r rs = rs
 
+-- the rows of the slice
 abbrev pub slice_rows : List Noted → List Row
 slice_rows [] = []
 slice_rows (e ∷ later) = row_if (in_slice e later) e.row (slice_rows later)
@@ -129,6 +133,7 @@ unfoldable pub registers_from : List ℕ → (ℕ → Bool) → ℕ → ℕ → 
 registers_from x used q zero = []
 registers_from x used q (suc n) = register_if (used q) (q, slice_index x q) (registers_from x used (q + 1) n)
 
+-- the registers that its rows use and no row before them wrote, with their contents at the interval's start
 abbrev pub slice_regs : List ℕ → List Noted → List (ℕ × ℕ)
 slice_regs x es = registers_from x (live es).registers 0 32
 
@@ -142,7 +147,7 @@ abbrev pub slice_or : ℕ → List ℕ → Option (List Noted) → Result Slice 
 slice_or ic x None = Err (NoRow ic)
 slice_or ic x (Some es) = Ok (slice_of x es)
 
--- the slice of the row with a count, where the replay is done
+-- the slice of the row with a count, if the replay is done
 abbrev pub slice_in : ℕ → Option Interval → Replayed → Result Slice SliceError
 slice_in ic None y = elim (y.outcome) [ Done ↦ Err (NoRow ic) | Refused e ↦ Err (Replay e) ]
 slice_in ic (Some v) y = elim (y.outcome) [ Done ↦ slice_or ic v.start.x (up_to ic (noted v.loads y.rows)) | Refused e ↦ Err (Replay e) ]

@@ -23,13 +23,13 @@ abbrev pub behind : List Noted → Option (List Noted) → Option (List Noted)
 behind front None = None
 behind front (Some es) = Some (front ++ es)
 
--- the rows that are noted at the end, where these rows are still to come
+-- the rows that are noted at the end, if these rows are still to come
 abbrev pub reached : Tracing → List Row → Option (List Noted)
 reached t rows = elim t.found [ true ↦ Some t.noted | false ↦ behind t.noted (up_to t.ic (noted_from t.loads rows)) ]
 
 -- ---- how a replay is gone through to its end
 
--- the error of a replay as one of a slice; want of memory is its own
+-- the error of a replay as one of a slice; out of memory is its own
 abbrev pub error_of : ReplayError → SliceError
 error_of (NoInterval h c) = Replay (NoInterval h c)
 error_of (LoadMissing h ic a) = Replay (LoadMissing h ic a)
@@ -38,7 +38,7 @@ error_of (RecordsLeft h n) = Replay (RecordsLeft h n)
 error_of (EndDiffers h m n) = Replay (EndDiffers h m n)
 error_of OutOfMemory = ends.OutOfMemory
 
--- the error comes where a replay ends so: a refusal is its own; want of memory may come, but only where the replay has a row, or
+-- the error comes if a replay ends so: a refusal is its own; it may run out of memory, but only if the replay has a row, or
 -- found no memory itself
 abbrev pub IsStop : Replayed → SliceError → Type 0
 IsStop y (Replay e) = y.outcome ≡ Refused e

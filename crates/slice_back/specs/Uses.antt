@@ -54,7 +54,7 @@ abbrev pub word_of : Option (ℕ × ℕ) → Option ℕ
 word_of None = None
 word_of (Some x) = Some (aligned x.0)
 
--- the word of a store, where the test says that it is of a part
+-- the word of a store, if the test says that it is of a part
 abbrev pub part_stored : Bool → Option (ℕ × ℕ) → Option ℕ
 part_stored test store = elim test [ true ↦ word_of store | false ↦ None ]
 

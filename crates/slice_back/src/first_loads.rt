@@ -109,6 +109,8 @@ pub(crate) fn first_loads(
 
 /// The first loads that are still to be met, and the number of loading accesses since the last one
 /// that was.
+// A row doesn't say whether it took its word from the log, since the same value may come from an earlier row. So
+// it is counted, as the replay counts.
 #[derive(Drop)]
 pub(crate) struct Pending<'a> {
     left: &'a [(u32, u32)],

@@ -10,10 +10,10 @@ mod laws;
 mod lists;
 mod live_set;
 mod noted;
+mod row_trace;
 mod slicing;
 mod telling;
 mod texts;
-mod trace;
 mod uses;
 
 pub use back::slice;

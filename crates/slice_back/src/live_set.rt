@@ -17,6 +17,7 @@ use std::marker::Model;
 #[derive(Drop)]
 pub(crate) struct LiveSet {
     registers: [bool; 32],
+    // The map of known words of `hart_replay`; their values don't matter.
     words: Words,
 }
 
@@ -114,7 +115,8 @@ impl LiveSet {
         }
     }
 
-    // Adds the registers that a row uses.
+    // Adds the registers that a row uses. Every ECALL uses a0, a1, a2 and a7, whatever its number. A row without an
+    // instruction, EBREAK and FENCE use none.
     fn use_registers(&mut self, row: &Row)
         ensures registers { (q : ℕ) → q < 32 → has_register self.new q ≡ (uses_register q row.now || has_register self.old q) }
         ensures pages { self.new.pages ≡ self.old.pages }

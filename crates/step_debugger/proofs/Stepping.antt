@@ -11,7 +11,7 @@ use Rattle.joint_replay.specs.declared.kinds.Readiness.TheVariants as is
 use Rattle.joint_replay.specs.declared.kinds.Next.{Next}
 use Rattle.joint_replay.specs.declared.kinds.Next.TheVariants as next
 use Rattle.joint_replay.specs.declared.kinds.Stepped.{Stepped}
-use Rattle.joint_replay.specs.Lanes.{Course, Lane, Item, Doing, Ending, row_given, courses_steps, lane_step, lane_steps}
+use Rattle.joint_replay.specs.Lanes.{Cursor, Lane, Item, Doing, Ending, row_given, cursors_steps, lane_step, lane_steps}
 use Rattle.joint_replay.specs.Memory.{memory_after}
 use Rattle.joint_replay.specs.Joining.{Joining, choice, choice_from, readiness, readiness_of, next_step, move, steps_left}
 use Rattle.back_step.specs.Traces.{entry_of, Trace, Trailed, with_entry, trace_step}
@@ -68,24 +68,24 @@ some_pair : (x y : Result (Item × Lane) ReplayError) → ◌≡◌ {A = Option 
 some_pair x y e = cc
 
 -- an interval's step, by what is left of it
-abbrev step_by : Program → Course → List Course → List Row → Outcome → Result (Item × Lane) ReplayError
+abbrev step_by : Program → Cursor → List Cursor → List Row → Outcome → Result (Item × Lane) ReplayError
 step_by i c cs rows o = elim rows [
-  | r ∷ rs ↦ Ok (Doing c.state r, record { points = []; courses = row_given i c r rs ∷ cs })
-  | [] ↦ elim o [ Done ↦ Ok (Ending c.number c.mark, record { points = []; courses = cs }) | Refused e ↦ Err e ]
+  | r ∷ rs ↦ Ok (Doing c.state r, record { points = []; cursors = row_given i c r rs ∷ cs })
+  | [] ↦ elim o [ Done ↦ Ok (Ending c.number c.mark, record { points = []; cursors = cs }) | Refused e ↦ Err e ]
 ]
 
-course_fewer : (i : Program) (c : Course) (cs : List Course) (rows : List Row) (o : Outcome) (x : Item × Lane) → step_by i c cs rows o ≡ Ok x → lane_steps x.1 + 1 ≡ length rows + 1 + courses_steps cs
-course_fewer i c cs [] Done x e = subst (λ (y : Item × Lane). lane_steps y.1 + 1 ≡ 0 + 1 + courses_steps cs) (same_pair (Ending c.number c.mark, record { points = []; courses = cs }) x e) (omega arith)
-course_fewer i c cs [] (Refused g) x e = absurd cc
-course_fewer i c cs (r ∷ rs) o x e = subst (λ (y : Item × Lane). lane_steps y.1 + 1 ≡ length (r ∷ rs) + 1 + courses_steps cs) (same_pair (Doing c.state r, record { points = []; courses = row_given i c r rs ∷ cs }) x e) (omega arith)
+cursor_fewer : (i : Program) (c : Cursor) (cs : List Cursor) (rows : List Row) (o : Outcome) (x : Item × Lane) → step_by i c cs rows o ≡ Ok x → lane_steps x.1 + 1 ≡ length rows + 1 + cursors_steps cs
+cursor_fewer i c cs [] Done x e = subst (λ (y : Item × Lane). lane_steps y.1 + 1 ≡ 0 + 1 + cursors_steps cs) (same_pair (Ending c.number c.mark, record { points = []; cursors = cs }) x e) (omega arith)
+cursor_fewer i c cs [] (Refused g) x e = absurd cc
+cursor_fewer i c cs (r ∷ rs) o x e = subst (λ (y : Item × Lane). lane_steps y.1 + 1 ≡ length (r ∷ rs) + 1 + cursors_steps cs) (same_pair (Doing c.state r, record { points = []; cursors = row_given i c r rs ∷ cs }) x e) (omega arith)
 
-lane_fewer : (i : Program) (points : List ℕ) (courses : List Course) (x : Item × Lane) → lane_step i (record { points = points; courses = courses }) ≡ Some (Ok x) → lane_steps x.1 + 1 ≡ length points + courses_steps courses
+lane_fewer : (i : Program) (points : List ℕ) (cursors : List Cursor) (x : Item × Lane) → lane_step i (record { points = points; cursors = cursors }) ≡ Some (Ok x) → lane_steps x.1 + 1 ≡ length points + cursors_steps cursors
 lane_fewer i [] [] x e = absurd cc
 lane_fewer i [] (c ∷ cs) x e =
-    let low = course_fewer i c cs c.left.rows c.left.outcome x (some_pair (step_by i c cs c.left.rows c.left.outcome) (Ok x) e) in
+    let low = cursor_fewer i c cs c.left.rows c.left.outcome x (some_pair (step_by i c cs c.left.rows c.left.outcome) (Ok x) e) in
     omega (arith, low)
-lane_fewer i (p ∷ ps) courses x e =
-    subst (λ (y : Item × Lane). lane_steps y.1 + 1 ≡ length (p ∷ ps) + courses_steps courses) (same_pair _ x (some_pair _ (Ok x) e)) (omega arith)
+lane_fewer i (p ∷ ps) cursors x e =
+    subst (λ (y : Item × Lane). lane_steps y.1 + 1 ≡ length (p ∷ ps) + cursors_steps cursors) (same_pair _ x (some_pair _ (Ok x) e)) (omega arith)
 
 set_fewer : (ls : List Lane) (h : ℕ) (lane new : Lane) → slice_get ls h ≡ Some lane → lane_steps new + 1 ≡ lane_steps lane → steps_left (slice_set ls h new) + 1 ≡ steps_left ls
 set_fewer [] h lane new e low = absurd cc
@@ -101,7 +101,7 @@ by_lane j h lane None x at e f = absurd cc
 by_lane j h lane (Some (Err g)) x at e f = absurd cc
 by_lane j h lane (Some (Ok y)) x at e f =
     subst (λ (z : Item × Joining). steps_left z.1.lanes + 1 ≡ steps_left j.lanes) (same_set (y.0, record j { lanes = slice_set j.lanes h y.1; memory = memory_after y.0 j.memory }) x f)
-    (set_fewer j.lanes h lane y.1 at (lane_fewer j.program lane.points lane.courses y e))
+    (set_fewer j.lanes h lane y.1 at (lane_fewer j.program lane.points lane.cursors y e))
 
 pub step_fewer : (j : Joining) (h : ℕ) (x : Item × Joining) → next_step j h ≡ Some (Ok x) → steps_left x.1.lanes + 1 ≡ steps_left j.lanes
 step_fewer j h x e = by j.refused (slice_get j.lanes h) refl e

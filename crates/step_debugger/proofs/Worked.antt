@@ -8,7 +8,7 @@ use Rattle.rv_text.specs.Instructions.{hex8, first_operand, register_operand, nu
 use Rattle.rv_text.specs.Rows as rows
 use Rattle.rv_text.specs.Marks.{mark_text, end_text}
 use Rattle.joint_replay.specs.Texts.{pass_text}
-use Rattle.step_debugger.specs.declared.command.Command.TheVariants.{Other}
+use Rattle.step_debugger.specs.declared.command.DebugCommand.TheVariants.{Other}
 use Rattle.step_debugger.specs.declared.error.DebugError.TheVariants.{LineTooLong, TooMuch}
 use Rattle.step_debugger.specs.Lines.{ends_in, with_line}
 use Rattle.step_debugger.specs.Answers.{point_text, hart_text, waits_text, stop_text, at_text, address_text, word_text, register_text, two_text, four_text, half_text, place_text, hart_done_text}

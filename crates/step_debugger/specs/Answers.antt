@@ -18,8 +18,8 @@ use Rattle.joint_replay.specs.Calls.{state_at}
 use Rattle.joint_replay.specs.Texts.{item_text}
 use Rattle.back_step.specs.declared.entry.Entry.{Entry}
 use Rattle.back_step.specs.Traces.{Trace, at_start, trace_step, refusing, cut}
-use Rattle.step_debugger.specs.declared.command.Command.{Command}
-use Rattle.step_debugger.specs.declared.command.Command.TheVariants as to
+use Rattle.step_debugger.specs.declared.command.DebugCommand.{DebugCommand}
+use Rattle.step_debugger.specs.declared.command.DebugCommand.TheVariants as to
 use Rattle.step_debugger.specs.declared.stop.Stop.{Stop}
 use Rattle.step_debugger.specs.declared.session.Ending.{Ending}
 use Rattle.step_debugger.specs.declared.session.Ending.TheVariants.{GoesOn, Quits, Refused}
@@ -97,7 +97,7 @@ places_from j h (suc n) = hart_place j h ++ places_from j (h + 1) n
 
 -- ---- steps
 
--- steps of a joint replay: what they print, where it stands then and how it came there, and how they end
+-- steps of a joint replay: what they print, the point where it stands then and how it came there, and how they end
 pub record Moves : Type 0 where
   pub text : List ℕ
   pub now : Trace
@@ -113,7 +113,7 @@ refuses t e = record { text = []; now = refusing t e; ends = Refused (error_of e
 abbrev pub after : List ℕ → Moves → Moves
 after text m = record m { text = text ++ m.text }
 
--- one more step of a hart, which is told, and how it goes on; where it isn't ready, what it waits for
+-- one more step of a hart, which is told, and how it continues; if it isn't ready, what it waits for
 abbrev pub step_by : Trace → ℕ → Readiness → Option (Result (Item × Trace) ReplayError) → (Trace → Moves) → Moves
 step_by t h is.Ready None go = stays t []
 step_by t h is.Ready (Some (Err e)) go = refuses t e
@@ -135,7 +135,7 @@ break_limit = 64
 abbrev pub is_set : List ℕ → ℕ → Bool
 is_set breaks addr = list_any (λ b. b == addr) breaks
 
--- the count and the pc of a hart's next row, where that is at a breakpoint
+-- the count and the pc of a hart's next row, if that is at a breakpoint
 abbrev pub stop_at : List ℕ → Joining → ℕ → Option (ℕ × ℕ)
 stop_at breaks j h = elim (coming j h) [
   | None ↦ None
@@ -151,7 +151,7 @@ abbrev pub stop_unless : Bool → List ℕ → Joining → ℕ → Option (ℕ �
 stop_unless true breaks j h = None
 stop_unless false breaks j h = stop_at breaks j h
 
--- one more step, which isn't told, and how it goes on; but before it the stop at a breakpoint
+-- one more step, which isn't told, and how it continues; but before it the stop at a breakpoint
 abbrev pub go_past : Trace → ℕ → Option (ℕ × ℕ) → Option (Result (Item × Trace) ReplayError) → (Trace → Moves) → Moves
 go_past t h (Some at) step go = stays t (stop_text h at.0 at.1)
 go_past t h None None go = stays t []
@@ -190,7 +190,7 @@ back_by k t = goes_back t (length t.entries - k) (at_text (length t.entries - k)
 abbrev pub stop_of : ℕ → Entry → ℕ → Stop
 stop_of position e pc = record { position = position; hart = e.hart; ic = e.ic; pc = pc }
 
--- the stop before a step, where its row is at a breakpoint
+-- the stop before a step, if its row is at a breakpoint
 abbrev pub stop_before : List ℕ → ℕ → Option Entry → Option Stop
 stop_before breaks position None = None
 stop_before breaks position (Some e) = elim e.pc [ None ↦ None | Some pc ↦ elim (is_set breaks pc) [ true ↦ Some (stop_of position e pc) | false ↦ None ] ]
@@ -205,12 +205,13 @@ abbrev pub back_to : Trace → Option Stop → Moves
 back_to t None = goes_back t 0 (codes "start\n")
 back_to t (Some stop) = goes_back t stop.position (stop_text stop.hart stop.ic stop.pc)
 
+-- back to the latest step whose row is at a breakpoint, else to the start
 abbrev pub back_to_stop : List ℕ → Trace → Moves
 back_to_stop breaks t = back_to t (stop_below breaks t.entries (length t.entries))
 
 -- ---- a session
 
--- where a session stands: its joint replay, with the way that it came; the chosen hart; and the breakpoints
+-- the point where a session stands: its joint replay, with the way that it came; the chosen hart; and the breakpoints
 pub record Session : Type 0 where
   pub trace : Trace
   pub hart : ℕ
@@ -220,10 +221,11 @@ pub record Session : Type 0 where
 abbrev pub begin_at : Trace → Session
 begin_at t = record { trace = t; hart = 0; breaks = [] }
 
+-- a session before its first command
 abbrev pub begin : Joining → Session
 begin j = begin_at (at_start j)
 
--- what a command prints, where the session stands after it, and whether it ends then
+-- what a command prints, the point where the session stands after it, and whether it ends then
 pub record Answer : Type 0 where
   pub text : List ℕ
   pub session : Session
@@ -238,9 +240,11 @@ moved s m = record { text = m.text; session = record s { trace = m.now }; ends =
 abbrev pub unknown : Session → Answer
 unknown s = says s (codes "?\n")
 
+-- another hart is chosen, if there is one of this number
 abbrev pub choose : Session → ℕ → Answer
 choose s n = elim (nat_lt n (length s.trace.now.lanes)) [ true ↦ says (record s { hart = n }) (hart_text n) | false ↦ unknown s ]
 
+-- a breakpoint is set, unless there are too many
 abbrev pub add_break : Session → ℕ → Answer
 add_break s addr = elim (is_set s.breaks addr) [
   | true ↦ says s (address_text (codes "break ") addr)
@@ -250,13 +254,14 @@ add_break s addr = elim (is_set s.breaks addr) [
   ]
 ]
 
+-- a breakpoint is taken away, if it is set
 abbrev pub take_break : Session → ℕ → Answer
 take_break s addr = elim (is_set s.breaks addr) [
   | true ↦ says (record s { breaks = filter (λ b. not (b == addr)) s.breaks }) (address_text (codes "unbreak ") addr)
   | false ↦ says s (codes "none\n")
 ]
 
-abbrev pub answer : Session → Command → Answer
+abbrev pub answer : Session → DebugCommand → Answer
 answer s to.Empty = says s []
 answer s (to.Hart n) = choose s n
 answer s (to.Step k) = moved s (step_up_to s.hart k s.trace)

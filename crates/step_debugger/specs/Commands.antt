@@ -1,11 +1,11 @@
 -- Which lines are which command.
 use Rattle.std.specs.Prelude.{ℕ, ◌%◌, ◌==◌, nat_le, nat_lt, true, false, ◌&&◌, List, [], length, take, drop, codes, Option, Some, None}
 use Rattle.std.specs.Str.{bytes_eq}
-use Rattle.step_debugger.specs.declared.command.Command.{Command}
-use Rattle.step_debugger.specs.declared.command.Command.TheVariants.{Empty, Hart, Step, Go, Back, ReverseGo, Break, Unbreak, Registers, Word, Where, Quit, Other}
+use Rattle.step_debugger.specs.declared.command.DebugCommand.{DebugCommand}
+use Rattle.step_debugger.specs.declared.command.DebugCommand.TheVariants.{Empty, Hart, Step, Go, Back, ReverseGo, Break, Unbreak, Registers, Word, Where, Quit, Other}
 use Rattle.step_debugger.specs.Numbers.{number_of}
 
--- what stands behind a word at the front of a line
+-- what comes after a word at the front of a line
 abbrev pub behind : List ℕ → List ℕ → Option (List ℕ)
 behind word line = elim (bytes_eq (take (length word) line) word) [ true ↦ Some (drop (length word) line) | false ↦ None ]
 
@@ -19,35 +19,35 @@ address_in text = elim (behind (codes "0x") text) [ None ↦ number_of 16 8 text
 
 -- ---- commands with a number
 
-abbrev pub hart_of : Option ℕ → Command
+abbrev pub hart_of : Option ℕ → DebugCommand
 hart_of None = Other
 hart_of (Some n) = Hart n
 
 -- one to a million steps
-abbrev pub step_of : Option ℕ → Command
+abbrev pub step_of : Option ℕ → DebugCommand
 step_of None = Other
 step_of (Some k) = elim (nat_lt 0 k && nat_le k 1000000) [ true ↦ Step k | false ↦ Other ]
 
 -- one to a million steps back
-abbrev pub back_of : Option ℕ → Command
+abbrev pub back_of : Option ℕ → DebugCommand
 back_of None = Other
 back_of (Some k) = elim (nat_lt 0 k && nat_le k 1000000) [ true ↦ Back k | false ↦ Other ]
 
-abbrev pub break_of : Option ℕ → Command
+abbrev pub break_of : Option ℕ → DebugCommand
 break_of None = Other
 break_of (Some a) = Break a
 
-abbrev pub unbreak_of : Option ℕ → Command
+abbrev pub unbreak_of : Option ℕ → DebugCommand
 unbreak_of None = Other
 unbreak_of (Some a) = Unbreak a
 
 -- the address of a word is a multiple of 4
-abbrev pub word_of : Option ℕ → Command
+abbrev pub word_of : Option ℕ → DebugCommand
 word_of None = Other
 word_of (Some a) = elim (a % 4 == 0) [ true ↦ Word a | false ↦ Other ]
 
 -- a command's word, one space, and its number
-abbrev pub numbered : List ℕ → Command
+abbrev pub numbered : List ℕ → DebugCommand
 numbered line = elim (behind (codes "hart ") line) [
   | Some text ↦ hart_of (decimal_in text)
   | None ↦ elim (behind (codes "step ") line) [
@@ -68,7 +68,7 @@ numbered line = elim (behind (codes "hart ") line) [
 -- ---- all commands
 
 -- the command that a line is; the line is given without its LF
-abbrev pub command_of : List ℕ → Command
+abbrev pub command_of : List ℕ → DebugCommand
 command_of line = elim (bytes_eq line []) [
   | true ↦ Empty
   | false ↦ elim (bytes_eq line (codes "step")) [

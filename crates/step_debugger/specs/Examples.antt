@@ -6,14 +6,14 @@ use Rattle.joint_replay.specs.Joining.{Joining, fresh}
 use Rattle.joint_replay.specs.Examples.{code, end, crossed, relay}
 use Rattle.step_debugger.specs.declared.error.DebugError.{DebugError}
 use Rattle.step_debugger.specs.declared.error.DebugError.TheVariants.{Joint}
-use Rattle.step_debugger.specs.declared.command.Command.{Command}
-use Rattle.step_debugger.specs.declared.command.Command.TheVariants.{Empty, Hart, Step, Go, Back, ReverseGo, Break, Unbreak, Registers, Word, Where, Quit}
+use Rattle.step_debugger.specs.declared.command.DebugCommand.{DebugCommand}
+use Rattle.step_debugger.specs.declared.command.DebugCommand.TheVariants.{Empty, Hart, Step, Go, Back, ReverseGo, Break, Unbreak, Registers, Word, Where, Quit}
 use Rattle.step_debugger.specs.Commands.{command_of}
 use Rattle.step_debugger.specs.Lines.{Input, input_of, input_from}
 use Rattle.step_debugger.specs.Transcript.{Told, transcript}
 
 -- what lines are
-abbrev pub commands_of : List (List ℕ) → List Command
+abbrev pub commands_of : List (List ℕ) → List DebugCommand
 commands_of lines = map command_of lines
 
 -- each command
@@ -21,7 +21,7 @@ abbrev pub command_lines : List (List ℕ)
 command_lines = codes "hart 1" ∷ codes "step" ∷ codes "step 20" ∷ codes "step 1000000" ∷ codes "step 0000001" ∷ codes "go" ∷ codes "break 1005c"
     ∷ codes "break 0x0001005C" ∷ codes "unbreak 1" ∷ codes "regs" ∷ codes "word FFFFFFFC" ∷ codes "where" ∷ codes "quit" ∷ [] ∷ codes "back" ∷ codes "back 1000000" ∷ codes "back 0000020" ∷ codes "rgo" ∷ []
 
-abbrev pub their_commands : List Command
+abbrev pub their_commands : List DebugCommand
 their_commands = Hart 1 ∷ Step 1 ∷ Step 20 ∷ Step 1000000 ∷ Step 1 ∷ Go ∷ Break 0x1005c
     ∷ Break 0x1005c ∷ Unbreak 1 ∷ Registers ∷ Word 0xfffffffc ∷ Where ∷ Quit ∷ Empty ∷ Back 1 ∷ Back 1000000 ∷ Back 20 ∷ ReverseGo ∷ []
 
@@ -87,7 +87,7 @@ starting_told = record {
 abbrev pub starting_session : Told
 starting_session = session leaving (codes "back\nrgo\nstep\nback 1000000\nwhere\nquit\n")
 
--- breakpoints that are set, and that aren't; a go from a breakpoint goes on; an end without `quit`, and without LF
+-- breakpoints that are set, and that aren't; a go from a breakpoint continues; an end without `quit`, and without LF
 abbrev pub breaking_told : Told
 breaking_told = record {
   text = codes "break 0001005c\n" ++ codes "unbreak 0001005c\n" ++ codes "none\n" ++ codes "break 00010054\n" ++ codes "break 00010054\n" ++ codes "unbreak 00010054\n" ++ codes "none\n"

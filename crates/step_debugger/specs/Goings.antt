@@ -11,12 +11,12 @@ use Rattle.step_debugger.specs.declared.error.DebugError.{DebugError}
 use Rattle.step_debugger.specs.declared.error.DebugError.TheVariants.{WriteFault, OutOfMemory}
 use Rattle.step_debugger.specs.declared.session.Ending.{Ending}
 use Rattle.step_debugger.specs.declared.session.Ending.TheVariants.{GoesOn, Refused}
-use Rattle.step_debugger.specs.declared.desk.Desk.{Desk}
-use Rattle.step_debugger.specs.declared.command.Command.{Command}
+use Rattle.step_debugger.specs.declared.focus.Focus.{Focus}
+use Rattle.step_debugger.specs.declared.command.DebugCommand.{DebugCommand}
 use Rattle.step_debugger.specs.Commands.{command_of}
 use Rattle.step_debugger.specs.Answers.{Session, Answer, Moves, after, step_by, step_up_to, go_by, go_on, answer}
 
--- how the refusal of a step is told; want of memory is none
+-- how the refusal of a step is told; out of memory is none
 abbrev pub refused_by : JointError → Result Ending DebugError
 refused_by (joint.Replay e) = Ok (Refused (joint.Replay e))
 refused_by (joint.Stuck positions) = Ok (Refused (joint.Stuck positions))
@@ -31,13 +31,13 @@ done_by (Err e) = Err OutOfMemory
 abbrev pub ended : List ℕ → Trace → Ending → Moves
 ended text now ending = record { text = text; now = now; ends = ending }
 
--- one step of a hart is done and told, whatever follows; or the steps end there; or memory is wanting
+-- one step of a hart is done and told, whatever follows; or the steps end there; or memory runs out
 abbrev pub StepsOnce : Trace → ℕ → Result (Option Ending) DebugError → Trace → (text now_text : List ℕ) → Type 0
 StepsOnce old h (Ok None) new text now_text = (piece : List ℕ) × (now_text ≡ text ++ piece) × ((go : Trace → Moves) → step_by old h (readiness old.now h) (trace_step old h) go ≡ after piece (go new))
 StepsOnce old h (Ok (Some ending)) new text now_text = (piece : List ℕ) × (now_text ≡ text ++ piece) × ((go : Trace → Moves) → step_by old h (readiness old.now h) (trace_step old h) go ≡ ended piece new ending)
 StepsOnce old h (Err e) new text now_text = e ≡ OutOfMemory
 
--- one step of the lowest ready hart is done, whatever follows; or the steps end there; or memory is wanting
+-- one step of the lowest ready hart is done, whatever follows; or the steps end there; or memory runs out
 abbrev pub GoesOnce : Bool → List ℕ → Trace → Result (Option Ending) DebugError → Trace → (text now_text : List ℕ) → Type 0
 GoesOnce first breaks old (Ok None) new text now_text = (now_text ≡ text) × (steps_left new.now.lanes + 1 ≡ steps_left old.now.lanes) × ((go : Trace → Moves) → go_by first breaks old (choice old.now) go ≡ go new)
 GoesOnce first breaks old (Ok (Some ending)) new text now_text = (piece : List ℕ) × (now_text ≡ text ++ piece) × ((go : Trace → Moves) → go_by first breaks old (choice old.now) go ≡ ended piece new ending)
@@ -45,38 +45,38 @@ GoesOnce first breaks old (Err e) new text now_text = e ≡ OutOfMemory
 
 -- ---- what is sent
 
--- why sending stopped: memory was wanting, or a write failed
+-- why sending stopped: memory ran out, or a write failed
 abbrev pub Stops : ℕ → ℕ → DebugError → Type 0
 Stops before now OutOfMemory = Unit {0}
 Stops before now WriteFault = Rose before now
 Stops before now e = ⊥
 
--- a text was sent, or a front of it
+-- a text was sent, or a prefix of it
 abbrev pub Sends : {A : Type 0} → List ℕ → (A → Type 0) → (written now_written : Option (List ℕ)) → (before now : ℕ) → Result A DebugError → Type 0
 Sends text P written now_written before now (Ok value) = Appends written now_written text × P value
 Sends text P written now_written before now (Err e) = AppendsPart written now_written text × Stops before now e
 
--- of a text some was sent and the rest waits, or a front of it was sent
+-- of a text some was sent and the rest waits, or a prefix of it was sent
 abbrev pub Gathers : {A : Type 0} → List ℕ → (A → Type 0) → (written now_written : Option (List ℕ)) → (before now : ℕ) → (waiting : List ℕ) → Result A DebugError → Type 0
 Gathers text P written now_written before now waiting (Ok value) = (sent : List ℕ) × Appends written now_written sent × (text ≡ sent ++ waiting) × P value
 Gathers text P written now_written before now waiting (Err e) = AppendsPart written now_written text × Stops before now e
 
 -- ---- a session, by its parts
 
-abbrev pub session_of : Trace → Desk → Session
+abbrev pub session_of : Trace → Focus → Session
 session_of t d = record { trace = t; hart = d.hart; breaks = d.breaks.items }
 
 -- a command that isn't a step is told
-pub record Says (a : Answer) (t : Trace) (d : Desk) (text now_text : List ℕ) : Type 0 where
+pub record Says (a : Answer) (t : Trace) (d : Focus) (text now_text : List ℕ) : Type 0 where
   pub told : now_text ≡ text ++ a.text
   pub session : session_of t d ≡ a.session
 
--- moves were made and told, or memory was wanting
+-- moves were made and told, or memory ran out
 abbrev pub MovesBy : Moves → Result Ending DebugError → Trace → (text now_text : List ℕ) → Type 0
 MovesBy m (Ok ending) new text now_text = (now_text ≡ text ++ m.text) × (new ≡ m.now) × (ending ≡ m.ends)
 MovesBy m (Err e) new text now_text = e ≡ OutOfMemory
 
--- all harts stepped up to a breakpoint, or memory was wanting
+-- all harts stepped up to a breakpoint, or memory ran out
 abbrev pub Goes : List ℕ → Trace → Result Ending DebugError → Trace → (text now_text : List ℕ) → Type 0
 Goes breaks old result new text now_text = MovesBy (go_on true breaks old) result new text now_text
 
@@ -88,7 +88,7 @@ TellsSteps h count old new text now_text written now_written before now result =
     let m : Moves = step_up_to h count old in Gathers (text ++ m.text) (λ ending. (new ≡ m.now) × (ending ≡ m.ends)) written now_written before now now_text result
 
 -- the answer of a command is put behind a text
-abbrev pub Performs : Command → (old new : Session) → (text now_text : List ℕ) → (written now_written : Option (List ℕ)) → (before now : ℕ) → Result Ending DebugError → Type 0
+abbrev pub Performs : DebugCommand → (old new : Session) → (text now_text : List ℕ) → (written now_written : Option (List ℕ)) → (before now : ℕ) → Result Ending DebugError → Type 0
 Performs command old new text now_text written now_written before now result =
     let a : Answer = answer old command in Gathers (text ++ a.text) (λ ending. (new ≡ a.session) × (ending ≡ a.ends)) written now_written before now now_text result
 

@@ -29,7 +29,7 @@ abbrev pub placed : ℕ → ℕ → Option ℕ → Option ℕ
 placed base follow None = None
 placed base follow (Some d) = Some (d * base ^ follow)
 
--- the number that digits spell, the most significant first; `None` where another byte stands among them
+-- the number that digits spell, the most significant first; `None` if another byte stands among them
 abbrev pub number_in : ℕ → List ℕ → Option ℕ
 number_in base [] = Some 0
 number_in base (byte ∷ bytes) = sum_of (placed base (length bytes) (digit_in base byte)) (number_in base bytes)

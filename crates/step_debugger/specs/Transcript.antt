@@ -18,7 +18,7 @@ use Rattle.step_debugger.specs.Answers.{Session, Answer, begin_at, says, answer}
 abbrev pub behind : List ℕ → Answer → Answer
 behind text a = record a { text = text ++ a.text }
 
--- how it goes on behind an answer
+-- how it continues behind an answer
 abbrev pub goes_on_by : Ending → Answer → (Session → Answer) → Answer
 goes_on_by GoesOn a go = behind a.text (go a.session)
 goes_on_by Quits a go = a
@@ -29,7 +29,7 @@ abbrev pub answers : List (List ℕ) → Session → Answer
 answers [] s = says s []
 answers (line ∷ lines) s = let a : Answer = answer s (command_of line) in goes_on_by a.ends a (λ t. answers lines t)
 
--- the lines of all commands: what stands behind the last LF counts, unless no more is read; an empty line prints nothing
+-- the lines of all commands: what comes after the last LF counts, unless no more is read; an empty line prints nothing
 abbrev pub lines_in : Input → List (List ℕ)
 lines_in input = elim input.refused [ None ↦ input.lines ++ input.last ∷ [] | Some e ↦ input.lines ]
 
@@ -45,7 +45,7 @@ result_by GoesOn (Some e) = Err e
 result_by Quits refused = Ok (tt {0})
 result_by (Refused e) refused = Err (why.Joint e)
 
--- a session from where a joint replay stands, with the way that it came, and these commands
+-- a session from the point where a joint replay stands, with the way that it came, and these commands
 abbrev pub transcript_from : Trace → Input → Told
 transcript_from t input = let a : Answer = answers (lines_in input) (begin_at t) in record { text = a.text; result = result_by a.ends input.refused }
 
@@ -64,14 +64,14 @@ pub record EndsThere (t : Trace) (gone : List ℕ) (e : Ending) : Type 0 where
   pub before : (answers front (begin_at t)).ends ≡ GoesOn
   pub there : (answers (front ++ line ∷ []) (begin_at t)).ends ≡ e
 
--- all bytes are gone, and no line of them that ends with LF ended the session: what stands behind the last LF may have
+-- all bytes are gone, and no line of them that ends with LF ended the session: what comes after the last LF may have
 pub record EndsAll (t : Trace) (left now_left : Option (List ℕ)) (gone : List ℕ) : Type 0 where
   pub all : ConsumesAll left now_left gone
   pub before : (answers (input_of gone).lines (begin_at t)).ends ≡ GoesOn
 
 -- a session ends as its transcript does, and its text is written: at the line that ended it, or at the end of its source, or
 -- since no more lines are read. Or a read failed before, and the whole lines before that are answered; or a write failed, or
--- memory was wanting, and a front of the text is written
+-- memory ran out, and a prefix of the text is written
 abbrev pub Debugs : Trace → (gone : List ℕ) → (left now_left : Option (List ℕ)) → (read_before read_now : ℕ) → (written now_written : Option (List ℕ)) → (before now : ℕ) → Result (Unit {0}) DebugError → Type 0
 Debugs t gone left now_left read_before read_now written now_written before now (Ok u) =
     let told : Told = transcript_from t (input_of gone) in

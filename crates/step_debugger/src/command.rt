@@ -3,7 +3,7 @@ use bn_base::Addr;
 
 /// What a line asks for.
 #[derive(Clone, Copy, Drop)]
-pub enum Command {
+pub enum DebugCommand {
     /// Nothing: the line is empty.
     Empty,
     /// The hart of this number is chosen.

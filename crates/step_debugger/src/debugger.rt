@@ -2,8 +2,8 @@
 ghost use Rattle.std.specs.Prelude.{◌≤◌};
 ghost use Rattle.step_debugger.specs.Transcript.{Debugged};
 
-use crate::desk::Desk;
 use crate::error::DebugError;
+use crate::focus::Focus;
 use crate::lines::LineReader;
 use crate::session::{Ending, answer};
 use back_step::Trail;
@@ -30,7 +30,7 @@ pub fn debug<I: Source, O: Sink>(
     ensures later { O.faults out.old ≤ O.faults out.new }
 {
     let mut reader = LineReader::new(alloc);
-    let mut desk = Desk {
+    let mut focus = Focus {
         hart: 0,
         breaks: Vec::new(alloc),
     };
@@ -39,7 +39,7 @@ pub fn debug<I: Source, O: Sink>(
         match reader.next(input) {
             Err(error) => return Err(error),
             Ok(whole) => {
-                match answer(alloc, trail, &mut desk, reader.line(), &mut text, out) {
+                match answer(alloc, trail, &mut focus, reader.line(), &mut text, out) {
                     Err(error) => return Err(error),
                     Ok(ending) => match ending {
                         Ending::GoesOn => {

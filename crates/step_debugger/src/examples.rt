@@ -1,7 +1,7 @@
 // Small examples.
 ghost use Rattle.std.specs.Prelude.{◌≡◌, ◌+◌, ◌++◌, ◌^◌, [], ◌∷◌, length, Some, None};
 ghost use Rattle.std.specs.Prelude.{replicate};
-ghost use Rattle.step_debugger.specs.declared.command.Command.TheVariants.{Other};
+ghost use Rattle.step_debugger.specs.declared.command.DebugCommand.TheVariants.{Other};
 ghost use Rattle.step_debugger.specs.declared.error.DebugError.TheVariants.{LineTooLong, TooMuch};
 ghost use Rattle.step_debugger.specs.Lines.{ends_in, with_line};
 ghost use Rattle.step_debugger.specs.Examples.{commands_of, command_lines, their_commands, other_lines, refusal_of, long_line, last_bytes};

@@ -3,9 +3,9 @@
 
 mod command;
 mod debugger;
-mod desk;
 mod error;
 mod examples;
+mod focus;
 mod lines;
 mod moves;
 mod numbers;
@@ -16,7 +16,7 @@ mod session;
 mod stop;
 mod texts;
 
-pub use command::Command;
+pub use command::DebugCommand;
 pub use debugger::debug;
 pub use error::DebugError;
 pub use session::Ending;

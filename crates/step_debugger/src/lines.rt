@@ -96,6 +96,7 @@ impl LineReader {
         'bytes: loop {
             match next_byte(source) {
                 Err(_) => return Err(DebugError::ReadFault),
+                // The bytes after the last LF count as a line, also if there are none: an empty line prints nothing.
                 Ok(None) => return Ok(false),
                 Ok(Some(byte)) => match self.take(byte) {
                     Ok(false) => (),

@@ -3,7 +3,7 @@ ghost use Rattle.std.specs.Prelude.{◌≡◌, Some, None, MatchOption};
 ghost use Rattle.std.specs.Str.{bytes_eq};
 ghost use Rattle.step_debugger.specs.Commands.{behind, decimal_in, address_in, hart_of, step_of, back_of, break_of, unbreak_of, word_of, numbered, command_of};
 
-use crate::command::Command;
+use crate::command::DebugCommand;
 use crate::numbers::number_of;
 use bn_base::Addr;
 
@@ -35,80 +35,80 @@ fn address_in(text: &[u8]) -> Option<Addr>
     }
 }
 
-fn hart_of(number: Option<u32>) -> Command
+fn hart_of(number: Option<u32>) -> DebugCommand
     ensures { result ≡ hart_of number }
 {
     match number {
-        None => Command::Other,
-        Some(hart) => Command::Hart(hart),
+        None => DebugCommand::Other,
+        Some(hart) => DebugCommand::Hart(hart),
     }
 }
 
-fn step_of(number: Option<u32>) -> Command
+fn step_of(number: Option<u32>) -> DebugCommand
     ensures { result ≡ step_of number }
 {
     match number {
-        None => Command::Other,
+        None => DebugCommand::Other,
         Some(count) => {
             if 0 < count && count <= 1_000_000 {
-                Command::Step(count)
+                DebugCommand::Step(count)
             } else {
-                Command::Other
+                DebugCommand::Other
             }
         }
     }
 }
 
-fn back_of(number: Option<u32>) -> Command
+fn back_of(number: Option<u32>) -> DebugCommand
     ensures { result ≡ back_of number }
 {
     match number {
-        None => Command::Other,
+        None => DebugCommand::Other,
         Some(count) => {
             if 0 < count && count <= 1_000_000 {
-                Command::Back(count)
+                DebugCommand::Back(count)
             } else {
-                Command::Other
+                DebugCommand::Other
             }
         }
     }
 }
 
-fn break_of(number: Option<Addr>) -> Command
+fn break_of(number: Option<Addr>) -> DebugCommand
     ensures { result ≡ break_of number }
 {
     match number {
-        None => Command::Other,
-        Some(addr) => Command::Break(addr),
+        None => DebugCommand::Other,
+        Some(addr) => DebugCommand::Break(addr),
     }
 }
 
-fn unbreak_of(number: Option<Addr>) -> Command
+fn unbreak_of(number: Option<Addr>) -> DebugCommand
     ensures { result ≡ unbreak_of number }
 {
     match number {
-        None => Command::Other,
-        Some(addr) => Command::Unbreak(addr),
+        None => DebugCommand::Other,
+        Some(addr) => DebugCommand::Unbreak(addr),
     }
 }
 
-fn word_of(number: Option<Addr>) -> Command
+fn word_of(number: Option<Addr>) -> DebugCommand
     ensures { result ≡ word_of number }
 {
     match number {
-        None => Command::Other,
+        None => DebugCommand::Other,
         Some(addr) => {
             if addr % 4 == 0 {
-                Command::Word(addr)
+                DebugCommand::Word(addr)
             } else {
-                Command::Other
+                DebugCommand::Other
             }
         }
     }
 }
 
 // A command with a number.
-fn numbered(line: &[u8]) -> Command
+fn numbered(line: &[u8]) -> DebugCommand
     ensures { result ≡ numbered line.now }
 {
     match behind(b"hart ", line) {
@@ -123,7 +123,7 @@ fn numbered(line: &[u8]) -> Command
                         Some(text) => word_of(address_in(text)),
                         None => match behind(b"back ", line) {
                             Some(text) => back_of(decimal_in(text)),
-                            None => Command::Other,
+                            None => DebugCommand::Other,
                         },
                     },
                 },
@@ -133,25 +133,25 @@ fn numbered(line: &[u8]) -> Command
 }
 
 /// The command that a line is, which is given without its LF.
-pub(crate) fn command_of(line: &[u8]) -> Command
+pub(crate) fn command_of(line: &[u8]) -> DebugCommand
     ensures { result ≡ command_of line.now }
 {
     if is_same(line, b"") {
-        Command::Empty
+        DebugCommand::Empty
     } else if is_same(line, b"step") {
-        Command::Step(1)
+        DebugCommand::Step(1)
     } else if is_same(line, b"go") {
-        Command::Go
+        DebugCommand::Go
     } else if is_same(line, b"regs") {
-        Command::Registers
+        DebugCommand::Registers
     } else if is_same(line, b"where") {
-        Command::Where
+        DebugCommand::Where
     } else if is_same(line, b"quit") {
-        Command::Quit
+        DebugCommand::Quit
     } else if is_same(line, b"back") {
-        Command::Back(1)
+        DebugCommand::Back(1)
     } else if is_same(line, b"rgo") {
-        Command::ReverseGo
+        DebugCommand::ReverseGo
     } else {
         numbered(line)
     }

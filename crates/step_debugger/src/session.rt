@@ -5,9 +5,9 @@ ghost use Rattle.joint_replay.specs.Calls.{state_at};
 ghost use Rattle.step_debugger.specs.Answers.{is_set, registers_text, hart_place, places_from, choose, add_break, take_break};
 ghost use Rattle.step_debugger.specs.Goings.{session_of, Says, Goes, TellsSteps, Performs, IsAnswered, done_by};
 
-use crate::command::Command;
-use crate::desk::Desk;
+use crate::command::DebugCommand;
 use crate::error::DebugError;
+use crate::focus::Focus;
 use crate::moves::{go_once, pc_at, ready, state, step_once};
 use crate::parse::command_of;
 use crate::returns::{back, back_to_stop};
@@ -33,32 +33,37 @@ pub enum Ending {
 // ---- the chosen hart and the breakpoints
 
 // Chooses a hart.
-fn choose(trail: &Trail, desk: &mut Desk, number: u32, text: &mut Text) -> Result<(), AllocError>
-    ensures { OnOk result (Says (choose (session_of trail.now.trace desk.old) number) trail.now.trace desk.new text.old text.new) }
+fn choose(trail: &Trail, focus: &mut Focus, number: u32, text: &mut Text) -> Result<(), AllocError>
+    ensures { OnOk result (Says (choose (session_of trail.now.trace focus.old) number) trail.now.trace focus.new text.old text.new) }
 {
     if number < u32::from(trail.joint().harts()) {
-        desk.hart = number as u8;
-        push_hart(text, desk.hart)
+        focus.hart = number as u8;
+        push_hart(text, focus.hart)
     } else {
         text.push_str("?\n")
     }
 }
 
 // Whether a breakpoint is at an address.
-fn is_set(desk: &Desk, addr: Addr) -> bool
-    ensures { result ≡ is_set desk.now.breaks.items addr }
+fn is_set(focus: &Focus, addr: Addr) -> bool
+    ensures { result ≡ is_set focus.now.breaks.items addr }
 {
-    desk.breaks.contains(&addr)
+    focus.breaks.contains(&addr)
 }
 
 // Adds a breakpoint.
-fn add_break(trail: &Trail, desk: &mut Desk, addr: Addr, text: &mut Text) -> Result<(), AllocError>
-    ensures { OnOk result (Says (add_break (session_of trail.now.trace desk.old) addr) trail.now.trace desk.new text.old text.new) }
+fn add_break(
+    trail: &Trail,
+    focus: &mut Focus,
+    addr: Addr,
+    text: &mut Text,
+) -> Result<(), AllocError>
+    ensures { OnOk result (Says (add_break (session_of trail.now.trace focus.old) addr) trail.now.trace focus.new text.old text.new) }
 {
-    if is_set(desk, addr) {
+    if is_set(focus, addr) {
         push_address(text, "break ", addr)
-    } else if desk.breaks.len() < 64 {
-        desk.breaks.push(addr)?;
+    } else if focus.breaks.len() < 64 {
+        focus.breaks.push(addr)?;
         push_address(text, "break ", addr)
     } else {
         text.push_str("full\n")
@@ -73,11 +78,16 @@ fn take_out(breaks: &mut Vec<Addr>, addr: Addr)
 }
 
 // Takes out a breakpoint.
-fn take_break(trail: &Trail, desk: &mut Desk, addr: Addr, text: &mut Text) -> Result<(), AllocError>
-    ensures { OnOk result (Says (take_break (session_of trail.now.trace desk.old) addr) trail.now.trace desk.new text.old text.new) }
+fn take_break(
+    trail: &Trail,
+    focus: &mut Focus,
+    addr: Addr,
+    text: &mut Text,
+) -> Result<(), AllocError>
+    ensures { OnOk result (Says (take_break (session_of trail.now.trace focus.old) addr) trail.now.trace focus.new text.old text.new) }
 {
-    if is_set(desk, addr) {
-        take_out(&mut desk.breaks, addr);
+    if is_set(focus, addr) {
+        take_out(&mut focus.breaks, addr);
         push_address(text, "unbreak ", addr)
     } else {
         text.push_str("none\n")
@@ -187,29 +197,29 @@ fn done(written: Result<(), AllocError>) -> Result<Ending, DebugError>
 fn perform<O: Sink>(
     alloc: Global,
     trail: &mut Trail,
-    desk: &mut Desk,
-    command: Command,
+    focus: &mut Focus,
+    command: DebugCommand,
     text: &mut Text,
     out: &mut O,
 ) -> Result<Ending, DebugError>
-    ensures sent { Performs command (session_of trail.old.trace desk.old) (session_of trail.new.trace desk.new) text.old text.new
+    ensures sent { Performs command (session_of trail.old.trace focus.old) (session_of trail.new.trace focus.new) text.old text.new
         (O.written out.old) (O.written out.new) (O.faults out.old) (O.faults out.new) result }
     ensures later { O.faults out.old ≤ O.faults out.new }
 {
     match command {
-        Command::Empty => Ok(Ending::GoesOn),
-        Command::Hart(number) => done(choose(trail, desk, number, text)),
-        Command::Step(count) => step_up_to(trail, desk.hart, count, text, out),
-        Command::Go => go(alloc, trail, &desk.breaks, text),
-        Command::Back(count) => back(trail, count, text),
-        Command::ReverseGo => back_to_stop(trail, &desk.breaks, text),
-        Command::Break(addr) => done(add_break(trail, desk, addr, text)),
-        Command::Unbreak(addr) => done(take_break(trail, desk, addr, text)),
-        Command::Registers => done(push_registers(trail.joint(), desk.hart, text)),
-        Command::Word(addr) => done(push_word(text, addr, trail.joint().word(addr))),
-        Command::Where => done(push_places(trail.joint(), text)),
-        Command::Quit => Ok(Ending::Quits),
-        Command::Other => done(text.push_str("?\n")),
+        DebugCommand::Empty => Ok(Ending::GoesOn),
+        DebugCommand::Hart(number) => done(choose(trail, focus, number, text)),
+        DebugCommand::Step(count) => step_up_to(trail, focus.hart, count, text, out),
+        DebugCommand::Go => go(alloc, trail, &focus.breaks, text),
+        DebugCommand::Back(count) => back(trail, count, text),
+        DebugCommand::ReverseGo => back_to_stop(trail, &focus.breaks, text),
+        DebugCommand::Break(addr) => done(add_break(trail, focus, addr, text)),
+        DebugCommand::Unbreak(addr) => done(take_break(trail, focus, addr, text)),
+        DebugCommand::Registers => done(push_registers(trail.joint(), focus.hart, text)),
+        DebugCommand::Word(addr) => done(push_word(text, addr, trail.joint().word(addr))),
+        DebugCommand::Where => done(push_places(trail.joint(), text)),
+        DebugCommand::Quit => Ok(Ending::Quits),
+        DebugCommand::Other => done(text.push_str("?\n")),
     }
 }
 
@@ -217,17 +227,17 @@ fn perform<O: Sink>(
 pub(crate) fn answer<O: Sink>(
     alloc: Global,
     trail: &mut Trail,
-    desk: &mut Desk,
+    focus: &mut Focus,
     line: &[u8],
     text: &mut Text,
     out: &mut O,
 ) -> Result<Ending, DebugError>
-    ensures sent { IsAnswered line.now (session_of trail.old.trace desk.old) (session_of trail.new.trace desk.new)
+    ensures sent { IsAnswered line.now (session_of trail.old.trace focus.old) (session_of trail.new.trace focus.new)
         (O.written out.old) (O.written out.new) (O.faults out.old) (O.faults out.new) result }
     ensures later { O.faults out.old ≤ O.faults out.new }
 {
     text.clear();
-    match perform(alloc, trail, desk, command_of(line), text, out) {
+    match perform(alloc, trail, focus, command_of(line), text, out) {
         Err(error) => Err(error),
         Ok(ending) => match send(text, out) {
             Ok(()) => Ok(ending),

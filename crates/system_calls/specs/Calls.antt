@@ -14,7 +14,7 @@ all_bytes test address count = list_all test (range_with_len address count)
 abbrev pub error_answer : ℕ → Plan
 error_answer error = Answer (2 ^ 32 - error)
 
--- the bytes are filled from the input, where there are some and all of them are mapped and writable (error 14: bad address)
+-- the bytes are filled from the input, if there are some and all of them are mapped and writable (error 14: bad address)
 abbrev pub fill_plan : (address count : ℕ) → Program → Plan
 fill_plan address count i =
     if count == 0 then Answer 0 else
@@ -35,7 +35,7 @@ stream_size = 16777216
 abbrev pub stream_len : ℕ → Kernel → ℕ
 stream_len file k = if file == 1 then k.out_len else k.err_len
 
--- the bytes are appended to the stream, where all of them are mapped
+-- the bytes are appended to the stream, if all of them are mapped
 abbrev pub send_plan : (file address count : ℕ) → Program → Plan
 send_plan file address count i =
     if all_bytes (may_load i) address count then Send file address count else

@@ -3,6 +3,6 @@
 #![tactic(auto)]
 
 #[cfg(test)]
-mod desks;
+mod ports;
 #[cfg(test)]
 mod threads;

@@ -1,4 +1,4 @@
--- What the harts' caches keep together, and the histories that they stand for.
+-- What the harts' caches keep together, and the histories that they represent.
 use Rattle.std.specs.Prelude.{ℕ, ◌+◌, ◌≤◌, ◌<◌, ◌==◌, ◌≡◌, ◌≢◌, Bool, true, false, List, ◌∷◌, length, get_or, Option, Some, None}
 use Rattle.bn_base.specs.declared.settings.RawSettings.{RawSettings}
 use Rattle.first_load_bits.specs.Events.{Event}
@@ -8,7 +8,7 @@ use Rattle.first_load_bits.specs.declared.warm.Warm.{Warm}
 use Rattle.system_calls.specs.declared.effect.Plan.{Plan}
 use Rattle.run_model.specs.declared.span.Span.{Span}
 
--- what stands where there is no cache
+-- what stands if there is no cache
 abbrev pub no_cache : Contents
 no_cache = no_contents
 
@@ -19,7 +19,7 @@ cache_of cs k = get_or cs k no_cache
 abbrev pub steps_in : List Contents → ℕ → ℕ
 steps_in cs k = (cache_of cs k).steps
 
--- there is a cache for each hart, of the geometry that the settings ask for, and each stands for its hart's history
+-- there is a cache for each hart, of the geometry that the settings ask for, and each represents its hart's history
 pub record AreCaches (c : RawSettings) (cs : List Contents) (events : ℕ → List Event) : Type 0 where
   pub count : length cs ≡ c.harts
   pub geometry : (k : ℕ) → k < c.harts → (cache_of cs k).geometry ≡ geometry_of c
@@ -30,12 +30,12 @@ abbrev pub touched_word : Option Plan → Option Span → Option ℕ
 touched_word None (Some s) = Some s.first
 touched_word call accessed = None
 
--- one step where a word is touched, and none elsewhere
+-- one step if a word is touched, and none elsewhere
 abbrev pub touches : Option ℕ → ℕ
 touches None = 0
 touches (Some a) = 1
 
--- how the touched word was before, where the access is a loading one
+-- how the touched word was before, if the access is a loading one
 abbrev pub where_loading : Option ℕ → Option Warm → Option Warm
 where_loading None answer = None
 where_loading (Some a) answer = answer

@@ -2,11 +2,11 @@
 use Rattle.std.specs.Prelude.{◌≡◌, ℕ, ◌+◌, List, Bool, true}
 use Rattle.log_record.specs.declared.record.Record.{Record}
 use Rattle.log_record.specs.Spelling.{is_mark, total}
-use Rattle.log_record.specs.Kept.{HoldsLog}
+use Rattle.log_ring.specs.Kept.{HoldsLog}
 pub use Rattle.run_model.specs.Stands.Taken.{taken}
 use Rattle.run_model.specs.declared.log.Log.{Log}
-use Rattle.run_model.specs.declared.next.Next.{Next}
-use Rattle.run_model.specs.declared.next.Next.TheVariants.{GoesOn, NewInterval, HartOver, RunOver}
+use Rattle.run_model.specs.declared.turn_end.TurnEnd.{TurnEnd}
+use Rattle.run_model.specs.declared.turn_end.TurnEnd.TheVariants.{GoesOn, NewInterval, HartOver, RunOver}
 use Rattle.run_model.specs.Turn.{mark}
 
 -- a log that took these records: its ring keeps what has room of them, and it counts the bytes of all
@@ -20,7 +20,7 @@ pub record Took (old : Log) (count : ℕ) (new : Log) : Type 0 where
   pub count_is : taken new.ring ≡ taken old.ring + count
 
 -- a log of format 2 has marks of the reason and value with which an interval ends
-abbrev pub is_marked_next : Next → Bool
+abbrev pub is_marked_next : TurnEnd → Bool
 is_marked_next GoesOn = true
 is_marked_next (NewInterval reason value) = is_mark 2 (mark 0 reason value)
 is_marked_next (HartOver reason value) = is_mark 2 (mark 0 reason value)

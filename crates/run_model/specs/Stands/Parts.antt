@@ -1,4 +1,4 @@
--- What a machine that runs keeps, the machines of the definition that it stands for, and what an answer needs.
+-- What a machine that runs keeps, the machines of the definition that it represents, and what an answer needs.
 use Rattle.std.specs.Prelude.{ℕ, ◌+◌, ◌-◌, ◌*◌, ◌%◌, ◌^◌, ◌==◌, ◌≡◌, ◌≤◌, ◌<◌, ⊤, IsTrue, Bool, true, false, List, length, drop, get_or, Option, Some, None}
 use Rattle.bn_base.specs.Programs.{Program}
 use Rattle.bn_base.specs.declared.settings.TheConstants.{HARTS}
@@ -17,8 +17,8 @@ use Rattle.run_model.specs.declared.span.Span.{Span}
 use Rattle.run_model.specs.Machine.{Machine, Answered}
 use Rattle.run_model.specs.Turn.{span_of}
 
--- memory, the word that each of the harts has reserved, as many as there can be, the program break, how many bytes of the input were taken, the
--- two output streams, and how many bytes each of them has room for
+-- memory, the word that each hart has reserved (as many as there can be), the program break, how many bytes of the input were
+-- taken, the two output streams, and how much room each of them has
 pub record MachineParts : Type 0 where
   pub memory : Contents
   pub reserved : List (Option ℕ)
@@ -33,11 +33,11 @@ pub record MachineParts : Type 0 where
 abbrev pub size_of : MachineParts → ℕ
 size_of p = 4 * length p.memory.words
 
--- a list of reservations stands for a map from harts
+-- a list of reservations represents a map from harts
 pub record AreReserved (rs : List (Option ℕ)) (f : ℕ → Option ℕ) : Type 0 where
   pub at : (k : ℕ) → k < HARTS → get_or rs k None ≡ f k
 
--- the parts stand for a machine that has this whole input
+-- the parts represent a machine that has this whole input
 pub record IsMachine (input : List ℕ) (p : MachineParts) (m : Machine) : Type 0 where
   pub memory : HoldsMap p.memory.words m.memory
   pub reserved : AreReserved p.reserved m.reserved
@@ -80,7 +80,7 @@ abbrev pub AreAddresses : Option Span → Type 0
 AreAddresses None = ⊤
 AreAddresses (Some s) = (s.first % 4 ≡ 0) × (s.first + 4 * s.count ≤ 2 ^ 32)
 
--- the words lie in memory, and where they are written, their pages are made
+-- the words lie in memory, and if they are written, their pages are made
 pub record IsSpanReady (c : Contents) (s : Span) : Type 0 where
   pub aligned : s.first % 4 ≡ 0
   pub within : s.first + 4 * s.count ≤ 4 * length c.words
@@ -116,7 +116,7 @@ pub record HasRoom (input : List ℕ) (p : MachineParts) (call : Option Plan) (w
   pub width : IsTrue (has_width want)
   pub plan : HasPlanRoom input p call want
 
--- the parts were `old` and are `new`, and the reply is given: this is what each machine that they stand for answers
+-- the parts were `old` and are `new`, and the reply is given: this is what each machine that they represent answers
 pub record IsAnswer (input : List ℕ) (old new : MachineParts) (given : Reply) (answer : Machine → Answered) : Type 0 where
   pub reply : (m : Machine) → IsMachine input old m → given ≡ (answer m).reply
   pub stands : (m : Machine) → IsMachine input old m → IsMachine input new (answer m).machine

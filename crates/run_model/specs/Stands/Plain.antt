@@ -1,4 +1,4 @@
--- What a plain machine keeps, and the runs that it stands for.
+-- What a plain machine keeps, and the runs that it represents.
 use Rattle.std.specs.Prelude.{◌≡◌, ◌≤◌, ◌<◌, ◌^◌, ◌%◌, ◌/◌, ℕ, ◌+◌, ◌*◌, ⊤, Bool, true, List, length, get_or, drop, Option, Some, None}
 use Rattle.bn_base.specs.Ranges.{IsSetting}
 use Rattle.bn_base.specs.declared.settings.RawSettings.{RawSettings}
@@ -7,8 +7,8 @@ use Rattle.race_log.specs.declared.shadow.Shadow.{Shadow}
 use Rattle.race_log.specs.Points.{Point}
 use Rattle.race_log.specs.Stands.{Stands, harts_of, lasts, next_turn, next_count, reserved_range}
 use Rattle.run_model.specs.declared.hart.Hart.{Hart}
-use Rattle.run_model.specs.declared.next.Next.{Next}
-use Rattle.run_model.specs.declared.next.Next.TheVariants.{GoesOn, NewInterval, HartOver, RunOver}
+use Rattle.run_model.specs.declared.turn_end.TurnEnd.{TurnEnd}
+use Rattle.run_model.specs.declared.turn_end.TurnEnd.TheVariants.{GoesOn, NewInterval, HartOver, RunOver}
 use Rattle.run_model.specs.declared.span.Span.{Span}
 use Rattle.run_model.specs.declared.start.Start.{Start}
 use Rattle.run_model.specs.declared.trace.Trace.{Trace}
@@ -30,7 +30,7 @@ abbrev pub IsRaceReady : Shadow → Option Span → Type 0
 IsRaceReady s None = ⊤
 IsRaceReady s (Some x) = (x.first % 4 ≡ 0) × (x.first + 4 * x.count ≤ 2 ^ 32) × (reserved_range s ≡ Some (x.first, x.count))
 
--- accesses may have been given up that all live harts know of: the race log stands for the same points, and the live harts
+-- accesses may have been given up that all live harts know of: the race log represents the same points, and the live harts
 -- last that did before
 pub record IsSwept (old new : Shadow) (hs : List Hart) : Type 0 where
   pub stands : (points : List Point) → Stands points everyone old → Stands points everyone new
@@ -45,7 +45,7 @@ count_after None ic before = before
 count_after (Some x) ic before = ic + 1
 
 -- how many times the bits of the hart's cache are cleared
-abbrev pub clears : Next → ℕ
+abbrev pub clears : TurnEnd → ℕ
 clears GoesOn = 0
 clears (NewInterval reason value) = 1
 clears (HartOver reason value) = 0
@@ -68,7 +68,7 @@ pub record IsTrace (c : RawSettings) (t : Trace) (run : Run) : Type 0 where
   pub log : IsLog t.log run.stream
   pub bytes : t.log.bytes ≡ run.bytes
 
--- the parts stand for the run
+-- the parts represent the run
 pub record IsRun (p : PlainParts) (run : Run) : Type 0 where
   pub machine : IsMachine p.start.input.items p.machine run.machine
   pub trace : IsTrace p.start.settings p.trace run
@@ -94,7 +94,7 @@ pub record IsTraceFit (c : RawSettings) (t : Trace) (turns : ℕ) : Type 0 where
   pub log : taken t.log.ring ≤ 16 + 40 * turns
   pub log_size : t.log.ring.size ≡ c.log_size
 
--- one of the machines that the parts stand for
+-- one of the machines that the parts represent
 abbrev pub meant : List ℕ → MachineParts → Machine
 meant input p = record {
   memory = λ a. get_or p.memory.words (a / 4) 0;

@@ -14,8 +14,8 @@ use Rattle.first_load_bits.specs.declared.warm.Warm.{Warm}
 use Rattle.log_record.specs.declared.record.Record.{Record}
 use Rattle.race_log.specs.Points.{Point}
 use Rattle.run_model.specs.declared.hart.Hart.{Hart}
-use Rattle.run_model.specs.declared.next.Next.{Next}
-use Rattle.run_model.specs.declared.next.Next.TheVariants.{GoesOn}
+use Rattle.run_model.specs.declared.turn_end.TurnEnd.{TurnEnd}
+use Rattle.run_model.specs.declared.turn_end.TurnEnd.TheVariants.{GoesOn}
 use Rattle.run_model.specs.declared.span.Span.{Span}
 use Rattle.run_model.specs.declared.trace.Trace.{Trace}
 use Rattle.run_model.specs.Machine.{Machine, call_of}
@@ -30,20 +30,20 @@ abbrev pub touched_by : Program → Machine → Want → Reply → Option ℕ
 touched_by i m want reply = touched_word (call_of i m want) (span_of (call_of i m want) want reply)
 
 -- what comes next for hart k, one of these, by the reply to its ask
-abbrev pub next_by : RawSettings → Option Plan → List Hart → ℕ → Ask → Reply → Next
+abbrev pub next_by : RawSettings → Option Plan → List Hart → ℕ → Ask → Reply → TurnEnd
 next_by c call hs k ask reply = next_of c call (hart_in hs k) ask.want reply (absorbed ask reply).ic
 
 -- the harts then, with so many bytes of records
 abbrev pub harts_by : RawSettings → Option Plan → List Hart → ℕ → Ask → Reply → Option Warm → ℕ → (ℕ → Hart) → ℕ → Hart
 harts_by c call hs k ask reply load bytes f =
     let h : Hart = hart_in hs k in
-    let next : Next = next_by c call hs k ask reply in
+    let next : TurnEnd = next_by c call hs k ask reply in
     harts_after next k (hart_after next (absorbed ask reply) (skipped_after load h.skipped) bytes h) f
 
 -- the records with those of the Ends and Headers that come next
 abbrev pub with_ends : RawSettings → Option Plan → List Hart → ℕ → Ask → Reply → (ℕ → Hart) → List Record → List Record
 with_ends c call hs k ask reply f rs =
-    let next : Next = next_by c call hs k ask reply in
+    let next : TurnEnd = next_by c call hs k ask reply in
     rs ++ next_records next k (hart_in hs k).number (absorbed ask reply) ++ run_over_records next k (length hs) f
 
 -- the records with those of hart k's access: its Edges, its FirstLoad, and how its SC went
@@ -52,7 +52,7 @@ with_access hs turn k call ask reply load word points rs =
     rs ++ edge_records (point_of k ask.state.ic turn (span_of call ask.want reply)) points ++ load_record load k (hart_in hs k).skipped word ++ sc_record reply k
 
 -- caches that stand for histories with hart k's access stand for them with what comes next
-abbrev pub CachesGoOn : RawSettings → Next → ℕ → Option Plan → Option Span → (ℕ → List Event) → (old new : List Contents) → Type 0
+abbrev pub CachesGoOn : RawSettings → TurnEnd → ℕ → Option Plan → Option Span → (ℕ → List Event) → (old new : List Contents) → Type 0
 CachesGoOn c next k call span events old new = AreCaches c old (events_after GoesOn k call span events) → AreCaches c new (events_after next k call span events)
 
 -- from one to the other hart k began its next interval in state s, by the guard: an End and a Header were appended, the bits

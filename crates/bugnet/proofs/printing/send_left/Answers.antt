@@ -5,7 +5,7 @@ use Rattle.hart_replay.specs.Coming.{Stepped}
 use Rattle.bugnet.specs.Texts.{rows_text}
 use Rattle.bugnet.specs.Printed.{outcome_of}
 use Rattle.bugnet.specs.Outside.{Sent}
-use Rattle.bugnet.specs.declared.printing.Ending.{Ending}
+use Rattle.bugnet.specs.declared.printing.ReplayEnd.{ReplayEnd}
 use Rattle.bugnet.specs.declared.refusal.Refusal.{Refusal}
 use Rattle.bugnet.proofs.Rows.{Stands, stands-none, stands-more, stands-stopped, stands-sent, stands-short, stands-done, stands-refused}
 use Rattle.bugnet.proofs.printing.send_left.Goals as goal
@@ -39,7 +39,7 @@ returns-in-Err-send-clause-sent g c =
 pub returns-in-Ok-send-2-clause-sent : goal.returns-in-Ok-send-2-clause-sent
 returns-in-Ok-send-2-clause-sent g c =
     let left = c.args.replayer.now.left in
-    subst (λ (r : Result Ending Refusal). Sent (g.O.Sink.written c.args.out.now) (g.O.Sink.written c.send-in-Err.new.sink) (g.O.Sink.faults c.args.out.now) (g.O.Sink.faults c.send-in-Err.new.sink) (rows_text left.rows) (λ ending. outcome_of ending ≡ left.outcome) r) (sym c.ending_of.ensures)
+    subst (λ (r : Result ReplayEnd Refusal). Sent (g.O.Sink.written c.args.out.now) (g.O.Sink.written c.send-in-Err.new.sink) (g.O.Sink.faults c.args.out.now) (g.O.Sink.faults c.send-in-Err.new.sink) (rows_text left.rows) (λ ending. outcome_of ending ≡ left.outcome) r) (sym c.ending_of.ensures)
     (stands-refused left c.rows.replayer.left (g.O.Sink.written c.args.out.now) (g.O.Sink.written c.send-in-Err.new.sink) (g.O.Sink.faults c.args.out.now) (g.O.Sink.faults c.send-in-Err.new.sink) c.in-Err.error c.in-Err.ensures.0
     (stands-sent left c.rows.replayer.left c.rows.text (g.O.Sink.written c.args.out.now) (g.O.Sink.written c.rows.out) (g.O.Sink.written c.send-in-Err.new.sink)
     (g.O.Sink.faults c.args.out.now) (g.O.Sink.faults c.rows.out) (g.O.Sink.faults c.send-in-Err.new.sink) c.rows.invariant c.in-Ok-send-2.ensures.sent.0 c.send-in-Err.ensures.later))

@@ -1,8 +1,8 @@
 use Rattle.std.proofs.Common.{◌∙◌, sym, ap, ◌++◌, ◌≡◌, ◌-◌, ℕ, arith, append_assoc, append-nil, length-append, length, max}
-use Rattle.race_log.specs.Times.{count_of}
+use Rattle.vector_time.specs.Times.{count_of}
 use Rattle.race_log.specs.Search.{gathered, merged}
 use Rattle.race_log.specs.Slots.{kept_by}
-use Rattle.race_log.specs.Words.{kept_in, stretch_counts}
+use Rattle.race_log.specs.Words.{kept_in, epoch_counts}
 use Rattle.race_log.proofs.Rounds.{sources_step, counts_step, sources_done, counts_done, sources_zero, counts_zero}
 use Rattle.race_log.proofs.search.find_sources.Goals as goal
 
@@ -10,7 +10,7 @@ pub loop-round-preserved : goal.loop-round-preserved
 loop-round-preserved c =
     let kept = gathered (kept_in c.args.words.now) c.args.first c.args.count in
     let p = c.push.ensures in
-    let k = kept_by (stretch_counts c.args.words.now.stretches) c.in-Some.k.mode c.in-Some.k.hart c.in-Some.k.turn c.in-Some.k.after c.in-Some.k.stretch in
+    let k = kept_by (epoch_counts c.args.words.now.epochs) c.in-Some.k.mode c.in-Some.k.hart c.in-Some.k.turn c.in-Some.k.after c.in-Some.k.epoch in
     let merges : (h : ℕ) → count_of c.merge.new.self h ≡ merged (count_of c.loop-round.times) k.times h =
     λ h. c.merge.ensures h ∙ ap (λ x. max (count_of c.loop-round.times h) x) (c.times_after.ensures h) in
     let s = sources_step c.args.hart c.args.writes (count_of c.loop-round.times) kept c.args.most c.loop-round.round k

@@ -1,5 +1,5 @@
 use Rattle.std.proofs.Common.{◌≡◌, ◌≤◌, ◌-◌, ◌++◌, ℕ, length}
-use Rattle.race_log.specs.Times.{count_of}
+use Rattle.vector_time.specs.Times.{count_of}
 use Rattle.race_log.specs.Search.{sources, counts_after, gathered}
 use Rattle.race_log.specs.Words.{kept_in}
 use Rattle.race_log.proofs.search.find_sources.Given as goal

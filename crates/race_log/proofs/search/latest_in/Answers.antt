@@ -1,8 +1,8 @@
 use Rattle.std.proofs.Common.{◌+◌, ◌*◌, ◌-◌, ◌≡◌, ◌∙◌, ap, ap₂, sym, arith}
-use Rattle.race_log.specs.Times.{count_of}
+use Rattle.vector_time.specs.Times.{count_of}
 use Rattle.race_log.specs.Search.{gathered, latest}
 use Rattle.race_log.specs.Slots.{found_as, word_in}
-use Rattle.race_log.specs.Words.{kept_in, stretch_counts}
+use Rattle.race_log.specs.Words.{kept_in, epoch_counts}
 use Rattle.race_log.proofs.Rounds.{latest-append, gathered_step}
 use Rattle.race_log.proofs.SlotLemmas.{kept_aligned}
 use Rattle.race_log.proofs.search.latest_in.Goals as goal
@@ -10,7 +10,7 @@ use Rattle.race_log.proofs.search.latest_in.Goals as goal
 pub loop-i-preserved : goal.loop-i-preserved
 loop-i-preserved c =
     let word = c.args.first + 4 * c.loop-i.i in
-    let counts = stretch_counts c.args.words.now.stretches in
+    let counts = epoch_counts c.args.words.now.epochs in
     let rest = gathered (kept_in c.args.words.now) (c.args.first + 4 * (c.loop-i.i + 1)) (c.args.count - (c.loop-i.i + 1)) in
     let before = found_as counts c.loop-i.best in
     let same : word_in counts c.args.words.now.harts c.page.result.now c.place.result ≡ kept_in c.args.words.now word =

@@ -1,11 +1,11 @@
 use Rattle.std.proofs.Common.{◌≡◌, ◌+◌, ◌*◌, ◌-◌, None}
-use Rattle.race_log.specs.Times.{count_of}
+use Rattle.vector_time.specs.Times.{count_of}
 use Rattle.race_log.specs.Search.{latest, gathered}
 use Rattle.race_log.specs.Slots.{found_as}
-use Rattle.race_log.specs.Words.{kept_in, stretch_counts}
+use Rattle.race_log.specs.Words.{kept_in, epoch_counts}
 use Rattle.race_log.proofs.search.latest_in.Given as goal
 
 abbrev pub invariant-loop-i : goal.invariant-loop-i
 invariant-loop-i l =
-    latest l.hart l.writes (count_of l.times) (found_as (stretch_counts l.words.stretches) l.best) (gathered (kept_in l.words) (l.first + 4 * l.i) (l.count - l.i))
+    latest l.hart l.writes (count_of l.times) (found_as (epoch_counts l.words.epochs) l.best) (gathered (kept_in l.words) (l.first + 4 * l.i) (l.count - l.i))
     ≡ latest l.hart l.writes (count_of l.times) None (gathered (kept_in l.words) l.first l.count)

@@ -1,5 +1,5 @@
 use Rattle.std.proofs.Common.{◌+◌, ◌-◌, ◌∙◌, ap, sym, true, slice_get}
-use Rattle.race_log.specs.Times.{count_of}
+use Rattle.vector_time.specs.Times.{count_of}
 use Rattle.race_log.specs.Search.{latest}
 use Rattle.race_log.specs.Slots.{read_in, reads_in, found_as}
 use Rattle.race_log.proofs.Rounds.{latest-append}

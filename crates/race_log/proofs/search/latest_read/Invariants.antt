@@ -1,5 +1,5 @@
 use Rattle.std.proofs.Common.{◌≡◌, ◌-◌, ℕ, true}
-use Rattle.race_log.specs.Times.{count_of}
+use Rattle.vector_time.specs.Times.{count_of}
 use Rattle.race_log.specs.Search.{latest}
 use Rattle.race_log.specs.Slots.{reads_in, found_as}
 use Rattle.race_log.proofs.search.latest_read.Given as goal

@@ -1,5 +1,5 @@
 use Rattle.std.proofs.Common.{◌≡◌, ◌∙◌, ◌<◌, ℕ, subst, sym, ap, List, Option, Some, None, length}
-use Rattle.race_log.specs.Times.{count_of}
+use Rattle.vector_time.specs.Times.{count_of}
 use Rattle.race_report.specs.Found.{met_all, uncovered}
 use Rattle.race_report.specs.Kept.{lists_of}
 use Rattle.race_report.proofs.Walking.{none_left, covered_left, next_left}

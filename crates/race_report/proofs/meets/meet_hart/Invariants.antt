@@ -1,5 +1,5 @@
 use Rattle.std.proofs.Common.{◌≡◌, ◌<◌, ℕ, suc, List, length, Option, Some, None, IfSome}
-use Rattle.race_log.specs.Times.{count_of}
+use Rattle.vector_time.specs.Times.{count_of}
 use Rattle.race_report.specs.Found.{met_all, uncovered}
 use Rattle.race_report.specs.Kept.{IsTracked, lists_of}
 use Rattle.race_report.proofs.Walking.{IsLeft}

@@ -1,5 +1,5 @@
 use Rattle.std.proofs.Common.{◌≡◌, ◌∙◌, ℕ, ◌+◌, ◌-◌, ◌%◌, ap, sym, subst, arith, List, ◌∷◌}
-use Rattle.race_log.specs.Times.{count_of}
+use Rattle.vector_time.specs.Times.{count_of}
 use Rattle.race_report.specs.declared.meeting.Meeting.{Meeting}
 use Rattle.race_report.specs.Points.{words_from}
 use Rattle.race_report.specs.Found.{met_words}

@@ -1,5 +1,5 @@
 use Rattle.std.proofs.Common.{◌≡◌, ◌-◌, ◌%◌, ℕ, List, length}
-use Rattle.race_log.specs.Times.{count_of}
+use Rattle.vector_time.specs.Times.{count_of}
 use Rattle.race_report.specs.Points.{words_from}
 use Rattle.race_report.specs.Found.{met_words}
 use Rattle.race_report.specs.Kept.{IsTracked, lists_of}

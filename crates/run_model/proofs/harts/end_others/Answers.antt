@@ -2,7 +2,7 @@ use Rattle.std.proofs.Common.{◌≡◌, ◌++◌, List, refl, sym, subst, lengt
 use Rattle.log_record.specs.declared.record.Record.{Record}
 use Rattle.run_model.specs.Stands.Logs.{IsLog}
 use Rattle.run_model.specs.Turn.{hart_after}
-use Rattle.run_model.specs.declared.next.Next.{Next}
+use Rattle.run_model.specs.declared.turn_end.TurnEnd.{TurnEnd}
 use Rattle.run_model.proofs.Stopping.{all_stopped, over_harts, over_records}
 use Rattle.run_model.proofs.harts.end_others.Goals as goal
 
@@ -18,4 +18,4 @@ returns-in-RunOver-clause-holds c f rs are held =
 
 pub returns-in-RunOver-clause-headed : goal.returns-in-RunOver-clause-headed
 returns-in-RunOver-clause-headed c s skipped h =
-    subst (λ (n : Next). hart_after n s skipped c.args.log.now.bytes h ≡ hart_after n s skipped c.stop_others.new.log.bytes h) (sym c.in-RunOver.is) refl
+    subst (λ (n : TurnEnd). hart_after n s skipped c.args.log.now.bytes h ≡ hart_after n s skipped c.stop_others.new.log.bytes h) (sym c.in-RunOver.is) refl

@@ -18,27 +18,27 @@ lines-init g c = record {
 
 pub returns-in-Err-clause-told : goal.returns-in-Err-clause-told
 returns-in-Err-clause-told g c =
-    not_read c.args.trail.now.trace (session_of c.lines.trail.trace c.lines.desk) c.lines.reader c.next.new.self (g.I.Source.left c.args.input.now) (g.I.Source.left c.lines.input) (g.I.Source.left c.next.new.source)
+    not_read c.args.trail.now.trace (session_of c.lines.trail.trace c.lines.focus) c.lines.reader c.next.new.self (g.I.Source.left c.args.input.now) (g.I.Source.left c.lines.input) (g.I.Source.left c.next.new.source)
     (g.O.Sink.written c.args.out.now) (g.O.Sink.written c.lines.out) (g.I.Source.faults c.args.input.now) (g.I.Source.faults c.lines.input) (g.I.Source.faults c.next.new.source) (g.O.Sink.faults c.args.out.now) (g.O.Sink.faults c.lines.out)
     c.lines.invariant.stands c.lines.invariant.read c.in-Err.error c.in-Err.ensures.read
 
 pub returns-in-Err-answer-clause-told : goal.returns-in-Err-answer-clause-told
 returns-in-Err-answer-clause-told g c =
-    not_sent c.args.trail.now.trace (session_of c.lines.trail.trace c.lines.desk) c.lines.reader c.next.new.self (g.I.Source.left c.args.input.now) (g.I.Source.left c.lines.input) (g.I.Source.left c.next.new.source)
+    not_sent c.args.trail.now.trace (session_of c.lines.trail.trace c.lines.focus) c.lines.reader c.next.new.self (g.I.Source.left c.args.input.now) (g.I.Source.left c.lines.input) (g.I.Source.left c.next.new.source)
     (g.O.Sink.written c.args.out.now) (g.O.Sink.written c.lines.out) (g.O.Sink.written c.answer.new.out) (g.I.Source.faults c.args.input.now) (g.I.Source.faults c.lines.input) (g.I.Source.faults c.next.new.source)
     (g.O.Sink.faults c.args.out.now) (g.O.Sink.faults c.lines.out) (g.O.Sink.faults c.answer.new.out) c.in-Ok.whole c.lines.invariant.stands c.in-Ok.ensures.read c.in-Err-answer.error c.lines.invariant.later
-    (subst (λ (x : List ℕ). AppendsPart (g.O.Sink.written c.lines.out) (g.O.Sink.written c.answer.new.out) (answer (session_of c.lines.trail.trace c.lines.desk) (command_of x)).text
+    (subst (λ (x : List ℕ). AppendsPart (g.O.Sink.written c.lines.out) (g.O.Sink.written c.answer.new.out) (answer (session_of c.lines.trail.trace c.lines.focus) (command_of x)).text
     × Stops (g.O.Sink.faults c.lines.out) (g.O.Sink.faults c.answer.new.out) c.in-Err-answer.error) c.line.ensures c.in-Err-answer.ensures.sent)
 
 pub lines-preserved : goal.lines-preserved
 lines-preserved g c =
-    let h = subst (λ (x : List ℕ). Appends (g.O.Sink.written c.lines.out) (g.O.Sink.written c.answer.new.out) (answer (session_of c.lines.trail.trace c.lines.desk) (command_of x)).text
-    × ((session_of c.answer.new.trail.trace c.answer.new.desk ≡ (answer (session_of c.lines.trail.trace c.lines.desk) (command_of x)).session) × (c.in-Ok-answer.ending ≡ (answer (session_of c.lines.trail.trace c.lines.desk) (command_of x)).ends)))
+    let h = subst (λ (x : List ℕ). Appends (g.O.Sink.written c.lines.out) (g.O.Sink.written c.answer.new.out) (answer (session_of c.lines.trail.trace c.lines.focus) (command_of x)).text
+    × ((session_of c.answer.new.trail.trace c.answer.new.focus ≡ (answer (session_of c.lines.trail.trace c.lines.focus) (command_of x)).session) × (c.in-Ok-answer.ending ≡ (answer (session_of c.lines.trail.trace c.lines.focus) (command_of x)).ends)))
     c.line.ensures c.in-Ok-answer.ensures.sent in
     let n = subst (λ (b : Bool). NextLine c.lines.reader (g.I.Source.left c.lines.input) (g.I.Source.left c.next.new.source) (g.I.Source.faults c.lines.input) (g.I.Source.faults c.next.new.source) (Ok b) c.next.new.self) c.if-not-whole.false c.in-Ok.ensures.read in
     record {
       stands = subst (λ (t : Session). Stands c.args.trail.now.trace t c.next.new.self.count (g.I.Source.left c.args.input.now) (g.I.Source.left c.next.new.source) (g.O.Sink.written c.args.out.now) (g.O.Sink.written c.answer.new.out)) (sym h.1.0)
-          (one_more c.args.trail.now.trace (session_of c.lines.trail.trace c.lines.desk) c.lines.reader c.next.new.self (g.I.Source.left c.args.input.now) (g.I.Source.left c.lines.input) (g.I.Source.left c.next.new.source)
+          (one_more c.args.trail.now.trace (session_of c.lines.trail.trace c.lines.focus) c.lines.reader c.next.new.self (g.I.Source.left c.args.input.now) (g.I.Source.left c.lines.input) (g.I.Source.left c.next.new.source)
           (g.O.Sink.written c.args.out.now) (g.O.Sink.written c.lines.out) (g.I.Source.faults c.lines.input) (g.I.Source.faults c.next.new.source) (g.O.Sink.written c.answer.new.out) c.lines.invariant.stands n (sym h.1.1 ∙ c.in-GoesOn.is) h.0);
       read = omega (arith, c.lines.invariant.read, c.next.ensures.later);
       later = omega (arith, c.lines.invariant.later, c.answer.ensures.later);
@@ -46,28 +46,28 @@ lines-preserved g c =
 
 pub returns-in-Quits-clause-told : goal.returns-in-Quits-clause-told
 returns-in-Quits-clause-told g c =
-    let h = subst (λ (x : List ℕ). Appends (g.O.Sink.written c.lines.out) (g.O.Sink.written c.answer.new.out) (answer (session_of c.lines.trail.trace c.lines.desk) (command_of x)).text
-    × ((session_of c.answer.new.trail.trace c.answer.new.desk ≡ (answer (session_of c.lines.trail.trace c.lines.desk) (command_of x)).session) × (c.in-Ok-answer.ending ≡ (answer (session_of c.lines.trail.trace c.lines.desk) (command_of x)).ends)))
+    let h = subst (λ (x : List ℕ). Appends (g.O.Sink.written c.lines.out) (g.O.Sink.written c.answer.new.out) (answer (session_of c.lines.trail.trace c.lines.focus) (command_of x)).text
+    × ((session_of c.answer.new.trail.trace c.answer.new.focus ≡ (answer (session_of c.lines.trail.trace c.lines.focus) (command_of x)).session) × (c.in-Ok-answer.ending ≡ (answer (session_of c.lines.trail.trace c.lines.focus) (command_of x)).ends)))
     c.line.ensures c.in-Ok-answer.ensures.sent in
-    quits c.args.trail.now.trace (session_of c.lines.trail.trace c.lines.desk) c.lines.reader c.next.new.self (g.I.Source.left c.args.input.now) (g.I.Source.left c.lines.input) (g.I.Source.left c.next.new.source)
+    quits c.args.trail.now.trace (session_of c.lines.trail.trace c.lines.focus) c.lines.reader c.next.new.self (g.I.Source.left c.args.input.now) (g.I.Source.left c.lines.input) (g.I.Source.left c.next.new.source)
     (g.O.Sink.written c.args.out.now) (g.O.Sink.written c.lines.out) (g.O.Sink.written c.answer.new.out) (g.I.Source.faults c.args.input.now) (g.I.Source.faults c.lines.input) (g.I.Source.faults c.next.new.source)
     (g.O.Sink.faults c.args.out.now) (g.O.Sink.faults c.lines.out) (g.O.Sink.faults c.answer.new.out) c.in-Ok.whole c.lines.invariant.stands c.in-Ok.ensures.read (sym h.1.1 ∙ c.in-Quits.is) h.0
 
 pub returns-in-Refused-clause-told : goal.returns-in-Refused-clause-told
 returns-in-Refused-clause-told g c =
-    let h = subst (λ (x : List ℕ). Appends (g.O.Sink.written c.lines.out) (g.O.Sink.written c.answer.new.out) (answer (session_of c.lines.trail.trace c.lines.desk) (command_of x)).text
-    × ((session_of c.answer.new.trail.trace c.answer.new.desk ≡ (answer (session_of c.lines.trail.trace c.lines.desk) (command_of x)).session) × (c.in-Ok-answer.ending ≡ (answer (session_of c.lines.trail.trace c.lines.desk) (command_of x)).ends)))
+    let h = subst (λ (x : List ℕ). Appends (g.O.Sink.written c.lines.out) (g.O.Sink.written c.answer.new.out) (answer (session_of c.lines.trail.trace c.lines.focus) (command_of x)).text
+    × ((session_of c.answer.new.trail.trace c.answer.new.focus ≡ (answer (session_of c.lines.trail.trace c.lines.focus) (command_of x)).session) × (c.in-Ok-answer.ending ≡ (answer (session_of c.lines.trail.trace c.lines.focus) (command_of x)).ends)))
     c.line.ensures c.in-Ok-answer.ensures.sent in
-    refused c.args.trail.now.trace (session_of c.lines.trail.trace c.lines.desk) c.lines.reader c.next.new.self (g.I.Source.left c.args.input.now) (g.I.Source.left c.lines.input) (g.I.Source.left c.next.new.source)
+    refused c.args.trail.now.trace (session_of c.lines.trail.trace c.lines.focus) c.lines.reader c.next.new.self (g.I.Source.left c.args.input.now) (g.I.Source.left c.lines.input) (g.I.Source.left c.next.new.source)
     (g.O.Sink.written c.args.out.now) (g.O.Sink.written c.lines.out) (g.O.Sink.written c.answer.new.out) (g.I.Source.faults c.args.input.now) (g.I.Source.faults c.lines.input) (g.I.Source.faults c.next.new.source)
     (g.O.Sink.faults c.args.out.now) (g.O.Sink.faults c.lines.out) (g.O.Sink.faults c.answer.new.out) c.in-Ok.whole c.lines.invariant.stands c.in-Ok.ensures.read c.in-Refused.error (sym h.1.1 ∙ c.in-Refused.is) h.0
 
 pub returns-then-not-whole-clause-told : goal.returns-then-not-whole-clause-told
 returns-then-not-whole-clause-told g c =
-    let h = subst (λ (x : List ℕ). Appends (g.O.Sink.written c.lines.out) (g.O.Sink.written c.answer.new.out) (answer (session_of c.lines.trail.trace c.lines.desk) (command_of x)).text
-    × ((session_of c.answer.new.trail.trace c.answer.new.desk ≡ (answer (session_of c.lines.trail.trace c.lines.desk) (command_of x)).session) × (c.in-Ok-answer.ending ≡ (answer (session_of c.lines.trail.trace c.lines.desk) (command_of x)).ends)))
+    let h = subst (λ (x : List ℕ). Appends (g.O.Sink.written c.lines.out) (g.O.Sink.written c.answer.new.out) (answer (session_of c.lines.trail.trace c.lines.focus) (command_of x)).text
+    × ((session_of c.answer.new.trail.trace c.answer.new.focus ≡ (answer (session_of c.lines.trail.trace c.lines.focus) (command_of x)).session) × (c.in-Ok-answer.ending ≡ (answer (session_of c.lines.trail.trace c.lines.focus) (command_of x)).ends)))
     c.line.ensures c.in-Ok-answer.ensures.sent in
     let n = subst (λ (b : Bool). NextLine c.lines.reader (g.I.Source.left c.lines.input) (g.I.Source.left c.next.new.source) (g.I.Source.faults c.lines.input) (g.I.Source.faults c.next.new.source) (Ok b) c.next.new.self) c.if-not-whole.true c.in-Ok.ensures.read in
-    ends c.args.trail.now.trace (session_of c.lines.trail.trace c.lines.desk) c.lines.reader c.next.new.self (g.I.Source.left c.args.input.now) (g.I.Source.left c.lines.input) (g.I.Source.left c.next.new.source)
+    ends c.args.trail.now.trace (session_of c.lines.trail.trace c.lines.focus) c.lines.reader c.next.new.self (g.I.Source.left c.args.input.now) (g.I.Source.left c.lines.input) (g.I.Source.left c.next.new.source)
     (g.O.Sink.written c.args.out.now) (g.O.Sink.written c.lines.out) (g.O.Sink.written c.answer.new.out) (g.I.Source.faults c.args.input.now) (g.I.Source.faults c.lines.input) (g.I.Source.faults c.next.new.source)
     (g.O.Sink.faults c.args.out.now) (g.O.Sink.faults c.answer.new.out) c.lines.invariant.stands n (sym h.1.1 ∙ c.in-GoesOn.is) h.0

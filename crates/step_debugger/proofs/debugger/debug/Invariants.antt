@@ -5,7 +5,7 @@ use Rattle.step_debugger.proofs.debugger.debug.Given as goal
 
 abbrev pub invariant-lines : goal.invariant-lines
 invariant-lines g l = record {
-  stands : Stands l.fn.trail.trace (session_of l.trail.trace l.desk) l.reader.count (g.I.Source.left l.fn.input) (g.I.Source.left l.input) (g.O.Sink.written l.fn.out) (g.O.Sink.written l.out);
+  stands : Stands l.fn.trail.trace (session_of l.trail.trace l.focus) l.reader.count (g.I.Source.left l.fn.input) (g.I.Source.left l.input) (g.O.Sink.written l.fn.out) (g.O.Sink.written l.out);
   read : g.I.Source.faults l.fn.input ≤ g.I.Source.faults l.input;
   later : g.O.Sink.faults l.fn.out ≤ g.O.Sink.faults l.out;
 }

@@ -3,7 +3,7 @@ use Rattle.std.proofs.lemmas.Bool.Decides.{nat_tests}
 use Rattle.std.proofs.lemmas.Option.{slice_get_read, slice_get_past}
 use Rattle.hart_replay.specs.Directories.{page_in, place_for}
 use Rattle.hart_replay.specs.Pages.{Frame, Known, word_of, word_at}
-use Rattle.hart_replay.specs.declared.words.Numbered.{Numbered}
+use Rattle.hart_replay.specs.declared.words.TaggedPage.{TaggedPage}
 use Rattle.hart_replay.proofs.Listed.{word_found, own_number, other_number}
 use Rattle.hart_replay.proofs.words.Words.get.Goals as goal
 
@@ -13,8 +13,8 @@ returns-in-None c =
     let items = c.self.inside.pages.items in
     let seen = ap (λ (w : Known). word_at w.pages a) (sym c.self.view_is) ∙ word_found (place_for c.self.inside.directory) items c.place.result a (omega (arith, c.ranges.addr.fits)) c.place.ensures in
     let past : length c.deref.result.now ≤ c.place.result = (let l = c.in-None.ensures.lookup in grind (arith, nat_tests)) in
-    let none : slice_get items c.place.result ≡ None = ap (λ (xs : List Numbered). slice_get xs c.place.result) (sym c.deref.ensures.value) ∙ slice_get_past c.deref.result.now c.place.result past in
-    sym (seen ∙ ap (λ (o : Option Numbered). word_of (page_in o (a / 64)) (a % 64)) none)
+    let none : slice_get items c.place.result ≡ None = ap (λ (xs : List TaggedPage). slice_get xs c.place.result) (sym c.deref.ensures.value) ∙ slice_get_past c.deref.result.now c.place.result past in
+    sym (seen ∙ ap (λ (o : Option TaggedPage). word_of (page_in o (a / 64)) (a % 64)) none)
 
 pub returns-then-found-page : goal.returns-then-found-page
 returns-then-found-page c =
@@ -22,8 +22,8 @@ returns-then-found-page c =
     let items = c.self.inside.pages.items in
     let p = c.in-Some.found.now in
     let seen = ap (λ (w : Known). word_at w.pages a) (sym c.self.view_is) ∙ word_found (place_for c.self.inside.directory) items c.place.result a (omega (arith, c.ranges.addr.fits)) c.place.ensures in
-    let got : slice_get items c.place.result ≡ Some p = ap (λ (xs : List Numbered). slice_get xs c.place.result) (sym c.deref.ensures.value) ∙ slice_get_read c.deref.result.now _ c.place.result p refl c.in-Some.ensures.lookup.3.0 c.in-Some.ensures.lookup.1 in
-    c.word.ensures ∙ sym (seen ∙ ap (λ (o : Option Numbered). word_of (page_in o (a / 64)) (a % 64)) got ∙ ap (λ (f : Option Frame). word_of f (a % 64)) (own_number p (a / 64) c.if-found-page.true))
+    let got : slice_get items c.place.result ≡ Some p = ap (λ (xs : List TaggedPage). slice_get xs c.place.result) (sym c.deref.ensures.value) ∙ slice_get_read c.deref.result.now _ c.place.result p refl c.in-Some.ensures.lookup.3.0 c.in-Some.ensures.lookup.1 in
+    c.word.ensures ∙ sym (seen ∙ ap (λ (o : Option TaggedPage). word_of (page_in o (a / 64)) (a % 64)) got ∙ ap (λ (f : Option Frame). word_of f (a % 64)) (own_number p (a / 64) c.if-found-page.true))
 
 pub returns-else-found-page : goal.returns-else-found-page
 returns-else-found-page c =
@@ -31,5 +31,5 @@ returns-else-found-page c =
     let items = c.self.inside.pages.items in
     let p = c.in-Some.found.now in
     let seen = ap (λ (w : Known). word_at w.pages a) (sym c.self.view_is) ∙ word_found (place_for c.self.inside.directory) items c.place.result a (omega (arith, c.ranges.addr.fits)) c.place.ensures in
-    let got : slice_get items c.place.result ≡ Some p = ap (λ (xs : List Numbered). slice_get xs c.place.result) (sym c.deref.ensures.value) ∙ slice_get_read c.deref.result.now _ c.place.result p refl c.in-Some.ensures.lookup.3.0 c.in-Some.ensures.lookup.1 in
-    sym (seen ∙ ap (λ (o : Option Numbered). word_of (page_in o (a / 64)) (a % 64)) got ∙ ap (λ (f : Option Frame). word_of f (a % 64)) (other_number p (a / 64) c.if-found-page.false))
+    let got : slice_get items c.place.result ≡ Some p = ap (λ (xs : List TaggedPage). slice_get xs c.place.result) (sym c.deref.ensures.value) ∙ slice_get_read c.deref.result.now _ c.place.result p refl c.in-Some.ensures.lookup.3.0 c.in-Some.ensures.lookup.1 in
+    sym (seen ∙ ap (λ (o : Option TaggedPage). word_of (page_in o (a / 64)) (a % 64)) got ∙ ap (λ (f : Option Frame). word_of f (a % 64)) (other_number p (a / 64) c.if-found-page.false))

@@ -2,7 +2,7 @@ use Rattle.std.proofs.Common.{◌/◌, ◌%◌, ◌^◌, inl, inr, ap, ◌∙◌
 use Rattle.std.proofs.lemmas.Bool.{cases_lt}
 use Rattle.hart_replay.specs.Directories.{page_at, page_in, place_for}
 use Rattle.hart_replay.specs.Pages.{word_of}
-use Rattle.hart_replay.specs.declared.words.Numbered.{Numbered}
+use Rattle.hart_replay.specs.declared.words.TaggedPage.{TaggedPage}
 use Rattle.hart_replay.proofs.Listed.{word_listed, none_past}
 use Rattle.hart_replay.proofs.words.Words.new.Goals as goal
 
@@ -10,6 +10,6 @@ pub returns : goal.returns
 returns c k =
     let f = page_at (place_for c.new.result) c.new-2.result.items in
     elim (cases_lt (k / 64) (2 ^ 24)) [
-      | inl within ↦ word_listed f k within ∙ ap (λ (xs : List Numbered). word_of (page_in (slice_get xs (place_for c.new.result (k / 64))) (k / 64)) (k % 64)) c.new-2.ensures.items
+      | inl within ↦ word_listed f k within ∙ ap (λ (xs : List TaggedPage). word_of (page_in (slice_get xs (place_for c.new.result (k / 64))) (k / 64)) (k % 64)) c.new-2.ensures.items
       | inr past ↦ none_past f k past
     ]

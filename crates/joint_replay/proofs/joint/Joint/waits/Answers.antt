@@ -1,6 +1,6 @@
 use Rattle.std.proofs.Common.{◌+◌, slice_index_or, drop, subst}
 use Rattle.joint_replay.specs.Points.{sources_into}
-use Rattle.joint_replay.specs.declared.sources.Source.{Source}
+use Rattle.joint_replay.specs.declared.incoming_edges.IncomingEdge.{IncomingEdge}
 use Rattle.joint_replay.proofs.MetSources.{waits_from}
 use Rattle.joint_replay.proofs.Waiting.{IsLeft, opened_at, is_past}
 use Rattle.joint_replay.proofs.joint.Joint.waits.Goals as goal
@@ -12,6 +12,6 @@ loop-place-init c =
 
 pub returns-then-source-ic : goal.returns-then-source-ic
 returns-then-source-ic c =
-    let none : Source = record { target = 0; hart = 0; ic = 0 } in
+    let none : IncomingEdge = record { target = 0; hart = 0; ic = 0 } in
     let left = subst (IsLeft c.args.self.now.lanes c.args.ic (sources_into c.args.self.now.records c.args.hart c.args.ic)) (opened_at c.edges-sources.result.now c.loop-place.place none c.loop-place-test.true) c.loop-place.invariant in
     is_past c.args.self.now.lanes c.args.ic (sources_into c.args.self.now.records c.args.hart c.args.ic) (slice_index_or c.edges-sources.result.now c.loop-place.place none) (drop (c.loop-place.place + 1) c.edges-sources.result.now) c.if-source-ic.true left

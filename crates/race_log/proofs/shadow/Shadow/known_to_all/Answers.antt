@@ -1,5 +1,5 @@
 use Rattle.std.proofs.Common.{◌∙◌, ◌&&◌, ◌||◌, not, nat_lt, ℕ, sym, ap, ap₂}
-use Rattle.race_log.specs.Times.{count_of}
+use Rattle.vector_time.specs.Times.{count_of}
 use Rattle.race_log.specs.Sweep.{has_bit}
 use Rattle.race_log.specs.Stands.{times_of}
 use Rattle.race_log.proofs.AccessLemmas.{read_times}

@@ -1,5 +1,5 @@
 use Rattle.std.proofs.Common.{◌≡◌, ◌∙◌, ℕ, Option, Some, None, arith, subst, sym}
-use Rattle.race_log.specs.Words.{stretch_of}
+use Rattle.race_log.specs.Words.{epoch_of}
 use Rattle.race_log.proofs.NewLemmas.{AllZero, zero_none, zero_more, zero_at, stands_none}
 use Rattle.race_log.proofs.Swept.{all_have}
 use Rattle.race_log.proofs.shadow.Shadow.new.Goals as goal
@@ -25,7 +25,7 @@ invariant_of-result c = record {
   some_hart = omega (arith, c.harts-harts.ensures.low);
   few_harts = omega (arith, c.harts-harts.ensures.room);
   each_hart = omega (arith, c.loop.invariant.size, c.loop-test.false, c.loop.auto.counter-end);
-  present = λ g h low apart. c.in_ok-new.ensures.counts (stretch_of c.in_ok-new.field-0.stretches g) h ∙ sym (zero_at c.loop.times.items g h c.loop.invariant.zeros);
+  present = λ g h low apart. c.in_ok-new.ensures.counts (epoch_of c.in_ok-new.field-0.epochs g) h ∙ sym (zero_at c.loop.times.items g h c.loop.invariant.zeros);
   room = λ r is. absurd (none is);
 }
   where

@@ -12,8 +12,8 @@ invariant_of-self c =
       some_hart = old.some_hart;
       few_harts = old.few_harts;
       each_hart = old.each_hart;
-      present = λ g h low apart. subst (λ s. present_counts s g h ≡ counts_at (slice_get old.times.items g) h) (sym c.sweep.ensures.stretches) (old.present g h low apart);
-      room = λ r is. room_swept old.words c.sweep.new.self c.sweep.ensures.harts c.sweep.ensures.stretches c.sweep.ensures.room r.0 r.1 (old.room r is);
+      present = λ g h low apart. subst (λ s. present_counts s g h ≡ counts_at (slice_get old.times.items g) h) (sym c.sweep.ensures.epochs) (old.present g h low apart);
+      room = λ r is. room_swept old.words c.sweep.new.self c.sweep.ensures.harts c.sweep.ensures.epochs c.sweep.ensures.room r.0 r.1 (old.room r is);
     }
 
 pub returns-clause-stands : goal.returns-clause-stands

@@ -1,6 +1,6 @@
 use Rattle.std.proofs.Common.{◌≡◌, ◌<◌, ◌+◌, ◌-◌, ◌==◌, if◌then◌else◌, ℕ, length, ◌∙◌, arith, refl, sym, ap, inl, inr, subst, Option, Some, None, slice_get, slice_set}
 use Rattle.std.proofs.lemmas.Bool.{cases_eq}
-use Rattle.race_log.specs.Times.{count_of}
+use Rattle.vector_time.specs.Times.{count_of}
 use Rattle.race_log.specs.Kept.{is_write}
 use Rattle.race_log.specs.Search.{gathered, sources, counts_after}
 use Rattle.race_log.specs.Stands.{times_of, kept_of}
@@ -37,6 +37,7 @@ returns c = λ first n mode.
       lasting = refl;
       turns = refl;
       reserved = refl;
+      unswept = c.saturating_add-self.ensures;
     }
 
 pub invariant_of-self : goal.invariant_of-self
@@ -51,7 +52,7 @@ invariant_of-self c =
         | inl same ↦
             let place : c.args.hart < length old.times.items = omega (arith, c.requires.hart, old.each_hart, old.times.ok) in
             let known = read_times old c.args.hart c.index_mut.result.now c.requires.hart c.index_mut.ensures.value in
-            subst (λ k. present_counts old.words.stretches k h ≡ counts_at (slice_get (slice_set old.times.items c.args.hart c.set.new.self) k) h) (sym same)
+            subst (λ k. present_counts old.words.epochs k h ≡ counts_at (slice_get (slice_set old.times.items c.args.hart c.set.new.self) k) h) (sym same)
             (old.present c.args.hart h c.requires.hart (λ e. apart (e ∙ sym same))
             ∙ (ap (λ (f : ℕ → ℕ). f h) known
             ∙ (sym (set_apart c.args.hart (c.args.ic + 1) (count_of c.index_mut.result.now) (count_of c.set.new.self) c.set.ensures h (λ e. apart (e ∙ sym same)))

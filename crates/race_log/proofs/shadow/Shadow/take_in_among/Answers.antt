@@ -1,6 +1,6 @@
 use Rattle.std.proofs.Common.{◌≡◌, ◌<◌, ◌+◌, ◌-◌, ◌*◌, ◌/◌, ◌==◌, ℕ, length, IsTrue, ltb-true, ◌∙◌, arith, refl, sym, ap, inl, inr, Option, Some, None, slice_get, slice_set, subst}
 use Rattle.std.proofs.lemmas.Bool.{cases_eq}
-use Rattle.race_log.specs.Times.{count_of}
+use Rattle.vector_time.specs.Times.{count_of}
 use Rattle.race_log.specs.Kept.{is_write}
 use Rattle.race_log.specs.Search.{gathered, sources}
 use Rattle.race_log.specs.Slots.{slots_of}
@@ -18,7 +18,7 @@ returns c =
     let place : c.args.hart < length old.times.items = omega (arith, c.requires.hart, old.each_hart, old.times.ok) in
     let kept = gathered (kept_in old.words) c.args.first c.args.count in
     let same : kept_in c.go_on.new.self ≡ kept_in old.words = λ i w. c.go_on.ensures.kept w i in
-    let k = kept_now c.go_on.new.self.stretches c.args.mode c.args.hart c.args.turn (c.args.ic + 1) in
+    let k = kept_now c.go_on.new.self.epochs c.args.mode c.args.hart c.args.turn (c.args.ic + 1) in
     record {
       edges = c.find_sources.ensures.sources
           ∙ (ap (λ w. sources c.args.hart w (old.harts - 1) (count_of c.index_mut-times.result.now) kept) c.is_write.ensures
@@ -32,7 +32,7 @@ returns c =
       at_count = omega arith;
       with_mode = refl;
       with_times = λ h.
-          times_kept c.args.hart (c.args.ic + 1) (present_counts c.go_on.new.self.stretches c.args.hart) (count_of c.find_sources.new.times) (count_of c.set.new.self) c.set.ensures c.go_on.ensures.own h
+          times_kept c.args.hart (c.args.ic + 1) (present_counts c.go_on.new.self.epochs c.args.hart) (count_of c.find_sources.new.times) (count_of c.set.new.self) c.set.ensures c.go_on.ensures.own h
           ∙ sym (counts_here old.times.items c.args.hart c.set.new.self place h);
       many = λ more. subst (λ f. KeepsAccess k c.args.first c.args.count f (kept_in c.keep.new.self)) same
           (c.keep.ensures.many (omega (arith, more, old.same_harts, c.go_on.ensures.harts)));
@@ -41,6 +41,7 @@ returns c =
       lasting = refl;
       turns = refl;
       reserved = refl;
+      unswept = c.saturating_add-self.ensures;
     }
 
 pub invariant_of-self : goal.invariant_of-self
@@ -51,10 +52,10 @@ invariant_of-self c =
       some_hart = old.some_hart;
       few_harts = old.few_harts;
       each_hart = old.each_hart;
-      present = λ g h low apart. subst (λ s. present_counts s g h ≡ counts_at (slice_get (slice_set old.times.items c.args.hart c.set.new.self) g) h) (sym c.keep.ensures.stretches)
+      present = λ g h low apart. subst (λ s. present_counts s g h ≡ counts_at (slice_get (slice_set old.times.items c.args.hart c.set.new.self) g) h) (sym c.keep.ensures.epochs)
           (elim (cases_eq g c.args.hart) [
             | inl same ↦
-                subst (λ k. present_counts c.go_on.new.self.stretches k h ≡ counts_at (slice_get (slice_set old.times.items c.args.hart c.set.new.self) k) h) (sym same)
+                subst (λ k. present_counts c.go_on.new.self.epochs k h ≡ counts_at (slice_get (slice_set old.times.items c.args.hart c.set.new.self) k) h) (sym same)
                 (c.go_on.ensures.own h (λ e. apart (e ∙ sym same))
                 ∙ sym (counts_here old.times.items c.args.hart c.set.new.self (omega (arith, c.requires.hart, old.each_hart, old.times.ok)) h))
             | inr other ↦
@@ -69,7 +70,7 @@ invariant_of-self c =
 pub go_on-requires-clause-room : goal.go_on-requires-clause-room
 go_on-requires-clause-room c = λ learns.
     let some = ltb-true 0 c.count.result learns in
-    (c.args.self.now.room (c.args.first, c.args.count) c.requires.reserved).stretch
+    (c.args.self.now.room (c.args.first, c.args.count) c.requires.reserved).epoch
     (omega (arith, some, c.count.ensures, c.find_sources.ensures.few, c.args.self.now.same_harts))
 
 pub go_on-requires-clause-same : goal.go_on-requires-clause-same

@@ -1,7 +1,7 @@
 use Rattle.std.proofs.Common.{◌≡◌, ◌∙◌, ◌+◌, ◌*◌, ◌<◌, arith, ap, sym, length, slice_get}
 use Rattle.race_log.specs.Slots.{slots_of}
 use Rattle.race_log.specs.Sweep.{sum_below}
-use Rattle.race_log.specs.Words.{kept_in, stretch_counts}
+use Rattle.race_log.specs.Words.{kept_in, epoch_counts}
 use Rattle.race_log.proofs.PagesLemmas.{page_at, page_sum}
 use Rattle.race_log.proofs.SweepLemmas.{sum_none, sum_parts}
 use Rattle.race_log.proofs.words.KeptWords.held.Goals as goal
@@ -20,7 +20,7 @@ loop-number-preserved c =
     let parts : sum_below (λ i. length (kept_in s (4 * i))) (64 * (n + 1)) ≡ sum_below (λ i. length (kept_in s (4 * i))) (64 * n) + sum_below (λ i. length (kept_in s (4 * (64 * n + i)))) 64
     = ap (sum_below (λ i. length (kept_in s (4 * i)))) next ∙ sum_parts (λ i. length (kept_in s (4 * i))) (64 * n) 64 in
     let page : c.held_page-held.result ≡ sum_below (λ i. length (kept_in s (4 * (64 * n + i)))) 64
-    = c.held_page-held.ensures.held (stretch_counts s.stretches) ∙ sym (page_sum (stretch_counts s.stretches) s.harts s.pages.items n c.deref.result.now was) in
+    = c.held_page-held.ensures.held (epoch_counts s.epochs) ∙ sym (page_sum (epoch_counts s.epochs) s.harts s.pages.items n c.deref.result.now was) in
     record {
       held = omega (arith, parts, page, i.held);
       few = omega (arith, i.few, c.held_page-held.ensures.few);

@@ -2,7 +2,7 @@ use Rattle.std.proofs.Common.{◌≡◌, ◌∙◌, ◌+◌, ◌*◌, ◌/◌, �
 use Rattle.std.proofs.lemmas.Bool.{cases_eq}
 use Rattle.race_log.specs.Kept.{Replaces}
 use Rattle.race_log.specs.Slots.{word_in, slots_of, IsSettledPage}
-use Rattle.race_log.specs.Words.{place_of, stretch_counts, kept_of_slot}
+use Rattle.race_log.specs.Words.{place_of, epoch_counts, kept_of_slot}
 use Rattle.race_log.proofs.PageLemmas.{places_apart}
 use Rattle.race_log.proofs.PagesLemmas.{page_at, page_here, page_there, full_set, settled_page_set, other_word, room_is, some_page, at_aligned}
 use Rattle.race_log.proofs.words.KeptWords.keep_at.Goals as goal
@@ -27,16 +27,16 @@ invariant_of-self c =
       few = old.few;
       few_pages = old.few_pages;
       full = full_set old.harts old.pages.items (c.args.word / 256) v low (λ more. c.keep_in.ensures.len ∙ (sym (ap length was) ∙ size)) old.full;
-      settled = settled_page_set old.stretches.table.items old.stretches.next old.pages.items (c.args.word / 256) v low
-          (c.keep_in.ensures.settled old.stretches.table.items old.stretches.next old.stretches.first c.requires.settled
-          (subst (IsSettledPage old.stretches.table.items old.stretches.next) was (old.settled (c.args.word / 256)))) old.settled;
+      settled = settled_page_set old.epochs.table.items old.epochs.next old.pages.items (c.args.word / 256) v low
+          (c.keep_in.ensures.settled old.epochs.table.items old.epochs.next old.epochs.first c.requires.settled
+          (subst (IsSettledPage old.epochs.table.items old.epochs.next) was (old.settled (c.args.word / 256)))) old.settled;
     }
 
 pub returns-clause-kept : goal.returns-clause-kept
 returns-clause-kept c =
     let old = c.args.self.now in
-    let counts = stretch_counts old.stretches in
-    let k = kept_of_slot old.stretches c.args.mode c.args.slot.now in
+    let counts = epoch_counts old.epochs in
+    let k = kept_of_slot old.epochs c.args.mode c.args.slot.now in
     let size = room_is (slots_of (slice_get old.pages.items (c.args.word / 256))) old.harts c.requires.room in
     let low = some_page old.pages.items (c.args.word / 256) old.harts size in
     let was = page_at old.pages.items (c.args.word / 256) c.index_mut.result.now low c.index_mut.ensures.value in
@@ -50,7 +50,7 @@ returns-clause-kept c =
 pub returns-clause-others : goal.returns-clause-others
 returns-clause-others c = λ w apart.
     let old = c.args.self.now in
-    let counts = stretch_counts old.stretches in
+    let counts = epoch_counts old.epochs in
     let size = room_is (slots_of (slice_get old.pages.items (c.args.word / 256))) old.harts c.requires.room in
     let low = some_page old.pages.items (c.args.word / 256) old.harts size in
     let was = page_at old.pages.items (c.args.word / 256) c.index_mut.result.now low c.index_mut.ensures.value in

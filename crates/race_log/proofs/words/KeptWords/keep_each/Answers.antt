@@ -11,10 +11,10 @@ loop-i-preserved c =
     let word = c.args.first + 4 * c.loop-i.i in
     record {
       harts = c.keep_at.ensures.harts ∙ c.loop-i.invariant.harts;
-      stretches = c.keep_at.ensures.stretches ∙ c.loop-i.invariant.stretches;
-      kept = keeps_more (kept_of_slot old.stretches c.args.mode c.args.slot.now) c.args.first c.loop-i.i (kept_in old) (kept_in mid) (kept_in c.keep_at.new.self)
+      epochs = c.keep_at.ensures.epochs ∙ c.loop-i.invariant.epochs;
+      kept = keeps_more (kept_of_slot old.epochs c.args.mode c.args.slot.now) c.args.first c.loop-i.i (kept_in old) (kept_in mid) (kept_in c.keep_at.new.self)
           c.loop-i.invariant.kept
-          (subst (λ s. Replaces (kept_of_slot s c.args.mode c.args.slot.now) (kept_in mid word) (kept_in c.keep_at.new.self word)) c.loop-i.invariant.stretches c.keep_at.ensures.kept)
+          (subst (λ s. Replaces (kept_of_slot s c.args.mode c.args.slot.now) (kept_in mid word) (kept_in c.keep_at.new.self word)) c.loop-i.invariant.epochs c.keep_at.ensures.kept)
           c.keep_at.ensures.others;
       room = λ w. c.keep_at.ensures.room w ∙ c.loop-i.invariant.room w;
     }
@@ -22,4 +22,4 @@ loop-i-preserved c =
 pub returns-clause-kept : goal.returns-clause-kept
 returns-clause-kept c =
     let all : c.loop-i.i ≡ c.args.count = omega (arith, c.loop-i-test.false, c.loop-i.auto.i-end) in
-    subst (λ n. KeepsAccess (kept_of_slot c.args.self.now.stretches c.args.mode c.args.slot.now) c.args.first n (kept_in c.args.self.now) (kept_in c.loop-i.self)) all c.loop-i.invariant.kept
+    subst (λ n. KeepsAccess (kept_of_slot c.args.self.now.epochs c.args.mode c.args.slot.now) c.args.first n (kept_in c.args.self.now) (kept_in c.loop-i.self)) all c.loop-i.invariant.kept

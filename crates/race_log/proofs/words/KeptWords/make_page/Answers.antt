@@ -1,7 +1,7 @@
 use Rattle.std.proofs.Common.{◌≡◌, ◌∙◌, ◌<◌, ◌+◌, ◌*◌, ◌/◌, ◌%◌, ◌==◌, cond, [], arith, sym, ap, subst, slice_get, slice_set, length, IsTrue, inl, inr}
 use Rattle.std.proofs.lemmas.Bool.{cases_eq, cases_lt}
 use Rattle.race_log.specs.Slots.{word_in, slots_of, is_settled, IsSettledPage}
-use Rattle.race_log.specs.Words.{place_of, stretch_counts}
+use Rattle.race_log.specs.Words.{place_of, epoch_counts}
 use Rattle.race_log.proofs.PagesLemmas.{page_at, page_here, page_there, full_set, settled_page_set, remade, room_is, is_room}
 use Rattle.race_log.proofs.words.KeptWords.make_page.Goals as goal
 
@@ -22,13 +22,13 @@ invariant_of-self c =
                 ap length same ∙ subst (λ xs. 0 < length xs → length xs ≡ 64 * (c.args.self.now.harts + 1)) was (c.args.self.now.full c.args.number) some
             | inr none ↦ c.make_slots.ensures.full (omega (arith, none, p.ok)) more
           ]) c.args.self.now.full;
-      settled = settled_page_set c.args.self.now.stretches.table.items c.args.self.now.stretches.next pages c.args.number v low
+      settled = settled_page_set c.args.self.now.epochs.table.items c.args.self.now.epochs.next pages c.args.number v low
           (elim (cases_lt 0 (length p.items)) [
             | inl some ↦
                 let same = c.make_slots.ensures.stays (omega (arith, some, p.ok)) in
-                subst (IsSettledPage c.args.self.now.stretches.table.items c.args.self.now.stretches.next) (was ∙ sym same) (c.args.self.now.settled c.args.number)
+                subst (IsSettledPage c.args.self.now.epochs.table.items c.args.self.now.epochs.next) (was ∙ sym same) (c.args.self.now.settled c.args.number)
             | inr none ↦ λ at s e.
-                subst (λ i. IsTrue (is_settled c.args.self.now.stretches.table.items c.args.self.now.stretches.next i)) (sym (c.make_slots.ensures.none (omega (arith, none, p.ok)) at s e).1) c.args.self.now.stretches.first
+                subst (λ i. IsTrue (is_settled c.args.self.now.epochs.table.items c.args.self.now.epochs.next i)) (sym (c.make_slots.ensures.none (omega (arith, none, p.ok)) at s e).1) c.args.self.now.epochs.first
           ]) c.args.self.now.settled;
     }
 
@@ -39,7 +39,7 @@ returns-clause-same c = λ w.
     let was = page_at pages c.args.number c.index_mut.result.now low c.index_mut.ensures.value in
     let p = c.index_mut.result.now in
     let v = c.make_slots.new.page in
-    let counts = stretch_counts c.args.self.now.stretches in
+    let counts = epoch_counts c.args.self.now.epochs in
     let harts = c.args.self.now.harts in
     ap (λ ks. cond (w % 4 == 0) ks []) (elim (cases_eq (w / 256) c.args.number) [
       | inl e ↦

@@ -1,7 +1,7 @@
 use Rattle.std.proofs.Common.{◌∙◌, ◌+◌, ◌-◌, ◌*◌, ◌/◌, ◌%◌, ◌==◌, cond, [], arith, ap, length, inl, inr}
 use Rattle.std.proofs.lemmas.Bool.{false≢true, cases_eq}
 use Rattle.race_log.specs.Slots.{word_in}
-use Rattle.race_log.specs.Words.{stretch_counts, page_of, place_of}
+use Rattle.race_log.specs.Words.{epoch_counts, page_of, place_of}
 use Rattle.race_log.proofs.PagesLemmas.{room_at, room_is, some_page}
 use Rattle.race_log.proofs.words.KeptWords.make_pages.Goals as goal
 
@@ -19,11 +19,11 @@ loop-number-init c =
     let new = c.reach.new.self in
     record {
       harts = c.reach.ensures.harts;
-      stretches = c.reach.ensures.stretches;
+      epochs = c.reach.ensures.epochs;
       same = λ w.
-          ap (λ s. cond (w % 4 == 0) (word_in (stretch_counts s) new.harts (page_of new w) (place_of new.harts w)) []) c.reach.ensures.stretches
-          ∙ (ap (λ harts. cond (w % 4 == 0) (word_in (stretch_counts old.stretches) harts (page_of new w) (place_of harts w)) []) c.reach.ensures.harts
-          ∙ ap (λ page. cond (w % 4 == 0) (word_in (stretch_counts old.stretches) old.harts page (place_of old.harts w)) []) (c.reach.ensures.same (w / 256)));
+          ap (λ s. cond (w % 4 == 0) (word_in (epoch_counts s) new.harts (page_of new w) (place_of new.harts w)) []) c.reach.ensures.epochs
+          ∙ (ap (λ harts. cond (w % 4 == 0) (word_in (epoch_counts old.epochs) harts (page_of new w) (place_of harts w)) []) c.reach.ensures.harts
+          ∙ ap (λ page. cond (w % 4 == 0) (word_in (epoch_counts old.epochs) old.harts page (place_of old.harts w)) []) (c.reach.ensures.same (w / 256)));
       stays = λ w room.
           ap (λ page. length page == 64 * (new.harts + 1)) (c.reach.ensures.same (w / 256))
           ∙ (ap (λ harts. length (page_of old w) == 64 * (harts + 1)) c.reach.ensures.harts ∙ room);
@@ -42,7 +42,7 @@ loop-number-preserved c =
     let e = c.make_page.ensures in
     record {
       harts = e.harts ∙ before.harts;
-      stretches = e.stretches ∙ before.stretches;
+      epochs = e.epochs ∙ before.epochs;
       same = λ w. e.same w ∙ before.same w;
       stays = λ w room. e.stays w (before.stays w room);
       count = omega (arith, e.count, before.count);

@@ -5,7 +5,7 @@ use Rattle.race_log.proofs.words.KeptWords.make_pages.Given as goal
 abbrev pub invariant-loop-number : goal.invariant-loop-number
 invariant-loop-number l = record {
   harts : l.self.harts ≡ l.fn.self.harts;
-  stretches : l.self.stretches ≡ l.fn.self.stretches;
+  epochs : l.self.epochs ≡ l.fn.self.epochs;
   same : (w : ℕ) → kept_in l.self w ≡ kept_in l.fn.self w;
   stays : (w : ℕ) → IsTrue (has_room l.fn.self w) → IsTrue (has_room l.self w);
   count : l.last / 256 + 1 ≤ vec_len l.self.pages;

@@ -1,14 +1,14 @@
 use Rattle.std.proofs.Common.{◌∙◌, ◌/◌, ◌%◌, slice_get, ◌==◌, cond, [], ap}
 use Rattle.race_log.specs.Slots.{word_in, slots_of}
-use Rattle.race_log.specs.Words.{stretch_counts, page_of, place_of}
+use Rattle.race_log.specs.Words.{epoch_counts, page_of, place_of}
 use Rattle.race_log.proofs.words.KeptWords.make_room_for_many.Goals as goal
 
 pub returns-clause-same : goal.returns-clause-same
 returns-clause-same c = λ w.
     let k = c.make_pages.new.self in
     let n = c.look_through.new.self in
-    ap (λ counts. cond (w % 4 == 0) (word_in counts n.harts (page_of n w) (place_of n.harts w)) []) (λ i stretch h. c.make_room.ensures.counts stretch h i)
-    ∙ (ap (λ counts. cond (w % 4 == 0) (word_in counts n.harts (page_of n w) (place_of n.harts w)) []) (λ i stretch h. c.look_through.ensures.counts stretch h i)
-    ∙ (ap (λ p. cond (w % 4 == 0) (word_in (stretch_counts k.stretches) n.harts (slots_of (slice_get p.items (w / 256))) (place_of n.harts w)) []) c.look_through.ensures.pages
-    ∙ (ap (λ harts. cond (w % 4 == 0) (word_in (stretch_counts k.stretches) harts (page_of k w) (place_of harts w)) []) c.look_through.ensures.harts
+    ap (λ counts. cond (w % 4 == 0) (word_in counts n.harts (page_of n w) (place_of n.harts w)) []) (λ i epoch h. c.make_room.ensures.counts epoch h i)
+    ∙ (ap (λ counts. cond (w % 4 == 0) (word_in counts n.harts (page_of n w) (place_of n.harts w)) []) (λ i epoch h. c.look_through.ensures.counts epoch h i)
+    ∙ (ap (λ p. cond (w % 4 == 0) (word_in (epoch_counts k.epochs) n.harts (slots_of (slice_get p.items (w / 256))) (place_of n.harts w)) []) c.look_through.ensures.pages
+    ∙ (ap (λ harts. cond (w % 4 == 0) (word_in (epoch_counts k.epochs) harts (page_of k w) (place_of harts w)) []) c.look_through.ensures.harts
     ∙ c.make_pages.ensures.same w)))

@@ -1,6 +1,6 @@
-use Rattle.race_log.specs.Words.{stretch_counts}
+use Rattle.race_log.specs.Words.{epoch_counts}
 use Rattle.race_log.proofs.PagesLemmas.{empty_word}
 use Rattle.race_log.proofs.words.KeptWords.new.Goals as goal
 
 pub returns-clause-none : goal.returns-clause-none
-returns-clause-none c = λ w. empty_word (stretch_counts c.in_ok-stretches.stretches) c.args.harts c.new-2.result.items w c.new-2.ensures.items
+returns-clause-none c = λ w. empty_word (epoch_counts c.in_ok-epochs.epochs) c.args.harts c.new-2.result.items w c.new-2.ensures.items

@@ -9,13 +9,13 @@ invariant_of-self c =
       few = c.loop.self.few;
       few_pages = let most = push_most _ (vec_len c.loop.self.pages) (vec_len c.push.new.self) c.push.ensures.len in omega (arith, most, c.loop.invariant.count, c.loop-test.true, c.requires);
       full = full_same c.loop.self.harts c.loop.self.pages.items c.push.new.self.items same c.loop.self.full;
-      settled = settled_same c.loop.self.stretches.table.items c.loop.self.stretches.next c.loop.self.pages.items c.push.new.self.items same c.loop.self.settled;
+      settled = settled_same c.loop.self.epochs.table.items c.loop.self.epochs.next c.loop.self.pages.items c.push.new.self.items same c.loop.self.settled;
     }
 
 pub loop-preserved : goal.loop-preserved
 loop-preserved c = record {
   harts = c.loop.invariant.harts;
-  stretches = c.loop.invariant.stretches;
+  epochs = c.loop.invariant.epochs;
   same = λ n. push_or_same _ c.loop.self.pages.items c.push.new.self.items c.new.result c.new.ensures.items c.push.ensures.items n ∙ c.loop.invariant.same n;
   count = omega (arith, c.in_ok-push.ensures.len, c.loop.invariant.count);
 }

@@ -5,7 +5,7 @@ use Rattle.race_log.proofs.words.KeptWords.reach.Given as goal
 abbrev pub invariant-loop : goal.invariant-loop
 invariant-loop l = record {
   harts : l.self.harts ≡ l.initial.self.harts;
-  stretches : l.self.stretches ≡ l.initial.self.stretches;
+  epochs : l.self.epochs ≡ l.initial.self.epochs;
   same : (n : ℕ) → slots_of (slice_get l.self.pages.items n) ≡ slots_of (slice_get l.initial.self.pages.items n);
   count : vec_len l.self.pages ≡ l.counter;
 }

@@ -1,7 +1,7 @@
 use Rattle.std.proofs.Common.{◌∙◌, ◌+◌, ◌*◌, ◌/◌, arith, sym, ap, length, inl, inr}
 use Rattle.std.proofs.lemmas.Bool.{cases_eq, cases_lt}
 use Rattle.race_log.specs.Sweep.{uncovered}
-use Rattle.race_log.specs.Words.{kept_in, stretch_counts}
+use Rattle.race_log.specs.Words.{kept_in, epoch_counts}
 use Rattle.race_log.proofs.PagesLemmas.{past_word}
 use Rattle.race_log.proofs.SweepLemmas.{page_step}
 use Rattle.race_log.proofs.words.KeptWords.sweep.Goals as goal
@@ -16,7 +16,7 @@ loop-number-preserved c =
     let new = c.sweep_page-gone.new.self in
     record {
       harts = e.harts ∙ i.harts;
-      stretches = e.stretches ∙ i.stretches;
+      epochs = e.epochs ∙ i.epochs;
       pages = e.pages ∙ i.pages;
       few = omega (arith, e.few, i.few);
       done = λ w low. elim (cases_eq (w / 256) k) [
@@ -37,6 +37,6 @@ returns-clause-kept c = λ w.
     elim (cases_lt (w / 256) c.loop-number.number) [
       | inl low ↦ i.done w low
       | inr high ↦
-          let none = past_word (stretch_counts old.stretches) old.harts old.pages.items w (omega (arith, high, c.loop-number-test.false, c.len-number-end.ensures, i.pages, c.args.self.now.pages.ok, c.loop-number.self.pages.ok)) in
+          let none = past_word (epoch_counts old.epochs) old.harts old.pages.items w (omega (arith, high, c.loop-number-test.false, c.len-number-end.ensures, i.pages, c.args.self.now.pages.ok, c.loop-number.self.pages.ok)) in
           i.left w high ∙ (none ∙ sym (ap (uncovered c.args.known.now) none))
     ]

@@ -6,7 +6,7 @@ use Rattle.race_log.proofs.words.KeptWords.sweep.Given as goal
 abbrev pub invariant-loop-number : goal.invariant-loop-number
 invariant-loop-number l = record {
   harts : l.self.harts ≡ l.fn.self.harts;
-  stretches : l.self.stretches ≡ l.fn.self.stretches;
+  epochs : l.self.epochs ≡ l.fn.self.epochs;
   pages : length l.self.pages.items ≡ length l.fn.self.pages.items;
   few : l.gone ≤ 64 * 17 * l.number;
   done : (w : ℕ) → w / 256 < l.number → kept_in l.self w ≡ uncovered l.known (kept_in l.fn.self w);

@@ -3,7 +3,7 @@ use Rattle.std.proofs.lemmas.Bool.{cases_eq}
 use Rattle.race_log.specs.declared.slot.Slot.{Slot}
 use Rattle.race_log.specs.Slots.{word_in, slots_of, IsSettledPage}
 use Rattle.race_log.specs.Sweep.{uncovered}
-use Rattle.race_log.specs.Words.{stretch_counts, place_of}
+use Rattle.race_log.specs.Words.{epoch_counts, place_of}
 use Rattle.race_log.proofs.PagesLemmas.{page_at, page_here, page_there, page_sum, full_set, settled_page_set}
 use Rattle.race_log.proofs.SweepLemmas.{uncovered_where}
 use Rattle.race_log.proofs.words.KeptWords.sweep_page.Goals as goal
@@ -11,7 +11,7 @@ use Rattle.race_log.proofs.words.KeptWords.sweep_page.Goals as goal
 pub invariant_of-self : goal.invariant_of-self
 invariant_of-self c =
     let old = c.args.self.now in
-    let table = old.stretches.table.items in
+    let table = old.epochs.table.items in
     let low : c.args.number < length old.pages.items = omega (arith, c.requires, old.pages.ok) in
     let was = page_at old.pages.items c.args.number c.index_mut.result.now low c.index_mut.ensures.value in
     let v = c.give_up_page.new.page in
@@ -21,14 +21,14 @@ invariant_of-self c =
       few_pages = old.few_pages;
       full = full_set old.harts old.pages.items c.args.number v low
           (λ more. len ∙ subst (λ (xs : List Slot). 0 < length xs → length xs ≡ 64 * (old.harts + 1)) was (old.full c.args.number) (omega (arith, more, len))) old.full;
-      settled = settled_page_set table old.stretches.next old.pages.items c.args.number v low
-          (c.give_up_page.ensures.settled table old.stretches.next old.stretches.first old.stretches.first (subst (IsSettledPage table old.stretches.next) was (old.settled c.args.number))) old.settled;
+      settled = settled_page_set table old.epochs.next old.pages.items c.args.number v low
+          (c.give_up_page.ensures.settled table old.epochs.next old.epochs.first old.epochs.first (subst (IsSettledPage table old.epochs.next) was (old.settled c.args.number))) old.settled;
     }
 
 pub returns-clause-kept : goal.returns-clause-kept
 returns-clause-kept c = λ w e.
     let old = c.args.self.now in
-    let counts = stretch_counts old.stretches in
+    let counts = epoch_counts old.epochs in
     let low : c.args.number < length old.pages.items = omega (arith, c.requires, old.pages.ok) in
     let was = page_at old.pages.items c.args.number c.index_mut.result.now low c.index_mut.ensures.value in
     let v = c.give_up_page.new.page in
@@ -43,12 +43,12 @@ returns-clause-kept c = λ w e.
 pub returns-clause-others : goal.returns-clause-others
 returns-clause-others c = λ w far.
     let old = c.args.self.now in
-    ap (λ xs. cond (w % 4 == 0) (word_in (stretch_counts old.stretches) old.harts xs (place_of old.harts w)) []) (page_there old.pages.items c.args.number (w / 256) c.give_up_page.new.page far)
+    ap (λ xs. cond (w % 4 == 0) (word_in (epoch_counts old.epochs) old.harts xs (place_of old.harts w)) []) (page_there old.pages.items c.args.number (w / 256) c.give_up_page.new.page far)
 
 pub returns-clause-gone : goal.returns-clause-gone
 returns-clause-gone c =
     let old = c.args.self.now in
-    let counts = stretch_counts old.stretches in
+    let counts = epoch_counts old.epochs in
     let low : c.args.number < length old.pages.items = omega (arith, c.requires, old.pages.ok) in
     let was = page_at old.pages.items c.args.number c.index_mut.result.now low c.index_mut.ensures.value in
     let v = c.give_up_page.new.page in

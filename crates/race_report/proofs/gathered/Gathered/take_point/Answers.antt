@@ -1,5 +1,5 @@
 use Rattle.std.proofs.Common.{◌≡◌, ◌∙◌, ◌<◌, ℕ, ap, subst, sym, refl, arith, List, [], ◌∷◌, ◌++◌, length, map}
-use Rattle.race_log.specs.Times.{count_of}
+use Rattle.vector_time.specs.Times.{count_of}
 use Rattle.bn_base.specs.declared.row.Row.{Row}
 use Rattle.race_report.specs.declared.gathered.Gathered.{Gathered}
 use Rattle.race_report.specs.Points.{Accessing}

@@ -2,7 +2,7 @@ use Rattle.std.proofs.Common.{◌≡◌, ◌∙◌, ap, length, List, subst, sym
 use Rattle.first_load_bits.specs.Stands.{Contents}
 use Rattle.run_model.proofs.Histories.{call_stands, written_back}
 use Rattle.system_calls.specs.declared.effect.Plan.{Plan}
-use Rattle.run_model.specs.declared.next.Next.TheVariants.{GoesOn}
+use Rattle.run_model.specs.declared.turn_end.TurnEnd.TheVariants.{GoesOn}
 use Rattle.run_model.specs.declared.span.Span.{Span}
 use Rattle.run_model.specs.Turn.{events_after}
 use Rattle.run_model.specs.Stands.EachCache.{AreCaches}

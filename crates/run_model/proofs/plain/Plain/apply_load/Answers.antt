@@ -15,7 +15,7 @@ use Rattle.race_log.specs.declared.shadow.Shadow.{Shadow}
 use Rattle.race_log.specs.Stands.{Stands, harts_of, lasting_of, next_turn, next_count}
 use Rattle.run_model.specs.declared.hart.Hart.{Hart}
 use Rattle.bn_base.specs.declared.state.HartState.{HartState}
-use Rattle.run_model.specs.declared.next.Next.{Next}
+use Rattle.run_model.specs.declared.turn_end.TurnEnd.{TurnEnd}
 use Rattle.run_model.specs.declared.span.Span.{Span}
 use Rattle.run_model.specs.Stands.EachCache.{AreCaches}
 use Rattle.run_model.specs.Stands.Logs.{taken, IsLog, is_marked_next}
@@ -57,7 +57,7 @@ returns-clause-run c run is =
     let held_all : IsLog a.new.self.log recs = subst (λ (rs : List Record). IsLog a.new.self.log rs) (sym (append-nil logged)) held in
     let value = c.word_before-word.ensures p.start.input.items run.machine is.machine in
     let state : Hart → HartState = λ (y : Hart). absorbed (ask_here y ask.want) reply in
-    let next : Hart → Next = λ (y : Hart). next_of settings None y ask.want reply (state y).ic in
+    let next : Hart → TurnEnd = λ (y : Hart). next_of settings None y ask.want reply (state y).ic in
     let after : IsTrace settings f.new.self (serve_call settings run k ask false None).run =
     traced settings run k ask None p.turns _ h h (Some a.result) word reply f.new.self is.turns (ap (λ (v : Vec Hart Global). length v.items) a.ensures.harts ∙ p.fits.harts) eg eg
     (a.ensures.load settings run.events is.trace.caches)

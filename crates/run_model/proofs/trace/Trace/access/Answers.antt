@@ -1,7 +1,7 @@
 use Rattle.std.proofs.Common.{subst}
 use Rattle.std.specs.Prelude.{Option}
 use Rattle.race_log.specs.Stands.{Stands}
-use Rattle.run_model.specs.declared.next.Next.TheVariants.{GoesOn}
+use Rattle.run_model.specs.declared.turn_end.TurnEnd.TheVariants.{GoesOn}
 use Rattle.run_model.specs.declared.span.Span.{Span}
 use Rattle.run_model.specs.Stands.EachCache.{AreCaches}
 use Rattle.run_model.specs.Turn.{events_after, point_of, points_after}

@@ -1,6 +1,6 @@
 use Rattle.std.proofs.Common.{◌∙◌, ◌+◌, ◌++◌, length, refl, ap, subst}
 use Rattle.std.proofs.lemmas.List.{get_or-set_same, get_or-set_other, length-set}
-use Rattle.run_model.specs.declared.next.Next.{Next}
+use Rattle.run_model.specs.declared.turn_end.TurnEnd.{TurnEnd}
 use Rattle.run_model.specs.Counts.{anew}
 use Rattle.run_model.specs.Turn.{next_records}
 use Rattle.run_model.specs.Stands.Harts.{no_hart}
@@ -15,7 +15,7 @@ returns-clause-run c settings run is =
     let x = c.index-before.result.now in
     let there = hart_at t.harts.items k x c.requires.hart c.index-before.ensures ∙ hart_of_run t.harts.items k run.harts is.harts c.requires.hart in
     trace_begun settings t _ run k s x c.begin_anew.new.self is c.requires.hart there
-    (subst (λ (n : Next). IsLog c.append_next.new.log (run.stream ++ next_records n k x.number s)) c.by_guard.ensures (c.append_next.ensures.holds run.stream is.log))
+    (subst (λ (n : TurnEnd). IsLog c.append_next.new.log (run.stream ++ next_records n k x.number s)) c.by_guard.ensures (c.append_next.ensures.holds run.stream is.log))
     c.begin_anew.ensures refl (c.clear.ensures.stands settings run.events is.caches) refl
 
 pub returns-clause-anew : goal.returns-clause-anew
@@ -31,6 +31,6 @@ returns-clause-anew c =
       caches = c.clear.ensures.count;
       steps = c.clear.ensures.steps;
       shadow = refl;
-      took = c.append_next.ensures.took.count_is ∙ ap (λ (n : Next). taken t.log.ring + length (next_records n k x.number s)) c.by_guard.ensures;
+      took = c.append_next.ensures.took.count_is ∙ ap (λ (n : TurnEnd). taken t.log.ring + length (next_records n k x.number s)) c.by_guard.ensures;
       size = c.append_next.ensures.took.size;
     }

@@ -5,7 +5,7 @@ use Rattle.rv_meaning.specs.Execute.{absorbed}
 use Rattle.log_record.specs.declared.record.Record.{Record}
 use Rattle.run_model.specs.declared.hart.Hart.{Hart}
 use Rattle.run_model.specs.declared.log.Log.{Log}
-use Rattle.run_model.specs.declared.next.Next.{Next}
+use Rattle.run_model.specs.declared.turn_end.TurnEnd.{TurnEnd}
 use Rattle.run_model.specs.Stands.EachCache.{AreCaches}
 use Rattle.run_model.specs.Stands.Harts.{AreHarts, hart_in}
 use Rattle.run_model.specs.Stands.Logs.{IsLog}
@@ -31,7 +31,7 @@ returns-clause-harts c f are =
     let set = subst (λ (v : Vec Hart Global). AreHarts v.items (with_own k t.new.own f)) (sym c.begin.ensures.harts) (own_set hs k t.new.own f are c.requires.hart) in
     let then_others = others_then t.result c.end_others.new.harts.items k t.new.own f (c.end_others.ensures.harts (with_own k t.new.own f) set) in
     subst (λ (y : Hart). AreHarts c.end_others.new.harts.items (harts_after m k y f)) own
-    (subst (λ (n : Next). AreHarts c.end_others.new.harts.items (harts_after n k t.new.own f)) next then_others)
+    (subst (λ (n : TurnEnd). AreHarts c.end_others.new.harts.items (harts_after n k t.new.own f)) next then_others)
 
 pub returns-clause-holds : goal.returns-clause-holds
 returns-clause-holds c f rs are held =
@@ -58,5 +58,5 @@ returns-clause-caches c s span events are =
     let t = c.take_turn-next in
     let there = hart_at hs c.args.hart x c.requires.hart c.index_mut-own.ensures.value in
     let next = next_at c.args.settings.now c.args.call c.args.ask.now.want c.args.reply x h (absorbed c.args.ask.now c.args.reply).ic t.result there t.ensures.next in
-    subst (λ (n : Next). AreCaches s c.begin.new.self.caches (events_after n c.args.hart c.args.call span events)) next
+    subst (λ (n : TurnEnd). AreCaches s c.begin.new.self.caches (events_after n c.args.hart c.args.call span events)) next
     (c.begin.ensures.caches s c.args.call span events are)

@@ -1,0 +1,59 @@
+-- What the definition says of a replay at its cursor: what its next instruction does, and what is to come.
+use Rattle.std.specs.Prelude.{◌≡◌, ℕ, false, Option, Result}
+use Rattle.bn_base.specs.declared.row.Row.{Row}
+use Rattle.rv_meaning.specs.Execute.{after}
+use Rattle.rv_meaning.specs.declared.asks.Reply.{Reply}
+use Rattle.rv_meaning.specs.declared.asks.Want.{Want}
+use Rattle.rv_meaning.specs.Rows.{row_of}
+use Rattle.hart_replay.specs.declared.interval_cursor.IntervalCursor.{IntervalCursor}
+use Rattle.hart_replay.specs.declared.error.ReplayError.{ReplayError}
+use Rattle.hart_replay.specs.Replay.{Outcome, Replayed, Interval, Position, Next, ask_step, one_step, left_over, ended}
+use Rattle.hart_replay.specs.Coming.{without_rows}
+use Rattle.hart_replay.specs.Sides.{Side, Does, Keeps, interval_at, position_at, side, side_to_come}
+
+-- what it knows from its log and its rows
+abbrev pub side_of : IntervalCursor → Side
+side_of c = side c.loads c.conditionals c.words.pages
+
+abbrev pub interval_of_cursor : IntervalCursor → Interval
+interval_of_cursor c = interval_at c.state c.mark (side_of c)
+
+abbrev pub position_of : IntervalCursor → Position
+position_of c = position_at c.state c.called (side_of c)
+
+-- the next instruction, where it asks this
+abbrev pub next_asked : IntervalCursor → Want → Next
+next_asked c k = ask_step c.image.now c.hart (interval_of_cursor c) (position_of c) k
+
+-- the next instruction
+abbrev pub next_of : IntervalCursor → Next
+next_of c = one_step c.image.now c.hart (interval_of_cursor c) (position_of c)
+
+-- the instruction is done as the definition says, from one cursor to another
+abbrev pub CursorDoes : IntervalCursor → Next → Result Row ReplayError → IntervalCursor → Type 0
+CursorDoes old n result new = Does (side_of old) n old.state result new.state new.called (side_of new)
+
+-- the row of an asking instruction that got this reply
+abbrev pub replied_row : IntervalCursor → Want → Reply → Option (ℕ × ℕ) → Option (ℕ × ℕ) → Row
+replied_row c k reply load store = row_of c.hart c.image.now c.state (after k reply c.state) load store
+
+-- the cursor after it, but for its words
+abbrev pub replied : IntervalCursor → Want → Reply → IntervalCursor
+replied c k reply = record c { state = after k reply c.state; called = false }
+
+-- the instruction is done, with this row, and the word that the row tells is kept
+abbrev pub DoneAndKept : IntervalCursor → Want → Reply → (load store : Option (ℕ × ℕ)) → (ℕ × ℕ) → Row → IntervalCursor → Type 0
+DoneAndKept old k reply load store word row new =
+    (row ≡ replied_row old k reply load store) × Keeps old.words.pages word new.words.pages × (new ≡ record (replied old k reply) { words = new.words })
+
+-- what is left of the log
+abbrev pub left_of : IntervalCursor → Outcome
+left_of c = left_over c.hart (interval_of_cursor c) (without_rows (position_of c))
+
+-- the end, at the mark's count
+abbrev pub end_of : IntervalCursor → Replayed
+end_of c = ended c.image.now c.hart (interval_of_cursor c) (without_rows (position_of c))
+
+-- the rows that are to come, and the outcome
+abbrev pub cursor_to_come : IntervalCursor → Replayed
+cursor_to_come c = side_to_come c.image.now c.hart c.mark c.state c.called (side_of c)

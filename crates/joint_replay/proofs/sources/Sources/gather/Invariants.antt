@@ -1,7 +1,0 @@
-use Rattle.std.proofs.Common.{◌≡◌, ◌++◌, drop}
-use Rattle.joint_replay.specs.Sources.{edges_into}
-use Rattle.joint_replay.proofs.sources.Sources.gather.Given as goal
-
--- those before the place
-abbrev pub invariant-loop-place : goal.invariant-loop-place
-invariant-loop-place l = l.edges.items ++ edges_into l.hart (drop l.place l.records) ≡ edges_into l.hart l.records

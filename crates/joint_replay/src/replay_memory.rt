@@ -1,0 +1,153 @@
+//! The memory of a joint replay.
+ghost use Rattle.std.specs.Prelude.{◌≡◌, ◌≤◌, ◌<◌, ◌+◌, ◌*◌, ◌/◌, ◌^◌, ◌⊎◌, [], ◌∷◌, Some, OnOk, IfOk, MatchOption};
+ghost use Rattle.std.specs.Option.{option_map};
+ghost use Rattle.rv_meaning.specs.Words.{aligned};
+ghost use Rattle.joint_replay.specs.Memory.{forget, put_word, word_in, known_from, put_access};
+ghost use Rattle.joint_replay.specs.Words.{bytes_at};
+
+use bn_base::{Addr, Row};
+use hart_replay::Words;
+use std::alloc::{AllocError, Global};
+use std::marker::Model;
+
+/// The words that a joint replay knows. Contracts see them by ascending address, and for how many
+/// pages more there is room.
+#[derive(Drop)]
+pub(crate) struct ReplayMemory {
+    words: Words,
+    /// No word of this number or above it is known.
+    end: u32,
+}
+
+impl Model for ReplayMemory {
+    ghost use Rattle.std.specs.Prelude.{◌≤◌, ◌^◌};
+    ghost use Rattle.joint_replay.specs.Words.{Remembered, words_of, AreBelow};
+
+    ghost Value = { Remembered };
+
+    ghost view = { λ m. record { words = words_of m.words.pages; room = m.words.room } };
+
+    ghost invariant = { λ m. AreBelow m.end m.words.pages × (m.end ≤ 2 ^ 30) };
+}
+
+impl ReplayMemory {
+    /// No word is known. It takes no memory.
+    pub(crate) fn new(alloc: Global) -> ReplayMemory
+        ensures { result.words ≡ [] }
+    {
+        ReplayMemory {
+            words: Words::new(alloc),
+            end: 0,
+        }
+    }
+
+    /// The known word at an address. None is at one that isn't a multiple of 4.
+    pub(crate) fn word(&self, addr: Addr) -> Option<u32>
+        ensures { result ≡ word_in self.now.words addr }
+    {
+        if addr % 4 == 0 {
+            self.words.get(addr)
+        } else {
+            None
+        }
+    }
+
+    /// The first known word at an address or above it.
+    pub(crate) fn known_from(&self, from: u64) -> Option<(Addr, u32)>
+        ensures { MatchOption result (known_from from self.now.words ≡ []) (λ m. known_from from self.now.words ≡ m ∷ known_from (m.0 + 4) self.now.words) }
+    {
+        for number in first_word(from)..self.end {
+            if let Some(word) = self.words.get(4 * number) {
+                return Some((4 * number, word));
+            }
+        }
+        None
+    }
+
+    /// Makes room for the words of one row. The words stay.
+    pub(crate) fn make_room(&mut self) -> Result<(), AllocError>
+        ensures room { OnOk result (2 ≤ self.new.room) }
+        ensures same { self.new.words ≡ self.old.words }
+    {
+        self.words.make_room(2)
+    }
+
+    // Makes the aligned word of an address known.
+    fn put(&mut self, addr: Addr, word: u32)
+        requires { 0 < self.old.room }
+        ensures word { self.new.words ≡ put_word (aligned addr) word self.old.words }
+        ensures room { self.old.room ≤ self.new.room + 1 }
+    {
+        self.end = self.end.max(addr / 4 + 1);
+        match self.words.put(addr, word) {
+            Ok(()) => (),
+            Err(_) => unreachable!(),
+        }
+    }
+
+    // Makes the words unknown that have one of so many bytes from an address on.
+    fn forget(&mut self, first: Addr, count: u32)
+        ensures words { self.new.words ≡ forget (Some (record { first = first; count = count })) self.old.words }
+        ensures room { self.new.room ≡ self.old.room }
+    {
+        let last = last_word(first, count);
+        for number in first / 4..last {
+            self.words.forget(4 * number);
+        }
+    }
+
+    // Makes a word known that a row tells, if it tells one.
+    fn keep(&mut self, told: Option<(Addr, u32)>)
+        requires { 0 < self.old.room }
+        ensures words { self.new.words ≡ put_access told self.old.words }
+        ensures room { self.old.room ≤ self.new.room + 1 }
+    {
+        if let Some((addr, word)) = told {
+            self.put(addr, word);
+        }
+    }
+
+    /// Notes what a row tells: the word that it stored, else the one that it loaded, and nothing
+    /// more of the words of which a call filled bytes.
+    pub(crate) fn note(&mut self, row: &Row, filled: Option<(Addr, u32)>)
+        requires { 2 ≤ self.old.room }
+        ensures { self.new.words ≡ put_access row.now.store (put_access row.now.load (forget (option_map bytes_at filled) self.old.words)) }
+    {
+        if let Some((first, count)) = filled {
+            self.forget(first, count);
+        }
+        self.keep(row.load);
+        self.keep(row.store);
+    }
+
+    /// The same known words.
+    pub(crate) fn copy(&self) -> Result<ReplayMemory, AllocError>
+        ensures { IfOk result (λ m. m.words ≡ self.now.words) }
+    {
+        Ok(ReplayMemory {
+            words: self.words.copy()?,
+            end: self.end,
+        })
+    }
+}
+
+// The number of the first word at an address or above it.
+fn first_word(from: u64) -> u32
+    ensures first { ((from ≤ 4 * result) × (4 * result < from + 4)) ⊎ ((result ≡ 2 ^ 30) × (2 ^ 32 ≤ from)) }
+    ensures bound { result ≤ 2 ^ 30 }
+{
+    if from < 1 << 32 {
+        ((from + 3) / 4) as u32
+    } else {
+        1 << 30
+    }
+}
+
+// The number after the last word that has one of so many bytes from an address on.
+fn last_word(first: Addr, count: u32) -> u32
+    ensures end { (result ≡ (first + count + 3) / 4) ⊎ ((result ≡ 2 ^ 30) × (2 ^ 30 ≤ (first + count + 3) / 4)) }
+    ensures bound { result ≤ 2 ^ 30 }
+{
+    let last = (first as u64 + count as u64 + 3) / 4;
+    if last < 1 << 30 { last as u32 } else { 1 << 30 }
+}

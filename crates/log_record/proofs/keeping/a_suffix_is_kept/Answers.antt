@@ -1,5 +1,0 @@
-use Rattle.log_record.proofs.Fitting.{kept-suffix}
-use Rattle.log_record.proofs.keeping.a_suffix_is_kept.Goals as goal
-
-pub returns : goal.returns
-returns c = kept-suffix

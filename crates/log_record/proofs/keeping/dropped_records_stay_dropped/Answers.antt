@@ -1,5 +1,0 @@
-use Rattle.log_record.proofs.Fitting.{kept-kept}
-use Rattle.log_record.proofs.keeping.dropped_records_stay_dropped.Goals as goal
-
-pub returns : goal.returns
-returns c = kept-kept

@@ -1,5 +1,0 @@
-use Rattle.log_record.proofs.Fitting.{kept-small}
-use Rattle.log_record.proofs.keeping.kept_records_fit.Goals as goal
-
-pub returns : goal.returns
-returns c = kept-small

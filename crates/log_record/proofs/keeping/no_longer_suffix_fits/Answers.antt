@@ -1,5 +1,0 @@
-use Rattle.log_record.proofs.Fitting.{kept-longest}
-use Rattle.log_record.proofs.keeping.no_longer_suffix_fits.Goals as goal
-
-pub returns : goal.returns
-returns c = kept-longest

@@ -1,0 +1,74 @@
+-- What a ring holds after an append.
+use Rattle.std.proofs.Common.{◌≡◌, ◌∙◌, ◌+◌, ◌-◌, ◌≤◌, ℕ, List, [], ◌∷◌, ◌++◌, length, drop, sym, ap, ap₂, arith, append_assoc, length-append}
+use Rattle.std.specs.List.{flat_map, AllByRecursion}
+use Rattle.std.proofs.lemmas.List.{append-nil}
+use Rattle.circular_buffer.specs.Buffer.{Buffer, buffer, keep_last}
+use Rattle.log_record.specs.declared.record.Record.{Record}
+use Rattle.log_record.specs.Spelling.{bytes_of, Fits}
+use Rattle.log_record.specs.Laws.{TellTheirSize, AreRead}
+use Rattle.log_ring.specs.Whole.{records_in, IsWhole}
+use Rattle.log_ring.specs.Kept.{kept, Held, held, HoldsLog, GivesUp}
+use Rattle.log_ring.proofs.Cuts.{records_in-bytes, whole_of}
+use Rattle.log_ring.proofs.Fitting.{kept-suffix, kept-kept, kept-append}
+
+all-push : (rs : List Record) (r : Record) → AllByRecursion (Fits 2) rs → Fits 2 r → AllByRecursion (Fits 2) (rs ++ r ∷ [])
+all-push [] r fit one = (one, tt)
+all-push (x ∷ rs) r fit one = (fit.0, all-push rs r fit.1 one)
+
+flat_map-push : (rs : List Record) (r : Record) → flat_map bytes_of (rs ++ r ∷ []) ≡ flat_map bytes_of rs ++ bytes_of r
+flat_map-push [] r = append-nil (bytes_of r)
+flat_map-push (x ∷ rs) r = ap (λ (t : List ℕ). bytes_of x ++ t) (flat_map-push rs r) ∙ sym (append_assoc (bytes_of x) (flat_map bytes_of rs) (bytes_of r))
+
+-- bytes of whole records with one record more
+pub pushed_whole : TellTheirSize → AreRead → (xs ys : List ℕ) (r : Record) → IsWhole xs → Fits 2 r → ys ≡ xs ++ bytes_of r → (IsWhole ys) × (records_in ys ≡ records_in xs ++ r ∷ [])
+pushed_whole tell read xs ys r whole fits e =
+    let fit = all-push (records_in xs) r whole.fit fits in
+    let joined : flat_map bytes_of (records_in xs ++ r ∷ []) ≡ ys = flat_map-push (records_in xs) r ∙ ap (λ (t : List ℕ). t ++ bytes_of r) whole.joined ∙ sym e in
+    (whole_of tell read ys (records_in xs ++ r ∷ []) fit joined, records_in-bytes tell read ys (records_in xs ++ r ∷ []) fit joined)
+
+pub keep_all : (n : ℕ) (xs : List ℕ) → length xs ≤ n → keep_last n xs ≡ xs
+keep_all n xs le = let none : length xs - n ≡ 0 = omega arith in ap (λ (k : ℕ). drop k xs) none
+
+-- so many records went as the count says
+pub gives_up : (old new : Held) (r : Record) (gone : ℕ) → new.records ≡ kept old.size (old.records ++ r ∷ []) → new.dropped ≡ old.dropped + gone
+    → gone + length new.records ≡ length old.records + 1 → gone ≤ 73 → GivesUp old r new
+gives_up old new r gone latest dropped count few =
+    let f = kept-suffix old.size (old.records ++ r ∷ []) in
+    let parts : old.records ++ r ∷ [] ≡ f.0 ++ new.records = f.1 ∙ ap (λ (xs : List Record). f.0 ++ xs) (sym latest) in
+    let gone_is : gone ≡ length f.0 = omega (arith, ap length parts, length-append f.0 new.records, length-append old.records (r ∷ [])) in
+    record { front = f.0; parts = parts; dropped = omega arith; few = omega arith }
+
+-- a ring that holds what is kept goes on doing so
+pub still_holds : (old new : Held) (r : Record) (gone : ℕ) → new.records ≡ kept old.size (old.records ++ r ∷ []) → new.dropped ≡ old.dropped + gone
+    → gone + length new.records ≡ length old.records + 1 → new.size ≡ old.size → (appended : List Record) → HoldsLog old appended → HoldsLog new (appended ++ r ∷ [])
+still_holds old new r gone latest dropped count size appended holds = record {
+  latest = latest ∙ ap (λ (xs : List Record). kept old.size (xs ++ r ∷ [])) holds.latest ∙ kept-kept old.size appended r ∙ ap (λ (n : ℕ). kept n (appended ++ r ∷ [])) (sym size);
+  counted = omega (arith, holds.counted, length-append appended (r ∷ []));
+}
+
+-- the bytes and the capacity behind an append, where m records went
+pub record Pushed (old : Held) (r : Record) (b : Buffer ℕ) (m : ℕ) : Type 0 where
+  pub whole : IsWhole b.items
+  pub capacity : b.capacity ≡ old.size
+  pub latest : records_in b.items ≡ kept old.size (old.records ++ r ∷ [])
+  pub count : m + length (records_in b.items) ≡ length old.records + 1
+
+pub pushed : TellTheirSize → AreRead → (old : Held) (xs : List ℕ) (dropped capacity size room m : ℕ) (mid b : Buffer ℕ) (text : List ℕ) (r : Record)
+    → held (records_in xs) dropped capacity ≡ old → Fits 2 r → text ≡ bytes_of r → size ≡ length text → room ≡ capacity - size → size ≤ capacity
+    → IsWhole mid.items → mid.capacity ≡ capacity → records_in mid.items ≡ kept room (records_in xs) → length mid.items ≤ room → m + length (records_in mid.items) ≡ length (records_in xs)
+    → b ≡ buffer (keep_last mid.capacity (mid.items ++ text)) mid.capacity → Pushed old r b m
+pushed tell read old xs dropped capacity size room m mid b text r view fits text_is size_is room_is within whole mid_capacity mid_records mid_room count out =
+    let under : length (mid.items ++ text) ≤ mid.capacity = omega (arith, length-append mid.items text) in
+    let items : b.items ≡ mid.items ++ bytes_of r = ap (λ (x : Buffer ℕ). x.items) out ∙ keep_all mid.capacity (mid.items ++ text) under ∙ ap (λ (t : List ℕ). mid.items ++ t) text_is in
+    let both = pushed_whole tell read mid.items b.items r whole fits items in
+    let records : records_in xs ≡ old.records = ap (λ (h : Held). h.records) view in
+    let capacity_is : capacity ≡ old.size = ap (λ (h : Held). h.size) view in
+    let fill : room + length (bytes_of r) ≡ capacity = omega (arith, ap length text_is) in
+    let latest : records_in b.items ≡ kept capacity (records_in xs ++ r ∷ []) =
+    both.1 ∙ ap (λ (rs : List Record). rs ++ r ∷ []) mid_records ∙ sym (kept-append room capacity (records_in xs) r fill) in
+    record {
+      whole = both.0;
+      capacity = ap (λ (x : Buffer ℕ). x.capacity) out ∙ mid_capacity ∙ capacity_is;
+      latest = latest ∙ ap₂ (λ (n : ℕ) (rs : List Record). kept n (rs ++ r ∷ [])) capacity_is records;
+      count = omega (arith, ap length both.1, length-append (records_in mid.items) (r ∷ []), ap length records);
+    }

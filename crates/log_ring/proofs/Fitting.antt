@@ -1,0 +1,79 @@
+-- The longest suffix that fits.
+use Rattle.std.proofs.Common.{◌≡◌, ◌∙◌, ◌+◌, ◌<◌, ◌≤◌, ℕ, List, [], ◌∷◌, ◌++◌, length, refl, sym, ap, arith, inl, inr, length-append}
+use Rattle.std.specs.List.{flat_map}
+use Rattle.std.proofs.lemmas.Bool.{le-leb, lt-leb}
+use Rattle.std.proofs.lemmas.Bool.Decides.{leb_tells}
+use Rattle.std.proofs.lemmas.List.{append-nil}
+use Rattle.log_record.specs.declared.record.Record.{Record}
+use Rattle.log_record.specs.Spelling.{bytes_of, total}
+use Rattle.log_ring.specs.Kept.{kept}
+
+pub total-cons : (r : Record) (rs : List Record) → total (r ∷ rs) ≡ length (bytes_of r) + total rs
+total-cons r rs = length-append (bytes_of r) (flat_map bytes_of rs)
+
+pub total-append : (xs ys : List Record) → total (xs ++ ys) ≡ total xs + total ys
+total-append [] ys = omega arith
+total-append (x ∷ xs) ys = omega (arith, total-cons x xs, total-cons x (xs ++ ys), total-append xs ys)
+
+pub total-one : (r : Record) → total (r ∷ []) ≡ length (bytes_of r)
+total-one r = ap length (append-nil (bytes_of r))
+
+-- a first record goes where they are too many
+pub kept-over : (size : ℕ) (r : Record) (rs : List Record) → size < total (r ∷ rs) → kept size (r ∷ rs) ≡ kept size rs
+unfolding kept
+kept-over size r rs over = rw (lt-leb (total (r ∷ rs)) size over) refl
+
+-- records that fit stay
+pub kept-all : (size : ℕ) (rs : List Record) → total rs ≤ size → kept size rs ≡ rs
+unfolding kept
+kept-all size [] under = refl
+kept-all size (r ∷ rs) under = rw (le-leb (total (r ∷ rs)) size under) refl
+
+pub kept-small : (size : ℕ) (rs : List Record) → total (kept size rs) ≤ size
+unfolding kept
+kept-small size [] = omega arith
+kept-small size (r ∷ rs) =
+    elim (leb_tells (total (r ∷ rs)) size) [
+      | inl h ↦ rw h.0 h.1
+      | inr h ↦ rw h.0 (kept-small size rs)
+    ]
+
+pub kept-suffix : (size : ℕ) (rs : List Record) → (front : List Record) × (rs ≡ front ++ kept size rs)
+kept-suffix size [] = ([], sym (kept-all size [] (omega arith)))
+kept-suffix size (r ∷ rs) =
+    elim (leb_tells (total (r ∷ rs)) size) [
+      | inl h ↦ ([], sym (kept-all size (r ∷ rs) h.1))
+      | inr h ↦
+          let f = kept-suffix size rs in
+          (r ∷ f.0, ap (λ (xs : List Record). r ∷ xs) f.1 ∙ ap (λ (xs : List Record). r ∷ f.0 ++ xs) (sym (kept-over size r rs h.1)))
+    ]
+
+pub kept-longest : (size : ℕ) (front back : List Record) → total back ≤ size → length back ≤ length (kept size (front ++ back))
+kept-longest size [] back under = omega (arith, ap length (kept-all size back under))
+kept-longest size (x ∷ front) back under =
+    elim (leb_tells (total (x ∷ (front ++ back))) size) [
+      | inl h ↦ omega (arith, ap length (kept-all size (x ∷ (front ++ back)) h.1), length-append front back)
+      | inr h ↦ omega (arith, ap length (kept-over size x (front ++ back) h.1), kept-longest size front back under)
+    ]
+
+-- the records behind those that were given up are enough to go on with
+pub kept-kept : (size : ℕ) (rs : List Record) (r : Record) → kept size (kept size rs ++ r ∷ []) ≡ kept size (rs ++ r ∷ [])
+kept-kept size [] r = ap (λ (xs : List Record). kept size (xs ++ r ∷ [])) (kept-all size [] (omega arith))
+kept-kept size (x ∷ rs) r =
+    elim (leb_tells (total (x ∷ rs)) size) [
+      | inl h ↦ ap (λ (xs : List Record). kept size (xs ++ r ∷ [])) (kept-all size (x ∷ rs) h.1)
+      | inr h ↦
+          let over : size < total (x ∷ (rs ++ r ∷ [])) = omega (arith, h.1, total-append (x ∷ rs) (r ∷ [])) in
+          ap (λ (xs : List Record). kept size (xs ++ r ∷ [])) (kept-over size x rs h.1) ∙ kept-kept size rs r ∙ sym (kept-over size x (rs ++ r ∷ []) over)
+    ]
+
+-- room is made for one more
+pub kept-append : (room size : ℕ) (rs : List Record) (r : Record) → room + length (bytes_of r) ≡ size → kept size (rs ++ r ∷ []) ≡ kept room rs ++ r ∷ []
+kept-append room size [] r e =
+    kept-all size (r ∷ []) (omega (arith, total-one r)) ∙ ap (λ (xs : List Record). xs ++ r ∷ []) (sym (kept-all room [] (omega arith)))
+kept-append room size (x ∷ rs) r e =
+    let len : total (x ∷ (rs ++ r ∷ [])) ≡ total (x ∷ rs) + length (bytes_of r) = omega (arith, total-append (x ∷ rs) (r ∷ []), total-one r) in
+    elim (leb_tells (total (x ∷ rs)) room) [
+      | inl h ↦ kept-all size (x ∷ (rs ++ r ∷ [])) (omega (arith, h.1)) ∙ ap (λ (xs : List Record). xs ++ r ∷ []) (sym (kept-all room (x ∷ rs) h.1))
+      | inr h ↦ kept-over size x (rs ++ r ∷ []) (omega (arith, h.1)) ∙ kept-append room size rs r e ∙ ap (λ (xs : List Record). xs ++ r ∷ []) (sym (kept-over room x rs h.1))
+    ]

@@ -1,0 +1,13 @@
+use Rattle.std.proofs.Common.{◌≡◌, ℕ, IsTrue}
+use Rattle.race_log.specs.Slots.{is_settled}
+use Rattle.race_log.specs.Words.{has_epoch}
+use Rattle.race_log.proofs.epochs.Epochs.pass_used.Given as goal
+
+abbrev pub invariant-loop-place : goal.invariant-loop-place
+invariant-loop-place l = record {
+  place : l.self.next ≡ l.place;
+  table : l.self.table ≡ l.initial.self.table;
+  present : l.self.present ≡ l.initial.self.present;
+  settled : (i : ℕ) → IsTrue (is_settled l.initial.self.table.items l.initial.self.next i) → IsTrue (is_settled l.self.table.items l.self.next i);
+  ready : IsTrue (has_epoch l.initial.self) → l.self.next ≡ l.initial.self.next;
+}

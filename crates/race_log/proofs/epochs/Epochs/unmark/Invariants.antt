@@ -1,0 +1,11 @@
+use Rattle.std.proofs.Common.{◌≡◌, ℕ, length}
+use Rattle.race_log.specs.Words.{epoch_counts}
+use Rattle.race_log.proofs.epochs.Epochs.unmark.Given as goal
+
+abbrev pub invariant-loop-place : goal.invariant-loop-place
+invariant-loop-place l = record {
+  counts : (epoch h : ℕ) → epoch_counts l.self epoch h ≡ epoch_counts l.fn.self epoch h;
+  present : l.self.present ≡ l.fn.self.present;
+  next : l.self.next ≡ l.fn.self.next;
+  size : length l.self.table.items ≡ length l.fn.self.table.items;
+}

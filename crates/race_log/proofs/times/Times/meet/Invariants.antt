@@ -1,9 +1,0 @@
-use Rattle.std.proofs.Common.{◌≡◌, ◌<◌, ◌≤◌, ℕ, min}
-use Rattle.race_log.specs.Times.{count_of}
-use Rattle.race_log.proofs.times.Times.meet.Given as goal
-
-abbrev pub invariant-loop-place : goal.invariant-loop-place
-invariant-loop-place l = record {
-  met : (h : ℕ) → h < l.place → count_of l.self h ≡ min (count_of l.initial.self h) (count_of l.other h);
-  left : (h : ℕ) → l.place ≤ h → count_of l.self h ≡ count_of l.initial.self h;
-}

@@ -1,9 +1,0 @@
-use Rattle.std.proofs.Common.{◌≡◌, ◌<◌, ◌≤◌, ℕ, max}
-use Rattle.race_log.specs.Times.{count_of}
-use Rattle.race_log.proofs.times.Times.merge.Given as goal
-
-abbrev pub invariant-loop-hart : goal.invariant-loop-hart
-invariant-loop-hart l = record {
-  merged : (h : ℕ) → h < l.hart → count_of l.self h ≡ max (count_of l.initial.self h) (count_of l.other h);
-  left : (h : ℕ) → l.hart ≤ h → count_of l.self h ≡ count_of l.initial.self h;
-}

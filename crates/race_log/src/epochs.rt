@@ -1,0 +1,208 @@
+ghost use Rattle.std.specs.Prelude.{◌≡◌, ◌≢◌, ◌<◌, ◌≤◌, ◌^◌, ℕ, length, IfOk, OnOk, IsOk, IsTrue, slice_get, true, false};
+ghost use Rattle.bn_base.specs.declared.settings.TheConstants.{HARTS};
+ghost use Rattle.race_log.specs.Slots.{is_settled, AreSettledNow};
+
+use bn_base::{HARTS, HartId, Ic};
+use std::alloc::{AllocError, Global};
+use vector_time::Times;
+
+/// A epoch of a hart: its points from one edge into the hart up to the next, in which it learns of no
+/// point of another hart.
+#[derive(Clone, Copy)]
+pub struct Epoch {
+    /// The hart's times in it, but for its own count.
+    pub times: Times,
+    /// Whether something named it when the table was last looked through.
+    pub used: bool,
+}
+
+/// The epochs that a kept access names or that are a hart's present one. So the times of a point
+/// stand once for all its words, and once for all points that share them.
+// A table of times for each point was measured to be slower. Counts of who names an epoch, in place of marks,
+// took more proof.
+#[derive(Drop)]
+pub struct Epochs {
+    pub table: Vec<Epoch>,
+    pub next: u32,
+    pub present: [u32; HARTS],
+    ghost each_hart: { length present ≡ HARTS },
+    ghost within: { next ≤ length table.items },
+    ghost first: { IsTrue (is_settled table.items next 0) },
+    ghost few: { length table.items < 2 ^ 32 },
+    ghost settled: { AreSettledNow table.items next present },
+}
+
+impl Epochs {
+    ghost use Rattle.vector_time.specs.Times.{count_of};
+    ghost use Rattle.race_log.specs.Slots.{counts_past, is_marked};
+    ghost use Rattle.race_log.specs.Words.{epoch_counts, epoch_of, present_counts, has_epoch};
+
+    /// One epoch, in which each hart is and knows of no point.
+    pub fn new(alloc: Global) -> Result<Epochs, AllocError>
+        ensures counts { IfOk result (λ s. (epoch h : ℕ) → epoch_counts s epoch h ≡ 0) }
+    {
+        let mut table = Vec::new(alloc);
+        table.push(Epoch {
+            times: Times::new(),
+            used: false,
+        })?;
+        Ok(Epochs {
+            table,
+            next: 1,
+            present: [0; HARTS],
+        })
+    }
+
+    /// Makes room for one epoch more. All epochs stay.
+    pub fn make_room(&mut self) -> Result<(), AllocError>
+        ensures counts { (epoch h : ℕ) → epoch_counts self.new epoch h ≡ epoch_counts self.old epoch h }
+        ensures present { self.new.present ≡ self.old.present }
+        ensures settled { (i : ℕ) → IsTrue (is_settled self.old.table.items self.old.next i) → IsTrue (is_settled self.new.table.items self.new.next i) }
+        ensures room { OnOk result (IsTrue (has_epoch self.new)) }
+        ensures ready { IsTrue (has_epoch self.old) → IsOk result }
+    {
+        self.pass_used();
+        if (self.next as usize) < self.table.len() {
+            return Ok(());
+        }
+        self.grow()
+    }
+
+    // Goes on to the first epoch that isn't used.
+    fn pass_used(&mut self)
+        ensures table { self.new.table ≡ self.old.table }
+        ensures present { self.new.present ≡ self.old.present }
+        ensures settled { (i : ℕ) → IsTrue (is_settled self.old.table.items self.old.next i) → IsTrue (is_settled self.new.table.items self.new.next i) }
+        ensures room { self.new.next < length self.new.table.items → IsTrue (has_epoch self.new) }
+        ensures ready { IsTrue (has_epoch self.old) → self.new.next ≡ self.old.next }
+    {
+        for place in self.next as usize..self.table.len() {
+            if !self.table[place].used {
+                break;
+            }
+            self.next += 1;
+        }
+    }
+
+    // Adds a epoch to the table that isn't used yet.
+    fn grow(&mut self) -> Result<(), AllocError>
+        requires { self.old.next ≡ length self.old.table.items }
+        ensures counts { (epoch h : ℕ) → epoch_counts self.new epoch h ≡ epoch_counts self.old epoch h }
+        ensures present { self.new.present ≡ self.old.present }
+        ensures settled { (i : ℕ) → IsTrue (is_settled self.old.table.items self.old.next i) → IsTrue (is_settled self.new.table.items self.new.next i) }
+        ensures room { OnOk result (IsTrue (has_epoch self.new)) }
+    {
+        if self.table.len() >= u32::MAX as usize {
+            return Err(AllocError);
+        }
+        self.table.push(Epoch {
+            times: Times::new(),
+            used: false,
+        })?;
+        Ok(())
+    }
+
+    /// How many epochs the table has.
+    pub fn len(&self) -> usize
+        ensures { result ≡ length self.now.table.items }
+    {
+        self.table.len()
+    }
+
+    /// How many of them are marked as used.
+    pub fn used(&self) -> usize {
+        self.table.iter().filter(|epoch| epoch.used).count()
+    }
+
+    /// Whether no epoch can begin but by growth.
+    pub fn is_full(&mut self) -> bool
+        ensures counts { (epoch h : ℕ) → epoch_counts self.new epoch h ≡ epoch_counts self.old epoch h }
+        ensures present { self.new.present ≡ self.old.present }
+        ensures settled { (i : ℕ) → IsTrue (is_settled self.old.table.items self.old.next i) → IsTrue (is_settled self.new.table.items self.new.next i) }
+        ensures full { result ≡ true → self.new.next ≡ length self.new.table.items }
+        ensures room { IsTrue (has_epoch self.old) → IsTrue (has_epoch self.new) × (result ≡ false) }
+    {
+        self.pass_used();
+        self.next as usize == self.table.len()
+    }
+
+    // Marks no epoch as used. All are settled meanwhile.
+    fn unmark(&mut self)
+        requires full { self.old.next ≡ length self.old.table.items }
+        ensures counts { (epoch h : ℕ) → epoch_counts self.new epoch h ≡ epoch_counts self.old epoch h }
+        ensures present { self.new.present ≡ self.old.present }
+        ensures full { (self.new.next ≡ self.old.next) × (length self.new.table.items ≡ length self.old.table.items) }
+    {
+        for place in 0..self.table.len() {
+            self.table[place].used = false;
+        }
+    }
+
+    /// Marks a epoch of the table as used.
+    pub fn mark(&mut self, epoch: u32)
+        requires full { self.old.next ≡ length self.old.table.items }
+        ensures counts { (i h : ℕ) → epoch_counts self.new i h ≡ epoch_counts self.old i h }
+        ensures present { self.new.present ≡ self.old.present }
+        ensures full { (self.new.next ≡ self.old.next) × (length self.new.table.items ≡ length self.old.table.items) }
+        ensures marks { (i : ℕ) → IsTrue (is_marked (slice_get self.old.table.items i)) → IsTrue (is_marked (slice_get self.new.table.items i)) }
+        ensures marked { epoch < length self.old.table.items → IsTrue (is_marked (slice_get self.new.table.items epoch)) }
+    {
+        if (epoch as usize) < self.table.len() {
+            self.table[epoch as usize].used = true;
+        }
+    }
+
+    /// Marks the harts' present epochs as used, and no other.
+    pub fn begin_marks(&mut self)
+        requires full { self.old.next ≡ length self.old.table.items }
+        ensures counts { (epoch h : ℕ) → epoch_counts self.new epoch h ≡ epoch_counts self.old epoch h }
+        ensures present { self.new.present ≡ self.old.present }
+        ensures full { (self.new.next ≡ self.old.next) × (length self.new.table.items ≡ length self.old.table.items) }
+        ensures marked { (hart : ℕ) → IsTrue (is_marked (slice_get self.new.table.items (epoch_of self.new hart))) }
+        ensures first { IsTrue (is_marked (slice_get self.new.table.items 0)) }
+    {
+        self.unmark();
+        self.mark(0);
+        for hart in 0..HARTS {
+            self.mark(self.present[hart]);
+        }
+    }
+
+    /// Lets epochs begin from the start of the table on, in the place of those that aren't marked.
+    pub fn restart(&mut self)
+        requires present { (hart : ℕ) → IsTrue (is_marked (slice_get self.old.table.items (epoch_of self.old hart))) }
+        requires first { IsTrue (is_marked (slice_get self.old.table.items 0)) }
+        ensures counts { (epoch h : ℕ) → epoch_counts self.new epoch h ≡ epoch_counts self.old epoch h }
+        ensures present { self.new.present ≡ self.old.present }
+        ensures settled { (i : ℕ) → IsTrue (is_marked (slice_get self.old.table.items i)) → IsTrue (is_settled self.new.table.items self.new.next i) }
+    {
+        self.next = 0;
+    }
+
+    /// Begins a epoch of the hart with these times.
+    pub fn begin(&mut self, hart: HartId, times: &Times)
+        requires hart { hart < HARTS }
+        requires room { IsTrue (has_epoch self.old) }
+        ensures counts { (i : ℕ) → IsTrue (is_settled self.old.table.items self.old.next i) → (h : ℕ) → epoch_counts self.new i h ≡ epoch_counts self.old i h }
+        ensures settled { (i : ℕ) → IsTrue (is_settled self.old.table.items self.old.next i) → IsTrue (is_settled self.new.table.items self.new.next i) }
+        ensures present { (h : ℕ) → present_counts self.new hart h ≡ count_of times.now h }
+        ensures others { (g : ℕ) → g ≢ hart → epoch_of self.new g ≡ epoch_of self.old g }
+    {
+        self.table[self.next as usize].times = *times;
+        self.present[hart as usize] = self.next;
+        self.next += 1;
+    }
+
+    /// The times after a point of the hart in a epoch, where `after` is the count after the point.
+    pub fn times_after(&self, epoch: u32, hart: HartId, after: Ic) -> Times
+        requires { hart < HARTS }
+        ensures { (h : ℕ) → count_of result h ≡ counts_past (epoch_counts self.now epoch) hart after h }
+    {
+        let mut times = match self.table.get(epoch as usize) {
+            Some(epoch) => epoch.times,
+            None => Times::new(),
+        };
+        times.set(hart, after);
+        times
+    }
+}

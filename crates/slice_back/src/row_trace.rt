@@ -1,0 +1,125 @@
+//! The rows of a replay up to the one that is asked for.
+ghost use Rattle.std.specs.Prelude.{◌≡◌, ◌∷◌, [], List, false, OnOk, IfOk, IfErr};
+ghost use Rattle.std.specs.Option.{option_map};
+ghost use Rattle.bn_base.specs.declared.row.Row.{Row as RowOf};
+ghost use Rattle.slice_back.specs.Slices.{note, passed};
+ghost use Rattle.slice_back.specs.Tracing.{reached, error_of, IsStop, IsTraced};
+
+use crate::error::SliceError;
+use crate::first_loads::Pending;
+use crate::noted::Noted;
+use crate::uses::used_word;
+use bn_base::{Ic, Row};
+use hart_replay::{ReplayError, Replayer};
+use std::alloc::{AllocError, Global};
+use std::marker::Model;
+
+/// The rows up to the one with a count, with the first loads that they took. The later ones aren't
+/// kept.
+#[derive(Drop)]
+pub(crate) struct RowTrace<'a> {
+    ic: Ic,
+    loads: Pending<'a>,
+    noted: Vec<Noted>,
+    found: bool,
+}
+
+impl<'a> Model for RowTrace<'a> {
+    ghost use Rattle.slice_back.specs.Tracing.{Tracing};
+
+    ghost Value = { Tracing };
+
+    ghost view = { λ t. record { ic = t.ic; loads = t.loads; noted = t.noted.items; found = t.found } };
+}
+
+impl<'a> RowTrace<'a> {
+    /// No row is met.
+    pub(crate) fn new(alloc: Global, loads: &'a [(u32, u32)], ic: Ic) -> RowTrace<'a>
+        ensures { result ≡ record { ic = ic; loads = record { loads = loads.now; skipped = 0 }; noted = []; found = false } }
+    {
+        RowTrace {
+            ic,
+            loads: Pending::new(loads),
+            noted: Vec::new(alloc),
+            found: false,
+        }
+    }
+
+    // The value of the first load that a row takes.
+    fn first_load(&mut self, row: &Row) -> Option<u32>
+        ensures value { result ≡ (note self.old.loads row.now).first_load }
+        ensures rest { self.new ≡ record self.old { loads = passed self.old.loads row.now } }
+    {
+        match used_word(row) {
+            None => None,
+            Some(_) => self.loads.take(),
+        }
+    }
+
+    // Notes a row, where the last one isn't met.
+    fn add(&mut self, row: Row) -> Result<(), AllocError>
+        requires { self.old.found ≡ false }
+        ensures { OnOk result ((rows : List RowOf) → reached self.new rows ≡ reached self.old (row ∷ rows)) }
+    {
+        let first_load = self.first_load(&row);
+        self.noted.extend_from_slice(&[Noted { row, first_load }])?;
+        self.found = row.ic == self.ic;
+        Ok(())
+    }
+
+    // Goes on to a row.
+    fn note(&mut self, row: Row) -> Result<(), AllocError>
+        ensures { OnOk result ((rows : List RowOf) → reached self.new rows ≡ reached self.old (row ∷ rows)) }
+    {
+        if self.found { Ok(()) } else { self.add(row) }
+    }
+
+    // The rows up to the last one, if it was met.
+    fn into_noted(self) -> Option<Vec<Noted>>
+        ensures { reached self.entry [] ≡ option_map (λ v. v.items) result }
+    {
+        if self.found { Some(self.noted) } else { None }
+    }
+}
+
+// The error of a slice whose replay stops; want of memory is its own.
+fn error_of(error: ReplayError) -> SliceError
+    ensures { result ≡ error_of error }
+{
+    match error {
+        ReplayError::OutOfMemory => SliceError::OutOfMemory,
+        ReplayError::NoInterval { .. } => SliceError::Replay(error),
+        ReplayError::LoadMissing { .. } => SliceError::Replay(error),
+        ReplayError::ScMissing { .. } => SliceError::Replay(error),
+        ReplayError::RecordsLeft { .. } => SliceError::Replay(error),
+        ReplayError::EndDiffers { .. } => SliceError::Replay(error),
+    }
+}
+
+/// The rows of a replay up to the one with a count, where it is done; `None` where there is no such
+/// row.
+///
+/// All rows are replayed. The error is the replay's, or want of memory, which comes only where the
+/// replay has a row or found none itself.
+pub(crate) fn rows_up_to(
+    alloc: Global,
+    replayer: &mut Replayer,
+    loads: &[(u32, u32)],
+    ic: Ic,
+) -> Result<Option<Vec<Noted>>, SliceError>
+    ensures done { IfOk result (λ found. IsTraced ic loads.now replayer.old.left (option_map (λ v. v.items) found)) }
+    ensures refused { IfErr result (λ e. IsStop replayer.old.left e) }
+{
+    let mut trace = RowTrace::new(alloc, loads, ic);
+    'rows: loop {
+        match replayer.step() {
+            Ok(Some(row)) => {
+                if trace.note(row).is_err() {
+                    return Err(SliceError::OutOfMemory);
+                }
+            }
+            Ok(None) => return Ok(trace.into_noted()),
+            Err(error) => return Err(error_of(error)),
+        }
+    }
+}

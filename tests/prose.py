@@ -1,0 +1,330 @@
+#!/usr/bin/env python3
+"""Checks how README.md and the pages of docs/ are written.
+
+tests/prose.py [PAGE..]
+
+Without pages all are checked. Checked are: no sentence of more than 35 words, no table cell of more than 60, none of
+the words in WORDS, no link that leads nowhere, and no page of more words than PAGES says (as `wc -w` counts).
+Code is not prose: blocks are passed over, and a piece of inline code is one word of its sentence.
+
+The checks are first tried on sentences that have each fault and on ones that have none (SAMPLES).
+"""
+import os
+import re
+import sys
+
+TOP = os.path.dirname(os.path.dirname(os.path.realpath(__file__)))
+LONGEST_SENTENCE = 35
+LONGEST_CELL = 60
+
+# Each page and the words that it may have. None: the page is generated, and its text comes from comments in the
+# sources and has the words of the code, so of it only the links are judged here.
+PAGES = {
+    "README.md": 900,
+    "docs/COMMANDS.md": 4000,
+    "docs/DECISIONS.md": 2500,
+    "docs/DEFINITIONS.md": None,
+    "docs/FORMAT.md": 3700,
+    "docs/GDB.md": 1300,
+    "docs/GUIDE.md": 5000,
+    "docs/INTERNALS.md": 4000,
+    "docs/PROOF.md": 3000,
+    "docs/VIEW.md": 1300,
+    "docs/WHY.md": 1300,
+}
+
+# What "where" may follow: a place, or a verb that asks for one.
+PLACES = "line place point folder address page file function see says show shows know find from of".split()
+NO_PLACE = "".join(rf"(?<!\b{word}\s)" for word in PLACES)
+
+# Words that only insiders understand, as regular expressions, and what to write in their place. One that begins with
+# a capital letter matches that letter alone; all others match in either case.
+WORDS = [
+    (r"want of memory|wants? of memory", "out of memory"),
+    (r"(?:was|is|were|are|isn't|wasn't) wanting|starved", "out of memory"),
+    (r"wants? (?:no |more |the )?memory", "needs memory"),
+    (r"wrong bod(?:y|ies)", "mutant"),
+    (r"(?:go|goes|went|going|gone) by", "according to, is determined by"),
+    (r"settle[sd]?|settling", "determine, reconcile"),
+    (r"(?:stand|stands|stood|standing) behind", "after, follow"),
+    (r"(?:stand|stands|stood|standing) for", "represent"),
+    (r"(?:a|each|every|any|no|whose|its) front|fronts|nearer the front", "prefix, beginning"),
+    (r"lend|lends|lent|lending", "pass by reference"),
+    (r"dear|dearer|dearest", "expensive, large"),
+    (r"yet", "nothing: say what is, not what was or will be"),
+    (r"as before|as ever", "nothing: say what is, not what was"),
+    (r"anew", "again"),
+    (r"(?:isn't|is not|aren't|are not) promised", "not guaranteed"),
+    (r"(?:store|file|input|output)s? tells?|holds? what (?:it|they) tells?", "contain what was last written"),
+    (r"tell(?:s)? (?:its|their) files", "contain what was last written"),
+    (r"Where(?! (?:is|are|was|were|do|does|did|to)\b)", "if, when (where is for places)"),
+    (r"(?:exactly|only|just|also|but|except|unless|even|so|and) where", "if, when (where is for places)"),
+    (NO_PLACE + r"(?-i:where) (?:memory|there|a|an|no|one|each|it|they|the (?:store|run|log|replay))", "if, when"),
+    (r"(?:a|each|every|second|such a|one) touch|touches of", "access"),
+    (r"falls? at|stops? being listed", "evict"),
+    (r"stretch(?:es)?", "interval; epoch in the race log"),
+    (r"desks?", "turn port (of a hart), session (of the debugger)"),
+    (r"Course|Terms|OwnPlace|Manner|Renewed", "the type's present name"),
+    (r"(?:go|goes|went|going) on", "continue"),
+]
+
+# Text, and the faults that it has. The checks of this page are as good as these.
+SAMPLES = [
+    ("A short sentence. " * 40, []),
+    ("One word " + "and one more " * 12 + "end.", ["sentence of 39 words"]),
+    ("word " * 34 + "word. " + "word " * 34 + "word.", []),
+    ("word " * 35 + "word.", ["sentence of 36 words"]),
+    ("word " * 20 + "`some code that is one word` " + "word " * 14 + "word.", ["sentence of 36 words"]),
+    ("- " + "word " * 34 + "word\n- " + "word " * 34 + "word\n", []),
+    ("word " * 20 + "\n" + "word " * 20 + "\n", ["sentence of 40 words"]),
+    ("word " * 20 + "e.g. " + "word " * 20, ["sentence of 41 words"]),
+    ("```\n" + "word " * 40 + "\n\nMemory is wanting.\n\n```\n", []),
+    ("| a | b |\n|---|---|\n| " + "A cell. " * 30 + "| b |\n", []),
+    ("| a | b |\n|---|---|\n| " + "A cell. " * 31 + "| b |\n", ["cell of 62 words"]),
+    ("Memory is wanting.", ["'is wanting'"]),
+    ("Want of memory.", ["'Want of memory'"]),
+    ("A cost goes\nby steps.", ["'goes by'"]),
+    ("Where memory ends it stops, as it does where a write fails.", ["'Where'", "'where a'"]),
+    ("It names the line where it stopped.", []),
+    ("Where is the file?", []),
+    ("It says \"memory is wanting\", or `goes by`.", []),
+    ("Of course, it is done.", []),
+    ("The wrong bodies.", ["'wrong bodies'"]),
+    ("See [the page](docs/NOWHERE.md).", ["docs/NOWHERE.md is not there"]),
+    ("See `docs/NOWHERE.md`.", ["docs/NOWHERE.md is not there"]),
+    ("# A title, twice\n\nSee [above](#a-title-twice) and [below](#below).", ["#below is no heading"]),
+    ("See [tests](tests/prose.py) and [a site](https://example.org/x).", []),
+]
+
+CODE = "ξ"
+ABBREVIATION = re.compile(r"(?:\be\.g|\bi\.e|\betc|\bcf|\bvs|\.)\.$")
+
+
+def blanked(match, letter=" "):
+    return letter * len(match.group())
+
+
+def without_code(text):
+    """Puts one long word in place of each piece of inline code, so that every offset stays as it is."""
+    return re.sub(r"(`+)(?:(?!`).)+?\1(?!`)", lambda match: blanked(match, CODE), text, flags=re.S)
+
+
+def without_marks(text):
+    """Takes away comments, the targets of links, and other marks; every offset stays as it is."""
+    text = re.sub(r"!?\[|\]\([^)\s]*\)|\]", blanked, text)
+    text = re.sub(r"<br>", ".   ", text)
+    return re.sub(r"\*+|<[^>]*>", blanked, text)
+
+
+def prose_lines(text):
+    """Yields number and text of each line that is neither code nor comment; an empty one in place of a block."""
+    text = re.sub(r"<!--.*?-->", lambda match: re.sub(r"[^\n]", " ", match.group()), text, flags=re.S)
+    fence = None
+    for number, line in enumerate(text.splitlines(), 1):
+        mark = re.match(r"\s*(```+|~~~+)", line)
+        if fence:
+            fence = None if mark and mark.group(1).startswith(fence) else fence
+            yield number, ""
+        elif mark:
+            fence = mark.group(1)
+            yield number, ""
+        else:
+            yield number, re.sub(r"^\s*>\s?", "", line)
+
+
+def cells_of(line):
+    cells = re.split(r"(?<!\\)\|", line.strip().strip("|"))
+    return [] if all(re.fullmatch(r"\s*:?-+:?\s*", cell) for cell in cells) else cells
+
+
+def blocks(text):
+    """Yields the paragraphs, headings, items and cells of a page: the kind, and the lines with their numbers."""
+    kept = []
+    for number, line in prose_lines(text):
+        begins = re.match(r"\s*(?:[-*+]|\d+\.)\s+|#+\s", line)
+        table = line.lstrip().startswith("|")
+        if kept and (begins or table or not line.strip()):
+            yield "text", kept
+            kept = []
+        if table:
+            for cell in cells_of(line):
+                yield "cell", [(number, cell)]
+        elif line.lstrip().startswith("#"):
+            yield "text", [(number, line.lstrip("# "))]
+        elif line.strip():
+            kept.append((number, line[begins.end() :] if begins else line))
+    if kept:
+        yield "text", kept
+
+
+def words_in(text):
+    return sum(any(letter.isalnum() for letter in word) for word in text.split())
+
+
+def sentences(text):
+    """Yields offset and text of each sentence. A point that ends an abbreviation ends none."""
+    begin = 0
+    for end in re.finditer(r"[.!?][\"')\]*_ ]*(?=\s|$)", text):
+        mark = end.start() + 1
+        if not ABBREVIATION.search(text[begin:mark]):
+            yield begin, text[begin : end.end()]
+            begin = end.end()
+    yield begin, text[begin:]
+
+
+def line_of(lines, offset):
+    """Says in which line of a block an offset of its text is."""
+    for number, line in lines:
+        if offset <= len(line):
+            return number
+        offset -= len(line) + 1
+    return lines[-1][0]
+
+
+def length_faults(text):
+    for kind, lines in blocks(text):
+        whole = "\n".join(line for _, line in lines)
+        prose = without_marks(without_code(whole))
+        if kind == "cell" and words_in(prose) > LONGEST_CELL:
+            yield lines[0][0], f"cell of {words_in(prose)} words"
+        for offset, sentence in sentences(prose):
+            if words_in(sentence) > LONGEST_SENTENCE:
+                first = offset + len(sentence) - len(sentence.lstrip())
+                beginning = " ".join(whole[first : first + 50].split())
+                yield line_of(lines, first), f"sentence of {words_in(sentence)} words: {beginning} .."
+
+
+def patterns():
+    for words, instead in WORDS:
+        flags = 0 if words[0].isupper() else re.I
+        yield re.compile(rf"\b(?:{words.replace(' ', chr(92) + 's+')})\b", flags), instead
+
+
+PATTERNS = list(patterns())
+
+
+def word_faults(text):
+    for _, lines in blocks(text):
+        prose = without_marks(without_code("\n".join(line for _, line in lines)))
+        prose = re.sub(r"\"[^\"]*\"|“[^”]*”", lambda match: blanked(match, CODE), prose)
+        for pattern, instead in PATTERNS:
+            for match in pattern.finditer(prose):
+                found = " ".join(match.group().split())
+                yield line_of(lines, match.start()), f"'{found}': write {instead}"
+
+
+def anchors(text):
+    """The names of a page's headings, as GitHub makes them, and those that it gives itself."""
+    names = []
+    for _, line in prose_lines(text):
+        names += re.findall(r"<a (?:id|name)=\"([^\"]+)\"", line)
+        if re.match(r"#+\s", line):
+            title = re.sub(r"\]\([^)]*\)", "", line.lstrip("# ").strip().lower())
+            name = re.sub(r"[^\w\- ]", "", title).replace(" ", "-")
+            names.append(f"{name}-{names.count(name)}" if name in names else name)
+    return names
+
+
+def target_fault(page, text, target):
+    """Says what is wrong with the target of a link; None if it is there."""
+    path, _, anchor = target.partition("#")
+    full = os.path.normpath(os.path.join(TOP, os.path.dirname(page), path)) if path else None
+    if full and not os.path.exists(full):
+        return f"{path} is not there"
+    if anchor and (full is None or full.endswith(".md")):
+        if full:
+            with open(full, encoding="utf-8") as file:
+                text = file.read()
+        if anchor not in anchors(text):
+            return f"#{anchor} is no heading"
+    return None
+
+
+FILE = re.compile(
+    r"`((?:docs|tests|tools|bench|examples|crates|companion|packaging|man|completion)/[\w./-]*\.[a-z]+)`"
+)
+
+
+def link_faults(text, page):
+    for number, line in prose_lines(text):
+        for target in re.findall(r"\]\(([^)\s]+)\)", re.sub(r"`[^`]*`", "", line)):
+            fault = None if re.match(r"[a-z]+:", target) else target_fault(page, text, target)
+            if fault:
+                yield number, f"a link leads nowhere: {fault}"
+        for path in FILE.findall(line):
+            if not os.path.exists(f"{TOP}/{path}"):
+                yield number, f"a file is named that there isn't: {path} is not there"
+
+
+def size_faults(text, page):
+    if page not in PAGES:
+        yield 1, "is no page of the plan: write it into PAGES, or take it away"
+    elif PAGES[page] is not None and len(text.split()) > PAGES[page]:
+        yield 1, f"has {len(text.split())} words, and may have {PAGES[page]}"
+
+
+def page_checks(text, page):
+    """Yields the faults of each check of a page, as a list."""
+    if PAGES.get(page, 0) is not None:
+        yield list(length_faults(text))
+        yield list(word_faults(text))
+    yield list(link_faults(text, page))
+    yield list(size_faults(text, page))
+
+
+def sample_fault(text, wanted):
+    """Says how a sample's faults differ from what they should be; None if they don't."""
+    found = [*length_faults(text), *word_faults(text), *link_faults(text, "README.md")]
+    told = [fault for _, fault in found]
+    if len(told) == len(wanted) and all(any(part in fault for fault in told) for part in wanted):
+        return None
+    return f"has {told}, and should have {wanted}"
+
+
+def try_samples():
+    passed = failed = 0
+    for number, (text, wanted) in enumerate(SAMPLES, 1):
+        fault = sample_fault(text, wanted)
+        passed += fault is None
+        failed += fault is not None
+        if fault:
+            print(f"tests/prose.py: sample {number} {fault}")
+    long_page = [fault for _, fault in size_faults("word " * 901, "README.md")]
+    if long_page != ["has 901 words, and may have 900"] or list(size_faults("word " * 900, "README.md")):
+        print("tests/prose.py: a page of 901 words where 900 are the most is not told from one of 900")
+        return passed, failed + 1
+    return passed + 1, failed
+
+
+def all_pages():
+    there = [f"docs/{name}" for name in os.listdir(f"{TOP}/docs") if name.endswith(".md")]
+    return sorted({"README.md", *there, *PAGES})
+
+
+def check_page(page):
+    if not os.path.exists(f"{TOP}/{page}"):
+        print(f"{page}: is not there")
+        return 0, 1
+    with open(f"{TOP}/{page}", encoding="utf-8") as file:
+        text = file.read()
+    passed = failed = 0
+    for faults in page_checks(text, page):
+        passed += not faults
+        failed += len(faults)
+        for number, fault in faults:
+            print(f"{page}:{number}: {fault}")
+    return passed, failed
+
+
+def main():
+    pages = [os.path.relpath(os.path.realpath(page), TOP) for page in sys.argv[1:]] or all_pages()
+    passed, failed = try_samples()
+    for page in pages:
+        good, bad = check_page(page)
+        passed += good
+        failed += bad
+    print(f"{passed} passed, {failed} failed")
+    return 1 if failed else 0
+
+
+sys.exit(main())
