@@ -84,6 +84,53 @@ mv "$source.new" "$source"
 compares || fails "contents aren't compared"
 answers list LOG
 
+what="a crate that the program isn't made from"
+settle
+echo changed >>"$tree/crates/bench/src/lib.rt"
+! compares || fails "contents are compared"
+
+what="a folder more, and a file less"
+mkdir "$tree/crates/low/specs"
+compares || fails "contents aren't compared"
+rmdir "$tree/crates/low/specs"
+settle
+mv "$tree/crates/side/src/lib.rt" "$work/kept"
+compares || fails "contents aren't compared"
+has err "the sources have changed since release/ was made"
+mv "$work/kept" "$tree/crates/side/src/lib.rt"
+
+what="a file and a folder behind links"
+mkdir "$work/elsewhere"
+mv "$tree/crates/low/src" "$work/elsewhere/folder"
+ln -s "$work/elsewhere/folder" "$tree/crates/low/src"
+mv "$source" "$work/elsewhere/file"
+ln -s "$work/elsewhere/file" "$source"
+settle
+[ ! -s "$work/err" ] || fails "err isn't empty"
+! compares || fails "contents are compared"
+for name in folder/lib.rt file; do
+    cp -p "$work/elsewhere/$name" "$work/kept"
+    echo changed >"$work/elsewhere/$name"
+    touch -r "$work/kept" "$work/elsewhere/$name"
+    compares || fails "contents aren't compared"
+    has err "the sources have changed since release/ was made"
+    cp -p "$work/kept" "$work/elsewhere/$name"
+    settle
+done
+cp -rp "$work/elsewhere/folder" "$work/elsewhere/other"
+ln -sfn "$work/elsewhere/other" "$tree/crates/low/src"
+compares || fails "contents aren't compared"
+rm "$tree/crates/low/src" "$source"
+mv "$work/elsewhere/folder" "$tree/crates/low/src"
+mv "$work/elsewhere/file" "$source"
+
+what="half of a choice"
+settle
+kept=$tree/crates/bugnet_main/out/seen.any
+head -c 100 "$kept" >"$work/kept" && cat "$work/kept" >"$kept"
+compares || fails "contents aren't compared"
+answers list LOG
+
 what="a choice that was just made"
 rm "$tree/crates/bugnet_main/out/"seen.*
 touch "$source"

@@ -52,7 +52,9 @@ lib)
     echo "logic=proved functions=1"
     ;;
 run)
-    text=$(cat ../low/src/* ../mid/src/* ../bugnet/src/* src/*)
+    cpu=
+    [[ $4 != --cpu=* ]] || { cpu=" for ${4#--cpu=}" && set -- "${@:1:3}" "${@:5}"; }
+    text=$(cat ../low/src/* ../mid/src/* ../bugnet/src/* src/*)$cpu
     mkdir -p out
     if [ "$(cat out/built 2>/dev/null)" = "$text" ]; then
         echo "rt: nothing has changed since the last proved build"

@@ -11,7 +11,14 @@ for word in help --help -h; do
 done
 runs 2 "$zelkuma" install
 runs 2 "$zelkuma" install a b
-runs 2 "$zelkuma" build a
+for words in a --cpu "--cpu x86-64-v4" "--cpu=x86-64-v3" "--cpu x86-64-v3 a" "x86-64-v3 --cpu"; do
+    # shellcheck disable=SC2086
+    runs 2 "$zelkuma" build $words
+    [ "$(cat "$work/err")" = "zelkuma: build takes no word, or --cpu NAME, where NAME is one of: x86-64 x86-64-v2 x86-64-v3" ] ||
+        fails "err isn't one clear line"
+done
+runs 2 "$zelkuma" build --cpu ''
+runs 2 "$zelkuma" build --cpu 'x86-64 x86-64-v2'
 builds_nothing
 
 what="no toolchain, and nothing is built"
@@ -133,6 +140,22 @@ runs 5 "$work/a folder/bin/zelkuma" list LOG
 answers list LOG
 runs 0 "$zelkuma" build
 [ "$(cat "$work/out")" = "$tree/crates/bugnet_main/out/bugnet_main" ] || fails "it says another place"
+
+what="a program for newer processors"
+runs 0 "$zelkuma" build --cpu x86-64-v3
+[ "$(cat "$work/out")" = "$tree/crates/bugnet_main/out/bugnet_main" ] || fails "it says another place"
+has err "it was built for x86-64-v3, and isn't the shipped program"
+has calls "^run --jobs [0-9]* --cpu=x86-64-v3 -- check data/example.log"
+grep -q "for x86-64-v3" "$tree/crates/bugnet_main/out/bugnet_main" || fails "another program is there"
+runs 0 "$zelkuma" build --cpu x86-64-v3
+builds_nothing
+runs 1 "$tree/tools/release.sh"
+[ ! -e "$tree/release" ] || fails "it is shipped"
+runs 5 "$zelkuma" list LOG
+builds
+hasnt calls --cpu
+hasnt err x86-64-v3
+! grep -q "for x86-64-v3" "$tree/crates/bugnet_main/out/bugnet_main" || fails "another call runs it"
 
 # (no fixed times here, since the machine may be busy: what is waited for is that the toolchain begins)
 begins='until grep -q ^all "$RT_CALLS"; do sleep 0.05; done'

@@ -27,7 +27,7 @@ sources() (
     cd "$top/crates" || exit
     {
         crates
-        find $(crates | awk -F: '{ print $1 "/src", $1 "/specs", $1 "/proofs" }') -type f -print0 2>/dev/null |
+        find -L $(crates | awk -F: '{ print $1 "/src", $1 "/specs", $1 "/proofs" }') -type f -print0 2>/dev/null |
             LC_ALL=C sort -z | xargs -0 sha256sum
     } | sha256sum | cut -d ' ' -f 1
 )
@@ -78,41 +78,67 @@ is_shipped() { # SOURCES
     return 1
 }
 
-# A choice by contents takes a fifth of a second, so it is kept, with the names of all that it stands on and a digest of
+# A choice by contents takes a fifth of a second, so it is kept, with the names of all that it stands on and digests of
 # what `stat` tells of them: a glance. It is kept in the tree, whose out/ git ignores: it goes when the tree goes. In a
 # tree that can't be written to, each call compares contents.
-kept_names=$folder/out/seen.names
+#
+# `choice` is what is kept: the names in four parts (0 to 3), which four processes look at side by side, the glance (4),
+# the program (5), and the kit of one that was built (6). It is one file, so that a glance is always that of its names.
 
-# Lists the files and folders that a choice stands on: a new file changes the times of its folder.
+# Lists the files and folders that a choice stands on, one a line: a new file changes the times of its folder.
 list_names() (
-    shopt -s nullglob
     cd "$top" || exit
     for name in "$shipped" "$shipped_stamp" "$built" "$stamp"; do
-        [ ! -e "$name" ] || printf '%s\0' "${name#"$top/"}"
+        [ ! -e "$name" ] || echo "${name#"$top/"}"
     done
-    printf '%s\0' crates.txt crates crates/*
-    find -H crates/*/src crates/*/specs crates/*/proofs -print0
+    echo crates.txt
+    echo crates
+    for name in $(crates | cut -d : -f 1); do
+        [ ! -e "crates/$name" ] || echo "crates/$name"
+        find -L "crates/$name/src" "crates/$name/specs" "crates/$name/proofs" 2>/dev/null
+    done
 )
 
-# A digest of the names, sizes, times and numbers of these files. Whoever writes to a file can set the time of its
-# contents back, but not that of its status, and a copy has another number. It is called as $(glance).
-glance() {
-    set -o pipefail
-    cd "$top" && xargs -0 stat -L -c '%n %s %.Y %.Z %i' <"$kept_names" | sha256sum
+# Sets the names of `choice`.
+divide_names() {
+    local all part begin end
+    mapfile -t all < <(list_names)
+    for part in 0 1 2 3; do
+        begin=$((${#all[@]} * part / 4)) end=$((${#all[@]} * (part + 1) / 4))
+        choice[part]=$(printf '%s\n' "${all[@]:begin:end - begin}")
+    done
+}
+
+# Becomes `stat`, which tells the size, times and number of each file of a part. Whoever writes to a file can set the time
+# of its contents back, but not that of its status, and a copy has another number.
+look() { # PART
+    export LC_ALL=C
+    set -f
+    IFS=$'\n'
+    # shellcheck disable=SC2086
+    cd "$top" && exec stat -L -c '%s %.Y %.Z %i' ${choice[$1]}
 } 2>/dev/null
 
-# Whether none of these files has changed since a second, or in it: a file may change twice in one tick of the clock.
-are_settled() { # SECOND
-    (cd "$top" && xargs -0 stat -L -c %Z <"$kept_names") |
-        awk -v second="$1" '$1 >= second { recent = 1 } END { exit recent }'
-}
+# The digests of four looks. It is called as $(glance).
+glance() {
+    exec sha256sum /dev/fd/3 /dev/fd/4 /dev/fd/5 /dev/fd/6 3< <(look 0) 4< <(look 1) 5< <(look 2) 6< <(look 3)
+} 2>/dev/null
+
+# Whether each file could be looked at, and none has changed since a second, or in it: a file may change twice in one
+# tick of the clock. (A `stat` that knows no parts of a second won't do.)
+are_settled() ( # SECOND
+    set -o pipefail
+    for part in 0 1 2 3; do
+        (look "$part") || exit
+    done | awk -v second="$1" '$3 !~ /[.]/ || $3 >= second { recent = 1 } END { exit recent }'
+)
 
 # Takes the choice that was kept, if a glance shows the same files, and for a built program the same toolchain.
 take_choice() { # FILE
-    local seen chosen kit
-    { read -r seen && read -r chosen && read -r kit; } 2>/dev/null <"$1" && [ "$seen" = "$(glance)" ] || return
-    program=$top/$chosen
-    [ -z "$kit" ] || [ "$kit" = "$(kit || echo "$kit")" ]
+    mapfile -d '' -t choice 2>/dev/null <"$1"
+    [[ ${#choice[@]} -eq 7 && ${choice[4]} == "$(glance)" ]] || return
+    program=$top/${choice[5]}
+    [[ -z ${choice[6]} || ${choice[6]} == "$(kit || echo "${choice[6]}")" ]]
 }
 
 # Proves and builds, unless another call does so meanwhile: one builds at a time. The lock ends with the call, and with
@@ -147,16 +173,17 @@ compare_contents() { # KIND
 # Sets `program`, and `was_built` if it had to be built. KIND is `any`, or `built` for the one that is proved and built
 # from the sources here.
 choose_program() { # KIND
-    local kept=$folder/out/seen.$1 kit= reason= seen begun=$EPOCHSECONDS
+    local kept=$folder/out/seen.$1 choice=() kit= reason= begun=$EPOCHSECONDS
     # (some shells hand on longer names of the machine)
     [[ $OSTYPE == linux* && $HOSTTYPE == x86_64* ]] ||
         stop 1 "the program runs on Linux on x86-64, and this is $OSTYPE on $HOSTTYPE"
     ! take_choice "$kept" || return 0
     # the glance comes first: a change that comes later shows in the next one
-    { mkdir -p "$folder/out" && list_names >"$kept_names" && seen=$(glance); } 2>/dev/null || seen=
+    choice=()
+    { mkdir -p "$folder/out" && divide_names && choice[4]=$(glance); } 2>/dev/null || choice=()
     compare_contents "$1"
-    [[ -z $seen || -n $was_built ]] || ! are_settled $((begun - 1)) ||
-        printf '%s\n' "$seen" "${program#"$top/"}" "$kit" >"$kept"
+    [[ ${#choice[@]} -eq 0 || -n $was_built ]] || ! are_settled $((begun - 1)) ||
+        { printf '%s\0' "${choice[@]}" "${program#"$top/"}" "$kit" >"$kept"; } 2>/dev/null || :
 }
 
 # Says whether the program that was built is the shipped one.
