@@ -7,7 +7,7 @@ ghost use Rattle.bugnet.specs.Pairs.{ByPair, pair_of, IsPairOf, IsPair};
 ghost use Rattle.bugnet.specs.Reading.{by_reading};
 
 use crate::answer::{digest_of, load_program, read_log};
-use crate::loading::{ELF_LIMIT, LOG_LIMIT, fetch};
+use crate::inputs::{ELF_LIMIT, LOG_LIMIT, fetch};
 use crate::names::{Names, Role};
 use crate::refusal::Refusal;
 use bn_base::Image;
