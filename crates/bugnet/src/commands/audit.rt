@@ -2,34 +2,25 @@
 ghost use Rattle.std.specs.Prelude.{◌≡◌, ◌≢◌, ◌≤◌, ◌⊎◌, Option, IfOk};
 ghost use Rattle.bn_outside.specs.Counts.{Counts, NoneFell, Rose};
 ghost use Rattle.bn_outside.specs.Files.{Files};
-ghost use Rattle.bugnet.specs.Audits.{audited, verdict_told, IsAuditOf, IsAuditWith, IsAuditBy, IsAuditIn, IsAudit};
-ghost use Rattle.bugnet.specs.Outside.{Gives, GivesBy, IsOwn, IsPrinted, ResultCause, WithFiles, Sent};
+ghost use Rattle.bugnet.specs.Audits.{IsAudit};
+ghost use Rattle.bugnet.specs.Command.Audit.{roles_of, IsAudited, audit_by};
+ghost use Rattle.bugnet.specs.Evaluated.{Makes};
+ghost use Rattle.bugnet.specs.Inputs.{bytes_of};
+ghost use Rattle.bugnet.specs.Outside.{GivesBy, IsOwn, IsPrinted, ResultCause, WithFiles, Sent};
 ghost use Rattle.bugnet.specs.Run.{printing, Tells};
 ghost use Rattle.bugnet.specs.Texts.{agree_text};
 ghost use Rattle.bugnet.specs.Told.{printed};
 
 use crate::answer::Answer;
-use crate::inputs::{BOOK_LIMIT, ELF_LIMIT, INPUT_LIMIT, LOG_LIMIT, fetch};
+use crate::inputs::{Inputs, load_inputs};
 use crate::names::{Names, Role};
-use crate::pairs::{JointReading, pair_of};
+use crate::pairs::{JointReading, read_pair};
 use crate::refusal::Refusal;
 use crate::send::{refuse, send};
 use bn_outside::{Sink, Store};
 use run_model::{Start, TurnError, Verdict, audit, verdicts_are_unique};
 use rv_text::Text;
 use std::alloc::Global;
-
-// What is answered where a log has this verdict.
-fn answer_by(names: &Names, verdict: Verdict) -> Result<Answer, Refusal>
-    ensures gives { Gives names.now (λ what. what ≡ verdict_told names.now verdict) result }
-    ensures own { IsOwn result }
-    ensures prints { IfOk result IsPrinted }
-{
-    match verdict {
-        Verdict::Agree => Ok(Answer::Agreed),
-        Verdict::Differ { at_byte } => Err(Refusal::FileDiffers { at_byte }),
-    }
-}
 
 // What a recording of this program and input with the settings and the digest of the log begins with. The
 // log's records are given up.
@@ -50,113 +41,38 @@ fn start_of(reading: JointReading, input: Vec<u8>) -> Start
 }
 
 // The audit of a log that was read.
-fn audit_reading(
-    alloc: Global,
-    names: &Names,
-    reading: JointReading,
-    log: &[u8],
-    book: &[u8],
-    input: Vec<u8>,
-) -> Result<Answer, Refusal>
-    ensures gives { Gives names.now (λ what. what ≡ audited names.now log.now book.now input.items reading.log reading.image) result }
+fn compare(alloc: Global, start: &Start, book: &[u8], log: &[u8]) -> Result<(), Refusal>
+    ensures is { Makes (λ result. result ≡ audit_by start.now.settings start.now.image start.now.digest start.now.input.items book.now log.now) result }
     ensures own { IsOwn result }
-    ensures prints { IfOk result IsPrinted }
 {
     verdicts_are_unique();
-    let start = start_of(reading, input);
-    match audit(alloc, &start, book, log) {
-        Ok(verdict) => answer_by(names, verdict),
+    match audit(alloc, start, book, log) {
+        Ok(Verdict::Agree) => Ok(()),
+        Ok(Verdict::Differ { at_byte }) => Err(Refusal::FileDiffers { at_byte }),
         Err(TurnError::OutOfMemory) => Err(Refusal::OutOfMemory),
         Err(error) => Err(Refusal::BookRefused(error)),
     }
 }
 
-// The audit of a log file, by the bytes that were loaded.
-fn audit_of(
-    alloc: Global,
-    names: &Names,
-    log: &[u8],
-    elf: &[u8],
-    book: &[u8],
-    input: Vec<u8>,
-) -> Result<Answer, Refusal>
-    ensures gives { Gives names.now (IsAuditOf names.now log.now elf.now book.now input.items) result }
+/// Audits a log, by the bytes of the log, the program, the book and the input.
+pub fn evaluate(alloc: Global, inputs: Inputs) -> Result<(), Refusal>
+    ensures is { Makes (IsAudited (bytes_of inputs)) result }
     ensures own { IsOwn result }
-    ensures prints { IfOk result IsPrinted }
 {
-    match pair_of(alloc, names, elf, log) {
-        Ok(reading) => audit_reading(alloc, names, reading, log, book, input),
-        Err(refusal) => Err(refusal),
-    }
+    let reading = read_pair(alloc, &inputs.log, &inputs.elf)?;
+    let start = start_of(reading, inputs.input);
+    compare(alloc, &start, &inputs.book, &inputs.log)
 }
 
-// Loads the input, where there is one, and audits.
-fn audit_with<S: Store>(
-    alloc: Global,
-    names: &Names,
-    has_input: bool,
-    store: &mut S,
-    log: &[u8],
-    elf: &[u8],
-    book: &[u8],
-) -> Result<Answer, Refusal>
-    ensures told { WithFiles (S.files store.old) (λ files. GivesBy names.now (λ files. IsAuditWith files names.now has_input log.now elf.now book.now) files result) }
-    ensures same { S.files store.new ≡ S.files store.old }
-    ensures asks { S.saves store.new ≡ S.saves store.old }
-    ensures later { NoneFell (S.counts store.old) (S.counts store.new) }
-    ensures cause { ResultCause (S.counts store.old) (S.counts store.new) result }
-    ensures prints { IfOk result IsPrinted }
-{
-    if !has_input {
-        return audit_of(alloc, names, log, elf, book, Vec::new(alloc));
-    }
-    match fetch(alloc, names, store, Role::Input, INPUT_LIMIT) {
-        Ok(input) => audit_of(alloc, names, log, elf, book, input),
-        Err(refusal) => Err(refusal),
-    }
-}
+const READS: &[Role] = &[Role::Log, Role::Elf, Role::Book];
 
-// Loads the list of turns, and then the input.
-fn audit_by<S: Store>(
-    alloc: Global,
-    names: &Names,
-    has_input: bool,
-    store: &mut S,
-    log: &[u8],
-    elf: &[u8],
-) -> Result<Answer, Refusal>
-    ensures told { WithFiles (S.files store.old) (λ files. GivesBy names.now (λ files. IsAuditBy files names.now has_input log.now elf.now) files result) }
-    ensures same { S.files store.new ≡ S.files store.old }
-    ensures asks { S.saves store.new ≡ S.saves store.old }
-    ensures later { NoneFell (S.counts store.old) (S.counts store.new) }
-    ensures cause { ResultCause (S.counts store.old) (S.counts store.new) result }
-    ensures prints { IfOk result IsPrinted }
-{
-    match fetch(alloc, names, store, Role::Book, BOOK_LIMIT) {
-        Ok(book) => audit_with(alloc, names, has_input, store, log, elf, &book),
-        Err(refusal) => Err(refusal),
-    }
-}
+const READS_INPUT: &[Role] = &[Role::Log, Role::Elf, Role::Book, Role::Input];
 
-// Loads the program, the list of turns, and then the input.
-fn audit_in<S: Store>(
-    alloc: Global,
-    names: &Names,
-    has_input: bool,
-    store: &mut S,
-    log: &[u8],
-) -> Result<Answer, Refusal>
-    ensures told { WithFiles (S.files store.old) (λ files. GivesBy names.now (λ files. IsAuditIn files names.now has_input log.now) files result) }
-    ensures same { S.files store.new ≡ S.files store.old }
-    ensures asks { S.saves store.new ≡ S.saves store.old }
-    ensures later { NoneFell (S.counts store.old) (S.counts store.new) }
-    ensures cause { ResultCause (S.counts store.old) (S.counts store.new) result }
-    ensures prints { IfOk result IsPrinted }
+// What it loads, in this order.
+fn roles_of(has_input: bool) -> &'static [Role]
+    ensures { result.now ≡ roles_of has_input }
 {
-    match fetch(alloc, names, store, Role::Elf, ELF_LIMIT) {
-        Ok(elf) => audit_by(alloc, names, has_input, store, log, &elf),
-        Err(refusal) => Err(refusal),
-    }
+    if has_input { READS_INPUT } else { READS }
 }
 
 /// Loads a log, the program, a list of turns and the input, which is empty where the command has none,
@@ -175,9 +91,12 @@ pub fn audit_files<S: Store>(
     ensures cause { ResultCause (S.counts store.old) (S.counts store.new) result }
     ensures prints { IfOk result IsPrinted }
 {
-    match fetch(alloc, names, store, Role::Log, LOG_LIMIT) {
-        Ok(log) => audit_in(alloc, names, has_input, store, &log),
+    match load_inputs(alloc, names, roles_of(has_input), store) {
         Err(refusal) => Err(refusal),
+        Ok(inputs) => match evaluate(alloc, inputs) {
+            Ok(()) => Ok(Answer::Agreed),
+            Err(refusal) => Err(refusal),
+        },
     }
 }
 
