@@ -1,5 +1,5 @@
 use Rattle.hart_worker.proofs.Own.{taken_as}
-use Rattle.hart_worker.proofs.worker.LockedBusPort.turn.Goals as goal
+use Rattle.hart_worker.proofs.worker.LockedBusTurnPort.turn.Goals as goal
 
 pub returns-clause-taken : goal.returns-clause-taken
 returns-clause-taken g c =
