@@ -1,5 +1,4 @@
 mod Asks
-mod Audits
 mod Marks
 mod Counts
 mod Prints
@@ -29,3 +28,7 @@ mod Closing
 mod Faulting
 mod Crashes
 mod Salvaging
+mod Fetched
+mod Commanded
+mod SameAudit
+mod SamePair

@@ -12,7 +12,7 @@ use Rattle.bugnet.specs.Texts.{rows_text}
 use Rattle.bn_base.specs.declared.end_mark.EndMark.{EndMark}
 use Rattle.bugnet.specs.Printed.{outcome_of, ending_of, end_of_interval}
 use Rattle.bugnet.specs.Outside.{Sent, SendStops}
-use Rattle.bugnet.specs.declared.printing.ReplayEnd.TheVariants as ending
+use Rattle.bugnet.specs.declared.replay_lines.ReplayEnd.TheVariants as ending
 use Rattle.bugnet.specs.declared.refusal.Refusal.{Refusal}
 use Rattle.bugnet.proofs.Prints.{SoFar, so_far-none, so_far-more, so_far-gathered, so_far-done, so_far-stopped, so_far-ends, part-behind, stops-later}
 

@@ -20,8 +20,8 @@ use Rattle.bugnet.specs.Logs.{IsBegun}
 use Rattle.bugnet.specs.Outside.{SendStops, ToldRefusal, told_of_reading, SameFiles, KeptFiles}
 use Rattle.bugnet.specs.Run.{Call, AreKept, Tells}
 use Rattle.bugnet.specs.declared.answer.IntervalToReplay.{IntervalToReplay}
-use Rattle.bugnet.specs.declared.printing.ReplayEnd.{ReplayEnd}
-use Rattle.bugnet.specs.declared.printing.ReplayEnd.TheVariants as ending
+use Rattle.bugnet.specs.declared.replay_lines.ReplayEnd.{ReplayEnd}
+use Rattle.bugnet.specs.declared.replay_lines.ReplayEnd.TheVariants as ending
 use Rattle.bugnet.specs.declared.refusal.Refusal.{Refusal}
 use Rattle.bugnet.specs.declared.refusal.Refusal.TheVariants.{OutOfMemory, ReplayStopped}
 use Rattle.bugnet.proofs.Prints.{part-whole}

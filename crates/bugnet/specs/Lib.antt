@@ -32,3 +32,6 @@ pub mod Traced
 pub mod Complete
 pub mod Asks
 pub mod Agreements
+pub mod Inputs
+pub mod Evaluated
+pub mod Command

@@ -6,8 +6,8 @@ use Rattle.hart_replay.specs.declared.error.ReplayError.{ReplayError}
 use Rattle.hart_replay.specs.declared.error.ReplayError.TheVariants as replay
 use Rattle.rv_text.specs.Marks.{end_text}
 use Rattle.bugnet.specs.Texts.{begin_text, rows_text}
-use Rattle.bugnet.specs.declared.printing.ReplayEnd.{ReplayEnd}
-use Rattle.bugnet.specs.declared.printing.ReplayEnd.TheVariants as ending
+use Rattle.bugnet.specs.declared.replay_lines.ReplayEnd.{ReplayEnd}
+use Rattle.bugnet.specs.declared.replay_lines.ReplayEnd.TheVariants as ending
 use Rattle.bugnet.specs.declared.refusal.Refusal.{Refusal}
 use Rattle.bugnet.specs.declared.refusal.Refusal.TheVariants as why
 

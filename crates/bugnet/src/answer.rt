@@ -1,17 +1,15 @@
-// What a command answers, by the bytes that it has loaded.
-ghost use Rattle.std.specs.Prelude.{◌≡◌, ◌≢◌, IfOk};
+//! What a command answers that isn't refused, and the bytes of files read as a log or a program.
+ghost use Rattle.std.specs.Prelude.{◌≡◌};
 ghost use Rattle.sha2.specs.Sha256.{sha256};
-ghost use Rattle.bugnet.specs.Commands.{IsByLog, list_of, check_of, replay_loaded, replay_of};
 ghost use Rattle.bugnet.specs.Recordings.{end_status, end_word};
-ghost use Rattle.bugnet.specs.Outside.{Gives, IsOwn, LogTells, ProgramTells, IsPrinted};
+ghost use Rattle.bugnet.specs.Outside.{IsOwn, LogTells, ProgramTells};
 
-use crate::names::Names;
 use crate::pairs::JointReading;
 use crate::refusal::Refusal;
 use bn_base::{Image, Settings};
 use elf_loader::{ElfError, load};
 use joint_replay::JointError;
-use log_blocks::{count_file, read_file};
+use log_blocks::read_file;
 use log_file::LogCounts;
 use log_order::KeptLog;
 use rv_text::Text;
@@ -122,30 +120,6 @@ pub fn read_log(alloc: Global, bytes: &[u8]) -> Result<KeptLog, Refusal>
     }
 }
 
-/// The list of the intervals of a log.
-pub fn list_of(alloc: Global, names: &Names, log: &[u8]) -> Result<Answer, Refusal>
-    ensures gives { Gives names.now (IsByLog names.now log.now list_of) result }
-    ensures own { IsOwn result }
-    ensures prints { IfOk result IsPrinted }
-{
-    match read_log(alloc, log) {
-        Ok(log) => Ok(Answer::Listed(log)),
-        Err(refusal) => Err(refusal),
-    }
-}
-
-/// The counts of a log.
-pub fn check_of(alloc: Global, names: &Names, log: &[u8]) -> Result<Answer, Refusal>
-    ensures gives { Gives names.now (IsByLog names.now log.now check_of) result }
-    ensures own { IsOwn result }
-    ensures prints { IfOk result IsPrinted }
-{
-    match count_file(alloc, log) {
-        Ok(counts) => Ok(Answer::Checked(counts)),
-        Err(damage) => Err(Refusal::of_damage(damage)),
-    }
-}
-
 /// Loads a program with these settings.
 pub fn load_program(alloc: Global, elf: &[u8], settings: &Settings) -> Result<Image, Refusal>
     ensures loaded { ProgramTells elf.now settings.now result }
@@ -155,56 +129,5 @@ pub fn load_program(alloc: Global, elf: &[u8], settings: &Settings) -> Result<Im
         Ok(image) => Ok(image),
         Err(ElfError::OutOfMemory) => Err(Refusal::OutOfMemory),
         Err(error) => Err(Refusal::ElfRefused(error)),
-    }
-}
-
-// The replay of an interval of a log with a program file.
-fn replay_log(
-    alloc: Global,
-    names: &Names,
-    elf: &[u8],
-    log: KeptLog,
-    hart: u64,
-    interval: u64,
-) -> Result<Answer, Refusal>
-    ensures gives { Gives names.now (λ what. what ≡ replay_of names.now hart interval elf.now log) result }
-    ensures own { IsOwn result }
-    ensures prints { IfOk result IsPrinted }
-{
-    let found = digest_of(elf);
-    let head = *log.head();
-    if found != head.digest {
-        return Err(Refusal::ProgramDiffers {
-            kept: head.digest,
-            found,
-        });
-    }
-    match load_program(alloc, elf, &head.settings) {
-        Err(refusal) => Err(refusal),
-        Ok(image) => Ok(Answer::Interval(IntervalToReplay {
-            image,
-            log,
-            hart,
-            interval,
-        })),
-    }
-}
-
-/// The replay of an interval of a log file with a program file.
-pub fn replay_of(
-    alloc: Global,
-    names: &Names,
-    elf: &[u8],
-    log: &[u8],
-    hart: u64,
-    interval: u64,
-) -> Result<Answer, Refusal>
-    ensures gives { Gives names.now (IsByLog names.now log.now (replay_of names.now hart interval elf.now)) result }
-    ensures own { IsOwn result }
-    ensures prints { IfOk result IsPrinted }
-{
-    match read_log(alloc, log) {
-        Ok(log) => replay_log(alloc, names, elf, log, hart, interval),
-        Err(refusal) => Err(refusal),
     }
 }

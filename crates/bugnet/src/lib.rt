@@ -4,27 +4,21 @@
 //! sinks.
 #![tactic(auto)]
 
-mod acting;
 mod answer;
-mod auditing;
-mod debugging;
-mod demonstrating;
-mod joining;
+mod commands;
+mod inputs;
 mod laws;
 mod lines;
-mod loading;
 mod logs;
 mod manner;
 mod names;
+mod new_log;
 mod pairs;
-mod preparing;
-mod printing;
 mod program;
-mod racing;
-mod recording;
+mod recorder;
 mod refusal;
-mod renewing;
-mod slicing;
+mod replay_lines;
+mod send;
 mod texts;
 
 pub use answer::{Answer, IntervalToReplay, NewLog, RunEnd, RunToTell};
@@ -38,7 +32,7 @@ pub use laws::{
 pub use manner::Manner;
 pub use names::{Names, Role};
 pub use pairs::JointReading;
-pub use printing::ReplayEnd;
 pub use program::run;
 pub use refusal::Refusal;
+pub use replay_lines::ReplayEnd;
 pub use texts::RunCounts;

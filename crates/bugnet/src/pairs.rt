@@ -1,13 +1,15 @@
-// A log and the program that it was recorded of.
-ghost use Rattle.std.specs.Prelude.{◌≡◌, ◌≢◌, IfOk};
+//! A log and the program that it was recorded of.
+ghost use Rattle.std.specs.Prelude.{◌≡◌};
+ghost use Rattle.std.specs.Str.{bytes_eq};
+ghost use Rattle.sha2.specs.Sha256.{sha256};
 ghost use Rattle.bn_outside.specs.Counts.{NoneFell};
-ghost use Rattle.bugnet.specs.Commands.{IsByLog};
-ghost use Rattle.bugnet.specs.Outside.{GivesTo, GivesOf, IsOwn, ResultCause, WithFiles};
-ghost use Rattle.bugnet.specs.Pairs.{ByPair, pair_of, IsPairOf, IsPair};
+ghost use Rattle.bugnet.specs.Evaluated.{Makes, IsPairOfBytes, where_same};
+ghost use Rattle.bugnet.specs.Outside.{GivesOf, IsOwn, ResultCause, WithFiles};
+ghost use Rattle.bugnet.specs.Pairs.{ByPair, pair_roles, IsPair};
 ghost use Rattle.bugnet.specs.Reading.{by_reading};
 
 use crate::answer::{digest_of, load_program, read_log};
-use crate::loading::{ELF_LIMIT, LOG_LIMIT, fetch};
+use crate::inputs::load_inputs;
 use crate::names::{Names, Role};
 use crate::refusal::Refusal;
 use bn_base::Image;
@@ -23,8 +25,8 @@ pub struct JointReading {
 }
 
 // A log with a program file, which has to be the one that it was recorded of.
-fn pair_log(alloc: Global, names: &Names, elf: &[u8], log: KeptLog) -> Result<JointReading, Refusal>
-    ensures gives { (go : ByPair) → GivesTo (by_reading go) names.now (λ what. what ≡ pair_of go names.now elf.now log) result }
+fn pair_by(alloc: Global, elf: &[u8], log: KeptLog) -> Result<JointReading, Refusal>
+    ensures is { Makes (λ result. result ≡ where_same (bytes_eq (sha256 elf.now) log.head.digest) elf.now log) result }
     ensures own { IsOwn result }
 {
     let found = digest_of(elf);
@@ -41,43 +43,28 @@ fn pair_log(alloc: Global, names: &Names, elf: &[u8], log: KeptLog) -> Result<Jo
     }
 }
 
-/// A log file with a program file, by their bytes.
-pub fn pair_of(
-    alloc: Global,
-    names: &Names,
-    elf: &[u8],
-    log: &[u8],
-) -> Result<JointReading, Refusal>
-    ensures gives { (go : ByPair) → GivesTo (by_reading go) names.now (IsByLog names.now log.now (pair_of go names.now elf.now)) result }
+/// A log file with a program file, by their bytes: the log is read, the program's digest compared with the
+/// one in the log, and the program loaded with the log's settings.
+pub fn read_pair(alloc: Global, log: &[u8], elf: &[u8]) -> Result<JointReading, Refusal>
+    ensures is { Makes (IsPairOfBytes log.now elf.now) result }
     ensures own { IsOwn result }
 {
     match read_log(alloc, log) {
-        Ok(log) => pair_log(alloc, names, elf, log),
+        Ok(log) => pair_by(alloc, elf, log),
         Err(refusal) => Err(refusal),
     }
 }
 
-// Loads the program of a log.
-fn pair_with<S: Store>(
-    alloc: Global,
-    names: &Names,
-    store: &mut S,
-    log: &[u8],
-) -> Result<JointReading, Refusal>
-    ensures told { (go : ByPair) → WithFiles (S.files store.old) (λ files. GivesOf (by_reading go) names.now (λ files. IsPairOf go files names.now log.now) files result) }
-    ensures same { S.files store.new ≡ S.files store.old }
-    ensures asks { S.saves store.new ≡ S.saves store.old }
-    ensures later { NoneFell (S.counts store.old) (S.counts store.new) }
-    ensures cause { ResultCause (S.counts store.old) (S.counts store.new) result }
+const READS: &[Role] = &[Role::Log, Role::Elf];
+
+// What is loaded, in this order.
+fn pair_roles() -> &'static [Role]
+    ensures { result.now ≡ pair_roles }
 {
-    match fetch(alloc, names, store, Role::Elf, ELF_LIMIT) {
-        Ok(elf) => pair_of(alloc, names, &elf, log),
-        Err(refusal) => Err(refusal),
-    }
+    READS
 }
 
-/// Loads a log and a program, reads the log, compares the program's digest with the one in the log, and
-/// loads it with the log's settings.
+/// Loads a log and a program, LOG first, and reads them.
 pub fn load_pair<S: Store>(
     alloc: Global,
     names: &Names,
@@ -89,8 +76,8 @@ pub fn load_pair<S: Store>(
     ensures later { NoneFell (S.counts store.old) (S.counts store.new) }
     ensures cause { ResultCause (S.counts store.old) (S.counts store.new) result }
 {
-    match fetch(alloc, names, store, Role::Log, LOG_LIMIT) {
-        Ok(log) => pair_with(alloc, names, store, &log),
+    match load_inputs(alloc, names, pair_roles(), store) {
+        Ok(inputs) => read_pair(alloc, &inputs.log, &inputs.elf),
         Err(refusal) => Err(refusal),
     }
 }

@@ -3,7 +3,7 @@ ghost use Rattle.std.specs.Prelude.{◌≡◌, ◌≢◌, ◌≤◌, ◌⊎◌, 
 ghost use Rattle.bn_outside.specs.Counts.{Rose, NoneFell};
 ghost use Rattle.command_words.specs.Words.{command_in, seen, seen_recording};
 ghost use Rattle.bugnet.specs.Answers.{names_in, manner_of, refusal_in, IsAnswer};
-ghost use Rattle.bugnet.specs.Asks.{LineSaves, RecordsRun};
+ghost use Rattle.bugnet.specs.Asks.{LineSaves, RecordsRun, AnswerSaves};
 ghost use Rattle.bugnet.specs.Laws.{IsReadOnly, IsNoSession};
 ghost use Rattle.bugnet.specs.Sessions.{is_begun};
 ghost use Rattle.bugnet.specs.Debugging.{Debugs};
@@ -11,29 +11,32 @@ ghost use Rattle.bugnet.specs.Agreements.{AuditsRun};
 ghost use Rattle.bugnet.specs.Complete.{IsDone};
 ghost use Rattle.bugnet.specs.Headline.{PrintsRun};
 ghost use Rattle.bugnet.specs.Jointly.{PrintsJointly};
-ghost use Rattle.bugnet.specs.Outside.{GivesBy, CauseBy, WithFiles, IsPrinted};
+ghost use Rattle.bugnet.specs.Outside.{GivesBy, CauseBy, WithFiles, IsPrinted, told_of};
 ghost use Rattle.bugnet.specs.Saves.{LeavesRun, HasElf};
-ghost use Rattle.bugnet.specs.Run.{call, TellsAnswer, ByWords, Keeps, ChangesFew};
+ghost use Rattle.bugnet.specs.Run.{call, TellsAnswer, ByWords, Keeps, ChangesFew, Tells};
 
-use crate::acting::act;
 use crate::answer::Answer;
-use crate::auditing::audit_files;
-use crate::debugging::debug_files;
-use crate::demonstrating::demonstrate;
-use crate::joining::join_files;
+use crate::commands::audit::{audit_files, print_agreement};
+use crate::commands::check::{check_files, print_check};
+use crate::commands::convert::convert_files;
+use crate::commands::debug::debug_files;
+use crate::commands::demo::demonstrate;
+use crate::commands::joint::{join_files, print_joint, stop};
+use crate::commands::list::{list_files, print_list};
+use crate::commands::races::race_files;
+use crate::commands::record::{keep, record_files};
+use crate::commands::replay::{print_interval, replay_files};
+use crate::commands::salvage::salvage_files;
+use crate::commands::slice::slice_files;
 use crate::laws::{
     audits_agree, each_can_be_done, files_keep_to_their_size, headline, joint_headline, one_answer,
     seeds_are_whole, sessions_show_the_run,
 };
-use crate::loading::{check_files, list_files, replay_files};
 use crate::manner::Manner;
 use crate::names::Names;
-use crate::preparing::record_files;
-use crate::printing::refuse;
-use crate::racing::race_files;
+use crate::new_log::keep_new;
 use crate::refusal::Refusal;
-use crate::renewing::{convert_files, salvage_files};
-use crate::slicing::slice_files;
+use crate::send::{print_text, refuse};
 use bn_outside::{Gate, Sink, Source, Store};
 use command_words::{Command, RecordOptions, WordsError, read_words};
 use file_laws::logs_are_contents;
@@ -140,6 +143,41 @@ fn answer_to<S: Store, G: Gate, R: Threads + Wait + Sync>(
         Command::Convert { .. } => convert_files(alloc, names, store),
         Command::Salvage { .. } => salvage_files(alloc, names, store),
         Command::Demo { seed } => demonstrate(alloc, names, *seed),
+    }
+}
+
+/// Does what an answer says, and gives the status that the process ends with.
+pub fn act<S: Store, O: Sink, X: Sink>(
+    alloc: Global,
+    names: &Names,
+    answer: &Answer,
+    store: &mut S,
+    out: &mut O,
+    err: &mut X,
+) -> u8
+    ensures told { Tells names.now (told_of names.now answer.now) result (call S.files S.counts O.written O.faults X.written X.faults store.old out.old err.old store.new out.new err.new) }
+    ensures still { IsPrinted answer.now → S.files store.new ≡ S.files store.old }
+    ensures saves { AnswerSaves answer.now result (S.saves store.old) (S.saves store.new) }
+    ensures later { NoneFell (S.counts store.old) (S.counts store.new) }
+    ensures out_later { O.faults out.old ≤ O.faults out.new }
+    ensures err_later { X.faults err.old ≤ X.faults err.new }
+    ensures words { result ≢ 2 }
+    ensures read { result ≢ 12 }
+    ensures failed { result ≡ 3 → Rose (S.counts store.old).faults (S.counts store.new).faults }
+    ensures missing { result ≢ 4 }
+    ensures long { result ≢ 5 }
+    ensures write { result ≡ 13 → Rose (O.faults out.old) (O.faults out.new) ⊎ Rose (X.faults err.old) (X.faults err.new) }
+{
+    match answer {
+        Answer::Interval(reading) => print_interval(alloc, names, reading, out, err),
+        Answer::Joined(reading) => print_joint(alloc, names, reading, out, err),
+        Answer::Listed(log) => print_list(alloc, names, log, out, err),
+        Answer::Checked(log) => print_check(alloc, names, log, out, err),
+        Answer::Agreed => print_agreement(alloc, names, out, err),
+        Answer::Renewed(new) => keep_new(alloc, names, new, store, out, err),
+        Answer::Shown(text) => print_text(alloc, names, text, out, err),
+        Answer::Halted(error) => stop(alloc, names, error, err),
+        Answer::Recorded(recording) => keep(alloc, names, recording, store, out, err),
     }
 }
 

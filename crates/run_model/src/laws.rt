@@ -50,7 +50,6 @@ pub fn records_decide_nothing()
 {}
 
 /// A log file of version 2 has the number 2 in its bytes 8 to 11, and one of version 1 hasn't.
-#[tactic(auto, using(crate::proofs::LogVersions::numbered))]
 pub fn files_number_their_version()
     ensures { FilesNumberTheirVersion }
 {}

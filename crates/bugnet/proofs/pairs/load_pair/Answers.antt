@@ -1,21 +1,33 @@
-use Rattle.std.proofs.Common.{Option, subst}
-use Rattle.bn_outside.specs.Files.{Files}
-use Rattle.bugnet.specs.Outside.{WithFiles, GivesOf}
-use Rattle.bugnet.specs.Pairs.{IsPairOf}
+use Rattle.std.proofs.Common.{List, subst}
+use Rattle.std.specs.Prelude.{Ok, Err}
+use Rattle.bugnet.specs.Evaluated.{IsCommand}
+use Rattle.bugnet.specs.Inputs.{IsLoaded}
+use Rattle.bugnet.specs.Outside.{WithFiles}
+use Rattle.bugnet.specs.Pairs.{pair_roles, IsPair}
 use Rattle.bugnet.specs.Reading.{by_reading}
-use Rattle.bugnet.specs.declared.names.Role.TheVariants.{Log}
-use Rattle.bugnet.specs.declared.pairs.JointReading.{JointReading}
-use Rattle.bugnet.proofs.Loads.{made-stopped, made-loaded}
+use Rattle.bugnet.specs.declared.names.Role.{Role}
+use Rattle.bugnet.proofs.Commanded.{load-refused, loaded-made, with-also}
+use Rattle.bugnet.proofs.SamePair.{IsReadPair, says-pair}
 use Rattle.bugnet.proofs.pairs.load_pair.Goals as goal
+
+pub returns-in-Err-clause-told : goal.returns-in-Err-clause-told
+returns-in-Err-clause-told g c = λ go.
+    let known = g.S.Store.files c.args.store.now in
+    let names = c.args.names.now in
+    with-also (by_reading go) names (λ f what. IsCommand pair_roles IsReadPair (by_reading go) f names what) (λ f what. IsPair go f names what) (says-pair go names) known (Err c.in-Err.refusal)
+    (load-refused pair_roles IsReadPair (by_reading go) known names c.in-Err.refusal
+    (subst (λ (rs : List Role). WithFiles known (λ files. IsLoaded names rs files (Err c.in-Err.refusal))) c.pair_roles.ensures c.in-Err.ensures.loads))
 
 pub returns-in-Ok-clause-told : goal.returns-in-Ok-clause-told
 returns-in-Ok-clause-told g c = λ go.
     let known = g.S.Store.files c.args.store.now in
     let names = c.args.names.now in
-    made-loaded JointReading (by_reading go) known names Log 272629760 c.in-Ok.log c.pair_with.result (λ files log what. IsPairOf go files names log what) c.in-Ok.ensures.told
-    (subst (λ (k : Option Files). WithFiles k (λ files. GivesOf (by_reading go) names (λ f. IsPairOf go f names c.in-Ok.log.items) files c.pair_with.result)) c.in-Ok.ensures.same
-    (rw c.deref.ensures.value at (c.pair_with.ensures.told go)))
+    with-also (by_reading go) names (λ f what. IsCommand pair_roles IsReadPair (by_reading go) f names what) (λ f what. IsPair go f names what) (says-pair go names) known c.read_pair.result
+    (loaded-made pair_roles IsReadPair (by_reading go) known names c.in-Ok.inputs c.read_pair.result
+    (subst (λ (rs : List Role). WithFiles known (λ files. IsLoaded names rs files (Ok c.in-Ok.inputs))) c.pair_roles.ensures c.in-Ok.ensures.loads) c.read_pair.ensures.is)
 
-pub returns-in-Err-clause-told : goal.returns-in-Err-clause-told
-returns-in-Err-clause-told g c = λ go.
-    made-stopped JointReading (by_reading go) (g.S.Store.files c.args.store.now) c.args.names.now Log 272629760 c.in-Err.refusal (λ files log what. IsPairOf go files c.args.names.now log what) c.in-Err.ensures.told
+pub returns-in-Err-clause-cause : goal.returns-in-Err-clause-cause
+returns-in-Err-clause-cause g c = c.in-Err.ensures.only.cause
+
+pub returns-in-Ok-clause-cause : goal.returns-in-Ok-clause-cause
+returns-in-Ok-clause-cause g c = c.read_pair.ensures.own _ _

@@ -1,0 +1,45 @@
+use Rattle.std.proofs.Common.{List, subst}
+use Rattle.std.specs.Prelude.{Result, Ok, Err}
+use Rattle.bn_outside.specs.Files.{Files}
+use Rattle.bugnet.specs.Audits.{IsAudit}
+use Rattle.bugnet.specs.Command.Audit.{roles_of, IsAudited, shown, IsAuditCommand}
+use Rattle.bugnet.specs.Inputs.{IsLoaded}
+use Rattle.bugnet.specs.Outside.{WithFiles}
+use Rattle.bugnet.specs.Told.{Told}
+use Rattle.bugnet.specs.declared.names.Role.{Role}
+use Rattle.bugnet.proofs.Commanded.{load-refused, loaded-made, with-also}
+use Rattle.bugnet.proofs.SameAudit.{says-audit}
+use Rattle.bugnet.proofs.commands.audit.audit_files.Goals as goal
+
+pub returns-in-Err-clause-told : goal.returns-in-Err-clause-told
+returns-in-Err-clause-told g c =
+    let known = g.S.Store.files c.args.store.now in
+    let names = c.args.names.now in
+    let has = c.args.has_input in
+    with-also shown names (λ f what. IsAuditCommand has f names what) (λ f what. IsAudit f names has what) (λ f what h. says-audit has f names what h) known (Err c.in-Err.refusal)
+    (load-refused (roles_of has) IsAudited shown known names c.in-Err.refusal
+    (subst (λ (rs : List Role). WithFiles known (λ files. IsLoaded names rs files (Err c.in-Err.refusal))) c.roles_of.ensures c.in-Err.ensures.loads))
+
+pub returns-in-Ok-evaluate-clause-told : goal.returns-in-Ok-evaluate-clause-told
+returns-in-Ok-evaluate-clause-told g c =
+    let known = g.S.Store.files c.args.store.now in
+    let names = c.args.names.now in
+    let has = c.args.has_input in
+    with-also shown names (λ f what. IsAuditCommand has f names what) (λ f what. IsAudit f names has what) (λ f what h. says-audit has f names what h) known (Ok c.in-Ok-evaluate.field-0)
+    (loaded-made (roles_of has) IsAudited shown known names c.in-Ok.inputs (Ok c.in-Ok-evaluate.field-0)
+    (subst (λ (rs : List Role). WithFiles known (λ files. IsLoaded names rs files (Ok c.in-Ok.inputs))) c.roles_of.ensures c.in-Ok.ensures.loads) c.in-Ok-evaluate.ensures.is)
+
+pub returns-in-Err-evaluate-clause-told : goal.returns-in-Err-evaluate-clause-told
+returns-in-Err-evaluate-clause-told g c =
+    let known = g.S.Store.files c.args.store.now in
+    let names = c.args.names.now in
+    let has = c.args.has_input in
+    with-also shown names (λ f what. IsAuditCommand has f names what) (λ f what. IsAudit f names has what) (λ f what h. says-audit has f names what h) known (Err c.in-Err-evaluate.refusal)
+    (loaded-made (roles_of has) IsAudited shown known names c.in-Ok.inputs (Err c.in-Err-evaluate.refusal)
+    (subst (λ (rs : List Role). WithFiles known (λ files. IsLoaded names rs files (Ok c.in-Ok.inputs))) c.roles_of.ensures c.in-Ok.ensures.loads) c.in-Err-evaluate.ensures.is)
+
+pub returns-in-Err-clause-cause : goal.returns-in-Err-clause-cause
+returns-in-Err-clause-cause g c = c.in-Err.ensures.only.cause
+
+pub returns-in-Err-evaluate-clause-cause : goal.returns-in-Err-evaluate-clause-cause
+returns-in-Err-evaluate-clause-cause g c = c.in-Err-evaluate.ensures.own _ _

@@ -1,0 +1,60 @@
+use Rattle.std.proofs.Common.{refl, inl}
+use Rattle.bugnet.specs.Run.{call}
+use Rattle.bugnet.specs.Sessions.{debug_with}
+use Rattle.bugnet.proofs.Prints.{appends-nothing}
+use Rattle.bugnet.proofs.Tells.{tells-from}
+use Rattle.bugnet.proofs.Debugs.{no_commands, none-read, named-refused, named-made, refused-status, begun-not}
+use Rattle.bugnet.proofs.commands.debug.debug_files.Goals as goal
+
+pub returns-in-Err-clause-told : goal.returns-in-Err-clause-told
+returns-in-Err-clause-told g c =
+    let k = call (g.S.Store.files) (g.S.Store.counts) (g.O.Sink.written) (g.O.Sink.faults) (g.X.Sink.written) (g.X.Sink.faults) c.args.store.now c.args.out.now c.args.err.now c.load_pair.new.store c.args.out.now c.refuse.new.err in
+    let s = refused-status c.args.names.now c.in-Err.refusal c.refuse.result _ _ _ _ _ _ c.in-Err.ensures.cause c.refuse.ensures.told in (
+      no_commands,
+      none-read c.refuse.result (g.I.Source.left c.args.input.now) (g.I.Source.faults c.args.input.now) s.read s.zero,
+      named-refused c.args.names.now c.in-Err.refusal c.refuse.result k (appends-nothing (g.O.Sink.written c.args.out.now)) c.in-Err.ensures.same (c.in-Err.ensures.told (debug_with c.args.names.now no_commands)) c.refuse.ensures.told,
+    )
+
+pub returns-in-Err-clause-words : goal.returns-in-Err-clause-words
+returns-in-Err-clause-words g c = (refused-status c.args.names.now c.in-Err.refusal c.refuse.result _ _ _ _ _ _ c.in-Err.ensures.cause c.refuse.ensures.told).words
+
+pub returns-in-Err-clause-failed : goal.returns-in-Err-clause-failed
+returns-in-Err-clause-failed g c = (refused-status c.args.names.now c.in-Err.refusal c.refuse.result _ _ _ _ _ _ c.in-Err.ensures.cause c.refuse.ensures.told).causes.three
+
+pub returns-in-Err-clause-missing : goal.returns-in-Err-clause-missing
+returns-in-Err-clause-missing g c = (refused-status c.args.names.now c.in-Err.refusal c.refuse.result _ _ _ _ _ _ c.in-Err.ensures.cause c.refuse.ensures.told).causes.four
+
+pub returns-in-Err-clause-long : goal.returns-in-Err-clause-long
+returns-in-Err-clause-long g c = (refused-status c.args.names.now c.in-Err.refusal c.refuse.result _ _ _ _ _ _ c.in-Err.ensures.cause c.refuse.ensures.told).causes.five
+
+pub returns-in-Err-clause-write : goal.returns-in-Err-clause-write
+returns-in-Err-clause-write g c = λ e. absurd ((refused-status c.args.names.now c.in-Err.refusal c.refuse.result _ _ _ _ _ _ c.in-Err.ensures.cause c.refuse.ensures.told).causes.write e)
+
+pub returns-in-Ok-clause-told : goal.returns-in-Ok-clause-told
+returns-in-Ok-clause-told g c =
+    let k = call (g.S.Store.files) (g.S.Store.counts) (g.O.Sink.written) (g.O.Sink.faults) (g.X.Sink.written) (g.X.Sink.faults) c.load_pair.new.store c.args.out.now c.args.err.now c.load_pair.new.store c.debug_pair.new.out c.debug_pair.new.err in
+    let d = c.debug_pair.ensures.told in
+    let names = c.args.names.now in
+    let reading = c.in-Ok.reading in
+    let whole = call (g.S.Store.files) (g.S.Store.counts) (g.O.Sink.written) (g.O.Sink.faults) (g.X.Sink.written) (g.X.Sink.faults) c.args.store.now c.args.out.now c.args.err.now c.load_pair.new.store c.debug_pair.new.out c.debug_pair.new.err in (
+      d.0,
+      d.1,
+      named-made names d.0 reading (g.S.Store.files c.args.store.now) c.debug_pair.result whole refl (c.in-Ok.ensures.told (debug_with names d.0))
+          (tells-from names (debug_with names d.0 reading.log reading.image) c.debug_pair.result (g.S.Store.files c.args.store.now) (g.S.Store.counts c.args.store.now) k c.in-Ok.ensures.same c.in-Ok.ensures.later
+          (d.2 (g.S.Store.files c.load_pair.new.store) (g.S.Store.counts c.load_pair.new.store))),
+    )
+
+pub returns-in-Ok-clause-first : goal.returns-in-Ok-clause-first
+returns-in-Ok-clause-first g c = inl c.debug_pair.ensures.begun
+
+pub returns-in-Ok-clause-words : goal.returns-in-Ok-clause-words
+returns-in-Ok-clause-words g c = begun-not c.debug_pair.result 2 c.debug_pair.ensures.begun refl
+
+pub returns-in-Ok-clause-failed : goal.returns-in-Ok-clause-failed
+returns-in-Ok-clause-failed g c = λ e. absurd (begun-not c.debug_pair.result 3 c.debug_pair.ensures.begun refl e)
+
+pub returns-in-Ok-clause-missing : goal.returns-in-Ok-clause-missing
+returns-in-Ok-clause-missing g c = λ e. absurd (begun-not c.debug_pair.result 4 c.debug_pair.ensures.begun refl e)
+
+pub returns-in-Ok-clause-long : goal.returns-in-Ok-clause-long
+returns-in-Ok-clause-long g c = λ e. absurd (begun-not c.debug_pair.result 5 c.debug_pair.ensures.begun refl e)

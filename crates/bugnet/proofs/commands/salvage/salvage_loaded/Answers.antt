@@ -1,0 +1,18 @@
+use Rattle.bugnet.specs.Renewing.{IsBySalvage}
+use Rattle.bugnet.specs.declared.names.Role.TheVariants.{Origin}
+use Rattle.bugnet.proofs.Loads.{gives-stopped, gives-loaded, gives-any}
+use Rattle.bugnet.proofs.commands.salvage.salvage_loaded.Goals as goal
+
+pub returns-in-Ok-clause-told : goal.returns-in-Ok-clause-told
+returns-in-Ok-clause-told g c =
+    let known = g.S.Store.files c.args.store.now in
+    let names = c.args.names.now in
+    gives-loaded known names Origin 272629760 c.in-Ok.log c.salvage_of.result (λ files log what. IsBySalvage names log what) c.in-Ok.ensures.told
+    (gives-any known names (λ what. IsBySalvage names c.in-Ok.log.items what) c.salvage_of.result (rw c.deref.ensures.value at c.salvage_of.ensures.gives))
+
+pub returns-in-Ok-clause-cause : goal.returns-in-Ok-clause-cause
+returns-in-Ok-clause-cause g c = c.salvage_of.ensures.own _ _
+
+pub returns-in-Err-clause-told : goal.returns-in-Err-clause-told
+returns-in-Err-clause-told g c =
+    gives-stopped (g.S.Store.files c.args.store.now) c.args.names.now Origin 272629760 c.in-Err.refusal (λ files log what. IsBySalvage c.args.names.now log what) c.in-Err.ensures.told

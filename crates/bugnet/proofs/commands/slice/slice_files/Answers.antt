@@ -1,0 +1,14 @@
+use Rattle.bugnet.specs.Slicing.{slice_with}
+use Rattle.bugnet.proofs.Races.{pair-gives}
+use Rattle.bugnet.proofs.commands.slice.slice_files.Goals as goal
+
+pub returns-in-Ok-clause-told : goal.returns-in-Ok-clause-told
+returns-in-Ok-clause-told g c =
+    let go = slice_with c.args.names.now c.args.hart c.args.interval c.args.ic in
+    pair-gives go (g.S.Store.files c.args.store.now) c.args.names.now c.in-Ok.reading.log c.in-Ok.reading.image c.slice_of.result (c.in-Ok.ensures.told go) c.slice_of.ensures.gives
+
+pub returns-in-Ok-clause-cause : goal.returns-in-Ok-clause-cause
+returns-in-Ok-clause-cause g c = c.slice_of.ensures.own _ _
+
+pub returns-in-Err-clause-told : goal.returns-in-Err-clause-told
+returns-in-Err-clause-told g c = c.in-Err.ensures.told (slice_with c.args.names.now c.args.hart c.args.interval c.args.ic)

@@ -1,0 +1,251 @@
+//! The command `record`: settings and names are tested, the program and its input loaded, the run recorded, and
+//! its log and the list of its turns saved and told.
+ghost use Rattle.std.specs.Prelude.{◌≡◌, false, [], IfOk, ◌≢◌, ◌≤◌, ◌⊎◌, OnOk};
+ghost use Rattle.sha2.specs.Sha256.{sha256};
+ghost use Rattle.bn_outside.specs.Counts.{NoneFell, Rose};
+ghost use Rattle.elf_loader.specs.Loaded.{image_of};
+ghost use Rattle.le_numbers.specs.Numbers.{AreBytes};
+ghost use Rattle.bn_base.specs.Ranges.{first_bad};
+ghost use Rattle.bugnet.specs.Answers.{name_refusal, setting_refusal};
+ghost use Rattle.bugnet.specs.Asks.{IsRecordedRun, saves_after, AtMostSaves, SavesEach, is_lean};
+ghost use Rattle.bugnet.specs.Commands.{is_clash, IsByInput, IsByProgram, IsByNames, IsRecord};
+ghost use Rattle.bugnet.specs.Recordings.{IsRun};
+ghost use Rattle.bugnet.specs.Saves.{HoldsBytes};
+ghost use Rattle.bugnet.specs.Outside.{Gives, GivesBy, IsOwn, CauseBy, ResultCause, WithFiles, told_of_recording, saved_of, SaveTells};
+ghost use Rattle.bugnet.specs.Run.{call, Tells};
+
+use crate::answer::{Answer, RunToTell, digest_of, load_program};
+use crate::inputs::{ELF_LIMIT, INPUT_LIMIT, fetch};
+use crate::manner::Manner;
+use crate::names::{Names, Role};
+use crate::recorder::record_run;
+use crate::refusal::Refusal;
+use crate::send::{refuse, send_bytes};
+use bn_base::{RawSettings, Settings};
+use bn_outside::{Gate, SaveError, Sink, Store};
+use run_model::Start;
+use std::alloc::Global;
+use std::sync::Wait;
+use std::thread::Threads;
+
+// The recording from a start.
+fn record_start<G: Gate, R: Threads + Wait + Sync>(
+    rt: &R,
+    alloc: Global,
+    names: &Names,
+    start: &Start,
+    how: &Manner,
+    gate: &G,
+) -> Result<Answer, Refusal>
+    ensures gives { Gives names.now (IsRun start.now.settings start.now.image start.now.digest how.now start.now.input.items) result }
+    ensures own { IsOwn result }
+    ensures recorded { IfOk result (IsRecordedRun how.now.lean) }
+{
+    let recording = record_run(rt, alloc, start, how, gate)?;
+    Ok(Answer::Recorded(recording))
+}
+
+// Loads the input, where there is one, and records from a start whose own input is empty.
+fn record_input<S: Store, G: Gate, R: Threads + Wait + Sync>(
+    rt: &R,
+    alloc: Global,
+    names: &Names,
+    mut start: Start,
+    how: &Manner,
+    has_input: bool,
+    store: &mut S,
+    gate: &G,
+) -> Result<Answer, Refusal>
+    requires { start.input.items ≡ [] }
+    ensures told { WithFiles (S.files store.old) (λ files. GivesBy names.now (λ files. IsByInput has_input files names.now (IsRun start.settings start.image start.digest how.now)) files result) }
+    ensures same { S.files store.new ≡ S.files store.old }
+    ensures asks { S.saves store.new ≡ S.saves store.old }
+    ensures recorded { IfOk result (IsRecordedRun how.now.lean) }
+    ensures later { NoneFell (S.counts store.old) (S.counts store.new) }
+    ensures cause { ResultCause (S.counts store.old) (S.counts store.new) result }
+{
+    if !has_input {
+        return record_start(rt, alloc, names, &start, how, gate);
+    }
+    match fetch(alloc, names, store, Role::Input, INPUT_LIMIT) {
+        Err(refusal) => Err(refusal),
+        Ok(input) => {
+            start.input = input;
+            record_start(rt, alloc, names, &start, how, gate)
+        }
+    }
+}
+
+// Loads a program from its bytes, and records it.
+fn record_program<S: Store, G: Gate, R: Threads + Wait + Sync>(
+    rt: &R,
+    alloc: Global,
+    names: &Names,
+    elf: &[u8],
+    settings: &Settings,
+    how: &Manner,
+    has_input: bool,
+    store: &mut S,
+    gate: &G,
+) -> Result<Answer, Refusal>
+    ensures bytes { AreBytes elf.now }
+    ensures told { WithFiles (S.files store.old) (λ files. GivesBy names.now (λ files. IsByProgram (image_of elf.now settings.now) files names.now settings.now how.now has_input (sha256 elf.now)) files result) }
+    ensures same { S.files store.new ≡ S.files store.old }
+    ensures asks { S.saves store.new ≡ S.saves store.old }
+    ensures recorded { IfOk result (IsRecordedRun how.now.lean) }
+    ensures later { NoneFell (S.counts store.old) (S.counts store.new) }
+    ensures cause { ResultCause (S.counts store.old) (S.counts store.new) result }
+{
+    match load_program(alloc, elf, settings) {
+        Err(refusal) => Err(refusal),
+        Ok(image) => {
+            let start = Start {
+                image,
+                settings: *settings,
+                input: Vec::new(alloc),
+                digest: digest_of(elf),
+            };
+            record_input(rt, alloc, names, start, how, has_input, store, gate)
+        }
+    }
+}
+
+// Loads a program file, and records it.
+fn record_elf<S: Store, G: Gate, R: Threads + Wait + Sync>(
+    rt: &R,
+    alloc: Global,
+    names: &Names,
+    settings: &Settings,
+    how: &Manner,
+    has_input: bool,
+    store: &mut S,
+    gate: &G,
+) -> Result<Answer, Refusal>
+    ensures bytes { IfOk result (λ _. WithFiles (S.files store.old) (λ files. HoldsBytes (files names.now.elf))) }
+    ensures told { WithFiles (S.files store.old) (λ files. GivesBy names.now (λ files. IsByNames false files names.now settings.now how.now has_input) files result) }
+    ensures same { S.files store.new ≡ S.files store.old }
+    ensures asks { S.saves store.new ≡ S.saves store.old }
+    ensures recorded { IfOk result (IsRecordedRun how.now.lean) }
+    ensures later { NoneFell (S.counts store.old) (S.counts store.new) }
+    ensures cause { ResultCause (S.counts store.old) (S.counts store.new) result }
+{
+    match fetch(alloc, names, store, Role::Elf, ELF_LIMIT) {
+        Err(refusal) => Err(refusal),
+        Ok(elf) => record_program(
+            rt, alloc, names, &elf, settings, how, has_input, store, gate,
+        ),
+    }
+}
+
+// Whether LOG and BOOK are one name, where both are saved.
+fn clashes(lean: bool, log: &str, book: &str) -> bool
+    ensures { result ≡ is_clash lean log.now book.now }
+{
+    if lean { false } else { log == book }
+}
+
+// Records, where LOG and BOOK are two names, if both are saved.
+fn record_named<S: Store, G: Gate, R: Threads + Wait + Sync>(
+    rt: &R,
+    alloc: Global,
+    names: &Names,
+    settings: &Settings,
+    how: &Manner,
+    has_input: bool,
+    store: &mut S,
+    gate: &G,
+) -> Result<Answer, Refusal>
+    ensures bytes { IfOk result (λ _. WithFiles (S.files store.old) (λ files. HoldsBytes (files names.now.elf))) }
+    ensures told { WithFiles (S.files store.old) (λ files. GivesBy names.now (λ files. IsByNames (is_clash how.now.lean names.now.log names.now.book) files names.now settings.now how.now has_input) files result) }
+    ensures same { S.files store.new ≡ S.files store.old }
+    ensures asks { S.saves store.new ≡ S.saves store.old }
+    ensures recorded { IfOk result (IsRecordedRun how.now.lean) }
+    ensures later { NoneFell (S.counts store.old) (S.counts store.new) }
+    ensures cause { CauseBy (name_refusal (is_clash how.now.lean names.now.log names.now.book)) (S.counts store.old) (S.counts store.new) result }
+{
+    if clashes(how.lean, names.log, names.book) {
+        Err(Refusal::SameName)
+    } else {
+        record_elf(rt, alloc, names, settings, how, has_input, store, gate)
+    }
+}
+
+/// Tests the settings and the names, loads the program and its input, and records the run by the
+/// turns that the seed chooses, or of harts in threads.
+pub fn record_files<S: Store, G: Gate, R: Threads + Wait + Sync>(
+    rt: &R,
+    alloc: Global,
+    names: &Names,
+    settings: &RawSettings,
+    how: &Manner,
+    has_input: bool,
+    store: &mut S,
+    gate: &G,
+) -> Result<Answer, Refusal>
+    ensures bytes { IfOk result (λ _. WithFiles (S.files store.old) (λ files. HoldsBytes (files names.now.elf))) }
+    ensures told { WithFiles (S.files store.old) (λ files. GivesBy names.now (λ files. IsRecord files names.now settings.now how.now has_input) files result) }
+    ensures same { S.files store.new ≡ S.files store.old }
+    ensures asks { S.saves store.new ≡ S.saves store.old }
+    ensures recorded { IfOk result (IsRecordedRun how.now.lean) }
+    ensures later { NoneFell (S.counts store.old) (S.counts store.new) }
+    ensures cause { CauseBy (setting_refusal (first_bad settings.now) (is_clash how.now.lean names.now.log names.now.book)) (S.counts store.old) (S.counts store.new) result }
+{
+    match Settings::checked(settings) {
+        Err(bad) => Err(Refusal::OutOfRange(bad)),
+        Ok(settings) => record_named(rt, alloc, names, &settings, how, has_input, store, gate),
+    }
+}
+
+// Saves the log, and then the turn list where there is one.
+fn save<S: Store>(store: &mut S, names: &Names, recording: &RunToTell) -> Result<(), Refusal>
+    ensures told { SaveTells (saved_of recording.now) names.now (S.files store.old) (S.files store.new) (S.counts store.old) (S.counts store.new) result }
+    ensures later { NoneFell (S.counts store.old) (S.counts store.new) }
+    ensures few { AtMostSaves (is_lean recording.now) (S.saves store.old) (S.saves store.new) }
+    ensures all { OnOk result (S.saves store.new ≡ saves_after (is_lean recording.now) (S.saves store.old)) }
+{
+    match store.save(names.log, &recording.log) {
+        Ok(()) => match &recording.book {
+            None => Ok(()),
+            Some(list) => match store.save(names.book, list) {
+                Ok(()) => Ok(()),
+                Err(SaveError::Failed) => Err(Refusal::StoreFailed(Role::Book)),
+                Err(SaveError::OutOfMemory) => Err(Refusal::OutOfMemory),
+            },
+        },
+        Err(SaveError::Failed) => Err(Refusal::StoreFailed(Role::Log)),
+        Err(SaveError::OutOfMemory) => Err(Refusal::OutOfMemory),
+    }
+}
+
+// Saves a recording, and tells the guest's streams and the summary.
+pub fn keep<S: Store, O: Sink, X: Sink>(
+    alloc: Global,
+    names: &Names,
+    recording: &RunToTell,
+    store: &mut S,
+    out: &mut O,
+    err: &mut X,
+) -> u8
+    ensures told { Tells names.now (told_of_recording recording.now) result (call S.files S.counts O.written O.faults X.written X.faults store.old out.old err.old store.new out.new err.new) }
+    ensures saves { SavesEach (is_lean recording.now) result (S.saves store.old) (S.saves store.new) }
+    ensures later { NoneFell (S.counts store.old) (S.counts store.new) }
+    ensures out_later { O.faults out.old ≤ O.faults out.new }
+    ensures err_later { X.faults err.old ≤ X.faults err.new }
+    ensures words { result ≢ 2 }
+    ensures read { result ≢ 12 }
+    ensures failed { result ≡ 3 → Rose (S.counts store.old).faults (S.counts store.new).faults }
+    ensures missing { result ≢ 4 }
+    ensures long { result ≢ 5 }
+    ensures write { result ≡ 13 → Rose (O.faults out.old) (O.faults out.new) ⊎ Rose (X.faults err.old) (X.faults err.new) }
+{
+    match save(store, names, recording) {
+        Err(refusal) => refuse(alloc, names, &refusal, err),
+        Ok(()) => match send_bytes(out, &recording.out) {
+            Err(refusal) => refuse(alloc, names, &refusal, err),
+            Ok(()) => match send_bytes(err, &recording.err) {
+                Err(refusal) => refuse(alloc, names, &refusal, err),
+                Ok(()) => recording.end.status(),
+            },
+        },
+    }
+}

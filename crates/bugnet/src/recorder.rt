@@ -1,0 +1,223 @@
+//! The recording of a run: its log file, its list of turns, and what its outputs get.
+ghost use Rattle.std.specs.Prelude.{◌≡◌, ◌++◌, [], ℕ, List, IfOk, Some, None, true, false, option_map};
+ghost use Rattle.std.specs.List.{list_any};
+ghost use Rattle.bus_core.specs.Bus.{began_of};
+ghost use Rattle.hart_worker.specs.Closed.{IsClosed};
+ghost use Rattle.bugnet.specs.Recordings.{count_of, instructions_of, is_fault, is_limit, end_by, end_word};
+ghost use Rattle.bugnet.specs.Texts.{summary_text};
+ghost use Rattle.bugnet.specs.Keeping.{IsRecordingOf, IsRecordingBy};
+
+use crate::answer::{RunEnd, RunToTell};
+use crate::manner::Manner;
+use crate::texts::{RunCounts, push_summary};
+use bn_base::EndMark;
+use bn_base::end_mark::{FAULT, LIMIT};
+use bn_outside::{Book, Gate, LeanBook};
+use bus_core::Closed;
+use hart_worker::{Listed, run_listed, run_seeded, run_threads_lean, run_threads_listed};
+use run_model::Start;
+use rv_text::Text;
+use std::alloc::{AllocError, Global};
+use std::sync::Wait;
+use std::thread::Threads;
+
+// The count of a mark.
+fn count_of(mark: &Option<EndMark>) -> u64
+    ensures { result ≡ count_of mark.now }
+{
+    match mark {
+        Some(mark) => mark.ic,
+        None => 0,
+    }
+}
+
+// The sum of the counts of marks.
+fn instructions_of(marks: &[Option<EndMark>]) -> u128
+    ensures { result ≡ instructions_of marks.now }
+{
+    let mut sum = 0;
+    for place in 0..marks.len() {
+        sum += u128::from(count_of(&marks[place]));
+    }
+    sum
+}
+
+fn is_fault(mark: &Option<EndMark>) -> bool
+    ensures { result ≡ is_fault mark.now }
+{
+    match mark {
+        Some(mark) => mark.reason > FAULT,
+        None => false,
+    }
+}
+
+fn is_limit(mark: &Option<EndMark>) -> bool
+    ensures { result ≡ is_limit mark.now }
+{
+    match mark {
+        Some(mark) => mark.reason == LIMIT,
+        None => false,
+    }
+}
+
+fn any_fault(marks: &[Option<EndMark>]) -> bool
+    ensures { result ≡ list_any is_fault marks.now }
+{
+    marks.iter().any(|mark| is_fault(mark))
+}
+
+fn any_limit(marks: &[Option<EndMark>]) -> bool
+    ensures { result ≡ list_any is_limit marks.now }
+{
+    marks.iter().any(|mark| is_limit(mark))
+}
+
+// How a run ended that left its harts with these marks.
+fn end_by(marks: &[Option<EndMark>]) -> RunEnd
+    ensures { result ≡ end_by marks.now }
+{
+    if any_fault(marks) {
+        RunEnd::Fault
+    } else if any_limit(marks) {
+        RunEnd::Limit
+    } else {
+        RunEnd::Done
+    }
+}
+
+// Stream 2 of a run, and the line of its recording.
+fn err_of(
+    alloc: Global,
+    mut err: Vec<u8>,
+    counts: &RunCounts,
+    end: &RunEnd,
+) -> Result<Vec<u8>, AllocError>
+    ensures { IfOk result (λ text. text.items ≡ err.items ++ summary_text counts.now.turns counts.now.instructions counts.now.dropped counts.now.kept (end_word end.now)) }
+{
+    let mut line = Text::new(alloc);
+    push_summary(&mut line, counts, end.word())?;
+    err.extend_from_slice(line.as_bytes())?;
+    Ok(err)
+}
+
+// The recording of a closed run, and of the list of its turns where that is saved.
+fn recording_of<B: Book>(
+    alloc: Global,
+    start: &Start,
+    closed: Closed<B>,
+    book: Option<Vec<u8>>,
+) -> Result<RunToTell, AllocError>
+    requires { closed.ring.size ≡ start.now.settings.log_size }
+    ensures { IfOk result (λ r. IsRecordingOf start.now closed (option_map (λ list. list.items) book) r) }
+{
+    let end = end_by(&closed.ends);
+    let counts = RunCounts {
+        turns: closed.turns,
+        instructions: instructions_of(&closed.ends),
+        dropped: closed.ring.dropped(),
+        kept: closed.ring.len() as u64,
+    };
+    let log = start.log_file(alloc, &closed.ring)?;
+    let err = err_of(alloc, closed.err, &counts, &end)?;
+    Ok(RunToTell {
+        end,
+        out: closed.out,
+        err,
+        log,
+        book,
+    })
+}
+
+// The recording of the run by the turns that a number chooses. Of a turn one byte is kept, the number
+// of its hart, and no row.
+fn record_seeded(alloc: Global, start: &Start, seed: u64) -> Result<RunToTell, AllocError>
+    ensures { IfOk result (λ r. IsRecordingBy start.now (record { seed = Some seed; lean = false }) r) }
+{
+    let listed = run_listed(alloc, start, LeanBook, seed)?;
+    recording_of(alloc, start, listed.closed, Some(listed.list))
+}
+
+// The recording of such a run of which nothing is kept of a turn.
+fn record_seeded_lean(alloc: Global, start: &Start, seed: u64) -> Result<RunToTell, AllocError>
+    ensures { IfOk result (λ r. IsRecordingBy start.now (record { seed = Some seed; lean = true }) r) }
+{
+    let closed = run_seeded(alloc, start, LeanBook, seed)?;
+    recording_of(alloc, start, closed, None)
+}
+
+// A run whose harts are in threads of their own, with the list of its turns. The turns of one hart have one
+// order alone, so it needs no thread and no lock.
+fn run_unseeded<G: Gate, R: Threads + Wait + Sync>(
+    rt: &R,
+    alloc: Global,
+    start: &Start,
+    gate: &G,
+) -> Result<Listed<LeanBook>, AllocError>
+    ensures { IfOk result (λ run. IsClosed false (began_of start.now) run.list.items run.closed []) }
+{
+    if start.settings.harts() == 1 {
+        return run_listed(alloc, start, LeanBook, 0);
+    }
+    run_threads_listed(rt, alloc, start, LeanBook, gate)
+}
+
+// Such a run of which nothing is kept of a turn.
+fn run_unseeded_lean<G: Gate, R: Threads + Wait + Sync>(
+    rt: &R,
+    alloc: Global,
+    start: &Start,
+    gate: &G,
+) -> Result<Closed<LeanBook>, AllocError>
+    ensures { IfOk result (λ closed. (list : List ℕ) × IsClosed false (began_of start.now) list closed []) }
+{
+    if start.settings.harts() == 1 {
+        return run_seeded(alloc, start, LeanBook, 0);
+    }
+    run_threads_lean(rt, alloc, start, LeanBook, gate)
+}
+
+// The recording of a run whose harts are in threads of their own. Of a turn one byte is kept, the number
+// of its hart, and no row.
+fn record_threads<G: Gate, R: Threads + Wait + Sync>(
+    rt: &R,
+    alloc: Global,
+    start: &Start,
+    gate: &G,
+) -> Result<RunToTell, AllocError>
+    ensures { IfOk result (λ r. IsRecordingBy start.now (record { seed = None; lean = false }) r) }
+{
+    let whole = run_unseeded(rt, alloc, start, gate)?;
+    recording_of(alloc, start, whole.closed, Some(whole.list))
+}
+
+// The recording of such a run of which nothing is kept of a turn.
+fn record_lean<G: Gate, R: Threads + Wait + Sync>(
+    rt: &R,
+    alloc: Global,
+    start: &Start,
+    gate: &G,
+) -> Result<RunToTell, AllocError>
+    ensures { IfOk result (λ r. IsRecordingBy start.now (record { seed = None; lean = true }) r) }
+{
+    let closed = run_unseeded_lean(rt, alloc, start, gate)?;
+    recording_of(alloc, start, closed, None)
+}
+
+/// The recording of the run by the turns that a number chooses, or, where there is none, of a run whose
+/// harts are in threads of their own. The only error is want of memory.
+pub fn record_run<G: Gate, R: Threads + Wait + Sync>(
+    rt: &R,
+    alloc: Global,
+    start: &Start,
+    how: &Manner,
+    gate: &G,
+) -> Result<RunToTell, AllocError>
+    ensures { IfOk result (λ r. IsRecordingBy start.now how.now r) }
+{
+    match (how.seed, how.lean) {
+        (Some(seed), true) => record_seeded_lean(alloc, start, seed),
+        (Some(seed), false) => record_seeded(alloc, start, seed),
+        (None, true) => record_lean(rt, alloc, start, gate),
+        (None, false) => record_threads(rt, alloc, start, gate),
+    }
+}
