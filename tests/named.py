@@ -98,6 +98,10 @@ MUTANTS = [
         "A session reads a line after an answer that could not be written.",
         edit("step_debugger", "a_line_is_read_after_a_failed_write"),
     ),
+    (
+        "A step that the log refuses is told as out of memory.",
+        edit("step_debugger", "a_refused_step_is_told_as_out_of_memory"),
+    ),
     # Harts in threads.
     (
         "The rows of the threads are not compared with what each hart did.",

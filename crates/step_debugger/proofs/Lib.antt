@@ -7,3 +7,4 @@ pub mod Saying
 pub mod Lasting
 pub mod Worked
 pub mod WaysBack
+pub mod Apart
