@@ -48,6 +48,10 @@ input_from count line (byte ∷ bytes) = elim (is_over line byte) [
 abbrev pub input_of : List ℕ → Input
 input_of bytes = input_from 0 [] bytes
 
+-- if no more is refused of some bytes, it isn't of those that came first
+abbrev pub RefusalsStay : Type 0
+RefusalsStay = (bytes more : List ℕ) → (input_of (bytes ++ more)).refused ≡ None → (input_of bytes).refused ≡ None
+
 -- ---- one line after another
 
 -- the bytes that came, and those of the line so far
