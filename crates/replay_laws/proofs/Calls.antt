@@ -17,7 +17,7 @@ use Rattle.system_calls.specs.Calls.{plan_of}
 use Rattle.system_calls.specs.Laws.{is_end, ExitsAloneEnd}
 use Rattle.rv_meaning.specs.Rows.{call_row}
 use Rattle.hart_replay.specs.Replay.{Interval, Position, Logged, puts, system_step, call_reason, found}
-use Rattle.hart_replay.specs.Replay.{TurnEnd as Goal}
+use Rattle.hart_replay.specs.Replay.{Next as Goal}
 use Rattle.hart_replay.specs.Replay.{On, Stop, Refused}
 use Rattle.hart_replay.specs.declared.error.ReplayError.TheVariants.{EndDiffers}
 use Rattle.run_model.specs.declared.turn_end.TurnEnd.{TurnEnd}
