@@ -90,6 +90,18 @@ MUTANTS = [
         "A session of the debugger reads on after the command that ends it.",
         edit("step_debugger", "a_session_reads_on_behind_quit"),
     ),
+    (
+        "A session reads a byte after the first one that is too many for its line.",
+        edit("step_debugger", "a_byte_is_read_after_a_line_that_is_too_long"),
+    ),
+    (
+        "A session reads a line after an answer that could not be written.",
+        edit("step_debugger", "a_line_is_read_after_a_failed_write"),
+    ),
+    (
+        "A step that the log refuses is told as out of memory.",
+        edit("step_debugger", "a_refused_step_is_told_as_out_of_memory"),
+    ),
     # Harts in threads.
     (
         "The rows of the threads are not compared with what each hart did.",

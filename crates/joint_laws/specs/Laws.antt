@@ -1,6 +1,6 @@
 -- What the joint replay of a recording's log says of the run. "The latest" is of the steps that were taken; "later in the run"
 -- is by the places of the run's points.
-use Rattle.std.specs.Prelude.{◌≡◌, ℕ, ◌+◌, ◌<◌, ◌≤◌, List, [], ◌∷◌, ◌++◌, slice_get, Some, None, Ok}
+use Rattle.std.specs.Prelude.{◌≡◌, ℕ, ◌+◌, ◌<◌, ◌≤◌, List, [], ◌∷◌, ◌++◌, map, slice_get, Some, None, Ok}
 use Rattle.std.specs.List.{Contains}
 use Rattle.sha2.specs.Sha256.{sha256}
 use Rattle.bn_base.specs.declared.row.Row.{Row}
@@ -18,7 +18,8 @@ use Rattle.joint_replay.specs.Calls.{state_at, IsReached}
 use Rattle.joint_replay.specs.Chains.{Did, IsToDo}
 use Rattle.joint_replay.specs.Joining.{Joining, Taken, Walk, Ran, fresh, readiness, choice, next_step, run_all}
 use Rattle.joint_replay.specs.Lanes.{Item, Doing}
-use Rattle.joint_replay.specs.Memory.{word_in}
+use Rattle.joint_replay.specs.Memory.{word_in, word_after}
+use Rattle.joint_replay.specs.Orders.{IsBegun}
 use Rattle.joint_replay.specs.Sound.{IsSound}
 use Rattle.joint_laws.specs.Recordings.{Recording, IsRecorded, IsLogOf, IsRetained, Allowed, begin, kept, points_of, rows_of_hart, first_state, retained_rows, memory_right_after}
 use Rattle.joint_laws.specs.Steps.{DidPoint, DidBefore, IsLastTold, rows_done}
@@ -93,6 +94,12 @@ WordsAscend low (m ∷ ms) = (low ≤ m.0) × WordsAscend (m.0 + 1) ms
 -- The list of the known words is by ascending address, and each of its words is the known one at its address
 abbrev pub HasWordsOnce : Recording → List Record → Walk → Type 0
 HasWordsOnce r records w = WordsAscend 0 w.now.memory × ((m : ℕ × ℕ) → Contains w.now.memory m → word_in w.now.memory m.0 ≡ Some m.1)
+
+-- The known words are what the steps tell: the word at an address is that of the latest step that tells one, unless a later step
+-- fills bytes of it. So it is for any records, those that no recording made too
+abbrev pub WordsAreByTheSteps : Type 0
+WordsAreByTheSteps = (r : Recording) (records : List Record) (order : List ℕ) (w : Walk) → IsBegun r.program r.settings.harts records order w
+    → (a : ℕ) → word_in w.now.memory a ≡ word_after (map (λ (t : Taken). t.item) w.taken) a
 
 -- What was done is of a retained interval
 abbrev pub DoesRetained : Recording → List Record → Walk → Type 0

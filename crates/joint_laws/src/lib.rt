@@ -3,7 +3,7 @@
 #![tactic(auto)]
 
 ghost use Rattle.joint_laws.specs.Recordings.{OfBeginnings, OfWholeOrders};
-ghost use Rattle.joint_laws.specs.Laws.{OwnLogsAreLogs, BeginsSound, KeepsOrder, StandsInOrder, GoesOn, IsNotRefused, HasFirstRows, HasRows, HasStates, HasShownStates, HasMemory, HasWordsOnce, DoesRetained};
+ghost use Rattle.joint_laws.specs.Laws.{OwnLogsAreLogs, BeginsSound, KeepsOrder, StandsInOrder, GoesOn, IsNotRefused, HasFirstRows, HasRows, HasStates, HasShownStates, HasMemory, WordsAreByTheSteps, HasWordsOnce, DoesRetained};
 ghost use Rattle.joint_laws.specs.Laws.{RunsToTheEnd, JointReplaysSayTheRun, JointFilesSayTheRun, ReachedSayTheRun};
 ghost use Rattle.joint_laws.specs.Chains.{ChainsLead};
 ghost use Rattle.joint_laws.specs.Filled.{FillsAreFilled};
@@ -135,6 +135,11 @@ pub fn the_states_are_recorded()
     beginnings_tell_states();
     rows_tell_runs();
 }
+
+/// The word that the joint memory knows at an address is the one that the steps so far tell.
+pub fn words_are_by_the_steps()
+    ensures { WordsAreByTheSteps }
+{}
 
 /// The known words stand by ascending address, each once.
 pub fn known_words_ascend()

@@ -41,10 +41,10 @@ false_le m n h = grind arith
 is_lt : (m n : ℕ) → m < n → nat_lt m n ≡ true
 is_lt m n h = grind arith
 
-same_number : (a b : ℕ) → (a == b) ≡ true → a ≡ b
+pub same_number : (a b : ℕ) → (a == b) ≡ true → a ≡ b
 same_number a b h = grind arith
 
-some_same : {X : Type 0} (a b : X) → ◌≡◌ {A = Option X} (Some a) (Some b) → a ≡ b
+pub some_same : {X : Type 0} (a b : X) → ◌≡◌ {A = Option X} (Some a) (Some b) → a ≡ b
 some_same a b e = cc
 
 -- ---- the row of a point has no fault
@@ -144,7 +144,7 @@ lane_done i [] (c ∷ cs) before row next none lane e = cursor_done i c cs befor
 
 -- ---- the step of all
 
-record IsLaneStep (j : Joining) (h : ℕ) (x : Item × Joining) : Type 0 where
+pub record IsLaneStep (j : Joining) (h : ℕ) (x : Item × Joining) : Type 0 where
   pub lane : Lane
   pub next : Lane
   pub at : slice_get j.lanes h ≡ Some lane
@@ -161,7 +161,7 @@ move_lane j h lane (Some (Ok y)) x at e f =
     let same = same_moved (y.0, record j { lanes = slice_set j.lanes h y.1; memory = memory_after y.0 j.memory }) x f in
     record { lane = lane; next = y.1; at = at; step = e ∙ ap (λ (i : Item). Some (Ok (i, y.1))) (ap (λ (z : Item × Joining). z.0) same); lanes = ap (λ (z : Item × Joining). z.1.lanes) (sym same) }
 
-step_lane : (j : Joining) (h : ℕ) (x : Item × Joining) → next_step j h ≡ Some (Ok x) → IsLaneStep j h x
+pub step_lane : (j : Joining) (h : ℕ) (x : Item × Joining) → next_step j h ≡ Some (Ok x) → IsLaneStep j h x
 step_lane j h x e = by j.refused (slice_get j.lanes h) refl e
   where
     by : (r : Option ReplayError) (o : Option Lane) → slice_get j.lanes h ≡ o
@@ -170,12 +170,12 @@ step_lane j h x e = by j.refused (slice_get j.lanes h) refl e
     by None None at f = absurd cc
     by None (Some lane) at f = move_lane j h lane (lane_step j.program lane) x at refl f
 
-set_here : (ls : List Lane) (h : ℕ) (new : Lane) (lane : Lane) → slice_get ls h ≡ Some lane → slice_get (slice_set ls h new) h ≡ Some new
+pub set_here : (ls : List Lane) (h : ℕ) (new : Lane) (lane : Lane) → slice_get ls h ≡ Some lane → slice_get (slice_set ls h new) h ≡ Some new
 set_here [] h new lane e = absurd cc
 set_here (l ∷ ls) zero new lane e = refl
 set_here (l ∷ ls) (suc h) new lane e = set_here ls h new lane e
 
-set_there : (ls : List Lane) (h k : ℕ) (new : Lane) → (h == k) ≡ false → slice_get (slice_set ls h new) k ≡ slice_get ls k
+pub set_there : (ls : List Lane) (h k : ℕ) (new : Lane) → (h == k) ≡ false → slice_get (slice_set ls h new) k ≡ slice_get ls k
 set_there [] h k new e = refl
 set_there (l ∷ ls) zero zero new e = absurd cc
 set_there (l ∷ ls) zero (suc k) new e = refl

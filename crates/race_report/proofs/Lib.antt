@@ -17,3 +17,4 @@ pub mod Counted
 pub mod Listed
 pub mod Ascending
 pub mod Alike
+pub mod OwnRows

@@ -47,6 +47,10 @@ RacesAreListed = (harts : ℕ) (run : List Accessing) → AreCounted harts run �
 abbrev pub HaveOwnRows : List Accessing → Type 0
 HaveOwnRows run = (m : ℕ) (p : Accessing) → slice_get run m ≡ Some p → p.row.hart ≡ p.hart
 
+-- so it is with the points of the joint replay of each log, a forged one too
+abbrev pub PointsHaveOwnRows : Type 0
+PointsHaveOwnRows = (i : Program) (s : RawSettings) (records : List Record) → HaveOwnRows (points_of (run_all (fresh i s.harts records)).walk.taken)
+
 -- by hart and then by count
 abbrev pub IsRowBefore : Row → Row → Type 0
 IsRowBefore r s = (r.hart < s.hart) ⊎ ((r.hart ≡ s.hart) × (r.ic < s.ic))
@@ -63,6 +67,11 @@ Ascend (x ∷ xs) = ((y : Race) → In xs y → IsRaceBefore x y) × Ascend xs
 -- so it is with the list of all races
 abbrev pub RacesAscend : Type 0
 RacesAscend = (harts : ℕ) (run : List Accessing) → AreCounted harts run → HaveOwnRows run → Ascend (races_of harts run)
+
+-- so the report of each log in order has each race once, by hart and count of the first and then of the second
+abbrev pub ReportsAscend : Type 0
+ReportsAscend = (i : Program) (s : RawSettings) (dropped : ℕ) (records : List Record) → s.limit < 2 ^ 64 → broken_by s dropped records ≡ None
+    → Ascend (races_of s.harts (points_of (run_all (fresh i s.harts records)).walk.taken))
 
 -- ---- other orders of the same points
 

@@ -1,5 +1,5 @@
 //! Laws of race reports. These functions do nothing: their contracts are theorems.
-ghost use Rattle.race_report.specs.Laws.{TestsSayRaces, PointsAreCounted, RacesAreListed, RacesAscend, RacesGoByConflicts};
+ghost use Rattle.race_report.specs.Laws.{TestsSayRaces, PointsAreCounted, RacesAreListed, PointsHaveOwnRows, RacesAscend, ReportsAscend, RacesGoByConflicts};
 
 use joint_replay::laws::{
     runs_go_by_steps, soundness_stays, starts_are_sound, steps_pass_their_points,
@@ -37,6 +37,21 @@ pub fn races_are_listed()
 pub fn races_ascend()
     ensures { RacesAscend }
 {}
+
+/// In the joint replay of any log the row of each point has the point's hart.
+#[tactic(auto, using(crate::proofs::OwnRows::points_have_own_rows))]
+pub fn points_have_own_rows()
+    ensures { PointsHaveOwnRows }
+{}
+
+/// The report of each log in order ascends, and so has each race once. A log may be in order and no recording's.
+pub fn reports_ascend()
+    ensures { ReportsAscend }
+{
+    points_are_counted();
+    points_have_own_rows();
+    races_ascend();
+}
 
 /// Two orders of the same points in which conflicting points stand alike have the same list of races.
 pub fn races_go_by_conflicts()

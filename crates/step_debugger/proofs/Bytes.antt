@@ -7,7 +7,7 @@ use Rattle.bn_outside.specs.Counts.{Rose}
 use Rattle.bn_outside.specs.Streams.{ConsumesAll, EndsExactly}
 use Rattle.step_debugger.specs.declared.error.DebugError.{DebugError}
 use Rattle.step_debugger.specs.declared.error.DebugError.TheVariants.{ReadFault, WriteFault, LineTooLong, TooMuch, Joint, OutOfMemory}
-use Rattle.step_debugger.specs.Lines.{Reading, Input, input_from, line_limit, TakesByte, ReadsLine, NextLine}
+use Rattle.step_debugger.specs.Lines.{Reading, Input, input_from, line_limit, TakesByte, ReadsLine, EndsTooMany, StopsAt, NextLine}
 
 -- a read of no byte
 pub no_byte : (old new : Option (List ℕ)) (n : ℕ) (buffer : List ℕ) → n ≡ 0 → 0 < length buffer → Consumes old new (take n buffer) → EndsExactly old n buffer → ConsumesAll old new []
@@ -60,6 +60,7 @@ line_read start count line byte new old now next before after last s p t = recor
   gone = line ++ byte ∷ [];
   taken = Consumes-trans old now next line (byte ∷ []) s.gone p;
   read = (omega (arith, s.grown, t.0), t.1, λ more. behind_byte start.count count line byte more _ (s.as_far (byte ∷ more)) (t.2 more));
+  stops = tt;
 }
 
 -- the source ends
@@ -67,7 +68,7 @@ pub last_read : (start : Reading) (count : ℕ) (line : List ℕ) (old now next 
     → SoFar start.count count line old now before after → ConsumesAll now next [] → NextLine start old next before last (Ok false) (record { count = count; line = line })
 last_read start count line old now next before after last s p =
     let all = all_gone old now next line s.gone p in
-    record { gone = line; taken = all.1; read = (ap (input_from start.count []) (sym (append-nil line)) ∙ s.as_far [], all.0) }
+    record { gone = line; taken = all.1; read = (ap (input_from start.count []) (sym (append-nil line)) ∙ s.as_far [], all.0); stops = tt }
 
 -- a read fails
 pub read_failed : (start : Reading) (count : ℕ) (line : List ℕ) (old now next : Option (List ℕ)) (before after last : ℕ)
@@ -76,6 +77,7 @@ read_failed start count line old now next before after last s p rose = record {
   gone = line;
   taken = subst (Consumes old next) (append-nil line) (Consumes-trans old now next line [] s.gone p);
   read = (ap (input_from start.count []) (sym (append-nil line)) ∙ s.as_far [], rose_later before after last s.later rose);
+  stops = tt;
 }
   where
     rose_later : (a b c : ℕ) → a ≤ b → Rose b c → Rose a c
@@ -87,8 +89,24 @@ pub refused_read : (start : Reading) (count : ℕ) (line : List ℕ) (byte : ℕ
     → SoFar start.count count line old now before after → Consumes now next (byte ∷ []) → TakesByte (record { count = count; line = line }) byte (Err e) new
     → NextLine start old next before last (Err e) new
 refused_read start count line byte e new old now next before after last s p t =
-    record { gone = line ++ byte ∷ []; taken = Consumes-trans old now next line (byte ∷ []) s.gone p; read = by e t }
+    record { gone = line ++ byte ∷ []; taken = Consumes-trans old now next line (byte ∷ []) s.gone p; read = by e t; stops = at e }
   where
+    too_many : EndsTooMany start.count (line ++ byte ∷ [])
+    too_many = record {
+      front = line;
+      byte = byte;
+      parts = refl;
+      none = ap (λ (i : Input). i.refused) (ap (input_from start.count []) (sym (append-nil line)) ∙ s.as_far []);
+    }
+
+    at : (e : DebugError) → StopsAt start.count (line ++ byte ∷ []) (Err e)
+    at (LineTooLong n) = too_many
+    at (TooMuch n) = too_many
+    at OutOfMemory = tt
+    at ReadFault = tt
+    at WriteFault = tt
+    at (Joint f) = tt
+
     by : (e : DebugError) → TakesByte (record { count = count; line = line }) byte (Err e) new → ReadsLine start (line ++ byte ∷ []) old next before last (Err e) new
     by (LineTooLong n) t = λ more. behind_byte start.count count line byte more _ (s.as_far (byte ∷ more)) (t more)
     by (TooMuch n) t = λ more. behind_byte start.count count line byte more _ (s.as_far (byte ∷ more)) (t more)

@@ -12,9 +12,9 @@ use Rattle.step_debugger.specs.declared.error.DebugError.TheVariants.{ReadFault,
 use Rattle.step_debugger.specs.declared.session.Ending.{Ending}
 use Rattle.step_debugger.specs.declared.session.Ending.TheVariants.{GoesOn, Quits, Refused}
 use Rattle.step_debugger.specs.Commands.{command_of}
-use Rattle.step_debugger.specs.Lines.{Reading, Input, input_from, input_of, with_line, ends_in, NextLine}
+use Rattle.step_debugger.specs.Lines.{Reading, Input, input_from, input_of, with_line, ends_in, EndsTooMany, NextLine}
 use Rattle.step_debugger.specs.Answers.{Session, Answer, says, answer, begin_at}
-use Rattle.step_debugger.specs.Transcript.{behind, goes_on_by, answers, lines_in, Told, result_by, transcript_from, EndsThere, EndsAll, Debugs, Debugged}
+use Rattle.step_debugger.specs.Transcript.{behind, goes_on_by, answers, lines_in, Told, result_by, transcript_from, EndsThere, EndsWithLine, EndsAll, Debugs, ReadsUpTo, Debugged}
 use Rattle.step_debugger.specs.Goings.{Stops}
 use Rattle.step_debugger.proofs.Sent.{part_longer, part_behind, part_whole, rose_later}
 
@@ -120,8 +120,24 @@ module _ (j : Trace) (s : Session) (old new : Reading) (left now_left next_left 
       (ap (λ (u : Told). u.result) is, subst (λ (x : List ℕ). Appends written now_written x) (sym (ap (λ (u : Told). u.text) is ∙ append-nil t.text)) t.sent)
 
   pub not_read : (e : DebugError) → NextLine old now_left next_left before after (Err e) new → Debugged j left next_left start after written now_written write_before write_after (Err e)
-  not_read e n = record { gone = t.gone ++ n.gone; taken = Consumes-trans left now_left next_left t.gone n.gone t.taken n.taken; done = by e n }
+  not_read e n = record { gone = t.gone ++ n.gone; taken = Consumes-trans left now_left next_left t.gone n.gone t.taken n.taken; done = by e n; up_to = up_to e n }
     where
+      too_many_at : {bytes : List ℕ} → EndsTooMany old.count bytes → EndsTooMany 0 (t.gone ++ bytes)
+      too_many_at x = record {
+        front = t.gone ++ x.front;
+        byte = x.byte;
+        parts = ap (λ (bs : List ℕ). t.gone ++ bs) x.parts ∙ sym (append_assoc t.gone x.front (x.byte ∷ []));
+        none = ap (λ (i : Input). i.refused) (t.read x.front) ∙ x.none;
+      }
+
+      up_to : (e : DebugError) (n : NextLine old now_left next_left before after (Err e) new) → ReadsUpTo j (t.gone ++ n.gone) left next_left (Err e)
+      up_to ReadFault n = tt
+      up_to WriteFault n = absurd n.read
+      up_to (LineTooLong k) n = too_many_at n.stops
+      up_to (TooMuch k) n = too_many_at n.stops
+      up_to (Joint f) n = tt
+      up_to OutOfMemory n = inr (not_over j s old.count left now_left written now_written t n.gone (new.line ++ n.read.0 ∷ []) (ap (input_from old.count []) (sym (append-nil n.gone)) ∙ n.read.1 []))
+
       by : (e : DebugError) (n : NextLine old now_left next_left before after (Err e) new) → Debugs j (t.gone ++ n.gone) left next_left start after written now_written write_before write_after (Err e)
       by ReadFault n =
           let is : input_of (t.gone ++ n.gone) ≡ with_lines t.lines (ends_in new.line None) = joined j s old.count left now_left written now_written t n.gone (ends_in new.line None) n.read.0 in
@@ -155,11 +171,33 @@ module _ (j : Trace) (s : Session) (old new : Reading) (left now_left next_left 
   heard false n =
       ([], told_first j s old.count left now_left written now_written t n.gone ∙ ap (λ (i : Input). told_of (behind t.text (answers (lines_in i) s)) i.refused) n.read.0)
 
+  -- it ends with LF, or all bytes are gone
+  line_or_all : (w : Bool) (n : NextLine old now_left next_left before after (Ok w) new) → EndsWithLine j (t.gone ++ n.gone) ⊎ EndsAll j left next_left (t.gone ++ n.gone)
+  line_or_all true n =
+      let is : input_of (t.gone ++ n.gone) ≡ with_lines t.lines (with_line new.line (ends_in [] None)) =
+      joined j s old.count left now_left written now_written t n.gone (with_line new.line (ends_in [] None)) (ap (input_from old.count []) (sym (append-nil n.gone)) ∙ n.read.2 []) in
+      inl (record {
+        front = t.lines;
+        line = new.line;
+        lines = ap (λ (i : Input). i.lines) is;
+        last = ap (λ (i : Input). i.last) is;
+        before = ap (λ (ls : List (List ℕ)). (answers ls (begin_at j)).ends) (sym (append-nil t.lines)) ∙ ap (λ (a : Answer). a.ends) (t.said []);
+      })
+  line_or_all false n = inr (record { all = all_gone left now_left next_left t.gone n.gone t.taken n.read.1; before = not_over j s old.count left now_left written now_written t n.gone new.line n.read.0 })
+
   -- its answer isn't sent
   pub not_sent : (e : DebugError) → write_start ≤ write_before → AppendsPart now_written next_written answered.text × Stops write_before write_after e
       → Debugged j left next_left start after written next_written write_start write_after (Err e)
-  not_sent e fell h = record { gone = all; taken = taken_all; done = by e h }
+  not_sent e fell h = record { gone = all; taken = taken_all; done = by e h; up_to = up_to e h.1 }
     where
+      up_to : (e : DebugError) → Stops write_before write_after e → ReadsUpTo j all left next_left (Err e)
+      up_to ReadFault h = tt
+      up_to WriteFault h = line_or_all whole n
+      up_to (LineTooLong k) h = absurd h
+      up_to (TooMuch k) h = absurd h
+      up_to (Joint f) h = tt
+      up_to OutOfMemory h = elim (line_or_all whole n) [ inl x ↦ inl x | inr x ↦ inr x.before ]
+
       part : AppendsPart now_written next_written answered.text → AppendsPart written next_written (transcript_from j (input_of all)).text
       part p =
           let x = heard whole n in
@@ -202,12 +240,12 @@ module _ (j : Trace) (s : Session) (old new : Reading) (left now_left next_left 
   pub quits : answered.ends ≡ Quits → Appends now_written next_written answered.text → Debugged j left next_left start after written next_written write_start write_after (Ok (tt {0}))
   quits on h =
       let x = sent_to_end Quits on h refl in
-      record { gone = all; taken = taken_all; done = (ap (λ (u : Told). u.result) x.0 ∙ ap (λ (e : Ending). result_by e None) on, x.1, there Quits on refl whole n) }
+      record { gone = all; taken = taken_all; done = (ap (λ (u : Told). u.result) x.0 ∙ ap (λ (e : Ending). result_by e None) on, x.1, there Quits on refl whole n); up_to = tt }
 
   pub refused : (e : JointError) → answered.ends ≡ Refused e → Appends now_written next_written answered.text → Debugged j left next_left start after written next_written write_start write_after (Err (Joint e))
   refused e on h =
       let x = sent_to_end (Refused e) on h refl in
-      record { gone = all; taken = taken_all; done = (ap (λ (u : Told). u.result) x.0 ∙ ap (λ (e : Ending). result_by e None) on, x.1, there (Refused e) on refl whole n) }
+      record { gone = all; taken = taken_all; done = (ap (λ (u : Told). u.result) x.0 ∙ ap (λ (e : Ending). result_by e None) on, x.1, there (Refused e) on refl whole n); up_to = tt }
 
 -- the last line, behind which there is none
 pub ends : (j : Trace) (s : Session) (old new : Reading) (left now_left next_left written now_written next_written : Option (List ℕ)) (start before after write_start write_after : ℕ)
@@ -222,4 +260,5 @@ ends j s old new left now_left next_left written now_written next_written start 
       gone = t.gone ++ n.gone;
       taken = Consumes-trans left now_left next_left t.gone n.gone t.taken n.taken;
       done = (ap (λ (u : Told). u.result) is, subst (λ (x : List ℕ). Appends written next_written x) (sym (ap (λ (u : Told). u.text) is ∙ ap (λ x. t.text ++ x) (append-nil a.text))) (Appends-trans written now_written next_written t.text a.text t.sent h), inr (record { all = all_gone left now_left next_left t.gone n.gone t.taken n.read.1; before = not_over j s old.count left now_left written now_written t n.gone new.line n.read.0 }));
+      up_to = tt;
     }

@@ -7,3 +7,5 @@ pub mod Saying
 pub mod Lasting
 pub mod Worked
 pub mod WaysBack
+pub mod Prefixes
+pub mod Apart

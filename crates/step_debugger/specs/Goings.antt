@@ -3,14 +3,16 @@ use Rattle.std.specs.Prelude.{◌≡◌, ℕ, ◌+◌, Bool, true, List, ◌++�
 use Rattle.std.specs.Io.KnownBytes.{Appends}
 use Rattle.bn_outside.specs.Counts.{Rose}
 use Rattle.bn_outside.specs.Streams.{AppendsPart}
+use Rattle.hart_replay.specs.declared.error.ReplayError.{ReplayError}
+use Rattle.hart_replay.specs.declared.error.ReplayError.TheVariants as replay
 use Rattle.joint_replay.specs.declared.error.JointError.{JointError}
 use Rattle.joint_replay.specs.declared.error.JointError.TheVariants as joint
 use Rattle.joint_replay.specs.Joining.{readiness, choice, steps_left}
 use Rattle.back_step.specs.Traces.{Trace, trace_step}
 use Rattle.step_debugger.specs.declared.error.DebugError.{DebugError}
-use Rattle.step_debugger.specs.declared.error.DebugError.TheVariants.{WriteFault, OutOfMemory}
+use Rattle.step_debugger.specs.declared.error.DebugError.TheVariants.{WriteFault, Joint, OutOfMemory}
 use Rattle.step_debugger.specs.declared.session.Ending.{Ending}
-use Rattle.step_debugger.specs.declared.session.Ending.TheVariants.{GoesOn, Refused}
+use Rattle.step_debugger.specs.declared.session.Ending.TheVariants.{GoesOn, Quits, Refused}
 use Rattle.step_debugger.specs.declared.focus.Focus.{Focus}
 use Rattle.step_debugger.specs.declared.command.DebugCommand.{DebugCommand}
 use Rattle.step_debugger.specs.Commands.{command_of}
@@ -42,6 +44,46 @@ abbrev pub GoesOnce : Bool → List ℕ → Trace → Result (Option Ending) Deb
 GoesOnce first breaks old (Ok None) new text now_text = (now_text ≡ text) × (steps_left new.now.lanes + 1 ≡ steps_left old.now.lanes) × ((go : Trace → Moves) → go_by first breaks old (choice old.now) go ≡ go new)
 GoesOnce first breaks old (Ok (Some ending)) new text now_text = (piece : List ℕ) × (now_text ≡ text ++ piece) × ((go : Trace → Moves) → go_by first breaks old (choice old.now) go ≡ ended piece new ending)
 GoesOnce first breaks old (Err e) new text now_text = e ≡ OutOfMemory
+
+-- ---- a refusal and out of memory are told apart
+
+-- an error that isn't out of memory
+abbrev pub IsRefusal : JointError → Type 0
+IsRefusal joint.OutOfMemory = ⊥
+IsRefusal e = Unit {0}
+
+-- the joint replay repeats no refusal, or only that memory ran out
+abbrev pub IsUnrefused : Trace → Type 0
+IsUnrefused t = (e : ReplayError) → t.now.refused ≡ Some e → e ≡ replay.OutOfMemory
+
+-- if no refusal was repeated before, none is now
+abbrev pub StaysUnrefused : Trace → Trace → Type 0
+StaysUnrefused old new = IsUnrefused old → IsUnrefused new
+
+-- what a command tells as a refusal isn't out of memory; and if it goes on, or is told as out of memory, no step was refused
+abbrev pub EndsApart : Trace → Ending → Trace → Type 0
+EndsApart old GoesOn new = StaysUnrefused old new
+EndsApart old Quits new = StaysUnrefused old new
+EndsApart old (Refused e) new = IsRefusal e
+
+-- the same, and also of a command that an error stops
+abbrev pub TellsApart : Trace → Result Ending DebugError → Trace → Type 0
+TellsApart old (Ok ending) new = EndsApart old ending new
+TellsApart old (Err OutOfMemory) new = StaysUnrefused old new
+TellsApart old (Err e) new = Unit {0}
+
+-- the same of one step, after which others may follow
+abbrev pub StepsApart : Trace → Result (Option Ending) DebugError → Trace → Type 0
+StepsApart old (Ok None) new = StaysUnrefused old new
+StepsApart old (Ok (Some ending)) new = EndsApart old ending new
+StepsApart old (Err e) new = StaysUnrefused old new
+
+-- the same of a whole session
+abbrev pub StopsApart : Trace → Result (Unit {0}) DebugError → Trace → Type 0
+StopsApart old (Ok u) new = StaysUnrefused old new
+StopsApart old (Err (Joint e)) new = IsRefusal e
+StopsApart old (Err OutOfMemory) new = StaysUnrefused old new
+StopsApart old (Err e) new = Unit {0}
 
 -- ---- what is sent
 

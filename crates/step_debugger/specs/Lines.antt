@@ -48,6 +48,10 @@ input_from count line (byte ∷ bytes) = elim (is_over line byte) [
 abbrev pub input_of : List ℕ → Input
 input_of bytes = input_from 0 [] bytes
 
+-- if no more is refused of some bytes, it isn't of those that came first
+abbrev pub RefusalsStay : Type 0
+RefusalsStay = (bytes more : List ℕ) → (input_of (bytes ++ more)).refused ≡ None → (input_of bytes).refused ≡ None
+
 -- ---- one line after another
 
 -- the bytes that came, and those of the line so far
@@ -81,8 +85,22 @@ ReadsLine old gone left now_left before now (Err (TooMuch n)) new = (more : List
 ReadsLine old gone left now_left before now (Err OutOfMemory) new = (byte : ℕ) × ((more : List ℕ) → input_from old.count [] (gone ++ more) ≡ input_from new.count (new.line ++ byte ∷ []) more)
 ReadsLine old gone left now_left before now (Err e) new = ⊥
 
+-- bytes end with the first one that is too many
+pub record EndsTooMany (count : ℕ) (bytes : List ℕ) : Type 0 where
+  pub front : List ℕ
+  pub byte : ℕ
+  pub parts : bytes ≡ front ++ byte ∷ []
+  pub none : (input_from count [] front).refused ≡ None
+
+-- after the first byte that is too many none is read
+abbrev pub StopsAt : ℕ → List ℕ → Result Bool DebugError → Type 0
+StopsAt count gone (Err (LineTooLong n)) = EndsTooMany count gone
+StopsAt count gone (Err (TooMuch n)) = EndsTooMany count gone
+StopsAt count gone result = Unit {0}
+
 -- bytes of the source are gone, and they are what is read
 pub record NextLine (old : Reading) (left now_left : Option (List ℕ)) (before now : ℕ) (result : Result Bool DebugError) (new : Reading) : Type 0 where
   pub gone : List ℕ
   pub taken : Consumes left now_left gone
   pub read : ReadsLine old gone left now_left before now result new
+  pub stops : StopsAt old.count gone result

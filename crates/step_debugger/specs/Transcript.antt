@@ -11,7 +11,7 @@ use Rattle.step_debugger.specs.declared.error.DebugError.TheVariants as why
 use Rattle.step_debugger.specs.declared.session.Ending.{Ending}
 use Rattle.step_debugger.specs.declared.session.Ending.TheVariants.{GoesOn, Quits, Refused}
 use Rattle.step_debugger.specs.Commands.{command_of}
-use Rattle.step_debugger.specs.Lines.{Input, input_of}
+use Rattle.step_debugger.specs.Lines.{Input, input_of, EndsTooMany}
 use Rattle.step_debugger.specs.Answers.{Session, Answer, begin_at, says, answer}
 
 -- the answer behind another
@@ -64,6 +64,14 @@ pub record EndsThere (t : Trace) (gone : List ℕ) (e : Ending) : Type 0 where
   pub before : (answers front (begin_at t)).ends ≡ GoesOn
   pub there : (answers (front ++ line ∷ []) (begin_at t)).ends ≡ e
 
+-- the bytes end with a line that ends with LF, and no line before it ended the session
+pub record EndsWithLine (t : Trace) (gone : List ℕ) : Type 0 where
+  pub front : List (List ℕ)
+  pub line : List ℕ
+  pub lines : (input_of gone).lines ≡ front ++ line ∷ []
+  pub last : (input_of gone).last ≡ []
+  pub before : (answers front (begin_at t)).ends ≡ GoesOn
+
 -- all bytes are gone, and no line of them that ends with LF ended the session: what comes after the last LF may have
 pub record EndsAll (t : Trace) (left now_left : Option (List ℕ)) (gone : List ℕ) : Type 0 where
   pub all : ConsumesAll left now_left gone
@@ -90,8 +98,19 @@ Debugs t gone left now_left read_before read_now written now_written before now 
     let told : Told = transcript_from t (input_of gone) in
     (told.result ≡ Err e) × Appends written now_written told.text
 
+-- how far a session reads that an error stops. After the line that ended it, or whose answer could not be written, nothing
+-- is read; nor is it after the first byte that is too many. If memory ran out for a byte, no line before that ended the session.
+-- `Debugs` says it of the other results
+abbrev pub ReadsUpTo : Trace → (gone : List ℕ) → (left now_left : Option (List ℕ)) → Result (Unit {0}) DebugError → Type 0
+ReadsUpTo t gone left now_left (Err WriteFault) = EndsWithLine t gone ⊎ EndsAll t left now_left gone
+ReadsUpTo t gone left now_left (Err OutOfMemory) = EndsWithLine t gone ⊎ ((answers (input_of gone).lines (begin_at t)).ends ≡ GoesOn)
+ReadsUpTo t gone left now_left (Err (LineTooLong n)) = EndsTooMany 0 gone
+ReadsUpTo t gone left now_left (Err (TooMuch n)) = EndsTooMany 0 gone
+ReadsUpTo t gone left now_left result = Unit {0}
+
 -- bytes of the source are gone, and they are the commands
 pub record Debugged (t : Trace) (left now_left : Option (List ℕ)) (read_before read_now : ℕ) (written now_written : Option (List ℕ)) (before now : ℕ) (result : Result (Unit {0}) DebugError) : Type 0 where
   pub gone : List ℕ
   pub taken : Consumes left now_left gone
   pub done : Debugs t gone left now_left read_before read_now written now_written before now result
+  pub up_to : ReadsUpTo t gone left now_left result

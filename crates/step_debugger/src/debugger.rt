@@ -1,5 +1,6 @@
 //! The debugger.
 ghost use Rattle.std.specs.Prelude.{◌≤◌};
+ghost use Rattle.step_debugger.specs.Goings.{StopsApart};
 ghost use Rattle.step_debugger.specs.Transcript.{Debugged};
 
 use crate::error::DebugError;
@@ -26,6 +27,7 @@ pub fn debug<I: Source, O: Sink>(
 ) -> Result<(), DebugError>
     ensures told { Debugged trail.old.trace (I.left input.old) (I.left input.new) (I.faults input.old) (I.faults input.new)
         (O.written out.old) (O.written out.new) (O.faults out.old) (O.faults out.new) result }
+    ensures apart { StopsApart trail.old.trace result trail.new.trace }
     ensures read { I.faults input.old ≤ I.faults input.new }
     ensures later { O.faults out.old ≤ O.faults out.new }
 {

@@ -6,6 +6,7 @@ mod debugger;
 mod error;
 mod examples;
 mod focus;
+pub mod laws;
 mod lines;
 mod moves;
 mod numbers;

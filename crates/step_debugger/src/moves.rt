@@ -5,7 +5,7 @@ ghost use Rattle.joint_replay.specs.declared.kinds.Next.TheVariants.{Hart};
 ghost use Rattle.joint_replay.specs.Joining.{readiness, choice, positions_from};
 ghost use Rattle.joint_replay.specs.Calls.{state_at};
 ghost use Rattle.step_debugger.specs.Answers.{pc_at, is_set, stop_at, stop_unless};
-ghost use Rattle.step_debugger.specs.Goings.{refused_by, StepsOnce, GoesOnce};
+ghost use Rattle.step_debugger.specs.Goings.{refused_by, StepsOnce, GoesOnce, StepsApart};
 
 use crate::error::DebugError;
 use crate::session::Ending;
@@ -62,7 +62,8 @@ fn refused_by(error: JointError) -> Result<Ending, DebugError>
 // Takes a step of a hart that is ready, and tells it.
 fn step_told(trail: &mut Trail, hart: HartId, text: &mut Text) -> Result<Option<Ending>, DebugError>
     requires { readiness trail.old.trace.now hart ≡ Ready }
-    ensures { StepsOnce trail.old.trace hart result trail.new.trace text.old text.new }
+    ensures told { StepsOnce trail.old.trace hart result trail.new.trace text.old text.new }
+    ensures apart { StepsApart trail.old.trace result trail.new.trace }
 {
     match trail.step(hart) {
         Ok(stepped) => match write_step(&stepped, text) {
@@ -83,7 +84,8 @@ pub(crate) fn step_once(
     hart: HartId,
     text: &mut Text,
 ) -> Result<Option<Ending>, DebugError>
-    ensures { StepsOnce trail.old.trace hart result trail.new.trace text.old text.new }
+    ensures told { StepsOnce trail.old.trace hart result trail.new.trace text.old text.new }
+    ensures apart { StepsApart trail.old.trace result trail.new.trace }
 {
     match ready(trail.joint(), hart) {
         Readiness::Ready => step_told(trail, hart, text),
@@ -165,7 +167,8 @@ fn go_past(
     text: &mut Text,
 ) -> Result<Option<Ending>, DebugError>
     requires { choice trail.old.trace.now ≡ Hart hart }
-    ensures { GoesOnce first breaks.now trail.old.trace result trail.new.trace text.old text.new }
+    ensures told { GoesOnce first breaks.now trail.old.trace result trail.new.trace text.old text.new }
+    ensures apart { StepsApart trail.old.trace result trail.new.trace }
 {
     match stop_unless(first, breaks, trail.joint(), hart) {
         Some(at) => match push_stop(text, hart, at.0, at.1) {
@@ -190,7 +193,8 @@ pub(crate) fn go_once(
     breaks: &[Addr],
     text: &mut Text,
 ) -> Result<Option<Ending>, DebugError>
-    ensures { GoesOnce first breaks.now trail.old.trace result trail.new.trace text.old text.new }
+    ensures told { GoesOnce first breaks.now trail.old.trace result trail.new.trace text.old text.new }
+    ensures apart { StepsApart trail.old.trace result trail.new.trace }
 {
     match trail.joint().next() {
         Next::AllDone => match text.push_str("done\n") {

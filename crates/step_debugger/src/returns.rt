@@ -1,7 +1,7 @@
 //! Ways back, as commands take them.
 ghost use Rattle.std.specs.Prelude.{◌≡◌, ◌≤◌, length, Some, None, IfSome};
 ghost use Rattle.step_debugger.specs.Answers.{stop_before, stop_below, back_by, back_to, back_to_stop};
-ghost use Rattle.step_debugger.specs.Goings.{MovesBy};
+ghost use Rattle.step_debugger.specs.Goings.{MovesBy, TellsApart};
 
 use crate::error::DebugError;
 use crate::session::Ending;
@@ -13,7 +13,8 @@ use rv_text::Text;
 
 /// So many steps back, but not behind the first.
 pub(crate) fn back(trail: &mut Trail, count: u32, text: &mut Text) -> Result<Ending, DebugError>
-    ensures { MovesBy (back_by count trail.old.trace) result trail.new.trace text.old text.new }
+    ensures told { MovesBy (back_by count trail.old.trace) result trail.new.trace text.old text.new }
+    ensures apart { TellsApart trail.old.trace result trail.new.trace }
 {
     let to = trail.position().saturating_sub(u64::from(count));
     match trail.seek(to) {
@@ -67,7 +68,8 @@ fn stop_below(breaks: &[Addr], trail: &Trail) -> Option<Stop>
 
 // To the start.
 fn go_to_start(trail: &mut Trail, text: &mut Text) -> Result<Ending, DebugError>
-    ensures { MovesBy (back_to trail.old.trace None) result trail.new.trace text.old text.new }
+    ensures told { MovesBy (back_to trail.old.trace None) result trail.new.trace text.old text.new }
+    ensures apart { TellsApart trail.old.trace result trail.new.trace }
 {
     match trail.seek(0) {
         Err(_) => Err(DebugError::OutOfMemory),
@@ -81,7 +83,8 @@ fn go_to_start(trail: &mut Trail, text: &mut Text) -> Result<Ending, DebugError>
 // To a stop.
 fn go_to_stop(trail: &mut Trail, stop: &Stop, text: &mut Text) -> Result<Ending, DebugError>
     requires { stop.now.position ≤ length trail.old.trace.entries }
-    ensures { MovesBy (back_to trail.old.trace (Some stop.now)) result trail.new.trace text.old text.new }
+    ensures told { MovesBy (back_to trail.old.trace (Some stop.now)) result trail.new.trace text.old text.new }
+    ensures apart { TellsApart trail.old.trace result trail.new.trace }
 {
     match trail.seek(stop.position) {
         Err(_) => Err(DebugError::OutOfMemory),
@@ -98,7 +101,8 @@ pub(crate) fn back_to_stop(
     breaks: &[Addr],
     text: &mut Text,
 ) -> Result<Ending, DebugError>
-    ensures { MovesBy (back_to_stop breaks.now trail.old.trace) result trail.new.trace text.old text.new }
+    ensures told { MovesBy (back_to_stop breaks.now trail.old.trace) result trail.new.trace text.old text.new }
+    ensures apart { TellsApart trail.old.trace result trail.new.trace }
 {
     match stop_below(breaks, trail) {
         None => go_to_start(trail, text),

@@ -3,7 +3,7 @@ ghost use Rattle.std.specs.Prelude.{◌≡◌, ◌≤◌, ◌<◌, ◌++◌, ◌
 ghost use Rattle.std.specs.List.{filter};
 ghost use Rattle.joint_replay.specs.Calls.{state_at};
 ghost use Rattle.step_debugger.specs.Answers.{is_set, registers_text, hart_place, places_from, choose, add_break, take_break};
-ghost use Rattle.step_debugger.specs.Goings.{session_of, Says, Goes, TellsSteps, Performs, IsAnswered, done_by};
+ghost use Rattle.step_debugger.specs.Goings.{session_of, Says, Goes, TellsSteps, Performs, IsAnswered, TellsApart, done_by};
 
 use crate::command::DebugCommand;
 use crate::error::DebugError;
@@ -147,6 +147,7 @@ fn step_up_to<O: Sink>(
     out: &mut O,
 ) -> Result<Ending, DebugError>
     ensures sent { TellsSteps hart count trail.old.trace trail.new.trace text.old text.new (O.written out.old) (O.written out.new) (O.faults out.old) (O.faults out.new) result }
+    ensures apart { TellsApart trail.old.trace result trail.new.trace }
     ensures later { O.faults out.old ≤ O.faults out.new }
 {
     for done in 0..count {
@@ -169,7 +170,8 @@ fn go(
     breaks: &[Addr],
     text: &mut Text,
 ) -> Result<Ending, DebugError>
-    ensures { Goes breaks.now trail.old.trace result trail.new.trace text.old text.new }
+    ensures told { Goes breaks.now trail.old.trace result trail.new.trace text.old text.new }
+    ensures apart { TellsApart trail.old.trace result trail.new.trace }
 {
     let mut first = true;
     'steps: loop {
@@ -204,6 +206,7 @@ fn perform<O: Sink>(
 ) -> Result<Ending, DebugError>
     ensures sent { Performs command (session_of trail.old.trace focus.old) (session_of trail.new.trace focus.new) text.old text.new
         (O.written out.old) (O.written out.new) (O.faults out.old) (O.faults out.new) result }
+    ensures apart { TellsApart trail.old.trace result trail.new.trace }
     ensures later { O.faults out.old ≤ O.faults out.new }
 {
     match command {
@@ -234,6 +237,7 @@ pub(crate) fn answer<O: Sink>(
 ) -> Result<Ending, DebugError>
     ensures sent { IsAnswered line.now (session_of trail.old.trace focus.old) (session_of trail.new.trace focus.new)
         (O.written out.old) (O.written out.new) (O.faults out.old) (O.faults out.new) result }
+    ensures apart { TellsApart trail.old.trace result trail.new.trace }
     ensures later { O.faults out.old ≤ O.faults out.new }
 {
     text.clear();

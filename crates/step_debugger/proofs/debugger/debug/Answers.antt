@@ -6,12 +6,14 @@ use Rattle.step_debugger.specs.Lines.{Reading, NextLine}
 use Rattle.step_debugger.specs.Answers.{Session, answer}
 use Rattle.step_debugger.specs.Goings.{session_of, Stops}
 use Rattle.step_debugger.proofs.Lasting.{Stands, at_begin, one_more, not_read, not_sent, quits, refused, ends}
+use Rattle.step_debugger.proofs.Apart.{goes_on, not_read_apart, not_answered, quits_apart, refused_apart}
 use Rattle.step_debugger.proofs.debugger.debug.Goals as goal
 
 pub lines-init : goal.lines-init
 lines-init g c = record {
   stands = at_begin c.args.trail.now.trace (session_of c.args.trail.now.trace (record { hart = 0; breaks = c.new.result })) c.new-reader.result.count (g.I.Source.left c.args.input.now) (g.O.Sink.written c.args.out.now)
       (ap (λ (bs : List ℕ). record { trace = c.args.trail.now.trace; hart = 0; breaks = bs }) c.new.ensures.items) (ap (λ (r : Reading). r.count) c.new-reader.ensures);
+  apart = λ u. u;
   read = omega arith;
   later = omega arith;
 }
@@ -40,6 +42,7 @@ lines-preserved g c =
       stands = subst (λ (t : Session). Stands c.args.trail.now.trace t c.next.new.self.count (g.I.Source.left c.args.input.now) (g.I.Source.left c.next.new.source) (g.O.Sink.written c.args.out.now) (g.O.Sink.written c.answer.new.out)) (sym h.1.0)
           (one_more c.args.trail.now.trace (session_of c.lines.trail.trace c.lines.focus) c.lines.reader c.next.new.self (g.I.Source.left c.args.input.now) (g.I.Source.left c.lines.input) (g.I.Source.left c.next.new.source)
           (g.O.Sink.written c.args.out.now) (g.O.Sink.written c.lines.out) (g.I.Source.faults c.lines.input) (g.I.Source.faults c.next.new.source) (g.O.Sink.written c.answer.new.out) c.lines.invariant.stands n (sym h.1.1 ∙ c.in-GoesOn.is) h.0);
+      apart = goes_on c.args.trail.now.trace c.lines.trail.trace c.answer.new.trail.trace c.in-Ok-answer.ending c.in-GoesOn.is c.lines.invariant.apart c.in-Ok-answer.ensures.apart;
       read = omega (arith, c.lines.invariant.read, c.next.ensures.later);
       later = omega (arith, c.lines.invariant.later, c.answer.ensures.later);
     }
@@ -71,3 +74,24 @@ returns-then-not-whole-clause-told g c =
     ends c.args.trail.now.trace (session_of c.lines.trail.trace c.lines.focus) c.lines.reader c.next.new.self (g.I.Source.left c.args.input.now) (g.I.Source.left c.lines.input) (g.I.Source.left c.next.new.source)
     (g.O.Sink.written c.args.out.now) (g.O.Sink.written c.lines.out) (g.O.Sink.written c.answer.new.out) (g.I.Source.faults c.args.input.now) (g.I.Source.faults c.lines.input) (g.I.Source.faults c.next.new.source)
     (g.O.Sink.faults c.args.out.now) (g.O.Sink.faults c.answer.new.out) c.lines.invariant.stands n (sym h.1.1 ∙ c.in-GoesOn.is) h.0
+
+pub returns-in-Err-clause-apart : goal.returns-in-Err-clause-apart
+returns-in-Err-clause-apart g c =
+    not_read_apart c.args.trail.now.trace c.lines.trail.trace c.lines.reader c.next.new.self (g.I.Source.left c.lines.input) (g.I.Source.left c.next.new.source) (g.I.Source.faults c.lines.input) (g.I.Source.faults c.next.new.source)
+    c.in-Err.error c.in-Err.ensures.read c.lines.invariant.apart
+
+pub returns-in-Err-answer-clause-apart : goal.returns-in-Err-answer-clause-apart
+returns-in-Err-answer-clause-apart g c =
+    not_answered c.args.trail.now.trace c.lines.trail.trace c.answer.new.trail.trace (g.O.Sink.faults c.lines.out) (g.O.Sink.faults c.answer.new.out) c.in-Err-answer.error
+    c.in-Err-answer.ensures.sent.1 c.lines.invariant.apart c.in-Err-answer.ensures.apart
+
+pub returns-in-Quits-clause-apart : goal.returns-in-Quits-clause-apart
+returns-in-Quits-clause-apart g c =
+    quits_apart c.args.trail.now.trace c.lines.trail.trace c.answer.new.trail.trace c.in-Ok-answer.ending c.in-Quits.is c.lines.invariant.apart c.in-Ok-answer.ensures.apart
+
+pub returns-in-Refused-clause-apart : goal.returns-in-Refused-clause-apart
+returns-in-Refused-clause-apart g c = refused_apart c.lines.trail.trace c.answer.new.trail.trace c.in-Ok-answer.ending c.in-Refused.error c.in-Refused.is c.in-Ok-answer.ensures.apart
+
+pub returns-then-not-whole-clause-apart : goal.returns-then-not-whole-clause-apart
+returns-then-not-whole-clause-apart g c =
+    goes_on c.args.trail.now.trace c.lines.trail.trace c.answer.new.trail.trace c.in-Ok-answer.ending c.in-GoesOn.is c.lines.invariant.apart c.in-Ok-answer.ensures.apart

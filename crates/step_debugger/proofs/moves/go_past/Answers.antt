@@ -13,7 +13,7 @@ step-requires-clause-there c = lowest_is_there c.args.trail.now.trace.now c.args
 pub step-requires-clause-ready : goal.step-requires-clause-ready
 step-requires-clause-ready c = lowest_is_ready c.args.trail.now.trace.now c.args.hart c.requires
 
-pub returns-in-Ok-step : goal.returns-in-Ok-step
-returns-in-Ok-step c =
+pub returns-in-Ok-step-clause-told : goal.returns-in-Ok-step-clause-told
+returns-in-Ok-step-clause-told c =
     went c.args.first c.args.breaks.now c.args.trail.now c.step.new.self c.args.hart c.in-Ok-step.field-0 c.args.text.now c.requires
     (subst (λ (j : Joining). None ≡ stop_unless c.args.first c.args.breaks.now j c.args.hart) c.joint.ensures c.in-None.ensures) c.in-Ok-step.ensures

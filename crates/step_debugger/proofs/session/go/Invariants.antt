@@ -1,12 +1,14 @@
 use Rattle.std.proofs.Common.{◌≡◌, true}
 use Rattle.joint_replay.specs.Joining.{steps_left}
 use Rattle.step_debugger.specs.Answers.{go_on}
+use Rattle.step_debugger.specs.Goings.{StaysUnrefused}
 use Rattle.step_debugger.proofs.session.go.Given as goal
 
 abbrev pub invariant-steps : goal.invariant-steps
 invariant-steps l = record {
   same : l.text ≡ l.fn.text;
   rest : go_on l.first l.breaks l.trail.trace ≡ go_on true l.breaks l.fn.trail.trace;
+  apart : StaysUnrefused l.fn.trail.trace l.trail.trace;
 }
 
 -- the steps that are left
