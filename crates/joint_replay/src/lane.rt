@@ -243,7 +243,8 @@ impl<'a> Lane<'a> {
                         Some(did) => Ok(Moved::Row(did)),
                         None => {
                             let ended = Moved::Ended(cursor.number, cursor.replayer.mark());
-                            self.cursor = next_cursor(
+                            begin_next(
+                                &mut self.cursor,
                                 self.alloc,
                                 self.image,
                                 self.log,
@@ -334,4 +335,24 @@ fn next_cursor<'a>(
             Err(_) => unreachable!(),
         },
     }
+}
+
+// Begins the next one of the hart's intervals in the place of the one that ended. Room for an interval would be zeroed
+// in each step where the step itself took it from one place to the other.
+#[cold]
+#[inline(never)]
+fn begin_next<'a>(
+    cursor: &mut Option<HartCursor<'a>>,
+    alloc: Global,
+    image: &'a Image,
+    log: &'a KeptLog,
+    hart: HartId,
+    later: &mut Vec<Retained>,
+)
+    requires hart { hart < log.now.head.settings.harts }
+    requires there { AreThere hart log.now.records later.old.items }
+    ensures cursors { hart_cursors image.now log.now.records hart cursor.new later.new.items ≡ later_cursors image.now log.now.records hart later.old.items }
+    ensures whole { IsHartLane image.now log.now hart cursor.new later.new.items }
+{
+    *cursor = next_cursor(alloc, image, log, hart, later);
 }

@@ -68,6 +68,17 @@ impl Epochs {
         self.grow()
     }
 
+    /// Whether an epoch can begin without memory.
+    #[inline(always)]
+    pub fn has_next(&self) -> bool
+        ensures { result ≡ has_epoch self.now }
+    {
+        match self.table.get(self.next as usize) {
+            Some(epoch) => !epoch.used,
+            None => false,
+        }
+    }
+
     // Goes on to the first epoch that isn't used.
     fn pass_used(&mut self)
         ensures table { self.new.table ≡ self.old.table }

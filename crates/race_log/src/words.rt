@@ -85,10 +85,21 @@ impl KeptWords {
         ensures stays { (f n : ℕ) → HasRoom self.old f n → HasRoom self.new f n }
         ensures ready { HasRoom self.old first count → IsOk result }
     {
-        if self.harts < 2 {
+        if self.harts < 2 || self.is_ready(first, count) {
             return Ok(());
         }
         self.make_room_for_many(first, count)
+    }
+
+    // Whether there is room for an access of one word, as there is before nearly each: so no loop is entered for it.
+    #[inline(always)]
+    fn is_ready(&self, first: Addr, count: u32) -> bool
+        ensures { result ≡ true → HasRoom self.now first count }
+    {
+        if count != 1 || self.page(first).is_empty() {
+            return false;
+        }
+        self.epochs.has_next()
     }
 
     // Makes room for an access if there are several harts.

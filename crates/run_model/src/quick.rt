@@ -4,6 +4,7 @@
 ghost use Rattle.std.specs.Prelude.{is_some, ◌&&◌, nat_lt, ◌≡◌, ◌≤◌, ◌<◌, ◌+◌, ◌-◌, ◌^◌, ◌++◌, ◌==◌, ◌≢◌, ℕ, List, length, IsTrue, true, false, Option, Some, None, ◌*◌, if◌then◌else◌};
 ghost use Rattle.bn_base.specs.declared.settings.RawSettings.{RawSettings};
 ghost use Rattle.bn_base.specs.declared.settings.TheConstants.{HARTS};
+ghost use Rattle.bn_base.specs.declared.state.HartState.{HartState};
 ghost use Rattle.rv_meaning.specs.Execute.{absorbed};
 ghost use Rattle.rv_meaning.specs.Orderly.{is_reply_to};
 ghost use Rattle.first_load_bits.specs.Events.{Event};
@@ -41,10 +42,11 @@ use crate::records::{append_load, append_next};
 use crate::span::Span;
 use crate::trace::Trace;
 use crate::turn_end::TurnEnd;
-use bn_base::{Addr, HartId, HartState, Ic, Register, Registers, Settings};
+use bn_base::{Addr, HartId, Ic, Register, Registers, Settings};
 use first_load_bits::Warm;
 use race_log::Mode;
 use rv_meaning::{DecodedImage, Reply, Want};
+use std::mem::swap;
 
 // As `take_turn`, where the hart's own state is the one that it asks in, and no call is planned.
 #[inline(always)]
@@ -89,16 +91,17 @@ impl Trace {
         code.quiet_run_in_place(&mut own.state, budget)
     }
 
-    // Puts a hart back in an earlier state. The answer is the one that it was in.
-    pub(crate) fn put_back(&mut self, hart: HartId, pc: Addr, x: &Registers, ic: Ic) -> HartState
+    // Puts a hart back in an earlier state, whose parts are then those of the state that it was in.
+    #[inline(never)]
+    pub(crate) fn put_back(&mut self, hart: HartId, pc: &mut Addr, x: &mut Registers, ic: &mut Ic)
         requires { hart < length self.old.harts.items }
-        ensures state { result ≡ (hart_in self.old.harts.items hart).state }
-        ensures moved { IsMoved hart (record { pc = pc; x = x.now; ic = ic }) self.old self.new }
+        ensures state { ◌≡◌ {A = HartState} (record { pc = pc.new; x = x.new; ic = ic.new }) (hart_in self.old.harts.items hart).state }
+        ensures moved { IsMoved hart (record { pc = pc.old; x = x.old; ic = ic.old }) self.old self.new }
     {
-        let own = &mut self.harts[hart as usize];
-        let state = own.state;
-        own.state = HartState { pc, x: *x, ic };
-        state
+        let own = &mut self.harts[hart as usize].state;
+        swap(&mut own.pc, pc);
+        swap(&mut own.x, x);
+        swap(&mut own.ic, ic);
     }
 
     // As `finish`, where the hart's own state is the one that it asks in, and no call is planned.

@@ -1,12 +1,13 @@
 // A turn of a plain machine, from a hart's quiet instructions on.
 ghost use Rattle.std.specs.Prelude.{◌≡◌, true, OnOk, OnErr};
+ghost use Rattle.rv_meaning.specs.declared.asks.Ask.{Ask};
 ghost use Rattle.run_model.specs.Turn.{Run, turn, ask_at};
 ghost use Rattle.run_model.specs.Stands.Harts.{hart_in};
 ghost use Rattle.run_model.specs.Stands.Plain.{IsRun};
 ghost use Rattle.run_model.specs.Stands.Turning.{parts, is_live};
 
 use crate::plain::Plain;
-use bn_base::HartId;
+use bn_base::{Addr, HartId, HartState, Ic, Registers};
 use rv_meaning::{Ask, DecodedImage, Want, each_ask_is_orderly, quiet_run};
 use std::alloc::AllocError;
 
@@ -36,9 +37,9 @@ impl Plain {
         each_ask_is_orderly();
         // Three copies in place of one of the whole, which would be a call.
         let before = self.state(hart);
-        let pc = before.pc;
-        let x = before.x;
-        let ic = before.ic;
+        let mut pc = before.pc;
+        let mut x = before.x;
+        let mut ic = before.ic;
         let want = self.trace.move_on(&self.start.settings, code, hart);
         match want {
             Want::Load {
@@ -60,8 +61,29 @@ impl Plain {
             }
             _ => {}
         }
-        let state = self.trace.put_back(hart, pc, &x, ic);
-        self.take_asked(hart, &Ask { state, want })
+        self.trace.put_back(hart, &mut pc, &mut x, &mut ic);
+        self.take_in_parts(hart, pc, &x, ic, &want)
+    }
+
+    // As `take_asked`, by the parts of the ask. It is made here, since room for it would be zeroed in each turn where its
+    // caller made it, also in those that are done in their hart's own place.
+    #[inline(never)]
+    fn take_in_parts(
+        &mut self,
+        hart: HartId,
+        pc: Addr,
+        x: &Registers,
+        ic: Ic,
+        want: &Want,
+    ) -> Result<(), AllocError>
+        requires live { is_live (parts self.old) hart ≡ true }
+        requires asked { ◌≡◌ {A = Ask} (record { state = record { pc = pc; x = x.now; ic = ic }; want = want.now }) (ask_at self.old.start.settings self.old.start.image (hart_in self.old.trace.harts.items hart)) }
+        ensures run { OnOk result ((run : Run) → IsRun (parts self.old) run → IsRun (parts self.new) (turn self.old.start.settings self.old.start.image run hart)) }
+        ensures refused { OnErr result ((run : Run) → IsRun (parts self.old) run → IsRun (parts self.new) run) }
+        ensures start { self.new.start ≡ self.old.start }
+    {
+        let state = HartState { pc, x: *x, ic };
+        self.take_asked(hart, &Ask { state, want: *want })
     }
 
     // The turn of a live hart that asks this next.

@@ -1,6 +1,7 @@
-use Rattle.std.proofs.Common.{◌≡◌, ◌-◌, ℕ, List}
+use Rattle.std.proofs.Common.{◌≡◌, ◌-◌, ℕ, List, ◌++◌}
 use Rattle.run_model.specs.Runs.{most_turns}
 use Rattle.hart_worker.specs.Lists.{HasTaken}
+use Rattle.hart_worker.proofs.Counted.{IsCount}
 use Rattle.hart_worker.proofs.Taken.{IsDrawn}
 use Rattle.hart_worker.proofs.turns.finish_unlisted.Given as goal
 
@@ -8,7 +9,7 @@ abbrev pub invariant-drawing : goal.invariant-drawing
 invariant-drawing g l = record {
   began : l.bus.began ≡ l.initial.bus.began;
   halted : l.bus.halted ≡ l.initial.bus.halted;
-  drawn : (list : List ℕ) → HasTaken g.B.Book.tells l.initial.bus list → (rest : List ℕ) × IsDrawn g.B.Book.tells l.initial.bus.began list l.fn.seed l.bus l.state rest;
+  drawn : (list : List ℕ) → HasTaken g.B.Book.tells l.initial.bus list → (rest : List ℕ) × (IsDrawn g.B.Book.tells l.initial.bus.began list l.fn.seed l.bus l.state rest × IsCount l.bus.began (list ++ rest) l.count);
 }
 
 abbrev pub decreases-drawing : goal.decreases-drawing

@@ -18,6 +18,6 @@ returns-in-Some-next c =
 
 pub returns-in-None-next : goal.returns-in-None-next
 returns-in-None-next c =
-    subst (λ (o : HartLane). LaneSteps o (Ok (to.Ended c.cursor.inside.number c.mark.result)) (hart_lane c.self.inside.image.now c.self.inside.log.now.records c.self.inside.hart c.pop_first.new.self.keys c.next_cursor.result c.next_cursor.new.later.items)) c.self.view_is
-    (ends_in c.self.inside.image.now c.self.inside.log.now.records c.self.inside.hart c.self.inside.later.items c.self.inside.points.keys c.pop_first.new.self.keys c.self.inside.cursor c.in-Some-cursor.cursor c.step.new.self c.in-Ok.next c.next_cursor.result c.next_cursor.new.later.items
-    c.cursor.inside.number c.mark.result c.in-Some-cursor.is c.in-None-next.is (no_keys c.self.inside.points.keys c.in-None.ensures.variant.1) (c.in-None.ensures.unchanged ∙ no_keys c.self.inside.points.keys c.in-None.ensures.variant.1) c.in-Ok.ensures (ap (λ (r : Running). r.cursor.number) c.cursor.view_is) (c.mark.ensures ∙ ap (λ (r : Running). r.cursor.mark) c.cursor.view_is) c.next_cursor.ensures.cursors)
+    subst (λ (o : HartLane). LaneSteps o (Ok (to.Ended c.cursor.inside.number c.mark.result)) (hart_lane c.self.inside.image.now c.self.inside.log.now.records c.self.inside.hart c.pop_first.new.self.keys c.begin_next.new.cursor c.begin_next.new.later.items)) c.self.view_is
+    (ends_in c.self.inside.image.now c.self.inside.log.now.records c.self.inside.hart c.self.inside.later.items c.self.inside.points.keys c.pop_first.new.self.keys c.self.inside.cursor c.in-Some-cursor.cursor c.step.new.self c.in-Ok.next c.begin_next.new.cursor c.begin_next.new.later.items
+    c.cursor.inside.number c.mark.result c.in-Some-cursor.is c.in-None-next.is (no_keys c.self.inside.points.keys c.in-None.ensures.variant.1) (c.in-None.ensures.unchanged ∙ no_keys c.self.inside.points.keys c.in-None.ensures.variant.1) c.in-Ok.ensures (ap (λ (r : Running). r.cursor.number) c.cursor.view_is) (c.mark.ensures ∙ ap (λ (r : Running). r.cursor.mark) c.cursor.view_is) c.begin_next.ensures.cursors)

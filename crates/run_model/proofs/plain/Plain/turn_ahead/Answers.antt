@@ -199,8 +199,8 @@ returns-then-ready_store-clause-run c run is =
     subst (λ (x : Run). IsRun (parts new) x) (turn_is settings p.start.image run k asked None ea refl ordered)
     (subst (λ (b : Bool). IsRun (parts new) (serve_call settings run k asked b None).run) (sym unguarded) served)
 
-pub put_back-state-requires : goal.put_back-state-requires
-put_back-state-requires c =
+pub put_back-requires : goal.put_back-requires
+put_back-requires c =
     let p = c.args.self.now in let k = c.args.hart in let h : Hart = hart_in p.trace.harts.items k in
     let live = live_within p.trace.harts.items k c.requires.live in
     let s : HartState = (ask_at p.start.settings p.start.image h).state in
@@ -249,15 +249,15 @@ invariant_of-self-2 c =
       })
       | in_default w ↦ rw (w.self-is, w.want-is) (record { start_is = refl; machine_is = refl; turns_is = refl; want_is = refl; like = like_itself on })
     ] in
-    let like : IsLike p.trace c.put_back-state.new.self = back p.trace on c.match-want.self.1.1.1.0 c.put_back-state.new.self k s c.state-before.result.now live.0 c.state-before.ensures moved aside.like c.put_back-state.ensures.moved in
+    let like : IsLike p.trace c.put_back.new.self = back p.trace on c.match-want.self.1.1.1.0 c.put_back.new.self k s c.state-before.result.now live.0 c.state-before.ensures moved aside.like c.put_back.ensures.moved in
     record {
       memory = ap size_of aside.machine_is ∙ p.memory ∙ sym (ap (λ (x : Start). x.image.memory) aside.start_is);
-      fits = subst (λ (x : Start). IsTraceFit x.settings c.put_back-state.new.self c.match-want.self.1.1.1.1.0) (sym aside.start_is)
-          (subst (λ (n : ℕ). IsTraceFit p.start.settings c.put_back-state.new.self n) (sym aside.turns_is) (like_fit p.start.settings p.trace c.put_back-state.new.self p.turns p.fits like));
+      fits = subst (λ (x : Start). IsTraceFit x.settings c.put_back.new.self c.match-want.self.1.1.1.1.0) (sym aside.start_is)
+          (subst (λ (n : ℕ). IsTraceFit p.start.settings c.put_back.new.self n) (sym aside.turns_is) (like_fit p.start.settings p.trace c.put_back.new.self p.turns p.fits like));
     }
 
-pub take_asked-requires-clause-live : goal.take_asked-requires-clause-live
-take_asked-requires-clause-live c =
+pub take_in_parts-requires-clause-live : goal.take_in_parts-requires-clause-live
+take_in_parts-requires-clause-live c =
     let p = c.args.self.now in let k = c.args.hart in let h : Hart = hart_in p.trace.harts.items k in
     let live = live_within p.trace.harts.items k c.requires.live in
     let s : HartState = (ask_at p.start.settings p.start.image h).state in
@@ -280,11 +280,11 @@ take_asked-requires-clause-live c =
       })
       | in_default w ↦ rw (w.self-is, w.want-is) (record { start_is = refl; machine_is = refl; turns_is = refl; want_is = refl; like = like_itself on })
     ] in
-    let like : IsLike p.trace c.put_back-state.new.self = back p.trace on c.match-want.self.1.1.1.0 c.put_back-state.new.self k s c.state-before.result.now live.0 c.state-before.ensures moved aside.like c.put_back-state.ensures.moved in
+    let like : IsLike p.trace c.put_back.new.self = back p.trace on c.match-want.self.1.1.1.0 c.put_back.new.self k s c.state-before.result.now live.0 c.state-before.ensures moved aside.like c.put_back.ensures.moved in
     ap (λ (xs : List Hart). is_live_hart (slice_get xs k)) like.harts ∙ c.requires.live
 
-pub take_asked-requires-clause-asked : goal.take_asked-requires-clause-asked
-take_asked-requires-clause-asked c =
+pub take_in_parts-requires-clause-asked : goal.take_in_parts-requires-clause-asked
+take_in_parts-requires-clause-asked c =
     let p = c.args.self.now in let k = c.args.hart in let h : Hart = hart_in p.trace.harts.items k in
     let live = live_within p.trace.harts.items k c.requires.live in
     let s : HartState = (ask_at p.start.settings p.start.image h).state in
@@ -307,13 +307,13 @@ take_asked-requires-clause-asked c =
       })
       | in_default w ↦ rw (w.self-is, w.want-is) (record { start_is = refl; machine_is = refl; turns_is = refl; want_is = refl; like = like_itself on })
     ] in
-    let like : IsLike p.trace c.put_back-state.new.self = back p.trace on c.match-want.self.1.1.1.0 c.put_back-state.new.self k s c.state-before.result.now live.0 c.state-before.ensures moved aside.like c.put_back-state.ensures.moved in
-    let was : c.put_back-state.result ≡ s = c.put_back-state.ensures.state ∙ ap (λ (xs : List Hart). (hart_in xs k).state) aside.like.harts ∙ ap (λ (y : Hart). y.state) (own_moved p.trace on k s moved live.0) in
+    let like : IsLike p.trace c.put_back.new.self = back p.trace on c.match-want.self.1.1.1.0 c.put_back.new.self k s c.state-before.result.now live.0 c.state-before.ensures moved aside.like c.put_back.ensures.moved in
+    let was : ◌≡◌ {A = HartState} (record { pc = c.put_back.new.pc; x = c.put_back.new.x; ic = c.put_back.new.ic }) s = c.put_back.ensures.state ∙ ap (λ (xs : List Hart). (hart_in xs k).state) aside.like.harts ∙ ap (λ (y : Hart). y.state) (own_moved p.trace on k s moved live.0) in
     let want : c.match-want.want ≡ (ask_at p.start.settings p.start.image h).want = aside.want_is ∙ c.move_on-want.ensures.want ∙ ap (λ (i : Program). (ask_at p.start.settings i h).want) c.requires.code in
     ap (λ (x : HartState). record { state = x; want = c.match-want.want }) was
     ∙ ap (λ (w : Want). record { state = s; want = w }) want
     ∙ ap (λ (xs : List Hart). ask_at p.start.settings p.start.image (hart_in xs k)) (sym like.harts)
-    ∙ ap (λ (x : Start). ask_at x.settings x.image (hart_in c.put_back-state.new.self.harts.items k)) (sym aside.start_is)
+    ∙ ap (λ (x : Start). ask_at x.settings x.image (hart_in c.put_back.new.self.harts.items k)) (sym aside.start_is)
 
 pub returns-clause-run : goal.returns-clause-run
 returns-clause-run c =
@@ -339,8 +339,8 @@ returns-clause-run c =
       })
       | in_default w ↦ rw (w.self-is, w.want-is) (record { start_is = refl; machine_is = refl; turns_is = refl; want_is = refl; like = like_itself on })
     ] in
-    let like : IsLike p.trace c.put_back-state.new.self = back p.trace on c.match-want.self.1.1.1.0 c.put_back-state.new.self k s c.state-before.result.now live.0 c.state-before.ensures moved aside.like c.put_back-state.ensures.moved in
-    on_ok_weaker c.take_asked.result (λ each run is. subst (λ (x : Start). IsRun (parts c.take_asked.new.self) (turn x.settings x.image run k)) aside.start_is (each run (stands_on (parts p) _ run aside.start_is aside.machine_is aside.turns_is is.machine (like_trace p.start.settings p.trace c.put_back-state.new.self run is.trace like) is.turns))) c.take_asked.ensures.run
+    let like : IsLike p.trace c.put_back.new.self = back p.trace on c.match-want.self.1.1.1.0 c.put_back.new.self k s c.state-before.result.now live.0 c.state-before.ensures moved aside.like c.put_back.ensures.moved in
+    on_ok_weaker c.take_in_parts.result (λ each run is. subst (λ (x : Start). IsRun (parts c.take_in_parts.new.self) (turn x.settings x.image run k)) aside.start_is (each run (stands_on (parts p) _ run aside.start_is aside.machine_is aside.turns_is is.machine (like_trace p.start.settings p.trace c.put_back.new.self run is.trace like) is.turns))) c.take_in_parts.ensures.run
 
 pub returns-clause-refused : goal.returns-clause-refused
 returns-clause-refused c =
@@ -366,5 +366,5 @@ returns-clause-refused c =
       })
       | in_default w ↦ rw (w.self-is, w.want-is) (record { start_is = refl; machine_is = refl; turns_is = refl; want_is = refl; like = like_itself on })
     ] in
-    let like : IsLike p.trace c.put_back-state.new.self = back p.trace on c.match-want.self.1.1.1.0 c.put_back-state.new.self k s c.state-before.result.now live.0 c.state-before.ensures moved aside.like c.put_back-state.ensures.moved in
-    on_err_weaker c.take_asked.result (λ each run is. each run (stands_on (parts p) _ run aside.start_is aside.machine_is aside.turns_is is.machine (like_trace p.start.settings p.trace c.put_back-state.new.self run is.trace like) is.turns)) c.take_asked.ensures.refused
+    let like : IsLike p.trace c.put_back.new.self = back p.trace on c.match-want.self.1.1.1.0 c.put_back.new.self k s c.state-before.result.now live.0 c.state-before.ensures moved aside.like c.put_back.ensures.moved in
+    on_err_weaker c.take_in_parts.result (λ each run is. each run (stands_on (parts p) _ run aside.start_is aside.machine_is aside.turns_is is.machine (like_trace p.start.settings p.trace c.put_back.new.self run is.trace like) is.turns)) c.take_in_parts.ensures.refused
