@@ -91,6 +91,10 @@ MUTANTS = [
         edit("step_debugger", "a_session_reads_on_behind_quit"),
     ),
     (
+        "A session reads once more after it found the end of its commands.",
+        edit("step_debugger", "the_end_of_the_input_is_read_twice"),
+    ),
+    (
         "A session reads a byte after the first one that is too many for its line.",
         edit("step_debugger", "a_byte_is_read_after_a_line_that_is_too_long"),
     ),

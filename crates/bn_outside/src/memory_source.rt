@@ -87,12 +87,15 @@ impl Source for MemorySource {
 
     ghost faults = { λ s. s.faults };
 
+    ghost reads = { λ s. s.calls.made };
+
     fn read(&mut self, buffer: &mut [u8]) -> Result<usize, Failed>
         ensures bound { IfOk result (λ n. n ≤ length buffer.new) }
         ensures moved { IfOk result (λ n. self.old.left ≡ take n buffer.new ++ self.new.left) }
         ensures end { IfOk result (λ n. EndsExactly (Some self.old.left) n buffer.new) }
         ensures kept { OnErr result (self.new.left ≡ self.old.left) }
         ensures later { self.old.faults ≤ self.new.faults }
+        ensures counted { self.new.calls.made ≡ counted self.old.calls.made }
         ensures cause { OnErr result (Rose self.old.faults self.new.faults) }
 
         // Exactly the listed calls fail, and the others give all that they may.

@@ -1,7 +1,7 @@
 // A source of bytes.
-ghost use Rattle.std.specs.Prelude.{◌≤◌, ℕ, List, Option, IfOk, OnErr, length, take};
+ghost use Rattle.std.specs.Prelude.{◌≡◌, ◌≤◌, ℕ, List, Option, IfOk, OnErr, length, take};
 ghost use Rattle.std.specs.Io.KnownBytes.{Consumes, Keeps};
-ghost use Rattle.bn_outside.specs.Counts.{Rose};
+ghost use Rattle.bn_outside.specs.Counts.{Rose, counted};
 ghost use Rattle.bn_outside.specs.Streams.{EndsExactly};
 
 use crate::Failed;
@@ -14,6 +14,9 @@ pub trait Source {
     /// How often a read has failed.
     ghost faults: { Self → ℕ };
 
+    /// How often it was read.
+    ghost reads: { Self → ℕ };
+
     /// Moves the first bytes that are left to the front of `buffer` and answers how many, at most
     /// the buffer's length. For a buffer with room, 0 says that no byte is left.
     ///
@@ -25,5 +28,6 @@ pub trait Source {
         ensures end { IfOk result (λ n. EndsExactly (left self.old) n buffer.new) }
         ensures kept { OnErr result (Keeps (left self.old) (left self.new)) }
         ensures later { faults self.old ≤ faults self.new }
+        ensures counted { reads self.new ≡ counted (reads self.old) }
         ensures cause { OnErr result (Rose (faults self.old) (faults self.new)) };
 }

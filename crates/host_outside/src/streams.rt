@@ -9,6 +9,7 @@ use std::io::{Read, Write};
 pub struct ReaderSource<R> {
     inner: R,
     faults: u64,
+    reads: u64,
 }
 
 impl<R: Read> ReaderSource<R> {
@@ -16,8 +17,13 @@ impl<R: Read> ReaderSource<R> {
     pub fn new(inner: R) -> Self
         ensures inner { result.inner ≡ inner }
         ensures faults { result.faults ≡ 0 }
+        ensures reads { result.reads ≡ 0 }
     {
-        ReaderSource { inner, faults: 0 }
+        ReaderSource {
+            inner,
+            faults: 0,
+            reads: 0,
+        }
     }
 }
 
@@ -26,8 +32,11 @@ impl<R: Read> Source for ReaderSource<R> {
 
     ghost faults = { λ s. s.faults };
 
+    ghost reads = { λ s. s.reads };
+
     #[tactic(auto, using(crate::proofs::AtEnd::ends_exactly))]
     fn read(&mut self, buffer: &mut [u8]) -> Result<usize, Failed> {
+        self.reads = self.reads.saturating_add(1);
         match self.inner.read(buffer) {
             Ok(count) => Ok(count),
             Err(_) => {

@@ -37,7 +37,7 @@ pub none_yet : (count : ℕ) (line : List ℕ) (old : Option (List ℕ)) (before
 none_yet count line old before e = subst (λ (l : List ℕ). SoFar count count l old old before before) (sym e) (record { room = omega arith; gone = Consumes-nil old; as_far = λ more. refl; later = omega arith; grown = omega arith })
 
 -- one byte more
-behind_byte : (start count : ℕ) (line : List ℕ) (byte : ℕ) (more : List ℕ) (x : Input) → input_from start [] (line ++ byte ∷ more) ≡ input_from count line (byte ∷ more)
+pub behind_byte : (start count : ℕ) (line : List ℕ) (byte : ℕ) (more : List ℕ) (x : Input) → input_from start [] (line ++ byte ∷ more) ≡ input_from count line (byte ∷ more)
     → input_from count line (byte ∷ more) ≡ x → input_from start [] ((line ++ byte ∷ []) ++ more) ≡ x
 behind_byte start count line byte more x h k = ap (input_from start []) (append_assoc line (byte ∷ []) more) ∙ h ∙ k
 
@@ -53,7 +53,7 @@ one_more start count line byte new old now next before after last s p t fell = r
 }
 
 -- the line ends
-pub line_read : (start : Reading) (count : ℕ) (line : List ℕ) (byte : ℕ) (new : Reading) (old now next : Option (List ℕ)) (before after last : ℕ)
+unfoldable pub line_read : (start : Reading) (count : ℕ) (line : List ℕ) (byte : ℕ) (new : Reading) (old now next : Option (List ℕ)) (before after last : ℕ)
     → SoFar start.count count line old now before after → Consumes now next (byte ∷ []) → TakesByte (record { count = count; line = line }) byte (Ok true) new
     → NextLine start old next before last (Ok true) new
 line_read start count line byte new old now next before after last s p t = record {
@@ -64,14 +64,14 @@ line_read start count line byte new old now next before after last s p t = recor
 }
 
 -- the source ends
-pub last_read : (start : Reading) (count : ℕ) (line : List ℕ) (old now next : Option (List ℕ)) (before after last : ℕ)
+unfoldable pub last_read : (start : Reading) (count : ℕ) (line : List ℕ) (old now next : Option (List ℕ)) (before after last : ℕ)
     → SoFar start.count count line old now before after → ConsumesAll now next [] → NextLine start old next before last (Ok false) (record { count = count; line = line })
 last_read start count line old now next before after last s p =
     let all = all_gone old now next line s.gone p in
     record { gone = line; taken = all.1; read = (ap (input_from start.count []) (sym (append-nil line)) ∙ s.as_far [], all.0); stops = tt }
 
 -- a read fails
-pub read_failed : (start : Reading) (count : ℕ) (line : List ℕ) (old now next : Option (List ℕ)) (before after last : ℕ)
+unfoldable pub read_failed : (start : Reading) (count : ℕ) (line : List ℕ) (old now next : Option (List ℕ)) (before after last : ℕ)
     → SoFar start.count count line old now before after → Consumes now next [] → Rose after last → NextLine start old next before last (Err ReadFault) (record { count = count; line = line })
 read_failed start count line old now next before after last s p rose = record {
   gone = line;
@@ -85,7 +85,7 @@ read_failed start count line old now next before after last s p rose = record {
     rose_later a b c h (inr last) = inr last
 
 -- the line isn't read
-pub refused_read : (start : Reading) (count : ℕ) (line : List ℕ) (byte : ℕ) (e : DebugError) (new : Reading) (old now next : Option (List ℕ)) (before after last : ℕ)
+unfoldable pub refused_read : (start : Reading) (count : ℕ) (line : List ℕ) (byte : ℕ) (e : DebugError) (new : Reading) (old now next : Option (List ℕ)) (before after last : ℕ)
     → SoFar start.count count line old now before after → Consumes now next (byte ∷ []) → TakesByte (record { count = count; line = line }) byte (Err e) new
     → NextLine start old next before last (Err e) new
 refused_read start count line byte e new old now next before after last s p t =

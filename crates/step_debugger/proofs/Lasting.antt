@@ -1,9 +1,10 @@
 -- A session, line after line.
-use Rattle.std.proofs.Common.{◌≡◌, ℕ, ◌≤◌, Bool, true, false, List, [], ◌∷◌, ◌++◌, Option, Some, None, ◌∙◌, ap, subst, sym, refl, inl, inr, ◌⊎◌, append_assoc}
+use Rattle.std.proofs.Common.{◌≡◌, ℕ, ◌+◌, ◌≤◌, length, Bool, true, false, List, [], ◌∷◌, ◌++◌, Option, Some, None, ◌∙◌, ap, subst, sym, refl, inl, inr, ◌⊎◌, append_assoc}
 use Rattle.std.specs.Prelude.{Ok, Err}
 use Rattle.std.specs.Io.KnownBytes.{Appends, Consumes}
 use Rattle.std.proofs.KnownBytes.{Appends-nil, Appends-trans, Consumes-nil, Consumes-trans}
 use Rattle.std.proofs.lemmas.List.{append-nil}
+use Rattle.bn_outside.specs.Counts.{counted_by}
 use Rattle.bn_outside.specs.Streams.{AppendsPart, ConsumesAll}
 use Rattle.back_step.specs.Traces.{Trace}
 use Rattle.joint_replay.specs.declared.error.JointError.{JointError}
@@ -12,10 +13,11 @@ use Rattle.step_debugger.specs.declared.error.DebugError.TheVariants.{ReadFault,
 use Rattle.step_debugger.specs.declared.session.Ending.{Ending}
 use Rattle.step_debugger.specs.declared.session.Ending.TheVariants.{GoesOn, Quits, Refused}
 use Rattle.step_debugger.specs.Commands.{command_of}
-use Rattle.step_debugger.specs.Lines.{Reading, Input, input_from, input_of, with_line, ends_in, EndsTooMany, NextLine}
+use Rattle.step_debugger.specs.Lines.{Reading, Input, input_from, input_of, with_line, ends_in, EndsTooMany, NextLine, reads_for, CountedLine}
 use Rattle.step_debugger.specs.Answers.{Session, Answer, says, answer, begin_at}
-use Rattle.step_debugger.specs.Transcript.{behind, goes_on_by, answers, lines_in, Told, result_by, transcript_from, EndsThere, EndsWithLine, EndsAll, Debugs, ReadsUpTo, Debugged}
+use Rattle.step_debugger.specs.Transcript.{behind, goes_on_by, answers, lines_in, Told, result_by, transcript_from, EndsThere, EndsWithLine, EndsAll, Debugs, ReadsUpTo, Debugged, IsReadOnce, CountedSession}
 use Rattle.step_debugger.specs.Goings.{Stops}
+use Rattle.step_debugger.proofs.ReadCounts.{joined_reads, joined_one, not_read_once, read_once}
 use Rattle.step_debugger.proofs.Sent.{part_longer, part_behind, part_whole, rose_later}
 
 -- ---- what is read
@@ -57,6 +59,15 @@ at_begin j s count left written e z = record {
   sent = Appends-nil written;
 }
 
+-- and the source was read once for each of these bytes
+pub record CountedStands (j : Trace) (s : Session) (count : ℕ) (left now_left written now_written : Option (List ℕ)) (reads now_reads : ℕ) : Type 0 where
+  pub stands : Stands j s count left now_left written now_written
+  pub read : now_reads ≡ counted_by (length stands.gone) reads
+
+pub counted_at_begin : (j : Trace) (s : Session) (count : ℕ) (left written : Option (List ℕ)) (reads : ℕ) → s ≡ begin_at j → count ≡ 0 → CountedStands j s count left left written written reads reads
+unfolding at_begin
+counted_at_begin j s count left written reads e z = record { stands = at_begin j s count left written e z; read = refl }
+
 module _ (j : Trace) (s : Session) (old new : Reading) (left now_left next_left written now_written : Option (List ℕ)) (before after : ℕ) where
   -- one line is answered, and the session goes on
   pub one_more : (next_written : Option (List ℕ)) → Stands j s old.count left now_left written now_written → NextLine old now_left next_left before after (Ok true) new → (answer s (command_of new.line)).ends ≡ GoesOn
@@ -74,6 +85,12 @@ module _ (j : Trace) (s : Session) (old new : Reading) (left now_left next_left 
             ∙ ap (λ (x : List ℕ). record { text = x; session = (answers rest a.session).session; ends = (answers rest a.session).ends }) (sym (append_assoc t.text a.text (answers rest a.session).text));
         sent = Appends-trans written now_written next_written t.text a.text t.sent h;
       }
+
+  pub counted_more : (next_written : Option (List ℕ)) (reads mid now : ℕ) → CountedStands j s old.count left now_left written now_written reads mid → CountedLine old now_left next_left before after mid now (Ok true) new
+      → (answer s (command_of new.line)).ends ≡ GoesOn → Appends now_written next_written (answer s (command_of new.line)).text
+      → CountedStands j (answer s (command_of new.line)).session new.count left next_left written next_written reads now
+  unfolding one_more
+  counted_more next_written reads mid now t c on h = record { stands = one_more next_written t.stands c.line on h; read = joined_reads t.stands.gone c.line.gone reads mid now t.read c.count }
 
 -- ---- how it ends
 
@@ -150,6 +167,11 @@ module _ (j : Trace) (s : Session) (old new : Reading) (left now_left next_left 
       by OutOfMemory n =
           let is = told_first j s old.count left now_left written now_written t n.gone in
           subst (λ (x : List ℕ). AppendsPart written now_written x) (sym (ap (λ (u : Told). u.text) is)) (part_longer written now_written t.text _ (part_whole written now_written t.text t.sent))
+
+  pub not_read_counted : (reads mid now : ℕ) (e : DebugError) → mid ≡ counted_by (length t.gone) reads → CountedLine old now_left next_left before after mid now (Err e) new
+      → CountedSession j left next_left start after reads now written now_written write_before write_after (Err e)
+  unfolding not_read
+  not_read_counted reads mid now e first c = record { session = not_read e c.line; count = not_read_once j left next_left t.gone c.line.gone reads mid now e first c.count }
 
 -- a line is read
 module _ (j : Trace) (s : Session) (old new : Reading) (left now_left next_left written now_written next_written : Option (List ℕ)) (start before after write_start write_before write_after : ℕ) (whole : Bool)
@@ -247,6 +269,37 @@ module _ (j : Trace) (s : Session) (old new : Reading) (left now_left next_left 
       let x = sent_to_end (Refused e) on h refl in
       record { gone = all; taken = taken_all; done = (ap (λ (u : Told). u.result) x.0 ∙ ap (λ (e : Ending). result_by e None) on, x.1, there (Refused e) on refl whole n); up_to = tt }
 
+  -- ---- and how often the source was read
+
+  all_if : (w : Bool) (n : NextLine old now_left next_left before after (Ok w) new) → w ≡ false → EndsAll j left next_left (t.gone ++ n.gone)
+  all_if true n e = absurd cc
+  all_if false n e = record { all = all_gone left now_left next_left t.gone n.gone t.taken n.read.1; before = not_over j s old.count left now_left written now_written t n.gone new.line n.read.0 }
+
+  module _ (reads mid now : ℕ) (first : mid ≡ counted_by (length t.gone) reads) (last : now ≡ counted_by (reads_for n.gone (Ok whole)) mid) where
+    counts : (now ≡ counted_by (length all) reads) ⊎ (EndsAll j left next_left all × (now ≡ counted_by (length all + 1) reads))
+    counts = read_once j left next_left t.gone n.gone reads mid now whole first last (all_if whole n)
+
+    pub not_sent_counted : (e : DebugError) → write_start ≤ write_before → AppendsPart now_written next_written answered.text × Stops write_before write_after e
+        → CountedSession j left next_left start after reads now written next_written write_start write_after (Err e)
+    unfolding not_sent
+    not_sent_counted e fell h = record { session = not_sent e fell h; count = by e h.1 }
+      where
+        by : (e : DebugError) → Stops write_before write_after e → IsReadOnce j all left next_left reads now (Err e)
+        by ReadFault h = absurd h
+        by WriteFault h = counts
+        by (LineTooLong k) h = absurd h
+        by (TooMuch k) h = absurd h
+        by (Joint f) h = counts
+        by OutOfMemory h = counts
+
+    pub quits_counted : answered.ends ≡ Quits → Appends now_written next_written answered.text → CountedSession j left next_left start after reads now written next_written write_start write_after (Ok (tt {0}))
+    unfolding quits
+    quits_counted on h = record { session = quits on h; count = counts }
+
+    pub refused_counted : (e : JointError) → answered.ends ≡ Refused e → Appends now_written next_written answered.text → CountedSession j left next_left start after reads now written next_written write_start write_after (Err (Joint e))
+    unfolding refused
+    refused_counted e on h = record { session = refused e on h; count = counts }
+
 -- the last line, behind which there is none
 pub ends : (j : Trace) (s : Session) (old new : Reading) (left now_left next_left written now_written next_written : Option (List ℕ)) (start before after write_start write_after : ℕ)
     → Stands j s old.count left now_left written now_written → NextLine old now_left next_left before after (Ok false) new → (answer s (command_of new.line)).ends ≡ GoesOn → Appends now_written next_written (answer s (command_of new.line)).text
@@ -262,3 +315,18 @@ ends j s old new left now_left next_left written now_written next_written start 
       done = (ap (λ (u : Told). u.result) is, subst (λ (x : List ℕ). Appends written next_written x) (sym (ap (λ (u : Told). u.text) is ∙ ap (λ x. t.text ++ x) (append-nil a.text))) (Appends-trans written now_written next_written t.text a.text t.sent h), inr (record { all = all_gone left now_left next_left t.gone n.gone t.taken n.read.1; before = not_over j s old.count left now_left written now_written t n.gone new.line n.read.0 }));
       up_to = tt;
     }
+
+pub ends_counted : (j : Trace) (s : Session) (old new : Reading) (left now_left next_left written now_written next_written : Option (List ℕ)) (start before after write_start write_after reads mid now : ℕ)
+    → CountedStands j s old.count left now_left written now_written reads mid → CountedLine old now_left next_left before after mid now (Ok false) new → (answer s (command_of new.line)).ends ≡ GoesOn
+    → Appends now_written next_written (answer s (command_of new.line)).text → CountedSession j left next_left start after reads now written next_written write_start write_after (Ok (tt {0}))
+unfolding ends
+ends_counted j s old new left now_left next_left written now_written next_written start before after write_start write_after reads mid now t c on h = record {
+  session = ends j s old new left now_left next_left written now_written next_written start before after write_start write_after t.stands c.line on h;
+  count = inr (
+    record {
+      all = all_gone left now_left next_left t.stands.gone c.line.gone t.stands.taken c.line.read.1;
+      before = not_over j s old.count left now_left written now_written t.stands c.line.gone new.line c.line.read.0;
+    },
+    joined_one t.stands.gone c.line.gone reads mid now t.read c.count,
+  );
+}

@@ -9,3 +9,4 @@ pub mod Worked
 pub mod WaysBack
 pub mod Prefixes
 pub mod Apart
+pub mod ReadCounts

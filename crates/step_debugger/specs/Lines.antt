@@ -1,7 +1,7 @@
 -- The lines of the commands.
 use Rattle.std.specs.Prelude.{◌≡◌, ℕ, ◌+◌, ◌^◌, ◌<◌, ◌≤◌, ◌==◌, nat_lt, Bool, true, false, not, ◌&&◌, List, [], ◌∷◌, ◌++◌, length, Option, Some, None, Result, Ok, Err}
 use Rattle.std.specs.Io.KnownBytes.{Consumes}
-use Rattle.bn_outside.specs.Counts.{Rose}
+use Rattle.bn_outside.specs.Counts.{Rose, counted_by}
 use Rattle.bn_outside.specs.Streams.{ConsumesAll}
 use Rattle.bn_outside.specs.declared.Failed.{Failed}
 use Rattle.step_debugger.specs.declared.error.DebugError.{DebugError}
@@ -104,3 +104,15 @@ pub record NextLine (old : Reading) (left now_left : Option (List ℕ)) (before 
   pub taken : Consumes left now_left gone
   pub read : ReadsLine old gone left now_left before now result new
   pub stops : StopsAt old.count gone result
+
+-- how often a source is read for a line: once for each byte, and once more if its end is found or a read fails
+abbrev pub reads_for : List ℕ → Result Bool DebugError → ℕ
+reads_for gone (Ok true) = length gone
+reads_for gone (Ok false) = length gone + 1
+reads_for gone (Err ReadFault) = length gone + 1
+reads_for gone (Err e) = length gone
+
+-- the next line, and how often the source was read before and is now
+pub record CountedLine (old : Reading) (left now_left : Option (List ℕ)) (before now reads now_reads : ℕ) (result : Result Bool DebugError) (new : Reading) : Type 0 where
+  pub line : NextLine old left now_left before now result new
+  pub count : now_reads ≡ counted_by (reads_for line.gone result) reads

@@ -1,7 +1,7 @@
 -- The transcript of a session.
-use Rattle.std.specs.Prelude.{◌≡◌, ◌⊎◌, ℕ, List, [], ◌∷◌, ◌++◌, Option, Some, None, Result, Ok, Err}
+use Rattle.std.specs.Prelude.{◌≡◌, ◌⊎◌, ℕ, ◌+◌, List, [], ◌∷◌, ◌++◌, length, Option, Some, None, Result, Ok, Err}
 use Rattle.std.specs.Io.KnownBytes.{Appends, Consumes}
-use Rattle.bn_outside.specs.Counts.{Rose}
+use Rattle.bn_outside.specs.Counts.{Rose, counted_by}
 use Rattle.bn_outside.specs.Streams.{AppendsPart, ConsumesAll}
 use Rattle.joint_replay.specs.Joining.{Joining}
 use Rattle.back_step.specs.Traces.{Trace, at_start}
@@ -114,3 +114,16 @@ pub record Debugged (t : Trace) (left now_left : Option (List ℕ)) (read_before
   pub taken : Consumes left now_left gone
   pub done : Debugs t gone left now_left read_before read_now written now_written before now result
   pub up_to : ReadsUpTo t gone left now_left result
+
+-- the source was read once for each byte that is gone, and once more if a read failed, or if its end was found and no line that
+-- ends with LF had ended the session
+abbrev pub IsReadOnce : Trace → (gone : List ℕ) → (left now_left : Option (List ℕ)) → (reads now_reads : ℕ) → Result (Unit {0}) DebugError → Type 0
+IsReadOnce t gone left now_left reads now_reads (Err ReadFault) = now_reads ≡ counted_by (length gone + 1) reads
+IsReadOnce t gone left now_left reads now_reads (Err (LineTooLong n)) = now_reads ≡ counted_by (length gone) reads
+IsReadOnce t gone left now_left reads now_reads (Err (TooMuch n)) = now_reads ≡ counted_by (length gone) reads
+IsReadOnce t gone left now_left reads now_reads result = (now_reads ≡ counted_by (length gone) reads) ⊎ (EndsAll t left now_left gone × (now_reads ≡ counted_by (length gone + 1) reads))
+
+-- a session, and how often its source was read before it and is after it
+pub record CountedSession (t : Trace) (left now_left : Option (List ℕ)) (read_before read_now reads now_reads : ℕ) (written now_written : Option (List ℕ)) (before now : ℕ) (result : Result (Unit {0}) DebugError) : Type 0 where
+  pub session : Debugged t left now_left read_before read_now written now_written before now result
+  pub count : IsReadOnce t session.gone left now_left reads now_reads result

@@ -1,7 +1,7 @@
 //! The debugger.
 ghost use Rattle.std.specs.Prelude.{◌≤◌};
 ghost use Rattle.step_debugger.specs.Goings.{StopsApart};
-ghost use Rattle.step_debugger.specs.Transcript.{Debugged};
+ghost use Rattle.step_debugger.specs.Transcript.{Debugged, CountedSession};
 
 use crate::error::DebugError;
 use crate::focus::Focus;
@@ -16,6 +16,8 @@ use std::alloc::Global;
 /// to `out`, each as soon as its command is done.
 ///
 /// It is `Ok` after the command `quit`, of which nothing behind is read, and at the end of the input.
+/// The source is read once for each byte that is gone. A further read is made only where it finds the end or fails.
+///
 /// It fails where a read or a write does, where a line has more than 256 bytes or all commands have
 /// more than 2^24, where the joint replay is refused, and where memory is wanting. The answers before
 /// that stand.
@@ -26,6 +28,8 @@ pub fn debug<I: Source, O: Sink>(
     out: &mut O,
 ) -> Result<(), DebugError>
     ensures told { Debugged trail.old.trace (I.left input.old) (I.left input.new) (I.faults input.old) (I.faults input.new)
+        (O.written out.old) (O.written out.new) (O.faults out.old) (O.faults out.new) result }
+    ensures counted { CountedSession trail.old.trace (I.left input.old) (I.left input.new) (I.faults input.old) (I.faults input.new) (I.reads input.old) (I.reads input.new)
         (O.written out.old) (O.written out.new) (O.faults out.old) (O.faults out.new) result }
     ensures apart { StopsApart trail.old.trace result trail.new.trace }
     ensures read { I.faults input.old ≤ I.faults input.new }

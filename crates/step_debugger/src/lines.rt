@@ -1,6 +1,7 @@
 //! The lines of the commands, read from a source.
 ghost use Rattle.std.specs.Prelude.{◌≡◌, ◌≤◌, []};
-ghost use Rattle.step_debugger.specs.Lines.{is_over, TakesByte, GivesByte, NextLine};
+ghost use Rattle.bn_outside.specs.Counts.{counted};
+ghost use Rattle.step_debugger.specs.Lines.{is_over, TakesByte, GivesByte, CountedLine};
 
 use crate::error::DebugError;
 use bn_outside::{Failed, Source};
@@ -89,7 +90,7 @@ impl LineReader {
     /// It fails where a read fails, where the line or all commands are too long, or where memory is
     /// wanting.
     pub(crate) fn next<I: Source>(&mut self, source: &mut I) -> Result<bool, DebugError>
-        ensures read { NextLine self.old (I.left source.old) (I.left source.new) (I.faults source.old) (I.faults source.new) result self.new }
+        ensures read { CountedLine self.old (I.left source.old) (I.left source.new) (I.faults source.old) (I.faults source.new) (I.reads source.old) (I.reads source.new) result self.new }
         ensures later { I.faults source.old ≤ I.faults source.new }
     {
         self.line.clear();
@@ -112,6 +113,7 @@ impl LineReader {
 fn next_byte<I: Source>(source: &mut I) -> Result<Option<u8>, Failed>
     ensures given { GivesByte (I.left source.old) (I.left source.new) (I.faults source.old) (I.faults source.new) result }
     ensures later { I.faults source.old ≤ I.faults source.new }
+    ensures counted { I.reads source.new ≡ counted (I.reads source.old) }
 {
     let mut buffer = [0u8; 1];
     match source.read(&mut buffer) {
