@@ -151,6 +151,7 @@ MUTANTS = [
         edit("bugnet", "a_missing_file_and_a_failed_load_are_exchanged"),
     ),
     ("A command loads another name than its line gives (4).", edit("bugnet", "a_replay_loads_the_log_as_its_program")),
+    ("An audit names a missing program before a missing log (4).", edit("bugnet", "an_audit_loads_its_program_first")),
     ("Each file is loaded with a limit of 0 bytes (5).", edit("bugnet", "loads_with_limit_0")),
     ("Each program file is refused (6).", edit("elf_loader", "the_entry_of_each_program_is_outside")),
     ("Each log is refused by its digest (7).", edit("log_file", "each_digest_differs")),

@@ -15,6 +15,10 @@ use Rattle.bugnet.specs.declared.names.Role.{Role}
 use Rattle.bugnet.specs.declared.names.Role.TheVariants as role
 use Rattle.bugnet.specs.declared.refusal.Refusal.TheVariants.{ElfRefused, ProgramDiffers}
 
+-- the files that an answer by a log and its program loads, in this order
+abbrev pub pair_roles : List Role
+pair_roles = role.Log ∷ role.Elf ∷ []
+
 -- an answer by what a log says and by a program
 abbrev pub ByPair : Type 0
 ByPair = Content → Program → Told
