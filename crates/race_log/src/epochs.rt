@@ -1,4 +1,4 @@
-ghost use Rattle.std.specs.Prelude.{◌≡◌, ◌≢◌, ◌<◌, ◌≤◌, ◌^◌, ℕ, length, IfOk, OnOk, IsOk, IsTrue, slice_get, true, false};
+ghost use Rattle.std.specs.Prelude.{◌≡◌, ◌≢◌, ◌<◌, ◌≤◌, ◌^◌, ℕ, max, length, IfOk, OnOk, IsOk, IsTrue, slice_get, true, false};
 ghost use Rattle.bn_base.specs.declared.settings.TheConstants.{HARTS};
 ghost use Rattle.race_log.specs.Slots.{is_settled, AreSettledNow};
 
@@ -204,16 +204,16 @@ impl Epochs {
         self.next += 1;
     }
 
-    /// The times after a point of the hart in a epoch, where `after` is the count after the point.
-    pub fn times_after(&self, epoch: u32, hart: HartId, after: Ic) -> Times
+    /// Takes those times into others that stand after a point of the hart in an epoch, where `after` is the count after
+    /// the point. They are read where they stand: the processor would wait for a copy in which one count was just written.
+    #[inline(always)]
+    pub fn merge_after(&self, times: &mut Times, epoch: u32, hart: HartId, after: Ic)
         requires { hart < HARTS }
-        ensures { (h : ℕ) → count_of result h ≡ counts_past (epoch_counts self.now epoch) hart after h }
+        ensures { (h : ℕ) → count_of times.new h ≡ max (count_of times.old h) (counts_past (epoch_counts self.now epoch) hart after h) }
     {
-        let mut times = match self.table.get(epoch as usize) {
-            Some(epoch) => epoch.times,
-            None => Times::new(),
-        };
-        times.set(hart, after);
-        times
+        match self.table.get(epoch as usize) {
+            Some(epoch) => times.merge_but(&epoch.times, hart, after),
+            None => times.merge_but(&Times::new(), hart, after),
+        }
     }
 }

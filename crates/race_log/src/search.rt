@@ -188,7 +188,7 @@ pub fn find_sources(
             None => break,
             Some(k) => {
                 edges.push(k.hart, k.after - 1);
-                times.merge(&words.epochs.times_after(k.epoch, k.hart, k.after));
+                words.epochs.merge_after(times, k.epoch, k.hart, k.after);
             }
         }
     }

@@ -39,6 +39,16 @@ impl Times {
         }
     }
 
+    /// Takes each hart's greater count; of one hart `count` stands in the place of the other's.
+    pub fn merge_but(&mut self, other: &Times, hart: HartId, count: Ic)
+        requires { hart < HARTS }
+        ensures { (h : ℕ) → count_of self.new h ≡ max (count_of self.old h) (if h == hart then count else count_of other.now h) }
+    {
+        let own = self.counts[hart as usize].max(count);
+        self.merge(other);
+        self.counts[hart as usize] = own;
+    }
+
     /// Takes each hart's lower count.
     pub fn meet(&mut self, other: &Times)
         ensures { (h : ℕ) → count_of self.new h ≡ min (count_of self.old h) (count_of other.now h) }

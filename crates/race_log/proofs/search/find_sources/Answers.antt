@@ -1,4 +1,4 @@
-use Rattle.std.proofs.Common.{◌∙◌, sym, ap, ◌++◌, ◌≡◌, ◌-◌, ℕ, arith, append_assoc, append-nil, length-append, length, max}
+use Rattle.std.proofs.Common.{◌∙◌, sym, ap, ◌++◌, ◌≡◌, ◌-◌, ℕ, arith, append_assoc, append-nil, length-append, length}
 use Rattle.vector_time.specs.Times.{count_of}
 use Rattle.race_log.specs.Search.{gathered, merged}
 use Rattle.race_log.specs.Slots.{kept_by}
@@ -11,12 +11,12 @@ loop-round-preserved c =
     let kept = gathered (kept_in c.args.words.now) c.args.first c.args.count in
     let p = c.push.ensures in
     let k = kept_by (epoch_counts c.args.words.now.epochs) c.in-Some.k.mode c.in-Some.k.hart c.in-Some.k.turn c.in-Some.k.after c.in-Some.k.epoch in
-    let merges : (h : ℕ) → count_of c.merge.new.self h ≡ merged (count_of c.loop-round.times) k.times h =
-    λ h. c.merge.ensures h ∙ ap (λ x. max (count_of c.loop-round.times h) x) (c.times_after.ensures h) in
+    let merges : (h : ℕ) → count_of c.merge_after.new.times h ≡ merged (count_of c.loop-round.times) k.times h =
+    c.merge_after.ensures in
     let s = sources_step c.args.hart c.args.writes (count_of c.loop-round.times) kept c.args.most c.loop-round.round k
-    (count_of c.merge.new.self) c.loop-round-test.true (sym c.in-Some.ensures) merges in
+    (count_of c.merge_after.new.times) c.loop-round-test.true (sym c.in-Some.ensures) merges in
     let t = counts_step c.args.hart c.args.writes (count_of c.loop-round.times) kept c.args.most c.loop-round.round k
-    (count_of c.merge.new.self) c.loop-round-test.true (sym c.in-Some.ensures) merges in
+    (count_of c.merge_after.new.times) c.loop-round-test.true (sym c.in-Some.ensures) merges in
     record {
       none = λ e. absurd (omega (arith, e, simp length-append at (ap length p)));
       few = omega (arith, c.loop-round.invariant.few, simp length-append at (ap length p));
