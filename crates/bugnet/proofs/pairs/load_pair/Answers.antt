@@ -24,7 +24,7 @@ returns-in-Ok-clause-told g c = λ go.
     let names = c.args.names.now in
     with-also (by_reading go) names (λ f what. IsCommand pair_roles IsReadPair (by_reading go) f names what) (λ f what. IsPair go f names what) (says-pair go names) known c.read_pair.result
     (loaded-made pair_roles IsReadPair (by_reading go) known names c.in-Ok.inputs c.read_pair.result
-    (subst (λ (rs : List Role). WithFiles known (λ files. IsLoaded names rs files (Ok c.in-Ok.inputs))) c.pair_roles.ensures c.in-Ok.ensures.loads) c.read_pair.ensures.is)
+    (subst (λ (rs : List Role). WithFiles known (λ files. IsLoaded names rs files (Ok c.in-Ok.inputs))) c.pair_roles.ensures c.in-Ok.ensures.loads) (rw c.deref-in-Ok.ensures.value at (rw c.deref.ensures.value at c.read_pair.ensures.is)))
 
 pub returns-in-Err-clause-cause : goal.returns-in-Err-clause-cause
 returns-in-Err-clause-cause g c = c.in-Err.ensures.only.cause
