@@ -32,3 +32,4 @@ mod Fetched
 mod Commanded
 mod SameAudit
 mod SamePair
+mod Begins

@@ -7,7 +7,7 @@ use Rattle.std.proofs.lemmas.Bool.Decides.{nat_tests}
 use Rattle.bn_outside.specs.Counts.{Counts}
 use Rattle.bn_outside.specs.Files.{Files}
 use Rattle.bn_base.specs.Programs.{Program}
-use Rattle.bn_base.specs.Ranges.{checked_by, first_bad}
+use Rattle.bn_base.specs.Ranges.{checked_by}
 use Rattle.bn_base.specs.declared.settings.BadSetting.{BadSetting}
 use Rattle.bn_base.specs.declared.settings.RawSettings.{RawSettings}
 use Rattle.elf_loader.specs.Loaded.{image_of}
@@ -22,16 +22,14 @@ use Rattle.command_words.specs.declared.commands.RecordOptions.{RecordOptions}
 use Rattle.bugnet.specs.Names.{FileNames, name_of}
 use Rattle.bugnet.specs.Refusals.{line_of, said_of, log_refusal}
 use Rattle.bugnet.specs.Told.{Told, refused}
-use Rattle.bugnet.specs.Commands.{is_clash, Either, IsByFile, WithFile, IsByLog, IsByInput, IsByProgram, IsByNames, IsBySettings, IsRecord}
-use Rattle.bugnet.specs.Recordings.{IsRun}
+use Rattle.bugnet.specs.Commands.{Either, IsByFile, WithFile, IsByLog, IsByProgram, IsRecord}
 use Rattle.bugnet.specs.declared.manner.Manner.{Manner}
-use Rattle.bugnet.specs.Answers.{names_in, manner_of, name_refusal, setting_refusal, IsAnswer}
-use Rattle.bugnet.specs.Outside.{WithFiles, FetchTells, LogTells, ProgramTells, Gives, unless, without, GivesTo, GivesOf, GivesBy, RefusalCause, ResultCause, CauseBy, told_of}
+use Rattle.bugnet.specs.Answers.{names_in, manner_of, name_refusal, IsAnswer}
+use Rattle.bugnet.specs.Outside.{WithFiles, FetchTells, LogTells, ProgramTells, Gives, unless, without, GivesTo, GivesOf, GivesBy, RefusalCause, CauseBy, told_of}
 use Rattle.bugnet.specs.declared.names.Role.{Role}
-use Rattle.bugnet.specs.declared.names.Role.TheVariants.{Input}
 use Rattle.bugnet.specs.declared.answer.Answer.{Answer}
 use Rattle.bugnet.specs.declared.refusal.Refusal.{Refusal}
-use Rattle.bugnet.specs.declared.refusal.Refusal.TheVariants.{Missing, TooLong, OutOfRange, SameName}
+use Rattle.bugnet.specs.declared.refusal.Refusal.TheVariants.{Missing, TooLong}
 
 -- the first or the second by what the test says
 pub on_true : (b : Bool) (A B : Type 0) → b ≡ true → A → Either b A B
@@ -116,7 +114,7 @@ apart : (b : Bool) (names : FileNames) (here role : Role) (there : Option (List 
 apart true names here role there bytes limit Go same e h go = missing-named names role here (sym (same refl))
 apart false names here role there bytes limit Go same e h go = by-bytes there names here bytes limit Go (refused names (Missing role)) e h go
 
-loaded : (A : Type 0) (tells : A → Told) (files : Files) (names : FileNames) (here : Role) (limit : ℕ) (bytes : Vec ℕ Global) (result : Result A Refusal) (Go : Files → List ℕ → Told → Type 0)
+pub loaded : (A : Type 0) (tells : A → Told) (files : Files) (names : FileNames) (here : Role) (limit : ℕ) (bytes : Vec ℕ Global) (result : Result A Refusal) (Go : Files → List ℕ → Told → Type 0)
     → FetchTells here limit (files (name_of names here)) (Ok bytes) → GivesOf tells names (λ f. Go f bytes.items) files result → GivesOf tells names (λ f. WithFile f names here limit (Go f)) files result
 unfolding WithFile
 loaded A tells files names here limit bytes (Ok answer) Go h go = by-bytes (files (name_of names here)) names here bytes.items limit (Go files) _ h.0 h.1 go
@@ -206,22 +204,6 @@ log-read names bytes d go result h e = made-read Answer (told_of names) names by
 
 -- ---- what a recording loads
 
--- an input that isn't loaded ends the command
-pub input-stopped : (has : Bool) (known : Option Files) (names : FileNames) (r : Refusal) (Go : List ℕ → Told → Type 0) → has ≡ true
-    → WithFiles known (λ files. FetchTells Input 16777216 (files (name_of names Input)) (Err r))
-    → WithFiles known (λ files. GivesBy names (λ f. IsByInput has f names Go) files (Err r))
-input-stopped true known names r Go e h = gives-stopped known names Input 16777216 r (λ f. Go) h
-input-stopped false known names r Go e h = grind arith
-
--- one that is goes on
-pub input-loaded : (has : Bool) (known : Option Files) (names : FileNames) (input : Vec ℕ Global) (result : Result Answer Refusal) (Go : List ℕ → Told → Type 0) → has ≡ true
-    → WithFiles known (λ files. FetchTells Input 16777216 (files (name_of names Input)) (Ok input))
-    → Gives names (Go input.items) result
-    → WithFiles known (λ files. GivesBy names (λ f. IsByInput has f names Go) files result)
-input-loaded true known names input result Go e h gives =
-    gives-loaded known names Input 16777216 input result (λ f. Go) h (gives-any known names (Go input.items) result gives)
-input-loaded false known names input result Go e h gives = grind arith
-
 -- a program that is refused ends the command
 pub program-refused : (known : Option Files) (names : FileNames) (bytes : List ℕ) (c : RawSettings) (how : Manner) (has : Bool) (digest : List ℕ) (r : Refusal) → ProgramTells bytes c (Err r)
     → WithFiles known (λ files. GivesBy names (λ f. IsByProgram (image_of bytes c) f names c how has digest) files (Err r))
@@ -229,13 +211,6 @@ program-refused None names bytes c how has digest r h = tt
 program-refused (Some files) names bytes c how has digest r (inl e) = inl (inl e)
 program-refused (Some files) names bytes c how has digest r (inr h) =
     inr (subst (λ (i : Result Program ElfError). IsByProgram i files names c how has digest (refused names r)) (sym h.2) (ap (λ (x : Refusal). refused names x) h.1))
-
--- one that is loaded goes on
-pub program-loaded : (known : Option Files) (names : FileNames) (bytes : List ℕ) (c : RawSettings) (how : Manner) (has : Bool) (digest : List ℕ) (i : Program) (result : Result Answer Refusal) → image_of bytes c ≡ Ok i
-    → WithFiles known (λ files. GivesBy names (λ f. IsByInput has f names (IsRun c i digest how)) files result)
-    → WithFiles known (λ files. GivesBy names (λ f. IsByProgram (image_of bytes c) f names c how has digest) files result)
-program-loaded known names bytes c how has digest i result e h =
-    subst (λ (p : Result Program ElfError). WithFiles known (λ files. GivesBy names (λ f. IsByProgram p f names c how has digest) files result)) (sym e) h
 
 -- ---- settings
 
@@ -247,27 +222,6 @@ bad-one None s bad e = grind arith
 pub none-bad : (o : Option BadSetting) (s x : RawSettings) → checked_by o s ≡ Ok x → (o ≡ None) × (x ≡ s)
 none-bad None s x e = (refl, grind arith)
 none-bad (Some other) s x e = grind arith
-
--- settings that are out of range are refused
-pub settings-refused : (known : Option Files) (names : FileNames) (c : RawSettings) (how : Manner) (has : Bool) (bad : BadSetting) → checked_by (first_bad c) c ≡ Err bad
-    → WithFiles known (λ files. GivesBy names (λ files. IsRecord files names c how has) files (Err (OutOfRange bad)))
-settings-refused None names c how has bad e = tt
-settings-refused (Some files) names c how has bad e =
-    inr (subst (λ (o : Option BadSetting). IsBySettings o files names c how has (refused names (OutOfRange bad))) (sym (bad-one (first_bad c) c bad e)) refl)
-
--- what is answered by settings in range
-pub settings-taken : (known : Option Files) (names : FileNames) (c x : RawSettings) (how : Manner) (has : Bool) (result : Result Answer Refusal) → checked_by (first_bad c) c ≡ Ok x
-    → WithFiles known (λ files. GivesBy names (λ f. IsByNames (is_clash how.lean names.log names.book) f names x how has) files result)
-    → WithFiles known (λ files. GivesBy names (λ f. IsRecord f names c how has) files result)
-settings-taken known names c x how has result e h =
-    let n = none-bad (first_bad c) c x e in
-    let own : WithFiles known (λ files. GivesBy names (λ f. IsBySettings None f names c how has) files result) =
-    subst (λ (y : RawSettings). WithFiles known (λ files. GivesBy names (λ f. IsByNames (is_clash how.lean names.log names.book) f names y how has) files result)) n.1 h in
-    subst (λ (o : Option BadSetting). WithFiles known (λ files. GivesBy names (λ f. IsBySettings o f names c how has) files result)) (sym n.0) own
-
-pub settings-cause : (c x : RawSettings) (clash : Bool) (before now : Counts) (result : Result Answer Refusal) → checked_by (first_bad c) c ≡ Ok x → CauseBy (name_refusal clash) before now result
-    → CauseBy (setting_refusal (first_bad c) clash) before now result
-settings-cause c x clash before now result e h = subst (λ (o : Option BadSetting). CauseBy (setting_refusal o clash) before now result) (sym (none-bad (first_bad c) c x e).0) h
 
 -- ---- a recording
 
@@ -300,26 +254,3 @@ by-origin names own before now result e h = subst (λ (n : FileNames). CauseBy (
 pub ok-any : {A E : Type 0} (result : Result A E) → IfOk result (λ (a : A). Unit {0})
 ok-any (Ok a) = tt
 ok-any (Err e) = tt
-
--- LOG and BOOK are one name
-pub name-clashes : (known : Option Files) (names : FileNames) (c : RawSettings) (how : Manner) (has clash : Bool) → clash ≡ true
-    → WithFiles known (λ files. GivesBy names (λ f. IsByNames clash f names c how has) files (Err SameName))
-name-clashes None names c how has clash e = tt
-name-clashes (Some files) names c how has clash e = inr (subst (λ (b : Bool). IsByNames b files names c how has (refused names SameName)) (sym e) refl)
-
-pub name-cause : (clash : Bool) (before now : Counts) → clash ≡ true → CauseBy {A = Answer} (name_refusal clash) before now (Err SameName)
-name-cause clash before now e = subst (λ (b : Bool). CauseBy {A = Answer} (name_refusal b) before now (Err SameName)) (sym e) (refl, refl)
-
--- or they are two
-pub names-apart : (known : Option Files) (names : FileNames) (c : RawSettings) (how : Manner) (has clash : Bool) (result : Result Answer Refusal) → clash ≡ false
-    → WithFiles known (λ files. GivesBy names (λ f. IsByNames false f names c how has) files result) → WithFiles known (λ files. GivesBy names (λ f. IsByNames clash f names c how has) files result)
-names-apart known names c how has clash result e h = subst (λ (b : Bool). WithFiles known (λ files. GivesBy names (λ f. IsByNames b f names c how has) files result)) (sym e) h
-
-pub apart-cause : (clash : Bool) (before now : Counts) (result : Result Answer Refusal) → clash ≡ false → ResultCause before now result → CauseBy (name_refusal clash) before now result
-apart-cause clash before now result e h = subst (λ (b : Bool). CauseBy (name_refusal b) before now result) (sym e) h
-
--- a setting is out of range
-pub bad-cause : (c : RawSettings) (clash : Bool) (before now : Counts) (bad : BadSetting) → checked_by (first_bad c) c ≡ Err bad
-    → CauseBy {A = Answer} (setting_refusal (first_bad c) clash) before now (Err (OutOfRange bad))
-bad-cause c clash before now bad e =
-    subst (λ (o : Option BadSetting). CauseBy {A = Answer} (setting_refusal o clash) before now (Err (OutOfRange bad))) (sym (bad-one (first_bad c) c bad e)) (refl, refl)

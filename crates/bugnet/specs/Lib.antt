@@ -35,3 +35,4 @@ pub mod Agreements
 pub mod Inputs
 pub mod Evaluated
 pub mod Command
+pub mod Starts

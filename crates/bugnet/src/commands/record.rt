@@ -1,17 +1,18 @@
 //! The command `record`: settings and names are tested, the program and its input loaded, the run recorded, and
 //! its log and the list of its turns saved and told.
-ghost use Rattle.std.specs.Prelude.{◌≡◌, false, [], IfOk, ◌≢◌, ◌≤◌, ◌⊎◌, OnOk};
+ghost use Rattle.std.specs.Prelude.{◌≡◌, ◌≢◌, ◌≤◌, ◌⊎◌, false, [], Some, None, IfOk, IfErr, OnOk};
 ghost use Rattle.sha2.specs.Sha256.{sha256};
 ghost use Rattle.bn_outside.specs.Counts.{NoneFell, Rose};
 ghost use Rattle.elf_loader.specs.Loaded.{image_of};
 ghost use Rattle.le_numbers.specs.Numbers.{AreBytes};
 ghost use Rattle.bn_base.specs.Ranges.{first_bad};
-ghost use Rattle.bugnet.specs.Answers.{name_refusal, setting_refusal};
+ghost use Rattle.bugnet.specs.Answers.{setting_refusal};
 ghost use Rattle.bugnet.specs.Asks.{IsRecordedRun, saves_after, AtMostSaves, SavesEach, is_lean};
 ghost use Rattle.bugnet.specs.Commands.{is_clash, IsByInput, IsByProgram, IsByNames, IsRecord};
 ghost use Rattle.bugnet.specs.Recordings.{IsRun};
 ghost use Rattle.bugnet.specs.Saves.{HoldsBytes};
-ghost use Rattle.bugnet.specs.Outside.{Gives, GivesBy, IsOwn, CauseBy, ResultCause, WithFiles, told_of_recording, saved_of, SaveTells};
+ghost use Rattle.bugnet.specs.Starts.{BeginsBy};
+ghost use Rattle.bugnet.specs.Outside.{GivesBy, CauseBy, ResultCause, WithFiles, told_of_recording, saved_of, SaveTells};
 ghost use Rattle.bugnet.specs.Run.{call, Tells};
 
 use crate::answer::{Answer, RunToTell, digest_of, load_program};
@@ -28,71 +29,46 @@ use std::alloc::Global;
 use std::sync::Wait;
 use std::thread::Threads;
 
-// The recording from a start.
-fn record_start<G: Gate, R: Threads + Wait + Sync>(
-    rt: &R,
-    alloc: Global,
-    names: &Names,
-    start: &Start,
-    how: &Manner,
-    gate: &G,
-) -> Result<Answer, Refusal>
-    ensures gives { Gives names.now (IsRun start.now.settings start.now.image start.now.digest how.now start.now.input.items) result }
-    ensures own { IsOwn result }
-    ensures recorded { IfOk result (IsRecordedRun how.now.lean) }
-{
-    let recording = record_run(rt, alloc, start, how, gate)?;
-    Ok(Answer::Recorded(recording))
-}
-
-// Loads the input, where there is one, and records from a start whose own input is empty.
-fn record_input<S: Store, G: Gate, R: Threads + Wait + Sync>(
-    rt: &R,
+// Loads the input, where there is one, for a start whose own input is empty.
+fn load_input<S: Store>(
     alloc: Global,
     names: &Names,
     mut start: Start,
-    how: &Manner,
     has_input: bool,
     store: &mut S,
-    gate: &G,
-) -> Result<Answer, Refusal>
+) -> Result<Start, Refusal>
     requires { start.input.items ≡ [] }
-    ensures told { WithFiles (S.files store.old) (λ files. GivesBy names.now (λ files. IsByInput has_input files names.now (IsRun start.settings start.image start.digest how.now)) files result) }
+    ensures told { (how : Manner) → WithFiles (S.files store.old) (λ files. BeginsBy names.now how (λ files. IsByInput has_input files names.now (IsRun start.settings start.image start.digest how)) files result) }
     ensures same { S.files store.new ≡ S.files store.old }
     ensures asks { S.saves store.new ≡ S.saves store.old }
-    ensures recorded { IfOk result (IsRecordedRun how.now.lean) }
     ensures later { NoneFell (S.counts store.old) (S.counts store.new) }
     ensures cause { ResultCause (S.counts store.old) (S.counts store.new) result }
 {
     if !has_input {
-        return record_start(rt, alloc, names, &start, how, gate);
+        return Ok(start);
     }
     match fetch(alloc, names, store, Role::Input, INPUT_LIMIT) {
         Err(refusal) => Err(refusal),
         Ok(input) => {
             start.input = input;
-            record_start(rt, alloc, names, &start, how, gate)
+            Ok(start)
         }
     }
 }
 
-// Loads a program from its bytes, and records it.
-fn record_program<S: Store, G: Gate, R: Threads + Wait + Sync>(
-    rt: &R,
+// Loads a program from its bytes, and then the input.
+fn load_start<S: Store>(
     alloc: Global,
     names: &Names,
     elf: &[u8],
     settings: &Settings,
-    how: &Manner,
     has_input: bool,
     store: &mut S,
-    gate: &G,
-) -> Result<Answer, Refusal>
+) -> Result<Start, Refusal>
     ensures bytes { AreBytes elf.now }
-    ensures told { WithFiles (S.files store.old) (λ files. GivesBy names.now (λ files. IsByProgram (image_of elf.now settings.now) files names.now settings.now how.now has_input (sha256 elf.now)) files result) }
+    ensures told { (how : Manner) → WithFiles (S.files store.old) (λ files. BeginsBy names.now how (λ files. IsByProgram (image_of elf.now settings.now) files names.now settings.now how has_input (sha256 elf.now)) files result) }
     ensures same { S.files store.new ≡ S.files store.old }
     ensures asks { S.saves store.new ≡ S.saves store.old }
-    ensures recorded { IfOk result (IsRecordedRun how.now.lean) }
     ensures later { NoneFell (S.counts store.old) (S.counts store.new) }
     ensures cause { ResultCause (S.counts store.old) (S.counts store.new) result }
 {
@@ -105,35 +81,29 @@ fn record_program<S: Store, G: Gate, R: Threads + Wait + Sync>(
                 input: Vec::new(alloc),
                 digest: digest_of(elf),
             };
-            record_input(rt, alloc, names, start, how, has_input, store, gate)
+            load_input(alloc, names, start, has_input, store)
         }
     }
 }
 
-// Loads a program file, and records it.
-fn record_elf<S: Store, G: Gate, R: Threads + Wait + Sync>(
-    rt: &R,
+// Loads the program file, and then the input.
+fn load_files<S: Store>(
     alloc: Global,
     names: &Names,
     settings: &Settings,
-    how: &Manner,
     has_input: bool,
     store: &mut S,
-    gate: &G,
-) -> Result<Answer, Refusal>
+) -> Result<Start, Refusal>
     ensures bytes { IfOk result (λ _. WithFiles (S.files store.old) (λ files. HoldsBytes (files names.now.elf))) }
-    ensures told { WithFiles (S.files store.old) (λ files. GivesBy names.now (λ files. IsByNames false files names.now settings.now how.now has_input) files result) }
+    ensures told { (how : Manner) → WithFiles (S.files store.old) (λ files. BeginsBy names.now how (λ files. IsByNames false files names.now settings.now how has_input) files result) }
     ensures same { S.files store.new ≡ S.files store.old }
     ensures asks { S.saves store.new ≡ S.saves store.old }
-    ensures recorded { IfOk result (IsRecordedRun how.now.lean) }
     ensures later { NoneFell (S.counts store.old) (S.counts store.new) }
     ensures cause { ResultCause (S.counts store.old) (S.counts store.new) result }
 {
     match fetch(alloc, names, store, Role::Elf, ELF_LIMIT) {
         Err(refusal) => Err(refusal),
-        Ok(elf) => record_program(
-            rt, alloc, names, &elf, settings, how, has_input, store, gate,
-        ),
+        Ok(elf) => load_start(alloc, names, &elf, settings, has_input, store),
     }
 }
 
@@ -144,29 +114,20 @@ fn clashes(lean: bool, log: &str, book: &str) -> bool
     if lean { false } else { log == book }
 }
 
-// Records, where LOG and BOOK are two names, if both are saved.
-fn record_named<S: Store, G: Gate, R: Threads + Wait + Sync>(
-    rt: &R,
-    alloc: Global,
-    names: &Names,
-    settings: &Settings,
-    how: &Manner,
-    has_input: bool,
-    store: &mut S,
-    gate: &G,
-) -> Result<Answer, Refusal>
-    ensures bytes { IfOk result (λ _. WithFiles (S.files store.old) (λ files. HoldsBytes (files names.now.elf))) }
-    ensures told { WithFiles (S.files store.old) (λ files. GivesBy names.now (λ files. IsByNames (is_clash how.now.lean names.now.log names.now.book) files names.now settings.now how.now has_input) files result) }
-    ensures same { S.files store.new ≡ S.files store.old }
-    ensures asks { S.saves store.new ≡ S.saves store.old }
-    ensures recorded { IfOk result (IsRecordedRun how.now.lean) }
-    ensures later { NoneFell (S.counts store.old) (S.counts store.new) }
-    ensures cause { CauseBy (name_refusal (is_clash how.now.lean names.now.log names.now.book)) (S.counts store.old) (S.counts store.new) result }
+// The settings, where they are in range, and LOG and BOOK are two names, if both are saved.
+fn tested(names: &Names, settings: &RawSettings, how: &Manner) -> Result<Settings, Refusal>
+    ensures ok { IfOk result (λ s. (s ≡ settings.now) × (setting_refusal (first_bad settings.now) (is_clash how.now.lean names.now.log names.now.book) ≡ None)) }
+    ensures refused { IfErr result (λ r. setting_refusal (first_bad settings.now) (is_clash how.now.lean names.now.log names.now.book) ≡ Some r) }
 {
-    if clashes(how.lean, names.log, names.book) {
-        Err(Refusal::SameName)
-    } else {
-        record_elf(rt, alloc, names, settings, how, has_input, store, gate)
+    match Settings::checked(settings) {
+        Err(bad) => Err(Refusal::OutOfRange(bad)),
+        Ok(settings) => {
+            if clashes(how.lean, names.log, names.book) {
+                Err(Refusal::SameName)
+            } else {
+                Ok(settings)
+            }
+        }
     }
 }
 
@@ -190,9 +151,15 @@ pub fn record_files<S: Store, G: Gate, R: Threads + Wait + Sync>(
     ensures later { NoneFell (S.counts store.old) (S.counts store.new) }
     ensures cause { CauseBy (setting_refusal (first_bad settings.now) (is_clash how.now.lean names.now.log names.now.book)) (S.counts store.old) (S.counts store.new) result }
 {
-    match Settings::checked(settings) {
-        Err(bad) => Err(Refusal::OutOfRange(bad)),
-        Ok(settings) => record_named(rt, alloc, names, &settings, how, has_input, store, gate),
+    match tested(names, settings, how) {
+        Err(refusal) => Err(refusal),
+        Ok(settings) => match load_files(alloc, names, &settings, has_input, store) {
+            Err(refusal) => Err(refusal),
+            Ok(start) => match record_run(rt, alloc, &start, how, gate) {
+                Ok(recording) => Ok(Answer::Recorded(recording)),
+                Err(_) => Err(Refusal::OutOfMemory),
+            },
+        },
     }
 }
 
