@@ -32,6 +32,9 @@ answers 5 "bugnet: too long: ELF-long" record --seed 1 ELF-long LOG2 BOOK2
 truncate -s 272629760 LOG-most && truncate -s 272629761 LOG-long
 answers 7 "bugnet: log: BadMagic" check LOG-most
 answers 5 "bugnet: too long: LOG-long" check LOG-long
+answers 5 "bugnet: too long: LOG-long" races LOG-long ELF 1
+answers 5 "bugnet: too long: LOG-long" slice LOG-long ELF 0 0 0
+answers 5 "bugnet: too long: LOG-long" salvage LOG-long NEW
 truncate -s 1073741824 BOOK-most && truncate -s 1073741825 BOOK-long
 answers 17 "" audit LOG ELF BOOK-most
 answers 5 "bugnet: too long: BOOK-long" audit LOG ELF BOOK-long

@@ -19,8 +19,10 @@
 //! | `failing-keys CALL ..` | the next call's reads of these numbers fail |
 //! | `run WORD ..` | the program with these words; where it could read, how much it left |
 //! | `run-meet HARTS WORD ..` | the same, where the harts meet before their first turns |
+//! | `run-meet-status HARTS WORD ..` | the same, but only the status and whether they met are printed: the rest may depend on the order of their turns |
 //! | `run-listed HEX WORD ..` | the same, where the harts take their turns in this order, a byte for each |
 //! | `run-last COUNT WORD ..` | the program with these words, of whose out so many of the last lines alone are printed |
+//! | `run-prefixes NAME FIRST LAST WORD ..` | the program with these words on each prefix of the file from FIRST to LAST bytes: a line for each, with its length, the status, how many bytes out and err have, and err's text; then the file is whole again. FIRST is at most LAST, and LAST at most the file's length |
 //! | `size NAME`, `show NAME` | how long a file is, and its bytes |
 //! | `alike NAME NAME` | whether two files have the same bytes |
 //! | `code WORD ..` | at most 64 code words at 0x10054, in hexadecimal, which runs have in place of a file |
@@ -41,6 +43,7 @@
 mod files;
 mod hex;
 mod machine;
+mod prefixes;
 mod runs;
 mod script;
 mod serving;

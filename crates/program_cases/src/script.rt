@@ -1,5 +1,6 @@
 // The lines of a script of cases.
 use crate::machine::Surroundings;
+use crate::prefixes::run_prefixes;
 use crate::runs::Runs;
 use crate::words::{code, number, numbers, words_of};
 use crate::{files, hex};
@@ -122,6 +123,22 @@ fn run_meet<R: Print + Threads + Wait + Sync>(
     Ok(())
 }
 
+// Runs the program with a gate at which harts meet, and prints its status and whether they met. The rest
+// is not printed, since it may depend on the order of the harts' turns.
+fn run_meet_status<R: Print + Threads + Wait + Sync>(
+    rt: &R,
+    machine: &mut Surroundings,
+    line: &str,
+    words: &[&str],
+    gate: &MeetGate,
+) -> anyhow::Result<()> {
+    let status = machine.run(rt, words, gate)?;
+    println!(rt; "{line}")?;
+    println!(rt; "status {status}")?;
+    println!(rt; "met {}", gate.met())?;
+    Ok(())
+}
+
 // Runs the program with a gate that gives the order of the harts' turns, and prints whether they kept
 // it.
 fn run_listed<R: Print + Threads + Wait + Sync>(
@@ -142,6 +159,11 @@ fn list_gate(alloc: Global, text: &str) -> anyhow::Result<ListGate> {
     Ok(ListGate::new(alloc, &order)?)
 }
 
+// Whether a line runs the program once, with some gate, and prints what comes of it.
+fn is_gated(verb: &str) -> bool {
+    verb == "run" || verb == "run-meet" || verb == "run-meet-status" || verb == "run-listed"
+}
+
 // Runs the program as a line says: with a gate at which harts meet, or one that gives the order of their
 // turns, or with an open one.
 fn run_gated<R: Print + Threads + Wait + Sync>(
@@ -157,6 +179,9 @@ fn run_gated<R: Print + Threads + Wait + Sync>(
     if verb == "run-meet" {
         let harts = word.parse::<u8>()?;
         run_meet(rt, machine, line, rest, &MeetGate::new(harts))
+    } else if verb == "run-meet-status" {
+        let harts = word.parse::<u8>()?;
+        run_meet_status(rt, machine, line, rest, &MeetGate::new(harts))
     } else if verb == "run-listed" {
         let gate = list_gate(alloc, word)?;
         run_listed(rt, machine, line, rest, &gate)
@@ -304,8 +329,10 @@ impl Case {
         let rest = words.get(2..).unwrap_or(&[]);
         if verb == "type" || verb == "keys" {
             self.type_keys(line, words)
-        } else if verb == "run" || verb == "run-meet" || verb == "run-listed" {
+        } else if is_gated(verb) {
             run_gated(rt, self.alloc, &mut self.machine, line, words)
+        } else if verb == "run-prefixes" {
+            run_prefixes(rt, self.alloc, &mut self.machine, line, words)
         } else if verb == "run-last" {
             run_last(rt, &mut self.machine, line, words)
         } else if verb == "alike" {

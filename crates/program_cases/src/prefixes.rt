@@ -1,0 +1,76 @@
+//! The loop of the script: the program on each prefix of a file.
+use crate::machine::Surroundings;
+use crate::words::number;
+use bn_outside::OpenGate;
+use std::alloc::Global;
+use std::sync::Wait;
+use std::thread::Threads;
+
+// A copy of a file.
+fn copy_file(alloc: Global, machine: &Surroundings, name: &str) -> anyhow::Result<Vec<u8>> {
+    match machine.store.bytes(name) {
+        Some(bytes) => Ok(bytes.to_vec(alloc)?),
+        None => Err(anyhow::anyhow!("run-prefixes: the file is not there")),
+    }
+}
+
+// Runs the program on a prefix of a file. Prints in one line how long the prefix is, the status, how many
+// bytes the program wrote to out and to err, and the text of err.
+fn run_prefix<R: Print + Threads + Wait + Sync>(
+    rt: &R,
+    machine: &mut Surroundings,
+    name: &str,
+    prefix: &[u8],
+    words: &[&str],
+) -> anyhow::Result<()> {
+    machine.store.put(name, prefix)?;
+    let status = machine.run(rt, words, &OpenGate)?;
+    let (out, err) = (machine.out.written().len(), machine.err.written());
+    print!(rt;
+        "{} status {status} out {out} err {}",
+        prefix.len(),
+        err.len()
+    )?;
+    println!(rt; " {}", std::str::from_utf8(err)?.trim_end())?;
+    Ok(())
+}
+
+// Runs the program on each prefix of these bytes, from the first length to the last.
+fn run_each<R: Print + Threads + Wait + Sync>(
+    rt: &R,
+    machine: &mut Surroundings,
+    name: &str,
+    bytes: &[u8],
+    first: usize,
+    last: usize,
+    words: &[&str],
+) -> anyhow::Result<()> {
+    anyhow::ensure!(first <= last, "run-prefixes: FIRST is above LAST");
+    anyhow::ensure!(
+        last <= bytes.len(),
+        "run-prefixes: LAST is above the file's length"
+    );
+    for length in first..=last {
+        run_prefix(rt, machine, name, &bytes[..length], words)?;
+    }
+    Ok(())
+}
+
+/// Runs the program on prefixes of a file as a line says, and leaves the file whole.
+pub fn run_prefixes<R: Print + Threads + Wait + Sync>(
+    rt: &R,
+    alloc: Global,
+    machine: &mut Surroundings,
+    line: &str,
+    words: &[&str],
+) -> anyhow::Result<()> {
+    let name = words.get(1).copied().unwrap_or("");
+    let first = number(words.get(2))?;
+    let last = number(words.get(3))?;
+    let call = words.get(4..).unwrap_or(&[]);
+    let bytes = copy_file(alloc, machine, name)?;
+    println!(rt; "{line}")?;
+    run_each(rt, machine, name, &bytes, first, last, call)?;
+    machine.store.put(name, &bytes)?;
+    Ok(())
+}
