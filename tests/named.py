@@ -128,6 +128,7 @@ MUTANTS = [
         case("program_cases", "harts that run in threads leave the log of their list of turns"),
         case("program_cases", "four harts of a generated program in threads take the turns of a list"),
     ),
+    ("Each list waits without end, which only a recording may.", edit("bugnet", "each_list_waits_without_end")),
     # Races and slices.
     ("A race report lists every conflict.", edit("race_report", "every_conflict_is_a_race")),
     ("A race report takes a plain store for a synchronisation.", edit("race_report", "a_plain_access_synchronises")),
@@ -141,11 +142,7 @@ MUTANTS = [
         edit("slice_back", "a_store_is_the_source_of_a_later_first_load"),
     ),
     # Refusals without their cause, by status.
-    (
-        "Each command line is refused (2).",
-        edit("bugnet", "each_command_ends_as_refused_words"),
-        edit("command_words", "taken_line_refused"),
-    ),
+    ("Each command line is refused (2).", edit("command_words", "taken_line_refused")),
     (
         "A missing file is told as a failure of the store, and a failure as a missing file (3, 4).",
         edit("bugnet", "a_missing_file_and_a_failed_load_are_exchanged"),

@@ -7,7 +7,7 @@ use Rattle.std.proofs.lemmas.Bool.Decides.{nat_tests}
 use Rattle.bn_outside.specs.Counts.{Counts}
 use Rattle.bn_outside.specs.Files.{Files}
 use Rattle.bn_base.specs.Programs.{Program}
-use Rattle.bn_base.specs.Ranges.{checked_by}
+use Rattle.bn_base.specs.Ranges.{checked_by, first_bad}
 use Rattle.bn_base.specs.declared.settings.BadSetting.{BadSetting}
 use Rattle.bn_base.specs.declared.settings.RawSettings.{RawSettings}
 use Rattle.elf_loader.specs.Loaded.{image_of}
@@ -22,9 +22,11 @@ use Rattle.command_words.specs.declared.commands.RecordOptions.{RecordOptions}
 use Rattle.bugnet.specs.Names.{FileNames, name_of}
 use Rattle.bugnet.specs.Refusals.{line_of, said_of, log_refusal}
 use Rattle.bugnet.specs.Told.{Told, refused}
-use Rattle.bugnet.specs.Commands.{Either, IsByFile, WithFile, IsByLog, IsByProgram, IsRecord}
+use Rattle.bugnet.specs.Commands.{is_clash, Either, IsByFile, WithFile, IsByLog, IsByProgram, IsRecord}
 use Rattle.bugnet.specs.declared.manner.Manner.{Manner}
-use Rattle.bugnet.specs.Answers.{names_in, manner_of, name_refusal, IsAnswer}
+use Rattle.bugnet.specs.Answers.{names_in, manner_of, name_refusal, setting_refusal, refusal_in, IsAnswer}
+use Rattle.bugnet.specs.Asks.{IsRecordedRun, RecordsRun}
+use Rattle.bugnet.specs.Saves.{HoldsBytes, HasElf}
 use Rattle.bugnet.specs.Outside.{WithFiles, FetchTells, LogTells, ProgramTells, Gives, unless, without, GivesTo, GivesOf, GivesBy, RefusalCause, CauseBy, told_of}
 use Rattle.bugnet.specs.declared.names.Role.{Role}
 use Rattle.bugnet.specs.declared.answer.Answer.{Answer}
@@ -240,6 +242,22 @@ record-answers known names r how has result e m input h =
     subst (λ (n : FileNames). WithFiles known (λ files. GivesBy names (λ f. IsRecord f n s.settings (manner_of s) (is_some s.input)) files result)) e
     (subst (λ (b : Bool). WithFiles known (λ files. GivesBy names (λ f. IsRecord f names s.settings (manner_of s) b) files result)) there
     (subst (λ (x : Manner). WithFiles known (λ files. GivesBy names (λ f. IsRecord f names s.settings x has) files result)) m h))
+
+-- what the words of such a line refuse, whether it is lean, and what its program file holds
+pub record-cause : (names : FileNames) (r : RecordOptions) (how : Manner) (before now : Counts) (result : Result Answer Refusal) → names ≡ names_in (RecordLine (seen_recording r))
+    → how ≡ manner_of (seen_recording r) → CauseBy (setting_refusal (first_bad r.settings) (is_clash how.lean names.log names.book)) before now result
+    → CauseBy (refusal_in (RecordLine (seen_recording r))) before now result
+record-cause names r how before now result e m h =
+    let s = seen_recording r in
+    subst (λ (n : FileNames). CauseBy (setting_refusal (first_bad s.settings) (is_clash s.lean n.log n.book)) before now result) e
+    (subst (λ (x : Manner). CauseBy (setting_refusal (first_bad s.settings) (is_clash x.lean names.log names.book)) before now result) m h)
+
+pub record-lean : (r : RecordOptions) (how : Manner) (answer : Answer) → how ≡ manner_of (seen_recording r) → IsRecordedRun how.lean answer → RecordsRun (RecordLine (seen_recording r)) answer
+record-lean r how answer m h = subst (λ (x : Manner). IsRecordedRun x.lean answer) m h
+
+pub record-bytes : (known : Option Files) (names : FileNames) (r : RecordOptions) → names ≡ names_in (RecordLine (seen_recording r))
+    → WithFiles known (λ files. HoldsBytes (files names.elf)) → HasElf (RecordLine (seen_recording r)) known
+record-bytes known names r e h = subst (λ (n : FileNames). WithFiles known (λ files. HoldsBytes (files n.elf))) e h
 
 -- by the names that a line says
 pub by-names : (known : Option Files) (names own : FileNames) (Is : FileNames → Files → Told → Type 0) (result : Result Answer Refusal) → names ≡ own

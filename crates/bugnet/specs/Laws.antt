@@ -84,6 +84,22 @@ IsNoSession (Some (ConvertLine log copy)) = Unit {0}
 IsNoSession (Some (SalvageLine log copy)) = Unit {0}
 IsNoSession (Some (DemoLine seed)) = Unit {0}
 
+-- words that record nothing
+abbrev pub IsNoRecording : Option Line → Type 0
+IsNoRecording None = Unit {0}
+IsNoRecording (Some (RecordLine r)) = ⊥
+IsNoRecording (Some (ReplayLine log elf hart interval)) = Unit {0}
+IsNoRecording (Some (JointLine log elf)) = Unit {0}
+IsNoRecording (Some (DebugLine log elf)) = Unit {0}
+IsNoRecording (Some (ListLine log)) = Unit {0}
+IsNoRecording (Some (CheckLine log)) = Unit {0}
+IsNoRecording (Some (AuditLine log elf book input)) = Unit {0}
+IsNoRecording (Some (RacesLine log elf most)) = Unit {0}
+IsNoRecording (Some (SliceLine log elf hart interval ic)) = Unit {0}
+IsNoRecording (Some (ConvertLine log copy)) = Unit {0}
+IsNoRecording (Some (SalvageLine log copy)) = Unit {0}
+IsNoRecording (Some (DemoLine seed)) = Unit {0}
+
 -- the list of turns that a seed chooses is legal and finished, if the settings were tested
 abbrev pub SeedsAreWhole : Type 0
 SeedsAreWhole = (c : RawSettings) (i : Program) (input : List ℕ) (seed : ℕ) → first_bad c ≡ None → IsWhole c i input (seeded c i input seed)

@@ -32,7 +32,7 @@ pub use laws::{
 pub use manner::Manner;
 pub use names::{Names, Role};
 pub use pairs::JointReading;
-pub use program::run;
+pub use program::{perform, run};
 pub use refusal::Refusal;
 pub use replay_lines::ReplayEnd;
 pub use texts::RunCounts;

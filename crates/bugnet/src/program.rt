@@ -4,7 +4,7 @@ ghost use Rattle.bn_outside.specs.Counts.{Rose, NoneFell};
 ghost use Rattle.command_words.specs.Words.{command_in, seen, seen_recording};
 ghost use Rattle.bugnet.specs.Answers.{names_in, manner_of, refusal_in, IsAnswer};
 ghost use Rattle.bugnet.specs.Asks.{LineSaves, RecordsRun, AnswerSaves};
-ghost use Rattle.bugnet.specs.Laws.{IsReadOnly, IsNoSession};
+ghost use Rattle.bugnet.specs.Laws.{IsReadOnly, IsNoSession, IsNoRecording};
 ghost use Rattle.bugnet.specs.Sessions.{is_begun};
 ghost use Rattle.bugnet.specs.Debugging.{Debugs};
 ghost use Rattle.bugnet.specs.Agreements.{AuditsRun};
@@ -12,7 +12,7 @@ ghost use Rattle.bugnet.specs.Complete.{IsDone};
 ghost use Rattle.bugnet.specs.Headline.{PrintsRun};
 ghost use Rattle.bugnet.specs.Jointly.{PrintsJointly};
 ghost use Rattle.bugnet.specs.Outside.{GivesBy, CauseBy, WithFiles, IsPrinted, told_of};
-ghost use Rattle.bugnet.specs.Saves.{LeavesRun, HasElf};
+ghost use Rattle.bugnet.specs.Saves.{LeavesRun};
 ghost use Rattle.bugnet.specs.Run.{call, TellsAnswer, ByWords, Keeps, ChangesFew, Tells};
 
 use crate::answer::Answer;
@@ -93,17 +93,16 @@ fn manner_of(recording: &RecordOptions) -> Manner
     }
 }
 
-// What a command answers that reads no commands. Nothing is saved or printed yet.
-fn answer_to<S: Store, G: Gate, R: Threads + Wait + Sync>(
-    rt: &R,
+// What a command answers, where it records nothing and reads no commands. Nothing is saved or printed yet.
+fn answer_to<S: Store>(
     alloc: Global,
     command: &Command,
     names: &Names,
     store: &mut S,
-    gate: &G,
 ) -> Result<Answer, Refusal>
     requires named { names.now ≡ names_in (seen command.now) }
     requires no_session { IsNoSession (Some (seen command.now)) }
+    requires no_recording { IsNoRecording (Some (seen command.now)) }
     ensures told { WithFiles (S.files store.old) (λ files. GivesBy names.now (IsAnswer (Some (seen command.now))) files result) }
     ensures same { S.files store.new ≡ S.files store.old }
     ensures later { NoneFell (S.counts store.old) (S.counts store.new) }
@@ -111,20 +110,9 @@ fn answer_to<S: Store, G: Gate, R: Threads + Wait + Sync>(
     ensures prints { IsReadOnly (Some (seen command.now)) → IfOk result IsPrinted }
     ensures records { IfOk result (RecordsRun (seen command.now)) }
     ensures asks { S.saves store.new ≡ S.saves store.old }
-    // That a program file is bytes comes from its load, so that no statement has it as a premise.
-    ensures bytes { IfOk result (λ _. HasElf (seen command.now) (S.files store.old)) }
 {
     match command {
-        Command::Record(recording) => record_files(
-            rt,
-            alloc,
-            names,
-            &recording.settings,
-            &manner_of(recording),
-            recording.input.is_some(),
-            store,
-            gate,
-        ),
+        Command::Record(_) => unreachable!(),
         Command::Replay { hart, interval, .. } => replay_files(
             alloc, names, store, *hart, *interval,
         ),
@@ -181,25 +169,23 @@ pub fn act<S: Store, O: Sink, X: Sink>(
     }
 }
 
-// Does what a command asks for that reads no commands.
-fn perform<S: Store, O: Sink, X: Sink, G: Gate, R: Threads + Wait + Sync>(
-    rt: &R,
+// Does what a command asks for, where it records nothing and reads no commands.
+fn reply<S: Store, O: Sink, X: Sink>(
     alloc: Global,
     command: &Command,
     names: &Names,
     store: &mut S,
     out: &mut O,
     err: &mut X,
-    gate: &G,
 ) -> u8
     requires named { names.now ≡ names_in (seen command.now) }
     requires no_session { IsNoSession (Some (seen command.now)) }
+    requires no_recording { IsNoRecording (Some (seen command.now)) }
     ensures told { TellsAnswer (Some (seen command.now)) result (call S.files S.counts O.written O.faults X.written X.faults store.old out.old err.old store.new out.new err.new) }
     ensures words { ByWords (Some (seen command.now)) result (call S.files S.counts O.written O.faults X.written X.faults store.old out.old err.old store.new out.new err.new) }
     ensures later { NoneFell (S.counts store.old) (S.counts store.new) }
     ensures out_later { O.faults out.old ≤ O.faults out.new }
     ensures err_later { X.faults err.old ≤ X.faults err.new }
-    ensures recorded { LeavesRun (Some (seen command.now)) result (S.files store.old) (S.files store.new) }
     ensures still { IsReadOnly (Some (seen command.now)) → S.files store.new ≡ S.files store.old }
     ensures saves { LineSaves (Some (seen command.now)) result (S.saves store.old) (S.saves store.new) }
     ensures failed { result ≡ 3 → Rose (S.counts store.old).faults (S.counts store.new).faults }
@@ -208,18 +194,56 @@ fn perform<S: Store, O: Sink, X: Sink, G: Gate, R: Threads + Wait + Sync>(
     ensures write { result ≡ 13 → Rose (O.faults out.old) (O.faults out.new) ⊎ Rose (X.faults err.old) (X.faults err.new) }
     ensures read { result ≢ 12 }
 {
-    seeds_are_whole();
-    files_keep_to_their_size();
-    logs_are_contents();
-    match answer_to(rt, alloc, command, names, store, gate) {
+    match answer_to(alloc, command, names, store) {
         Err(refusal) => refuse(alloc, names, &refusal, err),
         Ok(answer) => act(alloc, names, &answer, store, out, err),
     }
 }
 
-// Does what a command asks for.
-// `debug` has a path of its own: what it prints depends on what it reads meanwhile, so it has no answer that is
-// made first.
+/// Does what a command other than `record` asks for. Its clauses are those of `run`. It may neither wait nor
+/// start threads, and so it owes its return: each of these commands ends.
+pub fn perform<S: Store, I: Source, O: Sink, X: Sink>(
+    alloc: Global,
+    command: &Command,
+    store: &mut S,
+    input: &mut I,
+    out: &mut O,
+    err: &mut X,
+) -> u8
+    requires no_recording { IsNoRecording (Some (seen command.now)) }
+    ensures told { TellsAnswer (Some (seen command.now)) result (call S.files S.counts O.written O.faults X.written X.faults store.old out.old err.old store.new out.new err.new) }
+    ensures words { ByWords (Some (seen command.now)) result (call S.files S.counts O.written O.faults X.written X.faults store.old out.old err.old store.new out.new err.new) }
+    ensures later { NoneFell (S.counts store.old) (S.counts store.new) }
+    ensures out_later { O.faults out.old ≤ O.faults out.new }
+    ensures err_later { X.faults err.old ≤ X.faults err.new }
+    ensures still { IsReadOnly (Some (seen command.now)) → S.files store.new ≡ S.files store.old }
+    ensures saves { LineSaves (Some (seen command.now)) result (S.saves store.old) (S.saves store.new) }
+    ensures session { Debugs (Some (seen command.now)) result (I.left input.old) (I.left input.new) (I.faults input.old) (I.faults input.new)
+        (call S.files S.counts O.written O.faults X.written X.faults store.old out.old err.old store.new out.new err.new) }
+    ensures first { (is_begun result ≡ true) ⊎ (input.new ≡ input.old) }
+    ensures unread { IsNoSession (Some (seen command.now)) → input.new ≡ input.old }
+    ensures read { result ≡ 12 → Rose (I.faults input.old) (I.faults input.new) }
+    ensures read_later { I.faults input.old ≤ I.faults input.new }
+    ensures failed { result ≡ 3 → Rose (S.counts store.old).faults (S.counts store.new).faults }
+    ensures missing { result ≡ 4 → Rose (S.counts store.old).misses (S.counts store.new).misses }
+    ensures long { result ≡ 5 → Rose (S.counts store.old).longs (S.counts store.new).longs }
+    ensures write { result ≡ 13 → Rose (O.faults out.old) (O.faults out.new) ⊎ Rose (X.faults err.old) (X.faults err.new) }
+{
+    // Laws:
+    readings_are_unique();
+    sessions_show_the_run();
+    logs_are_contents();
+    saved_files_keep_to_the_limit();
+    files_are_read();
+    let names = names_of(command);
+    // What `debug` prints depends on what it reads meanwhile, so it has no answer that is made first.
+    match command {
+        Command::Debug { .. } => debug_files(alloc, &names, store, input, out, err),
+        _ => reply(alloc, command, &names, store, out, err),
+    }
+}
+
+// Does what a command asks for. Only a recording may wait: its harts are in threads, which wait for each other.
 fn obey<S: Store, I: Source, O: Sink, X: Sink, G: Gate, R: Threads + Wait + Sync>(
     rt: &R,
     alloc: Global,
@@ -249,15 +273,22 @@ fn obey<S: Store, I: Source, O: Sink, X: Sink, G: Gate, R: Threads + Wait + Sync
     ensures long { result ≡ 5 → Rose (S.counts store.old).longs (S.counts store.new).longs }
     ensures write { result ≡ 13 → Rose (O.faults out.old) (O.faults out.new) ⊎ Rose (X.faults err.old) (X.faults err.new) }
 {
-    readings_are_unique();
-    sessions_show_the_run();
+    // Laws:
+    seeds_are_whole();
+    files_keep_to_their_size();
     logs_are_contents();
-    saved_files_keep_to_the_limit();
-    files_are_read();
-    let names = names_of(command);
     match command {
-        Command::Debug { .. } => debug_files(alloc, &names, store, input, out, err),
-        _ => perform(rt, alloc, command, &names, store, out, err, gate),
+        Command::Record(recording) => {
+            let names = names_of(command);
+            let how = manner_of(recording);
+            let has_input = recording.input.is_some();
+            let settings = &recording.settings;
+            match record_files(rt, alloc, &names, settings, &how, has_input, store, gate) {
+                Err(refusal) => refuse(alloc, &names, &refusal, err),
+                Ok(answer) => act(alloc, &names, &answer, store, out, err),
+            }
+        }
+        _ => perform(alloc, command, store, input, out, err),
     }
 }
 

@@ -128,23 +128,6 @@ fn recording_of<B: Book>(
     })
 }
 
-// The recording of the run by the turns that a number chooses. Of a turn one byte is kept, the number
-// of its hart, and no row.
-fn record_seeded(alloc: Global, start: &Start, seed: u64) -> Result<RunToTell, AllocError>
-    ensures { IfOk result (λ r. IsRecordingBy start.now (record { seed = Some seed; lean = false }) r) }
-{
-    let listed = run_listed(alloc, start, LeanBook, seed)?;
-    recording_of(alloc, start, listed.closed, Some(listed.list))
-}
-
-// The recording of such a run of which nothing is kept of a turn.
-fn record_seeded_lean(alloc: Global, start: &Start, seed: u64) -> Result<RunToTell, AllocError>
-    ensures { IfOk result (λ r. IsRecordingBy start.now (record { seed = Some seed; lean = true }) r) }
-{
-    let closed = run_seeded(alloc, start, LeanBook, seed)?;
-    recording_of(alloc, start, closed, None)
-}
-
 // A run whose harts are in threads of their own, with the list of its turns. The turns of one hart have one
 // order alone, so it needs no thread and no lock.
 fn run_unseeded<G: Gate, R: Threads + Wait + Sync>(
@@ -176,35 +159,9 @@ fn run_unseeded_lean<G: Gate, R: Threads + Wait + Sync>(
     run_threads_lean(rt, alloc, start, LeanBook, gate)
 }
 
-// The recording of a run whose harts are in threads of their own. Of a turn one byte is kept, the number
-// of its hart, and no row.
-fn record_threads<G: Gate, R: Threads + Wait + Sync>(
-    rt: &R,
-    alloc: Global,
-    start: &Start,
-    gate: &G,
-) -> Result<RunToTell, AllocError>
-    ensures { IfOk result (λ r. IsRecordingBy start.now (record { seed = None; lean = false }) r) }
-{
-    let whole = run_unseeded(rt, alloc, start, gate)?;
-    recording_of(alloc, start, whole.closed, Some(whole.list))
-}
-
-// The recording of such a run of which nothing is kept of a turn.
-fn record_lean<G: Gate, R: Threads + Wait + Sync>(
-    rt: &R,
-    alloc: Global,
-    start: &Start,
-    gate: &G,
-) -> Result<RunToTell, AllocError>
-    ensures { IfOk result (λ r. IsRecordingBy start.now (record { seed = None; lean = true }) r) }
-{
-    let closed = run_unseeded_lean(rt, alloc, start, gate)?;
-    recording_of(alloc, start, closed, None)
-}
-
 /// The recording of the run by the turns that a number chooses, or, where there is none, of a run whose
-/// harts are in threads of their own. The only error is want of memory.
+/// harts are in threads of their own. Of a turn one byte is kept, the number of its hart, and no row; of a lean
+/// recording's turn nothing is. The only error is running out of memory.
 pub fn record_run<G: Gate, R: Threads + Wait + Sync>(
     rt: &R,
     alloc: Global,
@@ -214,10 +171,24 @@ pub fn record_run<G: Gate, R: Threads + Wait + Sync>(
 ) -> Result<RunToTell, AllocError>
     ensures { IfOk result (λ r. IsRecordingBy start.now how.now r) }
 {
-    match (how.seed, how.lean) {
-        (Some(seed), true) => record_seeded_lean(alloc, start, seed),
-        (Some(seed), false) => record_seeded(alloc, start, seed),
-        (None, true) => record_lean(rt, alloc, start, gate),
-        (None, false) => record_threads(rt, alloc, start, gate),
+    match how.seed {
+        Some(seed) => {
+            if how.lean {
+                let closed = run_seeded(alloc, start, LeanBook, seed)?;
+                recording_of(alloc, start, closed, None)
+            } else {
+                let listed = run_listed(alloc, start, LeanBook, seed)?;
+                recording_of(alloc, start, listed.closed, Some(listed.list))
+            }
+        }
+        None => {
+            if how.lean {
+                let closed = run_unseeded_lean(rt, alloc, start, gate)?;
+                recording_of(alloc, start, closed, None)
+            } else {
+                let whole = run_unseeded(rt, alloc, start, gate)?;
+                recording_of(alloc, start, whole.closed, Some(whole.list))
+            }
+        }
     }
 }

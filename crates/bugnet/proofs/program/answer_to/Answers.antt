@@ -6,13 +6,8 @@ use Rattle.bugnet.specs.Joined.{IsJoint}
 use Rattle.bugnet.specs.Racing.{IsRaces}
 use Rattle.bugnet.specs.Slicing.{IsSlice}
 use Rattle.bugnet.specs.Renewing.{IsConvert, IsSalvage}
-use Rattle.bugnet.proofs.Loads.{record-answers, gives-any, by-names, by-origin, ok-any}
+use Rattle.bugnet.proofs.Loads.{gives-any, by-names, by-origin, ok-any}
 use Rattle.bugnet.proofs.program.answer_to.Goals as goal
-
-pub returns-in-Record-clause-told : goal.returns-in-Record-clause-told
-returns-in-Record-clause-told g c =
-    rw c.in-Record.is
-    (record-answers (g.S.Store.files c.args.store.now) c.args.names.now c.in-Record.recording c.manner_of.result c.is_some.result c.record_files.result (rw c.in-Record.is at c.requires.named) c.manner_of.ensures c.is_some.ensures c.record_files.ensures.told)
 
 pub returns-in-Demo-clause-told : goal.returns-in-Demo-clause-told
 returns-in-Demo-clause-told g c =
@@ -39,10 +34,6 @@ pub returns-in-Replay-clause-prints : goal.returns-in-Replay-clause-prints
 returns-in-Replay-clause-prints g c =
     λ read. c.replay_files.ensures.prints
 
-pub returns-in-Replay-clause-bytes : goal.returns-in-Replay-clause-bytes
-returns-in-Replay-clause-bytes g c =
-    rw c.in-Replay.is (ok-any c.replay_files.result)
-
 pub returns-in-Joint-clause-told : goal.returns-in-Joint-clause-told
 returns-in-Joint-clause-told g c =
     rw c.in-Joint.is
@@ -59,10 +50,6 @@ returns-in-Joint-clause-records g c =
 pub returns-in-Joint-clause-prints : goal.returns-in-Joint-clause-prints
 returns-in-Joint-clause-prints g c =
     λ read. c.join_files.ensures.prints
-
-pub returns-in-Joint-clause-bytes : goal.returns-in-Joint-clause-bytes
-returns-in-Joint-clause-bytes g c =
-    rw c.in-Joint.is (ok-any c.join_files.result)
 
 pub returns-in-List-clause-told : goal.returns-in-List-clause-told
 returns-in-List-clause-told g c =
@@ -81,10 +68,6 @@ pub returns-in-List-clause-prints : goal.returns-in-List-clause-prints
 returns-in-List-clause-prints g c =
     λ read. c.list_files.ensures.prints
 
-pub returns-in-List-clause-bytes : goal.returns-in-List-clause-bytes
-returns-in-List-clause-bytes g c =
-    rw c.in-List.is (ok-any c.list_files.result)
-
 pub returns-in-Check-clause-told : goal.returns-in-Check-clause-told
 returns-in-Check-clause-told g c =
     rw c.in-Check.is
@@ -102,10 +85,6 @@ pub returns-in-Check-clause-prints : goal.returns-in-Check-clause-prints
 returns-in-Check-clause-prints g c =
     λ read. c.check_files.ensures.prints
 
-pub returns-in-Check-clause-bytes : goal.returns-in-Check-clause-bytes
-returns-in-Check-clause-bytes g c =
-    rw c.in-Check.is (ok-any c.check_files.result)
-
 pub returns-in-Audit-clause-cause : goal.returns-in-Audit-clause-cause
 returns-in-Audit-clause-cause g c =
     rw c.in-Audit.is c.audit_files.ensures.cause
@@ -117,10 +96,6 @@ returns-in-Audit-clause-records g c =
 pub returns-in-Audit-clause-prints : goal.returns-in-Audit-clause-prints
 returns-in-Audit-clause-prints g c =
     λ read. c.audit_files.ensures.prints
-
-pub returns-in-Audit-clause-bytes : goal.returns-in-Audit-clause-bytes
-returns-in-Audit-clause-bytes g c =
-    rw c.in-Audit.is (ok-any c.audit_files.result)
 
 pub returns-in-Races-clause-told : goal.returns-in-Races-clause-told
 returns-in-Races-clause-told g c =
@@ -139,10 +114,6 @@ pub returns-in-Races-clause-prints : goal.returns-in-Races-clause-prints
 returns-in-Races-clause-prints g c =
     λ read. c.race_files.ensures.prints
 
-pub returns-in-Races-clause-bytes : goal.returns-in-Races-clause-bytes
-returns-in-Races-clause-bytes g c =
-    rw c.in-Races.is (ok-any c.race_files.result)
-
 pub returns-in-Slice-clause-told : goal.returns-in-Slice-clause-told
 returns-in-Slice-clause-told g c =
     rw c.in-Slice.is
@@ -160,10 +131,6 @@ pub returns-in-Slice-clause-prints : goal.returns-in-Slice-clause-prints
 returns-in-Slice-clause-prints g c =
     λ read. c.slice_files.ensures.prints
 
-pub returns-in-Slice-clause-bytes : goal.returns-in-Slice-clause-bytes
-returns-in-Slice-clause-bytes g c =
-    rw c.in-Slice.is (ok-any c.slice_files.result)
-
 pub returns-in-Convert-clause-told : goal.returns-in-Convert-clause-told
 returns-in-Convert-clause-told g c =
     rw c.in-Convert.is
@@ -173,10 +140,6 @@ pub returns-in-Convert-clause-cause : goal.returns-in-Convert-clause-cause
 returns-in-Convert-clause-cause g c =
     rw c.in-Convert.is (by-origin c.args.names.now _ (g.S.Store.counts c.args.store.now) (g.S.Store.counts c.convert_files.new.store) c.convert_files.result (rw c.in-Convert.is at c.requires.named) c.convert_files.ensures.cause)
 
-pub returns-in-Convert-clause-bytes : goal.returns-in-Convert-clause-bytes
-returns-in-Convert-clause-bytes g c =
-    rw c.in-Convert.is (ok-any c.convert_files.result)
-
 pub returns-in-Salvage-clause-told : goal.returns-in-Salvage-clause-told
 returns-in-Salvage-clause-told g c =
     rw c.in-Salvage.is
@@ -185,7 +148,3 @@ returns-in-Salvage-clause-told g c =
 pub returns-in-Salvage-clause-cause : goal.returns-in-Salvage-clause-cause
 returns-in-Salvage-clause-cause g c =
     rw c.in-Salvage.is (by-origin c.args.names.now _ (g.S.Store.counts c.args.store.now) (g.S.Store.counts c.salvage_files.new.store) c.salvage_files.result (rw c.in-Salvage.is at c.requires.named) c.salvage_files.ensures.cause)
-
-pub returns-in-Salvage-clause-bytes : goal.returns-in-Salvage-clause-bytes
-returns-in-Salvage-clause-bytes g c =
-    rw c.in-Salvage.is (ok-any c.salvage_files.result)

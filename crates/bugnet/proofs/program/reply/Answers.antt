@@ -1,0 +1,68 @@
+use Rattle.std.proofs.Common.{Some, subst, refl}
+use Rattle.command_words.specs.Words.{seen}
+use Rattle.bugnet.specs.Names.{FileNames}
+use Rattle.bugnet.specs.Answers.{refusal_in}
+use Rattle.bugnet.specs.Outside.{told_of}
+use Rattle.bugnet.specs.Run.{call, IsByWords}
+use Rattle.bugnet.proofs.Asks.{none-saved, line-none, line-acts}
+use Rattle.bugnet.proofs.Prints.{appends-nothing}
+use Rattle.bugnet.proofs.Tells.{refusal-answers, answer-answers, tells-from}
+use Rattle.bugnet.proofs.Causes.{refusal-causes, refusal-words, answer-words}
+use Rattle.bugnet.proofs.Leaves.{told-apart}
+use Rattle.bugnet.proofs.program.reply.Goals as goal
+
+pub returns-in-Err-clause-told : goal.returns-in-Err-clause-told
+returns-in-Err-clause-told g c =
+    let k = call (g.S.Store.files) (g.S.Store.counts) (g.O.Sink.written) (g.O.Sink.faults) (g.X.Sink.written) (g.X.Sink.faults) c.args.store.now c.args.out.now c.args.err.now c.answer_to.new.store c.args.out.now c.refuse.new.err in
+    refusal-answers (Some (seen c.args.command.now)) c.args.names.now c.in-Err.refusal c.refuse.result k c.requires.named
+    (appends-nothing (g.O.Sink.written c.args.out.now)) c.in-Err.ensures.same c.in-Err.ensures.told c.refuse.ensures.told
+
+pub returns-in-Err-clause-words : goal.returns-in-Err-clause-words
+returns-in-Err-clause-words g c =
+    let k = call (g.S.Store.files) (g.S.Store.counts) (g.O.Sink.written) (g.O.Sink.faults) (g.X.Sink.written) (g.X.Sink.faults) c.args.store.now c.args.out.now c.args.err.now c.answer_to.new.store c.args.out.now c.refuse.new.err in
+    subst (λ (n : FileNames). IsByWords (refusal_in (seen c.args.command.now)) n c.refuse.result k) c.requires.named
+    (refusal-words _ (refusal_in (seen c.args.command.now)) _ _ c.args.names.now c.in-Err.refusal c.refuse.result k c.in-Err.ensures.cause (appends-nothing (g.O.Sink.written c.args.out.now)) c.refuse.ensures.told)
+
+pub returns-in-Err-clause-failed : goal.returns-in-Err-clause-failed
+returns-in-Err-clause-failed g c =
+    (refusal-causes _ (refusal_in (seen c.args.command.now)) _ _ c.args.names.now c.in-Err.refusal c.refuse.result _ _ _ _ c.in-Err.ensures.cause c.refuse.ensures.told).three
+
+pub returns-in-Err-clause-missing : goal.returns-in-Err-clause-missing
+returns-in-Err-clause-missing g c =
+    (refusal-causes _ (refusal_in (seen c.args.command.now)) _ _ c.args.names.now c.in-Err.refusal c.refuse.result _ _ _ _ c.in-Err.ensures.cause c.refuse.ensures.told).four
+
+pub returns-in-Err-clause-long : goal.returns-in-Err-clause-long
+returns-in-Err-clause-long g c =
+    (refusal-causes _ (refusal_in (seen c.args.command.now)) _ _ c.args.names.now c.in-Err.refusal c.refuse.result _ _ _ _ c.in-Err.ensures.cause c.refuse.ensures.told).five
+
+pub returns-in-Err-clause-write : goal.returns-in-Err-clause-write
+returns-in-Err-clause-write g c =
+    λ e. absurd ((refusal-causes _ (refusal_in (seen c.args.command.now)) _ _ c.args.names.now c.in-Err.refusal c.refuse.result _ _ _ _ c.in-Err.ensures.cause c.refuse.ensures.told).write e)
+
+pub returns-in-Ok-clause-told : goal.returns-in-Ok-clause-told
+returns-in-Ok-clause-told g c =
+    let k = call (g.S.Store.files) (g.S.Store.counts) (g.O.Sink.written) (g.O.Sink.faults) (g.X.Sink.written) (g.X.Sink.faults) c.args.store.now c.args.out.now c.args.err.now c.act.new.store c.act.new.out c.act.new.err in
+    answer-answers (Some (seen c.args.command.now)) c.args.names.now (g.S.Store.files c.args.store.now) c.in-Ok.answer c.act.result k c.requires.named refl
+    c.in-Ok.ensures.told (tells-from c.args.names.now (told_of c.args.names.now c.in-Ok.answer) c.act.result (g.S.Store.files c.args.store.now) (g.S.Store.counts c.args.store.now) (call (g.S.Store.files) (g.S.Store.counts) (g.O.Sink.written) (g.O.Sink.faults) (g.X.Sink.written) (g.X.Sink.faults) c.answer_to.new.store c.args.out.now c.args.err.now c.act.new.store c.act.new.out c.act.new.err) c.in-Ok.ensures.same c.in-Ok.ensures.later c.act.ensures.told)
+
+pub returns-in-Ok-clause-words : goal.returns-in-Ok-clause-words
+returns-in-Ok-clause-words g c =
+    let k = call (g.S.Store.files) (g.S.Store.counts) (g.O.Sink.written) (g.O.Sink.faults) (g.X.Sink.written) (g.X.Sink.faults) c.args.store.now c.args.out.now c.args.err.now c.act.new.store c.act.new.out c.act.new.err in
+    answer-words _ c.in-Ok.answer (refusal_in (seen c.args.command.now)) _ _ _ c.act.result k c.in-Ok.ensures.cause c.act.ensures.words
+
+pub returns-in-Err-clause-saves : goal.returns-in-Err-clause-saves
+returns-in-Err-clause-saves g c =
+    line-none (Some (seen c.args.command.now)) c.refuse.result (g.S.Store.saves c.args.store.now) (g.S.Store.saves c.answer_to.new.store)
+    (none-saved c.refuse.result
+    (told-apart c.args.names.now c.in-Err.refusal c.refuse.result (g.X.Sink.written c.args.err.now) (g.X.Sink.written c.refuse.new.err) (g.X.Sink.faults c.args.err.now) (g.X.Sink.faults c.refuse.new.err) c.refuse.ensures.told)
+    (refusal-causes _ (refusal_in (seen c.args.command.now)) _ _ c.args.names.now c.in-Err.refusal c.refuse.result _ _ _ _ c.in-Err.ensures.cause c.refuse.ensures.told).write)
+    c.in-Err.ensures.asks
+
+pub returns-in-Ok-clause-saves : goal.returns-in-Ok-clause-saves
+returns-in-Ok-clause-saves g c =
+    line-acts (seen c.args.command.now) c.in-Ok.answer c.act.result (g.S.Store.saves c.args.store.now) (g.S.Store.saves c.answer_to.new.store) (g.S.Store.saves c.act.new.store)
+    c.in-Ok.ensures.records c.in-Ok.ensures.prints c.in-Ok.ensures.asks c.act.ensures.saves
+
+pub returns-in-Err-clause-read : goal.returns-in-Err-clause-read
+returns-in-Err-clause-read g c =
+    (refusal-causes _ (refusal_in (seen c.args.command.now)) _ _ c.args.names.now c.in-Err.refusal c.refuse.result _ _ _ _ c.in-Err.ensures.cause c.refuse.ensures.told).read
