@@ -8,10 +8,13 @@ use Rattle.hart_replay.specs.declared.error.ReplayError.TheVariants.{NoInterval}
 use Rattle.joint_laws.specs.Recordings.{Recording, interval_rows}
 use Rattle.race_report.specs.Races.{race_count, races_of}
 use Rattle.race_report.specs.Reports.{points_in}
+use Rattle.race_report.specs.Texts.{races_text}
+use Rattle.race_report.specs.declared.race.Race.{Race}
+use Rattle.report_laws.specs.Laws.{SayTheRun}
 use Rattle.slice_back.specs.Slices.{noted, up_to, slice_or}
 use Rattle.slice_back.specs.Texts.{text_of}
 use Rattle.bugnet.specs.Names.{FileNames}
-use Rattle.bugnet.specs.Told.{Told, refused}
+use Rattle.bugnet.specs.Told.{Told, refused, printed}
 use Rattle.bugnet.specs.Commands.{Either}
 use Rattle.bugnet.specs.Racing.{races_listed}
 use Rattle.bugnet.specs.Slicing.{slice_told}
@@ -35,6 +38,19 @@ abbrev pub RacesAreTold : Type 0
 RacesAreTold = (log elf : List ℕ) (most : ℕ) (files : Files) (r : Recording) (h : HasRun log elf files r)
     → (what : Told) → IsAnswer (Some (RacesLine log elf most)) files what
     → UnlessLong (names_in (RacesLine log elf most)) r what (what ≡ races_kept (names_in (RacesLine log elf most)) r h.says.log.records most)
+
+-- a text of races is printed. They are exactly the races of the run's own points of which these records retain the rows, each
+-- once: two that access a word, one of them writing it, where no chain of program order and of synchronisation leads from the one
+-- to the other
+pub record ListsRaces (r : Recording) (records : List Record) (what : Told) : Type 0 where
+  pub races : List Race
+  pub text : what ≡ printed (races_text races)
+  pub run : SayTheRun r records races
+
+-- so it is wherever `races` is done
+abbrev pub PrintedRacesSayTheRun : Type 0
+PrintedRacesSayTheRun = (log elf : List ℕ) (most : ℕ) (files : Files) (r : Recording) (h : HasRun log elf files r)
+    → (what : Told) → IsAnswer (Some (RacesLine log elf most)) files what → what.status ≡ 0 → ListsRaces r h.says.log.records what
 
 -- the slice of the row of a count among the recorded run's own rows of the interval, or that there is no such row; or that the
 -- log doesn't keep the interval

@@ -7,7 +7,7 @@ ghost use Rattle.bugnet.specs.Crashes.{CrashesAreShown};
 ghost use Rattle.bugnet.specs.Headline.{Headline, RecordingsAreReplayed, RecordingsSayEnds};
 ghost use Rattle.bugnet.specs.Jointly.{JointHeadline, RecordingsCanBeJoined, RecordingsAreJoined};
 ghost use Rattle.bugnet.specs.Salvaging.{SalvagedSayEnds, SalvagedAreReplayed};
-ghost use Rattle.bugnet.specs.Traced.{RacesAreTold, SlicesAreTold};
+ghost use Rattle.bugnet.specs.Traced.{PrintedRacesSayTheRun, RacesAreTold, SlicesAreTold};
 
 use file_laws::{logs_are_contents, salvaged_files_suffice};
 use hart_worker::{seeded_lists_end, whole_runs_have_no_error};
@@ -21,6 +21,7 @@ use log_blocks::readings::{
     salvages_are_unique, whole_files_are_salvaged,
 };
 use replay_laws::{ends_suffice, the_rows_of_an_interval_stand_together};
+use report_laws::races_say_the_run;
 use run_laws::{faults_are_kept, kept_records_are_an_end, own_asks_are_orderly};
 use run_model::{files_number_their_version, verdicts_are_unique};
 
@@ -229,6 +230,15 @@ pub fn races_are_told()
     joint_replays_say_the_run();
     saved_files_keep_to_the_limit();
     converted_files_keep_to_the_limit();
+}
+
+/// What `races` prints of such a log lists exactly the races of the recorded run's own points of which the log
+/// keeps the rows, each once: conflicting accesses that no synchronisation ordered.
+pub fn printed_races_say_the_run()
+    ensures { PrintedRacesSayTheRun }
+{
+    races_are_told();
+    races_say_the_run();
 }
 
 /// Of a log file that says an end of a recording's records, with the recording's program file, `slice` tells
