@@ -3,6 +3,10 @@ use Rattle.std.proofs.Common.{◌≡◌, ◌≢◌, ◌⊎◌, ℕ, ◌+◌, Boo
 use Rattle.std.specs.Prelude.{Result, Ok, Err}
 use Rattle.std.specs.Io.KnownBytes.{Appends, Consumes}
 use Rattle.std.proofs.KnownBytes.{Consumes-nil}
+use Rattle.sha2.specs.Sha256.{sha256}
+use Rattle.log_record.specs.declared.head.Head.{Head}
+use Rattle.log_record.specs.declared.record.Record.{Record}
+use Rattle.log_order.specs.Content.{Content}
 use Rattle.bn_outside.specs.Counts.{Counts, Rose}
 use Rattle.bn_outside.specs.Files.{Files, WhereTold}
 use Rattle.bn_outside.specs.Streams.{AppendsPart, ConsumesAll}
@@ -11,8 +15,8 @@ use Rattle.hart_replay.specs.declared.error.ReplayError.TheVariants as replay
 use Rattle.joint_replay.specs.declared.error.JointError.{JointError}
 use Rattle.joint_replay.specs.declared.error.JointError.TheVariants.{Replay, Stuck}
 use Rattle.joint_replay.specs.declared.error.JointError.TheVariants as joint
-use Rattle.joint_replay.specs.Joining.{Joining}
-use Rattle.joint_laws.specs.Recordings.{Recording, begin, kept}
+use Rattle.joint_replay.specs.Joining.{Joining, fresh}
+use Rattle.joint_laws.specs.Recordings.{Recording, IsLogOf, begin}
 use Rattle.back_step.specs.Traces.{Trace, at_start}
 use Rattle.step_debugger.specs.Answers.{begin_at}
 use Rattle.step_debugger.specs.Answers.{begin as session_begin}
@@ -29,7 +33,7 @@ use Rattle.bugnet.specs.Told.{Told, refused}
 use Rattle.bugnet.specs.Commands.{Either}
 use Rattle.bugnet.specs.Joined.{joint_status}
 use Rattle.bugnet.specs.Answers.{names_in, names_by, IsAnswer}
-use Rattle.bugnet.specs.Debugging.{ShowsRun, SessionsShowTheRun, session_of, HasRun, DoneSession, ShowsSession, RecordingsCanBeDebugged, DebugsFiles}
+use Rattle.bugnet.specs.Debugging.{ShowsRun, SessionsShowTheRun, session_of, DoneSession, ShowsSession, RecordingsCanBeDebugged, DebugsFiles}
 use Rattle.bugnet.specs.Debugging.{Debugs as DebugsLine}
 use Rattle.bugnet.specs.Laws.{IsNoSession}
 use Rattle.bugnet.specs.Outside.{WithFiles, SendStops, ToldRefusal, Wrote, SameFiles, IsEarly, GivesOf, RefusalCause}
@@ -43,12 +47,12 @@ use Rattle.bugnet.specs.declared.refusal.Refusal.TheVariants.{TooLong}
 use Rattle.bugnet.specs.declared.refusal.Refusal.TheVariants as why
 use Rattle.bugnet.proofs.Causes.{Causes, caused}
 use Rattle.bugnet.proofs.Complete.{session-done}
-use Rattle.bugnet.proofs.Jointly.{log_of, pair-so, are-pair}
+use Rattle.bugnet.proofs.Jointly.{Limits, is-log, pair-so, are-pair}
 use Rattle.bugnet.proofs.Leaves.{told-apart}
 use Rattle.bugnet.proofs.Prints.{appends-nothing, part-none, part-whole}
 use Rattle.bugnet.proofs.Sessions.{no-quit, last-quit}
 use Rattle.bugnet.proofs.Single.{Grammar, one-session}
-use Rattle.bugnet.proofs.Suffices.{FileLaws}
+use Rattle.bugnet.proofs.Suffices.{FileLaws, then-so}
 use Rattle.bugnet.proofs.Tells.{with-files, refused-told, stopped-told, stopped-free, early-free, same-files, untouched, with-any}
 
 -- ---- the status by the end of a session
@@ -392,32 +396,39 @@ by-end (ending.Refused y) o e a b f = a (ap (λ (z : JointError). ending.Refused
     same : (y : JointError) → ◌≡◌ {A = Result (Unit {0}) DebugError} (Err (stop.Joint y)) (Err (stop.Joint e)) → y ≡ e
     same y g = cc
 
-never-refused : SessionsShowTheRun → (r : Recording) (c : Commands) (files : Files) (log elf : List ℕ) → HasRun log elf files r → (e : JointError) → (session_of r c).result ≢ Err (stop.Joint e)
-never-refused show r c files log elf has e =
-    by-end (answers (lines_in (input_in c)) (session_begin (begin r (kept r)))).ends (input_in c).refused e ((show r has.recording (lines_in (input_in c))).goes_on e)
+never-refused : SessionsShowTheRun → (r : Recording) (records : List Record) (c : Commands) → IsLogOf r records → (e : JointError) → (session_of r records c).result ≢ Err (stop.Joint e)
+never-refused show r records c log e =
+    by-end (answers (lines_in (input_in c)) (session_begin (begin r records))).ends (input_in c).refused e ((show r records log (lines_in (input_in c))).goes_on e)
     (cut-refusal c.failed (input_of c.bytes) e (own-refusal 0 [] c.bytes e))
 
-shown : (long : Bool) (names : FileNames) (r : Recording) (c : Commands) (what : Told) (status : ℕ) (k : Call) → ((e : JointError) → (session_of r c).result ≢ Err (stop.Joint e)) → ((lines : List (List ℕ)) → ShowsRun r lines)
-    → Either long (what ≡ refused names (TooLong role.Elf)) (what ≡ session_told names (session_of r c)) → Tells names what status k → IsFree status ⊎ Either long (status ≡ 5) (DoneSession r c status k.old.out k.new.out)
+shown : (long : Bool) (names : FileNames) (r : Recording) (records : List Record) (c : Commands) (what : Told) (status : ℕ) (k : Call) → ((e : JointError) → (session_of r records c).result ≢ Err (stop.Joint e))
+    → ((lines : List (List ℕ)) → ShowsRun r records lines) → Either long (what ≡ refused names (TooLong role.Elf)) (what ≡ session_told names (session_of r records c)) → Tells names what status k
+    → IsFree status ⊎ Either long (status ≡ 5) (DoneSession r records c status k.old.out k.new.out)
 unfolding refused session_told
-shown true names r c what status k never show e (inl done) = inr (done.status_is ∙ ap (λ (t : Told). t.status) e)
-shown true names r c what status k never show e (inr stopped) = inl (stopped-free names what status k stopped)
-shown false names r c what status k never show e (inl done) = inr (record {
+shown true names r records c what status k never show e (inl done) = inr (done.status_is ∙ ap (λ (t : Told). t.status) e)
+shown true names r records c what status k never show e (inr stopped) = inl (stopped-free names what status k stopped)
+shown false names r records c what status k never show e (inl done) = inr (record {
   done = done.status_is ∙ ap (λ (t : Told). t.status) e;
   text = subst (λ (t : List ℕ). Appends k.old.out k.new.out t) (ap (λ (t : Told). t.out) e) done.out;
   goes_on = never;
   shows = show;
 })
-shown false names r c what status k never show e (inr stopped) = inl (stopped-free names what status k stopped)
+shown false names r records c what status k never show e (inr stopped) = inl (stopped-free names what status k stopped)
 
-pub shows-session : Grammar → FileLaws → SessionsShowTheRun → (c : Commands) (log elf : List ℕ) (files : Files) (status : ℕ) (k : Call)
+-- a session with a log that says this is one over its records
+session-so : (names : FileNames) (r : Recording) (c : Commands) (d : Content) → d.head ≡ record { settings = r.settings; digest = sha256 r.elf } → debug_with names c d r.program ≡ session_told names (session_of r d.records c)
+session-so names r c d head = ap (λ (h : Head). session_told names (transcript (fresh r.program h.settings.harts d.records) (input_in c))) head
+
+pub shows-session : Grammar → Limits → SessionsShowTheRun → (c : Commands) (log elf : List ℕ) (files : Files) (status : ℕ) (k : Call)
     → SomeTold (IsSession c files (names_in (DebugLine log elf))) (λ what. Tells (names_in (DebugLine log elf)) what status k) ⊎ StoppedEarly (Some (DebugLine log elf)) files status k
     → ShowsSession c log elf files status k.old.out k.new.out
-shows-session g laws show c log elf files status k (inr early) r has = inl (early-free (Some (DebugLine log elf)) files status k early)
-shows-session g laws show c log elf files status k (inl a) r has =
+shows-session g limits show c log elf files status k (inr early) r h = inl (early-free (Some (DebugLine log elf)) files status k early)
+shows-session g limits show c log elf files status k (inl a) r h =
     let names = names_in (DebugLine log elf) in
-    shown (nat_lt 67108864 (length r.elf)) names r c a.0 status k (never-refused show r c files log elf has) (show r has.recording)
-    (pair-so g laws (debug_with names c) names files r a.0 has.recording has.log_there has.program a.1) a.2
+    let d = h.says.log in
+    let here = is-log log elf files r h in
+    shown (nat_lt 67108864 (length r.elf)) names r d.records c a.0 status k (never-refused show r d.records c here) (show r d.records here)
+    (then-so (nat_lt 67108864 (length r.elf)) _ _ _ (λ (by : a.0 ≡ debug_with names c d r.program). by ∙ session-so names r c d h.says.head) (pair-so g limits (debug_with names c) names files r h a.0 a.1)) a.2
 
 -- where the commands are whole it isn't stopped
 whole-ends : (x : Ending) (o : Option DebugError) → ((e : JointError) → x ≢ ending.Refused e) → o ≡ None → result_by x o ≡ Ok (tt {0})
@@ -426,29 +437,31 @@ whole-ends ending.GoesOn (Some y) a b = absurd cc
 whole-ends ending.Quits o a b = refl
 whole-ends (ending.Refused e) o a b = absurd (a e refl)
 
-pub can-be-debugged : SessionsShowTheRun → FileLaws → RecordingsCanBeDebugged
-can-be-debugged show laws c log elf files r has small whole none =
+pub can-be-debugged : SessionsShowTheRun → RecordingsCanBeDebugged
+can-be-debugged show c log elf files r h small whole none =
+    let d = h.says.log in
     let i = input_in c in
     let same : i.refused ≡ None = ap (λ (b : Bool). (cut b (input_of c.bytes)).refused) whole ∙ none in
     record {
-      content = log_of r;
+      content = d;
       program = r.program;
-      pair = are-pair laws log elf files r has.recording has.log_there has.program small;
-      goes_on = whole-ends (answers (lines_in i) (session_begin (begin r (kept r)))).ends i.refused (show r has.recording (lines_in i)).goes_on same;
+      pair = are-pair log elf files r h small;
+      goes_on = ap (λ (head : Head). (transcript (fresh r.program head.settings.harts d.records) i).result) h.says.head
+          ∙ whole-ends (answers (lines_in i) (session_begin (begin r d.records))).ends i.refused (show r d.records (is-log log elf files r h) (lines_in i)).goes_on same;
     }
 
 -- ---- the call
 
 -- all that a session does
-pub debugs-so : Grammar → FileLaws → SessionsShowTheRun → (names : FileNames) (log elf : List ℕ) (status : ℕ) (left now_left : Option (List ℕ)) (before now : ℕ) (k : Call) → names ≡ names_in (DebugLine log elf)
+pub debugs-so : Grammar → FileLaws → Limits → SessionsShowTheRun → (names : FileNames) (log elf : List ℕ) (status : ℕ) (left now_left : Option (List ℕ)) (before now : ℕ) (k : Call) → names ≡ names_in (DebugLine log elf)
     → DebugsNamed names status left now_left before now k → DebugsLine (Some (DebugLine log elf)) status left now_left before now k
-debugs-so g laws show names log elf status left now_left before now k e h =
+debugs-so g laws limits show names log elf status left now_left before now k e h =
     let c = h.0 in
     let own = names_in (DebugLine log elf) in (
       c,
       h.1,
       with-files k.old.files (λ files. SomeTold (IsSession c files own) (λ what. Tells own what status k) ⊎ StoppedBy own (λ files. IsDebug files own) files status k) (λ files. DebugsFiles c log elf files status k)
-          (λ files x. record { tells = x; done = session-done (one-session g) laws c log elf files status k x; shows = shows-session g laws show c log elf files status k x })
+          (λ files x. record { tells = x; done = session-done (one-session g) laws limits.converted c log elf files status k x; shows = shows-session g limits show c log elf files status k x })
           (subst (λ (n : FileNames). WithFiles k.old.files (λ files. SomeTold (IsSession c files n) (λ what. Tells n what status k) ⊎ StoppedBy n (λ files. IsDebug files n) files status k)) e h.2),
     )
 
@@ -467,20 +480,20 @@ answers-so names log elf status left now_left before now k e h =
     so files (inr early) = inr early
 
 -- of a line that is a session
-pub debugs-any : Grammar → FileLaws → SessionsShowTheRun → (line : Line) (names : FileNames) (status : ℕ) (left now_left : Option (List ℕ)) (before now : ℕ) (k : Call) → (IsNoSession (Some line) → ⊥) → names ≡ names_in line
+pub debugs-any : Grammar → FileLaws → Limits → SessionsShowTheRun → (line : Line) (names : FileNames) (status : ℕ) (left now_left : Option (List ℕ)) (before now : ℕ) (k : Call) → (IsNoSession (Some line) → ⊥) → names ≡ names_in line
     → DebugsNamed names status left now_left before now k → DebugsLine (Some line) status left now_left before now k
-debugs-any g laws show (DebugLine log elf) names status left now_left before now k is e h = debugs-so g laws show names log elf status left now_left before now k e h
-debugs-any g laws show (RecordLine r) names status left now_left before now k is e h = tt
-debugs-any g laws show (ReplayLine log elf hart interval) names status left now_left before now k is e h = tt
-debugs-any g laws show (JointLine log elf) names status left now_left before now k is e h = tt
-debugs-any g laws show (ListLine log) names status left now_left before now k is e h = tt
-debugs-any g laws show (CheckLine log) names status left now_left before now k is e h = tt
-debugs-any g laws show (AuditLine log elf book input) names status left now_left before now k is e h = tt
-debugs-any g laws show (RacesLine log elf most) names status left now_left before now k is e h = tt
-debugs-any g laws show (SliceLine log elf hart interval ic) names status left now_left before now k is e h = tt
-debugs-any g laws show (ConvertLine log copy) names status left now_left before now k is e h = tt
-debugs-any g laws show (SalvageLine log copy) names status left now_left before now k is e h = tt
-debugs-any g laws show (DemoLine seed) names status left now_left before now k is e h = tt
+debugs-any g laws limits show (DebugLine log elf) names status left now_left before now k is e h = debugs-so g laws limits show names log elf status left now_left before now k e h
+debugs-any g laws limits show (RecordLine r) names status left now_left before now k is e h = tt
+debugs-any g laws limits show (ReplayLine log elf hart interval) names status left now_left before now k is e h = tt
+debugs-any g laws limits show (JointLine log elf) names status left now_left before now k is e h = tt
+debugs-any g laws limits show (ListLine log) names status left now_left before now k is e h = tt
+debugs-any g laws limits show (CheckLine log) names status left now_left before now k is e h = tt
+debugs-any g laws limits show (AuditLine log elf book input) names status left now_left before now k is e h = tt
+debugs-any g laws limits show (RacesLine log elf most) names status left now_left before now k is e h = tt
+debugs-any g laws limits show (SliceLine log elf hart interval ic) names status left now_left before now k is e h = tt
+debugs-any g laws limits show (ConvertLine log copy) names status left now_left before now k is e h = tt
+debugs-any g laws limits show (SalvageLine log copy) names status left now_left before now k is e h = tt
+debugs-any g laws limits show (DemoLine seed) names status left now_left before now k is e h = tt
 
 pub answers-any : (line : Line) (names : FileNames) (status : ℕ) (left now_left : Option (List ℕ)) (before now : ℕ) (k : Call) → (IsNoSession (Some line) → ⊥) → names ≡ names_in line
     → DebugsNamed names status left now_left before now k → TellsAnswer (Some line) status k

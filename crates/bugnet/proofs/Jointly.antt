@@ -1,6 +1,6 @@
 -- The answer to the joint replay of a recording's log is the text of one that says the run.
-use Rattle.std.proofs.Common.{◌≡◌, ◌≤◌, ℕ, Bool, true, false, List, length, nat_lt, Option, Some, None, ◌∙◌, ap, subst, sym, refl, inl, inr, ◌⊎◌}
-use Rattle.std.specs.Prelude.{Result, Ok}
+use Rattle.std.proofs.Common.{◌≡◌, ◌≤◌, ℕ, Bool, true, false, List, length, nat_lt, Option, Some, None, ◌∙◌, ap, subst, sym, refl, inl, inr, ◌⊎◌, arith}
+use Rattle.std.specs.Prelude.{◌==◌, Result, Ok}
 use Rattle.std.specs.Io.KnownBytes.{Appends}
 use Rattle.sha2.specs.Sha256.{sha256}
 use Rattle.bn_base.specs.Programs.{Program}
@@ -12,21 +12,25 @@ use Rattle.elf_loader.specs.Loaded.{image_of}
 use Rattle.log_record.specs.declared.head.Head.{Head}
 use Rattle.log_record.specs.declared.record.Record.{Record}
 use Rattle.log_order.specs.Content.{Content, IsContent}
-use Rattle.log_file.specs.Layout.{saved_bytes}
+use Rattle.log_file.specs.Layout.{saved_bytes, file_bytes, file_bytes2}
+use Rattle.log_blocks.specs.Faults.{is_second}
+use Rattle.log_blocks.specs.Laws.{SavedHaveTheirLimit, AreFew}
+use Rattle.log_blocks.specs.Laws as of_second
 use Rattle.log_blocks.specs.Readings.{Reads}
 use Rattle.joint_replay.specs.declared.error.JointError.{JointError}
 use Rattle.joint_replay.specs.Joining.{Ran, fresh, run_all}
 use Rattle.joint_replay.specs.Texts.{joint_text}
-use Rattle.run_model.specs.Files.{content_of, file_of}
-use Rattle.joint_laws.specs.Recordings.{Recording, IsRecorded, recorded, begin}
-use Rattle.joint_laws.specs.Laws.{SaysTheRun, JointReplaysSayTheRun, JointFilesSayTheRun}
+use Rattle.run_model.specs.Files.{file_of}
+use Rattle.joint_laws.specs.Recordings.{Recording, IsRecorded, IsLogOf, begin}
+use Rattle.joint_laws.specs.Laws.{SaysTheRun, JointReplaysSayTheRun}
 use Rattle.bugnet.specs.Names.{FileNames}
 use Rattle.bugnet.specs.Told.{Told, refused, printed}
 use Rattle.bugnet.specs.Commands.{Either, WithFile, IsByLog}
 use Rattle.bugnet.specs.Joined.{joint_status, joint_line, ran_told, joint_with, IsJoint}
-use Rattle.bugnet.specs.Pairs.{ByPair, pair_loaded, pair_same, pair_of, IsPairOf, IsPair, ArePair}
+use Rattle.bugnet.specs.Pairs.{ByPair, pair_loaded, pair_same, pair_of, IsPairOf, IsPair, HoldsLog, ArePair}
 use Rattle.bugnet.specs.Answers.{names_in, names_by, IsAnswer}
-use Rattle.bugnet.specs.Jointly.{SaysRun, JoinsRun, TellsRun, IsJoined, JointHeadline, RecordingsCanBeJoined, recording_of, RecordingsAreJoined, DoneJointly, PrintsJointly}
+use Rattle.bugnet.specs.Jointly.{HasRun, JoinsRun, TellsRun, IsJoined, JointHeadline, RecordingsCanBeJoined, recording_of, RecordingsAreJoined, DoneJointly, PrintsJointly}
+use Rattle.bugnet.specs.Debugging.{ConvertedHaveTheirLimit}
 use Rattle.bugnet.specs.Outside.{WithFiles}
 use Rattle.bugnet.specs.Run.{Call, IsFree, SomeTold, Tells, StoppedEarly, TellsAnswer}
 use Rattle.bugnet.specs.declared.names.Role.TheVariants as role
@@ -39,18 +43,37 @@ use Rattle.bugnet.proofs.Tells.{with-files, stopped-free, early-free}
 
 -- ---- the log
 
--- what the log of a recording says
-abbrev pub log_of : Recording → Content
-log_of r = content_of r.settings (sha256 r.elf) (recorded r)
+-- the records that a log says which says an end of a recording are some of its log's
+pub is-log : (log elf : List ℕ) (files : Files) (r : Recording) (h : HasRun log elf files r) → IsLogOf r h.says.log.records
+is-log log elf files r h = record { recording = h.recording; end = h.says.end }
 
-is-content : FileLaws → (r : Recording) → IsRecorded r → IsContent (log_of r)
-is-content laws r is = laws.contents r.settings r.program r.elf r.input r.turns is
+-- bytes that are read as a log are those of its file in either version
+in-version : (second : Bool) (bytes : List ℕ) (d : Content) → elim second as (λ b. Type 0) [ true ↦ bytes ≡ file_bytes2 d | false ↦ (d.head.settings.format ≡ 1) × (bytes ≡ file_bytes d) ]
+    → (bytes ≡ saved_bytes d) ⊎ (bytes ≡ file_bytes2 d)
+in-version true bytes d e = inr e
+in-version false bytes d e = inl (e.1 ∙ sym (ap (λ (n : ℕ). elim (n == 2) [ true ↦ file_bytes2 d | false ↦ file_bytes d ]) e.0))
 
--- its joint replay says the run
-pub says-run : JointFilesSayTheRun → FileLaws → (r : Recording) → IsRecorded r → SaysRun r
-says-run law laws r is =
-    let content = is-content laws r is in
-    law r (log_of r) is (record { content = content; bytes = (laws.read.saved (log_of r) content).1 })
+holds-so : (there : Option (List ℕ)) (bytes : List ℕ) (d : Content) → there ≡ Some bytes → (bytes ≡ saved_bytes d) ⊎ (bytes ≡ file_bytes2 d) → HoldsLog there d
+holds-so there bytes d e (inl saved) = inl (e ∙ ap (λ (log : List ℕ). Some log) saved)
+holds-so there bytes d e (inr second) = inr (e ∙ ap (λ (log : List ℕ). Some log) second)
+
+holds-log : (there : Option (List ℕ)) (bytes : List ℕ) (d : Content) → there ≡ Some bytes → Reads bytes (Ok d) → HoldsLog there d
+holds-log there bytes d e reads = holds-so there bytes d e (in-version (is_second bytes) bytes d reads.1)
+
+-- each block but the last is full, so that a file of version 2 is one that a command loads
+pub converted-size : of_second.HaveTheirSize → AreFew → ConvertedHaveTheirLimit
+converted-size sizes few d is = omega (arith, sizes d is, few d is, is.bound, is.settings.log_size_high)
+
+pub record Limits : Type 0 where
+  pub saved : SavedHaveTheirLimit
+  pub converted : ConvertedHaveTheirLimit
+
+within : Limits → (bytes : List ℕ) (d : Content) → IsContent d → (bytes ≡ saved_bytes d) ⊎ (bytes ≡ file_bytes2 d) → length bytes ≤ 272629760
+within limits bytes d is (inl e) = subst (λ (log : List ℕ). length log ≤ 272629760) (sym e) (limits.saved d is)
+within limits bytes d is (inr e) = subst (λ (log : List ℕ). length log ≤ 272629760) (sym e) (limits.converted d is)
+
+read-within : Limits → (bytes : List ℕ) (d : Content) → Reads bytes (Ok d) → length bytes ≤ 272629760
+read-within limits bytes d reads = within limits bytes d reads.0 (in-version (is_second bytes) bytes d reads.1)
 
 -- ---- the answer
 
@@ -81,25 +104,22 @@ answer-so g go names files r bytes d what recorded reads small head log_is elf_i
     then-so (nat_lt 67108864 (length r.elf)) _ _ _ (λ (by : IsByLog names bytes (pair_of go names r.elf) what).
     by-content g names bytes d (pair_of go names r.elf) what reads by ∙ pair-told go names r d recorded head) second
 
--- and by the file of the recording
-pub pair-so : Grammar → FileLaws → (go : ByPair) (names : FileNames) (files : Files) (r : Recording) (what : Told) → IsRecorded r → files names.log ≡ Some (file_of r.settings r.program (sha256 r.elf) r.input r.turns)
-    → files names.elf ≡ Some r.elf → IsPair go files names what → Either (nat_lt 67108864 (length r.elf)) (what ≡ refused names (TooLong role.Elf)) (what ≡ go (log_of r) r.program)
-pair-so g laws go names files r what recorded log_is elf_is is =
-    let d = log_of r in
-    let content : IsContent d = is-content laws r recorded in
-    answer-so g go names files r (saved_bytes d) d what recorded (laws.read.saved d content) (laws.limit d content) refl log_is elf_is is
+-- and by a file that says an end of the recording
+pub pair-so : Grammar → Limits → (go : ByPair) (names : FileNames) (files : Files) (r : Recording) (h : HasRun names.log names.elf files r) (what : Told) → IsPair go files names what
+    → Either (nat_lt 67108864 (length r.elf)) (what ≡ refused names (TooLong role.Elf)) (what ≡ go h.says.log r.program)
+pair-so g limits go names files r h what is =
+    answer-so g go names files r h.bytes h.says.log what h.recording h.says.reads (read-within limits h.bytes h.says.log h.says.reads) h.says.head h.log_there h.program is
 
--- the log of a recording and its program are there
-pub are-pair : FileLaws → (log elf : List ℕ) (files : Files) (r : Recording) → IsRecorded r → files log ≡ Some (file_of r.settings r.program (sha256 r.elf) r.input r.turns) → files elf ≡ Some r.elf
-    → length r.elf ≤ 67108864 → ArePair log elf files (log_of r) r.program
-are-pair laws log elf files r is log_is elf_is small = record {
+-- such a log and the recording's program are there
+pub are-pair : (log elf : List ℕ) (files : Files) (r : Recording) (h : HasRun log elf files r) → length r.elf ≤ 67108864 → ArePair log elf files h.says.log r.program
+are-pair log elf files r h small = record {
   bytes = r.elf;
-  is = is-content laws r is;
-  log_there = log_is;
-  elf_there = elf_is;
+  is = h.says.reads.0;
+  log_there = holds-log (files log) h.bytes h.says.log h.log_there h.says.reads;
+  elf_there = h.program;
   elf_small = small;
-  same = same (sha256 r.elf);
-  loaded = is.loaded;
+  same = ap (λ (head : Head). bytes_eq (sha256 r.elf) head.digest) h.says.head ∙ same (sha256 r.elf);
+  loaded = ap (λ (head : Head). image_of r.elf head.settings) h.says.head ∙ h.recording.loaded;
 }
 
 -- the joint replay of a log with a recording's settings is that of its records
@@ -135,15 +155,15 @@ joined-so laws ends law r old new l files log elf log_is elf_is what is =
       says = saved-end laws ends r.settings l.program l.elf l.input l.turns l.recording;
     }) what is)
 
--- the file of a recording has all that the command needs
-pub can-be-joined : JointFilesSayTheRun → FileLaws → RecordingsCanBeJoined
-can-be-joined law laws log elf files r is log_is elf_is small =
-    let says : SaysRun r = says-run law laws r is in
+-- a log file that says an end of a recording has all that the command needs
+pub can-be-joined : JointReplaysSayTheRun → RecordingsCanBeJoined
+can-be-joined law log elf files r h small =
+    let d = h.says.log in
     record {
-      content = log_of r;
+      content = d;
       program = r.program;
-      pair = are-pair laws log elf files r is log_is elf_is small;
-      goes_on = says.stopped;
+      pair = are-pair log elf files r h small;
+      goes_on = ap (λ (head : Head). (run_all (fresh r.program head.settings.harts d.records)).stopped) h.says.head ∙ (law r d.records (is-log log elf files r h)).stopped;
     }
 
 -- ---- what is printed

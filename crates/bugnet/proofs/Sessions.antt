@@ -17,8 +17,8 @@ use Rattle.joint_replay.specs.Memory.{word_in}
 use Rattle.joint_replay.specs.Lanes.{Lane, Item, lane_step}
 use Rattle.joint_replay.specs.Lanes as lanes
 use Rattle.joint_replay.specs.Orders.{IsBegun, ready_step, walk_on}
-use Rattle.joint_laws.specs.Recordings.{Recording, IsLogOf, OfBeginnings, begin, kept}
-use Rattle.joint_laws.specs.Laws.{OwnLogsAreLogs, GoesOn, IsNotRefused, ReachedSayTheRun}
+use Rattle.joint_laws.specs.Recordings.{Recording, IsLogOf, OfBeginnings, begin}
+use Rattle.joint_laws.specs.Laws.{GoesOn, IsNotRefused, ReachedSayTheRun}
 use Rattle.back_step.specs.declared.entry.Entry.{Entry}
 use Rattle.back_step.specs.Traces.{entry_of, harts_of, Trace, at_start, with_entry, trace_step, cut}
 use Rattle.step_debugger.specs.declared.stop.Stop.{Stop}
@@ -254,22 +254,22 @@ walk-same w v (h ∷ order) e = by (ready_step w.now h) refl (λ x f. walk-same 
         (more.0 ∙ here.0, more.1 ∙ here.1)
 
 -- an allowed order, that of its entries, led to where a trace stands
-record Led (r : Recording) (t : Trace) : Type 0 where
-  pub start : t.start ≡ begin r (kept r)
+record Led (r : Recording) (records : List Record) (t : Trace) : Type 0 where
+  pub start : t.start ≡ begin r records
   pub walk : Walk
   pub led : walk_on (begun t.start) (harts_of t.entries) ≡ Some walk
   pub now : walk.now ≡ t.now
 
-led-begun : (r : Recording) (t : Trace) (p : Led r t) → IsBegun r.program r.settings.harts (kept r) (harts_of t.entries) p.walk
-led-begun r t p = record { allowed = subst (λ (j : Joining). walk_on (begun j) (harts_of t.entries) ≡ Some p.walk) p.start p.led }
+led-begun : (r : Recording) (records : List Record) (t : Trace) (p : Led r records t) → IsBegun r.program r.settings.harts records (harts_of t.entries) p.walk
+led-begun r records t p = record { allowed = subst (λ (j : Joining). walk_on (begun j) (harts_of t.entries) ≡ Some p.walk) p.start p.led }
 
-led-lasts : OfBeginnings GoesOn → OfBeginnings IsNotRefused → (r : Recording) → IsLogOf r (kept r) → Lasts (Led r)
-led-lasts goes steps r log = record { steps = more; some = λ t p none. goes r (kept r) (harts_of t.entries) p.walk log (led-begun r t p) (ap choice p.now ∙ none); backs = back }
+led-lasts : OfBeginnings GoesOn → OfBeginnings IsNotRefused → (r : Recording) (records : List Record) → IsLogOf r records → Lasts (Led r records)
+led-lasts goes steps r records log = record { steps = more; some = λ t p none. goes r records (harts_of t.entries) p.walk log (led-begun r records t p) (ap choice p.now ∙ none); backs = back }
   where
-    more : (t : Trace) → Led r t → (h : ℕ) → readiness t.now h ≡ is.Ready → (x : Item × Trace) × (trace_step t h ≡ Some (Ok x)) × Led r x.1
+    more : (t : Trace) → Led r records t → (h : ℕ) → readiness t.now h ≡ is.Ready → (x : Item × Trace) × (trace_step t h ≡ Some (Ok x)) × Led r records x.1
     more t p h ready =
         let here : readiness p.walk.now h ≡ is.Ready = ap (λ (i : Joining). readiness i h) p.now ∙ ready in
-        let s = steps r (kept r) (harts_of t.entries) p.walk log (led-begun r t p) h here in
+        let s = steps r records (harts_of t.entries) p.walk log (led-begun r records t p) h here in
         let there : next_step t.now h ≡ Some (Ok s.0) = subst (λ (i : Joining). next_step i h ≡ Some (Ok s.0)) p.now s.1 in
         let longer_trace : Trace = record { start = t.start; entries = t.entries ++ entry_of h s.0.0 ∷ []; now = s.0.1 } in
         let harts : harts_of t.entries ++ h ∷ [] ≡ harts_of longer_trace.entries =
@@ -289,40 +289,39 @@ led-lasts goes steps r log = record { steps = more; some = λ t p none. goes r (
         own-hart h (lanes.Doing before row) = refl
         own-hart h (lanes.Ending n mark) = refl
 
-    back : (t : Trace) → Led r t → (n : ℕ) → Led r (cut t n)
+    back : (t : Trace) → Led r records t → (n : ℕ) → Led r records (cut t n)
     back t p n =
         let parts : harts_of (take n t.entries) ++ harts_of (drop n t.entries) ≡ harts_of t.entries =
         sym (map-append (λ (e : Entry). e.hart) (take n t.entries) (drop n t.entries)) ∙ ap harts_of (take-append-drop n t.entries) in
         let w = walk-parts (begun t.start) p.walk (harts_of (take n t.entries)) (harts_of (drop n t.entries)) (ap (walk_on (begun t.start)) parts ∙ p.led) in
         record { start = p.start; walk = w.0; led = w.1; now = sym (ap (λ (o : Option Walk). elim o as (λ y. Joining) [ None ↦ t.start | Some u ↦ u.now ]) w.1) }
 
-led-first : (r : Recording) → Led r (at_start (begin r (kept r)))
-led-first r = record { start = refl; walk = begun (begin r (kept r)); led = refl; now = refl }
+led-first : (r : Recording) (records : List Record) → Led r records (at_start (begin r records))
+led-first r records = record { start = refl; walk = begun (begin r records); led = refl; now = refl }
 
-led-records : (r : Recording) (t : Trace) → Led r t → (t.now.program ≡ r.program) × (t.now.records ≡ kept r)
-led-records r t p =
-    let s = walk-same (begun (begin r (kept r))) p.walk (harts_of t.entries) (led-begun r t p).allowed in
+led-records : (r : Recording) (records : List Record) (t : Trace) → Led r records t → (t.now.program ≡ r.program) × (t.now.records ≡ records)
+led-records r records t p =
+    let s = walk-same (begun (begin r records)) p.walk (harts_of t.entries) (led-begun r records t p).allowed in
     (sym (ap (λ (j : Joining). j.program) p.now) ∙ s.0, sym (ap (λ (j : Joining). j.records) p.now) ∙ s.1)
 
-led-reached : (r : Recording) (t : Trace) → Led r t → IsReached r.settings.harts t.now
-led-reached r t p =
-    let same = led-records r t p in
+led-reached : (r : Recording) (records : List Record) (t : Trace) → Led r records t → IsReached r.settings.harts t.now
+led-reached r records t p =
+    let same = led-records r records t p in
     record {
       order = harts_of t.entries;
       walk = p.walk;
-      begun = subst (λ (i : Program). IsBegun i r.settings.harts t.now.records (harts_of t.entries) p.walk) (sym same.0) (subst (λ (rs : List Record). IsBegun r.program r.settings.harts rs (harts_of t.entries) p.walk) (sym same.1) (led-begun r t p));
+      begun = subst (λ (i : Program). IsBegun i r.settings.harts t.now.records (harts_of t.entries) p.walk) (sym same.0) (subst (λ (rs : List Record). IsBegun r.program r.settings.harts rs (harts_of t.entries) p.walk) (sym same.1) (led-begun r records t p));
       lanes = ap (λ (i : Joining). map bare i.lanes) p.now;
       memory = ap (λ (i : Joining). i.memory) p.now;
       whole = λ none. p.now;
     }
 
-pub sessions-show : OwnLogsAreLogs → OfBeginnings GoesOn → OfBeginnings IsNotRefused → ReachedSayTheRun → SessionsShowTheRun
-sessions-show own goes steps reached r is lines =
-    let log : IsLogOf r (kept r) = own r is in
-    let s = answers-on (Led r) (led-lasts goes steps r log) lines (session_begin (begin r (kept r))) (led-first r) in
-    let t = (session_after r lines).session.trace in
-    let here = led-reached r t s.0 in
-    let same = led-records r t s.0 in
+pub sessions-show : OfBeginnings GoesOn → OfBeginnings IsNotRefused → ReachedSayTheRun → SessionsShowTheRun
+sessions-show goes steps reached r records log lines =
+    let s = answers-on (Led r records) (led-lasts goes steps r records log) lines (session_begin (begin r records)) (led-first r records) in
+    let t = (session_after r records lines).session.trace in
+    let here = led-reached r records t s.0 in
+    let same = led-records r records t s.0 in
     record { goes_on = s.1; walk = here.walk; says = reached r t.now (subst (λ (rs : List Record). IsLogOf r rs) (sym same.1) log) same.0 here }
 
 -- ---- which lines are `quit`

@@ -1,22 +1,19 @@
 -- When a command has an answer, and when it is done.
 use Rattle.std.specs.Prelude.{◌≡◌, ◌≤◌, ◌⊎◌, ℕ, List, false, length, Option, Some, None, Ok}
-use Rattle.sha2.specs.Sha256.{sha256}
 use Rattle.bn_base.specs.Programs.{Program}
 use Rattle.bn_base.specs.Ranges.{first_bad}
-use Rattle.bn_base.specs.declared.settings.RawSettings.{RawSettings}
 use Rattle.bn_outside.specs.Files.{Files}
 use Rattle.command_words.specs.Words.{Line, RecordingLine, RecordLine, ReplayLine, JointLine, DebugLine, ListLine, CheckLine, AuditLine, RacesLine, SliceLine, ConvertLine, SalvageLine, DemoLine}
 use Rattle.std.specs.Str.{bytes_eq}
 use Rattle.log_order.specs.Content.{Content, IsContent}
-use Rattle.log_file.specs.Layout.{saved_bytes, file_bytes2}
+use Rattle.log_file.specs.Layout.{file_bytes2}
 use Rattle.elf_loader.specs.Loaded.{image_of}
 use Rattle.hart_replay.specs.Replay.{Interval}
-use Rattle.run_model.specs.Files.{file_of}
-use Rattle.file_laws.specs.Given.{IsRecording}
 use Rattle.bugnet.specs.Told.{Told}
 use Rattle.bugnet.specs.Commands.{is_clash}
 use Rattle.le_numbers.specs.Numbers.{AreBytes}
 use Rattle.bugnet.specs.Audits.{Agrees}
+use Rattle.bugnet.specs.Pairs.{HoldsLog}
 use Rattle.bugnet.specs.Joined.{CanJoin}
 use Rattle.bugnet.specs.Racing.{CanRace}
 use Rattle.bugnet.specs.Slicing.{CanSlice}
@@ -63,21 +60,11 @@ pub record CanRecord (r : RecordingLine) (files : Files) : Type 0 where
   pub input_there : input_by r.input files ≡ Some input
   pub input_small : length input ≤ 16777216
 
--- the file of a recording is there
-pub record HasLog (there : Option (List ℕ)) : Type 0 where
-  pub settings : RawSettings
-  pub program : Program
-  pub elf : List ℕ
-  pub input : List ℕ
-  pub turns : List ℕ
-  pub recording : IsRecording settings program elf input turns
-  pub log : there ≡ Some (file_of settings program (sha256 elf) input turns)
-
--- the file of a log is there, in the version of its settings' format or in version 2
+-- the file of a log is there, in either version
 pub record HasContent (there : Option (List ℕ)) : Type 0 where
   pub content : Content
   pub is : IsContent content
-  pub log : (there ≡ Some (saved_bytes content)) ⊎ (there ≡ Some (file_bytes2 content))
+  pub log : HoldsLog there content
 
 -- in version 2
 pub record HasSecond (there : Option (List ℕ)) : Type 0 where
@@ -91,8 +78,8 @@ CanDo (RecordLine r) files = CanRecord r files
 CanDo (ReplayLine log elf hart interval) files = (p : Part) × (v : Interval) × ReplaysRun (Some (ReplayLine log elf hart interval)) files p v × (length p.elf ≤ 67108864)
 CanDo (JointLine log elf) files = CanJoin log elf files
 CanDo (DebugLine log elf) files = ⊥
-CanDo (ListLine log) files = HasLog (files log)
-CanDo (CheckLine log) files = HasLog (files log)
+CanDo (ListLine log) files = HasContent (files log)
+CanDo (CheckLine log) files = HasContent (files log)
 CanDo (AuditLine log elf book input) files = (a : Agrees log elf book input files) × AreBytes a.bytes
 CanDo (RacesLine log elf most) files = CanRace log elf most files
 CanDo (SliceLine log elf hart interval ic) files = CanSlice log elf hart interval ic files

@@ -1,13 +1,14 @@
 -- What a session of the debugger does, and what it shows of a recording.
 use Rattle.std.specs.Prelude.{◌≡◌, ◌≢◌, ◌⊎◌, ◌≤◌, ℕ, false, nat_lt, List, length, Option, Some, None, Err}
 use Rattle.std.specs.Io.KnownBytes.{Appends}
-use Rattle.sha2.specs.Sha256.{sha256}
 use Rattle.bn_outside.specs.Files.{Files}
 use Rattle.command_words.specs.Words.{Line, RecordLine, ReplayLine, JointLine, DebugLine, ListLine, CheckLine, AuditLine, RacesLine, SliceLine, ConvertLine, SalvageLine, DemoLine}
+use Rattle.log_record.specs.declared.record.Record.{Record}
+use Rattle.log_order.specs.Content.{Content, IsContent}
+use Rattle.log_file.specs.Layout.{file_bytes2}
 use Rattle.joint_replay.specs.declared.error.JointError.{JointError}
 use Rattle.joint_replay.specs.Joining.{Walk}
-use Rattle.run_model.specs.Files.{file_of}
-use Rattle.joint_laws.specs.Recordings.{Recording, IsRecorded, kept, begin}
+use Rattle.joint_laws.specs.Recordings.{Recording, IsLogOf, begin}
 use Rattle.joint_laws.specs.Laws.{SaysSoFar}
 use Rattle.step_debugger.specs.Answers.{Answer}
 use Rattle.step_debugger.specs.Answers.{begin as session_begin}
@@ -19,50 +20,49 @@ use Rattle.step_debugger.specs.declared.session.Ending.TheVariants.{Refused}
 use Rattle.bugnet.specs.Commands.{Either}
 use Rattle.bugnet.specs.Outside.{WithFiles}
 use Rattle.bugnet.specs.Answers.{names_in}
+use Rattle.bugnet.specs.Jointly.{HasRun}
 use Rattle.bugnet.specs.Run.{Call, IsFree, SomeTold, Tells, StoppedEarly}
 use Rattle.bugnet.specs.Sessions.{Commands, AreRead, input_in, session_status, IsSession, CanDebug}
 
 -- ---- a recording
 
--- the point where a session over what a recording's log keeps stands after these lines of commands
-abbrev pub session_after : Recording → List (List ℕ) → Answer
-session_after r lines = answers lines (session_begin (begin r (kept r)))
+-- the point where a session over a recording's records stands after these lines of commands
+abbrev pub session_after : Recording → List Record → List (List ℕ) → Answer
+session_after r records lines = answers lines (session_begin (begin r records))
 
 -- the replay isn't refused by then, and what the session shows is the run's: the order, the rows, the states and the words
-pub record ShowsRun (r : Recording) (lines : List (List ℕ)) : Type 0 where
-  pub goes_on : (e : JointError) → (session_after r lines).ends ≢ Refused e
+pub record ShowsRun (r : Recording) (records : List Record) (lines : List (List ℕ)) : Type 0 where
+  pub goes_on : (e : JointError) → (session_after r records lines).ends ≢ Refused e
   pub walk : Walk
-  pub says : SaysSoFar r (session_after r lines).session.trace.now walk
+  pub says : SaysSoFar r (session_after r records lines).session.trace.now walk
 
--- So it is wherever a session comes
+-- So it is wherever a session comes, over the records of each log of the recording
 abbrev pub SessionsShowTheRun : Type 0
-SessionsShowTheRun = (r : Recording) → IsRecorded r → (lines : List (List ℕ)) → ShowsRun r lines
+SessionsShowTheRun = (r : Recording) (records : List Record) → IsLogOf r records → (lines : List (List ℕ)) → ShowsRun r records lines
 
--- the transcript of a session over what a recording's log keeps
-abbrev pub session_of : Recording → Commands → Transcript
-session_of r c = transcript (begin r (kept r)) (input_in c)
+-- Whatever the format of its settings, a log's file in version 2 has at most the bytes that a command loads
+abbrev pub ConvertedHaveTheirLimit : Type 0
+ConvertedHaveTheirLimit = (d : Content) → IsContent d → length (file_bytes2 d) ≤ 272629760
 
--- the log file of a recording is there, and its program file
-pub record HasRun (log elf : List ℕ) (files : Files) (r : Recording) : Type 0 where
-  pub program : files elf ≡ Some r.elf
-  pub recording : IsRecorded r
-  pub log_there : files log ≡ Some (file_of r.settings r.program (sha256 r.elf) r.input r.turns)
+-- the transcript of a session over a recording's records
+abbrev pub session_of : Recording → List Record → Commands → Transcript
+session_of r records c = transcript (begin r records) (input_in c)
 
 -- a session with them is done as its commands say: its whole text is there, no replay was refused, and wherever it came it
 -- showed the run
-pub record DoneSession (r : Recording) (c : Commands) (status : ℕ) (out_old out_new : Option (List ℕ)) : Type 0 where
-  pub done : status ≡ session_status (session_of r c).result
-  pub text : Appends out_old out_new (session_of r c).text
-  pub goes_on : (e : JointError) → (session_of r c).result ≢ Err (Joint e)
-  pub shows : (lines : List (List ℕ)) → ShowsRun r lines
+pub record DoneSession (r : Recording) (records : List Record) (c : Commands) (status : ℕ) (out_old out_new : Option (List ℕ)) : Type 0 where
+  pub done : status ≡ session_status (session_of r records c).result
+  pub text : Appends out_old out_new (session_of r records c).text
+  pub goes_on : (e : JointError) → (session_of r records c).result ≢ Err (Joint e)
+  pub shows : (lines : List (List ℕ)) → ShowsRun r records lines
 
 -- so it is, unless memory ran out, the store or a write failed, or the program file is too long
 abbrev pub ShowsSession : Commands → (log elf : List ℕ) → Files → ℕ → Option (List ℕ) → Option (List ℕ) → Type 0
-ShowsSession c log elf files status out_old out_new = (r : Recording) → HasRun log elf files r
-    → IsFree status ⊎ Either (nat_lt 67108864 (length r.elf)) (status ≡ 5) (DoneSession r c status out_old out_new)
+ShowsSession c log elf files status out_old out_new = (r : Recording) (h : HasRun log elf files r)
+    → IsFree status ⊎ Either (nat_lt 67108864 (length r.elf)) (status ≡ 5) (DoneSession r h.says.log.records c status out_old out_new)
 
--- If the log file of a recording is there and its program file, which isn't too long, and the commands are read whole and keep
--- to their limits, there is all that a session needs
+-- If a log file that says an end of a recording is there and its program file, which isn't too long, and the commands are read
+-- whole and keep to their limits, there is all that a session needs
 abbrev pub RecordingsCanBeDebugged : Type 0
 RecordingsCanBeDebugged = (c : Commands) (log elf : List ℕ) (files : Files) (r : Recording) → HasRun log elf files r → length r.elf ≤ 67108864
     → c.failed ≡ false → (input_of c.bytes).refused ≡ None → CanDebug c log elf files

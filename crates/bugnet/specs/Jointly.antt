@@ -1,12 +1,10 @@
 -- The headline's second half: the joint replay of a log that says an end of what was recorded says the recorded run.
 use Rattle.std.specs.Prelude.{◌≡◌, ◌⊎◌, ◌≤◌, ℕ, nat_lt, List, length, Option, Some}
 use Rattle.std.specs.Io.KnownBytes.{Appends}
-use Rattle.sha2.specs.Sha256.{sha256}
 use Rattle.bn_outside.specs.Files.{Files}
 use Rattle.command_words.specs.Words.{Line, RecordingLine, JointLine}
 use Rattle.joint_replay.specs.Joining.{Ran, run_all}
 use Rattle.joint_replay.specs.Texts.{joint_text}
-use Rattle.run_model.specs.Files.{file_of}
 use Rattle.log_record.specs.declared.record.Record.{Record}
 use Rattle.joint_laws.specs.Recordings.{Recording, IsRecorded, kept, begin}
 use Rattle.joint_laws.specs.Laws.{SaysTheRun}
@@ -20,13 +18,18 @@ use Rattle.bugnet.specs.Saves.{Leaves}
 use Rattle.bugnet.specs.declared.names.Role.TheVariants as role
 use Rattle.bugnet.specs.declared.refusal.Refusal.TheVariants.{TooLong}
 
--- the joint replay of what a recording's log keeps, the lowest ready hart first
-abbrev pub joint_run : Recording → Ran
-joint_run r = run_all (begin r (kept r))
+-- the joint replay of a recording's records, the lowest ready hart first
+abbrev pub joint_run : Recording → List Record → Ran
+joint_run r records = run_all (begin r records)
 
--- it says the recorded run
-abbrev pub SaysRun : Recording → Type 0
-SaysRun r = SaysTheRun r (kept r) (joint_run r)
+-- a log file that says an end of a recording's records is there, as it was saved, converted or salvaged, and the recording's
+-- program file
+pub record HasRun (log elf : List ℕ) (files : Files) (r : Recording) : Type 0 where
+  pub program : files elf ≡ Some r.elf
+  pub recording : IsRecorded r
+  pub bytes : List ℕ
+  pub log_there : files log ≡ Some bytes
+  pub says : SaysEnd r.settings r.program r.elf r.input r.turns bytes
 
 -- a command replays a log file that says an end of a recording jointly, with its program file
 pub record JoinsRun (line : Option Line) (files : Files) (r : Recording) : Type 0 where
@@ -52,11 +55,10 @@ IsJoined line r records what = Either (nat_lt 67108864 (length r.elf)) (what ≡
 abbrev pub JointHeadline : Type 0
 JointHeadline = (line : Option Line) (files : Files) (r : Recording) (j : JoinsRun line files r) (what : Told) → IsAnswer line files what → IsJoined line r j.says.log.records what
 
--- If the log file of a recording is there and its program file, which isn't too long, there is all that the command needs: their
--- joint replay isn't stopped
+-- If a log file that says an end of a recording is there and its program file, which isn't too long, there is all that the
+-- command needs: their joint replay isn't stopped
 abbrev pub RecordingsCanBeJoined : Type 0
-RecordingsCanBeJoined = (log elf : List ℕ) (files : Files) (r : Recording) → IsRecorded r → files log ≡ Some (file_of r.settings r.program (sha256 r.elf) r.input r.turns)
-    → files elf ≡ Some r.elf → length r.elf ≤ 67108864 → CanJoin log elf files
+RecordingsCanBeJoined = (log elf : List ℕ) (files : Files) (r : Recording) → HasRun log elf files r → length r.elf ≤ 67108864 → CanJoin log elf files
 
 -- the run that a recording left
 abbrev pub recording_of : {r : RecordingLine} {old new : Files} → Leaves r old new → Recording

@@ -1,5 +1,5 @@
 -- What a command answers by a log and the program that it was recorded of.
-use Rattle.std.specs.Prelude.{◌≡◌, ◌≤◌, Bool, true, false, ℕ, List, [], ◌∷◌, length, Some, Result, Ok, Err}
+use Rattle.std.specs.Prelude.{◌≡◌, ◌≤◌, ◌⊎◌, Bool, true, false, ℕ, List, [], ◌∷◌, length, Option, Some, Result, Ok, Err}
 use Rattle.std.specs.Str.{bytes_eq}
 use Rattle.sha2.specs.Sha256.{sha256}
 use Rattle.bn_base.specs.Programs.{Program}
@@ -7,7 +7,7 @@ use Rattle.bn_outside.specs.Files.{Files}
 use Rattle.elf_loader.specs.Loaded.{image_of}
 use Rattle.elf_loader.specs.declared.error.ElfError.{ElfError}
 use Rattle.log_order.specs.Content.{Content, IsContent}
-use Rattle.log_file.specs.Layout.{saved_bytes}
+use Rattle.log_file.specs.Layout.{saved_bytes, file_bytes2}
 use Rattle.bugnet.specs.Names.{FileNames}
 use Rattle.bugnet.specs.Told.{Told, refused}
 use Rattle.bugnet.specs.Commands.{WithFile, IsByLog}
@@ -44,11 +44,16 @@ IsPairOf go files names log what = WithFile files names role.Elf 67108864 (λ el
 abbrev pub IsPair : ByPair → Files → FileNames → Told → Type 0
 IsPair go files names what = WithFile files names role.Log 272629760 (λ log what. IsPairOf go files names log what) what
 
--- a log and its program are there, the log's file in the version of its settings' format
+-- a log's file is there: in the version of its settings' format, as a recording saves it, or in version 2, as `convert` and
+-- `salvage` do
+abbrev pub HoldsLog : Option (List ℕ) → Content → Type 0
+HoldsLog there d = (there ≡ Some (saved_bytes d)) ⊎ (there ≡ Some (file_bytes2 d))
+
+-- a log and its program are there, the log's file in either version
 pub record ArePair (log elf : List ℕ) (files : Files) (d : Content) (i : Program) : Type 0 where
   pub bytes : List ℕ
   pub is : IsContent d
-  pub log_there : files log ≡ Some (saved_bytes d)
+  pub log_there : HoldsLog (files log) d
   pub elf_there : files elf ≡ Some bytes
   pub elf_small : length bytes ≤ 67108864
   pub same : bytes_eq (sha256 bytes) d.head.digest ≡ true

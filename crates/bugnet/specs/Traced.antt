@@ -1,22 +1,25 @@
--- What the commands `races` and `slice` answer of the log that a recording saves.
+-- What the commands `races` and `slice` answer of a log that says an end of a recording.
 use Rattle.std.specs.Prelude.{◌≡◌, ℕ, nat_lt, List, length, Option, Some, None}
 use Rattle.bn_outside.specs.Files.{Files}
 use Rattle.command_words.specs.Words.{RacesLine, SliceLine}
+use Rattle.log_record.specs.declared.record.Record.{Record}
 use Rattle.hart_replay.specs.Replay.{Interval, interval_of}
 use Rattle.hart_replay.specs.declared.error.ReplayError.TheVariants.{NoInterval}
-use Rattle.joint_laws.specs.Recordings.{Recording, kept, interval_rows}
+use Rattle.joint_laws.specs.Recordings.{Recording, interval_rows}
 use Rattle.race_report.specs.Races.{race_count, races_of}
 use Rattle.race_report.specs.Reports.{points_in}
+use Rattle.race_report.specs.Texts.{races_text}
+use Rattle.race_report.specs.declared.race.Race.{Race}
+use Rattle.report_laws.specs.Laws.{SayTheRun}
 use Rattle.slice_back.specs.Slices.{noted, up_to, slice_or}
 use Rattle.slice_back.specs.Texts.{text_of}
 use Rattle.bugnet.specs.Names.{FileNames}
-use Rattle.bugnet.specs.Told.{Told, refused}
+use Rattle.bugnet.specs.Told.{Told, refused, printed}
 use Rattle.bugnet.specs.Commands.{Either}
 use Rattle.bugnet.specs.Racing.{races_listed}
 use Rattle.bugnet.specs.Slicing.{slice_told}
 use Rattle.bugnet.specs.Answers.{names_in, IsAnswer}
-use Rattle.bugnet.specs.Jointly.{joint_run}
-use Rattle.bugnet.specs.Debugging.{HasRun}
+use Rattle.bugnet.specs.Jointly.{joint_run, HasRun}
 use Rattle.bugnet.specs.declared.names.Role.TheVariants as role
 use Rattle.bugnet.specs.declared.refusal.Refusal.TheVariants.{TooLong, ReplayStopped}
 
@@ -24,17 +27,30 @@ use Rattle.bugnet.specs.declared.refusal.Refusal.TheVariants.{TooLong, ReplaySto
 abbrev pub UnlessLong : FileNames → Recording → Told → Type 0 → Type 0
 UnlessLong names r what Is = Either (nat_lt 67108864 (length r.elf)) (what ≡ refused names (TooLong role.Elf)) Is
 
--- the races of the joint replay of what a recording's log keeps, or that there are too many. It isn't stopped
-abbrev pub races_kept : FileNames → Recording → (most : ℕ) → Told
-races_kept names r most =
-    let run = joint_run r in
+-- the races of the joint replay of a recording's records, or that there are too many. It isn't stopped
+abbrev pub races_kept : FileNames → Recording → List Record → (most : ℕ) → Told
+races_kept names r records most =
+    let run = joint_run r records in
     races_listed (nat_lt most (race_count (points_in run))) names most (races_of r.settings.harts (points_in run))
 
 -- so is what is told of that log with its program
 abbrev pub RacesAreTold : Type 0
-RacesAreTold = (log elf : List ℕ) (most : ℕ) (files : Files) (r : Recording) → HasRun log elf files r
+RacesAreTold = (log elf : List ℕ) (most : ℕ) (files : Files) (r : Recording) (h : HasRun log elf files r)
     → (what : Told) → IsAnswer (Some (RacesLine log elf most)) files what
-    → UnlessLong (names_in (RacesLine log elf most)) r what (what ≡ races_kept (names_in (RacesLine log elf most)) r most)
+    → UnlessLong (names_in (RacesLine log elf most)) r what (what ≡ races_kept (names_in (RacesLine log elf most)) r h.says.log.records most)
+
+-- a text of races is printed. They are exactly the races of the run's own points of which these records retain the rows, each
+-- once: two that access a word, one of them writing it, where no chain of program order and of synchronisation leads from the one
+-- to the other
+pub record ListsRaces (r : Recording) (records : List Record) (what : Told) : Type 0 where
+  pub races : List Race
+  pub text : what ≡ printed (races_text races)
+  pub run : SayTheRun r records races
+
+-- so it is wherever `races` is done
+abbrev pub PrintedRacesSayTheRun : Type 0
+PrintedRacesSayTheRun = (log elf : List ℕ) (most : ℕ) (files : Files) (r : Recording) (h : HasRun log elf files r)
+    → (what : Told) → IsAnswer (Some (RacesLine log elf most)) files what → what.status ≡ 0 → ListsRaces r h.says.log.records what
 
 -- the slice of the row of a count among the recorded run's own rows of the interval, or that there is no such row; or that the
 -- log doesn't keep the interval
@@ -44,7 +60,7 @@ slice_kept names r hart interval ic (Some v) = slice_told names (text_of hart ic
 
 -- so is what is told. No replay is stopped
 abbrev pub SlicesAreTold : Type 0
-SlicesAreTold = (log elf : List ℕ) (hart interval ic : ℕ) (files : Files) (r : Recording) → HasRun log elf files r
+SlicesAreTold = (log elf : List ℕ) (hart interval ic : ℕ) (files : Files) (r : Recording) (h : HasRun log elf files r)
     → (what : Told) → IsAnswer (Some (SliceLine log elf hart interval ic)) files what
     → let names = names_in (SliceLine log elf hart interval ic) in
-    UnlessLong names r what (what ≡ slice_kept names r hart interval ic (interval_of hart interval (kept r)))
+    UnlessLong names r what (what ≡ slice_kept names r hart interval ic (interval_of hart interval h.says.log.records))

@@ -1,5 +1,5 @@
 // What holds of answers.
-ghost use Rattle.bugnet.specs.Debugging.{SessionsShowTheRun, RecordingsCanBeDebugged};
+ghost use Rattle.bugnet.specs.Debugging.{ConvertedHaveTheirLimit, SessionsShowTheRun, RecordingsCanBeDebugged};
 ghost use Rattle.bugnet.specs.Laws.{OneAnswer, OneSession, SeedsAreWhole, FilesKeepToTheirSize};
 ghost use Rattle.bugnet.specs.Agreements.{AuditsAgree};
 ghost use Rattle.bugnet.specs.Complete.{EachHasAnAnswer, EachCanBeDone};
@@ -7,20 +7,21 @@ ghost use Rattle.bugnet.specs.Crashes.{CrashesAreShown};
 ghost use Rattle.bugnet.specs.Headline.{Headline, RecordingsAreReplayed, RecordingsSayEnds};
 ghost use Rattle.bugnet.specs.Jointly.{JointHeadline, RecordingsCanBeJoined, RecordingsAreJoined};
 ghost use Rattle.bugnet.specs.Salvaging.{SalvagedSayEnds, SalvagedAreReplayed};
-ghost use Rattle.bugnet.specs.Traced.{RacesAreTold, SlicesAreTold};
+ghost use Rattle.bugnet.specs.Traced.{PrintedRacesSayTheRun, RacesAreTold, SlicesAreTold};
 
 use file_laws::{logs_are_contents, salvaged_files_suffice};
 use hart_worker::{seeded_lists_end, whole_runs_have_no_error};
 use joint_laws::{
-    beginnings_go_on, files_say_the_run_jointly, joint_replays_say_the_run, own_logs_are_logs,
-    reached_joint_replays_say_the_run, steps_are_not_refused,
+    beginnings_go_on, joint_replays_say_the_run, reached_joint_replays_say_the_run,
+    steps_are_not_refused,
 };
 use log_blocks::laws::{blocks_are_few, files_have_their_size, saved_files_keep_to_the_limit};
 use log_blocks::readings::{
     files_are_read, files_are_read_or_refused, files_are_salvaged_or_refused, readings_are_unique,
     salvages_are_unique, whole_files_are_salvaged,
 };
-use replay_laws::{ends_suffice, the_log_suffices, the_rows_of_an_interval_stand_together};
+use replay_laws::{ends_suffice, the_rows_of_an_interval_stand_together};
+use report_laws::races_say_the_run;
 use run_laws::{faults_are_kept, kept_records_are_an_end, own_asks_are_orderly};
 use run_model::{files_number_their_version, verdicts_are_unique};
 
@@ -40,27 +41,33 @@ pub fn one_session()
     readings_are_unique();
 }
 
-/// Wherever a session over the log of a recording comes by its commands, its replay isn't refused, and
-/// what it shows is the run's: the order of the steps, the rows, the states of the harts, and the words.
+/// What `convert` and `salvage` save has at most the bytes that a command loads, whatever the format of the
+/// log's settings.
+pub fn converted_files_keep_to_the_limit()
+    ensures { ConvertedHaveTheirLimit }
+{
+    files_have_their_size();
+    blocks_are_few();
+}
+
+/// Wherever a session over a log of a recording comes by its commands, its replay isn't refused, and what it
+/// shows is the run's: the order of the steps, the rows, the states of the harts, and the words. Such a log
+/// may be converted or salvaged: its file is one that a session loads.
 pub fn sessions_show_the_run()
     ensures { SessionsShowTheRun }
 {
-    own_logs_are_logs();
     beginnings_go_on();
     steps_are_not_refused();
     reached_joint_replays_say_the_run();
 }
 
-/// Where the log file of a recording and its program file are there, the program file within its limit,
-/// and the commands are read whole and keep to their limits, there is all that a session of the debugger
-/// needs: it isn't stopped.
+/// Where a log file that says an end of a recording's records and the recording's program file are there,
+/// the program file within its limit, and the commands are read whole and keep to their limits, there is
+/// all that a session of the debugger needs: it isn't stopped.
 pub fn recordings_can_be_debugged()
     ensures { RecordingsCanBeDebugged }
 {
     sessions_show_the_run();
-    logs_are_contents();
-    saved_files_keep_to_the_limit();
-    files_are_read();
 }
 
 /// The answer to the replay of an interval from a log that says an end of a recording's records is the text
@@ -191,15 +198,12 @@ pub fn salvaged_logs_are_replayed()
     headline();
 }
 
-/// Where the log file of a recording and its program file are there, the program file within its limit,
-/// there is all that their joint replay needs: it isn't stopped.
+/// Where a log file that says an end of a recording's records and the recording's program file are there,
+/// the program file within its limit, there is all that their joint replay needs: it isn't stopped.
 pub fn recordings_can_be_joined()
     ensures { RecordingsCanBeJoined }
 {
-    files_say_the_run_jointly();
-    logs_are_contents();
-    saved_files_keep_to_the_limit();
-    files_are_read();
+    joint_replays_say_the_run();
 }
 
 /// Of the files that a recording leaves, the joint replay of the log is printed, and says the recorded
@@ -214,29 +218,37 @@ pub fn recordings_are_joined()
     kept_records_are_an_end();
 }
 
-/// Of the log file of a recording with its program file `races` tells the races of the joint replay that
-/// says the run, or that there are more than asked for: never that a replay stopped.
+/// Of a log file that says an end of a recording's records, with the recording's program file, `races` tells
+/// the races of the joint replay that says the run, or that there are more than asked for: never that a
+/// replay stopped.
 pub fn races_are_told()
     ensures { RacesAreTold }
 {
     readings_are_unique();
-    files_are_read();
-    files_say_the_run_jointly();
-    logs_are_contents();
+    joint_replays_say_the_run();
     saved_files_keep_to_the_limit();
+    converted_files_keep_to_the_limit();
 }
 
-/// Of the log file of a recording with its program file `slice` tells the slice of a row of the run's own,
-/// that the interval has no row of that count, or that the log doesn't keep the interval: never that a
-/// replay stopped.
+/// What `races` prints of such a log lists exactly the races of the recorded run's own points of which the log
+/// keeps the rows, each once: conflicting accesses that no synchronisation ordered.
+pub fn printed_races_say_the_run()
+    ensures { PrintedRacesSayTheRun }
+{
+    races_are_told();
+    races_say_the_run();
+}
+
+/// Of a log file that says an end of a recording's records, with the recording's program file, `slice` tells
+/// the slice of a row of the run's own, that the interval has no row of that count, or that the log doesn't
+/// keep the interval: never that a replay stopped.
 pub fn slices_are_told()
     ensures { SlicesAreTold }
 {
     readings_are_unique();
-    files_are_read();
-    the_log_suffices();
-    logs_are_contents();
+    ends_suffice();
     saved_files_keep_to_the_limit();
+    converted_files_keep_to_the_limit();
 }
 
 /// The list of turns that a seed chooses is legal and finished, where the settings were tested.

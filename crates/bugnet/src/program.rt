@@ -29,8 +29,8 @@ use crate::commands::replay::{print_interval, replay_files};
 use crate::commands::salvage::salvage_files;
 use crate::commands::slice::slice_files;
 use crate::laws::{
-    audits_agree, each_can_be_done, files_keep_to_their_size, headline, joint_headline, one_answer,
-    seeds_are_whole, sessions_show_the_run,
+    audits_agree, converted_files_keep_to_the_limit, each_can_be_done, files_keep_to_their_size,
+    headline, joint_headline, one_answer, seeds_are_whole, sessions_show_the_run,
 };
 use crate::manner::Manner;
 use crate::names::Names;
@@ -234,6 +234,7 @@ pub fn perform<S: Store, I: Source, O: Sink, X: Sink>(
     sessions_show_the_run();
     logs_are_contents();
     saved_files_keep_to_the_limit();
+    converted_files_keep_to_the_limit();
     files_are_read();
     let names = names_of(command);
     // What `debug` prints depends on what it reads meanwhile, so it has no answer that is made first.

@@ -1,6 +1,7 @@
 use Rattle.command_words.specs.Words.{seen}
 use Rattle.bugnet.specs.Run.{call}
 use Rattle.bugnet.proofs.Debugs.{debugs-any, answers-any}
+use Rattle.bugnet.proofs.Jointly.{Limits}
 use Rattle.bugnet.proofs.Single.{Grammar}
 use Rattle.bugnet.proofs.Suffices.{FileLaws}
 use Rattle.bugnet.proofs.program.perform.Goals as goal
@@ -16,5 +17,6 @@ returns-in-Debug-clause-session g c =
     let k = call (g.S.Store.files) (g.S.Store.counts) (g.O.Sink.written) (g.O.Sink.faults) (g.X.Sink.written) (g.X.Sink.faults) c.args.store.now c.args.out.now c.args.err.now c.debug_files.new.store c.debug_files.new.out c.debug_files.new.err in
     let grammar : Grammar = record { one_reading = c.readings_are_unique.ensures } in
     let laws : FileLaws = record { contents = c.logs_are_contents.ensures; limit = c.saved_files_keep_to_the_limit.ensures; read = c.files_are_read.ensures } in
-    debugs-any grammar laws c.sessions_show_the_run.ensures (seen c.args.command.now) c.names_of-names.result c.debug_files.result (g.I.Source.left c.args.input.now) (g.I.Source.left c.debug_files.new.input) (g.I.Source.faults c.args.input.now) (g.I.Source.faults c.debug_files.new.input) k
+    let limits : Limits = record { saved = c.saved_files_keep_to_the_limit.ensures; converted = c.converted_files_keep_to_the_limit.ensures } in
+    debugs-any grammar laws limits c.sessions_show_the_run.ensures (seen c.args.command.now) c.names_of-names.result c.debug_files.result (g.I.Source.left c.args.input.now) (g.I.Source.left c.debug_files.new.input) (g.I.Source.faults c.args.input.now) (g.I.Source.faults c.debug_files.new.input) k
     (λ n. rw c.in-Debug.is at n) c.names_of-names.ensures c.debug_files.ensures.told
