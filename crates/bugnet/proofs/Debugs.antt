@@ -174,7 +174,7 @@ done-read j u left now_left before now written now_written b n d = record {
 }
   where
     by : EndsThere j d.gone ending.Quits ⊎ EndsAll j left now_left d.gone → EndsWithQuit d.gone ⊎ (ConsumesAll left now_left d.gone × NoQuit (input_of d.gone).lines)
-    by (inl h) = inl (record { front = h.front; line = h.line; lines = h.lines; last = h.last; quit = last-quit h.front h.line (begin_at j) h.before h.there })
+    by (inl h) = inl (record { front = h.front; line = h.line; lines = h.lines; last = h.last; before = no-quit h.front (begin_at j) h.before; quit = last-quit h.front h.line (begin_at j) h.before h.there })
     by (inr h) = inr (h.all, no-quit (input_of d.gone).lines (begin_at j) h.before)
 
 -- one that stopped

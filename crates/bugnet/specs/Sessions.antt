@@ -42,12 +42,13 @@ input_in c = cut c.failed (input_of c.bytes)
 abbrev pub NoQuit : List (List ℕ) → Type 0
 NoQuit lines = AllByRecursion (λ line. command_of line ≢ Quit) lines
 
--- bytes end with the line `quit`: none behind it is there
+-- bytes end with the line `quit`, the first one: no byte behind it is there
 pub record EndsWithQuit (bytes : List ℕ) : Type 0 where
   pub front : List (List ℕ)
   pub line : List ℕ
   pub lines : (input_of bytes).lines ≡ front ++ line ∷ []
   pub last : (input_of bytes).last ≡ []
+  pub before : NoQuit front
   pub quit : command_of line ≡ Quit
 
 -- the commands are bytes of the source that are gone, by a call that ended so
@@ -56,7 +57,7 @@ pub record AreRead (c : Commands) (status : ℕ) (left now_left : Option (List �
   -- a read failed only if the source's count rose, and no `quit` was read before
   pub failed : c.failed ≡ true → Rose before now × NoQuit (input_of c.bytes).lines
   pub cause : status ≡ 12 → c.failed ≡ true
-  -- a session that is done has read nothing behind `quit`; or all, and then no line that ends with LF is `quit`
+  -- a session that is done has read nothing behind the first `quit`; or all, and then no line that ends with LF is `quit`
   pub done : status ≡ 0 → EndsWithQuit c.bytes ⊎ (ConsumesAll left now_left c.bytes × NoQuit (input_of c.bytes).lines)
 
 -- ---- what is told
