@@ -4,4 +4,5 @@ pub mod Counts
 pub mod Files
 pub mod Gates
 pub mod InMemory
+pub mod StoreCalls
 pub mod Streams

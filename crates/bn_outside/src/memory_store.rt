@@ -125,11 +125,17 @@ impl Store for MemoryStore {
 
     ghost saves = { λ s. s.saves };
 
+    // It notes how many calls were made.
+    ghost noted = { λ s. s.calls.made };
+
+    ghost note = { λ made _. counted made };
+
     fn load(&mut self, alloc: Global, name: &str, limit: usize) -> Result<Vec<u8>, LoadError>
         ensures bound { IfOk result (λ bytes. vec_len bytes ≤ limit) }
         ensures told { LoadTells (files_in self.old.entries name.now) limit result }
         ensures unchanged { Some (files_in self.new.entries) ≡ Some (files_in self.old.entries) }
         ensures asked { self.new.saves ≡ self.old.saves }
+        ensures called { self.new.calls.made ≡ counted self.old.calls.made }
         ensures later { NoneFell self.old.counts self.new.counts }
         ensures cause { LoadCause self.old.counts self.new.counts result }
 
@@ -151,6 +157,7 @@ impl Store for MemoryStore {
         ensures others { SameElsewhere name.now
             (files_in self.old.entries) (files_in self.new.entries) }
         ensures asked { self.new.saves ≡ counted self.old.saves }
+        ensures called { self.new.calls.made ≡ counted self.old.calls.made }
         ensures later { NoneFell self.old.counts self.new.counts }
         ensures cause { SaveCause self.old.counts self.new.counts result }
 

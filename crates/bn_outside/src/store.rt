@@ -2,6 +2,7 @@
 ghost use Rattle.std.specs.Prelude.{◌≡◌, ◌≤◌, ℕ, Option, IfOk, IfSome, OnOk, Some, vec_len};
 ghost use Rattle.bn_outside.specs.Counts.{Counts, counted, NoneFell, LoadCause, SaveCause};
 ghost use Rattle.bn_outside.specs.Files.{Files, LoadTells, SameElsewhere, WhereTold};
+ghost use Rattle.bn_outside.specs.StoreCalls.{StoreCall, LoadCall, SaveCall};
 ghost use Rattle.bn_outside.specs.declared.store.LoadError.TheVariants as load;
 ghost use Rattle.bn_outside.specs.declared.store.SaveError.TheVariants as save;
 
@@ -63,6 +64,13 @@ pub trait Store {
     /// How many saves it was asked for.
     ghost saves: { Self → ℕ };
 
+    /// What it has noted of its calls, as a number, and that number after one more call. What it notes is its own
+    /// affair. Code that is proved for every store knows nothing of it but that each call is noted once: where its
+    /// contract says what is noted after some calls, it makes these calls, in this order, and no other.
+    ghost noted: { Self → ℕ };
+
+    ghost note: { ℕ → StoreCall → ℕ };
+
     /// The bytes under `name`, where they are at most `limit`.
     ///
     /// Whatever the answer, the files are as before. Where the store tells its files, `Missing` and
@@ -73,6 +81,7 @@ pub trait Store {
         ensures told { IfSome (files self.old) (λ known. LoadTells (known name.now) limit result) }
         ensures unchanged { files self.new ≡ files self.old }
         ensures asked { saves self.new ≡ saves self.old }
+        ensures called { noted self.new ≡ note (noted self.old) (LoadCall name.now limit) }
         ensures later { NoneFell (counts self.old) (counts self.new) }
         ensures cause { LoadCause (counts self.old) (counts self.new) result };
 
@@ -86,6 +95,7 @@ pub trait Store {
             (λ _ new. new name.now ≡ Some bytes.now)) }
         ensures others { WhereTold (files self.old) (files self.new) (SameElsewhere name.now) }
         ensures asked { saves self.new ≡ counted (saves self.old) }
+        ensures called { noted self.new ≡ note (noted self.old) (SaveCall name.now) }
         ensures later { NoneFell (counts self.old) (counts self.new) }
         ensures cause { SaveCause (counts self.old) (counts self.new) result };
 }

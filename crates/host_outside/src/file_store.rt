@@ -211,6 +211,11 @@ impl<'a, R: Files> Store for FileStore<'a, R> {
 
     ghost saves = { λ s. s.saves };
 
+    // It notes nothing.
+    ghost noted = { λ _. 0 };
+
+    ghost note = { λ _ _. 0 };
+
     fn load(&mut self, alloc: Global, name: &str, limit: usize) -> Result<Vec<u8>, LoadError> {
         let result = load_file(self.rt, alloc, name, limit, &mut self.loaded);
         match &result {
