@@ -1,5 +1,6 @@
 -- What a shadow knows and keeps of the points so far.
-use Rattle.std.specs.Prelude.{◌≡◌, ◌≢◌, ℕ, ◌+◌, ◌-◌, ◌*◌, ◌<◌, ◌≤◌, ◌==◌, if◌then◌else◌, Bool, not, ◌&&◌, ◌||◌, nat_lt, List, length, slice_get, Option, Some, None, All}
+use Rattle.std.specs.Prelude.{◌≡◌, ◌≢◌, ℕ, ◌+◌, ◌-◌, ◌*◌, ◌<◌, ◌≤◌, ◌==◌, if◌then◌else◌, Bool, not, ◌&&◌, ◌||◌, nat_lt}
+use Rattle.std.specs.Prelude.{List, length, slice_get, Option, Some, None, All}
 use Rattle.race_log.specs.declared.shadow.Shadow.{Shadow}
 use Rattle.race_log.specs.declared.mode.Mode.{Mode}
 use Rattle.race_log.specs.Points.{Point}

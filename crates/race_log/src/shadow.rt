@@ -38,11 +38,10 @@ pub struct Shadow {
 impl Shadow {
     ghost use Rattle.vector_time.specs.Times.{count_of};
     ghost use Rattle.race_log.specs.Points.{Point};
-    ghost use Rattle.race_log.specs.Tests.{sources_into};
     ghost use Rattle.race_log.specs.ByCount.{IsLatestPoint, IsTimesOf};
-    ghost use Rattle.race_log.specs.Laws.{AreSources};
-    ghost use Rattle.race_log.specs.Kept.{access_point, after};
-    ghost use Rattle.race_log.specs.Sweep.{has_bit, is_covered, accessed_below, one_more};
+    ghost use Rattle.race_log.specs.Kept.{access_point};
+    ghost use Rattle.race_log.specs.Sweep.{has_bit, is_covered, accessed_below};
+    ghost use Rattle.race_log.specs.Accesses.{MayAccess, HasEdges, TakesPoint, AwaitsNext};
     ghost use Rattle.race_log.specs.Stands.{Stands, KnowsSame, harts_of, lasting_of, lasts, next_turn, next_count, times_of, kept_of, words_of, held_of, is_known, reserved_range, edges_of, unswept_of, TakesIn};
 
     /// Knows of no point and keeps nothing.
@@ -95,39 +94,13 @@ impl Shadow {
     }
 
     /// Takes in the hart's instruction at the count `ic`, done in this turn, which reads or writes `count` words from
-    /// `first`; [`Shadow::edges`] then has the edges into it. The hart's bit was clear at no sweep so far.
+    /// `first`; [`Shadow::edges`] then has the edges into it.
     #[inline(always)]
     pub fn access(&mut self, hart: HartId, ic: Ic, turn: u64, first: Addr, count: u32, mode: Mode)
-        requires hart { hart < harts_of self.old }
-        requires ic { ic < 2 ^ 41 }
-        requires aligned { first % 4 ≡ 0 }
-        requires range { first + 4 * count ≤ 2 ^ 32 }
-        requires reserved { reserved_range self.old ≡ Some (first, count) }
-        requires turns { next_turn self.old ≤ turn }
-        requires counts { next_count self.old hart ≤ ic }
-        requires lasting { IsTrue (lasts self.old hart) }
-        // The points that the edges into this one come from are there then, each once, and the latest first.
-        ensures edges { (run : List Point) (live : ℕ → Bool) → IsTrue (live hart) → Stands run live self.old →
-            edges_of self.new ≡ sources_into (after run (access_point hart ic turn first count mode)) (length run) }
-        ensures exact { (run : List Point) (live : ℕ → Bool) → IsTrue (live hart) → Stands run live self.old →
-            AreSources run (access_point hart ic turn first count mode) (edges_of self.new) }
-        ensures few { length (edges_of self.new) < harts_of self.old }
-
-        // The shadow then stands for the run with this point, and the hart's times are those of this point.
-        ensures stands { (run : List Point) (live : ℕ → Bool) → IsTrue (live hart) → Stands run live self.old →
-            Stands (after run (access_point hart ic turn first count mode)) live self.new }
-        ensures times { (run : List Point) (live : ℕ → Bool) → IsTrue (live hart) → Stands run live self.old →
-            let b = access_point hart ic turn first count mode in
-            IsTimesOf (after run b) b (times_of self.new hart) }
-        ensures others { (other : ℕ) → other ≢ hart → (h : ℕ) → times_of self.new other h ≡ times_of self.old other h }
-
-        // How the conditions of the next access change.
-        ensures harts { harts_of self.new ≡ harts_of self.old }
-        ensures lasting { lasting_of self.new ≡ lasting_of self.old }
-        ensures turn { next_turn self.new ≡ turn + 1 }
-        ensures counts { (h : ℕ) → next_count self.new h ≡ (if h == hart then ic + 1 else next_count self.old h) }
-        ensures reserved { reserved_range self.new ≡ None }
-        ensures unswept { unswept_of self.new ≡ one_more (unswept_of self.old) }
+        requires { MayAccess hart ic turn first count self.old }
+        ensures edges { HasEdges hart (access_point hart ic turn first count mode) self.old self.new }
+        ensures point { TakesPoint hart (access_point hart ic turn first count mode) self.old self.new }
+        ensures next { AwaitsNext hart ic turn self.old self.new }
     {
         self.take_in(hart, ic, turn, first, count, mode);
     }

@@ -10,10 +10,10 @@ use Rattle.run_model.proofs.race.record_access.Goals as goal
 pub returns-in-Some-clause-shadow : goal.returns-in-Some-clause-shadow
 returns-in-Some-clause-shadow c points stands =
     subst (λ (s : Option Span). Stands (points_after (point_of c.args.hart c.args.ic c.args.turn s) points) everyone c.access.new.self) (sym c.in-Some.is)
-    (c.access.ensures.stands points everyone refl stands)
+    (c.access.ensures.point.stands points everyone refl stands)
 
 pub returns-in-Some-clause-holds : goal.returns-in-Some-clause-holds
 returns-in-Some-clause-holds c points rs stands held =
     subst (λ (s : Option Span). IsLog c.append_edges.new.log (rs ++ edge_records (point_of c.args.hart c.args.ic c.args.turn s) points)) (sym c.in-Some.is)
-    (subst (λ (es : List (ℕ × ℕ)). IsLog c.append_edges.new.log (rs ++ edges_from c.args.hart c.args.ic es)) (c.edges.ensures ∙ c.access.ensures.edges points everyone refl stands)
+    (subst (λ (es : List (ℕ × ℕ)). IsLog c.append_edges.new.log (rs ++ edges_from c.args.hart c.args.ic es)) (c.edges.ensures ∙ c.access.ensures.edges.listed points everyone refl stands)
     (c.append_edges.ensures.holds rs held))

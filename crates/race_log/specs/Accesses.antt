@@ -1,0 +1,49 @@
+-- What an access asks of a shadow that takes it in, and what it makes of the shadow.
+use Rattle.std.specs.Prelude.{◌≡◌, ◌≢◌, ℕ, ◌+◌, ◌*◌, ◌<◌, ◌≤◌, ◌^◌, ◌%◌, ◌==◌, if◌then◌else◌, IsTrue, Bool, List, length}
+use Rattle.std.specs.Prelude.{Some, None}
+use Rattle.race_log.specs.declared.shadow.Shadow.{Shadow}
+use Rattle.race_log.specs.Points.{Point}
+use Rattle.race_log.specs.Tests.{sources_into}
+use Rattle.race_log.specs.ByCount.{IsTimesOf}
+use Rattle.race_log.specs.Laws.{AreSources}
+use Rattle.race_log.specs.Kept.{after}
+use Rattle.race_log.specs.Sweep.{one_more}
+use Rattle.race_log.specs.Stands.{Stands, harts_of, lasting_of, lasts, next_turn, next_count}
+use Rattle.race_log.specs.Stands.{times_of, reserved_range, edges_of, unswept_of}
+
+-- the shadow may take in the hart's access of n words from the first, at this count and in this turn: the words are
+-- reserved, turn and count are past those so far, and the hart's bit was clear at no sweep
+pub record MayAccess (hart ic turn first n : ℕ) (s : Shadow) : Type 0 where
+  pub there : hart < harts_of s
+  pub small : ic < 2 ^ 41
+  pub aligned : first % 4 ≡ 0
+  pub range : first + 4 * n ≤ 2 ^ 32
+  pub reserved : reserved_range s ≡ Some (first, n)
+  pub turns : next_turn s ≤ turn
+  pub counts : next_count s hart ≤ ic
+  pub lasting : IsTrue (lasts s hart)
+
+-- the points that the edges into the hart's point b come from are there then, each once, and the latest first
+pub record HasEdges (hart : ℕ) (b : Point) (old new : Shadow) : Type 0 where
+  pub listed : (run : List Point) (live : ℕ → Bool) → IsTrue (live hart) → Stands run live old
+      → edges_of new ≡ sources_into (after run b) (length run)
+  pub exact : (run : List Point) (live : ℕ → Bool) → IsTrue (live hart) → Stands run live old
+      → AreSources run b (edges_of new)
+  pub few : length (edges_of new) < harts_of old
+
+-- the shadow then stands for the run with the hart's point b, the hart's times are those of b, and the others' stay
+pub record TakesPoint (hart : ℕ) (b : Point) (old new : Shadow) : Type 0 where
+  pub stands : (run : List Point) (live : ℕ → Bool) → IsTrue (live hart) → Stands run live old
+      → Stands (after run b) live new
+  pub times : (run : List Point) (live : ℕ → Bool) → IsTrue (live hart) → Stands run live old
+      → IsTimesOf (after run b) b (times_of new hart)
+  pub others : (other : ℕ) → other ≢ hart → (h : ℕ) → times_of new other h ≡ times_of old other h
+
+-- how the conditions of the next access change with the hart's access at this count, in this turn
+pub record AwaitsNext (hart ic turn : ℕ) (old new : Shadow) : Type 0 where
+  pub harts : harts_of new ≡ harts_of old
+  pub lasting : lasting_of new ≡ lasting_of old
+  pub turns : next_turn new ≡ turn + 1
+  pub counts : (h : ℕ) → next_count new h ≡ (if h == hart then ic + 1 else next_count old h)
+  pub reserved : reserved_range new ≡ None
+  pub unswept : unswept_of new ≡ one_more (unswept_of old)
