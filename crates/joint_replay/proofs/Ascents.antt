@@ -12,7 +12,7 @@ use Rattle.log_order.specs.Rules.{after_one, fresh as fresh_view}
 use Rattle.log_order.specs.Order.{broken_by, order_limits_of}
 use Rattle.joint_replay.specs.declared.incoming_edges.IncomingEdge.{IncomingEdge}
 use Rattle.joint_replay.specs.Points.{sources_into}
-use Rattle.joint_replay.specs.Sources.{source_before, edges_into, AscendFrom, sources_at}
+use Rattle.joint_replay.specs.Sources.{source_before, edges_into, AscendFrom}
 use Rattle.joint_replay.specs.Laws.{EdgesAscend}
 use Rattle.joint_replay.proofs.Shapes.{◌>>◌, own_walk, goes_through, headed, other, edged, ended, project}
 use Rattle.joint_replay.proofs.Begins.{walk_of}
@@ -64,6 +64,11 @@ log_edges_ascend law s dropped records order h low =
     law (order_limits_of s) 0 (replicate s.harts (fresh_view (dropped == 0))) w.0 records w.1 h (fresh_view (dropped == 0)) (repeated s.harts h (fresh_view (dropped == 0)) low)
 
 -- ---- the sources of an instruction
+
+-- the sources of the Edges into one instruction
+abbrev pub sources_at : ℕ → List IncomingEdge → List (ℕ × ℕ)
+sources_at ic [] = []
+sources_at ic (s ∷ ss) = elim (s.target == ic) [ true ↦ (s.hart, s.ic) ∷ sources_at ic ss | false ↦ sources_at ic ss ]
 
 pub same_sources : (h ic : ℕ) (rs : List Record) → sources_into rs h ic ≡ sources_at ic (edges_into h rs)
 same_sources h ic [] = refl

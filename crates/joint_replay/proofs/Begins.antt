@@ -23,7 +23,8 @@ use Rattle.joint_replay.specs.Ways.{GoesOn, AreFrom, AreCursors, ArePoints, IsBe
 use Rattle.joint_replay.specs.Sound.{HasEdge}
 use Rattle.joint_replay.specs.Shape.{Span, mark_of, spans, AreSpans, Fits, is_known}
 use Rattle.joint_replay.specs.Inside.{last_of, IsInside}
-use Rattle.joint_replay.specs.Laws.{OrderedLogsHaveShape, EdgesAreInside, PointsAscend, ReplaysGoOn, StartsAreSound}
+use Rattle.joint_replay.specs.Laws.{OrderedLogsHaveShape, EdgesAreInside, PointsAscend, StartsAreSound}
+use Rattle.joint_replay.proofs.Onto.{ReplaysGoOn}
 use Rattle.joint_replay.proofs.Soundness.{get_other, some_is}
 use Rattle.joint_replay.proofs.Shapes.{step_gives, placed}
 use Rattle.joint_replay.proofs.LaneSteps.{above}

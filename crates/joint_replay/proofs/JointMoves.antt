@@ -5,6 +5,7 @@ use Rattle.bn_base.specs.Programs.{Program}
 use Rattle.log_record.specs.declared.record.Record.{Record}
 use Rattle.log_order.specs.Content.{Content}
 use Rattle.hart_replay.specs.declared.error.ReplayError.{ReplayError}
+use Rattle.hart_replay.specs.declared.error.ReplayError.TheVariants as replay
 use Rattle.joint_replay.specs.declared.kinds.Coming.{Coming}
 use Rattle.joint_replay.specs.declared.kinds.Readiness.{Readiness}
 use Rattle.joint_replay.specs.declared.kinds.Readiness.TheVariants as is
@@ -15,8 +16,8 @@ use Rattle.joint_replay.specs.Words.{bytes_at}
 use Rattle.joint_replay.specs.Joining.{Joining, Walk, begun, longer, fresh, is_passed, readiness, readiness_of, first_waited, waits_for, next_step, move, with_step}
 use Rattle.joint_replay.specs.Orders.{ready_step, walk_on}
 use Rattle.joint_replay.specs.Harts.{HartLane}
-use Rattle.joint_replay.specs.Calls.{bare, IsReached}
-use Rattle.joint_replay.specs.Moves.{range_of}
+use Rattle.joint_replay.specs.Calls.{bare, IsReached, StepUnrefused}
+use Rattle.joint_replay.specs.Moves.{range_of, LaneUnrefused}
 use Rattle.joint_replay.specs.Together.{lanes_of, joining, AreHarts, IsTogether}
 use Rattle.joint_replay.specs.Sound.{IsSound}
 use Rattle.joint_replay.specs.Ways.{Passes, PassesIf}
@@ -111,6 +112,25 @@ module _ (i : Program) (log : Content) (count : ℕ) (hs : List HartLane) (memor
   step_is r e =
       ap (λ (o : Option Lane). elim o as (λ y. Option (Result (Item × Joining) ReplayError)) [ None ↦ None | Some lane ↦ move old h (lane_step i lane) ]) (lane_got hs h l at)
       ∙ ap (λ (p : Program). move old h (lane_step p l.lane)) (sym (own_at i log.records 0 h hs l t.own at).0) ∙ ap (move old h) e
+
+  -- a hart that isn't refused its step isn't so in the joint replay
+  pub unrefused : LaneUnrefused l → StepUnrefused old h
+  unrefused on r e = by (lane_step l.program l.lane) refl
+    where
+      same : (a b : ReplayError) → ◌≡◌ {A = Option (Result (Item × Joining) ReplayError)} (Some (Err a)) (Some (Err b)) → a ≡ b
+      same a b f = cc
+
+      taken : (x : Item × Lane) → lane_step l.program l.lane ≡ Some (Ok x) → r ≡ replay.OutOfMemory
+      taken x f = let both : ◌≡◌ {A = Option (Result (Item × Joining) ReplayError)} (Some (with_step old h (Ok x))) (Some (Err r)) = sym (step_is (Ok x) f) ∙ e in absurd cc
+
+      by : (o : Option (Result (Item × Lane) ReplayError)) → lane_step l.program l.lane ≡ o → r ≡ replay.OutOfMemory
+      by None f =
+          let none : next_step old h ≡ None =
+          ap (λ (o : Option Lane). elim o as (λ y. Option (Result (Item × Joining) ReplayError)) [ None ↦ None | Some lane ↦ move old h (lane_step i lane) ]) (lane_got hs h l at)
+          ∙ ap (λ (p : Program). move old h (lane_step p l.lane)) (sym (own_at i log.records 0 h hs l t.own at).0) ∙ ap (move old h) f in
+          let both : ◌≡◌ {A = Option (Result (Item × Joining) ReplayError)} None (Some (Err r)) = sym none ∙ e in absurd cc
+      by (Some (Ok x)) f = taken x f
+      by (Some (Err a)) f = let is : a ≡ r = same a r (sym (step_is (Err a) f) ∙ e) in sym is ∙ on a f
 
   -- the joint replay after the hart's item
   pub after_step : (new : HartLane) (item : Item) (words : List (ℕ × ℕ)) → lane_step l.program l.lane ≡ Some (Ok (item, new.lane)) → words ≡ memory_after item memory

@@ -1,17 +1,20 @@
 -- The steps of a hart.
-use Rattle.std.proofs.Common.{◌≡◌, ℕ, ◌<◌, true, false, refl, sym, ap, ◌∙◌, subst, arith, length, List, [], ◌∷◌, is_some, Option, Some, None, IfSome, Result, Ok}
+use Rattle.std.proofs.Common.{◌≡◌, ◌⊎◌, inl, inr, ℕ, ◌<◌, true, false, refl, sym, ap, ◌∙◌, subst, arith, length, map, List, [], ◌∷◌, is_some, Option, Some, None, IfSome, Result, Ok, Err}
 use Rattle.bn_base.specs.Programs.{Program}
 use Rattle.bn_base.specs.declared.end_mark.EndMark.{EndMark}
+use Rattle.bn_base.specs.declared.row.Row.{Row}
 use Rattle.log_record.specs.declared.record.Record.{Record}
 use Rattle.hart_replay.specs.declared.error.ReplayError.{ReplayError}
-use Rattle.hart_replay.specs.Replay.{Replayed}
-use Rattle.hart_replay.specs.Coming.{after_row, with_rows}
+use Rattle.hart_replay.specs.declared.error.ReplayError.TheVariants.{OutOfMemory}
+use Rattle.hart_replay.specs.Replay.{Outcome, Done, Refused, Replayed}
+use Rattle.hart_replay.specs.Coming.{after_row, with_rows, over}
 use Rattle.joint_replay.specs.declared.intervals.Retained.{Retained}
 use Rattle.joint_replay.specs.declared.lane.Did.{Did}
 use Rattle.joint_replay.specs.declared.lane.Moved.TheVariants as to
 use Rattle.joint_replay.specs.Lanes.{Cursor, Lane, Item, Passing, Doing, Ending, cursor_step, lane_step}
 use Rattle.joint_replay.specs.Harts.{Running, hart_lane, hart_cursors, later_cursors}
-use Rattle.joint_replay.specs.Moves.{CursorSteps, LaneSteps}
+use Rattle.joint_replay.specs.Calls.{bare_cursor, bare}
+use Rattle.joint_replay.specs.Moves.{CursorUnrefused, LaneUnrefused, CursorSteps, LaneSteps}
 
 module _ (i : Program) (records : List Record) (h : ℕ) (later : List Retained) where
   -- an ordering point is passed
@@ -84,6 +87,64 @@ module _ (i : Program) (records : List Record) (h : ℕ) (later : List Retained)
   ends_in old new o cursor after found next rest n m e f none still s number mark begun =
       subst (λ (y : Option Running). LaneSteps (hart_lane i records h old y later) (Ok (to.Ended n m)) (hart_lane i records h new next rest)) (sym e)
       (ends old new cursor after next rest n m none still (subst (λ (y : Option Did). CursorSteps cursor (Ok y) after) f s) number mark begun)
+
+  -- ---- a refusal
+
+  -- what a step refuses is left to be told
+  refusal_left : (c : Cursor) (cs : List Cursor) (r : ReplayError) → cursor_step i c cs ≡ Err r → c.left ≡ over (Refused r)
+  refusal_left c cs r e = by c.left.rows c.left.outcome e
+    where
+      same : (a b : ReplayError) → ◌≡◌ {A = Result (Item × Lane) ReplayError} (Err a) (Err b) → a ≡ b
+      same a b f = cc
+
+      with_left : Replayed → Cursor
+      with_left x = record { number = c.number; mark = c.mark; state = c.state; left = x; faulted = c.faulted }
+
+      by : (rows : List Row) (o : Outcome) → cursor_step i (with_left (record { rows = rows; outcome = o })) cs ≡ Err r → ◌≡◌ {A = Replayed} (record { rows = rows; outcome = o }) (over (Refused r))
+      by (row ∷ rs) o g = absurd cc
+      by [] Done g = absurd cc
+      by [] (Refused a) g = ap (λ (y : ReplayError). over (Refused y)) (same a r g)
+
+  -- a hart is refused a step as its interval is
+  pub refuses : (old new : List ℕ) (cursor after : Running) (e : ReplayError) → old ≡ [] → new ≡ [] → CursorSteps cursor (Err e) after
+      → LaneSteps (hart_lane i records h old (Some cursor) later) (Err e) (hart_lane i records h new (Some after) later)
+  refuses old new cursor after e none still s = (refl, by s.1)
+    where
+      cs : List Cursor
+      cs = later_cursors i records h later
+
+      lane : List ℕ → Cursor → Lane
+      lane ps c = record { points = ps; cursors = c ∷ cs }
+
+      same_points : (c : Cursor) → lane new c ≡ lane old c
+      same_points c = ap (λ (ps : List ℕ). lane ps c) (still ∙ sym none)
+
+      on : CursorUnrefused cursor.cursor → (r : ReplayError) → lane_step i (lane old cursor.cursor) ≡ Some (Err r) → r ≡ OutOfMemory
+      on n r f = n r (refusal_left cursor.cursor cs r (given (sym (ap (λ (ps : List ℕ). lane_step i (lane ps cursor.cursor)) none) ∙ f)))
+        where
+          given : Some (cursor_step i cursor.cursor cs) ≡ Some (Err r) → cursor_step i cursor.cursor cs ≡ Err r
+          given g = cc
+
+      by : ((cursor.cursor.left ≡ over (Refused e)) × (after.cursor ≡ cursor.cursor)) ⊎ ((e ≡ OutOfMemory) × (bare_cursor after.cursor ≡ bare_cursor cursor.cursor) × CursorUnrefused cursor.cursor)
+          → ((lane_step i (lane old cursor.cursor) ≡ Some (Err e)) × (lane new after.cursor ≡ lane old cursor.cursor))
+          ⊎ ((e ≡ OutOfMemory) × (bare (lane new after.cursor) ≡ bare (lane old cursor.cursor)) × LaneUnrefused (hart_lane i records h old (Some cursor) later))
+      by (inl a) = inl (
+        ap (λ (ps : List ℕ). lane_step i (lane ps cursor.cursor)) none
+            ∙ ap (λ (l : Replayed). lane_step i (lane [] (record { number = cursor.cursor.number; mark = cursor.cursor.mark; state = cursor.cursor.state; left = l; faulted = cursor.cursor.faulted }))) a.0,
+        ap (lane new) a.1 ∙ same_points cursor.cursor,
+      )
+      by (inr b) = inr (b.0, bare_same b.1, on b.2)
+        where
+          bare_same : bare_cursor after.cursor ≡ bare_cursor cursor.cursor → bare (lane new after.cursor) ≡ bare (lane old cursor.cursor)
+          bare_same f = ap bare (same_points after.cursor) ∙ ap (λ (c : Cursor). bare_with c) f
+            where
+              bare_with : Cursor → Lane
+              bare_with c = record { points = old; cursors = c ∷ map bare_cursor cs }
+
+  pub refuses_in : (old new : List ℕ) (o : Option Running) (cursor after : Running) (e : ReplayError) → o ≡ Some cursor → old ≡ [] → new ≡ [] → CursorSteps cursor (Err e) after
+      → LaneSteps (hart_lane i records h old o later) (Err e) (hart_lane i records h new (Some after) later)
+  refuses_in old new o cursor after e f none still s =
+      subst (λ (y : Option Running). LaneSteps (hart_lane i records h old y later) (Err e) (hart_lane i records h new (Some after) later)) (sym f) (refuses old new cursor after e none still s)
 
 pub no_keys : (ks : List ℕ) → (0 < length ks → false ≡ true) → ks ≡ []
 no_keys [] none = refl

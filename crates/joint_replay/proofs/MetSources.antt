@@ -13,9 +13,9 @@ use Rattle.joint_replay.specs.Harts.{HartLane}
 use Rattle.joint_replay.specs.Calls.{bare}
 use Rattle.joint_replay.specs.Laws.{StartsAreSound}
 use Rattle.joint_replay.specs.Sound.{IsSound}
-use Rattle.joint_replay.specs.Sources.{edges_into, AscendFrom, sources_at}
+use Rattle.joint_replay.specs.Sources.{edges_into, AscendFrom}
 use Rattle.joint_replay.specs.Together.{lanes_of, joining, ArePassed, AreMet, IsTogether}
-use Rattle.joint_replay.proofs.Ascents.{same_sources, drop_ascends}
+use Rattle.joint_replay.proofs.Ascents.{sources_at, same_sources, drop_ascends}
 use Rattle.joint_replay.proofs.Choosing.{lanes_length}
 use Rattle.joint_replay.proofs.JointMoves.{own_at}
 use Rattle.joint_replay.proofs.LaneSteps.{steps_pass}

@@ -1,5 +1,5 @@
 -- The rows of a replay are those to come from its start.
-use Rattle.std.proofs.Common.{◌≡◌, ℕ, zero, suc, ◌+◌, ◌-◌, Bool, true, false, not, ◌&&◌, ◌||◌, ◌==◌, nat_lt, refl, sym, ◌∙◌, subst, List, [], ◌∷◌, take}
+use Rattle.std.proofs.Common.{◌≡◌, ℕ, zero, suc, ◌+◌, ◌-◌, ◌^◌, ◌<◌, Some, Bool, true, false, not, ◌&&◌, ◌||◌, ◌==◌, nat_lt, refl, sym, ◌∙◌, subst, List, [], ◌∷◌, take}
 use Rattle.bn_base.specs.Faults.{fault_number}
 use Rattle.bn_base.specs.Programs.{Program}
 use Rattle.bn_base.specs.declared.row.Row.{Row}
@@ -10,10 +10,10 @@ use Rattle.rv_meaning.specs.declared.asks.Want.TheVariants.{Load, Store, LoadRes
 use Rattle.rv_meaning.specs.Rows.{fault_row}
 use Rattle.log_record.specs.declared.record.Record.{Record}
 use Rattle.hart_replay.specs.declared.error.ReplayError.TheVariants.{EndDiffers}
-use Rattle.hart_replay.specs.Replay.{Refused, Replayed, Interval, Position, Next, On, Stop, one_step, ended, fault_end, finish, left_over, found, onto, steps, first, replayed_in}
+use Rattle.hart_replay.specs.Replay.{Refused, Replayed, Interval, Position, Next, On, Stop, one_step, ended, fault_end, finish, left_over, found, onto, steps, first, interval_of, replayed, replayed_in}
 use Rattle.hart_replay.specs.Coming.{with_rows, without_rows, to_come}
 use Rattle.joint_replay.specs.Counts.{RowsFrom}
-use Rattle.joint_replay.specs.Laws.{RowsGoOn, ReplaysGoOn}
+use Rattle.joint_replay.specs.Laws.{RowsGoOn}
 use Rattle.joint_replay.proofs.Follows.{Follows, follows}
 
 abbrev behind : List Row → Replayed → Replayed
@@ -69,6 +69,11 @@ module _ (i : Program) (h : ℕ) (v : Interval) where
 
   pub replay_rows : ((s t : HartState) → step i s ≡ Quiet t → t.ic ≡ count_up s.ic) → ((s : HartState) → step i s ≡ Asks Cut → ⊥) → (n : ℕ) → steps i h v n (first v) ≡ to_come i h v n (first v)
   replay_rows counted uncut n = steps_behind counted uncut n (first v)
+
+-- the rows of each interval's replay have the hart's counts, from its Header's state on
+abbrev pub ReplaysGoOn : Program → List Record → Type 0
+ReplaysGoOn i records = (h n : ℕ) (v : Interval) → interval_of h n records ≡ Some v → v.mark.ic < 2 ^ 64
+    → RowsFrom i v.mark.ic (replayed i records h n).outcome v.start (replayed i records h n).rows
 
 pub replays_go_on : ((i : Program) (s t : HartState) → step i s ≡ Quiet t → t.ic ≡ count_up s.ic) → ((i : Program) (s : HartState) → step i s ≡ Asks Cut → ⊥) → RowsGoOn → (i : Program) (records : List Record) → ReplaysGoOn i records
 replays_go_on counted uncut rows i records h n v e fits =

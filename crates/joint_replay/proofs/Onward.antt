@@ -89,6 +89,13 @@ by_choice ts j go n = elim n [ AllDone ↦ ran (walk_of ts j) None | NoneReady �
 abbrev by_refusal : List Taken → Joining → (Walk → Ran) → Option ReplayError → Ran
 by_refusal ts j go o = elim o [ Some e ↦ ran (walk_of ts j) (Some (error_of e)) | None ↦ by_choice ts j go (choice j) ]
 
+-- a run of one step, by the step of the lowest ready hart
+abbrev pub step_made : Joining → ℕ → Option (Result (Item × Joining) ReplayError) → Ran
+step_made j h o = by_step [] j (λ w. run_for 0 w) h o
+
+pub first_step : (j : Joining) (h : ℕ) → j.refused ≡ None → choice j ≡ Hart h → one_step j ≡ step_made j h (next_step j h)
+first_step j h none lowest = ap (by_refusal [] j (λ w. run_for 0 w)) none ∙ ap (by_choice [] j (λ w. run_for 0 w)) lowest
+
 -- a step is taken, and the run goes on
 abbrev Goes : Joining → Taken → Joining → Type 0
 Goes j t next = (ts : List Taken) (go : Walk → Ran) → run_on (walk_of ts j) go ≡ go (walk_of (t ∷ ts) next)

@@ -1,5 +1,5 @@
 -- A step of a joint replay, as its code takes it.
-use Rattle.std.proofs.Common.{◌≡◌, ℕ, ◌<◌, ◌⊎◌, inl, inr, refl, sym, ap, ◌∙◌, subst, arith, List, length, slice_get, slice_set, slice_index_or, Option, Some, None, Ok, Err}
+use Rattle.std.proofs.Common.{◌≡◌, ℕ, ◌<◌, ◌⊎◌, inl, inr, true, is_some, refl, sym, ap, ◌∙◌, subst, arith, List, length, slice_get, slice_set, slice_index_or, Option, Some, None, Ok, Err}
 use Rattle.std.specs.Option.{option_map}
 use Rattle.bn_base.specs.Programs.{Program}
 use Rattle.bn_base.specs.declared.end_mark.EndMark.{EndMark}
@@ -13,17 +13,17 @@ use Rattle.joint_replay.specs.declared.kinds.Readiness.TheVariants as is
 use Rattle.joint_replay.specs.declared.lane.Did.{Did}
 use Rattle.joint_replay.specs.declared.lane.Moved.{Moved}
 use Rattle.joint_replay.specs.declared.lane.Moved.TheVariants as to
-use Rattle.joint_replay.specs.Lanes.{Lane, Item, Passing, Doing, Ending, lane_step}
+use Rattle.joint_replay.specs.Lanes.{Lane, Item, Passing, Doing, Ending, coming_of, lane_step}
 use Rattle.joint_replay.specs.Memory.{Bytes, filled, forget, put_access, memory_after}
 use Rattle.joint_replay.specs.Words.{bytes_at}
 use Rattle.joint_replay.specs.Joining.{Joining, readiness, error_of}
 use Rattle.joint_replay.specs.Harts.{HartLane}
 use Rattle.joint_replay.specs.Calls.{stepped_of, bare, Steps}
-use Rattle.joint_replay.specs.Moves.{LaneSteps, did, moved}
+use Rattle.joint_replay.specs.Moves.{LaneUnrefused, LaneSteps, did, moved}
 use Rattle.joint_replay.specs.Sound.{IsSound}
 use Rattle.joint_replay.specs.Together.{lanes_of, joining, AreMet, IsTogether}
 use Rattle.joint_replay.proofs.Choosing.{lanes_length}
-use Rattle.joint_replay.proofs.JointMoves.{step_is, after_step, together_after, together_refused, passed_after, same_range, length_set, bare_set, lane_kept}
+use Rattle.joint_replay.proofs.JointMoves.{has_step, step_is, unrefused, after_step, together_after, together_refused, passed_after, same_range, length_set, bare_set, lane_kept}
 use Rattle.joint_replay.proofs.MetSources.{still_met, bare_stays}
 use Rattle.joint_replay.proofs.Soundness.{got_at}
 
@@ -86,6 +86,9 @@ module _ (i : Program) (log : Content) (count : ℕ) (hs : List HartLane) (memor
   ready_then : readiness (joining i log.records hs memory None) h ≡ is.Ready
   ready_then = ap (λ (j : Joining). readiness j h) old_is ∙ ready
 
+  pub has_step_then : is_some (coming_of l.lane) ≡ true
+  has_step_then = has_step i log count hs memory h l at together ready_then
+
   pub moves_on : (new : HartLane) (m : Moved) (words : List (ℕ × ℕ)) → LaneSteps l (Ok m) new → ((item : Item) → m ≡ moved item → words ≡ memory_after item memory)
       → IsTogether i log count (slice_set hs h new) words refused
   moves_on new m words s w = subst (IsTogether i log count (slice_set hs h new) words) (sym none_yet) (together_after i log count hs memory h l at together ready_then new s.0 words s.1 (w s.0 s.2) s.3)
@@ -100,7 +103,7 @@ module _ (i : Program) (log : Content) (count : ℕ) (hs : List HartLane) (memor
   bare_same : (new : HartLane) (e : ReplayError) → LaneSteps l (Err e) new → bare new.lane ≡ bare l.lane
   bare_same new e s = by s.1
     where
-      by : ((lane_step l.program l.lane ≡ Some (Err e)) × (new.lane ≡ l.lane)) ⊎ ((e ≡ replay.OutOfMemory) × (bare new.lane ≡ bare l.lane)) → bare new.lane ≡ bare l.lane
+      by : ((lane_step l.program l.lane ≡ Some (Err e)) × (new.lane ≡ l.lane)) ⊎ ((e ≡ replay.OutOfMemory) × (bare new.lane ≡ bare l.lane) × LaneUnrefused l) → bare new.lane ≡ bare l.lane
       by (inl a) = ap bare a.1
       by (inr a) = a.1
 
@@ -122,7 +125,7 @@ module _ (i : Program) (log : Content) (count : ℕ) (hs : List HartLane) (memor
       subst (λ (ms : List (ℕ × ℕ)). Steps now h (Err error) (joining i log.records (slice_set hs h new) ms (Some e))) (sym same)
       (subst (λ (j : Joining). Steps j h (Err error) (joining i log.records (slice_set hs h new) memory (Some e))) old_is (by s.1))
     where
-      by : ((lane_step l.program l.lane ≡ Some (Err e)) × (new.lane ≡ l.lane)) ⊎ ((e ≡ replay.OutOfMemory) × (bare new.lane ≡ bare l.lane))
+      by : ((lane_step l.program l.lane ≡ Some (Err e)) × (new.lane ≡ l.lane)) ⊎ ((e ≡ replay.OutOfMemory) × (bare new.lane ≡ bare l.lane) × LaneUnrefused l)
           → Steps (joining i log.records hs memory None) h (Err error) (joining i log.records (slice_set hs h new) memory (Some e))
       by (inl a) = inl (record {
         refusal = e;
@@ -143,4 +146,5 @@ module _ (i : Program) (log : Content) (count : ℕ) (hs : List HartLane) (memor
           memory = refl;
           refused = ap (λ (x : ReplayError). Some x) a.0;
         },
+        unrefused i log count hs memory h l at together ready_then a.2,
       )

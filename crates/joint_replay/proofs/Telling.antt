@@ -2,19 +2,22 @@
 use Rattle.std.proofs.Common.{◌≡◌, ℕ, zero, suc, ◌+◌, ◌<◌, ◌⊎◌, inl, inr, Bool, true, false, refl, sym, ap, ◌∙◌, subst, arith, List, [], ◌∷◌, ◌++◌, append_assoc, length, slice_get, Option, Some, None, Result, Ok, Err}
 use Rattle.std.proofs.lemmas.List.{append-nil}
 use Rattle.log_record.specs.declared.record.Record.{Record}
+use Rattle.hart_replay.specs.declared.error.ReplayError.{ReplayError}
+use Rattle.hart_replay.specs.declared.error.ReplayError.TheVariants as replay
 use Rattle.joint_replay.specs.declared.error.JointError.{JointError}
+use Rattle.joint_replay.specs.declared.error.JointError.TheVariants.{Stuck}
 use Rattle.joint_replay.specs.declared.error.JointError.TheVariants as why
 use Rattle.joint_replay.specs.declared.kinds.Readiness.{Readiness}
 use Rattle.joint_replay.specs.declared.kinds.Readiness.TheVariants as is
 use Rattle.joint_replay.specs.declared.kinds.Next.{Next}
-use Rattle.joint_replay.specs.declared.kinds.Next.TheVariants.{Hart}
+use Rattle.joint_replay.specs.declared.kinds.Next.TheVariants.{Hart, NoneReady}
 use Rattle.joint_replay.specs.declared.kinds.Stepped.{Stepped}
 use Rattle.joint_replay.specs.Lanes.{Lane, Item, Passing, Doing, Ending}
-use Rattle.joint_replay.specs.Joining.{Joining, Taken, Walk, Ran, begun, ran, choice, choice_from, readiness, readiness_of, run_for, run_all}
-use Rattle.joint_replay.specs.Calls.{stepped_of, IsHalted, IsRefused, Steps}
+use Rattle.joint_replay.specs.Joining.{Joining, Taken, Walk, Ran, begun, ran, choice, choice_from, readiness, readiness_of, positions_from, error_of, next_step, run_for, run_all}
+use Rattle.joint_replay.specs.Calls.{stepped_of, IsHalted, IsRefused, StepUnrefused, Steps}
 use Rattle.joint_replay.specs.Texts.{item_text, stepped_text, steps_text}
-use Rattle.joint_replay.specs.Runs.{one_step, IsStep, Advanced, IsStarved, Advances, Runs, IsFirst, RunsGoOn, RunsEnd}
-use Rattle.joint_replay.proofs.Onward.{walk_of, taken_by, step_fewer, step_taken, step_refused, longer_run}
+use Rattle.joint_replay.specs.Runs.{one_step, IsStep, Advanced, IsStarved, RunUnrefused, Advances, Runs, IsFirst, RunsGoOn, RunsEnd}
+use Rattle.joint_replay.proofs.Onward.{walk_of, taken_by, step_made, first_step, none_ready, step_fewer, step_taken, step_refused, longer_run}
 
 -- ---- the lowest ready hart
 
@@ -75,12 +78,54 @@ told_step old new h stepped out_old out_new none lowest s text = record {
 pub untold_step : (old mid new : Joining) (h : ℕ) (stepped : Stepped) → old.refused ≡ None → choice old ≡ Hart h → Steps old h (Ok stepped) mid → IsHalted mid new → IsStarved old new
 untold_step old mid new h stepped none lowest s halted = inr (taken_by h s.0, mid, step_taken old h (s.0, mid) none lowest s.1, halted)
 
+-- ---- no refusal comes first
+
+-- want of memory is told of nothing else
+only_memory : (r : ReplayError) → why.OutOfMemory ≡ error_of r → r ≡ replay.OutOfMemory
+only_memory (replay.NoInterval h c) e = absurd cc
+only_memory (replay.LoadMissing h ic a) e = absurd cc
+only_memory (replay.ScMissing h ic) e = absurd cc
+only_memory (replay.RecordsLeft h n) e = absurd cc
+only_memory (replay.EndDiffers h said found) e = absurd cc
+only_memory replay.OutOfMemory e = refl
+
+same_error : (a b : JointError) → ◌≡◌ {A = Option JointError} (Some a) (Some b) → a ≡ b
+same_error a b e = cc
+
+no_error : {X : Type 0} (e : JointError) → ◌≡◌ {A = Option JointError} None (Some e) → X
+no_error e f = absurd cc
+
+-- a run whose first step isn't refused
+pub begins_unrefused : (j : Joining) (h : ℕ) → j.refused ≡ None → choice j ≡ Hart h → StepUnrefused j h → RunUnrefused j
+begins_unrefused j h none lowest on r e = by (next_step j h) refl (sym (ap (λ (x : Ran). x.stopped) (first_step j h none lowest)) ∙ e)
+  where
+    by : (o : Option (Result (Item × Joining) ReplayError)) → next_step j h ≡ o → (step_made j h o).stopped ≡ Some (error_of r) → r ≡ replay.OutOfMemory
+    by None f g = no_error (error_of r) g
+    by (Some (Ok x)) f g = no_error (error_of r) g
+    by (Some (Err a)) f g = only_memory r (sym (ap error_of (on a f)) ∙ same_error (error_of a) (error_of r) g)
+
+-- a run that is stuck at once isn't refused
+pub stuck_unrefused : (j : Joining) → j.refused ≡ None → choice j ≡ NoneReady → RunUnrefused j
+stuck_unrefused j none stuck r e = by r (same_error (Stuck (positions_from 0 j.lanes)) (error_of r) (sym (ap (λ (x : Ran). x.stopped) (none_ready j none stuck [] (λ w. run_for 0 w))) ∙ e))
+  where
+    by : (r : ReplayError) → Stuck (positions_from 0 j.lanes) ≡ error_of r → r ≡ replay.OutOfMemory
+    by (replay.NoInterval h c) f = absurd cc
+    by (replay.LoadMissing h ic a) f = absurd cc
+    by (replay.ScMissing h ic) f = absurd cc
+    by (replay.RecordsLeft h n) f = absurd cc
+    by (replay.EndDiffers h said found) f = absurd cc
+    by replay.OutOfMemory f = refl
+
+-- nor is one that takes a step
+pub step_unrefused : (j next : Joining) (t : Taken) → IsStep j t next → RunUnrefused j
+step_unrefused j next t s r e = no_error (error_of r) (sym (ap (λ (x : Ran). x.stopped) s) ∙ e)
+
 pub no_step : (old new : Joining) (h : ℕ) (e : JointError) (out : List ℕ) → old.refused ≡ None → choice old ≡ Hart h → Steps old h (Err e) new → Advances old (Err e) new out out
 no_step old new h e out none lowest (inl r) = (refl, inl (refused r))
   where
     refused : IsRefused old h e new → one_step old ≡ ran (begun new) (Some e)
     refused r = step_refused old h r.refusal none lowest r.there ∙ ap (λ (x : JointError). ran (begun (record old { refused = Some r.refusal })) (Some x)) (sym r.error_is) ∙ ap (λ (k : Joining). ran (begun k) (Some e)) (sym r.repeated)
-no_step old new h e out none lowest (inr m) = (refl, inr (m.0, none, inl m.2))
+no_step old new h e out none lowest (inr m) = (refl, inr (m.0, none, inl m.2, begins_unrefused old h none lowest m.3))
 
 -- ---- steps that are told, one after another
 
@@ -139,17 +184,21 @@ stands_stopped end old now new out_old out_now out_new e s a = by a.1
     text_is : out_new ≡ out_old ++ steps_text (run_for s.steps (begun old)).walk.taken
     text_is = a.0 ∙ s.told ∙ ap (λ (r : Ran). out_old ++ steps_text r.walk.taken) (sym s.so_far)
 
-    starved : e ≡ why.OutOfMemory → IsStarved now new → Runs old (Err e) new out_old out_new
-    starved is (inl h) = inr (ap (λ (x : JointError). failed x) is, record { steps = s.steps; told = s.steps; last = (omega arith, omega arith); halted = halted_here old now new s.walk s.steps s.so_far s.here h; text = text_is })
+    begins : RunUnrefused now → RunUnrefused (run_for s.steps (begun old)).walk.now
+    begins u = subst RunUnrefused (sym (ap (λ (r : Ran). r.walk.now) s.so_far ∙ s.here)) u
+
+    starved : e ≡ why.OutOfMemory → RunUnrefused now → IsStarved now new → Runs old (Err e) new out_old out_new
+    starved is u (inl h) = inr (ap (λ (x : JointError). failed x) is, record { steps = s.steps; told = s.steps; last = (omega arith, omega arith); unrefused = begins u; halted = halted_here old now new s.walk s.steps s.so_far s.here h; text = text_is })
       where
         failed : JointError → Result (Unit {0}) JointError
         failed x = Err x
-    starved is (inr m) = inr (
+    starved is u (inr m) = inr (
       ap (λ (x : JointError). failed x) is,
       record {
         steps = suc s.steps;
         told = s.steps;
         last = (omega arith, omega arith);
+        unrefused = begins u;
         halted = halted_here old m.1 new (walk_of (m.0 ∷ s.walk.taken) m.1) (suc s.steps) (longer_run s.steps [] old s.walk m.0 m.1 s.so_far (step_here s.walk now m.0 m.1 s.here m.2)) refl m.3;
         text = text_is;
       },
@@ -158,7 +207,7 @@ stands_stopped end old now new out_old out_now out_new e s a = by a.1
         failed : JointError → Result (Unit {0}) JointError
         failed x = Err x
 
-    by : (one_step now ≡ ran (begun new) (Some e)) ⊎ ((e ≡ why.OutOfMemory) × (now.refused ≡ None) × IsStarved now new) → Runs old (Err e) new out_old out_new
+    by : (one_step now ≡ ran (begun new) (Some e)) ⊎ ((e ≡ why.OutOfMemory) × (now.refused ≡ None) × IsStarved now new × RunUnrefused now) → Runs old (Err e) new out_old out_new
     by (inl f) =
         let ended : run_all now ≡ ran (begun new) (Some e) = end now new (Some e) f in
         inl (record {
@@ -166,4 +215,4 @@ stands_stopped end old now new out_old out_now out_new e s a = by a.1
           now = s.last ∙ ap (λ (r : Ran). r.walk.now) ended;
           text = a.0 ∙ sym (ended_text old now new out_old out_now (Some e) s ended);
         })
-    by (inr m) = starved m.0 m.2
+    by (inr m) = starved m.0 m.3 m.2

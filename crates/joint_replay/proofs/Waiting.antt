@@ -5,8 +5,8 @@ use Rattle.joint_replay.specs.declared.kinds.Readiness.TheVariants as is
 use Rattle.joint_replay.specs.declared.incoming_edges.IncomingEdge.{IncomingEdge}
 use Rattle.joint_replay.specs.Lanes.{Lane}
 use Rattle.joint_replay.specs.Joining.{is_passed, first_waited, waits_for}
-use Rattle.joint_replay.specs.Sources.{AscendFrom, sources_at}
-use Rattle.joint_replay.proofs.Ascents.{none_higher}
+use Rattle.joint_replay.specs.Sources.{AscendFrom}
+use Rattle.joint_replay.proofs.Ascents.{sources_at, none_higher}
 
 -- the first source that isn't passed is among those of the Edges that are left, if there is one
 pub record IsLeft (lanes : List Lane) (ic : ℕ) (all : List (ℕ × ℕ)) (rest : List IncomingEdge) : Type 0 where

@@ -58,7 +58,12 @@ pub record IsRefused (old : Joining) (h : ℕ) (e : JointError) (new : Joining) 
   pub error_is : e ≡ error_of refusal
   pub repeated : new ≡ record old { refused = Some refusal }
 
--- a step does the hart's next item, or is refused as that is; or it finds no memory, but not after a refusal
+-- the hart's next step isn't refused, unless it is out of memory
+abbrev pub StepUnrefused : Joining → ℕ → Type 0
+StepUnrefused j h = (r : ReplayError) → next_step j h ≡ Some (Err r) → r ≡ replay.OutOfMemory
+
+-- a step does the hart's next item, or is refused as that is. Or memory runs out: not after a refusal, and not in place of one
 abbrev pub Steps : Joining → ℕ → Result Stepped JointError → Joining → Type 0
 Steps old h (Ok stepped) new = (item : Item) × (next_step old h ≡ Some (Ok (item, new))) × (stepped ≡ stepped_of h item)
-Steps old h (Err e) new = IsRefused old h e new ⊎ ((e ≡ why.OutOfMemory) × (old.refused ≡ None) × IsHalted old new)
+Steps old h (Err e) new =
+    IsRefused old h e new ⊎ ((e ≡ why.OutOfMemory) × (old.refused ≡ None) × IsHalted old new × StepUnrefused old h)

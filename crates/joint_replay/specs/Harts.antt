@@ -1,9 +1,12 @@
 -- A hart of a joint replay, as its parts make it.
 use Rattle.std.specs.Prelude.{◌≡◌, ◌<◌, ℕ, Bool, true, false, List, [], ◌∷◌, Option, Some, None, IfSome}
 use Rattle.bn_base.specs.Programs.{Program}
+use Rattle.bn_base.specs.declared.state.HartState.{HartState}
 use Rattle.log_record.specs.declared.record.Record.{Record}
 use Rattle.log_order.specs.Content.{Content}
-use Rattle.hart_replay.specs.Coming.{Replaying}
+use Rattle.hart_replay.specs.declared.error.ReplayError.TheVariants.{OutOfMemory}
+use Rattle.hart_replay.specs.Replay.{Replayed, Refused}
+use Rattle.hart_replay.specs.Coming.{Replaying, over}
 use Rattle.joint_replay.specs.declared.intervals.Retained.{Retained}
 use Rattle.joint_replay.specs.declared.kinds.Coming.{Coming}
 use Rattle.joint_replay.specs.declared.kinds.Coming.TheVariants.{RowAt, EndAt}
@@ -17,6 +20,23 @@ pub record Running : Type 0 where
 
 abbrev pub running : ℕ → Replaying → Bool → Running
 running number r faulted = record { program = r.program; cursor = record { number = number; mark = r.mark; state = r.state; left = r.left; faulted = faulted } }
+
+-- the state that an interval shows: if memory ran out for a row, the one before the row
+abbrev pub shown : Option HartState → HartState → HartState
+shown None state = state
+shown (Some before) state = before
+
+-- what it has left: if memory ran out, that alone
+abbrev pub left_then : Option HartState → Replayed → Replayed
+left_then None left = left
+left_then (Some before) left = over (Refused OutOfMemory)
+
+-- an interval, by the state at which memory ran out for it, if it did
+abbrev pub halted : Option HartState → Running → Running
+halted before r = record {
+  program = r.program;
+  cursor = record r.cursor { state = shown before r.cursor.state; left = left_then before r.cursor.left };
+}
 
 -- what comes next of an interval, and at which point that is
 abbrev pub cursor_coming : Cursor → Coming

@@ -7,7 +7,7 @@ use Rattle.log_order.specs.declared.view.OrderLimits.{OrderLimits}
 use Rattle.log_order.specs.declared.view.HartView.{HartView}
 use Rattle.log_order.specs.Rules.{is_unfinished}
 use Rattle.log_order.specs.Order.{after_all, broken_by}
-use Rattle.hart_replay.specs.Replay.{Interval, Position, interval_of, replayed}
+use Rattle.hart_replay.specs.Replay.{Interval, Position}
 use Rattle.hart_replay.specs.Coming.{to_come}
 use Rattle.joint_replay.specs.declared.kinds.Next.TheVariants.{NoneReady}
 use Rattle.joint_replay.specs.Points.{is_below, points_below}
@@ -27,11 +27,6 @@ use Rattle.joint_replay.specs.Sources.{edges_into, AscendFrom}
 -- the rows to come of a replay have the hart's counts, one after another, up to the End's
 abbrev pub RowsGoOn : Type 0
 RowsGoOn = (i : Program) (h : ℕ) (v : Interval) (p : Position) → v.mark.ic < 2 ^ 64 → let x = to_come i h v (v.mark.ic - p.state.ic) p in RowsFrom i v.mark.ic x.outcome p.state x.rows
-
--- so do the rows of each interval's replay, from its Header's state on
-abbrev pub ReplaysGoOn : Program → List Record → Type 0
-ReplaysGoOn i records = (h n : ℕ) (v : Interval) → interval_of h n records ≡ Some v → v.mark.ic < 2 ^ 64
-    → RowsFrom i v.mark.ic (replayed i records h n).outcome v.start (replayed i records h n).rows
 
 -- a step of a hart passes the instruction at its own point alone
 abbrev pub StepsPass : Type 0

@@ -1,8 +1,10 @@
 -- Runs of a joint replay, step by step, with their text.
 use Rattle.std.specs.Prelude.{◌≡◌, ◌⊎◌, ◌≤◌, ◌<◌, ◌+◌, ℕ, Bool, true, false, ◌++◌, List, [], ◌∷◌, Option, Some, None, Result, Ok, Err}
+use Rattle.hart_replay.specs.declared.error.ReplayError.{ReplayError}
+use Rattle.hart_replay.specs.declared.error.ReplayError.TheVariants as replay
 use Rattle.joint_replay.specs.declared.error.JointError.{JointError}
 use Rattle.joint_replay.specs.declared.error.JointError.TheVariants as why
-use Rattle.joint_replay.specs.Joining.{Joining, Taken, Ran, begun, ran, positions_from, steps_left, run_for, run_all}
+use Rattle.joint_replay.specs.Joining.{Joining, Taken, Ran, begun, ran, positions_from, steps_left, error_of, run_for, run_all}
 use Rattle.joint_replay.specs.Calls.{IsHalted}
 use Rattle.joint_replay.specs.Texts.{item_text, steps_text}
 
@@ -23,15 +25,21 @@ pub record Advanced (old new : Joining) (out_old out_new : List ℕ) : Type 0 wh
   pub fewer : steps_left new.lanes < steps_left old.lanes
   pub text : out_new ≡ out_old ++ item_text taken.hart taken.item
 
+-- the first step of a run isn't refused, unless it is out of memory
+abbrev pub RunUnrefused : Joining → Type 0
+RunUnrefused j = (r : ReplayError) → (one_step j).stopped ≡ Some (error_of r) → r ≡ replay.OutOfMemory
+
 -- memory ran out for the step, or for its line once it was done
 abbrev pub IsStarved : Joining → Joining → Type 0
 IsStarved old new = IsHalted old new ⊎ ((t : Taken) × (next : Joining) × IsStep old t next × IsHalted next new)
 
--- a step is done and told, or none is left, or the run stops there; or memory ran out
+-- a step is done and told, or none is left, or the run stops there; or memory ran out, not in place of a refusal
 abbrev pub Advances : Joining → Result Bool JointError → Joining → List ℕ → List ℕ → Type 0
 Advances old (Ok true) new out_old out_new = Advanced old new out_old out_new
 Advances old (Ok false) new out_old out_new = (one_step old ≡ ran (begun new) None) × (out_new ≡ out_old)
-Advances old (Err e) new out_old out_new = (out_new ≡ out_old) × ((one_step old ≡ ran (begun new) (Some e)) ⊎ ((e ≡ why.OutOfMemory) × (old.refused ≡ None) × IsStarved old new))
+Advances old (Err e) new out_old out_new = (out_new ≡ out_old)
+    × ((one_step old ≡ ran (begun new) (Some e))
+    ⊎ ((e ≡ why.OutOfMemory) × (old.refused ≡ None) × IsStarved old new × RunUnrefused old))
 
 -- the harts that aren't done with their next counts, or there is no memory for that
 abbrev pub IsStuck : Joining → JointError → Joining → Type 0
@@ -49,11 +57,12 @@ pub record RanToEnd (old : Joining) (result : Result (Unit {0}) JointError) (new
   pub now : (run_all old).walk.now ≡ new
   pub text : out_new ≡ out_old ++ steps_text (run_all old).walk.taken
 
--- or it finds no memory after some of them, of which the last may be untold
+-- or memory runs out after some of them, of which the last may be untold; the first untold step wasn't to be refused
 pub record FoundNoMemory (old new : Joining) (out_old out_new : List ℕ) : Type 0 where
   pub steps : ℕ
   pub told : ℕ
   pub last : (told ≤ steps) × (steps ≤ told + 1)
+  pub unrefused : RunUnrefused (run_for told (begun old)).walk.now
   pub halted : IsHalted (run_for steps (begun old)).walk.now new
   pub text : out_new ≡ out_old ++ steps_text (run_for told (begun old)).walk.taken
 

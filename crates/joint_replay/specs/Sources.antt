@@ -28,11 +28,6 @@ abbrev pub AscendFrom : ℕ → List IncomingEdge → Type 0
 AscendFrom low [] = Unit {0}
 AscendFrom low (s ∷ ss) = (low ≤ s.target + 1) × AscendFrom (s.target + 1) ss
 
--- the sources of those into one instruction
-abbrev pub sources_at : ℕ → List IncomingEdge → List (ℕ × ℕ)
-sources_at ic [] = []
-sources_at ic (s ∷ ss) = elim (s.target == ic) [ true ↦ (s.hart, s.ic) ∷ sources_at ic ss | false ↦ sources_at ic ss ]
-
 -- a hart of a log
 pub record HartOf : Type 0 where
   pub log : Content

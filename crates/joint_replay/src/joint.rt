@@ -104,10 +104,12 @@ impl<'a> Joint<'a> {
         ensures { Steps self.old hart result self.new }
     {
         self.keeps_passed();
-        // Room for the row's words is made before the hart steps: out of memory here leaves the hart where it was.
+        // Room for the row's words is made before the hart steps: out of memory here leaves the hart where it was, and a
+        // refusal of the step is told first.
         if self.memory.make_room().is_err() {
-            self.refused = Some(ReplayError::OutOfMemory);
-            return Err(JointError::OutOfMemory);
+            let refusal = self.lanes[hart as usize].starve();
+            self.refused = Some(refusal);
+            return Err(error_of(refusal));
         }
         match self.lanes[hart as usize].step() {
             Err(refusal) => {

@@ -1,5 +1,5 @@
 //! What a hart has to do in a joint replay.
-ghost use Rattle.std.specs.Prelude.{◌≡◌, ◌<◌, true, is_some, Some, None, IfOk, MatchOption};
+ghost use Rattle.std.specs.Prelude.{◌≡◌, ◌<◌, true, is_some, Some, None, Err, IfOk, MatchOption};
 ghost use Rattle.joint_replay.specs.Lanes.{has_row, lane_of, coming_of, point_of, state_of};
 ghost use Rattle.joint_replay.specs.Intervals.{AreThere};
 ghost use Rattle.joint_replay.specs.Moves.{CursorSteps, LaneSteps};
@@ -20,12 +20,13 @@ use std::collections::BTreeSet;
 use std::marker::Model;
 
 /// The retained interval that is under way: its number, its replay, and whether the row of its
-/// fault was given.
+/// fault was given; if memory ran out for a row, the state before it.
 #[derive(Drop)]
 pub(crate) struct HartCursor<'a> {
     number: u64,
     replayer: Replayer<'a>,
     faulted: bool,
+    halted_at: Option<HartState>,
 }
 
 /// A row, and the bytes that its call filled: the address of the first, and how many they are.
@@ -44,20 +45,31 @@ pub(crate) enum Moved {
 }
 
 impl<'a> Model for HartCursor<'a> {
-    ghost use Rattle.joint_replay.specs.Harts.{Running, running};
+    ghost use Rattle.joint_replay.specs.Harts.{Running, running, halted};
 
     ghost Value = { Running };
 
-    ghost view = { λ c. running c.number c.replayer c.faulted };
+    ghost view = { λ c. halted c.halted_at (running c.number c.replayer c.faulted) };
 }
 
 impl<'a> HartCursor<'a> {
+    /// The hart's state.
+    #[inline(always)]
+    fn state(&self) -> &HartState
+        ensures { result.now ≡ self.now.cursor.state }
+    {
+        match &self.halted_at {
+            None => self.replayer.state(),
+            Some(before) => before,
+        }
+    }
+
     /// Whether a row comes: of an instruction, or of the fault that the End tells of.
     fn has_row(&self) -> bool
         ensures { result ≡ has_row self.now.cursor }
     {
         let mark = self.replayer.mark();
-        self.replayer.state().ic < mark.ic || mark.reason > FAULT && !self.faulted
+        self.state().ic < mark.ic || mark.reason > FAULT && !self.faulted
     }
 
     /// What comes next of the interval.
@@ -66,7 +78,7 @@ impl<'a> HartCursor<'a> {
     {
         if self.has_row() {
             Coming::RowAt {
-                ic: self.replayer.state().ic,
+                ic: self.state().ic,
             }
         } else {
             Coming::EndAt {
@@ -79,7 +91,7 @@ impl<'a> HartCursor<'a> {
     fn point(&self) -> Option<Ic>
         ensures { result ≡ cursor_point self.now.cursor }
     {
-        let ic = self.replayer.state().ic;
+        let ic = self.state().ic;
         if ic < self.replayer.mark().ic {
             Some(ic)
         } else {
@@ -94,6 +106,9 @@ impl<'a> HartCursor<'a> {
     fn step(&mut self) -> Result<Option<Did>, ReplayError>
         ensures { CursorSteps self.old result self.new }
     {
+        if self.halted_at.is_some() {
+            return Err(ReplayError::OutOfMemory);
+        }
         let asked = Asked::by(self.replayer.state());
         match self.replayer.step() {
             Ok(next) => match next {
@@ -110,6 +125,26 @@ impl<'a> HartCursor<'a> {
         }
     }
 
+    /// Why the step isn't done if there is no memory for its row: its refusal, else out of memory.
+    // Only the replay itself can tell, so it takes the step, and the state before the row is kept.
+    #[cold]
+    #[inline(never)]
+    fn starve(&mut self) -> ReplayError
+        ensures { CursorSteps self.old (Err result) self.new }
+    {
+        if self.halted_at.is_some() {
+            return ReplayError::OutOfMemory;
+        }
+        let before = *self.replayer.state();
+        match self.replayer.step() {
+            Err(refusal) => refusal,
+            Ok(_) => {
+                self.halted_at = Some(before);
+                ReplayError::OutOfMemory
+            }
+        }
+    }
+
     // The same interval, at the same place of its replay.
     fn copy(&self) -> Result<HartCursor<'a>, AllocError>
         ensures { IfOk result (λ c. c ≡ self.now) }
@@ -120,6 +155,7 @@ impl<'a> HartCursor<'a> {
                 number: self.number,
                 replayer,
                 faulted: self.faulted,
+                halted_at: self.halted_at,
             }),
         }
     }
@@ -219,7 +255,7 @@ impl<'a> Lane<'a> {
         match self.points.first() {
             Some(_) => None,
             None => match &self.cursor {
-                Some(cursor) => Some(cursor.replayer.state()),
+                Some(cursor) => Some(cursor.state()),
                 None => None,
             },
         }
@@ -255,6 +291,21 @@ impl<'a> Lane<'a> {
                         }
                     },
                 },
+            },
+        }
+    }
+
+    /// Why the hart's next step isn't done if there is no memory for it: its refusal, else out of memory.
+    #[cold]
+    #[inline(never)]
+    pub(crate) fn starve(&mut self) -> ReplayError
+        ensures { LaneSteps self.old (Err result) self.new }
+    {
+        match self.points.first() {
+            Some(_) => return ReplayError::OutOfMemory,
+            None => match &mut self.cursor {
+                None => return ReplayError::OutOfMemory,
+                Some(cursor) => return cursor.starve(),
             },
         }
     }
@@ -331,6 +382,7 @@ fn next_cursor<'a>(
                 number: next.number,
                 replayer,
                 faulted: false,
+                halted_at: None,
             }),
             Err(_) => unreachable!(),
         },
