@@ -10,7 +10,7 @@ use Rattle.joint_replay.specs.declared.kinds.Readiness.TheVariants as is
 use Rattle.joint_replay.specs.declared.kinds.Stepped.{Stepped}
 use Rattle.joint_replay.specs.Lanes.{Item, Passing, Doing, Ending}
 use Rattle.joint_replay.specs.Joining.{Joining, Walk, readiness, next_step}
-use Rattle.joint_replay.specs.Calls.{bare, stepped_of, Steps}
+use Rattle.joint_replay.specs.Calls.{bare, stepped_of, StepUnrefused, Steps}
 use Rattle.joint_replay.specs.Orders.{ready_step}
 use Rattle.back_step.specs.declared.entry.Entry.{Entry}
 use Rattle.back_step.specs.Traces.{entry_of, entry_told, harts_of, state_after, Trace, Trailed, with_entry, cut, IsGoneBack}
@@ -107,6 +107,15 @@ module _ (every : ℕ) (start : Joining) (entries : List Entry) (now : Joining) 
 abbrev step_in : Trace → ℕ → Option (Result (Item × Joining) ReplayError) → Option (Result (Item × Trace) ReplayError)
 step_in t h o = elim o [ None ↦ None | Some r ↦ Some (with_entry t h r) ]
 
+-- a refusal of the trace's step is one of the joint replay's
+refused_there : (t : Trace) (h : ℕ) (o : Option (Result (Item × Joining) ReplayError)) → next_step t.now h ≡ o → StepUnrefused t.now h → (r : ReplayError) → step_in t h o ≡ Some (Err r) → r ≡ replay.OutOfMemory
+refused_there t h None f on r e = absurd cc
+refused_there t h (Some (Ok x)) f on r e = absurd cc
+refused_there t h (Some (Err a)) f on r e = let same : a ≡ r = same_refusal a r e in sym same ∙ on a f
+  where
+    same_refusal : (a b : ReplayError) → ◌≡◌ {A = Option (Result (Item × Trace) ReplayError)} (Some (Err a)) (Some (Err b)) → a ≡ b
+    same_refusal a b g = cc
+
 module _ (every : ℕ) (start : Joining) (entries : List Entry) (now : Joining) (v : Trailed) (view : trailed every start entries now ≡ v) (h : ℕ) where
   pub starved : TrailSteps v h (Err why.OutOfMemory) (trailed every start entries now)
   starved = inr (refl, inl view)
@@ -119,7 +128,7 @@ module _ (every : ℕ) (start : Joining) (entries : List Entry) (now : Joining) 
 
       by : Steps now h (Err e) new → TrailSteps (trailed every start entries now) h (Err e) (trailed every start entries new)
       by (inl r) = inl (record { refusal = r.refusal; there = ap (step_in old h) r.there; error_is = r.error_is; repeated = ap (λ (j : Joining). trailed every start entries j) r.repeated })
-      by (inr x) = inr (x.0, inr (record { calm = x.1; halted = x.2; same = refl }))
+      by (inr x) = inr (x.0, inr (record { calm = x.1; unrefused = λ r e. refused_there old h (next_step now h) refl x.3 r e; halted = x.2; same = refl }))
 
   pub tells_step : (stepped : Stepped) (after : List Entry) (e : Entry) (new : Joining) → (s : Steps now h (Ok stepped) new) → e ≡ entry_told h stepped → after ≡ entries ++ e ∷ [] → TrailSteps v h (Ok stepped) (trailed every start after new)
   tells_step stepped after e new s told longer =

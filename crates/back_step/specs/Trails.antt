@@ -1,6 +1,7 @@
 -- What a trail keeps, and what its calls do.
 use Rattle.std.specs.Prelude.{◌≡◌, ◌⊎◌, ℕ, ◌+◌, ◌*◌, ◌/◌, ◌%◌, ◌<◌, Bool, true, false, List, [], ◌∷◌, ◌++◌, length, take, map, slice_get, Some, None, Result, Ok, Err}
 use Rattle.hart_replay.specs.declared.error.ReplayError.{ReplayError}
+use Rattle.hart_replay.specs.declared.error.ReplayError.TheVariants as replay
 use Rattle.joint_replay.specs.declared.error.JointError.{JointError}
 use Rattle.joint_replay.specs.declared.error.JointError.TheVariants as why
 use Rattle.joint_replay.specs.declared.kinds.Stepped.{Stepped}
@@ -74,16 +75,17 @@ pub record IsRefused (old : Trailed) (h : ℕ) (e : JointError) (new : Trailed) 
   pub error_is : e ≡ error_of refusal
   pub repeated : new ≡ record { every = old.every; trace = refusing old.trace refusal }
 
--- the joint replay finds no memory for it
-pub record IsStarved (old new : Trailed) : Type 0 where
+-- the joint replay finds no memory for it, and it wasn't to be refused
+pub record IsStarved (old : Trailed) (h : ℕ) (new : Trailed) : Type 0 where
   pub calm : old.trace.now.refused ≡ None
+  pub unrefused : (r : ReplayError) → trace_step old.trace h ≡ Some (Err r) → r ≡ replay.OutOfMemory
   pub halted : IsHalted old.trace.now new.trace.now
   pub same : new ≡ trailed old.every old.trace.start old.trace.entries new.trace.now
 
 -- a step does the hart's next item, and has its entry; or it is refused as that is; or memory runs out
 abbrev pub TrailSteps : Trailed → ℕ → Result Stepped JointError → Trailed → Type 0
 TrailSteps old h (Ok stepped) new = (item : Item) × (trace_step old.trace h ≡ Some (Ok (item, new.trace))) × (stepped ≡ stepped_of h item) × (new.every ≡ old.every)
-TrailSteps old h (Err e) new = IsRefused old h e new ⊎ ((e ≡ why.OutOfMemory) × ((new ≡ old) ⊎ IsStarved old new))
+TrailSteps old h (Err e) new = IsRefused old h e new ⊎ ((e ≡ why.OutOfMemory) × ((new ≡ old) ⊎ IsStarved old h new))
 
 -- a trail continued from another by some steps, or by none
 pub record GoesOnFrom (old new : Trailed) : Type 0 where
