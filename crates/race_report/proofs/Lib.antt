@@ -1,4 +1,5 @@
 mod Worked
+pub mod Touched
 pub mod Lists
 pub mod Rounds
 pub mod Ordered

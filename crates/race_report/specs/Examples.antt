@@ -10,14 +10,17 @@ use Rattle.race_report.specs.Races.{races_of, race_count}
 
 -- the registers of a hart before its first instruction: sp, a0 its number, a1 how many harts there are
 abbrev pub first_registers : (harts h : ℕ) → List ℕ
-first_registers harts h = 0 ∷ 0 ∷ (1048576 - 65536 * h) ∷ 0 ∷ 0 ∷ 0 ∷ 0 ∷ 0 ∷ 0 ∷ 0 ∷ h ∷ harts ∷ 0 ∷ 0 ∷ 0 ∷ 0 ∷ 0 ∷ 0 ∷ 0 ∷ 0 ∷ 0 ∷ 0 ∷ 0 ∷ 0 ∷ 0 ∷ 0 ∷ 0 ∷ 0 ∷ 0 ∷ 0 ∷ 0 ∷ 0 ∷ []
+first_registers harts h =
+    0 ∷ 0 ∷ (1048576 - 65536 * h) ∷ 0 ∷ 0 ∷ 0 ∷ 0 ∷ 0 ∷ 0 ∷ 0 ∷ h ∷ harts ∷ 0 ∷ 0 ∷ 0 ∷ 0
+    ∷ 0 ∷ 0 ∷ 0 ∷ 0 ∷ 0 ∷ 0 ∷ 0 ∷ 0 ∷ 0 ∷ 0 ∷ 0 ∷ 0 ∷ 0 ∷ 0 ∷ 0 ∷ 0 ∷ []
 
 abbrev pub first_header : (harts h : ℕ) → Record
 first_header harts h = Header h 0 0 0x10054 (first_registers harts h)
 
 -- hart 0 stores a word, hart 1 loads it and stores the next, hart 2 loads the next and then the first
 abbrev pub relay : Joining
-relay = fresh (code 3 relay_words) 3 (first_header 3 0 ∷ first_header 3 1 ∷ first_header 3 2 ∷ Edge 1 3 0 4 ∷ FirstLoad 1 0 3 ∷ Edge 2 4 1 4 ∷ FirstLoad 2 0 3 ∷ FirstLoad 2 0 3 ∷ end 0 8 3 0 ∷ end 1 8 3 1 ∷ end 2 8 3 2 ∷ [])
+relay = fresh (code 3 relay_words) 3 (first_header 3 0 ∷ first_header 3 1 ∷ first_header 3 2
+    ∷ Edge 1 3 0 4 ∷ FirstLoad 1 0 3 ∷ Edge 2 4 1 4 ∷ FirstLoad 2 0 3 ∷ FirstLoad 2 0 3 ∷ end 0 8 3 0 ∷ end 1 8 3 1 ∷ end 2 8 3 2 ∷ [])
 
 -- lui s0,0x20; then hart 0: sw a1,4(s0); amoadd.w t1,a1,(s0); and hart 1: amoadd.w t1,a1,(s0); lw t0,4(s0); then an exit
 abbrev pub message_words : List ℕ

@@ -23,7 +23,8 @@ pub record AreCounted (harts : ℕ) (run : List Accessing) : Type 0 where
 
 -- so it is with the points of the joint replay of each log in order
 abbrev pub PointsAreCounted : Type 0
-PointsAreCounted = (i : Program) (s : RawSettings) (dropped : ℕ) (records : List Record) → s.limit < 2 ^ 64 → broken_by s dropped records ≡ None → AreCounted s.harts (points_of (run_all (fresh i s.harts records)).walk.taken)
+PointsAreCounted = (i : Program) (s : RawSettings) (dropped : ℕ) (records : List Record) → s.limit < 2 ^ 64
+    → broken_by s dropped records ≡ None → AreCounted s.harts (points_of (run_all (fresh i s.harts records)).walk.taken)
 
 -- a race with the rows of its points
 pub record IsRaceOf (run : List Accessing) (r : Race) : Type 0 where

@@ -1,5 +1,4 @@
 pub mod Points
-pub mod Touched
 pub mod Races
 pub mod Reports
 pub mod Tracks

@@ -1,6 +1,7 @@
 -- Races: conflicting points that no chain of program order and synchronisation orders. A point is determined by its place among the points
 -- of the joint replay.
-use Rattle.std.specs.Prelude.{◌≡◌, ◌≤◌, ◌<◌, ℕ, zero, suc, ◌+◌, ◌==◌, nat_lt, Bool, true, false, not, cond, ◌&&◌, List, [], ◌∷◌, ◌++◌, filter, map, length, min, slice_get, Option, Some, None}
+use Rattle.std.specs.Prelude.{◌≡◌, ◌≤◌, ◌<◌, ℕ, zero, suc, ◌+◌, ◌==◌, nat_lt, Bool, true, false, not, cond, ◌&&◌}
+use Rattle.std.specs.Prelude.{List, [], ◌∷◌, ◌++◌, filter, map, length, min, slice_get, Option, Some, None}
 use Rattle.std.specs.List.{list_any}
 use Rattle.bn_base.specs.declared.row.Row.{Row}
 use Rattle.race_log.specs.Points.{Point, Access, MeetAt, IsConflict}

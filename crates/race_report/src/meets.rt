@@ -161,7 +161,8 @@ pub(crate) fn note_point(
     ensures all_below { (count : ℕ) → place < count → AreBelow count all.old.entries.items → AreBelow count all.new.entries.items }
     ensures written_below { (count : ℕ) → place < count → AreBelow count written.old.entries.items → AreBelow count written.new.entries.items }
     ensures all { OnOk result ((h w : ℕ) (ps : List ℕ) → w % 4 ≡ 0 → IsTracked all.old h w ps → IsTracked all.new h w (noted h w hart place (words_from touch.first touch.count) ps)) }
-    ensures wrote { OnOk result (touch.writes ≡ true → (h w : ℕ) (ps : List ℕ) → w % 4 ≡ 0 → IsTracked written.old h w ps → IsTracked written.new h w (noted h w hart place (words_from touch.first touch.count) ps)) }
+    ensures wrote { OnOk result (touch.writes ≡ true → (h w : ℕ) (ps : List ℕ) → w % 4 ≡ 0 → IsTracked written.old h w ps
+        → IsTracked written.new h w (noted h w hart place (words_from touch.first touch.count) ps)) }
     ensures read { touch.writes ≡ false → written.new ≡ written.old }
 {
     note_words(all, touch, hart, place)?;

@@ -19,7 +19,7 @@ use Rattle.joint_replay.specs.Chains.{Did, IsToDo}
 use Rattle.joint_replay.specs.Joining.{Taken, Walk, Ran, run_all}
 use Rattle.joint_replay.specs.Lanes.{Item, Doing}
 use Rattle.joint_replay.specs.Ways.{IsRowAt}
-use Rattle.race_report.specs.Touched.{Touched as Touch}
+use Rattle.race_report.proofs.Touched.{Touched as Touch}
 use Rattle.race_report.specs.Laws.{AreAlike}
 use Rattle.race_report.specs.Points.{Accessing, accessing, touch_of, or_else, word_with, is_atomic, loaded_touch, accesses_of}
 use Rattle.race_report.specs.Races.{whole_point}

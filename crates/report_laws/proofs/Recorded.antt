@@ -7,7 +7,7 @@ use Rattle.log_record.specs.declared.record.Record.{Record}
 use Rattle.race_log.specs.ByCount.{IsInOrder, StandByCounts}
 use Rattle.race_log.specs.Kept.{In}
 use Rattle.race_log.specs.Points.{Point}
-use Rattle.race_report.specs.Touched.{Touched as Touch}
+use Rattle.race_report.proofs.Touched.{Touched as Touch}
 use Rattle.race_report.specs.Points.{Accessing, accessing, touch_of}
 use Rattle.row_laws.specs.States.{state_after, IsRowOfTurn}
 use Rattle.joint_laws.specs.Recordings.{Recording, points_of, rows_of_hart, first_state, retained_rows}

@@ -6,7 +6,7 @@ use Rattle.race_log.specs.Kept.{In}
 use Rattle.joint_replay.specs.Lanes.{Item, Passing, Doing, Ending}
 use Rattle.joint_replay.specs.Joining.{Taken}
 use Rattle.joint_laws.specs.Steps.{row_in, rows_done}
-use Rattle.race_report.specs.Touched.{Touched as Touch}
+use Rattle.race_report.proofs.Touched.{Touched as Touch}
 use Rattle.race_report.specs.Points.{Accessing, accessing, touch_of, point_in, points_of}
 use Rattle.report_laws.proofs.Lists.{some_is, not_some, same_number, is_number, IsBehind, get_cases, get_left, get_right, in_left, in_right, in_cases}
 

@@ -14,7 +14,7 @@ use Rattle.race_log.specs.declared.mode.Mode.TheVariants.{Read, Write}
 use Rattle.rv_meaning.specs.Words.{aligned}
 use Rattle.run_model.specs.Machine.{word_count}
 use Rattle.joint_replay.specs.Memory.{Bytes, call_result, filled}
-use Rattle.race_report.specs.Touched.{Touched as Touch}
+use Rattle.race_report.proofs.Touched.{Touched as Touch}
 use Rattle.race_report.specs.Points.{Accessing, sent, words_with, or_else, is_atomic, word_with, call_touch, loaded_touch, touch_of, words_from, accesses_of}
 use Rattle.row_laws.specs.Calls.{IsSendRow, HasCall}
 use Rattle.row_laws.specs.Fills.{IsFillRow, result_of}
