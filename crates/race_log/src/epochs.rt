@@ -131,6 +131,7 @@ impl Epochs {
         ensures present { self.new.present ≡ self.old.present }
         ensures settled { (i : ℕ) → IsTrue (is_settled self.old.table.items self.old.next i) → IsTrue (is_settled self.new.table.items self.new.next i) }
         ensures full { result ≡ true → self.new.next ≡ length self.new.table.items }
+        ensures left { result ≡ false → self.new.next < length self.new.table.items }
         ensures room { IsTrue (has_epoch self.old) → IsTrue (has_epoch self.new) × (result ≡ false) }
     {
         self.pass_used();
@@ -186,6 +187,7 @@ impl Epochs {
         ensures counts { (epoch h : ℕ) → epoch_counts self.new epoch h ≡ epoch_counts self.old epoch h }
         ensures present { self.new.present ≡ self.old.present }
         ensures settled { (i : ℕ) → IsTrue (is_marked (slice_get self.old.table.items i)) → IsTrue (is_settled self.new.table.items self.new.next i) }
+        ensures start { self.new.next ≡ 0 }
     {
         self.next = 0;
     }

@@ -1,4 +1,4 @@
-ghost use Rattle.std.specs.Prelude.{◌≡◌, ◌+◌, ◌*◌, ◌/◌, ◌%◌, ◌<◌, ◌≤◌, ◌^◌, ℕ, [], IsTrue, IsOk, OnOk, OnErr, IfOk, ◌≢◌, true, false, length, slice_get, vec_len};
+ghost use Rattle.std.specs.Prelude.{◌≡◌, ◌+◌, ◌*◌, ◌/◌, ◌%◌, ◌<◌, ◌≤◌, ◌^◌, ℕ, [], IsTrue, IsOk, OnOk, OnErr, IfOk, ◌≢◌, true, false, length, slice_get, vec_len, ◌⊎◌};
 ghost use Rattle.bn_base.specs.declared.settings.TheConstants.{HARTS};
 ghost use Rattle.race_log.specs.Slots.{AreFull, AreSettled};
 
@@ -127,6 +127,9 @@ impl KeptWords {
         ensures counts { (epoch h : ℕ) → epoch_counts self.new.epochs epoch h ≡ epoch_counts self.old.epochs epoch h }
         ensures present { self.new.epochs.present ≡ self.old.epochs.present }
         ensures room { IsTrue (has_epoch self.old.epochs) → IsTrue (has_epoch self.new.epochs) }
+        // Past its limit the table doesn't grow before it is gone through again.
+        ensures start { (self.new.epochs.next ≡ 0) ⊎ (self.new.epochs.next < length self.new.epochs.table.items)
+            ⊎ (length self.new.epochs.table.items < self.new.limit) }
     {
         if self.epochs.is_full() && self.epochs.len() >= self.limit {
             self.free_epochs();
@@ -141,6 +144,7 @@ impl KeptWords {
         ensures pages { self.new.pages ≡ self.old.pages }
         ensures counts { (epoch h : ℕ) → epoch_counts self.new.epochs epoch h ≡ epoch_counts self.old.epochs epoch h }
         ensures present { self.new.epochs.present ≡ self.old.epochs.present }
+        ensures start { self.new.epochs.next ≡ 0 }
     {
         self.epochs.begin_marks();
         for number in 0..self.pages.len() {
