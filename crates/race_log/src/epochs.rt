@@ -1,6 +1,7 @@
-ghost use Rattle.std.specs.Prelude.{◌≡◌, ◌≢◌, ◌<◌, ◌≤◌, ◌^◌, ℕ, max, length, IfOk, OnOk, IsOk, IsTrue, slice_get, true, false};
+ghost use Rattle.std.specs.Prelude.{◌≡◌, ◌≢◌, ◌<◌, ◌≤◌, ◌^◌, ℕ, max, length, filter, IfOk, OnOk, IsOk, IsTrue, slice_get, true, false};
 ghost use Rattle.bn_base.specs.declared.settings.TheConstants.{HARTS};
 ghost use Rattle.race_log.specs.Slots.{is_settled, AreSettledNow};
+ghost use Rattle.race_log.specs.declared.epochs.Epoch.{Epoch};
 
 use bn_base::{HARTS, HartId, Ic};
 use std::alloc::{AllocError, Global};
@@ -121,7 +122,9 @@ impl Epochs {
     }
 
     /// How many of them are marked as used.
-    pub fn used(&self) -> usize {
+    pub fn used(&self) -> usize
+        ensures { result ≡ length (filter (λ (e : Epoch). e.used) self.now.table.items) }
+    {
         self.table.iter().filter(|epoch| epoch.used).count()
     }
 
