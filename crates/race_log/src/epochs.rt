@@ -123,7 +123,8 @@ impl Epochs {
 
     /// How many of them are marked as used.
     pub fn used(&self) -> usize
-        ensures { result ≡ length (filter (λ (e : Epoch). e.used) self.now.table.items) }
+        ensures value { result ≡ length (filter (λ (e : Epoch). e.used) self.now.table.items) }
+        ensures most { result ≤ length self.now.table.items }
     {
         self.table.iter().filter(|epoch| epoch.used).count()
     }
@@ -190,6 +191,7 @@ impl Epochs {
         ensures counts { (epoch h : ℕ) → epoch_counts self.new epoch h ≡ epoch_counts self.old epoch h }
         ensures present { self.new.present ≡ self.old.present }
         ensures settled { (i : ℕ) → IsTrue (is_marked (slice_get self.old.table.items i)) → IsTrue (is_settled self.new.table.items self.new.next i) }
+        ensures table { self.new.table ≡ self.old.table }
         ensures start { self.new.next ≡ 0 }
     {
         self.next = 0;

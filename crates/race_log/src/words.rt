@@ -145,6 +145,7 @@ impl KeptWords {
         ensures counts { (epoch h : ℕ) → epoch_counts self.new.epochs epoch h ≡ epoch_counts self.old.epochs epoch h }
         ensures present { self.new.epochs.present ≡ self.old.epochs.present }
         ensures start { self.new.epochs.next ≡ 0 }
+        ensures limit { self.new.limit ≤ 2 * length self.new.epochs.table.items + 8 * length self.new.pages.items }
     {
         self.epochs.begin_marks();
         for number in 0..self.pages.len() {

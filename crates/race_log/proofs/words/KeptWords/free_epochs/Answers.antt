@@ -55,3 +55,8 @@ invariant_of-self-3 c =
           let was = subst (λ p. slice_get (slots_of (slice_get p.items n)) at ≡ Some s) i.pages e in
           c.restart.ensures.settled s.epoch (i.marked n at s (let low = slot_low c.args.self.now.pages.items n at s was in omega (arith, low, c.loop-number-test.false, c.loop-number.auto.number-end, c.args.self.now.pages.ok)) was);
     }
+
+pub returns-clause-limit : goal.returns-clause-limit
+returns-clause-limit c =
+    let size = ap (λ t. length t.items) c.restart.ensures.table in
+    omega (arith, c.saturating_add-self.ensures, c.saturating_mul.ensures, c.saturating_add.ensures, c.used-used.ensures.most, size, c.len.ensures, c.loop-number.self.pages.ok)
