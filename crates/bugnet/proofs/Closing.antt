@@ -17,7 +17,7 @@ use Rattle.log_order.specs.Order.{◌>>=◌, has_source, step_at, step, at_place
 use Rattle.run_laws.specs.Ends.{last_end}
 use Rattle.run_laws.specs.Retained.{HasEnded}
 use Rattle.hart_replay.specs.Replay.{Interval, Logged, interval_of, interval_from, puts, nothing}
-use Rattle.bugnet.specs.Texts.{mark_in}
+use Rattle.hart_replay.specs.Scans.{mark_in}
 use Rattle.bugnet.proofs.Marks.{mark_of_load, mark_of_ok, mark_of_failed}
 
 abbrev Harts : Type 0

@@ -27,7 +27,8 @@ use Rattle.bugnet.specs.Recordings.{marks_of, end_by, end_status}
 use Rattle.bugnet.specs.Saves.{Leaves}
 use Rattle.bugnet.specs.declared.answer.RunEnd.{RunEnd}
 use Rattle.bugnet.specs.declared.answer.RunEnd.TheVariants as ends
-use Rattle.bugnet.specs.Texts.{interval_text, mark_in, record_text, list_text}
+use Rattle.hart_replay.specs.Scans.{mark_in}
+use Rattle.bugnet.specs.Texts.{interval_text, record_text, list_text}
 use Rattle.bugnet.specs.Told.{Told}
 use Rattle.bugnet.specs.declared.names.Role.TheVariants as role
 use Rattle.bugnet.proofs.Closing.{Closes, closes}

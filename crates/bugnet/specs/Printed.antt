@@ -1,7 +1,7 @@
 -- What a replay prints on out.
 use Rattle.std.specs.Prelude.{◌≡◌, List, [], ◌++◌, ℕ, Result, Ok, Err}
 use Rattle.bn_base.specs.declared.end_mark.EndMark.{EndMark}
-use Rattle.hart_replay.specs.Replay.{Outcome, Done, Refused, Replayed, Interval}
+use Rattle.hart_replay.specs.Replay.{Outcome, Done, Refused, Replayed}
 use Rattle.hart_replay.specs.declared.error.ReplayError.{ReplayError}
 use Rattle.hart_replay.specs.declared.error.ReplayError.TheVariants as replay
 use Rattle.rv_text.specs.Marks.{end_text}
@@ -37,7 +37,3 @@ rest_text hart interval mark r = rows_text r.rows ++ end_of_interval hart interv
 -- all that is printed of an interval that begins at this count and has this mark
 abbrev pub text_from : (hart interval ic : ℕ) → EndMark → Replayed → List ℕ
 text_from hart interval ic mark r = begin_text hart interval ic ++ rest_text hart interval mark r
-
--- all that is printed
-abbrev pub replay_text : (hart interval : ℕ) → Interval → Replayed → List ℕ
-replay_text hart interval v r = text_from hart interval v.start.ic v.mark r

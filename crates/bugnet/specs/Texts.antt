@@ -7,7 +7,7 @@ use Rattle.rv_text.specs.Rows.{row_text}
 use Rattle.log_record.specs.declared.record.Record.{Record}
 use Rattle.log_record.specs.declared.record.Record.TheVariants.{Header, FirstLoad, ScOk, ScFailed, Edge, End}
 use Rattle.log_order.specs.Content.{Content}
-use Rattle.hart_replay.specs.Replay.{puts, nothing}
+use Rattle.hart_replay.specs.Scans.{mark_in}
 use Rattle.rv_text.specs.Marks.{mark_text}
 use Rattle.bugnet.specs.Marks.{counted}
 use Rattle.log_file.specs.declared.counting.LogCounts.{LogCounts}
@@ -28,10 +28,6 @@ rows_text rows = flat_map row_text rows
 -- the line of an interval: its hart and number, the counts of its Header and of its End, and how it ended
 unfoldable pub interval_text : ℕ → ℕ → ℕ → EndMark → List ℕ
 interval_text hart interval ic mark = decimal hart ++ codes " " ++ decimal interval ++ (codes " " ++ decimal ic ++ codes " ") ++ (mark_text mark ++ codes "\n")
-
--- the mark of a hart's first End in records
-abbrev pub mark_in : ℕ → List Record → EndMark
-mark_in hart rs = (puts hart rs nothing).mark
 
 -- the line of a record before others: only a Header has one
 abbrev pub record_text : Record → List Record → List ℕ

@@ -9,7 +9,6 @@ mod commands;
 mod inputs;
 mod laws;
 mod lines;
-mod logs;
 mod manner;
 mod names;
 mod new_log;

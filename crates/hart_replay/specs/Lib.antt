@@ -7,3 +7,4 @@ pub mod Coming
 pub mod Sides
 pub mod Starts
 pub mod Cursors
+pub mod Laws

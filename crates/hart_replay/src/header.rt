@@ -9,10 +9,10 @@ use log_record::{Record, RecordList};
 
 /// The start of an interval: its hart and state, and the place of the record after its Header.
 #[derive(Drop)]
-pub(crate) struct IntervalStart {
-    pub(crate) hart: HartId,
-    pub(crate) state: HartState,
-    pub(crate) next: usize,
+pub struct IntervalStart {
+    pub hart: HartId,
+    pub state: HartState,
+    pub next: usize,
 }
 
 // The hart and state of the Header of an interval, if the record is it.
@@ -43,12 +43,7 @@ fn start_in(hart: u64, interval: u64, entry: &Record) -> Option<(HartId, HartSta
 }
 
 /// Finds the Header of an interval, which doesn't stand before a place.
-pub(crate) fn find(
-    hart: u64,
-    interval: u64,
-    records: &RecordList,
-    from: usize,
-) -> Option<IntervalStart>
+pub fn find(hart: u64, interval: u64, records: &RecordList, from: usize) -> Option<IntervalStart>
     requires before { interval_of hart interval (take from records.now) ≡ None }
     ensures start { interval_of hart interval records.now ≡ found_in result hart records.now }
     ensures hart { IfSome result (λ s. s.hart ≡ hart) }

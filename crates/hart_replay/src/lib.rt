@@ -4,13 +4,14 @@
 mod code;
 mod directory;
 pub mod error;
-mod header;
+pub mod header;
 mod interval_cursor;
+pub mod laws;
 mod level;
 mod page;
 mod pending;
 pub mod replayer;
-mod scan;
+pub mod scan;
 pub mod words;
 
 pub use error::ReplayError;

@@ -6,10 +6,10 @@ ghost use Rattle.hart_replay.specs.Scans.{loads_in, conditionals_in, mark_in, in
 use bn_base::{EndMark, HartId};
 use log_record::{Record, RecordList};
 
-// What a record says of the first loads of a hart's interval: nothing, or that there are no more,
-// or one.
+/// What a record says of the first loads of a hart's interval: nothing, or that there are no more,
+/// or one.
 #[tactic(auto, using(crate::proofs::Puts::loads_of_ok, crate::proofs::Puts::loads_of_failed))]
-fn load_in(hart: HartId, entry: &Record) -> Option<Option<(u32, u32)>>
+pub fn load_in(hart: HartId, entry: &Record) -> Option<Option<(u32, u32)>>
     ensures { (l : Logged) → (put hart entry.now l).loads ≡ scanned result l.loads }
 {
     match *entry {
@@ -126,7 +126,7 @@ pub(crate) fn count_conditionals(hart: HartId, records: &RecordList, from: usize
 }
 
 /// The mark of a hart's next End among the records from a place on.
-pub(crate) fn next_mark(hart: HartId, records: &RecordList, from: usize) -> EndMark
+pub fn next_mark(hart: HartId, records: &RecordList, from: usize) -> EndMark
     ensures { result ≡ mark_in hart (drop from records.now) }
 {
     for place in from..records.len() {

@@ -241,7 +241,7 @@ impl<'a> Joint<'a> {
     }
 
     /// The harts that aren't done, each with its next count.
-    pub(crate) fn positions(&self) -> Result<List<(HartId, Ic)>, AllocError>
+    pub fn positions(&self) -> Result<List<(HartId, Ic)>, AllocError>
         ensures { IfOk result (λ found. found ≡ positions_from 0 self.now.lanes) }
     {
         let mut found = Vec::new(*self.lanes.allocator());

@@ -1,5 +1,5 @@
 -- A good block, by its test and by its bytes.
-use Rattle.std.proofs.Common.{◌≡◌, ℕ, zero, suc, ◌+◌, ◌-◌, ◌<◌, ◌≤◌, Bool, true, false, nat_le, ltb, cond, List, [], ◌∷◌, ◌++◌, length, take, drop, length-append, length-drop, append_assoc, refl, sym, ap, ap₂, subst, ◌∙◌, arith, inl, inr}
+use Rattle.std.proofs.Common.{◌≡◌, ℕ, zero, suc, ◌+◌, ◌-◌, ◌<◌, ◌≤◌, Bool, true, false, nat_le, ltb, cond, List, [], ◌∷◌, ◌++◌, length, take, drop, length-drop, append_assoc, refl, sym, ap, ap₂, subst, ◌∙◌, arith, inl, inr}
 use Rattle.std.specs.Prelude.{◌==◌, ◌&&◌, slice_index}
 use Rattle.std.specs.Str.{bytes_eq}
 use Rattle.std.proofs.lemmas.Bool.{eqb-true, cases_lt}
@@ -10,6 +10,7 @@ use Rattle.le_numbers.specs.Numbers.{number_bytes, AreBytes}
 use Rattle.le_numbers.specs.Laws.{HaveTheirWidth, AreWritten}
 use Rattle.log_file.specs.Blocks.{block_size}
 use Rattle.log_blocks.specs.Pieces.{Piece, piece_body, piece_bytes, pieces_bytes, gathered, len_in, left_in, before_in, start_in, piece_in, is_sized, is_good, Walked}
+use Rattle.log_blocks.proofs.Written.{body_size}
 
 -- what a test that passed says
 pub record Good (digest : List ℕ) (n left : ℕ) (bytes : List ℕ) : Type 0 where
@@ -60,18 +61,6 @@ front_are n bytes are i =
 
 regroup : (p b l n d : List ℕ) → p ++ (b ++ (l ++ (n ++ d))) ≡ (p ++ b ++ l ++ n) ++ d
 regroup p b l n d = simp append_assoc
-
-body_size : HaveTheirWidth → (p : Piece) → length (piece_body p) ≡ length p.bytes + 16
-body_size long p =
-    omega (
-      arith,
-      length-append (p.bytes ++ number_bytes 8 p.before ++ number_bytes 4 p.left) (number_bytes 4 (length p.bytes)),
-      length-append (p.bytes ++ number_bytes 8 p.before) (number_bytes 4 p.left),
-      length-append p.bytes (number_bytes 8 p.before),
-      long 8 p.before,
-      long 4 p.left,
-      long 4 (length p.bytes),
-    )
 
 pub piece_is : AreWritten → HaveTheirWidth → (digest : List ℕ) (n left : ℕ) (bytes : List ℕ) → AreBytes bytes → Good digest n left bytes → bytes ≡ take (start_in bytes) bytes ++ piece_bytes digest (piece_in bytes)
 piece_is written long digest n left bytes are g =

@@ -1,14 +1,13 @@
 -- The head of a file that is written is read again, and has no fault.
-use Rattle.std.proofs.Common.{◌≡◌, ℕ, ◌+◌, ◌%◌, ◌^◌, ◌<◌, ◌≤◌, Bool, true, false, ltb, List, [], ◌++◌, length, take, drop, length-append, append_assoc, append-nil, None, refl, sym, ap, ◌∙◌, arith}
+use Rattle.std.proofs.Common.{◌≡◌, ℕ, ◌+◌, ◌^◌, ◌<◌, ◌≤◌, Bool, true, false, ltb, List, [], ◌++◌, length, take, drop, length-append, append_assoc, append-nil, None, refl, sym, ap, ◌∙◌, arith}
 use Rattle.std.specs.Prelude.{◌==◌, ◌&&◌, ◌||◌, IsTrue, if◌then◌else◌}
-use Rattle.std.specs.Int.{is_power_of_two}
 use Rattle.std.proofs.lemmas.Bool.{eqb-true, eq-eqb}
 use Rattle.std.proofs.lemmas.List.{drop-drop, take_at, drop_at}
 use Rattle.std.proofs.lemmas.Slice.Eq.{bytes_eq-Decides}
 use Rattle.sha2.specs.Sha256.{sha256}
 use Rattle.sha2.proofs.Facts256.{length-sha256}
 use Rattle.bn_base.specs.declared.settings.RawSettings.{RawSettings}
-use Rattle.bn_base.specs.Ranges.{IsSetting, is_between, is_small_power, is_memory_size, most_harts, first_bad}
+use Rattle.bn_base.specs.Ranges.{IsSetting, is_between, is_small_power, most_harts, first_bad}
 use Rattle.le_numbers.specs.Numbers.{number_at, number_bytes}
 use Rattle.le_numbers.specs.Laws.{HaveTheirWidth, AreRead}
 use Rattle.log_record.specs.declared.head.Head.{Head}
@@ -16,6 +15,7 @@ use Rattle.log_record.specs.Spelling.{total}
 use Rattle.log_order.specs.Content.{Content, IsContent}
 use Rattle.log_file.specs.Layout.{magic, head_bytes2, file_bytes2}
 use Rattle.log_file.specs.Blocks.{blocks_of, all_sealed}
+use Rattle.log_file.specs.Laws.{AreNotBad}
 use Rattle.log_blocks.specs.Fields.{settings_in, head_in, dropped_in, size_in, kept_digest, head_digest, blocks_in}
 use Rattle.log_blocks.specs.Faults.{head_fault}
 use Rattle.log_blocks.proofs.Layouts.{spelled, head_is_spelled}
@@ -166,31 +166,6 @@ module _ (long : HaveTheirWidth) where
 
 -- ---- a head that is written has no fault
 
-between : (low high value : ℕ) → low ≤ value → value ≤ high → is_between low high value ≡ true
-between low high value l h = grind arith
-
-power : (high value : ℕ) → 1 ≤ value → value ≤ high → IsTrue (is_power_of_two value) → is_small_power high value ≡ true
-power high value l h p = grind arith
-
-memory : (value : ℕ) → 65536 ≤ value → value ≤ 2 ^ 26 → value % 4096 ≡ 0 → is_memory_size value ≡ true
-memory value l h p = grind arith
-
-none_bad : (s : RawSettings) → IsSetting s → first_bad s ≡ None
-none_bad s is =
-    rw (
-      between 1 (most_harts s) s.harts is.harts_low is.harts_high,
-      between 1 10000000 s.interval is.interval_low is.interval_high,
-      between 1 (2 ^ 40) s.limit is.limit_low is.limit_high,
-      between 16384 (2 ^ 28) s.log_size is.log_size_low is.log_size_high,
-      memory s.memory is.memory_low is.memory_high is.memory_pages,
-      power 1024 s.sets is.sets_low is.sets_high is.sets_power,
-      between 1 16 s.ways is.ways_low is.ways_high,
-      power 16 s.line is.line_low is.line_high is.line_power,
-      between 1 2 s.format is.format_low is.format_high,
-      is.second_sets,
-      is.second_ways,
-    ) refl
-
 lt_not : (a b : ℕ) → b ≤ a → ltb a b ≡ false
 lt_not a b e = grind arith
 
@@ -207,9 +182,9 @@ faultless bytes long begins version ranges within digest =
       (bytes_eq-Decides (kept_digest bytes) (head_digest bytes)).1 digest,
     ) refl
 
-pub no_fault_again : AreRead → HaveTheirWidth → (c : Content) → IsContent c → head_fault (file_bytes2 c) ≡ None
-no_fault_again read long c is =
+pub no_fault_again : AreRead → HaveTheirWidth → AreNotBad → (c : Content) → IsContent c → head_fault (file_bytes2 c) ≡ None
+no_fault_again read long good c is =
     let a = content_again read c is in
     let p = placed long c is in
     let settings : settings_in (file_bytes2 c) ≡ c.head.settings = ap (λ (h : Head). h.settings) a.head in
-    faultless (file_bytes2 c) p.enough a.begins a.version (ap first_bad settings ∙ none_bad c.head.settings is.settings) (omega (arith, a.n_is, ap (λ (s : RawSettings). s.log_size) settings, is.bound)) (p.kept ∙ sym (ap sha256 p.head_is))
+    faultless (file_bytes2 c) p.enough a.begins a.version (ap first_bad settings ∙ good c.head.settings is.settings) (omega (arith, a.n_is, ap (λ (s : RawSettings). s.log_size) settings, is.bound)) (p.kept ∙ sym (ap sha256 p.head_is))

@@ -20,6 +20,7 @@ use Rattle.log_order.specs.Content.{Content, content, IsContent}
 use Rattle.log_file.specs.declared.error.FileError.{FileError}
 use Rattle.log_file.specs.declared.error.FileError.TheVariants.{Short, BadMagic, BadVersion, BadHead, LengthDiffers, DigestDiffers, BadRecord, BadOrder, OutOfMemory}
 use Rattle.log_file.specs.Layout.{file_bytes2}
+use Rattle.log_file.specs.Laws.{AreNotBad}
 use Rattle.log_file.specs.Blocks.{Block, block_size, cut_from, last_block, total_of, numbered, blocks_of, sealed, all_sealed}
 use Rattle.log_blocks.specs.declared.damage.Damage.{Damage}
 use Rattle.log_blocks.specs.declared.damage.Damage.TheVariants.{File, BadBlock}
@@ -197,10 +198,10 @@ head_again bytes (File f) none x = no_error f (sym none ∙ x)
 head_again bytes (BadBlock at) none x = x
 
 -- a file that is written is refused only for want of memory
-pub refused_again : AreRead → HaveTheirWidth → TagsTell → BeginNoOther → AreNotRefused
-refused_again read long tell alone c is e (inl memory) = memory
-refused_again read long tell alone c is e (inr (inl x)) = absurd (head_again (file_bytes2 c) e (no_fault_again read long c is) x)
-refused_again read long tell alone c is e (inr (inr f)) =
+pub refused_again : AreRead → HaveTheirWidth → AreNotBad → TagsTell → BeginNoOther → AreNotRefused
+refused_again read long good tell alone c is e (inl memory) = memory
+refused_again read long good tell alone c is e (inr (inl x)) = absurd (head_again (file_bytes2 c) e (no_fault_again read long good c is) x)
+refused_again read long good tell alone c is e (inr (inr f)) =
     let a = content_again read c is in
     let s = one_walk _ _ _ _ _ _ _ f.walk (walked_for read long tell c is) in
     let n : size_in (file_bytes2 c) ≡ length (gathered (pieces_for c)) = a.n_is ∙ ap length (sym (gathered_for c)) in
@@ -250,13 +251,13 @@ first_before : (dropped number : ℕ) (parts : List (List Record)) → dropped �
 first_before dropped number [] is small = is
 first_before dropped number (rs ∷ rest) is small = omega (arith, small)
 
-pub whole_salvaged : AreRead → HaveTheirWidth → TagsTell → WholeAreSalvaged
-whole_salvaged read long tell c is =
+pub whole_salvaged : AreRead → HaveTheirWidth → AreNotBad → TagsTell → WholeAreSalvaged
+whole_salvaged read long good tell c is =
     let a = content_again read c is in
     record {
       rest = [];
       pieces = pieces_for c;
-      fault = no_fault_again read long c is;
+      fault = no_fault_again read long good c is;
       walk = walked_for read long tell c is;
       some = λ none. a.n_is ∙ ap length (sym (gathered_for c) ∙ ap gathered none);
       blocks = record {

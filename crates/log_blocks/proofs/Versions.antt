@@ -46,8 +46,8 @@ names_first read bytes b =
     let version = read 4 8 1 bytes b.rest (omega arith) (ap (drop 8) b.parts) in
     other_version (nat_le 124 (length bytes) && bytes_eq (take 8 bytes) magic) (number_at 4 8 bytes == 2) refl (ap (λ (n : ℕ). n == 2) version.0)
 
-pub names : AreRead → HaveTheirWidth → NameTheirVersion
-names read long c is = (names_second (file_bytes2 c) (no_fault (file_bytes2 c) (no_fault_again read long c is)), names_first read (file_bytes c) (begins c))
+pub names : AreRead → HaveTheirWidth → of_first.AreNotBad → NameTheirVersion
+names read long good c is = (names_second (file_bytes2 c) (no_fault (file_bytes2 c) (no_fault_again read long good c is)), names_first read (file_bytes c) (begins c))
 
 -- ---- reading
 

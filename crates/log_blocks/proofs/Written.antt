@@ -38,7 +38,7 @@ pub record Again (front bytes : List ℕ) (digest : List ℕ) (p : Piece) : Type
 ungroup : (p b l n d : List ℕ) → (p ++ b ++ l ++ n) ++ d ≡ p ++ (b ++ (l ++ (n ++ d)))
 ungroup p b l n d = simp append_assoc
 
-body_size : HaveTheirWidth → (p : Piece) → length (piece_body p) ≡ length p.bytes + 16
+pub body_size : HaveTheirWidth → (p : Piece) → length (piece_body p) ≡ length p.bytes + 16
 body_size long p =
     omega (
       arith,

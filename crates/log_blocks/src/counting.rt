@@ -2,7 +2,7 @@
 ghost use Rattle.std.specs.Prelude.{◌≡◌, ◌≤◌, ◌+◌, ◌^◌, List, None, true, length, MatchResult, IfOk, IfErr};
 ghost use Rattle.std.specs.List.{AllByRecursion};
 ghost use Rattle.log_record.specs.Spelling.{bytes_of, total, Fits};
-ghost use Rattle.log_file.specs.Counts.{headers_of, counts_in, counts_of};
+ghost use Rattle.log_file.specs.Counts.{counts_in, counts_of};
 ghost use Rattle.log_blocks.specs.Counts.{CountsBlocks, CountsRead, CountsFile};
 ghost use Rattle.log_blocks.specs.Faults.{is_second, head_fault};
 ghost use Rattle.log_blocks.specs.Fields.{settings_in};
@@ -14,31 +14,17 @@ use crate::damage::Damage;
 use crate::gathering::{first_wrong, gather};
 use crate::head::{HEAD_SIZE, checked_settings, is_second, program_in};
 use crate::reading::whole_walk;
-use crate::sealing::tail;
 use crate::walking::Walk;
 use bn_base::Settings;
 use le_numbers::laws::{numbers_have_their_width, read_numbers_are_written};
 use le_numbers::read_u64;
+use log_file::counting::headers_of;
+use log_file::head::tail;
 use log_file::{FileError, LogCounts, tally_of};
 use log_order::KeptLog;
 use log_record::laws::{records_fit_later_versions, tags_tell_sizes};
-use log_record::{Head, Record, RecordList, write};
+use log_record::{Head, RecordList};
 use std::alloc::Global;
-
-// Whether a record is a Header.
-fn headers_of(entry: &Record) -> u64
-    ensures value { result ≡ headers_of entry.now }
-    ensures few { result ≤ 1 }
-{
-    match entry {
-        Record::Header { .. } => 1,
-        Record::FirstLoad { .. } => 0,
-        Record::ScOk { .. } => 0,
-        Record::ScFailed { .. } => 0,
-        Record::Edge { .. } => 0,
-        Record::End { .. } => 0,
-    }
-}
 
 // The counts of records before which so many were given up.
 fn counts_in(dropped: u64, records: &RecordList) -> LogCounts
@@ -52,7 +38,7 @@ fn counts_in(dropped: u64, records: &RecordList) -> LogCounts
     for place in 0..count {
         let entry = records.get(place);
         intervals += headers_of(&entry);
-        bytes += write(&entry).len() as u64;
+        bytes += entry.size() as u64;
     }
     LogCounts {
         records: count as u64,

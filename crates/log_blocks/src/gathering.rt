@@ -11,9 +11,10 @@ ghost use Rattle.log_blocks.specs.Cuts.{first_wrong};
 
 use crate::cutting::next_block;
 use crate::head::HEAD_SIZE;
-use crate::sealing::{SEAL_SIZE, front, part, tail};
+use crate::sealing::{SEAL_SIZE, front, part};
 use crate::walking::Walk;
 use le_numbers::read_u64;
+use log_file::head::tail;
 use std::alloc::{AllocError, Global};
 
 /// The records' bytes of the blocks that a walk back over some bytes kept. The error comes of want

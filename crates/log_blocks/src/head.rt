@@ -3,11 +3,11 @@ ghost use Rattle.std.specs.Prelude.{◌≡◌, ◌≤◌, Some, None, length, If
 ghost use Rattle.log_blocks.specs.Fields.{settings_in, program_in, head_digest};
 ghost use Rattle.log_blocks.specs.Faults.{is_second, later_fault, head_fault};
 
-use crate::sealing::{DIGEST_SIZE, copied, front, part, same};
+use crate::sealing::{front, part};
 use bn_base::{RawSettings, Settings};
-use le_numbers::{read_u32, read_u64};
+use le_numbers::read_u32;
 use log_file::FileError;
-use log_file::head::{MAGIC, digest_of};
+use log_file::head::{DIGEST_SIZE, MAGIC, copied, digest_of, same, settings_in as first_settings};
 
 /// How many bytes a head has that a digest follows.
 pub const SIGNED_SIZE: usize = 104;
@@ -26,17 +26,10 @@ fn settings_in(bytes: &[u8]) -> RawSettings
     ensures { result ≡ settings_in bytes.now }
 {
     RawSettings {
-        harts: read_u32(bytes, 12) as u64,
-        interval: read_u32(bytes, 16) as u64,
-        limit: read_u64(bytes, 20),
-        log_size: read_u32(bytes, 28) as u64,
-        memory: read_u32(bytes, 32) as u64,
-        sets: read_u32(bytes, 36) as u64,
-        ways: read_u32(bytes, 40) as u64,
-        line: read_u32(bytes, 44) as u64,
         format: read_u32(bytes, 48) as u64,
         sets2: read_u32(bytes, 52) as u64,
         ways2: read_u32(bytes, 56) as u64,
+        ..first_settings(bytes)
     }
 }
 

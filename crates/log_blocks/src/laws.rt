@@ -3,6 +3,7 @@ ghost use Rattle.log_blocks.specs.Laws.{NameTheirVersion, SayOneThing, AreNotRef
 ghost use Rattle.log_blocks.specs.Laws.{SalvagedAreUnique, SalvagedAreNotRefused, SalvageRefusalsAreUnique, LastBlocksAreAnEnd, SalvagedAreAnEnd};
 
 use le_numbers::laws::{numbers_have_their_width, written_numbers_are_read};
+use log_file::laws::settings_in_range_are_not_bad;
 use log_record::laws::{no_record_begins_another, tags_tell_sizes};
 
 /// The files of both versions are told apart by the version that they name.
@@ -11,6 +12,7 @@ pub fn files_name_their_version()
 {
     written_numbers_are_read();
     numbers_have_their_width();
+    settings_in_range_are_not_bad();
 }
 
 /// No file of version 2 says two things.
@@ -29,6 +31,7 @@ pub fn logs_are_not_refused()
 {
     written_numbers_are_read();
     numbers_have_their_width();
+    settings_in_range_are_not_bad();
     tags_tell_sizes();
     no_record_begins_another();
 }

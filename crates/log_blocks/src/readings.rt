@@ -8,6 +8,7 @@ use crate::laws::{
 use le_numbers::laws::{
     numbers_have_their_width, read_numbers_are_written, written_numbers_are_read,
 };
+use log_file::laws::settings_in_range_are_not_bad;
 use log_record::laws::{read_records_are_written, tags_tell_sizes, written_records_are_read};
 
 /// Bytes are read in one way.
@@ -64,5 +65,6 @@ pub fn whole_files_are_salvaged()
 {
     written_numbers_are_read();
     numbers_have_their_width();
+    settings_in_range_are_not_bad();
     tags_tell_sizes();
 }

@@ -1,12 +1,9 @@
 // Parts of bytes, and digests of two parts.
 ghost use Rattle.std.specs.Prelude.{◌≡◌, ◌≤◌, ◌+◌, ◌-◌, ◌++◌, length, take, drop};
-ghost use Rattle.std.specs.Str.{bytes_eq};
 ghost use Rattle.sha2.specs.Sha256.{sha256};
 
+use log_file::head::tail;
 use sha2::{Digest, Sha256};
-
-/// How many bytes a digest has.
-pub const DIGEST_SIZE: usize = 32;
 
 /// How many bytes a block has behind its records: three numbers and a digest.
 pub const SEAL_SIZE: usize = 48;
@@ -21,13 +18,6 @@ pub(crate) fn front(bytes: &[u8], size: usize) -> &[u8]
     &bytes[..size]
 }
 
-pub(crate) fn tail(bytes: &[u8], at: usize) -> &[u8]
-    requires { at ≤ length bytes.now }
-    ensures { result.now ≡ drop at bytes.now }
-{
-    &bytes[at..]
-}
-
 // So many bytes from a place on.
 pub(crate) fn part(bytes: &[u8], at: usize, size: usize) -> &[u8]
     requires { at + size ≤ length bytes.now }
@@ -35,21 +25,6 @@ pub(crate) fn part(bytes: &[u8], at: usize, size: usize) -> &[u8]
     ensures len { length result.now ≡ size }
 {
     &tail(bytes, at)[..size]
-}
-
-pub(crate) fn same(one: &[u8], other: &[u8]) -> bool
-    ensures { result ≡ bytes_eq one.now other.now }
-{
-    one == other
-}
-
-pub(crate) fn copied(bytes: &[u8]) -> [u8; 32]
-    requires { length bytes.now ≡ 32 }
-    ensures { result ≡ bytes.now }
-{
-    let mut digest = [0; 32];
-    digest.copy_from_slice(bytes);
-    digest
 }
 
 /// The SHA-256 digest (FIPS 180-4) of a digest and of bytes behind it.

@@ -3,8 +3,9 @@ ghost use Rattle.std.specs.Prelude.{◌≡◌, ◌<◌, ◌≤◌, ◌+◌, ◌^
 ghost use Rattle.log_blocks.specs.Pieces.{len_in, left_in, is_sized, is_good};
 ghost use Rattle.log_blocks.specs.Walks.{HasWalked};
 
-use crate::sealing::{BLOCK_SIZE, DIGEST_SIZE, SEAL_SIZE, front, part, same, seal_of, tail};
+use crate::sealing::{BLOCK_SIZE, SEAL_SIZE, front, part, seal_of};
 use le_numbers::read_u32;
+use log_file::head::{DIGEST_SIZE, same, tail};
 use std::alloc::{AllocError, Global};
 
 /// What a walk back from the end of some bytes found: good blocks, and what stands ahead of them.

@@ -5,45 +5,21 @@ ghost use Rattle.log_record.specs.declared.record.Record.{Record};
 ghost use Rattle.log_record.specs.Spelling.{bytes_of, Fits};
 ghost use Rattle.log_order.specs.Content.{content};
 ghost use Rattle.le_numbers.specs.Numbers.{number_bytes};
-ghost use Rattle.log_file.specs.Layout.{magic, head_bytes2, file_bytes2};
+ghost use Rattle.log_file.specs.Layout.{head_bytes2, file_bytes2};
 ghost use Rattle.log_file.specs.Blocks.{blocks_of, all_sealed};
 ghost use Rattle.log_blocks.specs.Pieces.{piece, piece_bytes};
 
 use crate::cutting::next_block;
 use crate::head::{HEAD_SIZE, VERSION};
-use crate::sealing::{SEAL_SIZE, seal_of, tail};
+use crate::sealing::{SEAL_SIZE, seal_of};
 use bn_base::Settings;
 use le_numbers::{push_u32, push_u64};
-use log_file::head::{MAGIC, digest_of};
+use log_file::head::{digest_of, tail};
+use log_file::writing::{push_counts, push_settings};
 use log_order::KeptLog;
 use log_record::laws::records_fit_later_versions;
 use log_record::{Head, RecordList, write};
 use std::alloc::{AllocError, Global};
-
-// Appends what begins each file, the version, and the settings up to the limit.
-#[tactic(auto, unfolding(log_file::specs::Layout::magic))]
-fn push_first(out: &mut Vec<u8>, settings: &Settings) -> Result<(), AllocError>
-    ensures { OnOk result (out.new.items ≡ out.old.items ++ (magic ++ number_bytes 4 2
-        ++ number_bytes 4 settings.now.harts ++ number_bytes 4 settings.now.interval ++ number_bytes 8 settings.now.limit)) }
-{
-    out.extend_from_slice(MAGIC)?;
-    push_u32(out, VERSION)?;
-    push_u32(out, settings.harts() as u32)?;
-    push_u32(out, settings.interval())?;
-    push_u64(out, settings.limit())
-}
-
-// Appends the settings from the log's size on that both versions have.
-fn push_sizes(out: &mut Vec<u8>, settings: &Settings) -> Result<(), AllocError>
-    ensures { OnOk result (out.new.items ≡ out.old.items ++ (number_bytes 4 settings.now.log_size ++ number_bytes 4 settings.now.memory
-        ++ number_bytes 4 settings.now.sets ++ number_bytes 4 settings.now.ways ++ number_bytes 4 settings.now.line)) }
-{
-    push_u32(out, settings.log_size())?;
-    push_u32(out, settings.memory())?;
-    push_u32(out, settings.sets())?;
-    push_u32(out, settings.ways())?;
-    push_u32(out, settings.line())
-}
 
 // Appends the format and the second level.
 fn push_second(out: &mut Vec<u8>, settings: &Settings) -> Result<(), AllocError>
@@ -55,30 +31,14 @@ fn push_second(out: &mut Vec<u8>, settings: &Settings) -> Result<(), AllocError>
     push_u32(out, settings.second_ways())
 }
 
-// Appends what follows the settings: the program's digest, how many records were given up, and how many
-// bytes the kept ones have.
-fn push_rest(
-    out: &mut Vec<u8>,
-    digest: &[u8; 32],
-    dropped: u64,
-    size: u32,
-) -> Result<(), AllocError>
-    ensures { OnOk result (out.new.items ≡ out.old.items ++ (digest.now ++ number_bytes 8 dropped ++ number_bytes 4 size)) }
-{
-    out.extend_from_slice(digest)?;
-    push_u64(out, dropped)?;
-    push_u32(out, size)
-}
-
 // Appends the head before its digest.
-#[tactic(auto, unfolding(log_file::specs::Layout::head_bytes2, log_file::specs::Layout::settings_bytes))]
+#[tactic(auto, unfolding(log_file::specs::Layout::head_bytes2))]
 fn push_head(out: &mut Vec<u8>, head: &Head, dropped: u64, size: u32) -> Result<(), AllocError>
     ensures { OnOk result (out.new.items ≡ out.old.items ++ head_bytes2 head.now dropped size) }
 {
-    push_first(out, &head.settings)?;
-    push_sizes(out, &head.settings)?;
+    push_settings(out, VERSION, &head.settings)?;
     push_second(out, &head.settings)?;
-    push_rest(out, &head.digest, dropped, size)
+    push_counts(out, &head.digest, dropped, size)
 }
 
 // Appends a block: its records' bytes, how many records are before it, how many bytes behind it, and

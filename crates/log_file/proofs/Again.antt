@@ -165,7 +165,7 @@ memory : (value : ℕ) → 65536 ≤ value → value ≤ 2 ^ 26 → value % 4096
 memory value l h p = grind arith
 
 -- nothing is bad of settings in range
-none_bad : (s : RawSettings) → IsSetting s → first_bad s ≡ None
+pub none_bad : (s : RawSettings) → IsSetting s → first_bad s ≡ None
 none_bad s is =
     rw (
       between 1 (most_harts s) s.harts is.harts_low is.harts_high,

@@ -1,11 +1,17 @@
 -- Laws of files and logs, by their names.
-use Rattle.std.specs.Prelude.{◌≡◌, ◌+◌, length}
+use Rattle.std.specs.Prelude.{◌≡◌, ◌+◌, length, None}
+use Rattle.bn_base.specs.Ranges.{IsSetting, first_bad}
+use Rattle.bn_base.specs.declared.settings.RawSettings.{RawSettings}
 use Rattle.log_record.specs.Spelling.{total}
 use Rattle.log_order.specs.Content.{Content, IsContent}
 use Rattle.log_file.specs.declared.error.FileError.{FileError}
 use Rattle.log_file.specs.declared.error.FileError.TheVariants.{OutOfMemory}
 use Rattle.log_file.specs.Layout.{file_bytes, IsFirst}
 use Rattle.log_file.specs.File.{IsRefusal}
+
+-- settings in range have no bad one
+abbrev pub AreNotBad : Type 0
+AreNotBad = (s : RawSettings) → IsSetting s → first_bad s ≡ None
 
 -- no file says two things
 abbrev pub SayOneThing : Type 0

@@ -54,8 +54,8 @@ pub struct Tally {
     pub broken: Option<OrderBreak>,
 }
 
-// Whether a record is a Header.
-fn headers_of(entry: &Record) -> u64
+/// How many Headers a record is: one, or none.
+pub fn headers_of(entry: &Record) -> u64
     ensures value { result ≡ headers_of entry.now }
     ensures few { result ≤ 1 }
 {

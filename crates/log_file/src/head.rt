@@ -23,14 +23,15 @@ pub const HEAD_SIZE: usize = 92;
 pub const DIGEST_SIZE: usize = 32;
 
 /// The bytes from a place on.
-pub(crate) fn tail(bytes: &[u8], at: usize) -> &[u8]
+pub fn tail(bytes: &[u8], at: usize) -> &[u8]
     requires { at ≤ length bytes.now }
     ensures { result.now ≡ drop at bytes.now }
 {
     &bytes[at..]
 }
 
-fn settings_in(bytes: &[u8]) -> RawSettings
+/// The settings at their places. A file of version 1 has no other format, and no second level.
+pub fn settings_in(bytes: &[u8]) -> RawSettings
     requires { 92 ≤ length bytes.now }
     ensures { result ≡ settings_in bytes.now }
 {
@@ -57,7 +58,8 @@ pub fn digest_in(bytes: &[u8]) -> [u8; 32]
     copied(&bytes[48..80])
 }
 
-fn copied(bytes: &[u8]) -> [u8; 32]
+/// The 32 bytes of a digest.
+pub fn copied(bytes: &[u8]) -> [u8; 32]
     requires { length bytes.now ≡ 32 }
     ensures { result ≡ bytes.now }
 {
@@ -66,7 +68,8 @@ fn copied(bytes: &[u8]) -> [u8; 32]
     digest
 }
 
-fn same(one: &[u8], other: &[u8]) -> bool
+/// Whether two pieces have the same bytes.
+pub fn same(one: &[u8], other: &[u8]) -> bool
     ensures { result ≡ bytes_eq one.now other.now }
 {
     one == other

@@ -3,10 +3,15 @@ ghost use Rattle.std.specs.Prelude.{◌≡◌, ◌≢◌, List, ℕ};
 ghost use Rattle.log_file.specs.declared.error.FileError.{FileError};
 ghost use Rattle.log_file.specs.declared.error.FileError.TheVariants.{OutOfMemory};
 ghost use Rattle.log_file.specs.File.{IsRefusal};
-ghost use Rattle.log_file.specs.Laws.{SayOneThing, AreNotRefused, HaveTheirSize};
+ghost use Rattle.log_file.specs.Laws.{AreNotBad, SayOneThing, AreNotRefused, HaveTheirSize};
 
 use le_numbers::laws::{numbers_have_their_width, written_numbers_are_read};
 use log_record::laws::no_record_begins_another;
+
+/// Settings in range are taken: none is found bad.
+pub fn settings_in_range_are_not_bad()
+    ensures { AreNotBad }
+{}
 
 /// No file says two things.
 pub fn files_say_one_thing()

@@ -11,12 +11,12 @@ use std::alloc::{AllocError, Global};
 
 // Appends what begins each file, the version, and the settings up to the limit.
 #[tactic(auto, unfolding(crate::specs::Layout::magic))]
-fn push_first(out: &mut Vec<u8>, settings: &Settings) -> Result<(), AllocError>
-    ensures { OnOk result (out.new.items ≡ out.old.items ++ (magic ++ number_bytes 4 1
+fn push_first(out: &mut Vec<u8>, version: u32, settings: &Settings) -> Result<(), AllocError>
+    ensures { OnOk result (out.new.items ≡ out.old.items ++ (magic ++ number_bytes 4 version
         ++ number_bytes 4 settings.now.harts ++ number_bytes 4 settings.now.interval ++ number_bytes 8 settings.now.limit)) }
 {
     out.extend_from_slice(MAGIC)?;
-    push_u32(out, VERSION)?;
+    push_u32(out, version)?;
     push_u32(out, settings.harts() as u32)?;
     push_u32(out, settings.interval())?;
     push_u64(out, settings.limit())
@@ -34,15 +34,29 @@ fn push_sizes(out: &mut Vec<u8>, settings: &Settings) -> Result<(), AllocError>
     push_u32(out, settings.line())
 }
 
-// The part of a head up to the settings, in room for so many bytes.
+/// Appends what a file of either version begins with: the magic, the version, and the settings that both
+/// versions have. Where memory is wanting it may stop in the middle.
 #[tactic(auto, unfolding(crate::specs::Layout::settings_bytes))]
-fn settings_part(alloc: Global, settings: &Settings, room: usize) -> Result<Vec<u8>, AllocError>
-    ensures { IfOk result (λ v. v.items ≡ settings_bytes 1 settings.now) }
+pub fn push_settings(out: &mut Vec<u8>, version: u32, settings: &Settings) -> Result<(), AllocError>
+    ensures { OnOk result (out.new.items ≡ out.old.items ++ settings_bytes version settings.now) }
 {
-    let mut out = Vec::with_capacity(alloc, room)?;
-    push_first(&mut out, settings)?;
-    push_sizes(&mut out, settings)?;
-    Ok(out)
+    push_first(out, version, settings)?;
+    push_sizes(out, settings)
+}
+
+/// Appends what follows the settings: the program's digest, how many records were given up, and how many
+/// bytes the kept ones have. Where memory is wanting it may stop in the middle.
+pub fn push_counts(
+    out: &mut Vec<u8>,
+    digest: &[u8; 32],
+    dropped: u64,
+    size: u32,
+) -> Result<(), AllocError>
+    ensures { OnOk result (out.new.items ≡ out.old.items ++ (digest.now ++ number_bytes 8 dropped ++ number_bytes 4 size)) }
+{
+    out.extend_from_slice(digest)?;
+    push_u64(out, dropped)?;
+    push_u32(out, size)
 }
 
 // Appends what stands between the settings and the last digest.
@@ -58,9 +72,7 @@ fn push_rest(
         ++ (head.now.digest ++ number_bytes 8 dropped ++ number_bytes 4 (length (front.now ++ back.now)) ++ (front.now ++ back.now))) }
 {
     let size = front.len() + back.len();
-    out.extend_from_slice(&head.digest)?;
-    push_u64(out, dropped)?;
-    push_u32(out, size as u32)?;
+    push_counts(out, &head.digest, dropped, size as u32)?;
     out.extend_from_slice(front)?;
     out.extend_from_slice(back)
 }
@@ -81,7 +93,8 @@ pub fn write_file(
 {
     let _bound = head.settings.log_size();
     let size = front.len() + back.len();
-    let mut out = settings_part(alloc, &head.settings, HEAD_SIZE + size + DIGEST_SIZE)?;
+    let mut out = Vec::with_capacity(alloc, HEAD_SIZE + size + DIGEST_SIZE)?;
+    push_settings(&mut out, VERSION, &head.settings)?;
     push_rest(&mut out, head, dropped, front, back)?;
     let digest = digest_of(&out);
     out.extend_from_slice(&digest)?;

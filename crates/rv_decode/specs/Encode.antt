@@ -132,9 +132,6 @@ format_of AmomaxuW = Atomic
 abbrev pub imm_bits : Instruction → ℕ
 imm_bits i = cast_unsigned w32 i.imm
 
-abbrev pub registers : ℕ → ℕ → ℕ → ℕ
-registers rd rs1 rs2 = rd * 2 ^ 7 + rs1 * 2 ^ 15 + rs2 * 2 ^ 20
-
 abbrev pub laid_s : ℕ → ℕ
 laid_s n = n / 2 ^ 5 * 2 ^ 25 + n % 2 ^ 5 * 2 ^ 7
 

@@ -16,10 +16,6 @@ abbrev pub row_by : List Row → (op rd f3 rs1 rs2 low f5 : ℕ) → Option Row
 row_by [] op rd f3 rs1 rs2 low f5 = None
 row_by (r ∷ rs) op rd f3 rs1 rs2 low f5 = elim (fits_fields r op rd f3 rs1 rs2 low f5) [ true ↦ Some r | false ↦ row_by rs op rd f3 rs1 rs2 low f5 ]
 
-abbrev pub name_by : Option Row → Option Name
-name_by None = None
-name_by (Some r) = Some r.name
-
 abbrev pub kind_by : Option Row → Option (Name × Format)
 kind_by None = None
 kind_by (Some r) = Some (r.name, r.format)

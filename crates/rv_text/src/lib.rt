@@ -3,7 +3,7 @@
 //! [`write_instr`] appends an instruction as an assembler would take it, with the registers by
 //! their names in the calling convention and no pseudo-instruction; [`write_row`] appends one line
 //! for what an instruction did. [`write_mark`] and [`write_end`] tell how an interval ended. All
-//! append to a [`Text`].
+//! append to a [`Text`]. [`end_with_decimal`] and [`end_with_hex8`] end a line.
 //!
 //! [`RowLines`] writes the lines of many rows fast: the same line for a row, from kept texts of the code that
 //! it wrote last, so that an instruction which is done again is not spelled again.
@@ -13,6 +13,7 @@ mod code;
 mod counts;
 mod digits;
 mod effects;
+mod endings;
 mod instructions;
 mod lines;
 mod marks;
@@ -21,6 +22,7 @@ mod operands;
 mod rows;
 mod text;
 
+pub use endings::{end_with_decimal, end_with_hex8};
 pub use instructions::write_instr;
 pub use lines::RowLines;
 pub use marks::{write_end, write_mark};

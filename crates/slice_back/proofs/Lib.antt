@@ -1,6 +1,5 @@
 mod Told
 mod Worked
-mod Loads
 mod Traces
 mod Backs
 mod Bools

@@ -1,13 +1,11 @@
 -- The lists of a slice ascend.
-use Rattle.std.proofs.Common.{◌≡◌, ℕ, zero, suc, ◌+◌, ◌-◌, ◌<◌, ◌≤◌, ◌^◌, ◌==◌, ◌&&◌, ◌||◌, ◌++◌, nat_lt, Bool, true, false, not, cond, List, [], ◌∷◌, map, take, Option, Some, None, Result, Ok, Err, refl, sym, ◌∙◌, ap, subst, arith}
+use Rattle.std.proofs.Common.{◌≡◌, ℕ, zero, suc, ◌+◌, ◌-◌, ◌<◌, ◌≤◌, ◌^◌, ◌==◌, ◌&&◌, ◌||◌, ◌++◌, nat_lt, Bool, true, false, not, List, [], ◌∷◌, map, take, Option, Some, None, Result, Ok, Err, refl, sym, ◌∙◌, ap, subst, arith}
 use Rattle.std.specs.Prelude.{slice_index}
 use Rattle.std.proofs.lemmas.Grind.{common_steps}
 use Rattle.bn_base.specs.Programs.{Program}
 use Rattle.bn_base.specs.Faults.{fault_number}
-use Rattle.bn_base.specs.declared.fault.Fault.{Fault}
 use Rattle.bn_base.specs.declared.row.Row.{Row}
 use Rattle.bn_base.specs.declared.state.HartState.{HartState}
-use Rattle.log_record.specs.declared.record.Record.{Record}
 use Rattle.rv_meaning.specs.Access.{stored_word, amo_result}
 use Rattle.rv_meaning.specs.Execute.{Step, Quiet, Asks, step, count_up, count_up_if, is_exit, absorbed}
 use Rattle.rv_meaning.specs.declared.asks.Ask.{Ask}
@@ -15,12 +13,11 @@ use Rattle.rv_meaning.specs.declared.asks.Want.{Want}
 use Rattle.rv_meaning.specs.declared.asks.Want.TheVariants.{Load, Store, LoadReserved, StoreConditional, Amo, System, Cut, Faulted}
 use Rattle.rv_meaning.specs.declared.asks.Reply.TheVariants.{Word, Stored, Answer, Over}
 use Rattle.rv_meaning.specs.Rows.{row_of, call_row, fault_row}
-use Rattle.hart_replay.specs.Replay.{Outcome, Done, Refused, Replayed, Interval, Position, Next, On, Stop, word_for, missing, after_ask, after_sc, slot, call_reason, found, ask_step, one_step, steps, interval_of, replayed_in, first}
+use Rattle.hart_replay.specs.Replay.{Outcome, Done, Refused, Interval, Position, Next, On, Stop, word_for, missing, after_ask, after_sc, slot, call_reason, found, ask_step, one_step, steps, interval_of, replayed_in, first}
 use Rattle.hart_replay.specs.Scans.{Pending}
-use Rattle.hart_replay.specs.declared.error.ReplayError.{ReplayError}
 use Rattle.hart_replay.specs.declared.error.ReplayError.TheVariants.{EndDiffers, ScMissing}
 use Rattle.slice_back.specs.declared.error.SliceError.{SliceError}
-use Rattle.slice_back.specs.declared.error.SliceError.TheVariants.{Replay, NoRow}
+use Rattle.slice_back.specs.declared.error.SliceError.TheVariants.{Replay}
 use Rattle.slice_back.specs.declared.lists.Slice.{Slice}
 use Rattle.slice_back.specs.declared.noted.Noted.{Noted}
 use Rattle.slice_back.specs.Uses.{is_branch}

@@ -11,6 +11,7 @@ use Rattle.slice_back.specs.Uses.{is_of, is_word, word_of, uses_register, writes
 use Rattle.slice_back.specs.Slices.{Live, noted, noted_from, live, writes_live, stores_live, gives, is_last, in_slice, row_if, slice_rows}
 use Rattle.slice_back.specs.Agreeing.{bare, RowsUpTo, SliceSuffices}
 use Rattle.slice_back.proofs.Bools.{same_number, equal_numbers}
+use Rattle.hart_replay.specs.Laws.{AreMetByPlace}
 use Rattle.slice_back.proofs.Places.{linked_first}
 use Rattle.slice_back.proofs.RowsOn.{rows_on, steps_rows, up_to_front}
 use Rattle.slice_back.proofs.Matching.{Match, Matched, matched}
@@ -128,14 +129,14 @@ register_count x r = ap length r.zero_first ∙ ap (λ n. suc n) r.count
 register_zero : (x : List ℕ) → AreRegisters x → slice_index x 0 ≡ 0
 register_zero x r = ap (λ xs. slice_index xs 0) r.zero_first
 
-pub suffices : SliceSuffices
-suffices i records others h c ic g d jc v w es fs r s a =
+pub suffices : AreMetByPlace → SliceSuffices
+suffices law i records others h c ic g d jc v w es fs r s a =
     let one = rows_from i records h c ic v es r in
     let two = rows_from i others g d jc w fs s in
     rows_same es fs (matched i h g v w (v.mark.ic - v.start.ic) (w.mark.ic - w.start.ic) (first v) (first w) (record { loads = v.loads; skipped = 0 }) (record { loads = w.loads; skipped = 0 }) es fs one.0 two.0 one.1 two.1
     (record {
-      linked = linked_first v;
-      other_linked = linked_first w;
+      linked = linked_first law v;
+      other_linked = linked_first law w;
       count = register_count v.start.x r.registers;
       other_count = register_count w.start.x s.registers;
       alike = a.rows;

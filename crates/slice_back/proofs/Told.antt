@@ -1,11 +1,11 @@
 -- A slice as its text.
-use Rattle.std.proofs.Common.{◌≡◌, ◌⊎◌, ℕ, List, Option, Some, None, ◌∙◌, ap, sym, refl, inl, inr, arith}
+use Rattle.std.proofs.Common.{◌≡◌, ℕ, List, Option, Some, None, ◌∙◌, ap, sym, refl, inl, inr, arith}
 use Rattle.std.specs.Prelude.{IsSome, Result, Ok, Err}
 use Rattle.bn_base.specs.Programs.{Program}
 use Rattle.log_record.specs.declared.record.Record.{Record}
 use Rattle.hart_replay.specs.Replay.{Interval, interval_of, replayed_in}
 use Rattle.slice_back.specs.Answers.{IsAnswer}
-use Rattle.slice_back.specs.Slices.{slice_in, sliced}
+use Rattle.slice_back.specs.Slices.{slice_in}
 use Rattle.slice_back.specs.Texts.{slice_text, text_of, IsTextAnswer}
 use Rattle.slice_back.specs.declared.error.SliceError.{SliceError}
 use Rattle.slice_back.specs.declared.error.SliceError.TheVariants.{OutOfMemory}

@@ -1,76 +1,15 @@
 //! The first loads of an interval.
-ghost use Rattle.std.specs.Prelude.{◌≡◌, ◌∷◌, ℕ, List, drop, IfOk};
-ghost use Rattle.log_record.specs.declared.record.Record.{Record};
-ghost use Rattle.hart_replay.specs.Replay.{Logged, put, interval_of};
-ghost use Rattle.hart_replay.specs.Scans.{loads_in, scanned, due, met};
-ghost use Rattle.slice_back.specs.FirstLoads.{loads_of, begun, loads_behind, AreLoadsOf};
+ghost use Rattle.std.specs.Prelude.{◌≡◌, drop, IfOk};
+ghost use Rattle.hart_replay.specs.Replay.{interval_of};
+ghost use Rattle.hart_replay.specs.Scans.{loads_in, due, met};
+ghost use Rattle.slice_back.specs.FirstLoads.{AreLoadsOf};
 
 use bn_base::HartId;
-use log_record::{Record, RecordList};
+use hart_replay::header::find;
+use hart_replay::scan::load_in;
+use log_record::RecordList;
 use std::alloc::{AllocError, Global};
 use std::marker::Model;
-
-// The hart of an interval whose Header a record is.
-fn header_of(hart: u64, interval: u64, entry: &Record) -> Option<HartId>
-    ensures { (rs : List Record) → loads_of (interval_of hart interval (entry.now ∷ rs)) ≡ begun result rs (loads_of (interval_of hart interval rs)) }
-{
-    match *entry {
-        Record::Header {
-            hart: of,
-            interval: number,
-            ..
-        } => {
-            if of as u64 == hart && number == interval {
-                Some(of)
-            } else {
-                None
-            }
-        }
-        Record::FirstLoad { .. } => None,
-        Record::ScOk { .. } => None,
-        Record::ScFailed { .. } => None,
-        Record::Edge { .. } => None,
-        Record::End { .. } => None,
-    }
-}
-
-// The hart of an interval and the place after its Header.
-fn header_in(hart: u64, interval: u64, records: &RecordList) -> Option<(HartId, usize)>
-    ensures { loads_of (interval_of hart interval records.now) ≡ loads_behind result records.now }
-{
-    for place in 0..records.len() {
-        if let Some(hart) = header_of(hart, interval, &records.get(place)) {
-            return Some((hart, place + 1));
-        }
-    }
-    None
-}
-
-// What a record says of the first loads of a hart's interval: nothing, or that there are no more,
-// or one.
-#[tactic(auto, using(crate::proofs::Loads::loads_of_ok, crate::proofs::Loads::loads_of_failed))]
-fn load_in(hart: HartId, entry: &Record) -> Option<Option<(u32, u32)>>
-    ensures { (l : Logged) → (put hart entry.now l).loads ≡ scanned result l.loads }
-{
-    match *entry {
-        Record::FirstLoad {
-            hart: of,
-            skip,
-            value,
-        } => {
-            if of == hart {
-                Some(Some((skip, value)))
-            } else {
-                None
-            }
-        }
-        Record::End { hart: of, .. } => { if of == hart { Some(None) } else { None } }
-        Record::Header { .. } => None,
-        Record::ScOk { .. } => None,
-        Record::ScFailed { .. } => None,
-        Record::Edge { .. } => None,
-    }
-}
 
 // Those of a hart (skip, value) among the records from a place on, up to its next End.
 fn loads_from(
@@ -101,9 +40,9 @@ pub(crate) fn first_loads(
 ) -> Result<Vec<(u32, u32)>, AllocError>
     ensures { IfOk result (λ loads. AreLoadsOf (interval_of hart interval records.now) loads.items) }
 {
-    match header_in(hart, interval, records) {
+    match find(hart, interval, records, 0) {
         None => Ok(Vec::new(alloc)),
-        Some((hart, place)) => loads_from(alloc, hart, records, place),
+        Some(start) => loads_from(alloc, start.hart, records, start.next),
     }
 }
 

@@ -3,6 +3,7 @@ ghost use Rattle.slice_back.specs.Agreeing.{SliceSuffices};
 ghost use Rattle.slice_back.specs.Ascending.{SlicesAscend};
 ghost use Rattle.slice_back.specs.Laws.{RowsAreLeast, RegistersAreFromBefore, WordsAreTaken};
 
+use hart_replay::laws::first_loads_are_met_by_place;
 use rv_meaning::each_instruction_is_counted_or_asks;
 
 /// A row is told exactly where it is in the least set that has the given row and, with each row, the
@@ -17,7 +18,9 @@ pub fn slices_are_least()
 /// words that the slice of a row says it took, the slices have the same rows.
 pub fn slices_suffice()
     ensures { SliceSuffices }
-{}
+{
+    first_loads_are_met_by_place();
+}
 
 /// The lists of a slice ascend: its rows, words and branches by their counts, its registers by their
 /// numbers. So nothing is told twice.

@@ -5,28 +5,8 @@ ghost use Rattle.rv_text.specs.Texts.{BeginsWith};
 ghost use Rattle.slice_back.specs.Texts.{head_text, register_line, word_line, branch_line};
 
 use bn_base::{Addr, Ic, Register, Row};
-use rv_text::{Text, register_name, write_row};
+use rv_text::{Text, end_with_decimal, end_with_hex8, register_name, write_row};
 use std::alloc::AllocError;
-
-// A count behind a space, and the end of the line.
-fn write_count(ic: Ic, text: &mut Text) -> Result<(), AllocError>
-    ensures ok { OnOk result (text.new ≡ text.old ++ (codes " " ++ decimal ic ++ codes "\n")) }
-    ensures begins { BeginsWith text.old text.new }
-{
-    text.push_str(" ")?;
-    text.push_decimal(ic)?;
-    text.push_str("\n")
-}
-
-// A value behind its sign of equality, and the end of the line.
-fn write_value(value: u32, text: &mut Text) -> Result<(), AllocError>
-    ensures ok { OnOk result (text.new ≡ text.old ++ (codes "=" ++ hex8 value ++ codes "\n")) }
-    ensures begins { BeginsWith text.old text.new }
-{
-    text.push_str("=")?;
-    text.push_hex8(value)?;
-    text.push_str("\n")
-}
 
 // The first line, which may stop in the middle.
 #[tactic(auto, unfolding(crate::specs::Texts::head_text))]
@@ -36,7 +16,7 @@ fn write_head_parts(hart: u64, ic: Ic, text: &mut Text) -> Result<(), AllocError
 {
     text.push_str("slice ")?;
     text.push_decimal(hart)?;
-    write_count(ic, text)
+    end_with_decimal(" ", ic, text)
 }
 
 /// Appends the first line of a slice: the word `slice`, the hart and the count of the row in decimal.
@@ -61,7 +41,7 @@ fn write_register_parts(register: Register, value: u32, text: &mut Text) -> Resu
 {
     text.push_str("in ")?;
     text.push_str(register_name(register.number()))?;
-    write_value(value, text)
+    end_with_hex8("=", value, text)
 }
 
 /// Appends the line of a register from before the interval: the word `in`, its name, and its contents
@@ -84,7 +64,7 @@ fn write_contents(addr: Addr, word: u32, text: &mut Text) -> Result<(), AllocErr
     ensures begins { BeginsWith text.old text.new }
 {
     text.push_hex8(addr)?;
-    write_value(word, text)
+    end_with_hex8("=", word, text)
 }
 
 // The word for what was there before, and the count of the row that took it.

@@ -1,6 +1,5 @@
 pub mod Digits
 pub mod Bytes
-pub mod Positions
 pub mod Stepping
 pub mod Sent
 pub mod Saying

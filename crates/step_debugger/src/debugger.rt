@@ -45,7 +45,7 @@ pub fn debug<I: Source, O: Sink>(
         match reader.next(input) {
             Err(error) => return Err(error),
             Ok(whole) => {
-                match answer(alloc, trail, &mut focus, reader.line(), &mut text, out) {
+                match answer(trail, &mut focus, reader.line(), &mut text, out) {
                     Err(error) => return Err(error),
                     Ok(ending) => match ending {
                         Ending::GoesOn => {

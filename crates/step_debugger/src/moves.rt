@@ -2,7 +2,7 @@
 ghost use Rattle.std.specs.Prelude.{◌≡◌, ◌<◌, true, false, length, Some, None, MatchOption, IfOk};
 ghost use Rattle.joint_replay.specs.declared.kinds.Readiness.TheVariants.{Ready};
 ghost use Rattle.joint_replay.specs.declared.kinds.Next.TheVariants.{Hart};
-ghost use Rattle.joint_replay.specs.Joining.{readiness, choice, positions_from};
+ghost use Rattle.joint_replay.specs.Joining.{readiness, choice};
 ghost use Rattle.joint_replay.specs.Calls.{state_at};
 ghost use Rattle.step_debugger.specs.Answers.{pc_at, is_set, stop_at, stop_unless};
 ghost use Rattle.step_debugger.specs.Goings.{refused_by, StepsOnce, GoesOnce, StepsApart};
@@ -11,10 +11,9 @@ use crate::error::DebugError;
 use crate::session::Ending;
 use crate::texts::{push_stop, push_waits};
 use back_step::Trail;
-use bn_base::{Addr, HartId, HartState, Ic, List};
+use bn_base::{Addr, HartId, HartState, Ic};
 use joint_replay::{Coming, Joint, JointError, Next, Readiness, write_step};
 use rv_text::Text;
-use std::alloc::{AllocError, Global};
 
 /// Whether a hart can take its next step; one that isn't there is done.
 pub(crate) fn ready(joint: &Joint, hart: HartId) -> Readiness
@@ -145,19 +144,6 @@ fn stop_unless(first: bool, breaks: &[Addr], joint: &Joint, hart: HartId) -> Opt
     }
 }
 
-// The harts that aren't done, each with its next count.
-fn positions(alloc: Global, joint: &Joint) -> Result<List<(HartId, Ic)>, AllocError>
-    ensures { IfOk result (λ found. found ≡ positions_from 0 joint.now.lanes) }
-{
-    let mut found = Vec::new(alloc);
-    for hart in 0..joint.harts() {
-        if let Some(coming) = joint.coming(hart) {
-            found.push((hart, coming.ic()))?;
-        }
-    }
-    Ok(List::from_vec(found))
-}
-
 // One more step of the lowest ready hart, or the stop before it.
 fn go_past(
     trail: &mut Trail,
@@ -187,7 +173,6 @@ fn go_past(
 
 /// One more step of the lowest ready hart, which isn't told; or how the steps end.
 pub(crate) fn go_once(
-    alloc: Global,
     trail: &mut Trail,
     first: bool,
     breaks: &[Addr],
@@ -201,7 +186,7 @@ pub(crate) fn go_once(
             Ok(()) => Ok(Some(Ending::GoesOn)),
             Err(_) => Err(DebugError::OutOfMemory),
         },
-        Next::NoneReady => match positions(alloc, trail.joint()) {
+        Next::NoneReady => match trail.joint().positions() {
             Ok(positions) => Ok(Some(Ending::Refused(JointError::Stuck { positions }))),
             Err(_) => Err(DebugError::OutOfMemory),
         },

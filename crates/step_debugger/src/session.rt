@@ -18,7 +18,7 @@ use bn_base::{Addr, HartId};
 use bn_outside::Sink;
 use joint_replay::{Joint, JointError};
 use rv_text::Text;
-use std::alloc::{AllocError, Global};
+use std::alloc::AllocError;
 
 /// Whether a session goes on after a command.
 #[derive(Drop)]
@@ -164,18 +164,13 @@ fn step_up_to<O: Sink>(
 }
 
 // All harts step, the lowest ready one first, up to a breakpoint.
-fn go(
-    alloc: Global,
-    trail: &mut Trail,
-    breaks: &[Addr],
-    text: &mut Text,
-) -> Result<Ending, DebugError>
+fn go(trail: &mut Trail, breaks: &[Addr], text: &mut Text) -> Result<Ending, DebugError>
     ensures told { Goes breaks.now trail.old.trace result trail.new.trace text.old text.new }
     ensures apart { TellsApart trail.old.trace result trail.new.trace }
 {
     let mut first = true;
     'steps: loop {
-        match go_once(alloc, trail, first, breaks, text) {
+        match go_once(trail, first, breaks, text) {
             Err(error) => return Err(error),
             Ok(Some(ending)) => return Ok(ending),
             Ok(None) => first = false,
@@ -197,7 +192,6 @@ fn done(written: Result<(), AllocError>) -> Result<Ending, DebugError>
 
 // Does a command. Its answer is put behind what waits of the text.
 fn perform<O: Sink>(
-    alloc: Global,
     trail: &mut Trail,
     focus: &mut Focus,
     command: DebugCommand,
@@ -213,7 +207,7 @@ fn perform<O: Sink>(
         DebugCommand::Empty => Ok(Ending::GoesOn),
         DebugCommand::Hart(number) => done(choose(trail, focus, number, text)),
         DebugCommand::Step(count) => step_up_to(trail, focus.hart, count, text, out),
-        DebugCommand::Go => go(alloc, trail, &focus.breaks, text),
+        DebugCommand::Go => go(trail, &focus.breaks, text),
         DebugCommand::Back(count) => back(trail, count, text),
         DebugCommand::ReverseGo => back_to_stop(trail, &focus.breaks, text),
         DebugCommand::Break(addr) => done(add_break(trail, focus, addr, text)),
@@ -228,7 +222,6 @@ fn perform<O: Sink>(
 
 /// Does the command that a line is, and sends its answer.
 pub(crate) fn answer<O: Sink>(
-    alloc: Global,
     trail: &mut Trail,
     focus: &mut Focus,
     line: &[u8],
@@ -241,7 +234,7 @@ pub(crate) fn answer<O: Sink>(
     ensures later { O.faults out.old ≤ O.faults out.new }
 {
     text.clear();
-    match perform(alloc, trail, focus, command_of(line), text, out) {
+    match perform(trail, focus, command_of(line), text, out) {
         Err(error) => Err(error),
         Ok(ending) => match send(text, out) {
             Ok(()) => Ok(ending),

@@ -6,6 +6,3 @@ use Rattle.vector_time.specs.declared.times.Times.{Times}
 abbrev pub count_of : Times → ℕ → ℕ
 count_of times hart = slice_index times.counts hart
 
--- the counts of all harts there can be
-abbrev pub counts_in : Times → List ℕ
-counts_in times = times.counts

@@ -9,13 +9,13 @@ ghost use Rattle.bugnet.specs.Run.{printing, Tells};
 
 use crate::answer::{Answer, read_log};
 use crate::inputs::{LOG_LIMIT, fetch};
-use crate::logs::next_mark;
 use crate::names::{Names, Role};
 use crate::refusal::Refusal;
 use crate::send::{refuse, send, send_block};
 use crate::texts::push_interval;
 use bn_base::EndMark;
 use bn_outside::{Sink, Store};
+use hart_replay::scan::next_mark;
 use log_order::KeptLog;
 use log_record::{Record, RecordList};
 use rv_text::Text;

@@ -10,7 +10,6 @@ ghost use Rattle.bugnet.specs.declared.refusal.Refusal.TheVariants.{OutOfMemory}
 
 use crate::answer::{Answer, IntervalToReplay, digest_of, load_program, read_log};
 use crate::inputs::{ELF_LIMIT, LOG_LIMIT, fetch};
-use crate::logs::interval_mark;
 use crate::names::{Names, Role};
 use crate::refusal::Refusal;
 use crate::replay_lines::{ReplayEnd, send_interval};
@@ -115,16 +114,9 @@ pub fn replay_of(
     }
 }
 
-// A replay before its first row, and the mark of its interval.
-#[derive(Drop)]
-struct Begun<'a> {
-    replayer: Replayer<'a>,
-    mark: EndMark,
-}
-
 // Begins the replay of an interval.
-fn begin(alloc: Global, reading: &IntervalToReplay) -> Result<Begun<'_>, Refusal>
-    ensures begun { IfOk result (λ b. IsBegun reading.now b.replayer b.mark) }
+fn begin(alloc: Global, reading: &IntervalToReplay) -> Result<Replayer<'_>, Refusal>
+    ensures begun { IfOk result (λ r. IsBegun reading.now r r.mark) }
     ensures refused { IfErr result (λ r. IsAbsent reading.now r ⊎ (r ≡ OutOfMemory)) }
 {
     match Replayer::begin(
@@ -136,10 +128,7 @@ fn begin(alloc: Global, reading: &IntervalToReplay) -> Result<Begun<'_>, Refusal
     ) {
         Err(ReplayError::OutOfMemory) => Err(Refusal::OutOfMemory),
         Err(error) => Err(Refusal::ReplayStopped(error)),
-        Ok(replayer) => match interval_mark(reading.hart, reading.interval, reading.log.records()) {
-            Some(mark) => Ok(Begun { replayer, mark }),
-            None => unreachable!(),
-        },
+        Ok(replayer) => Ok(replayer),
     }
 }
 
@@ -191,9 +180,9 @@ pub fn print_interval<O: Sink, X: Sink>(
 {
     match begin(alloc, reading) {
         Err(refusal) => refuse(alloc, names, &refusal, err),
-        Ok(mut begun) => {
-            let mark = begun.mark;
-            print_begun(alloc, names, reading, &mark, &mut begun.replayer, out, err)
+        Ok(mut replayer) => {
+            let mark = replayer.mark();
+            print_begun(alloc, names, reading, &mark, &mut replayer, out, err)
         }
     }
 }

@@ -1,7 +1,0 @@
-use Rattle.std.proofs.Common.{◌≡◌, ◌++◌, drop}
-use Rattle.joint_replay.specs.Joining.{positions_from}
-use Rattle.step_debugger.proofs.moves.positions.Given as goal
-
--- those of the harts before are found
-abbrev pub invariant-loop-hart : goal.invariant-loop-hart
-invariant-loop-hart l = l.found.items ++ positions_from l.hart (drop l.hart l.joint.lanes) ≡ positions_from 0 l.joint.lanes
