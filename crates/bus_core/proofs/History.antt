@@ -81,6 +81,11 @@ pub history_turned : (p q : PlainParts) (h d : Bool) (rows : List TurnRow) (k : 
 history_turned p q true d rows k ask len live same o asks turns is = absurd (false_true (none_is_live p.trace.harts.items (after_rows p.start.settings p.start.image (first_run (began_of p.start)) rows).harts k is.run.trace.harts live))
 history_turned p q false d rows k ask len live same o asks turns is = row_turned p q d rows k ask len live same o asks turns is
 
+-- a bus with a live hart wasn't halted
+pub live_runs : (p : PlainParts) (h d : Bool) (rows : List TurnRow) (k : ℕ) → IsHistory p h d rows → is_live p k ≡ true → h ≡ false
+live_runs p true d rows k is live = absurd (false_true (none_is_live p.trace.harts.items (after_rows p.start.settings p.start.image (first_run (began_of p.start)) rows).harts k is.run.trace.harts live))
+live_runs p false d rows k is live = refl
+
 -- ---- other changes
 
 -- a halt

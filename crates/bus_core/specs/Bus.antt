@@ -136,10 +136,10 @@ pub record IsKept (tells : Bool) (rows : List TurnRow) (p : PlainParts) (halted 
   pub told : tells ≡ true → IsHistory p halted disordered rows
   pub some : (rs : List TurnRow) × IsHistory p halted disordered rs
 
--- what the type of a bus says of the rows of its book: they are lawful, and the machine and the harts are as they leave them
-pub record IsTold (s : Seen) : Type 0 where
-  pub told : AreTold s.began s.disordered s.rows
-  pub state : IsState s (run_after s.began s.halted s.rows)
+-- these rows led to the bus: they are lawful, and the machine and the harts are as they leave them
+pub record IsTold (s : Seen) (rows : List TurnRow) : Type 0 where
+  pub told : AreTold s.began s.disordered rows
+  pub state : IsState s (run_after s.began s.halted rows)
 
 -- and of those that a book doesn't tell, with a ring that holds the log. Its records keep the rules of single records, and each
 -- of their Edges comes from an instruction that its source has done

@@ -59,7 +59,8 @@ impl<B: Book> Bus<B> {
     pub fn rows(&self) -> Option<&[TurnRow]>
         ensures tells { is_some result ≡ B.tells }
         ensures rows { IfSome result (λ rows. rows.now ≡ self.now.rows) }
-        ensures told { B.tells ≡ true → IsTold self.now }
+        ensures told { B.tells ≡ true → IsTold self.now self.now.rows }
+        ensures some { (rows : List TurnRow) × IsTold self.now rows }
     {
         self.book.rows()
     }
@@ -70,6 +71,7 @@ impl<B: Book> Bus<B> {
         ensures run { (run : Run) → IsState self.now run → result ≡ runs.is_live self.now.began.settings run hart }
         ensures within { is_live self.now hart ≡ true → hart < self.now.began.settings.harts }
         ensures left { is_live self.now hart ≡ true → self.now.turns < most_turns self.now.began.settings }
+        ensures running { is_live self.now hart ≡ true → self.now.halted ≡ false }
     {
         self.plain.live(hart)
     }

@@ -3,7 +3,7 @@ ghost use Rattle.std.specs.Prelude.{◌≡◌, true, false, [], length, slice_ge
 ghost use Rattle.rv_meaning.specs.Orderly.{is_reply_to};
 ghost use Rattle.run_laws.specs.History.{IsOwn, Place, ask_from};
 ghost use Rattle.run_laws.specs.Laws.{place_over};
-ghost use Rattle.hart_worker.specs.Threads.{place_at, taken_after, IsDriven, reply_with, answer_with};
+ghost use Rattle.hart_worker.specs.Threads.{place_at, taken_after, IsDriven, IsLed, reply_with, answer_with};
 
 use crate::hart_place::HartPlace;
 use bn_base::{HartId, Settings};
@@ -17,13 +17,17 @@ use std::sync::Wait;
 // A worker is generic over it, so that its contract names the turns that were taken: of a bus nothing can be said
 // once its lock is given back.
 pub trait TurnPort {
-    ghost use Rattle.std.specs.Prelude.{Bool, List};
+    ghost use Rattle.std.specs.Prelude.{ℕ, Bool, List};
     ghost use Rattle.rv_meaning.specs.declared.asks.Ask.{Ask};
+    ghost use Rattle.rv_meaning.specs.declared.asks.Reply.{Reply};
     ghost use Rattle.bn_outside.specs.declared.turn_row.TurnRow.{TurnRow};
     ghost use Rattle.run_laws.specs.History.{Place};
 
     /// Which asks ports of this type take from a hart at a place.
     ghost takes: { Place → Ask → Type 0 };
+
+    /// What may be answered to a hart's ask: a reply, and whether the ask was guarded.
+    ghost answers: { ℕ → Ask → Reply × Bool → Type 0 };
 
     /// Whether ports of this type tell the turns that were taken.
     ghost tells: { Bool };
@@ -44,12 +48,14 @@ pub trait TurnPort {
     ) -> Result<Option<(Reply, bool)>, AllocError>
         requires { takes (place_at place.now) ask.now }
         ensures fits { IfOk result (λ o. IfSome o (λ r. IsTrue (is_reply_to ask.now.want r.0))) }
+        ensures answered { IfOk result (λ o. IfSome o (λ r. answers hart ask.now r)) }
         ensures taken { IfOk result (λ o. taken self.new ≡ taken_after tells (taken self.old) hart ask.now o) }
         ensures over { IfOk result (λ o. over self.new ≡ is_none o) };
 }
 
 /// Runs one hart from a place until it is over, and gives where it is then. Each turn is one call of the
-/// port, between the gate's `pass` and `served`; what is asked is what the hart asks next.
+/// port, between the gate's `pass` and `served`; what is asked is what the hart asks next, and what is answered
+/// is what the port answers, also by a port that tells nothing.
 pub fn drive<D: TurnPort, G: Gate, R: Wait>(
     rt: &R,
     port: &mut D,
@@ -62,6 +68,7 @@ pub fn drive<D: TurnPort, G: Gate, R: Wait>(
     requires first { D.taken port.old ≡ [] }
     requires asks { (p : Place) → D.takes p (ask_from settings.now code.now p) }
     ensures driven { IfOk result (λ place. IsDriven D.tells settings.now code.now hart (place_at first) (D.taken port.new) (place_at place)) }
+    ensures led { IfOk result (λ place. IsLed D.answers settings.now code.now hart (place_at first) (place_at place)) }
     ensures over { OnOk result (D.over port.new ≡ true) }
 {
     own_rows_grow();
@@ -129,6 +136,8 @@ impl TurnPort for MemoryPort {
     ghost use Rattle.std.specs.Prelude.{true};
 
     ghost takes = { λ place ask. Unit {0} };
+
+    ghost answers = { λ hart ask answered. Unit {0} };
 
     ghost tells = { true };
 

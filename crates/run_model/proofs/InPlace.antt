@@ -1,6 +1,6 @@
 -- A turn whose quiet instructions are done in the hart's own place.
-use Rattle.std.proofs.Common.{◌≡◌, ◌≢◌, ℕ, zero, suc, ◌+◌, ◌-◌, ◌*◌, ◌<◌, ◌≤◌, ◌==◌, ◌++◌, Bool, true, false, List, [], length, sym, ◌∙◌, ap, subst, arith, refl, inl, inr}
-use Rattle.std.specs.Prelude.{IsTrue, slice_set, slice_get, Option, Some, None, nat_le, nat_lt, ◌&&◌}
+use Rattle.std.proofs.Common.{◌≡◌, ◌≢◌, ℕ, ◌+◌, ◌-◌, ◌*◌, ◌<◌, ◌≤◌, ◌==◌, ◌++◌, Bool, true, false, List, [], length, sym, ◌∙◌, ap, subst, arith, refl, inl, inr}
+use Rattle.std.specs.Prelude.{IsTrue, slice_set, Some, None, nat_le, nat_lt, ◌&&◌}
 use Rattle.std.proofs.lemmas.List.{get_or-set_same, get_or-set_other, length-set, set-set, set-get_or}
 use Rattle.std.proofs.lemmas.Bool.Decides.{eqb_tells}
 use Rattle.bn_base.specs.Programs.{Program}
@@ -23,8 +23,8 @@ use Rattle.run_model.specs.declared.turn_end.TurnEnd.{TurnEnd}
 use Rattle.run_model.specs.declared.turn_end.TurnEnd.TheVariants.{GoesOn, NewInterval, HartOver, RunOver}
 use Rattle.run_model.specs.declared.trace.Trace.{Trace}
 use Rattle.run_model.specs.Machine.{answer}
-use Rattle.run_model.specs.Turn.{Run, budget, is_orderly, serve_call, span_of, counted, next_of, point_of, edge_records, load_record, sc_record, next_records, run_over_records, warmth, loading, word_before, hart_after, harts_after, other_after, skipped_after, events_after, is_guarded, bytes_since}
-use Rattle.run_model.specs.Counts.{IsFit, IsRested, turns_left}
+use Rattle.run_model.specs.Turn.{Run, budget, is_orderly, serve_call, span_of, counted, point_of, edge_records, load_record, sc_record, next_records, run_over_records, warmth, loading, word_before, hart_after, harts_after, other_after, skipped_after, events_after, is_guarded, bytes_since}
+use Rattle.run_model.specs.Counts.{IsRested, turns_left}
 use Rattle.run_model.specs.Stands.EachCache.{steps_in, AreCaches}
 use Rattle.run_model.specs.Stands.Harts.{AreHarts, hart_in, no_hart, all_left}
 use Rattle.run_model.specs.Stands.InPlace.{ask_here, in_state, moved_harts, moved_run, IsMoved}
@@ -32,9 +32,9 @@ use Rattle.run_model.specs.Stands.Logs.{taken, IsLog}
 use Rattle.run_model.specs.Stands.Plain.{IsTraceFit, IsHartFit, IsTrace, IsSwept, everyone, IsRun, PlainParts}
 use Rattle.run_model.specs.Stands.Parts.{MachineParts, IsMachine}
 use Rattle.run_model.specs.declared.start.Start.{Start}
-use Rattle.run_model.proofs.Fits.{counted_by, guarded_below, left_live, both_is, le_is, lt_is}
+use Rattle.run_model.proofs.Fits.{counted_by, guarded_below, left_live, le_is, lt_is}
 use Rattle.run_model.proofs.MoveOn.{budget_interval, some_budget}
-use Rattle.run_model.proofs.Asked.{all_less, eqb_same, other_stays, if_false}
+use Rattle.run_model.proofs.Asked.{all_less, eqb_same, other_stays}
 use Rattle.run_model.proofs.Owns.{hart_of_run}
 use Rattle.run_model.proofs.Stopping.{own_set, with_own}
 

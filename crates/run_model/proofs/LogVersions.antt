@@ -1,5 +1,5 @@
 -- The number of its version stands in the bytes 8 to 11 of a log file.
-use Rattle.std.proofs.Common.{◌≡◌, ℕ, true, false, List, [], ◌∷◌, ◌++◌, take, drop, append_assoc, append-nil, refl, sym, ◌∙◌, ap}
+use Rattle.std.proofs.Common.{◌≡◌, ℕ, true, false, List, [], ◌++◌, append_assoc, append-nil, refl, sym, ◌∙◌, ap}
 use Rattle.bn_base.specs.declared.settings.RawSettings.{RawSettings}
 use Rattle.le_numbers.specs.Numbers.{number_bytes}
 use Rattle.log_order.specs.Content.{Content}

@@ -1,10 +1,20 @@
 -- Parts stand for a machine.
-use Rattle.std.proofs.Common.{◌≡◌, ℕ, List, refl, sym, ◌∙◌, subst}
-use Rattle.std.specs.Prelude.{Option, drop}
+use Rattle.std.proofs.Common.{◌≡◌, ◌/◌, ℕ, List, refl, sym, ◌∙◌, subst}
+use Rattle.std.specs.Prelude.{Option, None, drop, get_or}
 use Rattle.bus_memory.specs.Contents.{HoldsMap}
 use Rattle.run_model.specs.Machine.{Machine}
 use Rattle.run_model.specs.Stands.Parts.{MachineParts, IsMachine, IsSameMachine, AreReserved}
-use Rattle.run_model.specs.Stands.Plain.{meant}
+
+-- one of the machines that the parts represent
+abbrev pub meant : List ℕ → MachineParts → Machine
+meant input p = record {
+  memory = λ a. get_or p.memory.words (a / 4) 0;
+  reserved = λ k. get_or p.reserved k None;
+  brk = p.brk;
+  input = drop p.taken input;
+  out = p.out;
+  err = p.err;
+}
 
 pub is_meant : (input : List ℕ) (p : MachineParts) → IsMachine input p (meant input p)
 is_meant input p = record {

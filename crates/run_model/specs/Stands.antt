@@ -10,3 +10,4 @@ pub mod Turning
 pub mod First
 pub mod Tracing
 pub mod InPlace
+pub mod Accessed

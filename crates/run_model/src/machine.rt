@@ -13,10 +13,12 @@ ghost use Rattle.race_log.specs.declared.mode.Mode.TheVariants.{Read, Write};
 ghost use Rattle.system_calls.specs.declared.effect.Plan.TheVariants as plans;
 ghost use Rattle.system_calls.specs.Calls.{stream_size, IsWithin};
 ghost use Rattle.bus_memory.specs.Contents.{Contents, updated, has_page};
-ghost use Rattle.run_model.specs.Machine.{Machine as Meant, answered, with_memory, with_reserved, reserving, others_lose, answer, answer_call, answer_access, answer_amo, answer_sc, answer_store, call_of, cut_reply, is_reserved, word_count};
+ghost use Rattle.run_model.specs.Machine.{Machine as Meant, answered, with_memory, with_reserved, reserving, others_lose, answer, answer_call, answer_access, answer_amo, answer_sc, answer_store};
+ghost use Rattle.run_model.specs.Machine.{call_of, cut_reply, is_reserved, word_count};
 ghost use Rattle.run_model.specs.Turn.{loading, word_before, span_of, call_span, span};
 ghost use Rattle.run_model.specs.Runs.{start_machine};
-ghost use Rattle.run_model.specs.Stands.Parts.{MachineParts, IsMachine, IsPlanned, IsSameMachine, AreWordsIn, AreWordsReady, AreAddresses, IsSpanReady, has_width, HasCallRoom, HasPlanRoom, HasStreamRoom, HasRoom, IsAnswer, size_of, kernel_in};
+ghost use Rattle.run_model.specs.Stands.Parts.{MachineParts, IsMachine, IsPlanned, IsSameMachine, AreWordsIn, AreWordsReady, AreAddresses, IsSpanReady, has_width, HasCallRoom, HasPlanRoom};
+ghost use Rattle.run_model.specs.Stands.Parts.{HasStreamRoom, HasRoom, IsAnswer, size_of, kernel_in};
 
 mod bytes;
 mod reservations;

@@ -29,6 +29,7 @@ ghost use Rattle.run_model.specs.Stands.Logs.{taken, IsLog, is_marked_next};
 ghost use Rattle.run_model.specs.Stands.Tracing.{CachesGoOn, next_by, harts_by, with_ends};
 ghost use Rattle.run_model.specs.Stands.EachCache.{AreCaches, steps_in};
 ghost use Rattle.run_model.specs.Stands.InPlace.{ask_here, IsMoved};
+ghost use Rattle.run_model.specs.Stands.Accessed.{CanAccess, IsAccessed, CanFinish, IsFinished, IsOnlySwept, IsTurnedHere};
 ghost use Rattle.run_model.specs.Stands.Parts.{IsSpanReady};
 ghost use Rattle.run_model.specs.Stands.Plain.{everyone, IsRaceReady, count_after, clears};
 
@@ -114,28 +115,14 @@ impl Trace {
         reply: Reply,
         load: Option<Warm>,
     ) -> TurnEnd
-        requires hart { hart < length self.old.harts.items }
-        requires few { length self.old.harts.items ≤ HARTS }
-        requires caches { hart < length self.old.caches }
-        requires steps { steps_in self.old.caches hart < 2 ^ 42 }
-        requires fits { IsTrue (is_reply_to want.now reply) }
-        requires number { (hart_in self.old.harts.items hart).number < 2 ^ 62 }
-        requires skipped { (hart_in self.old.harts.items hart).skipped < 2 ^ 32 - 1 }
-        requires marked { IsTrue (is_marked_next (next_by settings.now None self.old.harts.items hart (ask_here (hart_in self.old.harts.items hart) want.now) reply)) }
-        requires room { taken self.old.log.ring + 18 < 2 ^ 56 }
+        requires { CanFinish settings.now None self.old hart (ask_here (hart_in self.old.harts.items hart) want.now) reply }
         ensures harts { (f : ℕ → Hart) → AreHarts self.old.harts.items f →
             AreHarts self.new.harts.items (harts_by settings.now None self.old.harts.items hart (ask_here (hart_in self.old.harts.items hart) want.now) reply load self.new.log.bytes f) }
         ensures holds { (f : ℕ → Hart) (rs : List Record) → AreHarts self.old.harts.items f → IsLog self.old.log rs →
             IsLog self.new.log (with_ends settings.now None self.old.harts.items hart (ask_here (hart_in self.old.harts.items hart) want.now) reply f rs) }
         ensures caches { (c : RawSettings) (span : Option Span) (events : ℕ → List Event) →
             CachesGoOn c (next_by settings.now None self.old.harts.items hart (ask_here (hart_in self.old.harts.items hart) want.now) reply) hart None span events self.old.caches self.new.caches }
-        ensures len { length self.new.harts.items ≡ length self.old.harts.items }
-        ensures count { length self.new.caches ≡ length self.old.caches }
-        ensures steps { (k : ℕ) → steps_in self.new.caches k ≡
-            (if k == hart then steps_in self.old.caches k + clears (next_by settings.now None self.old.harts.items hart (ask_here (hart_in self.old.harts.items hart) want.now) reply) else steps_in self.old.caches k) }
-        ensures shadow { self.new.shadow ≡ self.old.shadow }
-        ensures took { taken self.new.log.ring ≤ taken self.old.log.ring + 18 }
-        ensures size { self.new.log.ring.size ≡ self.old.log.ring.size }
+        ensures finished { IsFinished self.old self.new hart (next_by settings.now None self.old.harts.items hart (ask_here (hart_in self.old.harts.items hart) want.now) reply) }
     {
         let own = &mut self.harts[hart as usize];
         let next = take_turn_here(settings, own, &mut self.log, hart, want, reply, load);
@@ -155,32 +142,9 @@ impl Trace {
         span: Span,
         word: u32,
     ) -> Warm
-        requires hart { hart < length self.old.harts.items }
-        requires caches { hart < length self.old.caches }
-        requires shadow { hart < harts_of self.old.shadow }
-        requires few { harts_of self.old.shadow ≤ HARTS }
-        requires ic { ic < 2 ^ 41 }
-        requires steps { steps_in self.old.caches hart < 2 ^ 42 }
-        requires ready { IsRaceReady self.old.shadow (Some span) }
-        requires turns { next_turn self.old.shadow ≤ turn }
-        requires counts { next_count self.old.shadow hart ≤ ic }
-        requires lasting { IsTrue (lasts self.old.shadow hart) }
-        requires room { taken self.old.log.ring + 17 < 2 ^ 56 }
+        requires { CanAccess self.old turn hart ic span }
         ensures load { (c : RawSettings) (events : ℕ → List Event) → AreCaches c self.old.caches events → Some result ≡ warmth c (Some span.first) (events hart) }
-        ensures caches { (c : RawSettings) (events : ℕ → List Event) → AreCaches c self.old.caches events → AreCaches c self.new.caches (events_after GoesOn hart None (Some span) events) }
-        ensures shadow { (points : List Point) → Stands points everyone self.old.shadow → Stands (points_after (point_of hart ic turn (Some span)) points) everyone self.new.shadow }
-        ensures holds { (points : List Point) (rs : List Record) → Stands points everyone self.old.shadow → IsLog self.old.log rs →
-            IsLog self.new.log (rs ++ edge_records (point_of hart ic turn (Some span)) points ++ load_record (Some result) hart (hart_in self.old.harts.items hart).skipped word) }
-        ensures harts { self.new.harts ≡ self.old.harts }
-        ensures count { length self.new.caches ≡ length self.old.caches }
-        ensures steps { (k : ℕ) → steps_in self.new.caches k ≡ (if k == hart then steps_in self.old.caches k + 1 else steps_in self.old.caches k) }
-        ensures shadow_harts { harts_of self.new.shadow ≡ harts_of self.old.shadow }
-        ensures lasting { lasting_of self.new.shadow ≡ lasting_of self.old.shadow }
-        ensures turn { next_turn self.new.shadow ≤ turn + 1 }
-        ensures next { next_count self.new.shadow hart ≤ count_after (Some span) ic (next_count self.old.shadow hart) }
-        ensures others { (h : ℕ) → h ≢ hart → next_count self.new.shadow h ≡ next_count self.old.shadow h }
-        ensures took { taken self.new.log.ring ≤ taken self.old.log.ring + 17 }
-        ensures size { self.new.log.ring.size ≡ self.old.log.ring.size }
+        ensures accessed { IsAccessed self.old self.new turn hart ic span (Some result) word }
     {
         record_access(&mut self.shadow, &mut self.log, hart, ic, turn, Some(span));
         let warm = self.caches.take_access(hart, span);
@@ -202,33 +166,10 @@ impl Trace {
         whole: bool,
         word: u32,
     ) -> Option<Warm>
-        requires hart { hart < length self.old.harts.items }
-        requires caches { hart < length self.old.caches }
-        requires shadow { hart < harts_of self.old.shadow }
-        requires few { harts_of self.old.shadow ≤ HARTS }
-        requires ic { ic < 2 ^ 41 }
-        requires steps { steps_in self.old.caches hart < 2 ^ 42 }
-        requires ready { IsRaceReady self.old.shadow (Some span) }
-        requires turns { next_turn self.old.shadow ≤ turn }
-        requires counts { next_count self.old.shadow hart ≤ ic }
-        requires lasting { IsTrue (lasts self.old.shadow hart) }
-        requires room { taken self.old.log.ring + 17 < 2 ^ 56 }
+        requires { CanAccess self.old turn hart ic span }
         ensures load { (c : RawSettings) (events : ℕ → List Event) → AreCaches c self.old.caches events → result ≡ (elim whole [ true ↦ None | false ↦ warmth c (Some span.first) (events hart) ]) }
         ensures loading { is_some result ≡ true → whole ≡ false }
-        ensures caches { (c : RawSettings) (events : ℕ → List Event) → AreCaches c self.old.caches events → AreCaches c self.new.caches (events_after GoesOn hart None (Some span) events) }
-        ensures shadow { (points : List Point) → Stands points everyone self.old.shadow → Stands (points_after (point_of hart ic turn (Some span)) points) everyone self.new.shadow }
-        ensures holds { (points : List Point) (rs : List Record) → Stands points everyone self.old.shadow → IsLog self.old.log rs →
-            IsLog self.new.log (rs ++ edge_records (point_of hart ic turn (Some span)) points ++ load_record result hart (hart_in self.old.harts.items hart).skipped word) }
-        ensures harts { self.new.harts ≡ self.old.harts }
-        ensures count { length self.new.caches ≡ length self.old.caches }
-        ensures steps { (k : ℕ) → steps_in self.new.caches k ≡ (if k == hart then steps_in self.old.caches k + 1 else steps_in self.old.caches k) }
-        ensures shadow_harts { harts_of self.new.shadow ≡ harts_of self.old.shadow }
-        ensures lasting { lasting_of self.new.shadow ≡ lasting_of self.old.shadow }
-        ensures turn { next_turn self.new.shadow ≤ turn + 1 }
-        ensures next { next_count self.new.shadow hart ≤ count_after (Some span) ic (next_count self.old.shadow hart) }
-        ensures others { (h : ℕ) → h ≢ hart → next_count self.new.shadow h ≡ next_count self.old.shadow h }
-        ensures took { taken self.new.log.ring ≤ taken self.old.log.ring + 17 }
-        ensures size { self.new.log.ring.size ≡ self.old.log.ring.size }
+        ensures accessed { IsAccessed self.old self.new turn hart ic span result word }
     {
         record_access(&mut self.shadow, &mut self.log, hart, ic, turn, Some(span));
         let warm = self.caches.take_access(hart, span);
@@ -258,13 +199,7 @@ impl Plain {
         requires loads { IsTrue (may_load self.old.start.image addr) }
         ensures ready { result ≡ true → IsRaceReady self.new.trace.shadow (Some (span (aligned addr) 1 Read)) }
         ensures unguarded { result ≡ true → (run : Run) → IsRun (parts self.old) run → (self.old.start.settings.format == 2) && nat_lt self.old.start.settings.log_size (2 * bytes_since run hart) ≡ false }
-        ensures shadow { IsSwept self.old.trace.shadow self.new.trace.shadow self.old.trace.harts.items }
-        ensures harts { self.new.trace.harts ≡ self.old.trace.harts }
-        ensures caches { self.new.trace.caches ≡ self.old.trace.caches }
-        ensures log { self.new.trace.log ≡ self.old.trace.log }
-        ensures machine { self.new.machine ≡ self.old.machine }
-        ensures turns { self.new.turns ≡ self.old.turns }
-        ensures start { self.new.start ≡ self.old.start }
+        ensures swept { IsOnlySwept (parts self.old) (parts self.new) }
     {
         let _memory = self.start.image.memory();
         if self.guards(hart) {
@@ -296,7 +231,7 @@ impl Plain {
         requires live { (hart_in self.old.trace.harts.items hart).live ≡ true }
         requires orderly { IsTrue (is_orderly self.old.start.settings self.old.start.image (hart_in self.old.trace.harts.items hart) (ask_here (hart_in self.old.trace.harts.items hart) (Load addr width signed rd))) }
         requires race { IsRaceReady self.old.trace.shadow (Some (span (aligned addr) 1 Read)) }
-        ensures run { (run : Run) → IsRun (parts self.old) run → IsRun (parts self.new) (serve_call self.old.start.settings run hart (ask_here (hart_in self.old.trace.harts.items hart) (Load addr width signed rd)) false None).run }
+        ensures run { IsTurnedHere (parts self.old) (parts self.new) hart (Load addr width signed rd) }
         ensures start { self.new.start ≡ self.old.start }
     {
         each_turn_moves_on();
@@ -331,13 +266,7 @@ impl Plain {
         ensures ready { result ≡ true → IsRaceReady self.new.trace.shadow (Some (span (aligned addr) 1 Write)) }
         ensures page { result ≡ true → IsSpanReady self.new.machine.memory (span (aligned addr) 1 Write) }
         ensures unguarded { result ≡ true → (run : Run) → IsRun (parts self.old) run → (self.old.start.settings.format == 2) && nat_lt self.old.start.settings.log_size (2 * bytes_since run hart) ≡ false }
-        ensures shadow { IsSwept self.old.trace.shadow self.new.trace.shadow self.old.trace.harts.items }
-        ensures harts { self.new.trace.harts ≡ self.old.trace.harts }
-        ensures caches { self.new.trace.caches ≡ self.old.trace.caches }
-        ensures log { self.new.trace.log ≡ self.old.trace.log }
-        ensures machine { self.new.machine ≡ self.old.machine }
-        ensures turns { self.new.turns ≡ self.old.turns }
-        ensures start { self.new.start ≡ self.old.start }
+        ensures swept { IsOnlySwept (parts self.old) (parts self.new) }
     {
         let _memory = self.start.image.memory();
         if self.guards(hart) || !self.machine.is_made(addr) {
@@ -364,7 +293,7 @@ impl Plain {
         requires width { IsTrue (is_aligned addr width) }
         requires race { IsRaceReady self.old.trace.shadow (Some (span (aligned addr) 1 Write)) }
         requires page { IsSpanReady self.old.machine.memory (span (aligned addr) 1 Write) }
-        ensures run { (run : Run) → IsRun (parts self.old) run → IsRun (parts self.new) (serve_call self.old.start.settings run hart (ask_here (hart_in self.old.trace.harts.items hart) (Store addr width value)) false None).run }
+        ensures run { IsTurnedHere (parts self.old) (parts self.new) hart (Store addr width value) }
         ensures start { self.new.start ≡ self.old.start }
     {
         each_turn_moves_on();

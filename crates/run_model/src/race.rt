@@ -6,6 +6,7 @@ ghost use Rattle.race_log.specs.Points.{Point};
 ghost use Rattle.race_log.specs.Stands.{Stands, harts_of, lasting_of, lasts, next_turn, next_count};
 ghost use Rattle.run_model.specs.Turn.{point_of, points_after, edge_records};
 ghost use Rattle.run_model.specs.Stands.Logs.{taken, IsLog};
+ghost use Rattle.run_model.specs.Stands.Accessed.{CanNote, IsNoted};
 ghost use Rattle.run_model.specs.Stands.Plain.{everyone, IsRaceReady, IsSwept, count_after};
 
 use crate::hart::Hart;
@@ -27,23 +28,12 @@ pub fn record_access(
     turn: u64,
     span: Option<Span>,
 )
-    requires hart { hart < harts_of shadow.old }
-    requires few { harts_of shadow.old ≤ HARTS }
-    requires ic { ic < 2 ^ 41 }
-    requires ready { IsRaceReady shadow.old span }
-    requires turns { next_turn shadow.old ≤ turn }
-    requires counts { next_count shadow.old hart ≤ ic }
-    requires lasting { IsTrue (lasts shadow.old hart) }
+    requires can { CanNote shadow.old turn hart ic span }
     requires room { taken log.old.ring + HARTS < 2 ^ 56 }
-    ensures shadow { (points : List Point) → Stands points everyone shadow.old → Stands (points_after (point_of hart ic turn span) points) everyone shadow.new }
+    ensures noted { IsNoted shadow.old shadow.new turn hart ic span }
     ensures holds { (points : List Point) (rs : List Record) → Stands points everyone shadow.old → IsLog log.old rs → IsLog log.new (rs ++ edge_records (point_of hart ic turn span) points) }
     ensures took { taken log.new.ring ≤ taken log.old.ring + HARTS }
     ensures size { log.new.ring.size ≡ log.old.ring.size }
-    ensures harts { harts_of shadow.new ≡ harts_of shadow.old }
-    ensures lasting { lasting_of shadow.new ≡ lasting_of shadow.old }
-    ensures turn { next_turn shadow.new ≤ turn + 1 }
-    ensures counts { next_count shadow.new hart ≤ count_after span ic (next_count shadow.old hart) }
-    ensures others { (h : ℕ) → h ≢ hart → next_count shadow.new h ≡ next_count shadow.old h }
 {
     if let Some(span) = span {
         shadow.access(hart, ic, turn, span.first, span.count, span.mode);

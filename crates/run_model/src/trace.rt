@@ -17,6 +17,7 @@ ghost use Rattle.run_model.specs.Turn.{Run, begun_anew, guarded_run, span_of, ne
 ghost use Rattle.run_model.specs.Stands.Harts.{AreHarts, hart_in};
 ghost use Rattle.run_model.specs.Stands.Logs.{taken, IsLog, is_marked_next};
 ghost use Rattle.run_model.specs.Stands.Tracing.{IsAnew, CachesGoOn, next_by, harts_by, with_ends, with_access};
+ghost use Rattle.run_model.specs.Stands.Accessed.{CanNote, IsNoted, CanFinish, IsFinished};
 ghost use Rattle.run_model.specs.Stands.EachCache.{AreCaches, steps_in, where_loading, touched_word, touches};
 ghost use Rattle.run_model.specs.Counts.{is_loading};
 ghost use Rattle.run_model.specs.Stands.Parts.{AreAddresses};
@@ -158,33 +159,21 @@ impl Trace {
     ) -> Option<Warm>
         requires hart { hart < length self.old.harts.items }
         requires caches { hart < length self.old.caches }
-        requires shadow { hart < harts_of self.old.shadow }
-        requires few { harts_of self.old.shadow ≤ HARTS }
-        requires ic { ask.now.state.ic < 2 ^ 41 }
         requires steps { steps_in self.old.caches hart < 2 ^ 42 }
         requires addresses { AreAddresses (span_of call ask.now.want reply) }
-        requires ready { IsRaceReady self.old.shadow (span_of call ask.now.want reply) }
-        requires turns { next_turn self.old.shadow ≤ turn }
-        requires counts { next_count self.old.shadow hart ≤ ask.now.state.ic }
-        requires lasting { IsTrue (lasts self.old.shadow hart) }
+        requires note { CanNote self.old.shadow turn hart ask.now.state.ic (span_of call ask.now.want reply) }
         requires room { taken self.old.log.ring + 18 < 2 ^ 56 }
         ensures load { (c : RawSettings) (i : Program) (m : Machine) (events : ℕ → List Event) → call ≡ call_of i m ask.now.want → AreCaches c self.old.caches events →
             result ≡ warmth c (loading ask.now.want) (events hart) }
         ensures loading { is_some result ≡ true → is_loading (loading ask.now.want) ≡ true }
         ensures caches { (c : RawSettings) (events : ℕ → List Event) → AreCaches c self.old.caches events →
             AreCaches c self.new.caches (events_after GoesOn hart call (span_of call ask.now.want reply) events) }
-        ensures shadow { (points : List Point) → Stands points everyone self.old.shadow →
-            Stands (points_after (point_of hart ask.now.state.ic turn (span_of call ask.now.want reply)) points) everyone self.new.shadow }
+        ensures noted { IsNoted self.old.shadow self.new.shadow turn hart ask.now.state.ic (span_of call ask.now.want reply) }
         ensures holds { (points : List Point) (rs : List Record) → Stands points everyone self.old.shadow → IsLog self.old.log rs →
             IsLog self.new.log (with_access self.old.harts.items turn hart call ask.now reply result word points rs) }
         ensures harts { self.new.harts ≡ self.old.harts }
         ensures count { length self.new.caches ≡ length self.old.caches }
         ensures steps { (k : ℕ) → steps_in self.new.caches k ≡ (if k == hart then steps_in self.old.caches k + touches (touched_word call (span_of call ask.now.want reply)) else steps_in self.old.caches k) }
-        ensures shadow_harts { harts_of self.new.shadow ≡ harts_of self.old.shadow }
-        ensures lasting { lasting_of self.new.shadow ≡ lasting_of self.old.shadow }
-        ensures turn { next_turn self.new.shadow ≤ turn + 1 }
-        ensures next { next_count self.new.shadow hart ≤ count_after (span_of call ask.now.want reply) ask.now.state.ic (next_count self.old.shadow hart) }
-        ensures others { (h : ℕ) → h ≢ hart → next_count self.new.shadow h ≡ next_count self.old.shadow h }
         ensures took { taken self.new.log.ring ≤ taken self.old.log.ring + 18 }
         ensures size { self.new.log.ring.size ≡ self.old.log.ring.size }
     {
@@ -238,28 +227,14 @@ impl Trace {
         reply: Reply,
         load: Option<Warm>,
     ) -> TurnEnd
-        requires hart { hart < length self.old.harts.items }
-        requires few { length self.old.harts.items ≤ HARTS }
-        requires caches { hart < length self.old.caches }
-        requires steps { steps_in self.old.caches hart < 2 ^ 42 }
-        requires fits { IsTrue (is_reply_to ask.now.want reply) }
-        requires number { (hart_in self.old.harts.items hart).number < 2 ^ 62 }
-        requires skipped { (hart_in self.old.harts.items hart).skipped < 2 ^ 32 - 1 }
-        requires marked { IsTrue (is_marked_next (next_of settings.now call (hart_in self.old.harts.items hart) ask.now.want reply (absorbed ask.now reply).ic)) }
-        requires room { taken self.old.log.ring + 18 < 2 ^ 56 }
+        requires { CanFinish settings.now call self.old hart ask.now reply }
         ensures harts { (f : ℕ → Hart) → AreHarts self.old.harts.items f →
             AreHarts self.new.harts.items (harts_by settings.now call self.old.harts.items hart ask.now reply load self.new.log.bytes f) }
         ensures holds { (f : ℕ → Hart) (rs : List Record) → AreHarts self.old.harts.items f → IsLog self.old.log rs →
             IsLog self.new.log (with_ends settings.now call self.old.harts.items hart ask.now reply f rs) }
         ensures caches { (c : RawSettings) (span : Option Span) (events : ℕ → List Event) →
             CachesGoOn c (next_by settings.now call self.old.harts.items hart ask.now reply) hart call span events self.old.caches self.new.caches }
-        ensures len { length self.new.harts.items ≡ length self.old.harts.items }
-        ensures count { length self.new.caches ≡ length self.old.caches }
-        ensures steps { (k : ℕ) → steps_in self.new.caches k ≡
-            (if k == hart then steps_in self.old.caches k + clears (next_by settings.now call self.old.harts.items hart ask.now reply) else steps_in self.old.caches k) }
-        ensures shadow { self.new.shadow ≡ self.old.shadow }
-        ensures took { taken self.new.log.ring ≤ taken self.old.log.ring + 18 }
-        ensures size { self.new.log.ring.size ≡ self.old.log.ring.size }
+        ensures finished { IsFinished self.old self.new hart (next_by settings.now call self.old.harts.items hart ask.now reply) }
     {
         let own = &mut self.harts[hart as usize];
         let next = take_turn(settings, own, &mut self.log, hart, call, ask, reply, load);

@@ -1,5 +1,5 @@
 -- What a plain machine keeps, and the runs that it represents.
-use Rattle.std.specs.Prelude.{◌≡◌, ◌≤◌, ◌<◌, ◌^◌, ◌%◌, ◌/◌, ℕ, ◌+◌, ◌*◌, ⊤, Bool, true, List, length, get_or, drop, Option, Some, None}
+use Rattle.std.specs.Prelude.{◌≡◌, ◌≤◌, ◌<◌, ◌^◌, ◌%◌, ℕ, ◌+◌, ◌*◌, ⊤, Bool, true, List, length, Option, Some, None}
 use Rattle.bn_base.specs.Ranges.{IsSetting}
 use Rattle.bn_base.specs.declared.settings.RawSettings.{RawSettings}
 use Rattle.bn_base.specs.declared.settings.TheConstants.{HARTS}
@@ -14,7 +14,6 @@ use Rattle.run_model.specs.declared.start.Start.{Start}
 use Rattle.run_model.specs.declared.trace.Trace.{Trace}
 use Rattle.run_model.specs.Stands.Parts.{MachineParts, IsMachine}
 use Rattle.run_model.specs.Stands.EachCache.{AreCaches, steps_in}
-use Rattle.run_model.specs.Machine.{Machine}
 use Rattle.run_model.specs.Turn.{Run}
 use Rattle.run_model.specs.Runs.{most_turns}
 use Rattle.run_model.specs.Stands.Logs.{taken, IsLog}
@@ -93,14 +92,3 @@ pub record IsTraceFit (c : RawSettings) (t : Trace) (turns : ℕ) : Type 0 where
   pub left : turns + all_left c c.harts (hart_in t.harts.items) ≤ most_turns c
   pub log : taken t.log.ring ≤ 16 + 40 * turns
   pub log_size : t.log.ring.size ≡ c.log_size
-
--- one of the machines that the parts represent
-abbrev pub meant : List ℕ → MachineParts → Machine
-meant input p = record {
-  memory = λ a. get_or p.memory.words (a / 4) 0;
-  reserved = λ k. get_or p.reserved k None;
-  brk = p.brk;
-  input = drop p.taken input;
-  out = p.out;
-  err = p.err;
-}

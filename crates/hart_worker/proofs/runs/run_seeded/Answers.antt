@@ -1,4 +1,4 @@
-use Rattle.std.proofs.Common.{◌≡◌, ◌∙◌, ℕ, List, [], ap, subst}
+use Rattle.std.proofs.Common.{ℕ, List, [], subst}
 use Rattle.std.specs.Prelude.{IfOk}
 use Rattle.bn_outside.specs.declared.turn_row.TurnRow.{TurnRow}
 use Rattle.bus_core.specs.Bus.{Began, began_of}

@@ -1,11 +1,11 @@
 use Rattle.std.proofs.Common.{◌≡◌, ℕ, List, [], ◌∷◌, ◌++◌, ◌<◌, ◌∙◌, false, true, refl, sym, ap, subst}
-use Rattle.run_model.specs.Runs.{any_live, chosen, draw, most_turns}
+use Rattle.run_model.specs.Runs.{any_live, chosen, most_turns}
 use Rattle.bus_core.specs.Bus.{Began}
 use Rattle.hart_worker.specs.Lists.{HasTaken, is_finished, list_run, live_harts_of}
 use Rattle.std.proofs.lemmas.List.{append_assoc, append-nil}
 use Rattle.hart_worker.proofs.Counted.{IsCount, count_next}
 use Rattle.hart_worker.proofs.Live.{over_none}
-use Rattle.hart_worker.proofs.Taken.{IsDrawn, drawn_first, drawn_next, drawn_all}
+use Rattle.hart_worker.proofs.Taken.{IsDrawn, taken_turn, drawn_first, drawn_next, drawn_all}
 use Rattle.hart_worker.proofs.turns.finish_unlisted.Goals as goal
 
 pub returns-in-None-clause-taken : goal.returns-in-None-clause-taken
@@ -32,6 +32,7 @@ drawing-preserved g c =
     let b = c.args.bus.now.began in
     let e = c.drawing.invariant.began in
     let k = c.in-Some.hart in
+    let t = c.in_ok-take_turn-in-Some.ensures in
     let now = c.drawing.state in
     let few = subst (λ (x : Began). c.drawing.bus.turns < most_turns x.settings) e c.in-Some.ensures.left in
     record {
@@ -46,13 +47,13 @@ drawing-preserved g c =
           let any = subst (λ (x : Began). any_live x.settings.harts (list_run x all).harts ≡ true) e chose.0 in
           let is = subst (λ (x : Began). k ≡ chosen c.draw-state.result (live_harts_of x (list_run x all))) e chose.1 in
           let drawn = is ∙ ap (λ (n : ℕ). chosen n (live_harts_of b (list_run b all))) c.draw-state.ensures in
-          let taken = c.in_ok-take_turn-in-Some.ensures.taken all d.taken in
-          let next = drawn_next g.B.Book.tells b list c.args.seed c.drawing.bus c.take_turn.new.bus now k rest d e few any drawn taken in
-          let counted = count_next c.drawing.bus c.take_turn.new.bus all k c.drawing.count c.count_after-count.result c.take_turn.ensures.began some.1.1 taken.state c.count_after-count.ensures in (
+          let taken = taken_turn g.B.Book.tells c.drawing.bus c.take_turn.new.self k c.in-Some.ensures.live c.in-Some.ensures.within t.state t.told c.take_turn.ensures.began c.take_turn.ensures.disordered c.take_turn.ensures.halted all d.taken in
+          let next = drawn_next g.B.Book.tells b list c.args.seed c.drawing.bus c.take_turn.new.self now k rest d e few any drawn taken in
+          let counted = count_next c.drawing.bus c.take_turn.new.self all k c.drawing.count c.count_after-count.result c.take_turn.ensures.began some.1.1 taken.state c.count_after-count.ensures in (
             rest ++ k ∷ [],
             (
-              subst (λ (n : ℕ). IsDrawn g.B.Book.tells b list c.args.seed c.take_turn.new.bus n (rest ++ k ∷ [])) (sym c.draw-state.ensures) next,
-              subst (λ (xs : List ℕ). IsCount c.take_turn.new.bus.began xs c.count_after-count.result) (append_assoc list rest (k ∷ [])) counted,
+              subst (λ (n : ℕ). IsDrawn g.B.Book.tells b list c.args.seed c.take_turn.new.self n (rest ++ k ∷ [])) (sym c.draw-state.ensures) next,
+              subst (λ (xs : List ℕ). IsCount c.take_turn.new.self.began xs c.count_after-count.result) (append_assoc list rest (k ∷ [])) counted,
             ),
           );
     }

@@ -1,16 +1,25 @@
-use Rattle.std.proofs.Common.{◌++◌, ℕ, List, refl, sym, subst, ◌∙◌}
+use Rattle.std.proofs.Common.{◌++◌, ◌==◌, ℕ, List, refl, sym, subst, ◌∙◌, arith, ne_eqb}
 use Rattle.std.specs.Prelude.{Option}
 use Rattle.run_model.specs.Stands.Logs.{IsLog}
-use Rattle.race_log.specs.Stands.{Stands}
 use Rattle.run_model.specs.declared.span.Span.{Span}
-use Rattle.run_model.specs.Turn.{edges_from, point_of, points_after, edge_records}
+use Rattle.run_model.specs.Turn.{edges_from, point_of, edge_records}
+use Rattle.run_model.specs.Stands.Accessed.{IsNoted}
 use Rattle.run_model.specs.Stands.Plain.{everyone}
+use Rattle.run_model.proofs.Asked.{if_true, if_false, eqb_same}
 use Rattle.run_model.proofs.race.record_access.Goals as goal
 
-pub returns-in-Some-clause-shadow : goal.returns-in-Some-clause-shadow
-returns-in-Some-clause-shadow c points stands =
-    subst (λ (s : Option Span). Stands (points_after (point_of c.args.hart c.args.ic c.args.turn s) points) everyone c.access.new.self) (sym c.in-Some.is)
-    (c.access.ensures.point.stands points everyone refl stands)
+pub returns-in-Some-clause-noted : goal.returns-in-Some-clause-noted
+returns-in-Some-clause-noted c =
+    let k = c.args.hart in
+    let n = c.access.ensures.next in
+    subst (λ (s : Option Span). IsNoted c.args.shadow.now c.access.new.self c.args.turn k c.args.ic s) (sym c.in-Some.is) (record {
+      stands = λ points stands. c.access.ensures.point.stands points everyone refl stands;
+      harts = n.harts;
+      lasting = n.lasting;
+      turn_is = omega (arith, n.turns);
+      next = omega (arith, n.counts k ∙ if_true (k == k) _ _ (eqb_same k));
+      others = λ j differ. n.counts j ∙ if_false (j == k) _ _ (ne_eqb j k differ);
+    })
 
 pub returns-in-Some-clause-holds : goal.returns-in-Some-clause-holds
 returns-in-Some-clause-holds c points rs stands held =

@@ -1,16 +1,14 @@
-use Rattle.std.proofs.Common.{◌≡◌, ◌<◌, ◌≤◌, ◌-◌, ◌^◌, ℕ, ◌+◌, true, false, List, subst, sym, ◌∙◌, ap, arith, refl, Bool}
+use Rattle.std.proofs.Common.{◌≡◌, ◌<◌, ◌≤◌, ◌-◌, ℕ, ◌+◌, true, false, subst, sym, ◌∙◌, ap, arith, refl, Bool}
 use Rattle.std.specs.Prelude.{IsTrue}
 use Rattle.std.proofs.lemmas.Grind.{common_steps}
 use Rattle.rv_meaning.specs.declared.asks.Ask.{Ask}
 use Rattle.bn_base.specs.declared.settings.RawSettings.{RawSettings}
-use Rattle.bn_outside.specs.declared.turn_row.TurnRow.{TurnRow}
 use Rattle.run_model.specs.declared.start.Start.{Start}
 use Rattle.run_model.specs.declared.hart.Hart.{Hart}
-use Rattle.run_model.specs.Stands.Plain.{IsRun}
 use Rattle.run_model.specs.Stands.Harts.{hart_in}
 use Rattle.run_model.specs.Stands.Turning.{parts}
-use Rattle.run_model.specs.Turn.{Run, turn, ask_at, budget, is_orderly}
-use Rattle.bus_core.specs.Bus.{Seen, seen, IsState, IsHistory, began_of, run_after, turned_run, is_live}
+use Rattle.run_model.specs.Turn.{ask_at, budget, is_orderly}
+use Rattle.bus_core.specs.Bus.{Seen, seen, IsState, began_of, run_after, turned_run, is_live}
 use Rattle.bus_core.proofs.History.{history_turned, history_same, run_is, state_is}
 use Rattle.bus_core.proofs.Rows.{live_within}
 use Rattle.bus_core.proofs.Serves.{served_turns, on_err}

@@ -11,12 +11,12 @@ use Rattle.run_model.specs.Stands.Logs.{taken, is_marked_next}
 use Rattle.run_model.specs.Stands.EachCache.{steps_in, touched_word, touches}
 use Rattle.run_model.specs.Stands.Harts.{AreHarts, hart_in}
 use Rattle.run_model.specs.Turn.{guarded_run, serve_call, span_of, next_of, hart_after, harts_after, skipped_after, points_after, point_of}
-use Rattle.run_model.specs.Stands.Plain.{IsTrace, IsRaceReady, everyone, meant, count_after, clears}
+use Rattle.run_model.specs.Stands.Plain.{IsTrace, IsRaceReady, everyone, count_after, clears}
 use Rattle.run_model.proofs.Owns.{hart_of_run}
 use Rattle.run_model.proofs.PlainRuns.{traced, race_ready}
 use Rattle.run_model.proofs.Asked.{asked_fit, asked_counts, few_steps, few_steps_more, low_number, few_skipped, some_room, eqb_same, if_true}
 use Rattle.run_model.proofs.PlainFits.{fit_traced, swept_fit, swept_trace, next_marked, two_ifs}
-use Rattle.run_model.proofs.Meant.{is_meant}
+use Rattle.run_model.proofs.Meant.{meant, is_meant}
 use Rattle.run_model.proofs.plain.Plain.apply.Goals as goal
 
 pub returns-clause-run : goal.returns-clause-run
@@ -46,7 +46,7 @@ returns-clause-run c run is =
     (record {
       harts = f.ensures.harts answering.harts are;
       caches = f.ensures.caches settings (span_of call ask.want reply) answering.events (a.ensures.caches settings answering.events before.caches);
-      shadow = subst (λ (s : Shadow). Stands (points_after (point_of k ask.state.ic p.turns (span_of call ask.want reply)) run.points) everyone s) (sym f.ensures.shadow) (a.ensures.shadow run.points before.shadow);
+      shadow = subst (λ (s : Shadow). Stands (points_after (point_of k ask.state.ic p.turns (span_of call ask.want reply)) run.points) everyone s) (sym f.ensures.finished.shadow) (a.ensures.noted.stands run.points before.shadow);
       log = f.ensures.holds answering.harts _ are (a.ensures.holds run.points answering.stream before.shadow before.log);
     })
     (sym before.bytes ∙ before.log.bytes) in
@@ -73,18 +73,18 @@ invariant_of-self c =
           (c.requires.call m is) (c.answer-reply.ensures.answer.reply m stands)
           (record {
             harts = λ g are. subst (λ (v : Vec Hart Global). AreHarts v.items g → AreHarts f.new.self.harts.items (harts_after (next_of p.start.settings c.args.call (hart_in v.items c.args.hart) c.args.ask.now.want c.answer-reply.result (absorbed c.args.ask.now c.answer-reply.result).ic) c.args.hart (hart_after (next_of p.start.settings c.args.call (hart_in v.items c.args.hart) c.args.ask.now.want c.answer-reply.result (absorbed c.args.ask.now c.answer-reply.result).ic) (absorbed c.args.ask.now c.answer-reply.result) (skipped_after a.result (hart_in v.items c.args.hart).skipped) f.new.self.log.bytes (hart_in v.items c.args.hart)) g)) a.ensures.harts (f.ensures.harts g) are;
-            len = f.ensures.len ∙ ap (λ (v : Vec Hart Global). length v.items) a.ensures.harts;
-            caches = f.ensures.count ∙ a.ensures.count;
+            len = f.ensures.finished.len ∙ ap (λ (v : Vec Hart Global). length v.items) a.ensures.harts;
+            caches = f.ensures.finished.count ∙ a.ensures.count;
             steps = λ j. subst (λ (v : Vec Hart Global). steps_in f.new.self.caches j ≡ (if j == c.args.hart then steps_in t.caches j + touches (touched_word c.args.call (span_of c.args.call c.args.ask.now.want c.answer-reply.result)) + clears (next_of p.start.settings c.args.call (hart_in v.items c.args.hart) c.args.ask.now.want c.answer-reply.result (absorbed c.args.ask.now c.answer-reply.result).ic) else steps_in t.caches j)) a.ensures.harts
-                (two_ifs (j == c.args.hart) _ _ _ _ _ (f.ensures.steps j) (a.ensures.steps j));
+                (two_ifs (j == c.args.hart) _ _ _ _ _ (f.ensures.finished.steps j) (a.ensures.steps j));
             loading = a.ensures.loading;
-            shadow = ap harts_of f.ensures.shadow ∙ a.ensures.shadow_harts;
-            lasting = ap lasting_of f.ensures.shadow ∙ a.ensures.lasting;
-            turn = subst (λ (x : Shadow). next_turn x ≤ p.turns + 1) (sym f.ensures.shadow) a.ensures.turn;
-            next = subst (λ (x : Shadow). next_count x c.args.hart ≤ count_after (span_of c.args.call c.args.ask.now.want c.answer-reply.result) c.args.ask.now.state.ic (next_count t.shadow c.args.hart)) (sym f.ensures.shadow) a.ensures.next;
-            others = λ j differ. ap (λ (x : Shadow). next_count x j) f.ensures.shadow ∙ a.ensures.others j differ;
-            took = omega (arith, a.ensures.took, f.ensures.took);
-            size = f.ensures.size ∙ a.ensures.size;
+            shadow = ap harts_of f.ensures.finished.shadow ∙ a.ensures.noted.harts;
+            lasting = ap lasting_of f.ensures.finished.shadow ∙ a.ensures.noted.lasting;
+            turn = subst (λ (x : Shadow). next_turn x ≤ p.turns + 1) (sym f.ensures.finished.shadow) a.ensures.noted.turn_is;
+            next = subst (λ (x : Shadow). next_count x c.args.hart ≤ count_after (span_of c.args.call c.args.ask.now.want c.answer-reply.result) c.args.ask.now.state.ic (next_count t.shadow c.args.hart)) (sym f.ensures.finished.shadow) a.ensures.noted.next;
+            others = λ j differ. ap (λ (x : Shadow). next_count x j) f.ensures.finished.shadow ∙ a.ensures.noted.others j differ;
+            took = omega (arith, a.ensures.took, f.ensures.finished.took);
+            size = f.ensures.finished.size ∙ a.ensures.size;
           }))
           c.forget.ensures.shadow c.forget.ensures.harts c.forget.ensures.caches c.forget.ensures.log;
     }
@@ -133,56 +133,12 @@ access-load-requires-clause-caches c =
     c.is_guarded-guarded.ensures.uncut c.guard.ensures.anew c.guard.ensures.same in
     omega (arith, q.within, q.caches)
 
-pub access-load-requires-clause-shadow : goal.access-load-requires-clause-shadow
-access-load-requires-clause-shadow c =
-    let p = c.args.self.now in
-    let q = asked_fit c.guarded_asks_fit.ensures p.start.settings p.start.image p.trace c.guard.new.self p.turns c.args.hart c.args.ask.now c.is_guarded-guarded.result p.fits c.requires.hart c.requires.live c.requires.orderly
-    c.is_guarded-guarded.ensures.uncut c.guard.ensures.anew c.guard.ensures.same in
-    omega (arith, q.within, q.shadow)
-
-pub access-load-requires-clause-few : goal.access-load-requires-clause-few
-access-load-requires-clause-few c =
-    let p = c.args.self.now in
-    let q = asked_fit c.guarded_asks_fit.ensures p.start.settings p.start.image p.trace c.guard.new.self p.turns c.args.hart c.args.ask.now c.is_guarded-guarded.result p.fits c.requires.hart c.requires.live c.requires.orderly
-    c.is_guarded-guarded.ensures.uncut c.guard.ensures.anew c.guard.ensures.same in
-    omega (arith, q.shadow, q.few)
-
-pub access-load-requires-clause-ic : goal.access-load-requires-clause-ic
-access-load-requires-clause-ic c =
-    let p = c.args.self.now in
-    let q = asked_fit c.guarded_asks_fit.ensures p.start.settings p.start.image p.trace c.guard.new.self p.turns c.args.hart c.args.ask.now c.is_guarded-guarded.result p.fits c.requires.hart c.requires.live c.requires.orderly
-    c.is_guarded-guarded.ensures.uncut c.guard.ensures.anew c.guard.ensures.same in
-    let counts = asked_counts c.each_turn_moves_on.ensures p.start.settings p.start.image c.guard.new.self p.turns c.args.hart c.args.ask.now q in
-    omega (arith, counts.limit, q.settings.limit_high)
-
 pub access-load-requires-clause-steps : goal.access-load-requires-clause-steps
 access-load-requires-clause-steps c =
     let p = c.args.self.now in
     let q = asked_fit c.guarded_asks_fit.ensures p.start.settings p.start.image p.trace c.guard.new.self p.turns c.args.hart c.args.ask.now c.is_guarded-guarded.result p.fits c.requires.hart c.requires.live c.requires.orderly
     c.is_guarded-guarded.ensures.uncut c.guard.ensures.anew c.guard.ensures.same in
     few_steps p.start.settings (hart_in c.guard.new.self.harts.items c.args.hart) (steps_in c.guard.new.self.caches c.args.hart) q.own.fit q.settings.limit_high q.own.steps
-
-pub access-load-requires-clause-turns : goal.access-load-requires-clause-turns
-access-load-requires-clause-turns c =
-    let p = c.args.self.now in
-    let q = asked_fit c.guarded_asks_fit.ensures p.start.settings p.start.image p.trace c.guard.new.self p.turns c.args.hart c.args.ask.now c.is_guarded-guarded.result p.fits c.requires.hart c.requires.live c.requires.orderly
-    c.is_guarded-guarded.ensures.uncut c.guard.ensures.anew c.guard.ensures.same in
-    q.turn
-
-pub access-load-requires-clause-counts : goal.access-load-requires-clause-counts
-access-load-requires-clause-counts c =
-    let p = c.args.self.now in
-    let q = asked_fit c.guarded_asks_fit.ensures p.start.settings p.start.image p.trace c.guard.new.self p.turns c.args.hart c.args.ask.now c.is_guarded-guarded.result p.fits c.requires.hart c.requires.live c.requires.orderly
-    c.is_guarded-guarded.ensures.uncut c.guard.ensures.anew c.guard.ensures.same in
-    let counts = asked_counts c.each_turn_moves_on.ensures p.start.settings p.start.image c.guard.new.self p.turns c.args.hart c.args.ask.now q in
-    omega (arith, counts.from, q.own.count)
-
-pub access-load-requires-clause-lasting : goal.access-load-requires-clause-lasting
-access-load-requires-clause-lasting c =
-    let p = c.args.self.now in
-    let q = asked_fit c.guarded_asks_fit.ensures p.start.settings p.start.image p.trace c.guard.new.self p.turns c.args.hart c.args.ask.now c.is_guarded-guarded.result p.fits c.requires.hart c.requires.live c.requires.orderly
-    c.is_guarded-guarded.ensures.uncut c.guard.ensures.anew c.guard.ensures.same in
-    q.own.lasting q.live
 
 pub access-load-requires-clause-room : goal.access-load-requires-clause-room
 access-load-requires-clause-room c =
@@ -191,85 +147,57 @@ access-load-requires-clause-room c =
     c.is_guarded-guarded.ensures.uncut c.guard.ensures.anew c.guard.ensures.same in
     some_room p.start.settings p.turns _ (taken c.guard.new.self.log.ring) 18 q.few q.settings.limit_high q.left (omega (arith, q.log)) (omega arith)
 
-pub access-load-requires-clause-ready : goal.access-load-requires-clause-ready
-access-load-requires-clause-ready c =
+pub access-load-requires-clause-note : goal.access-load-requires-clause-note
+access-load-requires-clause-note c =
     let p = c.args.self.now in
-    subst (λ (x : Shadow). IsRaceReady x (span_of c.args.call c.args.ask.now.want c.answer-reply.result)) (sym c.guard.ensures.shadow) (race_ready p.trace.shadow c.args.call c.args.ask.now.want c.answer-reply.result c.requires.race)
+    let q = asked_fit c.guarded_asks_fit.ensures p.start.settings p.start.image p.trace c.guard.new.self p.turns c.args.hart c.args.ask.now c.is_guarded-guarded.result p.fits c.requires.hart c.requires.live c.requires.orderly
+    c.is_guarded-guarded.ensures.uncut c.guard.ensures.anew c.guard.ensures.same in
+    let counts = asked_counts c.each_turn_moves_on.ensures p.start.settings p.start.image c.guard.new.self p.turns c.args.hart c.args.ask.now q in
+    record {
+      shadow = omega (arith, q.within, q.shadow);
+      few = omega (arith, q.shadow, q.few);
+      ic = omega (arith, counts.limit, q.settings.limit_high);
+      ready = subst (λ (x : Shadow). IsRaceReady x (span_of c.args.call c.args.ask.now.want c.answer-reply.result)) (sym c.guard.ensures.shadow) (race_ready p.trace.shadow c.args.call c.args.ask.now.want c.answer-reply.result c.requires.race);
+      turns = q.turn;
+      counts = omega (arith, counts.from, q.own.count);
+      lasting = q.own.lasting q.live;
+    }
 
 -- ---- what comes next
 
-pub finish-next-requires-clause-hart : goal.finish-next-requires-clause-hart
-finish-next-requires-clause-hart c =
-    let p = c.args.self.now in
-    let q = asked_fit c.guarded_asks_fit.ensures p.start.settings p.start.image p.trace c.guard.new.self p.turns c.args.hart c.args.ask.now c.is_guarded-guarded.result p.fits c.requires.hart c.requires.live c.requires.orderly
-    c.is_guarded-guarded.ensures.uncut c.guard.ensures.anew c.guard.ensures.same in
-    omega (arith, q.within, q.harts, ap (λ (v : Vec Hart Global). length v.items) c.access-load.ensures.harts)
-
-pub finish-next-requires-clause-few : goal.finish-next-requires-clause-few
-finish-next-requires-clause-few c =
-    let p = c.args.self.now in
-    let q = asked_fit c.guarded_asks_fit.ensures p.start.settings p.start.image p.trace c.guard.new.self p.turns c.args.hart c.args.ask.now c.is_guarded-guarded.result p.fits c.requires.hart c.requires.live c.requires.orderly
-    c.is_guarded-guarded.ensures.uncut c.guard.ensures.anew c.guard.ensures.same in
-    omega (arith, q.few, q.harts, ap (λ (v : Vec Hart Global). length v.items) c.access-load.ensures.harts)
-
-pub finish-next-requires-clause-caches : goal.finish-next-requires-clause-caches
-finish-next-requires-clause-caches c =
-    let p = c.args.self.now in
-    let q = asked_fit c.guarded_asks_fit.ensures p.start.settings p.start.image p.trace c.guard.new.self p.turns c.args.hart c.args.ask.now c.is_guarded-guarded.result p.fits c.requires.hart c.requires.live c.requires.orderly
-    c.is_guarded-guarded.ensures.uncut c.guard.ensures.anew c.guard.ensures.same in
-    omega (arith, q.within, q.caches, c.access-load.ensures.count)
-
-pub finish-next-requires-clause-steps : goal.finish-next-requires-clause-steps
-finish-next-requires-clause-steps c =
-    let p = c.args.self.now in
-    let q = asked_fit c.guarded_asks_fit.ensures p.start.settings p.start.image p.trace c.guard.new.self p.turns c.args.hart c.args.ask.now c.is_guarded-guarded.result p.fits c.requires.hart c.requires.live c.requires.orderly
-    c.is_guarded-guarded.ensures.uncut c.guard.ensures.anew c.guard.ensures.same in
-    let old = steps_in c.guard.new.self.caches c.args.hart in
-    few_steps_more p.start.settings (hart_in c.guard.new.self.harts.items c.args.hart) old _ (touched_word c.args.call (span_of c.args.call c.args.ask.now.want c.answer-reply.result)) q.own.fit q.settings.limit_high q.own.steps
-    (c.access-load.ensures.steps c.args.hart ∙ if_true (c.args.hart == c.args.hart) _ _ (eqb_same c.args.hart))
-
-pub finish-next-requires-clause-number : goal.finish-next-requires-clause-number
-finish-next-requires-clause-number c =
-    let p = c.args.self.now in
-    let q = asked_fit c.guarded_asks_fit.ensures p.start.settings p.start.image p.trace c.guard.new.self p.turns c.args.hart c.args.ask.now c.is_guarded-guarded.result p.fits c.requires.hart c.requires.live c.requires.orderly
-    c.is_guarded-guarded.ensures.uncut c.guard.ensures.anew c.guard.ensures.same in
-    subst (λ (v : Vec Hart Global). (hart_in v.items c.args.hart).number < 2 ^ 62) (sym c.access-load.ensures.harts) (low_number p.start.settings (hart_in c.guard.new.self.harts.items c.args.hart) q.own.fit q.settings.limit_high)
-
-pub finish-next-requires-clause-skipped : goal.finish-next-requires-clause-skipped
-finish-next-requires-clause-skipped c =
-    let p = c.args.self.now in
-    let q = asked_fit c.guarded_asks_fit.ensures p.start.settings p.start.image p.trace c.guard.new.self p.turns c.args.hart c.args.ask.now c.is_guarded-guarded.result p.fits c.requires.hart c.requires.live c.requires.orderly
-    c.is_guarded-guarded.ensures.uncut c.guard.ensures.anew c.guard.ensures.same in
-    subst (λ (v : Vec Hart Global). (hart_in v.items c.args.hart).skipped < 2 ^ 32 - 1) (sym c.access-load.ensures.harts) (few_skipped p.start.settings (hart_in c.guard.new.self.harts.items c.args.hart) q.own.fit q.settings.interval_high)
-
-pub finish-next-requires-clause-marked : goal.finish-next-requires-clause-marked
-finish-next-requires-clause-marked c =
+pub finish-next-requires : goal.finish-next-requires
+finish-next-requires c =
     let p = c.args.self.now in
     let q = asked_fit c.guarded_asks_fit.ensures p.start.settings p.start.image p.trace c.guard.new.self p.turns c.args.hart c.args.ask.now c.is_guarded-guarded.result p.fits c.requires.hart c.requires.live c.requires.orderly
     c.is_guarded-guarded.ensures.uncut c.guard.ensures.anew c.guard.ensures.same in
     let m = meant p.start.input.items p.machine in
     let is = is_meant p.start.input.items p.machine in
     let stands : IsMachine c.deref.result.now p.machine m = subst (λ (xs : List ℕ). IsMachine xs p.machine m) (sym c.deref.ensures.value) is in
-    subst (λ (v : Vec Hart Global). IsTrue (is_marked_next (next_of p.start.settings c.args.call (hart_in v.items c.args.hart) c.args.ask.now.want c.answer-reply.result (absorbed c.args.ask.now c.answer-reply.result).ic))) (sym c.access-load.ensures.harts)
-    (next_marked c.each_turn_moves_on.ensures p.start.settings p.start.image m c.guard.new.self p.turns c.args.hart c.args.ask.now c.args.call c.answer-reply.result q (c.requires.call m is) (c.answer-reply.ensures.answer.reply m stands))
-
-pub finish-next-requires-clause-room : goal.finish-next-requires-clause-room
-finish-next-requires-clause-room c =
-    let p = c.args.self.now in
-    let q = asked_fit c.guarded_asks_fit.ensures p.start.settings p.start.image p.trace c.guard.new.self p.turns c.args.hart c.args.ask.now c.is_guarded-guarded.result p.fits c.requires.hart c.requires.live c.requires.orderly
-    c.is_guarded-guarded.ensures.uncut c.guard.ensures.anew c.guard.ensures.same in
-    some_room p.start.settings p.turns _ (taken c.access-load.new.self.log.ring) 18 q.few q.settings.limit_high q.left (omega (arith, q.log, c.access-load.ensures.took)) (omega arith)
+    record {
+      hart = omega (arith, q.within, q.harts, ap (λ (v : Vec Hart Global). length v.items) c.access-load.ensures.harts);
+      few = omega (arith, q.few, q.harts, ap (λ (v : Vec Hart Global). length v.items) c.access-load.ensures.harts);
+      caches = omega (arith, q.within, q.caches, c.access-load.ensures.count);
+      steps = let old = steps_in c.guard.new.self.caches c.args.hart in
+          few_steps_more p.start.settings (hart_in c.guard.new.self.harts.items c.args.hart) old _ (touched_word c.args.call (span_of c.args.call c.args.ask.now.want c.answer-reply.result)) q.own.fit q.settings.limit_high q.own.steps
+          (c.access-load.ensures.steps c.args.hart ∙ if_true (c.args.hart == c.args.hart) _ _ (eqb_same c.args.hart));
+      fits = c.answer-reply.ensures.fits;
+      number = subst (λ (v : Vec Hart Global). (hart_in v.items c.args.hart).number < 2 ^ 62) (sym c.access-load.ensures.harts) (low_number p.start.settings (hart_in c.guard.new.self.harts.items c.args.hart) q.own.fit q.settings.limit_high);
+      skipped = subst (λ (v : Vec Hart Global). (hart_in v.items c.args.hart).skipped < 2 ^ 32 - 1) (sym c.access-load.ensures.harts) (few_skipped p.start.settings (hart_in c.guard.new.self.harts.items c.args.hart) q.own.fit q.settings.interval_high);
+      marked = subst (λ (v : Vec Hart Global). IsTrue (is_marked_next (next_of p.start.settings c.args.call (hart_in v.items c.args.hart) c.args.ask.now.want c.answer-reply.result (absorbed c.args.ask.now c.answer-reply.result).ic))) (sym c.access-load.ensures.harts)
+          (next_marked c.each_turn_moves_on.ensures p.start.settings p.start.image m c.guard.new.self p.turns c.args.hart c.args.ask.now c.args.call c.answer-reply.result q (c.requires.call m is) (c.answer-reply.ensures.answer.reply m stands));
+      room = some_room p.start.settings p.turns _ (taken c.access-load.new.self.log.ring) 18 q.few q.settings.limit_high q.left (omega (arith, q.log, c.access-load.ensures.took)) (omega arith);
+    }
 
 pub forget-requires-clause-few : goal.forget-requires-clause-few
 forget-requires-clause-few c =
     let p = c.args.self.now in
     let q = asked_fit c.guarded_asks_fit.ensures p.start.settings p.start.image p.trace c.guard.new.self p.turns c.args.hart c.args.ask.now c.is_guarded-guarded.result p.fits c.requires.hart c.requires.live c.requires.orderly
     c.is_guarded-guarded.ensures.uncut c.guard.ensures.anew c.guard.ensures.same in
-    omega (arith, q.few, q.harts, ap (λ (v : Vec Hart Global). length v.items) c.access-load.ensures.harts, c.finish-next.ensures.len)
+    omega (arith, q.few, q.harts, ap (λ (v : Vec Hart Global). length v.items) c.access-load.ensures.harts, c.finish-next.ensures.finished.len)
 
 pub forget-requires-clause-shadow : goal.forget-requires-clause-shadow
 forget-requires-clause-shadow c =
     let p = c.args.self.now in
     let q = asked_fit c.guarded_asks_fit.ensures p.start.settings p.start.image p.trace c.guard.new.self p.turns c.args.hart c.args.ask.now c.is_guarded-guarded.result p.fits c.requires.hart c.requires.live c.requires.orderly
     c.is_guarded-guarded.ensures.uncut c.guard.ensures.anew c.guard.ensures.same in
-    ap harts_of c.finish-next.ensures.shadow ∙ c.access-load.ensures.shadow_harts ∙ q.shadow ∙ sym (c.finish-next.ensures.len ∙ ap (λ (v : Vec Hart Global). length v.items) c.access-load.ensures.harts ∙ q.harts)
+    ap harts_of c.finish-next.ensures.finished.shadow ∙ c.access-load.ensures.noted.harts ∙ q.shadow ∙ sym (c.finish-next.ensures.finished.len ∙ ap (λ (v : Vec Hart Global). length v.items) c.access-load.ensures.harts ∙ q.harts)

@@ -1,4 +1,4 @@
-use Rattle.std.proofs.Common.{◌≡◌, ◌≤◌, ◌<◌, ◌==◌, ◌+◌, ◌-◌, ◌^◌, ◌++◌, ℕ, Bool, false, List, length, refl, sym, subst, ap, ◌∙◌, arith, IsTrue}
+use Rattle.std.proofs.Common.{◌≡◌, ◌<◌, ◌^◌, ◌-◌, IsTrue, ◌≤◌, ◌==◌, ◌+◌, ◌++◌, ℕ, false, List, length, refl, sym, subst, ap, ◌∙◌, arith}
 use Rattle.std.specs.Prelude.{Vec, if◌then◌else◌, Option, Some, None, []}
 use Rattle.std.specs.Global.{Global}
 use Rattle.std.proofs.lemmas.List.{append-nil}
@@ -8,7 +8,6 @@ use Rattle.rv_meaning.specs.declared.asks.Ask.{Ask}
 use Rattle.rv_meaning.specs.declared.asks.Want.TheVariants.{Load}
 use Rattle.rv_meaning.specs.declared.asks.Reply.{Reply}
 use Rattle.rv_meaning.specs.declared.asks.Reply.TheVariants as replies
-use Rattle.first_load_bits.specs.declared.warm.Warm.{Warm}
 use Rattle.log_record.specs.declared.record.Record.{Record}
 use Rattle.race_log.specs.declared.mode.Mode.TheVariants.{Read}
 use Rattle.race_log.specs.declared.shadow.Shadow.{Shadow}
@@ -19,16 +18,17 @@ use Rattle.run_model.specs.declared.turn_end.TurnEnd.{TurnEnd}
 use Rattle.run_model.specs.declared.span.Span.{Span}
 use Rattle.run_model.specs.Stands.EachCache.{AreCaches}
 use Rattle.run_model.specs.Stands.Logs.{taken, IsLog, is_marked_next}
-use Rattle.run_model.specs.Stands.EachCache.{steps_in, touched_word, touches}
+use Rattle.run_model.specs.Stands.EachCache.{steps_in, touched_word}
 use Rattle.run_model.specs.Stands.Harts.{AreHarts, hart_in}
 use Rattle.run_model.specs.Stands.InPlace.{ask_here}
-use Rattle.run_model.specs.Turn.{span, serve_call, span_of, next_of, hart_after, harts_after, skipped_after, points_after, point_of, edge_records, load_record, events_after, next_records, run_over_records}
-use Rattle.run_model.specs.Stands.Plain.{IsTrace, everyone, meant, count_after, clears}
+use Rattle.run_model.specs.Turn.{span, serve_call, next_of, hart_after, harts_after, skipped_after, points_after, point_of, edge_records, load_record, events_after, next_records, run_over_records}
+use Rattle.run_model.specs.Stands.Plain.{IsTrace, everyone, count_after, clears}
 use Rattle.run_model.proofs.Owns.{hart_at, hart_of_run}
 use Rattle.run_model.proofs.PlainRuns.{traced}
-use Rattle.run_model.proofs.Asked.{as_it_is, IsAsked}
+use Rattle.run_model.proofs.Asked.{as_it_is, IsAsked, few_steps_more, low_number, few_skipped, some_room, eqb_same, if_true}
+use Rattle.run_model.proofs.PlainFits.{next_marked}
 use Rattle.run_model.proofs.PlainFits.{fit_traced, swept_fit, swept_trace, two_ifs}
-use Rattle.run_model.proofs.Meant.{is_meant}
+use Rattle.run_model.proofs.Meant.{meant, is_meant}
 use Rattle.run_model.proofs.plain.Plain.apply_load.Goals as goal
 
 pub returns-clause-run : goal.returns-clause-run
@@ -49,25 +49,25 @@ returns-clause-run c run is =
     let ic : x.state.ic ≡ h.state.ic = ap (λ (y : Hart). y.state.ic) there in
     let eg : h ≡ run.harts k = hart_of_run t.harts.items k run.harts is.trace.harts within in
     let g : Hart = hart_in a.new.self.harts.items k in
-    let same : g ≡ h = ap (λ (v : Vec Hart Global). hart_in v.items k) a.ensures.harts in
-    let are : AreHarts a.new.self.harts.items run.harts = subst (λ (v : Vec Hart Global). AreHarts v.items run.harts) (sym a.ensures.harts) is.trace.harts in
+    let same : g ≡ h = ap (λ (v : Vec Hart Global). hart_in v.items k) a.ensures.accessed.harts in
+    let are : AreHarts a.new.self.harts.items run.harts = subst (λ (v : Vec Hart Global). AreHarts v.items run.harts) (sym a.ensures.accessed.harts) is.trace.harts in
     let logged : List Record = run.stream ++ edge_records (point_of k h.state.ic p.turns words) run.points ++ load_record (Some a.result) k h.skipped word in
     let recs : List Record = logged ++ [] in
-    let held : IsLog a.new.self.log logged = subst (λ (n : ℕ). IsLog a.new.self.log (run.stream ++ edge_records (point_of k n p.turns words) run.points ++ load_record (Some a.result) k h.skipped word)) ic (a.ensures.holds run.points run.stream is.trace.shadow is.trace.log) in
+    let held : IsLog a.new.self.log logged = subst (λ (n : ℕ). IsLog a.new.self.log (run.stream ++ edge_records (point_of k n p.turns words) run.points ++ load_record (Some a.result) k h.skipped word)) ic (a.ensures.accessed.holds run.points run.stream is.trace.shadow is.trace.log) in
     let held_all : IsLog a.new.self.log recs = subst (λ (rs : List Record). IsLog a.new.self.log rs) (sym (append-nil logged)) held in
     let value = c.word_before-word.ensures p.start.input.items run.machine is.machine in
     let state : Hart → HartState = λ (y : Hart). absorbed (ask_here y ask.want) reply in
     let next : Hart → TurnEnd = λ (y : Hart). next_of settings None y ask.want reply (state y).ic in
     let after : IsTrace settings f.new.self (serve_call settings run k ask false None).run =
-    traced settings run k ask None p.turns _ h h (Some a.result) word reply f.new.self is.turns (ap (λ (v : Vec Hart Global). length v.items) a.ensures.harts ∙ p.fits.harts) eg eg
+    traced settings run k ask None p.turns _ h h (Some a.result) word reply f.new.self is.turns (ap (λ (v : Vec Hart Global). length v.items) a.ensures.accessed.harts ∙ p.fits.harts) eg eg
     (a.ensures.load settings run.events is.trace.caches)
     value
     (ap (λ (w : ℕ). replies.Word w) value)
     (record {
       harts = subst (λ (y : Hart). AreHarts f.new.self.harts.items (harts_after (next y) k (hart_after (next y) (state y) (skipped_after (Some a.result) y.skipped) f.new.self.log.bytes y) run.harts)) same (f.ensures.harts run.harts are);
-      caches = subst (λ (y : Hart). AreCaches settings f.new.self.caches (events_after (next y) k None words run.events)) same (f.ensures.caches settings words run.events (a.ensures.caches settings run.events is.trace.caches));
-      shadow = subst (λ (s : Shadow). Stands (points_after (point_of k h.state.ic p.turns words) run.points) everyone s) (sym f.ensures.shadow)
-          (subst (λ (n : ℕ). Stands (points_after (point_of k n p.turns words) run.points) everyone a.new.self.shadow) ic (a.ensures.shadow run.points is.trace.shadow));
+      caches = subst (λ (y : Hart). AreCaches settings f.new.self.caches (events_after (next y) k None words run.events)) same (f.ensures.caches settings words run.events (a.ensures.accessed.caches settings run.events is.trace.caches));
+      shadow = subst (λ (s : Shadow). Stands (points_after (point_of k h.state.ic p.turns words) run.points) everyone s) (sym f.ensures.finished.shadow)
+          (subst (λ (n : ℕ). Stands (points_after (point_of k n p.turns words) run.points) everyone a.new.self.shadow) ic (a.ensures.accessed.noted.stands run.points is.trace.shadow));
       log = subst (λ (y : Hart). IsLog f.new.self.log (recs ++ next_records (next y) k y.number (state y) ++ run_over_records (next y) k (length a.new.self.harts.items) run.harts)) same (f.ensures.holds run.harts recs are held_all);
     })
     (sym is.trace.bytes ∙ is.trace.log.bytes) in
@@ -101,19 +101,49 @@ invariant_of-self c =
       fits = swept_fit settings f.new.self c.forget.new.self (p.turns + 1) (fit_traced c.each_turn_moves_on.ensures settings p.start.image m t f.new.self p.turns k ask None reply (Some a.result) q
           refl (ap (λ (w : ℕ). replies.Word w) value)
           (record {
-            harts = λ g are. subst (λ (v : Vec Hart Global). AreHarts v.items g → AreHarts f.new.self.harts.items (harts_after (next_of settings None (hart_in v.items k) ask.want reply (absorbed (ask_here (hart_in v.items k) ask.want) reply).ic) k (hart_after (next_of settings None (hart_in v.items k) ask.want reply (absorbed (ask_here (hart_in v.items k) ask.want) reply).ic) (absorbed (ask_here (hart_in v.items k) ask.want) reply) (skipped_after (Some a.result) (hart_in v.items k).skipped) f.new.self.log.bytes (hart_in v.items k)) g)) a.ensures.harts (f.ensures.harts g) are;
-            len = f.ensures.len ∙ ap (λ (v : Vec Hart Global). length v.items) a.ensures.harts;
-            caches = f.ensures.count ∙ a.ensures.count;
-            steps = λ j. subst (λ (v : Vec Hart Global). steps_in f.new.self.caches j ≡ (if j == k then steps_in t.caches j + 1 + clears (next_of settings None (hart_in v.items k) ask.want reply (absorbed (ask_here (hart_in v.items k) ask.want) reply).ic) else steps_in t.caches j)) a.ensures.harts
-                (two_ifs (j == k) _ _ _ _ _ (f.ensures.steps j) (a.ensures.steps j));
+            harts = λ g are. subst (λ (v : Vec Hart Global). AreHarts v.items g → AreHarts f.new.self.harts.items (harts_after (next_of settings None (hart_in v.items k) ask.want reply (absorbed (ask_here (hart_in v.items k) ask.want) reply).ic) k (hart_after (next_of settings None (hart_in v.items k) ask.want reply (absorbed (ask_here (hart_in v.items k) ask.want) reply).ic) (absorbed (ask_here (hart_in v.items k) ask.want) reply) (skipped_after (Some a.result) (hart_in v.items k).skipped) f.new.self.log.bytes (hart_in v.items k)) g)) a.ensures.accessed.harts (f.ensures.harts g) are;
+            len = f.ensures.finished.len ∙ ap (λ (v : Vec Hart Global). length v.items) a.ensures.accessed.harts;
+            caches = f.ensures.finished.count ∙ a.ensures.accessed.count;
+            steps = λ j. subst (λ (v : Vec Hart Global). steps_in f.new.self.caches j ≡ (if j == k then steps_in t.caches j + 1 + clears (next_of settings None (hart_in v.items k) ask.want reply (absorbed (ask_here (hart_in v.items k) ask.want) reply).ic) else steps_in t.caches j)) a.ensures.accessed.harts
+                (two_ifs (j == k) _ _ _ _ _ (f.ensures.finished.steps j) (a.ensures.accessed.steps j));
             loading = λ e. refl;
-            shadow = ap harts_of f.ensures.shadow ∙ a.ensures.shadow_harts;
-            lasting = ap lasting_of f.ensures.shadow ∙ a.ensures.lasting;
-            turn = subst (λ (y : Shadow). next_turn y ≤ p.turns + 1) (sym f.ensures.shadow) a.ensures.turn;
-            next = subst (λ (n : ℕ). next_count f.new.self.shadow k ≤ count_after words n (next_count t.shadow k)) ic (subst (λ (y : Shadow). next_count y k ≤ count_after words x.state.ic (next_count t.shadow k)) (sym f.ensures.shadow) a.ensures.next);
-            others = λ j differ. ap (λ (y : Shadow). next_count y j) f.ensures.shadow ∙ a.ensures.others j differ;
-            took = omega (arith, a.ensures.took, f.ensures.took);
-            size = f.ensures.size ∙ a.ensures.size;
+            shadow = ap harts_of f.ensures.finished.shadow ∙ a.ensures.accessed.noted.harts;
+            lasting = ap lasting_of f.ensures.finished.shadow ∙ a.ensures.accessed.noted.lasting;
+            turn = subst (λ (y : Shadow). next_turn y ≤ p.turns + 1) (sym f.ensures.finished.shadow) a.ensures.accessed.noted.turn_is;
+            next = subst (λ (n : ℕ). next_count f.new.self.shadow k ≤ count_after words n (next_count t.shadow k)) ic (subst (λ (y : Shadow). next_count y k ≤ count_after words x.state.ic (next_count t.shadow k)) (sym f.ensures.finished.shadow) a.ensures.accessed.noted.next);
+            others = λ j differ. ap (λ (y : Shadow). next_count y j) f.ensures.finished.shadow ∙ a.ensures.accessed.noted.others j differ;
+            took = omega (arith, a.ensures.accessed.took, f.ensures.finished.took);
+            size = f.ensures.finished.size ∙ a.ensures.accessed.size;
           }))
           c.forget.ensures.shadow c.forget.ensures.harts c.forget.ensures.caches c.forget.ensures.log;
+    }
+
+pub finish_here-next-requires : goal.finish_here-next-requires
+finish_here-next-requires c =
+    let p = c.args.self.now in
+    let settings = p.start.settings in
+    let k = c.args.hart in
+    let t = p.trace in
+    let h : Hart = hart_in t.harts.items k in
+    let ask : Ask = ask_here h (Load c.args.addr c.args.width c.args.signed c.args.rd) in
+    let word = c.word_before-word.result in
+    let reply : Reply = replies.Word word in
+    let words : Option Span = Some (span (aligned c.args.addr) 1 Read) in
+    let a = c.access_load-warm in
+    let q : IsAsked settings p.start.image t p.turns k ask = as_it_is settings p.start.image t p.turns k ask p.fits c.requires.hart c.requires.live c.requires.orderly in
+    let m = meant p.start.input.items p.machine in
+    let is = is_meant p.start.input.items p.machine in
+    let value = c.word_before-word.ensures p.start.input.items m is in
+    let same = a.ensures.accessed.harts in
+    record {
+      hart = omega (arith, q.within, q.harts, ap (λ (v : Vec Hart Global). length v.items) same);
+      few = omega (arith, q.few, q.harts, ap (λ (v : Vec Hart Global). length v.items) same);
+      caches = omega (arith, q.within, q.caches, a.ensures.accessed.count);
+      steps = few_steps_more settings h (steps_in t.caches k) _ (touched_word None words) q.own.fit q.settings.limit_high q.own.steps (a.ensures.accessed.steps k ∙ if_true (k == k) _ _ (eqb_same k));
+      fits = refl;
+      number = subst (λ (v : Vec Hart Global). (hart_in v.items k).number < 2 ^ 62) (sym same) (low_number settings h q.own.fit q.settings.limit_high);
+      skipped = subst (λ (v : Vec Hart Global). (hart_in v.items k).skipped < 2 ^ 32 - 1) (sym same) (few_skipped settings h q.own.fit q.settings.interval_high);
+      marked = subst (λ (v : Vec Hart Global). IsTrue (is_marked_next (next_of settings None (hart_in v.items k) ask.want reply (absorbed (ask_here (hart_in v.items k) ask.want) reply).ic))) (sym same)
+          (next_marked c.each_turn_moves_on.ensures settings p.start.image m t p.turns k ask None reply q refl (ap (λ (w : ℕ). replies.Word w) value));
+      room = some_room settings p.turns _ (taken a.new.self.log.ring) 18 q.few q.settings.limit_high q.left (omega (arith, q.log, a.ensures.accessed.took)) (omega arith);
     }

@@ -1,8 +1,7 @@
-use Rattle.std.proofs.Common.{◌≡◌, ◌<◌, ℕ, List, length, sym, subst, ap, ◌∙◌, arith, IsTrue, true, false, refl, Bool}
-use Rattle.std.specs.Prelude.{Vec, None, Option, slice_get}
+use Rattle.std.proofs.Common.{◌≡◌, ◌<◌, ℕ, List, length, sym, subst, ap, ◌∙◌, arith, IsTrue, false, refl, Bool}
+use Rattle.std.specs.Prelude.{Vec, None, slice_get}
 use Rattle.std.specs.Global.{Global}
 use Rattle.bn_base.specs.declared.state.HartState.{HartState}
-use Rattle.bn_base.specs.declared.settings.RawSettings.{RawSettings}
 use Rattle.run_model.specs.declared.start.Start.{Start}
 use Rattle.run_model.specs.Stands.Plain.{IsRun, IsTrace, IsTraceFit}
 use Rattle.run_model.specs.Stands.Parts.{size_of}
@@ -11,13 +10,12 @@ use Rattle.std.proofs.lemmas.List.{length-set}
 use Rattle.run_model.specs.Stands.Turning.{parts}
 use Rattle.run_model.specs.declared.hart.Hart.{Hart}
 use Rattle.bn_base.specs.Programs.{Program}
-use Rattle.rv_meaning.specs.Execute.{ask_of}
 use Rattle.rv_meaning.specs.declared.asks.Ask.{Ask}
 use Rattle.rv_meaning.specs.declared.asks.Want.{Want}
 use Rattle.rv_meaning.specs.declared.asks.Want.TheVariants.{Load, Store}
 use Rattle.run_model.specs.Stands.Harts.{hart_in, is_live_hart}
 use Rattle.run_model.specs.Stands.InPlace.{IsMoved, ask_here, in_state, moved_run}
-use Rattle.run_model.specs.Turn.{Run, turn, ask_at, is_orderly, is_guarded, serve_call}
+use Rattle.run_model.specs.Turn.{Run, turn, ask_at, is_orderly, serve_call}
 use Rattle.run_model.proofs.OneTurn.{live_within, asked_orderly, turn_is, passes_of}
 use Rattle.run_model.proofs.MoveOn.{both}
 use Rattle.rv_meaning.specs.Orderly.{is_aligned}
@@ -59,8 +57,8 @@ apply_load-requires-clause-orderly c =
     let moved : IsMoved k s p.trace c.move_on-want.new.self = subst (λ (i : Program). IsMoved k (ask_at p.start.settings i h).state p.trace c.move_on-want.new.self) c.requires.code c.move_on-want.ensures.moved in
     let on = moved_on p.start.settings p.start.image h s want fit live.1 refl own in
     let r = c.ready_load.new.self in
-    let at : hart_in r.trace.harts.items k ≡ in_state s h = ap (λ (v : Vec Hart Global). hart_in v.items k) c.ready_load.ensures.harts ∙ own_moved p.trace c.move_on-want.new.self k s moved live.0 in
-    subst (λ (x : Start). IsTrue (is_orderly x.settings x.image (hart_in r.trace.harts.items k) (ask_here (hart_in r.trace.harts.items k) want))) (sym c.ready_load.ensures.start)
+    let at : hart_in r.trace.harts.items k ≡ in_state s h = ap (λ (v : Vec Hart Global). hart_in v.items k) c.ready_load.ensures.swept.harts ∙ own_moved p.trace c.move_on-want.new.self k s moved live.0 in
+    subst (λ (x : Start). IsTrue (is_orderly x.settings x.image (hart_in r.trace.harts.items k) (ask_here (hart_in r.trace.harts.items k) want))) (sym c.ready_load.ensures.swept.start)
     (subst (λ (y : Hart). IsTrue (is_orderly p.start.settings p.start.image y (ask_here y want))) (sym at) on.orderly)
 
 pub returns-then-ready_load-clause-run : goal.returns-then-ready_load-clause-run
@@ -79,18 +77,18 @@ returns-then-ready_load-clause-run c run is =
     let settings = p.start.settings in
     let r = c.ready_load.new.self in
     let new = c.apply_load.new.self in
-    let at : hart_in r.trace.harts.items k ≡ in_state s h = ap (λ (v : Vec Hart Global). hart_in v.items k) c.ready_load.ensures.harts ∙ own_moved p.trace c.move_on-want.new.self k s moved live.0 in
+    let at : hart_in r.trace.harts.items k ≡ in_state s h = ap (λ (v : Vec Hart Global). hart_in v.items k) c.ready_load.ensures.swept.harts ∙ own_moved p.trace c.move_on-want.new.self k s moved live.0 in
     let there : h ≡ run.harts k = hart_of_run p.trace.harts.items k run.harts is.trace.harts live.0 in
     let on : IsTrace settings c.move_on-want.new.self (moved_run run k s) = moved_is settings p.trace c.move_on-want.new.self run k s live.0 moved is.trace in
     let unguarded = unguarded_moved settings run k s c.in-Load.addr c.in-Load.width c.in-Load.signed c.in-Load.rd
     (c.if-ready_load.ensures.unguarded refl (moved_run run k s) (record { machine = is.machine; trace = on; turns = is.turns })) in
-    let ready : IsTrace settings r.trace (moved_run run k s) = swept_trace settings c.move_on-want.new.self r.trace (moved_run run k s) on c.ready_load.ensures.shadow c.ready_load.ensures.harts c.ready_load.ensures.caches c.ready_load.ensures.log in
-    let is_ready : IsRun (parts r) (moved_run run k s) = stands_on (parts p) (parts r) (moved_run run k s) c.ready_load.ensures.start c.ready_load.ensures.machine c.ready_load.ensures.turns is.machine ready is.turns in
+    let ready : IsTrace settings r.trace (moved_run run k s) = swept_trace settings c.move_on-want.new.self r.trace (moved_run run k s) on c.ready_load.ensures.swept.shadow c.ready_load.ensures.swept.harts c.ready_load.ensures.swept.caches c.ready_load.ensures.swept.log in
+    let is_ready : IsRun (parts r) (moved_run run k s) = stands_on (parts p) (parts r) (moved_run run k s) c.ready_load.ensures.swept.start c.ready_load.ensures.swept.machine c.ready_load.ensures.swept.turns is.machine ready is.turns in
     let done = c.apply_load.ensures.run (moved_run run k s) is_ready in
     let asked : Ask = record { state = s; want = want } in
-    let by_settings = subst (λ (x : Start). IsRun (parts new) (serve_call x.settings (moved_run run k s) k (ask_here (hart_in r.trace.harts.items k) want) false None).run) c.ready_load.ensures.start done in
+    let by_settings = subst (λ (x : Start). IsRun (parts new) (serve_call x.settings (moved_run run k s) k (ask_here (hart_in r.trace.harts.items k) want) false None).run) c.ready_load.ensures.swept.start done in
     let by_ask : IsRun (parts new) (serve_call settings (moved_run run k s) k asked false None).run = subst (λ (y : Hart). IsRun (parts new) (serve_call settings (moved_run run k s) k (ask_here y want) false None).run) at by_settings in
-    let same : new.start.settings ≡ settings = ap (λ (x : Start). x.settings) (c.apply_load.ensures.start ∙ c.ready_load.ensures.start) in
+    let same : new.start.settings ≡ settings = ap (λ (x : Start). x.settings) (c.apply_load.ensures.start ∙ c.ready_load.ensures.swept.start) in
     let served = served_run (parts new) settings run k s c.in-Load.addr c.in-Load.width c.in-Load.signed c.in-Load.rd same by_ask in
     let ea : asked ≡ ask_at settings p.start.image (run.harts k) = ap (λ (w : Want). record { state = s; want = w }) (sym is_want) ∙ ap (λ (y : Hart). ask_at settings p.start.image y) there in
     let ordered = subst (λ (y : Hart). IsTrue (is_orderly settings p.start.image y asked)) there own in
@@ -129,8 +127,8 @@ apply_store-requires-clause-orderly c =
     let moved : IsMoved k s p.trace c.move_on-want.new.self = subst (λ (i : Program). IsMoved k (ask_at p.start.settings i h).state p.trace c.move_on-want.new.self) c.requires.code c.move_on-want.ensures.moved in
     let on = moved_on p.start.settings p.start.image h s want fit live.1 refl own in
     let r = c.ready_store.new.self in
-    let at : hart_in r.trace.harts.items k ≡ in_state s h = ap (λ (v : Vec Hart Global). hart_in v.items k) c.ready_store.ensures.harts ∙ own_moved p.trace c.move_on-want.new.self k s moved live.0 in
-    subst (λ (x : Start). IsTrue (is_orderly x.settings x.image (hart_in r.trace.harts.items k) (ask_here (hart_in r.trace.harts.items k) want))) (sym c.ready_store.ensures.start)
+    let at : hart_in r.trace.harts.items k ≡ in_state s h = ap (λ (v : Vec Hart Global). hart_in v.items k) c.ready_store.ensures.swept.harts ∙ own_moved p.trace c.move_on-want.new.self k s moved live.0 in
+    subst (λ (x : Start). IsTrue (is_orderly x.settings x.image (hart_in r.trace.harts.items k) (ask_here (hart_in r.trace.harts.items k) want))) (sym c.ready_store.ensures.swept.start)
     (subst (λ (y : Hart). IsTrue (is_orderly p.start.settings p.start.image y (ask_here y want))) (sym at) on.orderly)
 
 pub ready_store-requires-clause-stores : goal.ready_store-requires-clause-stores
@@ -181,18 +179,18 @@ returns-then-ready_store-clause-run c run is =
     let settings = p.start.settings in
     let r = c.ready_store.new.self in
     let new = c.apply_store.new.self in
-    let at : hart_in r.trace.harts.items k ≡ in_state s h = ap (λ (v : Vec Hart Global). hart_in v.items k) c.ready_store.ensures.harts ∙ own_moved p.trace c.move_on-want.new.self k s moved live.0 in
+    let at : hart_in r.trace.harts.items k ≡ in_state s h = ap (λ (v : Vec Hart Global). hart_in v.items k) c.ready_store.ensures.swept.harts ∙ own_moved p.trace c.move_on-want.new.self k s moved live.0 in
     let there : h ≡ run.harts k = hart_of_run p.trace.harts.items k run.harts is.trace.harts live.0 in
     let on : IsTrace settings c.move_on-want.new.self (moved_run run k s) = moved_is settings p.trace c.move_on-want.new.self run k s live.0 moved is.trace in
     let unguarded = unguarded_stored settings run k s c.in-Store.addr c.in-Store.width c.in-Store.value
     (c.if-ready_store.ensures.unguarded refl (moved_run run k s) (record { machine = is.machine; trace = on; turns = is.turns })) in
-    let ready : IsTrace settings r.trace (moved_run run k s) = swept_trace settings c.move_on-want.new.self r.trace (moved_run run k s) on c.ready_store.ensures.shadow c.ready_store.ensures.harts c.ready_store.ensures.caches c.ready_store.ensures.log in
-    let is_ready : IsRun (parts r) (moved_run run k s) = stands_on (parts p) (parts r) (moved_run run k s) c.ready_store.ensures.start c.ready_store.ensures.machine c.ready_store.ensures.turns is.machine ready is.turns in
+    let ready : IsTrace settings r.trace (moved_run run k s) = swept_trace settings c.move_on-want.new.self r.trace (moved_run run k s) on c.ready_store.ensures.swept.shadow c.ready_store.ensures.swept.harts c.ready_store.ensures.swept.caches c.ready_store.ensures.swept.log in
+    let is_ready : IsRun (parts r) (moved_run run k s) = stands_on (parts p) (parts r) (moved_run run k s) c.ready_store.ensures.swept.start c.ready_store.ensures.swept.machine c.ready_store.ensures.swept.turns is.machine ready is.turns in
     let done = c.apply_store.ensures.run (moved_run run k s) is_ready in
     let asked : Ask = record { state = s; want = want } in
-    let by_settings = subst (λ (x : Start). IsRun (parts new) (serve_call x.settings (moved_run run k s) k (ask_here (hart_in r.trace.harts.items k) want) false None).run) c.ready_store.ensures.start done in
+    let by_settings = subst (λ (x : Start). IsRun (parts new) (serve_call x.settings (moved_run run k s) k (ask_here (hart_in r.trace.harts.items k) want) false None).run) c.ready_store.ensures.swept.start done in
     let by_ask : IsRun (parts new) (serve_call settings (moved_run run k s) k asked false None).run = subst (λ (y : Hart). IsRun (parts new) (serve_call settings (moved_run run k s) k (ask_here y want) false None).run) at by_settings in
-    let same : new.start.settings ≡ settings = ap (λ (x : Start). x.settings) (c.apply_store.ensures.start ∙ c.ready_store.ensures.start) in
+    let same : new.start.settings ≡ settings = ap (λ (x : Start). x.settings) (c.apply_store.ensures.start ∙ c.ready_store.ensures.swept.start) in
     let served = stored_run (parts new) settings run k s c.in-Store.addr c.in-Store.width c.in-Store.value same by_ask in
     let ea : asked ≡ ask_at settings p.start.image (run.harts k) = ap (λ (w : Want). record { state = s; want = w }) (sym is_want) ∙ ap (λ (y : Hart). ask_at settings p.start.image y) there in
     let ordered = subst (λ (y : Hart). IsTrue (is_orderly settings p.start.image y asked)) there own in
@@ -208,18 +206,18 @@ put_back-requires c =
     let on = c.move_on-want.new.self in
     let aside : IsAside on p.start p.machine p.turns c.move_on-want.result c.match-want.self.1.0 c.match-want.self.1.1.0 c.match-want.self.1.1.1.0 c.match-want.self.1.1.1.1.0 c.match-want.want = elim c.match-want.branch [
       | in-Load+else-ready_load w ↦ rw (w.self-is, w.want-is) (record {
-        start_is = w.ready_load.ensures.start;
-        machine_is = w.ready_load.ensures.machine;
-        turns_is = w.ready_load.ensures.turns;
+        start_is = w.ready_load.ensures.swept.start;
+        machine_is = w.ready_load.ensures.swept.machine;
+        turns_is = w.ready_load.ensures.swept.turns;
         want_is = sym w.in-Load.is;
-        like = record { harts = ap (λ (v : Vec Hart Global). v.items) w.ready_load.ensures.harts; caches = w.ready_load.ensures.caches; shadow = w.ready_load.ensures.shadow; log = w.ready_load.ensures.log };
+        like = record { harts = ap (λ (v : Vec Hart Global). v.items) w.ready_load.ensures.swept.harts; caches = w.ready_load.ensures.swept.caches; shadow = w.ready_load.ensures.swept.shadow; log = w.ready_load.ensures.swept.log };
       })
       | in-Store+else-ready_store w ↦ rw (w.self-is, w.want-is) (record {
-        start_is = w.ready_store.ensures.start;
-        machine_is = w.ready_store.ensures.machine;
-        turns_is = w.ready_store.ensures.turns;
+        start_is = w.ready_store.ensures.swept.start;
+        machine_is = w.ready_store.ensures.swept.machine;
+        turns_is = w.ready_store.ensures.swept.turns;
         want_is = sym w.in-Store.is;
-        like = record { harts = ap (λ (v : Vec Hart Global). v.items) w.ready_store.ensures.harts; caches = w.ready_store.ensures.caches; shadow = w.ready_store.ensures.shadow; log = w.ready_store.ensures.log };
+        like = record { harts = ap (λ (v : Vec Hart Global). v.items) w.ready_store.ensures.swept.harts; caches = w.ready_store.ensures.swept.caches; shadow = w.ready_store.ensures.swept.shadow; log = w.ready_store.ensures.swept.log };
       })
       | in_default w ↦ rw (w.self-is, w.want-is) (record { start_is = refl; machine_is = refl; turns_is = refl; want_is = refl; like = like_itself on })
     ] in
@@ -234,18 +232,18 @@ invariant_of-self-2 c =
     let on = c.move_on-want.new.self in
     let aside : IsAside on p.start p.machine p.turns c.move_on-want.result c.match-want.self.1.0 c.match-want.self.1.1.0 c.match-want.self.1.1.1.0 c.match-want.self.1.1.1.1.0 c.match-want.want = elim c.match-want.branch [
       | in-Load+else-ready_load w ↦ rw (w.self-is, w.want-is) (record {
-        start_is = w.ready_load.ensures.start;
-        machine_is = w.ready_load.ensures.machine;
-        turns_is = w.ready_load.ensures.turns;
+        start_is = w.ready_load.ensures.swept.start;
+        machine_is = w.ready_load.ensures.swept.machine;
+        turns_is = w.ready_load.ensures.swept.turns;
         want_is = sym w.in-Load.is;
-        like = record { harts = ap (λ (v : Vec Hart Global). v.items) w.ready_load.ensures.harts; caches = w.ready_load.ensures.caches; shadow = w.ready_load.ensures.shadow; log = w.ready_load.ensures.log };
+        like = record { harts = ap (λ (v : Vec Hart Global). v.items) w.ready_load.ensures.swept.harts; caches = w.ready_load.ensures.swept.caches; shadow = w.ready_load.ensures.swept.shadow; log = w.ready_load.ensures.swept.log };
       })
       | in-Store+else-ready_store w ↦ rw (w.self-is, w.want-is) (record {
-        start_is = w.ready_store.ensures.start;
-        machine_is = w.ready_store.ensures.machine;
-        turns_is = w.ready_store.ensures.turns;
+        start_is = w.ready_store.ensures.swept.start;
+        machine_is = w.ready_store.ensures.swept.machine;
+        turns_is = w.ready_store.ensures.swept.turns;
         want_is = sym w.in-Store.is;
-        like = record { harts = ap (λ (v : Vec Hart Global). v.items) w.ready_store.ensures.harts; caches = w.ready_store.ensures.caches; shadow = w.ready_store.ensures.shadow; log = w.ready_store.ensures.log };
+        like = record { harts = ap (λ (v : Vec Hart Global). v.items) w.ready_store.ensures.swept.harts; caches = w.ready_store.ensures.swept.caches; shadow = w.ready_store.ensures.swept.shadow; log = w.ready_store.ensures.swept.log };
       })
       | in_default w ↦ rw (w.self-is, w.want-is) (record { start_is = refl; machine_is = refl; turns_is = refl; want_is = refl; like = like_itself on })
     ] in
@@ -265,18 +263,18 @@ take_in_parts-requires-clause-live c =
     let on = c.move_on-want.new.self in
     let aside : IsAside on p.start p.machine p.turns c.move_on-want.result c.match-want.self.1.0 c.match-want.self.1.1.0 c.match-want.self.1.1.1.0 c.match-want.self.1.1.1.1.0 c.match-want.want = elim c.match-want.branch [
       | in-Load+else-ready_load w ↦ rw (w.self-is, w.want-is) (record {
-        start_is = w.ready_load.ensures.start;
-        machine_is = w.ready_load.ensures.machine;
-        turns_is = w.ready_load.ensures.turns;
+        start_is = w.ready_load.ensures.swept.start;
+        machine_is = w.ready_load.ensures.swept.machine;
+        turns_is = w.ready_load.ensures.swept.turns;
         want_is = sym w.in-Load.is;
-        like = record { harts = ap (λ (v : Vec Hart Global). v.items) w.ready_load.ensures.harts; caches = w.ready_load.ensures.caches; shadow = w.ready_load.ensures.shadow; log = w.ready_load.ensures.log };
+        like = record { harts = ap (λ (v : Vec Hart Global). v.items) w.ready_load.ensures.swept.harts; caches = w.ready_load.ensures.swept.caches; shadow = w.ready_load.ensures.swept.shadow; log = w.ready_load.ensures.swept.log };
       })
       | in-Store+else-ready_store w ↦ rw (w.self-is, w.want-is) (record {
-        start_is = w.ready_store.ensures.start;
-        machine_is = w.ready_store.ensures.machine;
-        turns_is = w.ready_store.ensures.turns;
+        start_is = w.ready_store.ensures.swept.start;
+        machine_is = w.ready_store.ensures.swept.machine;
+        turns_is = w.ready_store.ensures.swept.turns;
         want_is = sym w.in-Store.is;
-        like = record { harts = ap (λ (v : Vec Hart Global). v.items) w.ready_store.ensures.harts; caches = w.ready_store.ensures.caches; shadow = w.ready_store.ensures.shadow; log = w.ready_store.ensures.log };
+        like = record { harts = ap (λ (v : Vec Hart Global). v.items) w.ready_store.ensures.swept.harts; caches = w.ready_store.ensures.swept.caches; shadow = w.ready_store.ensures.swept.shadow; log = w.ready_store.ensures.swept.log };
       })
       | in_default w ↦ rw (w.self-is, w.want-is) (record { start_is = refl; machine_is = refl; turns_is = refl; want_is = refl; like = like_itself on })
     ] in
@@ -292,18 +290,18 @@ take_in_parts-requires-clause-asked c =
     let on = c.move_on-want.new.self in
     let aside : IsAside on p.start p.machine p.turns c.move_on-want.result c.match-want.self.1.0 c.match-want.self.1.1.0 c.match-want.self.1.1.1.0 c.match-want.self.1.1.1.1.0 c.match-want.want = elim c.match-want.branch [
       | in-Load+else-ready_load w ↦ rw (w.self-is, w.want-is) (record {
-        start_is = w.ready_load.ensures.start;
-        machine_is = w.ready_load.ensures.machine;
-        turns_is = w.ready_load.ensures.turns;
+        start_is = w.ready_load.ensures.swept.start;
+        machine_is = w.ready_load.ensures.swept.machine;
+        turns_is = w.ready_load.ensures.swept.turns;
         want_is = sym w.in-Load.is;
-        like = record { harts = ap (λ (v : Vec Hart Global). v.items) w.ready_load.ensures.harts; caches = w.ready_load.ensures.caches; shadow = w.ready_load.ensures.shadow; log = w.ready_load.ensures.log };
+        like = record { harts = ap (λ (v : Vec Hart Global). v.items) w.ready_load.ensures.swept.harts; caches = w.ready_load.ensures.swept.caches; shadow = w.ready_load.ensures.swept.shadow; log = w.ready_load.ensures.swept.log };
       })
       | in-Store+else-ready_store w ↦ rw (w.self-is, w.want-is) (record {
-        start_is = w.ready_store.ensures.start;
-        machine_is = w.ready_store.ensures.machine;
-        turns_is = w.ready_store.ensures.turns;
+        start_is = w.ready_store.ensures.swept.start;
+        machine_is = w.ready_store.ensures.swept.machine;
+        turns_is = w.ready_store.ensures.swept.turns;
         want_is = sym w.in-Store.is;
-        like = record { harts = ap (λ (v : Vec Hart Global). v.items) w.ready_store.ensures.harts; caches = w.ready_store.ensures.caches; shadow = w.ready_store.ensures.shadow; log = w.ready_store.ensures.log };
+        like = record { harts = ap (λ (v : Vec Hart Global). v.items) w.ready_store.ensures.swept.harts; caches = w.ready_store.ensures.swept.caches; shadow = w.ready_store.ensures.swept.shadow; log = w.ready_store.ensures.swept.log };
       })
       | in_default w ↦ rw (w.self-is, w.want-is) (record { start_is = refl; machine_is = refl; turns_is = refl; want_is = refl; like = like_itself on })
     ] in
@@ -324,18 +322,18 @@ returns-clause-run c =
     let on = c.move_on-want.new.self in
     let aside : IsAside on p.start p.machine p.turns c.move_on-want.result c.match-want.self.1.0 c.match-want.self.1.1.0 c.match-want.self.1.1.1.0 c.match-want.self.1.1.1.1.0 c.match-want.want = elim c.match-want.branch [
       | in-Load+else-ready_load w ↦ rw (w.self-is, w.want-is) (record {
-        start_is = w.ready_load.ensures.start;
-        machine_is = w.ready_load.ensures.machine;
-        turns_is = w.ready_load.ensures.turns;
+        start_is = w.ready_load.ensures.swept.start;
+        machine_is = w.ready_load.ensures.swept.machine;
+        turns_is = w.ready_load.ensures.swept.turns;
         want_is = sym w.in-Load.is;
-        like = record { harts = ap (λ (v : Vec Hart Global). v.items) w.ready_load.ensures.harts; caches = w.ready_load.ensures.caches; shadow = w.ready_load.ensures.shadow; log = w.ready_load.ensures.log };
+        like = record { harts = ap (λ (v : Vec Hart Global). v.items) w.ready_load.ensures.swept.harts; caches = w.ready_load.ensures.swept.caches; shadow = w.ready_load.ensures.swept.shadow; log = w.ready_load.ensures.swept.log };
       })
       | in-Store+else-ready_store w ↦ rw (w.self-is, w.want-is) (record {
-        start_is = w.ready_store.ensures.start;
-        machine_is = w.ready_store.ensures.machine;
-        turns_is = w.ready_store.ensures.turns;
+        start_is = w.ready_store.ensures.swept.start;
+        machine_is = w.ready_store.ensures.swept.machine;
+        turns_is = w.ready_store.ensures.swept.turns;
         want_is = sym w.in-Store.is;
-        like = record { harts = ap (λ (v : Vec Hart Global). v.items) w.ready_store.ensures.harts; caches = w.ready_store.ensures.caches; shadow = w.ready_store.ensures.shadow; log = w.ready_store.ensures.log };
+        like = record { harts = ap (λ (v : Vec Hart Global). v.items) w.ready_store.ensures.swept.harts; caches = w.ready_store.ensures.swept.caches; shadow = w.ready_store.ensures.swept.shadow; log = w.ready_store.ensures.swept.log };
       })
       | in_default w ↦ rw (w.self-is, w.want-is) (record { start_is = refl; machine_is = refl; turns_is = refl; want_is = refl; like = like_itself on })
     ] in
@@ -351,18 +349,18 @@ returns-clause-refused c =
     let on = c.move_on-want.new.self in
     let aside : IsAside on p.start p.machine p.turns c.move_on-want.result c.match-want.self.1.0 c.match-want.self.1.1.0 c.match-want.self.1.1.1.0 c.match-want.self.1.1.1.1.0 c.match-want.want = elim c.match-want.branch [
       | in-Load+else-ready_load w ↦ rw (w.self-is, w.want-is) (record {
-        start_is = w.ready_load.ensures.start;
-        machine_is = w.ready_load.ensures.machine;
-        turns_is = w.ready_load.ensures.turns;
+        start_is = w.ready_load.ensures.swept.start;
+        machine_is = w.ready_load.ensures.swept.machine;
+        turns_is = w.ready_load.ensures.swept.turns;
         want_is = sym w.in-Load.is;
-        like = record { harts = ap (λ (v : Vec Hart Global). v.items) w.ready_load.ensures.harts; caches = w.ready_load.ensures.caches; shadow = w.ready_load.ensures.shadow; log = w.ready_load.ensures.log };
+        like = record { harts = ap (λ (v : Vec Hart Global). v.items) w.ready_load.ensures.swept.harts; caches = w.ready_load.ensures.swept.caches; shadow = w.ready_load.ensures.swept.shadow; log = w.ready_load.ensures.swept.log };
       })
       | in-Store+else-ready_store w ↦ rw (w.self-is, w.want-is) (record {
-        start_is = w.ready_store.ensures.start;
-        machine_is = w.ready_store.ensures.machine;
-        turns_is = w.ready_store.ensures.turns;
+        start_is = w.ready_store.ensures.swept.start;
+        machine_is = w.ready_store.ensures.swept.machine;
+        turns_is = w.ready_store.ensures.swept.turns;
         want_is = sym w.in-Store.is;
-        like = record { harts = ap (λ (v : Vec Hart Global). v.items) w.ready_store.ensures.harts; caches = w.ready_store.ensures.caches; shadow = w.ready_store.ensures.shadow; log = w.ready_store.ensures.log };
+        like = record { harts = ap (λ (v : Vec Hart Global). v.items) w.ready_store.ensures.swept.harts; caches = w.ready_store.ensures.swept.caches; shadow = w.ready_store.ensures.swept.shadow; log = w.ready_store.ensures.swept.log };
       })
       | in_default w ↦ rw (w.self-is, w.want-is) (record { start_is = refl; machine_is = refl; turns_is = refl; want_is = refl; like = like_itself on })
     ] in
