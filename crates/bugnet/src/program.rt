@@ -6,7 +6,7 @@ ghost use Rattle.bugnet.specs.Answers.{names_in, manner_of, refusal_in, IsAnswer
 ghost use Rattle.bugnet.specs.Asks.{LineSaves, RecordsRun, AnswerSaves};
 ghost use Rattle.bugnet.specs.Laws.{IsReadOnly, IsNoSession, IsNoRecording};
 ghost use Rattle.bugnet.specs.Sessions.{is_begun};
-ghost use Rattle.bugnet.specs.Debugging.{Debugs};
+ghost use Rattle.bugnet.specs.Debugging.{CanBegin, Debugs};
 ghost use Rattle.bugnet.specs.Agreements.{AuditsRun};
 ghost use Rattle.bugnet.specs.Complete.{IsDone};
 ghost use Rattle.bugnet.specs.Headline.{PrintsRun};
@@ -45,6 +45,7 @@ use log_blocks::readings::{files_are_read, readings_are_unique};
 use std::alloc::Global;
 use std::sync::Wait;
 use std::thread::Threads;
+use step_debugger::laws::refusals_stay;
 
 // The names of the files of a command.
 fn names_of<'a>(command: &Command<'a>) -> Names<'a>
@@ -218,9 +219,10 @@ pub fn perform<S: Store, I: Source, O: Sink, X: Sink>(
     ensures err_later { X.faults err.old ≤ X.faults err.new }
     ensures still { IsReadOnly (Some (seen command.now)) → S.files store.new ≡ S.files store.old }
     ensures saves { LineSaves (Some (seen command.now)) result (S.saves store.old) (S.saves store.new) }
-    ensures session { Debugs (Some (seen command.now)) result (I.left input.old) (I.left input.new) (I.faults input.old) (I.faults input.new)
+    ensures session { Debugs (Some (seen command.now)) result (I.left input.old) (I.left input.new) (I.faults input.old) (I.faults input.new) (I.reads input.old) (I.reads input.new)
         (call S.files S.counts O.written O.faults X.written X.faults store.old out.old err.old store.new out.new err.new) }
     ensures first { (is_begun result ≡ true) ⊎ (input.new ≡ input.old) }
+    ensures begins { (input.new ≡ input.old) ⊎ WithFiles (S.files store.old) (λ files. CanBegin (Some (seen command.now)) files) }
     ensures unread { IsNoSession (Some (seen command.now)) → input.new ≡ input.old }
     ensures read { result ≡ 12 → Rose (I.faults input.old) (I.faults input.new) }
     ensures read_later { I.faults input.old ≤ I.faults input.new }
@@ -236,6 +238,7 @@ pub fn perform<S: Store, I: Source, O: Sink, X: Sink>(
     saved_files_keep_to_the_limit();
     converted_files_keep_to_the_limit();
     files_are_read();
+    refusals_stay();
     let names = names_of(command);
     // What `debug` prints depends on what it reads meanwhile, so it has no answer that is made first.
     match command {
@@ -263,9 +266,10 @@ fn obey<S: Store, I: Source, O: Sink, X: Sink, G: Gate, R: Threads + Wait + Sync
     ensures recorded { LeavesRun (Some (seen command.now)) result (S.files store.old) (S.files store.new) }
     ensures still { IsReadOnly (Some (seen command.now)) → S.files store.new ≡ S.files store.old }
     ensures saves { LineSaves (Some (seen command.now)) result (S.saves store.old) (S.saves store.new) }
-    ensures session { Debugs (Some (seen command.now)) result (I.left input.old) (I.left input.new) (I.faults input.old) (I.faults input.new)
+    ensures session { Debugs (Some (seen command.now)) result (I.left input.old) (I.left input.new) (I.faults input.old) (I.faults input.new) (I.reads input.old) (I.reads input.new)
         (call S.files S.counts O.written O.faults X.written X.faults store.old out.old err.old store.new out.new err.new) }
     ensures first { (is_begun result ≡ true) ⊎ (input.new ≡ input.old) }
+    ensures begins { (input.new ≡ input.old) ⊎ WithFiles (S.files store.old) (λ files. CanBegin (Some (seen command.now)) files) }
     ensures unread { IsNoSession (Some (seen command.now)) → input.new ≡ input.old }
     ensures read { result ≡ 12 → Rose (I.faults input.old) (I.faults input.new) }
     ensures read_later { I.faults input.old ≤ I.faults input.new }
@@ -390,11 +394,14 @@ pub fn run<S: Store, I: Source, O: Sink, X: Sink, G: Gate, R: Threads + Wait + S
 
     // Only `debug` reads commands, and only once its files are loaded and tested. What they make it tell
     // is told: the text of its session, up to a read that failed, a line or commands that are too long, or
-    // a refusal of the replay. It reads nothing behind `quit`. Where the log is a recording's, all that it
-    // shows is the run's, and no replay is refused.
-    ensures session { Debugs (command_in words.now) result (I.left input.old) (I.left input.new) (I.faults input.old) (I.faults input.new)
+    // a refusal of the replay. However it ends, each byte was read once, and none after its end: the first
+    // `quit`, the line that was refused or not answered, the first byte too many. One more read finds the
+    // end of the input, or fails. Where the log is a recording's, all that it shows is the run's, and no
+    // replay is refused. What stops no session with the whole input stops none with a prefix of it.
+    ensures session { Debugs (command_in words.now) result (I.left input.old) (I.left input.new) (I.faults input.old) (I.faults input.new) (I.reads input.old) (I.reads input.new)
         (call S.files S.counts O.written O.faults X.written X.faults store.old out.old err.old store.new out.new err.new) }
     ensures first { (is_begun result ≡ true) ⊎ (input.new ≡ input.old) }
+    ensures begins { (input.new ≡ input.old) ⊎ WithFiles (S.files store.old) (λ files. CanBegin (command_in words.now) files) }
     ensures unread { IsNoSession (command_in words.now) → input.new ≡ input.old }
 
     // Where an audit is done, LOG is the file of the run of BOOK's turns, or that file in version 2; they are

@@ -7,7 +7,8 @@ use Rattle.bugnet.specs.Pairs.{pair_roles, IsPair}
 use Rattle.bugnet.specs.Reading.{by_reading}
 use Rattle.bugnet.specs.declared.names.Role.{Role}
 use Rattle.bugnet.proofs.Commanded.{load-refused, loaded-made, with-also}
-use Rattle.bugnet.proofs.SamePair.{IsReadPair, says-pair}
+use Rattle.bugnet.proofs.SamePair.{IsReadPair, says-pair, pair-there}
+use Rattle.bugnet.proofs.Tells.{with-any}
 use Rattle.bugnet.proofs.pairs.load_pair.Goals as goal
 
 pub returns-in-Err-clause-told : goal.returns-in-Err-clause-told
@@ -31,3 +32,13 @@ returns-in-Err-clause-cause g c = c.in-Err.ensures.only.cause
 
 pub returns-in-Ok-clause-cause : goal.returns-in-Ok-clause-cause
 returns-in-Ok-clause-cause g c = c.read_pair.ensures.own _ _
+
+pub returns-in-Err-clause-loaded : goal.returns-in-Err-clause-loaded
+returns-in-Err-clause-loaded g c = with-any (g.S.Store.files c.args.store.now) _ (λ files. tt)
+
+pub returns-in-Ok-clause-loaded : goal.returns-in-Ok-clause-loaded
+returns-in-Ok-clause-loaded g c =
+    let known = g.S.Store.files c.args.store.now in
+    let names = c.args.names.now in
+    pair-there known names c.in-Ok.inputs c.read_pair.result
+    (subst (λ (rs : List Role). WithFiles known (λ files. IsLoaded names rs files (Ok c.in-Ok.inputs))) c.pair_roles.ensures c.in-Ok.ensures.loads) (rw c.deref-in-Ok.ensures.value at (rw c.deref.ensures.value at c.read_pair.ensures.is))
