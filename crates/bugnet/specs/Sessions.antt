@@ -91,9 +91,8 @@ EndsBy (Err e) status = (status ≡ stop_status e) ⊎ (status ≡ 9)
 
 -- ---- how far a session reads
 
--- how far one reads that ends so: up to its first `quit` or to the end of the source; up to the read that failed; up to the
--- line that was refused, or whose answer could not be written; up to the first byte that is too many; up to the byte or the
--- line for which memory ran out. No `quit` is passed
+-- how far one reads that ends so: to its first `quit` or to the end of the source; to the read that failed; to the first byte
+-- that is too many; to the end of a line, if the replay was refused or an answer could not be written. No `quit` is passed
 abbrev pub ReadsUpTo : (bytes : List ℕ) → (left now_left : Option (List ℕ)) → Result (Unit {0}) DebugError → Type 0
 ReadsUpTo bytes left now_left (Ok u) = EndsWithQuit bytes ⊎ ReadsAll left now_left bytes
 ReadsUpTo bytes left now_left (Err ReadFault) = NoQuit (input_of bytes).lines × ((input_of bytes).refused ≡ None)
@@ -111,7 +110,7 @@ ReadsOnce bytes left now_left reads now_reads (Err (TooMuch n)) = now_reads ≡ 
 ReadsOnce bytes left now_left reads now_reads result =
     (now_reads ≡ counted_by (length bytes) reads) ⊎ (ReadsAll left now_left bytes × (now_reads ≡ counted_by (length bytes + 1) reads))
 
--- a session that was begun
+-- a session that was begun read so far, as it ended
 pub record SessionReads (bytes : List ℕ) (status : ℕ) (left now_left : Option (List ℕ)) (reads now_reads : ℕ) : Type 0 where
   pub result : Result (Unit {0}) DebugError
   pub ends : EndsBy result status

@@ -394,10 +394,11 @@ pub fn run<S: Store, I: Source, O: Sink, X: Sink, G: Gate, R: Threads + Wait + S
 
     // Only `debug` reads commands, and only once its files are loaded and tested. What they make it tell
     // is told: the text of its session, up to a read that failed, a line or commands that are too long, or
-    // a refusal of the replay. However it ends, each byte was read once, and none after its end: the first
-    // `quit`, the line that was refused or not answered, the first byte too many. One more read finds the
-    // end of the input, or fails. Where the log is a recording's, all that it shows is the run's, and no
-    // replay is refused. What stops no session with the whole input stops none with a prefix of it.
+    // a refusal of the replay. However it ends, each byte was read once, and none after the first `quit`, at
+    // 18 none after the first byte too many, at 14 and 15 none after the line that was refused. One more
+    // read finds the end of the input, or fails. A session that isn't stopped by its whole input is stopped
+    // at no prefix of it. Where the log is a recording's, all that it shows is the run's, and no replay is
+    // refused.
     ensures session { Debugs (command_in words.now) result (I.left input.old) (I.left input.new) (I.faults input.old) (I.faults input.new) (I.reads input.old) (I.reads input.new)
         (call S.files S.counts O.written O.faults X.written X.faults store.old out.old err.old store.new out.new err.new) }
     ensures first { (is_begun result ≡ true) ⊎ (input.new ≡ input.old) }
