@@ -33,3 +33,4 @@ mod Commanded
 mod SameAudit
 mod SamePair
 mod Begins
+mod Calls
