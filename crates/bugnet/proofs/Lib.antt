@@ -35,3 +35,4 @@ mod Commanded
 mod SameAudit
 mod SamePair
 mod Begins
+mod Calls

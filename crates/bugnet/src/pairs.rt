@@ -3,6 +3,7 @@ ghost use Rattle.std.specs.Prelude.{◌≡◌, IfOk};
 ghost use Rattle.std.specs.Str.{bytes_eq};
 ghost use Rattle.sha2.specs.Sha256.{sha256};
 ghost use Rattle.bn_outside.specs.Counts.{NoneFell};
+ghost use Rattle.bugnet.specs.Calls.{LoadsTo};
 ghost use Rattle.bugnet.specs.Evaluated.{Makes, IsPairOfBytes, where_same};
 ghost use Rattle.bugnet.specs.Outside.{GivesOf, IsOwn, ResultCause, WithFiles};
 ghost use Rattle.bugnet.specs.Pairs.{ByPair, pair_roles, IsPair, LoadedPair};
@@ -76,6 +77,7 @@ pub fn load_pair<S: Store>(
     ensures asks { S.saves store.new ≡ S.saves store.old }
     ensures later { NoneFell (S.counts store.old) (S.counts store.new) }
     ensures cause { ResultCause (S.counts store.old) (S.counts store.new) result }
+    ensures calls { LoadsTo names.now pair_roles S.note (S.noted store.old) (S.noted store.new) result }
 {
     match load_inputs(alloc, names, pair_roles(), store) {
         Ok(inputs) => read_pair(alloc, &inputs.log, &inputs.elf),

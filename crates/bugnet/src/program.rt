@@ -3,7 +3,8 @@ ghost use Rattle.std.specs.Prelude.{◌≡◌, ◌≢◌, ◌≤◌, ◌⊎◌, 
 ghost use Rattle.bn_outside.specs.Counts.{Rose, NoneFell};
 ghost use Rattle.command_words.specs.Words.{command_in, seen, seen_recording};
 ghost use Rattle.bugnet.specs.Answers.{names_in, manner_of, refusal_in, IsAnswer};
-ghost use Rattle.bugnet.specs.Asks.{LineSaves, RecordsRun, AnswerSaves};
+ghost use Rattle.bugnet.specs.Asks.{LineSaves, FitsLine, AnswerSaves};
+ghost use Rattle.bugnet.specs.Calls.{line_roles, needed_roles, saves_in, CallsBy, SavesTold, CallsOnly, HasShape, AnswersDemo, TellsDemo};
 ghost use Rattle.bugnet.specs.Laws.{IsReadOnly, IsNoSession, IsNoRecording};
 ghost use Rattle.bugnet.specs.Sessions.{is_begun};
 ghost use Rattle.bugnet.specs.Debugging.{CanBegin, Debugs};
@@ -108,8 +109,10 @@ fn answer_to<S: Store>(
     ensures same { S.files store.new ≡ S.files store.old }
     ensures later { NoneFell (S.counts store.old) (S.counts store.new) }
     ensures cause { CauseBy (refusal_in (seen command.now)) (S.counts store.old) (S.counts store.new) result }
+    ensures calls { CallsBy (refusal_in (seen command.now)) names.now (line_roles (seen command.now)) (needed_roles (seen command.now)) S.note (S.noted store.old) (S.noted store.new) result }
     ensures prints { IsReadOnly (Some (seen command.now)) → IfOk result IsPrinted }
-    ensures records { IfOk result (RecordsRun (seen command.now)) }
+    ensures records { IfOk result (FitsLine (seen command.now)) }
+    ensures demo { AnswersDemo (seen command.now) names.now result }
     ensures asks { S.saves store.new ≡ S.saves store.old }
 {
     match command {
@@ -147,6 +150,7 @@ pub fn act<S: Store, O: Sink, X: Sink>(
     ensures told { Tells names.now (told_of names.now answer.now) result (call S.files S.counts O.written O.faults X.written X.faults store.old out.old err.old store.new out.new err.new) }
     ensures still { IsPrinted answer.now → S.files store.new ≡ S.files store.old }
     ensures saves { AnswerSaves answer.now result (S.saves store.old) (S.saves store.new) }
+    ensures calls { SavesTold names.now (saves_in answer.now) result S.note (S.noted store.old) (S.noted store.new) (call S.files S.counts O.written O.faults X.written X.faults store.old out.old err.old store.new out.new err.new) }
     ensures later { NoneFell (S.counts store.old) (S.counts store.new) }
     ensures out_later { O.faults out.old ≤ O.faults out.new }
     ensures err_later { X.faults err.old ≤ X.faults err.new }
@@ -189,6 +193,8 @@ fn reply<S: Store, O: Sink, X: Sink>(
     ensures err_later { X.faults err.old ≤ X.faults err.new }
     ensures still { IsReadOnly (Some (seen command.now)) → S.files store.new ≡ S.files store.old }
     ensures saves { LineSaves (Some (seen command.now)) result (S.saves store.old) (S.saves store.new) }
+    ensures calls { CallsOnly (Some (seen command.now)) result S.note (S.noted store.old) (S.noted store.new) (call S.files S.counts O.written O.faults X.written X.faults store.old out.old err.old store.new out.new err.new) }
+    ensures demo { TellsDemo (Some (seen command.now)) result (call S.files S.counts O.written O.faults X.written X.faults store.old out.old err.old store.new out.new err.new) }
     ensures failed { result ≡ 3 → Rose (S.counts store.old).faults (S.counts store.new).faults }
     ensures missing { result ≡ 4 → Rose (S.counts store.old).misses (S.counts store.new).misses }
     ensures long { result ≡ 5 → Rose (S.counts store.old).longs (S.counts store.new).longs }
@@ -219,6 +225,8 @@ pub fn perform<S: Store, I: Source, O: Sink, X: Sink>(
     ensures err_later { X.faults err.old ≤ X.faults err.new }
     ensures still { IsReadOnly (Some (seen command.now)) → S.files store.new ≡ S.files store.old }
     ensures saves { LineSaves (Some (seen command.now)) result (S.saves store.old) (S.saves store.new) }
+    ensures calls { CallsOnly (Some (seen command.now)) result S.note (S.noted store.old) (S.noted store.new) (call S.files S.counts O.written O.faults X.written X.faults store.old out.old err.old store.new out.new err.new) }
+    ensures demo { TellsDemo (Some (seen command.now)) result (call S.files S.counts O.written O.faults X.written X.faults store.old out.old err.old store.new out.new err.new) }
     ensures session { Debugs (Some (seen command.now)) result (I.left input.old) (I.left input.new) (I.faults input.old) (I.faults input.new) (I.reads input.old) (I.reads input.new)
         (call S.files S.counts O.written O.faults X.written X.faults store.old out.old err.old store.new out.new err.new) }
     ensures first { (is_begun result ≡ true) ⊎ (input.new ≡ input.old) }
@@ -266,6 +274,8 @@ fn obey<S: Store, I: Source, O: Sink, X: Sink, G: Gate, R: Threads + Wait + Sync
     ensures recorded { LeavesRun (Some (seen command.now)) result (S.files store.old) (S.files store.new) }
     ensures still { IsReadOnly (Some (seen command.now)) → S.files store.new ≡ S.files store.old }
     ensures saves { LineSaves (Some (seen command.now)) result (S.saves store.old) (S.saves store.new) }
+    ensures calls { CallsOnly (Some (seen command.now)) result S.note (S.noted store.old) (S.noted store.new) (call S.files S.counts O.written O.faults X.written X.faults store.old out.old err.old store.new out.new err.new) }
+    ensures demo { TellsDemo (Some (seen command.now)) result (call S.files S.counts O.written O.faults X.written X.faults store.old out.old err.old store.new out.new err.new) }
     ensures session { Debugs (Some (seen command.now)) result (I.left input.old) (I.left input.new) (I.faults input.old) (I.faults input.new) (I.reads input.old) (I.reads input.new)
         (call S.files S.counts O.written O.faults X.written X.faults store.old out.old err.old store.new out.new err.new) }
     ensures first { (is_begun result ≡ true) ⊎ (input.new ≡ input.old) }
@@ -385,6 +395,17 @@ pub fn run<S: Store, I: Source, O: Sink, X: Sink, G: Gate, R: Threads + Wait + S
     // A recording that is done has saved twice, and so each of its two files once, a lean one once, as
     // have `convert` and `salvage`; a refused one at most so often, and no other command saves.
     ensures saves { LineSaves (command_in words.now) result (S.saves store.old) (S.saves store.new) }
+
+    // It makes the calls of its words, in their order, and no other. Where the store refuses one, that call is
+    // the last, nothing is printed, and err has the line of that call's file. A recording that is done has made
+    // them all; words that are refused make none.
+    ensures calls { CallsOnly (command_in words.now) result S.note (S.noted store.old) (S.noted store.new) (call S.files S.counts O.written O.faults X.written X.faults store.old out.old err.old store.new out.new err.new) }
+
+    // Whatever the store tells: a command that isn't done is refused, unless memory ran out or a write failed.
+    // Then nothing is printed, and err has the line of a refusal of this status. But what `replay`, `joint`,
+    // `debug` and `races` tell may end where a replay stops, or the reading of commands. `demo` tells its text.
+    ensures shape { HasShape (command_in words.now) result (call S.files S.counts O.written O.faults X.written X.faults store.old out.old err.old store.new out.new err.new) }
+    ensures demo { TellsDemo (command_in words.now) result (call S.files S.counts O.written O.faults X.written X.faults store.old out.old err.old store.new out.new err.new) }
 
     // A recording leaves under LOG the file of the run of a legal and finished list of turns, with a seed of
     // the list that it chooses, in the version of its format: its records have at most log-size bytes, and

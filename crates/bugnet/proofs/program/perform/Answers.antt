@@ -5,6 +5,7 @@ use Rattle.bugnet.proofs.Debugs.{debugs-any, answers-any, begins-any}
 use Rattle.bugnet.proofs.Jointly.{Limits}
 use Rattle.bugnet.proofs.Single.{Grammar}
 use Rattle.bugnet.proofs.Suffices.{FileLaws}
+use Rattle.bugnet.proofs.Calls.{session-calls}
 use Rattle.bugnet.proofs.program.perform.Goals as goal
 
 pub returns-in-Debug-clause-told : goal.returns-in-Debug-clause-told
@@ -28,3 +29,11 @@ returns-in-Debug-clause-begins g c =
       | inl same ↦ inl same
       | inr has ↦ inr (begins-any (seen c.args.command.now) c.names_of-names.result (g.S.Store.files c.args.store.now) (λ n. rw c.in-Debug.is at n) c.names_of-names.ensures has)
     ]
+
+pub returns-in-Debug-clause-calls : goal.returns-in-Debug-clause-calls
+returns-in-Debug-clause-calls g c =
+    let k = (call (g.S.Store.files) (g.S.Store.counts) (g.O.Sink.written) (g.O.Sink.faults) (g.X.Sink.written) (g.X.Sink.faults) c.args.store.now c.args.out.now c.args.err.now c.debug_files.new.store c.debug_files.new.out c.debug_files.new.err) in
+    session-calls (seen c.args.command.now) g.S.Store.note c.names_of-names.result c.debug_files.result (g.S.Store.noted c.args.store.now) (g.S.Store.noted c.debug_files.new.store) k (λ n. rw c.in-Debug.is at n) c.names_of-names.ensures c.debug_files.ensures.calls
+
+pub returns-in-Debug-clause-demo : goal.returns-in-Debug-clause-demo
+returns-in-Debug-clause-demo g c = rw c.in-Debug.is tt

@@ -4,6 +4,9 @@ use Rattle.bugnet.specs.Sessions.{debug_with}
 use Rattle.bugnet.proofs.Prints.{appends-nothing}
 use Rattle.bugnet.proofs.Tells.{tells-from, with-any}
 use Rattle.bugnet.proofs.Debugs.{no_commands, none-read, named-refused, named-made, named-session, named-begins, refused-status, begun-not}
+use Rattle.bugnet.specs.Pairs.{pair_roles}
+use Rattle.bugnet.specs.declared.pairs.JointReading.{JointReading}
+use Rattle.bugnet.proofs.Calls.{unbegun-calls, begun-calls}
 use Rattle.bugnet.proofs.commands.debug.debug_files.Goals as goal
 
 pub returns-in-Err-clause-told : goal.returns-in-Err-clause-told
@@ -64,3 +67,13 @@ returns-in-Ok-clause-missing g c = λ e. absurd (begun-not c.debug_pair.result 4
 
 pub returns-in-Ok-clause-long : goal.returns-in-Ok-clause-long
 returns-in-Ok-clause-long g c = λ e. absurd (begun-not c.debug_pair.result 5 c.debug_pair.ensures.begun refl e)
+
+pub returns-in-Err-clause-calls : goal.returns-in-Err-clause-calls
+returns-in-Err-clause-calls g c =
+    let k = call (g.S.Store.files) (g.S.Store.counts) (g.O.Sink.written) (g.O.Sink.faults) (g.X.Sink.written) (g.X.Sink.faults) c.args.store.now c.args.out.now c.args.err.now c.load_pair.new.store c.args.out.now c.refuse.new.err in
+    unbegun-calls JointReading g.S.Store.note c.args.names.now pair_roles c.in-Err.refusal c.refuse.result (g.S.Store.noted c.args.store.now) (g.S.Store.noted c.load_pair.new.store) k c.in-Err.ensures.calls (appends-nothing (g.O.Sink.written c.args.out.now)) c.refuse.ensures.told
+
+pub returns-in-Ok-clause-calls : goal.returns-in-Ok-clause-calls
+returns-in-Ok-clause-calls g c =
+    let k = call (g.S.Store.files) (g.S.Store.counts) (g.O.Sink.written) (g.O.Sink.faults) (g.X.Sink.written) (g.X.Sink.faults) c.args.store.now c.args.out.now c.args.err.now c.load_pair.new.store c.debug_pair.new.out c.debug_pair.new.err in
+    begun-calls g.S.Store.note c.args.names.now pair_roles c.debug_pair.result (g.S.Store.noted c.args.store.now) (g.S.Store.noted c.load_pair.new.store) k c.in-Ok.ensures.calls c.debug_pair.ensures.begun
