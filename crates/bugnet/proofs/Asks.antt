@@ -3,7 +3,7 @@ use Rattle.std.proofs.Common.{◌≡◌, ◌≢◌, ℕ, Bool, true, false, List
 use Rattle.bn_outside.specs.Counts.{Counts}
 use Rattle.bn_outside.specs.Files.{Files}
 use Rattle.command_words.specs.Words.{Line, RecordLine, ReplayLine, JointLine, DebugLine, ListLine, CheckLine, AuditLine, RacesLine, SliceLine, ConvertLine, SalvageLine, DemoLine}
-use Rattle.bugnet.specs.Asks.{SavedAll, SavesEach, AtMostSaves, AnswerSaves, LineSaves, RecordsRun, IsRenewed, is_lean}
+use Rattle.bugnet.specs.Asks.{SavedAll, SavesEach, AtMostSaves, AnswerSaves, LineSaves, FitsLine, IsRenewed, is_lean}
 use Rattle.bugnet.specs.Laws.{IsReadOnly}
 use Rattle.bugnet.specs.Names.{FileNames}
 use Rattle.bugnet.specs.Outside.{ToldRefusal, Unsaved, IsPrinted}
@@ -109,7 +109,7 @@ renewed (Shown text) status before mid after is same saves = absurd is
 renewed (Halted error) status before mid after is same saves = absurd is
 
 -- a line whose answer was acted on
-pub line-acts : (line : Line) (answer : Answer) (status before mid after : ℕ) → RecordsRun line answer → (IsReadOnly (Some line) → IsPrinted answer) → mid ≡ before
+pub line-acts : (line : Line) (answer : Answer) (status before mid after : ℕ) → FitsLine line answer → (IsReadOnly (Some line) → IsPrinted answer) → mid ≡ before
     → AnswerSaves answer status mid after → LineSaves (Some line) status before after
 line-acts (RecordLine r) (Recorded x) status before mid after records prints same saves = subst (λ (lean : Bool). SavesEach lean status before after) records (subst (λ (n : ℕ). SavesEach (is_lean x) status n after) same saves)
 line-acts (RecordLine r) (Interval x) status before mid after records prints same saves = absurd records

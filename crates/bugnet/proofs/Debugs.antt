@@ -9,7 +9,7 @@ use Rattle.log_record.specs.declared.record.Record.{Record}
 use Rattle.log_order.specs.Content.{Content}
 use Rattle.bn_outside.specs.Counts.{Counts, Rose}
 use Rattle.bn_outside.specs.Files.{Files, WhereTold}
-use Rattle.bn_outside.specs.Streams.{AppendsPart, ConsumesAll}
+use Rattle.bn_outside.specs.Streams.{AppendsPart}
 use Rattle.command_words.specs.Words.{Line, RecordLine, ReplayLine, JointLine, DebugLine, ListLine, CheckLine, AuditLine, RacesLine, SliceLine, ConvertLine, SalvageLine, DemoLine}
 use Rattle.hart_replay.specs.declared.error.ReplayError.TheVariants as replay
 use Rattle.joint_replay.specs.declared.error.JointError.{JointError}
@@ -20,8 +20,8 @@ use Rattle.joint_laws.specs.Recordings.{Recording, IsLogOf, begin}
 use Rattle.back_step.specs.Traces.{Trace, at_start}
 use Rattle.step_debugger.specs.Answers.{begin_at}
 use Rattle.step_debugger.specs.Answers.{begin as session_begin}
-use Rattle.step_debugger.specs.Lines.{Input, input_limit, is_line_feed, is_over, ends_in, with_line, input_from, input_of}
-use Rattle.step_debugger.specs.Transcript.{answers, lines_in, result_by, transcript, transcript_from, EndsThere, EndsAll, Debugs, Debugged}
+use Rattle.step_debugger.specs.Lines.{Input, input_limit, is_line_feed, is_over, ends_in, with_line, input_from, input_of, RefusalsStay}
+use Rattle.step_debugger.specs.Transcript.{answers, lines_in, result_by, transcript, transcript_from, Debugs, CountedSession}
 use Rattle.step_debugger.specs.Transcript.{Told as Transcript}
 use Rattle.step_debugger.specs.declared.error.DebugError.{DebugError}
 use Rattle.step_debugger.specs.declared.error.DebugError.TheVariants as stop
@@ -31,14 +31,15 @@ use Rattle.bugnet.specs.Names.{FileNames}
 use Rattle.bugnet.specs.Refusals.{status_of}
 use Rattle.bugnet.specs.Told.{Told, refused}
 use Rattle.bugnet.specs.Commands.{Either}
-use Rattle.bugnet.specs.Joined.{joint_status}
+use Rattle.bugnet.specs.Joined.{joint_status, joined}
+use Rattle.bugnet.specs.Pairs.{LoadedPair, HasPair}
 use Rattle.bugnet.specs.Answers.{names_in, names_by, IsAnswer}
-use Rattle.bugnet.specs.Debugging.{ShowsRun, SessionsShowTheRun, session_of, DoneSession, ShowsSession, RecordingsCanBeDebugged, DebugsFiles}
+use Rattle.bugnet.specs.Debugging.{ShowsRun, SessionsShowTheRun, session_of, DoneSession, ShowsSession, RecordingsCanBeDebugged, PrefixesCanBeDebugged, CanBegin, SessionIs, DebugsFiles}
 use Rattle.bugnet.specs.Debugging.{Debugs as DebugsLine}
 use Rattle.bugnet.specs.Laws.{IsNoSession}
 use Rattle.bugnet.specs.Outside.{WithFiles, SendStops, ToldRefusal, Wrote, SameFiles, IsEarly, GivesOf, RefusalCause}
 use Rattle.bugnet.specs.Run.{Call, printing, IsFree, AreKept, SomeTold, Tells, StoppedBy, StoppedEarly, TellsAnswer}
-use Rattle.bugnet.specs.Sessions.{Commands, cut, input_in, NoQuit, EndsWithQuit, AreRead, stop_status, session_status, session_line, session_told, debug_with, IsSession, IsDebug, is_begun}
+use Rattle.bugnet.specs.Sessions.{Commands, CanDebug, whole_input, cut, input_in, IsUnread, SessionReads, SessionOver, AreRead, stop_status, session_status, session_line, session_told, debug_with, IsSession, IsDebug, is_begun}
 use Rattle.bugnet.specs.Steps.{ToldStop, DebugsPair, DebugsNamed}
 use Rattle.bugnet.specs.declared.names.Role.TheVariants as role
 use Rattle.bugnet.specs.declared.pairs.JointReading.{JointReading}
@@ -50,9 +51,11 @@ use Rattle.bugnet.proofs.Complete.{session-done}
 use Rattle.bugnet.proofs.Jointly.{Limits, is-log, pair-so, are-pair}
 use Rattle.bugnet.proofs.Leaves.{told-apart}
 use Rattle.bugnet.proofs.Prints.{appends-nothing, part-none, part-whole}
-use Rattle.bugnet.proofs.Sessions.{no-quit, last-quit}
+use Rattle.bugnet.proofs.SessionReads.{quits-or-all, session-reads, session-over}
+use Rattle.bugnet.proofs.Sessions.{no-quit}
 use Rattle.bugnet.proofs.Single.{Grammar, one-session}
 use Rattle.bugnet.proofs.Suffices.{FileLaws, then-so}
+use Rattle.bugnet.proofs.Whole.{whole-done}
 use Rattle.bugnet.proofs.Tells.{with-files, refused-told, stopped-told, stopped-free, early-free, same-files, untouched, with-any}
 
 -- ---- the status by the end of a session
@@ -151,62 +154,57 @@ commands_of bytes e = record { bytes = bytes; failed = failed_by e }
 abbrev pub no_commands : Commands
 no_commands = record { bytes = []; failed = false }
 
-unfailed : (bytes : List ℕ) (status : ℕ) (left now_left : Option (List ℕ)) (before now : ℕ) → Consumes left now_left bytes → status ≢ 12 → status ≢ 0 → AreRead (record { bytes = bytes; failed = false }) status left now_left before now
-unfailed bytes status left now_left before now taken read zero = record {
-  taken = taken;
-  failed = λ f. absurd cc;
-  cause = λ e. absurd (read e);
-  done = λ e. absurd (zero e);
-}
+module _ (left now_left : Option (List ℕ)) (before now reads now_reads : ℕ) where
+  unfailed : (bytes : List ℕ) (status : ℕ) → Consumes left now_left bytes → status ≢ 12 → status ≢ 0 → IsUnread (record { bytes = bytes; failed = false }) reads now_reads ⊎ SessionReads bytes status left now_left reads now_reads
+      → AreRead (record { bytes = bytes; failed = false }) status left now_left before now reads now_reads
+  unfailed bytes status taken read zero up_to = record { taken = taken; failed = λ f. absurd cc; cause = λ e. absurd (read e); done = λ e. absurd (zero e); up_to = up_to }
 
 -- nothing
-pub none-read : (status : ℕ) (left : Option (List ℕ)) (faults : ℕ) → status ≢ 12 → status ≢ 0 → AreRead no_commands status left left faults faults
-none-read status left faults read zero = unfailed [] status left left faults faults (Consumes-nil left) read zero
+pub none-read : (status : ℕ) (left : Option (List ℕ)) (faults reads : ℕ) → status ≢ 12 → status ≢ 0 → AreRead no_commands status left left faults faults reads reads
+none-read status left faults reads read zero = unfailed left left faults faults reads reads [] status (Consumes-nil left) read zero (inl (refl, refl, refl))
 
--- a session that is done
-pub done-read : (j : Trace) (u : Unit {0}) (left now_left : Option (List ℕ)) (before now : ℕ) (written now_written : Option (List ℕ)) (b n : ℕ) (d : Debugged j left now_left before now written now_written b n (Ok u))
-    → AreRead (record { bytes = d.gone; failed = false }) 0 left now_left before now
-done-read j u left now_left before now written now_written b n d = record {
-  taken = d.taken;
-  failed = λ f. absurd cc;
-  cause = λ e. absurd (omega (arith, e));
-  done = λ e. by d.done.2;
-}
-  where
-    by : EndsThere j d.gone ending.Quits ⊎ EndsAll j left now_left d.gone → EndsWithQuit d.gone ⊎ (ConsumesAll left now_left d.gone × NoQuit (input_of d.gone).lines)
-    by (inl h) = inl (record { front = h.front; line = h.line; lines = h.lines; last = h.last; before = no-quit h.front (begin_at j) h.before; quit = last-quit h.front h.line (begin_at j) h.before h.there })
-    by (inr h) = inr (h.all, no-quit (input_of d.gone).lines (begin_at j) h.before)
+module _ (j : Trace) (left now_left : Option (List ℕ)) (before now reads now_reads : ℕ) (written now_written : Option (List ℕ)) (b n : ℕ) where
+  -- a session that is done
+  pub done-read : (u : Unit {0}) (c : CountedSession j left now_left before now reads now_reads written now_written b n (Ok u)) → AreRead (record { bytes = c.session.gone; failed = false }) 0 left now_left before now reads now_reads
+  done-read u c = record {
+    taken = c.session.taken;
+    failed = λ f. absurd cc;
+    cause = λ e. absurd (omega (arith, e));
+    done = λ e. quits-or-all j c.session.gone left now_left c.session.done.2;
+    up_to = inr (session-reads j 0 left now_left before now reads now_reads written now_written b n (Ok u) c refl);
+  }
 
--- one that stopped
-pub stop-read : (j : Trace) (e : DebugError) (status : ℕ) (gone : List ℕ) (left now_left : Option (List ℕ)) (before now : ℕ) (written now_written : Option (List ℕ)) (b n : ℕ)
-    → Consumes left now_left gone → Debugs j gone left now_left before now written now_written b n (Err e) → StatusOf e status → AreRead (commands_of gone e) status left now_left before now
-stop-read j stop.ReadFault status gone left now_left before now written now_written b n taken d h = record {
-  taken = taken;
-  failed = λ f. (d.3, no-quit (input_of gone).lines (begin_at j) d.0);
-  cause = λ f. refl;
-  done = λ f. absurd (never h f);
-}
-  where
-    never : StatusOf stop.ReadFault status → status ≢ 0
-    never (inl x) f = omega (arith, x, f)
-    never (inr x) f = omega (arith, x, f)
-stop-read j stop.WriteFault status gone left now_left before now written now_written b n taken d h = unfailed gone status left now_left before now taken (apart h) (never h)
-  where
-    apart : StatusOf stop.WriteFault status → status ≢ 12
-    apart (inl x) f = omega (arith, x, f)
-    apart (inr x) f = omega (arith, x, f)
+  -- one that stopped
+  pub stop-read : (e : DebugError) (status : ℕ) (c : CountedSession j left now_left before now reads now_reads written now_written b n (Err e)) → StatusOf e status
+      → AreRead (commands_of c.session.gone e) status left now_left before now reads now_reads
+  stop-read e status c h = by e c.session.gone c.session.taken c.session.done h (session-reads j status left now_left before now reads now_reads written now_written b n (Err e) c h)
+    where
+      -- a read or a write that failed isn't a session that is done
+      apart : (m : ℕ) → m ≢ 0 → (status ≡ m) ⊎ (status ≡ 9) → status ≢ 0
+      apart m never (inl x) f = never (sym x ∙ f)
+      apart m never (inr x) f = omega (arith, x, f)
 
-    never : StatusOf stop.WriteFault status → status ≢ 0
-    never (inl x) f = omega (arith, x, f)
-    never (inr x) f = omega (arith, x, f)
-stop-read j (stop.LineTooLong m) status gone left now_left before now written now_written b n taken d h =
-    let o = other-ends (stop.LineTooLong m) status tt h in unfailed gone status left now_left before now taken o.read o.zero
-stop-read j (stop.TooMuch m) status gone left now_left before now written now_written b n taken d h =
-    let o = other-ends (stop.TooMuch m) status tt h in unfailed gone status left now_left before now taken o.read o.zero
-stop-read j (stop.Joint x) status gone left now_left before now written now_written b n taken d h =
-    let o = other-ends (stop.Joint x) status tt h in unfailed gone status left now_left before now taken o.read o.zero
-stop-read j stop.OutOfMemory status gone left now_left before now written now_written b n taken d h =
-    let o = other-ends stop.OutOfMemory status tt h in unfailed gone status left now_left before now taken o.read o.zero
+      unread : (status ≡ 13) ⊎ (status ≡ 9) → status ≢ 12
+      unread (inl x) f = omega (arith, x, f)
+      unread (inr x) f = omega (arith, x, f)
+
+      other : (e : DebugError) (gone : List ℕ) → Consumes left now_left gone → Ends status → SessionReads gone status left now_left reads now_reads → AreRead (record { bytes = gone; failed = false }) status left now_left before now reads now_reads
+      other e gone taken o r = unfailed left now_left before now reads now_reads gone status taken o.read o.zero (inr r)
+
+      by : (e : DebugError) (gone : List ℕ) → Consumes left now_left gone → Debugs j gone left now_left before now written now_written b n (Err e) → StatusOf e status → SessionReads gone status left now_left reads now_reads
+          → AreRead (commands_of gone e) status left now_left before now reads now_reads
+      by stop.ReadFault gone taken d h r = record {
+        taken = taken;
+        failed = λ f. (d.3, no-quit (input_of gone).lines (begin_at j) d.0);
+        cause = λ f. refl;
+        done = λ f. absurd (apart 12 (λ z. omega (arith, z)) h f);
+        up_to = inr r;
+      }
+      by stop.WriteFault gone taken d h r = unfailed left now_left before now reads now_reads gone status taken (unread h) (apart 13 (λ z. omega (arith, z)) h) (inr r)
+      by (stop.LineTooLong m) gone taken d h r = other (stop.LineTooLong m) gone taken (other-ends (stop.LineTooLong m) status tt h) r
+      by (stop.TooMuch m) gone taken d h r = other (stop.TooMuch m) gone taken (other-ends (stop.TooMuch m) status tt h) r
+      by (stop.Joint x) gone taken d h r = other (stop.Joint x) gone taken (other-ends (stop.Joint x) status tt h) r
+      by stop.OutOfMemory gone taken d h r = other stop.OutOfMemory gone taken (other-ends stop.OutOfMemory status tt h) r
 
 -- ---- what is told
 
@@ -284,35 +282,41 @@ stop-writes j names e status gone left now_left before now written now_written b
 
 -- ---- a session over a joint replay
 
-pub pair-done : {O X : Type 0} (names : FileNames) (first : Joining) (j : Trace) (u : Unit {0}) (left now_left : Option (List ℕ)) (before now : ℕ) (out : O → Option (List ℕ)) (out_faults : O → ℕ) (err : X → Option (List ℕ)) (err_faults : X → ℕ)
-    (o : O) (e : X) (p : O) → j ≡ at_start first → Debugged j left now_left before now (out o) (out p) (out_faults o) (out_faults p) (Ok u) → DebugsPair names first 0 left now_left before now out out_faults err err_faults o e p e
-pair-done names first j u left now_left before now out out_faults err err_faults o e p same d = (
-  record { bytes = d.gone; failed = false },
-  done-read j u left now_left before now (out o) (out p) (out_faults o) (out_faults p) d,
-  λ files had.
-      subst (λ (x : Trace). Tells names (session_told names (transcript_from x (input_of d.gone))) 0 (printing files had out out_faults err err_faults o e p e)) same
-      (done-told names (transcript_from j (input_of d.gone)) (printing files had out out_faults err err_faults o e p e) d.done.0 d.done.1 (appends-nothing (err e)) (untouched files)),
-)
+pub pair-done : {O X : Type 0} (names : FileNames) (first : Joining) (j : Trace) (u : Unit {0}) (left now_left : Option (List ℕ)) (before now reads now_reads : ℕ) (out : O → Option (List ℕ)) (out_faults : O → ℕ) (err : X → Option (List ℕ)) (err_faults : X → ℕ)
+    (o : O) (e : X) (p : O) → j ≡ at_start first → CountedSession j left now_left before now reads now_reads (out o) (out p) (out_faults o) (out_faults p) (Ok u)
+    → DebugsPair names first 0 left now_left before now reads now_reads out out_faults err err_faults o e p e
+pair-done names first j u left now_left before now reads now_reads out out_faults err err_faults o e p same c =
+    let d = c.session in (
+      record { bytes = d.gone; failed = false },
+      done-read j left now_left before now reads now_reads (out o) (out p) (out_faults o) (out_faults p) u c,
+      λ files had.
+          subst (λ (x : Trace). Tells names (session_told names (transcript_from x (input_of d.gone))) 0 (printing files had out out_faults err err_faults o e p e)) same
+          (done-told names (transcript_from j (input_of d.gone)) (printing files had out out_faults err err_faults o e p e) d.done.0 d.done.1 (appends-nothing (err e)) (untouched files)),
+      inr (session-over j 0 left now_left before now reads now_reads (out o) (out p) (out_faults o) (out_faults p) (Ok u) c refl first same),
+    )
 
-pub pair-stopped : {O X : Type 0} (names : FileNames) (first : Joining) (j : Trace) (why : DebugError) (status : ℕ) (left now_left : Option (List ℕ)) (before now : ℕ) (out : O → Option (List ℕ)) (out_faults : O → ℕ) (err : X → Option (List ℕ)) (err_faults : X → ℕ)
-    (o : O) (e : X) (p : O) (f : X) → j ≡ at_start first → Debugged j left now_left before now (out o) (out p) (out_faults o) (out_faults p) (Err why) → ToldStop names why status (err e) (err f) (err_faults e) (err_faults f)
-    → DebugsPair names first status left now_left before now out out_faults err err_faults o e p f
-pair-stopped names first j why status left now_left before now out out_faults err err_faults o e p f same d told = (
-  commands_of d.gone why,
-  stop-read j why status d.gone left now_left before now (out o) (out p) (out_faults o) (out_faults p) d.taken d.done (status-of names why status (err e) (err f) (err_faults e) (err_faults f) told),
-  λ files had.
-      subst (λ (x : Trace). Tells names (session_told names (transcript_from x (input_in (commands_of d.gone why)))) status (printing files had out out_faults err err_faults o e p f)) same
-      (stop-told names j why status d.gone left now_left before now (printing files had out out_faults err err_faults o e p f) d.done (untouched files) told),
-)
+pub pair-stopped : {O X : Type 0} (names : FileNames) (first : Joining) (j : Trace) (why : DebugError) (status : ℕ) (left now_left : Option (List ℕ)) (before now reads now_reads : ℕ) (out : O → Option (List ℕ)) (out_faults : O → ℕ) (err : X → Option (List ℕ)) (err_faults : X → ℕ)
+    (o : O) (e : X) (p : O) (f : X) → j ≡ at_start first → CountedSession j left now_left before now reads now_reads (out o) (out p) (out_faults o) (out_faults p) (Err why) → ToldStop names why status (err e) (err f) (err_faults e) (err_faults f)
+    → DebugsPair names first status left now_left before now reads now_reads out out_faults err err_faults o e p f
+pair-stopped names first j why status left now_left before now reads now_reads out out_faults err err_faults o e p f same c told =
+    let d = c.session in
+    let ends = status-of names why status (err e) (err f) (err_faults e) (err_faults f) told in (
+      commands_of d.gone why,
+      stop-read j left now_left before now reads now_reads (out o) (out p) (out_faults o) (out_faults p) why status c ends,
+      λ files had.
+          subst (λ (x : Trace). Tells names (session_told names (transcript_from x (input_in (commands_of d.gone why)))) status (printing files had out out_faults err err_faults o e p f)) same
+          (stop-told names j why status d.gone left now_left before now (printing files had out out_faults err err_faults o e p f) d.done (untouched files) told),
+      inr (session-over j status left now_left before now reads now_reads (out o) (out p) (out_faults o) (out_faults p) (Err why) c ends first same),
+    )
 
-pub pair-unbegun : {O X : Type 0} (names : FileNames) (j : Joining) (status : ℕ) (left : Option (List ℕ)) (faults : ℕ) (out : O → Option (List ℕ)) (out_faults : O → ℕ) (err : X → Option (List ℕ)) (err_faults : X → ℕ)
-    (o : O) (e : X) (f : X) → ToldRefusal names why.OutOfMemory status (err e) (err f) (err_faults e) (err_faults f) → DebugsPair names j status left left faults faults out out_faults err err_faults o e o f
-pair-unbegun names j status left faults out out_faults err err_faults o e f told =
+pub pair-unbegun : {O X : Type 0} (names : FileNames) (j : Joining) (status : ℕ) (left : Option (List ℕ)) (faults reads : ℕ) (out : O → Option (List ℕ)) (out_faults : O → ℕ) (err : X → Option (List ℕ)) (err_faults : X → ℕ)
+    (o : O) (e : X) (f : X) → ToldRefusal names why.OutOfMemory status (err e) (err f) (err_faults e) (err_faults f) → DebugsPair names j status left left faults faults reads reads out out_faults err err_faults o e o f
+pair-unbegun names j status left faults reads out out_faults err err_faults o e f told =
     let nine = memory-status names status (err e) (err f) (err_faults e) (err_faults f) told in (
       no_commands,
-      none-read status left faults (λ x. omega (arith, x, nine)) (λ x. omega (arith, x, nine)),
-      λ files had.
-          unbegun-told names j status (printing files had out out_faults err err_faults o e o f) refl (untouched files) told,
+      none-read status left faults reads (λ x. omega (arith, x, nine)) (λ x. omega (arith, x, nine)),
+      λ files had. unbegun-told names j status (printing files had out out_faults err err_faults o e o f) refl (untouched files) told,
+      inl (refl, refl, refl),
     )
 
 -- ---- by names
@@ -361,6 +365,30 @@ named-made names c reading known status k e is told =
     with-files k.old.files (λ files. IsSession c files names what) (λ files. SomeTold (IsSession c files names) (λ what. Tells names what status k) ⊎ StoppedBy names (λ files. IsDebug files names) files status k)
     (λ files h. inl (what, h, told)) (subst (λ (x : Option Files). WithFiles x (λ files. IsSession c files names what)) e is)
 
+with-both : (known : Option Files) (P Q R : Files → Type 0) → ((files : Files) → P files → Q files → R files) → WithFiles known P → WithFiles known Q → WithFiles known R
+with-both None P Q R f x y = tt
+with-both (Some files) P Q R f x y = f files x y
+
+-- it was one with the log and the program that are there
+pub named-session : (c : Commands) (log elf : List ℕ) (reading : JointReading) (known : Option Files) (status : ℕ) (left now_left : Option (List ℕ)) (before now reads now_reads : ℕ) (k : Call) → known ≡ k.old.files
+    → WithFiles known (λ files. LoadedPair log elf files reading.log reading.image)
+    → IsUnread c reads now_reads ⊎ SessionOver (joined reading.log reading.image) c.bytes status left now_left before now reads now_reads k.old.out k.new.out k.old.out_faults k.new.out_faults
+    → WithFiles k.old.files (λ files. SessionIs c log elf files status left now_left before now reads now_reads k)
+named-session c log elf reading known status left now_left before now reads now_reads k e pair s =
+    with-files k.old.files (λ files. LoadedPair log elf files reading.log reading.image) (λ files. SessionIs c log elf files status left now_left before now reads now_reads k) (λ files p. so files p s)
+    (subst (λ (x : Option Files). WithFiles x (λ files. LoadedPair log elf files reading.log reading.image)) e pair)
+  where
+    so : (files : Files) → LoadedPair log elf files reading.log reading.image
+        → IsUnread c reads now_reads ⊎ SessionOver (joined reading.log reading.image) c.bytes status left now_left before now reads now_reads k.old.out k.new.out k.old.out_faults k.new.out_faults
+        → SessionIs c log elf files status left now_left before now reads now_reads k
+    so files p (inl none) = inl none
+    so files p (inr over) = inr (record { content = reading.log; program = reading.image; pair = p; over = over })
+
+-- the files are there, and loaded
+pub named-begins : (log elf : List ℕ) (reading : JointReading) (known : Option Files) → WithFiles known (λ files. LoadedPair log elf files reading.log reading.image) → WithFiles known (λ files. HasPair log elf files)
+named-begins log elf reading known pair =
+    with-files known (λ files. LoadedPair log elf files reading.log reading.image) (λ files. HasPair log elf files) (λ files p. (reading.log, reading.image, p)) pair
+
 -- ---- a recording
 
 -- no bytes are refused as a joint replay is
@@ -401,41 +429,50 @@ never-refused show r records c log e =
     by-end (answers (lines_in (input_in c)) (session_begin (begin r records))).ends (input_in c).refused e ((show r records log (lines_in (input_in c))).goes_on e)
     (cut-refusal c.failed (input_of c.bytes) e (own-refusal 0 [] c.bytes e))
 
-shown : (long : Bool) (names : FileNames) (r : Recording) (records : List Record) (c : Commands) (what : Told) (status : ℕ) (k : Call) → ((e : JointError) → (session_of r records c).result ≢ Err (stop.Joint e))
-    → ((lines : List (List ℕ)) → ShowsRun r records lines) → Either long (what ≡ refused names (TooLong role.Elf)) (what ≡ session_told names (session_of r records c)) → Tells names what status k
-    → IsFree status ⊎ Either long (status ≡ 5) (DoneSession r records c status k.old.out k.new.out)
-unfolding refused session_told
-shown true names r records c what status k never show e (inl done) = inr (done.status_is ∙ ap (λ (t : Told). t.status) e)
-shown true names r records c what status k never show e (inr stopped) = inl (stopped-free names what status k stopped)
-shown false names r records c what status k never show e (inl done) = inr (record {
-  done = done.status_is ∙ ap (λ (t : Told). t.status) e;
-  text = subst (λ (t : List ℕ). Appends k.old.out k.new.out t) (ap (λ (t : Told). t.out) e) done.out;
-  goes_on = never;
-  shows = show;
-})
-shown false names r records c what status k never show e (inr stopped) = inl (stopped-free names what status k stopped)
-
--- a session with a log that says this is one over its records
-session-so : (names : FileNames) (r : Recording) (c : Commands) (d : Content) → d.head ≡ record { settings = r.settings; digest = sha256 r.elf } → debug_with names c d r.program ≡ session_told names (session_of r d.records c)
-session-so names r c d head = ap (λ (h : Head). session_told names (transcript (fresh r.program h.settings.harts d.records) (input_in c))) head
-
-pub shows-session : Grammar → Limits → SessionsShowTheRun → (c : Commands) (log elf : List ℕ) (files : Files) (status : ℕ) (k : Call)
-    → SomeTold (IsSession c files (names_in (DebugLine log elf))) (λ what. Tells (names_in (DebugLine log elf)) what status k) ⊎ StoppedEarly (Some (DebugLine log elf)) files status k
-    → ShowsSession c log elf files status k.old.out k.new.out
-shows-session g limits show c log elf files status k (inr early) r h = inl (early-free (Some (DebugLine log elf)) files status k early)
-shows-session g limits show c log elf files status k (inl a) r h =
-    let names = names_in (DebugLine log elf) in
-    let d = h.says.log in
-    let here = is-log log elf files r h in
-    shown (nat_lt 67108864 (length r.elf)) names r d.records c a.0 status k (never-refused show r d.records c here) (show r d.records here)
-    (then-so (nat_lt 67108864 (length r.elf)) _ _ _ (λ (by : a.0 ≡ debug_with names c d r.program). by ∙ session-so names r c d h.says.head) (pair-so g limits (debug_with names c) names files r h a.0 a.1)) a.2
-
 -- where the commands are whole it isn't stopped
 whole-ends : (x : Ending) (o : Option DebugError) → ((e : JointError) → x ≢ ending.Refused e) → o ≡ None → result_by x o ≡ Ok (tt {0})
 whole-ends ending.GoesOn None a b = refl
 whole-ends ending.GoesOn (Some y) a b = absurd cc
 whole-ends ending.Quits o a b = refl
 whole-ends (ending.Refused e) o a b = absurd (a e refl)
+
+-- nor is it if they keep to their limits with what follows them
+recorded-done : RefusalsStay → (r : Recording) (records : List Record) → ((lines : List (List ℕ)) → ShowsRun r records lines) → (c : Commands) (more : List ℕ) → c.failed ≡ false → (input_of (c.bytes ++ more)).refused ≡ None
+    → (session_of r records c).result ≡ Ok (tt {0})
+recorded-done stay r records show c more whole none =
+    let i = input_in c in
+    let same : i.refused ≡ None = ap (λ (b : Bool). (cut b (input_of c.bytes)).refused) whole ∙ stay c.bytes more none in
+    whole-ends (answers (lines_in i) (session_begin (begin r records))).ends i.refused (show (lines_in i)).goes_on same
+
+shown : RefusalsStay → (long : Bool) (names : FileNames) (r : Recording) (records : List Record) (c : Commands) (what : Told) (status : ℕ) (k : Call) → ((e : JointError) → (session_of r records c).result ≢ Err (stop.Joint e))
+    → ((lines : List (List ℕ)) → ShowsRun r records lines) → Either long (what ≡ refused names (TooLong role.Elf)) (what ≡ session_told names (session_of r records c)) → Tells names what status k
+    → IsFree status ⊎ Either long (status ≡ 5) (DoneSession r records c status k.old.out k.new.out)
+unfolding refused session_told
+shown stay true names r records c what status k never show e (inl done) = inr (done.status_is ∙ ap (λ (t : Told). t.status) e)
+shown stay true names r records c what status k never show e (inr stopped) = inl (stopped-free names what status k stopped)
+shown stay false names r records c what status k never show e (inl done) = inr (record {
+  done = done.status_is ∙ ap (λ (t : Told). t.status) e;
+  text = subst (λ (t : List ℕ). Appends k.old.out k.new.out t) (ap (λ (t : Told). t.out) e) done.out;
+  goes_on = never;
+  shows = show;
+  whole = λ more whole none. done.status_is ∙ ap (λ (t : Told). t.status) e ∙ ap session_status (recorded-done stay r records show c more whole none);
+})
+shown stay false names r records c what status k never show e (inr stopped) = inl (stopped-free names what status k stopped)
+
+-- a session with a log that says this is one over its records
+session-so : (names : FileNames) (r : Recording) (c : Commands) (d : Content) → d.head ≡ record { settings = r.settings; digest = sha256 r.elf } → debug_with names c d r.program ≡ session_told names (session_of r d.records c)
+session-so names r c d head = ap (λ (h : Head). session_told names (transcript (fresh r.program h.settings.harts d.records) (input_in c))) head
+
+pub shows-session : Grammar → Limits → SessionsShowTheRun → RefusalsStay → (c : Commands) (log elf : List ℕ) (files : Files) (status : ℕ) (k : Call)
+    → SomeTold (IsSession c files (names_in (DebugLine log elf))) (λ what. Tells (names_in (DebugLine log elf)) what status k) ⊎ StoppedEarly (Some (DebugLine log elf)) files status k
+    → ShowsSession c log elf files status k.old.out k.new.out
+shows-session g limits show stay c log elf files status k (inr early) r h = inl (early-free (Some (DebugLine log elf)) files status k early)
+shows-session g limits show stay c log elf files status k (inl a) r h =
+    let names = names_in (DebugLine log elf) in
+    let d = h.says.log in
+    let here = is-log log elf files r h in
+    shown stay (nat_lt 67108864 (length r.elf)) names r d.records c a.0 status k (never-refused show r d.records c here) (show r d.records here)
+    (then-so (nat_lt 67108864 (length r.elf)) _ _ _ (λ (by : a.0 ≡ debug_with names c d r.program). by ∙ session-so names r c d h.says.head) (pair-so g limits (debug_with names c) names files r h a.0 a.1)) a.2
 
 pub can-be-debugged : SessionsShowTheRun → RecordingsCanBeDebugged
 can-be-debugged show c log elf files r h small whole none =
@@ -450,24 +487,54 @@ can-be-debugged show c log elf files r h small whole none =
           ∙ whole-ends (answers (lines_in i) (session_begin (begin r d.records))).ends i.refused (show r d.records (is-log log elf files r h) (lines_in i)).goes_on same;
     }
 
+pub prefixes-can-be-debugged : RecordingsCanBeDebugged → RefusalsStay → PrefixesCanBeDebugged
+prefixes-can-be-debugged can stay c more log elf files r h small whole none = can c log elf files r h small whole (stay c.bytes more none)
+
 -- ---- the call
 
+-- a session for which there was no memory has no commands
+unread-done : Grammar → FileLaws → Limits → (c : Commands) (log elf : List ℕ) (files : Files) (status : ℕ) (k : Call)
+    → SomeTold (IsSession c files (names_in (DebugLine log elf))) (λ what. Tells (names_in (DebugLine log elf)) what status k) ⊎ StoppedEarly (Some (DebugLine log elf)) files status k
+    → c.bytes ≡ [] → c.failed ≡ false → (all : Commands) → CanDebug all log elf files → IsFree status ⊎ (status ≡ 0)
+unread-done g laws limits c log elf files status k x none whole all can =
+    let j : Joining = joined can.content can.program in
+    let goes_on : (transcript j (input_in c)).result ≡ Ok (tt {0}) =
+    ap (λ (b : Bool). (transcript j (cut b (input_of c.bytes))).result) whole ∙ ap (λ (bytes : List ℕ). (transcript j (input_of bytes)).result) none in
+    session-done (one-session g) laws limits.converted c log elf files status k x (record { content = can.content; program = can.program; pair = can.pair; goes_on = goes_on })
+
+-- where all that the source had left isn't stopped it is done, unless a read failed
+all-done : Grammar → FileLaws → Limits → (c : Commands) (log elf : List ℕ) (files : Files) (status : ℕ) (left now_left : Option (List ℕ)) (before now reads now_reads : ℕ) (k : Call)
+    → SomeTold (IsSession c files (names_in (DebugLine log elf))) (λ what. Tells (names_in (DebugLine log elf)) what status k) ⊎ StoppedEarly (Some (DebugLine log elf)) files status k
+    → SessionIs c log elf files status left now_left before now reads now_reads k → (all : List ℕ) → left ≡ Some all → CanDebug (whole_input all) log elf files → IsFree status ⊎ ((status ≡ 12) ⊎ (status ≡ 0))
+all-done g laws limits c log elf files status left now_left before now reads now_reads k x (inl none) all is can =
+    elim (unread-done g laws limits c log elf files status k x none.0 none.1 (whole_input all) can) [ inl free ↦ inl free | inr zero ↦ inr (inr zero) ]
+all-done g laws limits c log elf files status left now_left before now reads now_reads k x (inr s) all is can =
+    whole-done g laws log elf files s.content s.program c.bytes status left now_left before now reads now_reads k.old.out k.new.out k.old.out_faults k.new.out_faults s.pair s.over all is can
+
 -- all that a session does
-pub debugs-so : Grammar → FileLaws → Limits → SessionsShowTheRun → (names : FileNames) (log elf : List ℕ) (status : ℕ) (left now_left : Option (List ℕ)) (before now : ℕ) (k : Call) → names ≡ names_in (DebugLine log elf)
-    → DebugsNamed names status left now_left before now k → DebugsLine (Some (DebugLine log elf)) status left now_left before now k
-debugs-so g laws limits show names log elf status left now_left before now k e h =
+pub debugs-so : Grammar → FileLaws → Limits → SessionsShowTheRun → RefusalsStay → (names : FileNames) (log elf : List ℕ) (status : ℕ) (left now_left : Option (List ℕ)) (before now reads now_reads : ℕ) (k : Call) → names ≡ names_in (DebugLine log elf)
+    → DebugsNamed names status left now_left before now reads now_reads k → DebugsLine (Some (DebugLine log elf)) status left now_left before now reads now_reads k
+debugs-so g laws limits show stay names log elf status left now_left before now reads now_reads k e h =
     let c = h.0 in
     let own = names_in (DebugLine log elf) in (
       c,
       h.1,
-      with-files k.old.files (λ files. SomeTold (IsSession c files own) (λ what. Tells own what status k) ⊎ StoppedBy own (λ files. IsDebug files own) files status k) (λ files. DebugsFiles c log elf files status k)
-          (λ files x. record { tells = x; done = session-done (one-session g) laws limits.converted c log elf files status k x; shows = shows-session g limits show c log elf files status k x })
-          (subst (λ (n : FileNames). WithFiles k.old.files (λ files. SomeTold (IsSession c files n) (λ what. Tells n what status k) ⊎ StoppedBy n (λ files. IsDebug files n) files status k)) e h.2),
+      with-both k.old.files (λ files. SomeTold (IsSession c files own) (λ what. Tells own what status k) ⊎ StoppedBy own (λ files. IsDebug files own) files status k)
+          (λ files. SessionIs c log elf files status left now_left before now reads now_reads k) (λ files. DebugsFiles c log elf files status left now_left before now reads now_reads k)
+          (λ files x y. record {
+            tells = x;
+            done = session-done (one-session g) laws limits.converted c log elf files status k x;
+            shows = shows-session g limits show stay c log elf files status k x;
+            session = y;
+            whole = all-done g laws limits c log elf files status left now_left before now reads now_reads k x y;
+          })
+          (subst (λ (n : FileNames). WithFiles k.old.files (λ files. SomeTold (IsSession c files n) (λ what. Tells n what status k) ⊎ StoppedBy n (λ files. IsDebug files n) files status k)) e h.2)
+          (subst (λ (n : FileNames). WithFiles k.old.files (λ files. SessionIs c n.log n.elf files status left now_left before now reads now_reads k)) e h.3),
     )
 
-pub answers-so : (names : FileNames) (log elf : List ℕ) (status : ℕ) (left now_left : Option (List ℕ)) (before now : ℕ) (k : Call) → names ≡ names_in (DebugLine log elf)
-    → DebugsNamed names status left now_left before now k → TellsAnswer (Some (DebugLine log elf)) status k
-answers-so names log elf status left now_left before now k e h =
+pub answers-so : (names : FileNames) (log elf : List ℕ) (status : ℕ) (left now_left : Option (List ℕ)) (before now reads now_reads : ℕ) (k : Call) → names ≡ names_in (DebugLine log elf)
+    → DebugsNamed names status left now_left before now reads now_reads k → TellsAnswer (Some (DebugLine log elf)) status k
+answers-so names log elf status left now_left before now reads now_reads k e h =
     let c = h.0 in
     let own = names_in (DebugLine log elf) in
     with-files k.old.files (λ files. SomeTold (IsSession c files own) (λ what. Tells own what status k) ⊎ StoppedBy own (λ files. IsDebug files own) files status k)
@@ -480,56 +547,76 @@ answers-so names log elf status left now_left before now k e h =
     so files (inr early) = inr early
 
 -- of a line that is a session
-pub debugs-any : Grammar → FileLaws → Limits → SessionsShowTheRun → (line : Line) (names : FileNames) (status : ℕ) (left now_left : Option (List ℕ)) (before now : ℕ) (k : Call) → (IsNoSession (Some line) → ⊥) → names ≡ names_in line
-    → DebugsNamed names status left now_left before now k → DebugsLine (Some line) status left now_left before now k
-debugs-any g laws limits show (DebugLine log elf) names status left now_left before now k is e h = debugs-so g laws limits show names log elf status left now_left before now k e h
-debugs-any g laws limits show (RecordLine r) names status left now_left before now k is e h = tt
-debugs-any g laws limits show (ReplayLine log elf hart interval) names status left now_left before now k is e h = tt
-debugs-any g laws limits show (JointLine log elf) names status left now_left before now k is e h = tt
-debugs-any g laws limits show (ListLine log) names status left now_left before now k is e h = tt
-debugs-any g laws limits show (CheckLine log) names status left now_left before now k is e h = tt
-debugs-any g laws limits show (AuditLine log elf book input) names status left now_left before now k is e h = tt
-debugs-any g laws limits show (RacesLine log elf most) names status left now_left before now k is e h = tt
-debugs-any g laws limits show (SliceLine log elf hart interval ic) names status left now_left before now k is e h = tt
-debugs-any g laws limits show (ConvertLine log copy) names status left now_left before now k is e h = tt
-debugs-any g laws limits show (SalvageLine log copy) names status left now_left before now k is e h = tt
-debugs-any g laws limits show (DemoLine seed) names status left now_left before now k is e h = tt
+pub debugs-any : Grammar → FileLaws → Limits → SessionsShowTheRun → RefusalsStay → (line : Line) (names : FileNames) (status : ℕ) (left now_left : Option (List ℕ)) (before now reads now_reads : ℕ) (k : Call) → (IsNoSession (Some line) → ⊥) → names ≡ names_in line
+    → DebugsNamed names status left now_left before now reads now_reads k → DebugsLine (Some line) status left now_left before now reads now_reads k
+debugs-any g laws limits show stay (DebugLine log elf) names status left now_left before now reads now_reads k is e h = debugs-so g laws limits show stay names log elf status left now_left before now reads now_reads k e h
+debugs-any g laws limits show stay (RecordLine r) names status left now_left before now reads now_reads k is e h = tt
+debugs-any g laws limits show stay (ReplayLine log elf hart interval) names status left now_left before now reads now_reads k is e h = tt
+debugs-any g laws limits show stay (JointLine log elf) names status left now_left before now reads now_reads k is e h = tt
+debugs-any g laws limits show stay (ListLine log) names status left now_left before now reads now_reads k is e h = tt
+debugs-any g laws limits show stay (CheckLine log) names status left now_left before now reads now_reads k is e h = tt
+debugs-any g laws limits show stay (AuditLine log elf book input) names status left now_left before now reads now_reads k is e h = tt
+debugs-any g laws limits show stay (RacesLine log elf most) names status left now_left before now reads now_reads k is e h = tt
+debugs-any g laws limits show stay (SliceLine log elf hart interval ic) names status left now_left before now reads now_reads k is e h = tt
+debugs-any g laws limits show stay (ConvertLine log copy) names status left now_left before now reads now_reads k is e h = tt
+debugs-any g laws limits show stay (SalvageLine log copy) names status left now_left before now reads now_reads k is e h = tt
+debugs-any g laws limits show stay (DemoLine seed) names status left now_left before now reads now_reads k is e h = tt
 
-pub answers-any : (line : Line) (names : FileNames) (status : ℕ) (left now_left : Option (List ℕ)) (before now : ℕ) (k : Call) → (IsNoSession (Some line) → ⊥) → names ≡ names_in line
-    → DebugsNamed names status left now_left before now k → TellsAnswer (Some line) status k
-answers-any (DebugLine log elf) names status left now_left before now k is e h = answers-so names log elf status left now_left before now k e h
-answers-any (RecordLine r) names status left now_left before now k is e h = absurd (is tt)
-answers-any (ReplayLine log elf hart interval) names status left now_left before now k is e h = absurd (is tt)
-answers-any (JointLine log elf) names status left now_left before now k is e h = absurd (is tt)
-answers-any (ListLine log) names status left now_left before now k is e h = absurd (is tt)
-answers-any (CheckLine log) names status left now_left before now k is e h = absurd (is tt)
-answers-any (AuditLine log elf book input) names status left now_left before now k is e h = absurd (is tt)
-answers-any (RacesLine log elf most) names status left now_left before now k is e h = absurd (is tt)
-answers-any (SliceLine log elf hart interval ic) names status left now_left before now k is e h = absurd (is tt)
-answers-any (ConvertLine log copy) names status left now_left before now k is e h = absurd (is tt)
-answers-any (SalvageLine log copy) names status left now_left before now k is e h = absurd (is tt)
-answers-any (DemoLine seed) names status left now_left before now k is e h = absurd (is tt)
+pub answers-any : (line : Line) (names : FileNames) (status : ℕ) (left now_left : Option (List ℕ)) (before now reads now_reads : ℕ) (k : Call) → (IsNoSession (Some line) → ⊥) → names ≡ names_in line
+    → DebugsNamed names status left now_left before now reads now_reads k → TellsAnswer (Some line) status k
+answers-any (DebugLine log elf) names status left now_left before now reads now_reads k is e h = answers-so names log elf status left now_left before now reads now_reads k e h
+answers-any (RecordLine r) names status left now_left before now reads now_reads k is e h = absurd (is tt)
+answers-any (ReplayLine log elf hart interval) names status left now_left before now reads now_reads k is e h = absurd (is tt)
+answers-any (JointLine log elf) names status left now_left before now reads now_reads k is e h = absurd (is tt)
+answers-any (ListLine log) names status left now_left before now reads now_reads k is e h = absurd (is tt)
+answers-any (CheckLine log) names status left now_left before now reads now_reads k is e h = absurd (is tt)
+answers-any (AuditLine log elf book input) names status left now_left before now reads now_reads k is e h = absurd (is tt)
+answers-any (RacesLine log elf most) names status left now_left before now reads now_reads k is e h = absurd (is tt)
+answers-any (SliceLine log elf hart interval ic) names status left now_left before now reads now_reads k is e h = absurd (is tt)
+answers-any (ConvertLine log copy) names status left now_left before now reads now_reads k is e h = absurd (is tt)
+answers-any (SalvageLine log copy) names status left now_left before now reads now_reads k is e h = absurd (is tt)
+answers-any (DemoLine seed) names status left now_left before now reads now_reads k is e h = absurd (is tt)
+
+-- its log and program are there
+pub begins-any : (line : Line) (names : FileNames) (known : Option Files) → (IsNoSession (Some line) → ⊥) → names ≡ names_in line → WithFiles known (λ files. HasPair names.log names.elf files) → WithFiles known (λ files. CanBegin (Some line) files)
+begins-any (DebugLine log elf) names known is e h = subst (λ (n : FileNames). WithFiles known (λ files. HasPair n.log n.elf files)) e h
+begins-any (RecordLine r) names known is e h = absurd (is tt)
+begins-any (ReplayLine log elf hart interval) names known is e h = absurd (is tt)
+begins-any (JointLine log elf) names known is e h = absurd (is tt)
+begins-any (ListLine log) names known is e h = absurd (is tt)
+begins-any (CheckLine log) names known is e h = absurd (is tt)
+begins-any (AuditLine log elf book input) names known is e h = absurd (is tt)
+begins-any (RacesLine log elf most) names known is e h = absurd (is tt)
+begins-any (SliceLine log elf hart interval ic) names known is e h = absurd (is tt)
+begins-any (ConvertLine log copy) names known is e h = absurd (is tt)
+begins-any (SalvageLine log copy) names known is e h = absurd (is tt)
+begins-any (DemoLine seed) names known is e h = absurd (is tt)
 
 -- there was no memory for the words
-pub debugs-early : (line : Option Line) (status : ℕ) (left : Option (List ℕ)) (faults : ℕ) (k : Call) → Appends k.old.out k.new.out [] → k.new.files ≡ k.old.files
-    → ToldRefusal (names_by line) why.OutOfMemory status k.old.err k.new.err k.old.err_faults k.new.err_faults → DebugsLine line status left left faults faults k
-debugs-early None status left faults k out same told = tt
-debugs-early (Some (RecordLine r)) status left faults k out same told = tt
-debugs-early (Some (ReplayLine log elf hart interval)) status left faults k out same told = tt
-debugs-early (Some (JointLine log elf)) status left faults k out same told = tt
-debugs-early (Some (DebugLine log elf)) status left faults k out same told =
+pub debugs-early : (line : Option Line) (status : ℕ) (left : Option (List ℕ)) (faults reads : ℕ) (k : Call) → Appends k.old.out k.new.out [] → k.new.files ≡ k.old.files
+    → ToldRefusal (names_by line) why.OutOfMemory status k.old.err k.new.err k.old.err_faults k.new.err_faults → DebugsLine line status left left faults faults reads reads k
+debugs-early None status left faults reads k out same told = tt
+debugs-early (Some (RecordLine r)) status left faults reads k out same told = tt
+debugs-early (Some (ReplayLine log elf hart interval)) status left faults reads k out same told = tt
+debugs-early (Some (JointLine log elf)) status left faults reads k out same told = tt
+debugs-early (Some (DebugLine log elf)) status left faults reads k out same told =
     let nine = memory-status (names_in (DebugLine log elf)) status k.old.err k.new.err k.old.err_faults k.new.err_faults told in
     let early : (files : Files) → StoppedEarly (Some (DebugLine log elf)) files status k = λ files. record { refusal = why.OutOfMemory; early = inl refl; out = out; same = same; told = told } in (
       no_commands,
-      none-read status left faults (λ f. omega (arith, f, nine)) (λ f. omega (arith, f, nine)),
-      with-any k.old.files (λ files. DebugsFiles no_commands log elf files status k) (λ files.
-          record { tells = inr (early files); done = λ h. inl (early-free (Some (DebugLine log elf)) files status k (early files)); shows = λ r has. inl (early-free (Some (DebugLine log elf)) files status k (early files)) }),
+      none-read status left faults reads (λ f. omega (arith, f, nine)) (λ f. omega (arith, f, nine)),
+      with-any k.old.files (λ files. DebugsFiles no_commands log elf files status left left faults faults reads reads k) (λ files. record {
+        tells = inr (early files);
+        done = λ h. inl (early-free (Some (DebugLine log elf)) files status k (early files));
+        shows = λ r has. inl (early-free (Some (DebugLine log elf)) files status k (early files));
+        session = inl (refl, refl, refl);
+        whole = λ all is can. inl (early-free (Some (DebugLine log elf)) files status k (early files));
+      }),
     )
-debugs-early (Some (ListLine log)) status left faults k out same told = tt
-debugs-early (Some (CheckLine log)) status left faults k out same told = tt
-debugs-early (Some (AuditLine log elf book input)) status left faults k out same told = tt
-debugs-early (Some (RacesLine log elf most)) status left faults k out same told = tt
-debugs-early (Some (SliceLine log elf hart interval ic)) status left faults k out same told = tt
-debugs-early (Some (ConvertLine log copy)) status left faults k out same told = tt
-debugs-early (Some (SalvageLine log copy)) status left faults k out same told = tt
-debugs-early (Some (DemoLine seed)) status left faults k out same told = tt
+debugs-early (Some (ListLine log)) status left faults reads k out same told = tt
+debugs-early (Some (CheckLine log)) status left faults reads k out same told = tt
+debugs-early (Some (AuditLine log elf book input)) status left faults reads k out same told = tt
+debugs-early (Some (RacesLine log elf most)) status left faults reads k out same told = tt
+debugs-early (Some (SliceLine log elf hart interval ic)) status left faults reads k out same told = tt
+debugs-early (Some (ConvertLine log copy)) status left faults reads k out same told = tt
+debugs-early (Some (SalvageLine log copy)) status left faults reads k out same told = tt
+debugs-early (Some (DemoLine seed)) status left faults reads k out same told = tt

@@ -21,7 +21,9 @@ mod Leaves
 mod Agrees
 mod Complete
 mod Joins
+mod SessionReads
 mod Sessions
+mod Whole
 mod Debugs
 mod Renewals
 mod Closing
@@ -33,3 +35,4 @@ mod Commanded
 mod SameAudit
 mod SamePair
 mod Begins
+mod Calls

@@ -25,7 +25,7 @@ use Rattle.bugnet.specs.Told.{Told, refused}
 use Rattle.bugnet.specs.Commands.{is_clash, Either, IsByFile, WithFile, IsByLog, IsByProgram, IsRecord}
 use Rattle.bugnet.specs.declared.manner.Manner.{Manner}
 use Rattle.bugnet.specs.Answers.{names_in, manner_of, name_refusal, setting_refusal, refusal_in, IsAnswer}
-use Rattle.bugnet.specs.Asks.{IsRecordedRun, RecordsRun}
+use Rattle.bugnet.specs.Asks.{IsRecordedRun, FitsLine}
 use Rattle.bugnet.specs.Saves.{HoldsBytes, HasElf}
 use Rattle.bugnet.specs.Outside.{WithFiles, FetchTells, LogTells, ProgramTells, Gives, unless, without, GivesTo, GivesOf, GivesBy, RefusalCause, CauseBy, told_of}
 use Rattle.bugnet.specs.declared.names.Role.{Role}
@@ -252,7 +252,7 @@ record-cause names r how before now result e m h =
     subst (λ (n : FileNames). CauseBy (setting_refusal (first_bad s.settings) (is_clash s.lean n.log n.book)) before now result) e
     (subst (λ (x : Manner). CauseBy (setting_refusal (first_bad s.settings) (is_clash x.lean names.log names.book)) before now result) m h)
 
-pub record-lean : (r : RecordOptions) (how : Manner) (answer : Answer) → how ≡ manner_of (seen_recording r) → IsRecordedRun how.lean answer → RecordsRun (RecordLine (seen_recording r)) answer
+pub record-lean : (r : RecordOptions) (how : Manner) (answer : Answer) → how ≡ manner_of (seen_recording r) → IsRecordedRun how.lean answer → FitsLine (RecordLine (seen_recording r)) answer
 record-lean r how answer m h = subst (λ (x : Manner). IsRecordedRun x.lean answer) m h
 
 pub record-bytes : (known : Option Files) (names : FileNames) (r : RecordOptions) → names ≡ names_in (RecordLine (seen_recording r))

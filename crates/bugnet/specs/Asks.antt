@@ -82,17 +82,30 @@ IsRenewed (Renewed n) = Unit {0}
 IsRenewed (Shown text) = ⊥
 IsRenewed (Halted error) = ⊥
 
--- the answer to a line that records is a recording, and that to one that makes a log of another is such a log
-abbrev pub RecordsRun : Line → Answer → Type 0
-RecordsRun (RecordLine r) answer = IsRecordedRun r.lean answer
-RecordsRun (ReplayLine log elf hart interval) answer = Unit {0}
-RecordsRun (JointLine log elf) answer = Unit {0}
-RecordsRun (DebugLine log elf) answer = Unit {0}
-RecordsRun (ListLine log) answer = Unit {0}
-RecordsRun (CheckLine log) answer = Unit {0}
-RecordsRun (AuditLine log elf book input) answer = Unit {0}
-RecordsRun (RacesLine log elf most) answer = Unit {0}
-RecordsRun (SliceLine log elf hart interval ic) answer = Unit {0}
-RecordsRun (ConvertLine log copy) answer = IsRenewed answer
-RecordsRun (SalvageLine log copy) answer = IsRenewed answer
-RecordsRun (DemoLine seed) answer = Unit {0}
+-- an answer that is printed and saves nothing, and whose replay, if it comes of one, has ended
+abbrev pub IsMade : Answer → Type 0
+IsMade (Recorded r) = ⊥
+IsMade (Interval r) = ⊥
+IsMade (Joined r) = ⊥
+IsMade (Listed d) = Unit {0}
+IsMade (Checked d) = Unit {0}
+IsMade Agreed = Unit {0}
+IsMade (Renewed n) = ⊥
+IsMade (Shown text) = Unit {0}
+IsMade (Halted error) = ⊥
+
+-- the answer to a line that records is a recording, and that to one that makes a log of another is such a log. Only
+-- `replay`, `joint`, `debug` and `races` have a replay that may stop as it is printed, or a joint one that stopped
+abbrev pub FitsLine : Line → Answer → Type 0
+FitsLine (RecordLine r) answer = IsRecordedRun r.lean answer
+FitsLine (ReplayLine log elf hart interval) answer = Unit {0}
+FitsLine (JointLine log elf) answer = Unit {0}
+FitsLine (DebugLine log elf) answer = Unit {0}
+FitsLine (ListLine log) answer = IsMade answer
+FitsLine (CheckLine log) answer = IsMade answer
+FitsLine (AuditLine log elf book input) answer = IsMade answer
+FitsLine (RacesLine log elf most) answer = Unit {0}
+FitsLine (SliceLine log elf hart interval ic) answer = IsMade answer
+FitsLine (ConvertLine log copy) answer = IsRenewed answer
+FitsLine (SalvageLine log copy) answer = IsRenewed answer
+FitsLine (DemoLine seed) answer = IsMade answer

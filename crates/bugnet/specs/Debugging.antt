@@ -1,6 +1,7 @@
 -- What a session of the debugger does, and what it shows of a recording.
-use Rattle.std.specs.Prelude.{◌≡◌, ◌≢◌, ◌⊎◌, ◌≤◌, ℕ, false, nat_lt, List, length, Option, Some, None, Err}
+use Rattle.std.specs.Prelude.{◌≡◌, ◌≢◌, ◌⊎◌, ◌≤◌, ℕ, false, nat_lt, List, ◌++◌, length, Option, Some, None, Err}
 use Rattle.std.specs.Io.KnownBytes.{Appends}
+use Rattle.bn_base.specs.Programs.{Program}
 use Rattle.bn_outside.specs.Files.{Files}
 use Rattle.command_words.specs.Words.{Line, RecordLine, ReplayLine, JointLine, DebugLine, ListLine, CheckLine, AuditLine, RacesLine, SliceLine, ConvertLine, SalvageLine, DemoLine}
 use Rattle.log_record.specs.declared.record.Record.{Record}
@@ -22,7 +23,9 @@ use Rattle.bugnet.specs.Outside.{WithFiles}
 use Rattle.bugnet.specs.Answers.{names_in}
 use Rattle.bugnet.specs.Jointly.{HasRun}
 use Rattle.bugnet.specs.Run.{Call, IsFree, SomeTold, Tells, StoppedEarly}
-use Rattle.bugnet.specs.Sessions.{Commands, AreRead, input_in, session_status, IsSession, CanDebug}
+use Rattle.bugnet.specs.Joined.{joined}
+use Rattle.bugnet.specs.Pairs.{LoadedPair, HasPair}
+use Rattle.bugnet.specs.Sessions.{Commands, AreRead, IsUnread, SessionOver, whole_input, input_in, session_status, IsSession, CanDebug}
 
 -- ---- a recording
 
@@ -55,6 +58,8 @@ pub record DoneSession (r : Recording) (records : List Record) (c : Commands) (s
   pub text : Appends out_old out_new (session_of r records c).text
   pub goes_on : (e : JointError) → (session_of r records c).result ≢ Err (Joint e)
   pub shows : (lines : List (List ℕ)) → ShowsRun r records lines
+  -- if they keep to their limits with all that may follow them, and no read failed, it wasn't stopped
+  pub whole : (more : List ℕ) → c.failed ≡ false → (input_of (c.bytes ++ more)).refused ≡ None → status ≡ 0
 
 -- so it is, unless memory ran out, the store or a write failed, or the program file is too long
 abbrev pub ShowsSession : Commands → (log elf : List ℕ) → Files → ℕ → Option (List ℕ) → Option (List ℕ) → Type 0
@@ -67,29 +72,66 @@ abbrev pub RecordingsCanBeDebugged : Type 0
 RecordingsCanBeDebugged = (c : Commands) (log elf : List ℕ) (files : Files) (r : Recording) → HasRun log elf files r → length r.elf ≤ 67108864
     → c.failed ≡ false → (input_of c.bytes).refused ≡ None → CanDebug c log elf files
 
+-- Nor is a session stopped at any prefix of commands that keep to their limits
+abbrev pub PrefixesCanBeDebugged : Type 0
+PrefixesCanBeDebugged = (c : Commands) (more log elf : List ℕ) (files : Files) (r : Recording) → HasRun log elf files r → length r.elf ≤ 67108864
+    → c.failed ≡ false → (input_of (c.bytes ++ more)).refused ≡ None → CanDebug c log elf files
+
 -- ---- the call
+
+-- a session can begin: its log and its program are there, and loaded
+abbrev pub CanBegin : Option Line → Files → Type 0
+CanBegin None files = ⊥
+CanBegin (Some (RecordLine r)) files = ⊥
+CanBegin (Some (ReplayLine log elf hart interval)) files = ⊥
+CanBegin (Some (JointLine log elf)) files = ⊥
+CanBegin (Some (DebugLine log elf)) files = HasPair log elf files
+CanBegin (Some (ListLine log)) files = ⊥
+CanBegin (Some (CheckLine log)) files = ⊥
+CanBegin (Some (AuditLine log elf book input)) files = ⊥
+CanBegin (Some (RacesLine log elf most)) files = ⊥
+CanBegin (Some (SliceLine log elf hart interval ic)) files = ⊥
+CanBegin (Some (ConvertLine log copy)) files = ⊥
+CanBegin (Some (SalvageLine log copy)) files = ⊥
+CanBegin (Some (DemoLine seed)) files = ⊥
+
+-- a session with the log and the program that are there, which read these commands
+pub record BegunSession (c : Commands) (log elf : List ℕ) (files : Files) (status : ℕ) (left now_left : Option (List ℕ)) (before now reads now_reads : ℕ) (k : Call) : Type 0 where
+  pub content : Content
+  pub program : Program
+  pub pair : LoadedPair log elf files content program
+  pub over : SessionOver (joined content program) c.bytes status left now_left before now reads now_reads k.old.out k.new.out k.old.out_faults k.new.out_faults
+
+-- nothing was read, or there was such a session
+abbrev pub SessionIs : Commands → (log elf : List ℕ) → Files → (status : ℕ) → (left now_left : Option (List ℕ)) → (before now reads now_reads : ℕ) → Call → Type 0
+SessionIs c log elf files status left now_left before now reads now_reads k =
+    IsUnread c reads now_reads ⊎ BegunSession c log elf files status left now_left before now reads now_reads k
 
 -- by the files that are there and these commands it tells what it has to answer, or it was stopped before there was an answer;
 -- if they have all that it needs it is done; and it shows a recording's run
-pub record DebugsFiles (c : Commands) (log elf : List ℕ) (files : Files) (status : ℕ) (k : Call) : Type 0 where
+pub record DebugsFiles (c : Commands) (log elf : List ℕ) (files : Files) (status : ℕ) (left now_left : Option (List ℕ)) (before now reads now_reads : ℕ) (k : Call) : Type 0 where
   pub tells : SomeTold (IsSession c files (names_in (DebugLine log elf))) (λ what. Tells (names_in (DebugLine log elf)) what status k)
       ⊎ StoppedEarly (Some (DebugLine log elf)) files status k
   pub done : CanDebug c log elf files → IsFree status ⊎ (status ≡ 0)
   pub shows : ShowsSession c log elf files status k.old.out k.new.out
+  -- what was read was read by a session with the log and the program that are there, and no further than that one's end says
+  pub session : SessionIs c log elf files status left now_left before now reads now_reads k
+  -- and if a session with all that the source had left isn't stopped, no prefix stops it: it is done, unless a read failed
+  pub whole : (all : List ℕ) → left ≡ Some all → CanDebug (whole_input all) log elf files → IsFree status ⊎ ((status ≡ 12) ⊎ (status ≡ 0))
 
 -- a session reads commands, and does so by them
-abbrev pub Debugs : Option Line → (status : ℕ) → (left now_left : Option (List ℕ)) → (before now : ℕ) → Call → Type 0
-Debugs None status left now_left before now k = Unit {0}
-Debugs (Some (RecordLine r)) status left now_left before now k = Unit {0}
-Debugs (Some (ReplayLine log elf hart interval)) status left now_left before now k = Unit {0}
-Debugs (Some (JointLine log elf)) status left now_left before now k = Unit {0}
-Debugs (Some (DebugLine log elf)) status left now_left before now k =
-    (c : Commands) × AreRead c status left now_left before now × WithFiles k.old.files (λ files. DebugsFiles c log elf files status k)
-Debugs (Some (ListLine log)) status left now_left before now k = Unit {0}
-Debugs (Some (CheckLine log)) status left now_left before now k = Unit {0}
-Debugs (Some (AuditLine log elf book input)) status left now_left before now k = Unit {0}
-Debugs (Some (RacesLine log elf most)) status left now_left before now k = Unit {0}
-Debugs (Some (SliceLine log elf hart interval ic)) status left now_left before now k = Unit {0}
-Debugs (Some (ConvertLine log copy)) status left now_left before now k = Unit {0}
-Debugs (Some (SalvageLine log copy)) status left now_left before now k = Unit {0}
-Debugs (Some (DemoLine seed)) status left now_left before now k = Unit {0}
+abbrev pub Debugs : Option Line → (status : ℕ) → (left now_left : Option (List ℕ)) → (before now reads now_reads : ℕ) → Call → Type 0
+Debugs None status left now_left before now reads now_reads k = Unit {0}
+Debugs (Some (RecordLine r)) status left now_left before now reads now_reads k = Unit {0}
+Debugs (Some (ReplayLine log elf hart interval)) status left now_left before now reads now_reads k = Unit {0}
+Debugs (Some (JointLine log elf)) status left now_left before now reads now_reads k = Unit {0}
+Debugs (Some (DebugLine log elf)) status left now_left before now reads now_reads k =
+    (c : Commands) × AreRead c status left now_left before now reads now_reads × WithFiles k.old.files (λ files. DebugsFiles c log elf files status left now_left before now reads now_reads k)
+Debugs (Some (ListLine log)) status left now_left before now reads now_reads k = Unit {0}
+Debugs (Some (CheckLine log)) status left now_left before now reads now_reads k = Unit {0}
+Debugs (Some (AuditLine log elf book input)) status left now_left before now reads now_reads k = Unit {0}
+Debugs (Some (RacesLine log elf most)) status left now_left before now reads now_reads k = Unit {0}
+Debugs (Some (SliceLine log elf hart interval ic)) status left now_left before now reads now_reads k = Unit {0}
+Debugs (Some (ConvertLine log copy)) status left now_left before now reads now_reads k = Unit {0}
+Debugs (Some (SalvageLine log copy)) status left now_left before now reads now_reads k = Unit {0}
+Debugs (Some (DemoLine seed)) status left now_left before now reads now_reads k = Unit {0}

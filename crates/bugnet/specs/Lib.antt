@@ -36,3 +36,4 @@ pub mod Inputs
 pub mod Evaluated
 pub mod Command
 pub mod Starts
+pub mod Calls

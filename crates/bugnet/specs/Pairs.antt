@@ -8,6 +8,7 @@ use Rattle.elf_loader.specs.Loaded.{image_of}
 use Rattle.elf_loader.specs.declared.error.ElfError.{ElfError}
 use Rattle.log_order.specs.Content.{Content, IsContent}
 use Rattle.log_file.specs.Layout.{saved_bytes, file_bytes2}
+use Rattle.log_blocks.specs.Readings.{Reads}
 use Rattle.bugnet.specs.Names.{FileNames}
 use Rattle.bugnet.specs.Told.{Told, refused}
 use Rattle.bugnet.specs.Commands.{WithFile, IsByLog}
@@ -58,3 +59,20 @@ pub record ArePair (log elf : List ℕ) (files : Files) (d : Content) (i : Progr
   pub elf_small : length bytes ≤ 67108864
   pub same : bytes_eq (sha256 bytes) d.head.digest ≡ true
   pub loaded : image_of bytes d.head.settings ≡ Ok i
+
+-- LOG is there within its limit and reads as this log; ELF is there within its limit, has the digest that the log says, and
+-- loads as this program
+pub record LoadedPair (log elf : List ℕ) (files : Files) (d : Content) (i : Program) : Type 0 where
+  pub log_bytes : List ℕ
+  pub elf_bytes : List ℕ
+  pub log_there : files log ≡ Some log_bytes
+  pub log_small : length log_bytes ≤ 272629760
+  pub reads : Reads log_bytes (Ok d)
+  pub elf_there : files elf ≡ Some elf_bytes
+  pub elf_small : length elf_bytes ≤ 67108864
+  pub same : bytes_eq (sha256 elf_bytes) d.head.digest ≡ true
+  pub loaded : image_of elf_bytes d.head.settings ≡ Ok i
+
+-- there is such a pair
+abbrev pub HasPair : (log elf : List ℕ) → Files → Type 0
+HasPair log elf files = (d : Content) × (i : Program) × LoadedPair log elf files d i

@@ -1,15 +1,17 @@
 -- What the command `debug` answers: a session over the joint replay of all intervals that a log keeps.
-use Rattle.std.specs.Prelude.{◌≡◌, ◌≢◌, ◌⊎◌, ℕ, ◌==◌, ◌||◌, Bool, true, false, List, [], ◌∷◌, ◌++◌, Option, Some, None, Result, Ok, Err}
+use Rattle.std.specs.Prelude.{◌≡◌, ◌≢◌, ◌⊎◌, ℕ, ◌+◌, ◌==◌, ◌||◌, Bool, true, false, List, [], ◌∷◌, ◌++◌, length, Option, Some, None, Result, Ok, Err}
 use Rattle.std.specs.List.{AllByRecursion}
 use Rattle.std.specs.Io.KnownBytes.{Consumes}
 use Rattle.bn_base.specs.Programs.{Program}
-use Rattle.bn_outside.specs.Counts.{Rose}
+use Rattle.bn_outside.specs.Counts.{Rose, counted_by}
 use Rattle.bn_outside.specs.Files.{Files}
 use Rattle.bn_outside.specs.Streams.{ConsumesAll}
 use Rattle.log_order.specs.Content.{Content}
+use Rattle.back_step.specs.Traces.{at_start}
+use Rattle.joint_replay.specs.Joining.{Joining}
 use Rattle.step_debugger.specs.Commands.{command_of}
-use Rattle.step_debugger.specs.Lines.{Input, input_of}
-use Rattle.step_debugger.specs.Transcript.{transcript}
+use Rattle.step_debugger.specs.Lines.{Input, input_of, EndsTooMany}
+use Rattle.step_debugger.specs.Transcript.{transcript, CountedSession}
 use Rattle.step_debugger.specs.Transcript.{Told as Transcript}
 use Rattle.step_debugger.specs.declared.command.DebugCommand.TheVariants.{Quit}
 use Rattle.step_debugger.specs.declared.error.DebugError.{DebugError}
@@ -28,6 +30,10 @@ use Rattle.bugnet.specs.declared.refusal.Refusal.TheVariants as why
 pub record Commands : Type 0 where
   pub bytes : List ℕ
   pub failed : Bool
+
+-- all that a source has left
+abbrev pub whole_input : List ℕ → Commands
+whole_input all = record { bytes = all; failed = false }
 
 -- behind a failed read no more is read
 abbrev pub cut : Bool → Input → Input
@@ -51,18 +57,21 @@ pub record EndsWithQuit (bytes : List ℕ) : Type 0 where
   pub before : NoQuit front
   pub quit : command_of line ≡ Quit
 
--- the commands are bytes of the source that are gone, by a call that ended so
-pub record AreRead (c : Commands) (status : ℕ) (left now_left : Option (List ℕ)) (before now : ℕ) : Type 0 where
-  pub taken : Consumes left now_left c.bytes
-  -- a read failed only if the source's count rose, and no `quit` was read before
-  pub failed : c.failed ≡ true → Rose before now × NoQuit (input_of c.bytes).lines
-  pub cause : status ≡ 12 → c.failed ≡ true
-  -- a session that is done has read nothing behind the first `quit`; or all, and then no line that ends with LF is `quit`
-  pub done : status ≡ 0 → EndsWithQuit c.bytes ⊎ (ConsumesAll left now_left c.bytes × NoQuit (input_of c.bytes).lines)
+-- bytes end with a line that ends with LF, and no line before it is `quit`
+pub record EndsWithLine (bytes : List ℕ) : Type 0 where
+  pub front : List (List ℕ)
+  pub line : List ℕ
+  pub lines : (input_of bytes).lines ≡ front ++ line ∷ []
+  pub last : (input_of bytes).last ≡ []
+  pub before : NoQuit front
 
--- ---- what is told
+-- all bytes of the source are gone, and no line of them that ends with LF is `quit`
+abbrev pub ReadsAll : (left now_left : Option (List ℕ)) → List ℕ → Type 0
+ReadsAll left now_left bytes = ConsumesAll left now_left bytes × NoQuit (input_of bytes).lines
 
--- the status by the end of a session, and the line on err
+-- ---- how a session ends
+
+-- the status by the end of a session
 abbrev pub stop_status : DebugError → ℕ
 stop_status ReadFault = status_of why.ReadFailed
 stop_status WriteFault = status_of why.WriteFailed
@@ -71,6 +80,61 @@ stop_status (TooMuch n) = status_of why.CommandsTooLong
 stop_status (stop.Joint e) = joint_status (Some e)
 stop_status stop.OutOfMemory = status_of why.OutOfMemory
 
+abbrev pub session_status : Result (Unit {0}) DebugError → ℕ
+session_status (Ok u) = 0
+session_status (Err e) = stop_status e
+
+-- a session that ended so has this status; or 9, if memory ran out for the line on err
+abbrev pub EndsBy : Result (Unit {0}) DebugError → ℕ → Type 0
+EndsBy (Ok u) status = status ≡ 0
+EndsBy (Err e) status = (status ≡ stop_status e) ⊎ (status ≡ 9)
+
+-- ---- how far a session reads
+
+-- how far one reads that ends so: to its first `quit` or to the end of the source; to the read that failed; to the first byte
+-- that is too many; to the end of a line, if the replay was refused or an answer could not be written. No `quit` is passed
+abbrev pub ReadsUpTo : (bytes : List ℕ) → (left now_left : Option (List ℕ)) → Result (Unit {0}) DebugError → Type 0
+ReadsUpTo bytes left now_left (Ok u) = EndsWithQuit bytes ⊎ ReadsAll left now_left bytes
+ReadsUpTo bytes left now_left (Err ReadFault) = NoQuit (input_of bytes).lines × ((input_of bytes).refused ≡ None)
+ReadsUpTo bytes left now_left (Err WriteFault) = EndsWithLine bytes ⊎ ReadsAll left now_left bytes
+ReadsUpTo bytes left now_left (Err (stop.LineTooLong n)) = NoQuit (input_of bytes).lines × EndsTooMany 0 bytes
+ReadsUpTo bytes left now_left (Err (TooMuch n)) = NoQuit (input_of bytes).lines × EndsTooMany 0 bytes
+ReadsUpTo bytes left now_left (Err (stop.Joint e)) = EndsWithLine bytes ⊎ ReadsAll left now_left bytes
+ReadsUpTo bytes left now_left (Err stop.OutOfMemory) = EndsWithLine bytes ⊎ NoQuit (input_of bytes).lines
+
+-- how often it reads: once for each byte, and once more if a read failed or the end of the source was found
+abbrev pub ReadsOnce : (bytes : List ℕ) → (left now_left : Option (List ℕ)) → (reads now_reads : ℕ) → Result (Unit {0}) DebugError → Type 0
+ReadsOnce bytes left now_left reads now_reads (Err ReadFault) = now_reads ≡ counted_by (length bytes + 1) reads
+ReadsOnce bytes left now_left reads now_reads (Err (stop.LineTooLong n)) = now_reads ≡ counted_by (length bytes) reads
+ReadsOnce bytes left now_left reads now_reads (Err (TooMuch n)) = now_reads ≡ counted_by (length bytes) reads
+ReadsOnce bytes left now_left reads now_reads result =
+    (now_reads ≡ counted_by (length bytes) reads) ⊎ (ReadsAll left now_left bytes × (now_reads ≡ counted_by (length bytes + 1) reads))
+
+-- a session that was begun read so far, as it ended
+pub record SessionReads (bytes : List ℕ) (status : ℕ) (left now_left : Option (List ℕ)) (reads now_reads : ℕ) : Type 0 where
+  pub result : Result (Unit {0}) DebugError
+  pub ends : EndsBy result status
+  pub up_to : ReadsUpTo bytes left now_left result
+  pub count : ReadsOnce bytes left now_left reads now_reads result
+
+-- nothing was read
+abbrev pub IsUnread : Commands → (reads now_reads : ℕ) → Type 0
+IsUnread c reads now_reads = (c.bytes ≡ []) × (c.failed ≡ false) × (now_reads ≡ reads)
+
+-- the commands are bytes of the source that are gone, by a call that ended so
+pub record AreRead (c : Commands) (status : ℕ) (left now_left : Option (List ℕ)) (before now reads now_reads : ℕ) : Type 0 where
+  pub taken : Consumes left now_left c.bytes
+  -- a read failed only if the source's count rose, and no `quit` was read before
+  pub failed : c.failed ≡ true → Rose before now × NoQuit (input_of c.bytes).lines
+  pub cause : status ≡ 12 → c.failed ≡ true
+  -- a session that is done has read nothing behind the first `quit`; or all, and then no line that ends with LF is `quit`
+  pub done : status ≡ 0 → EndsWithQuit c.bytes ⊎ (ConsumesAll left now_left c.bytes × NoQuit (input_of c.bytes).lines)
+  -- however it ended, it has read no further than its end says, and each byte once; before a session nothing is read
+  pub up_to : IsUnread c reads now_reads ⊎ SessionReads c.bytes status left now_left reads now_reads
+
+-- ---- what is told
+
+-- the line on err by the end of a session
 abbrev pub stop_line : FileNames → DebugError → List ℕ
 stop_line names ReadFault = line_of names why.ReadFailed
 stop_line names WriteFault = line_of names why.WriteFailed
@@ -78,10 +142,6 @@ stop_line names (stop.LineTooLong n) = line_of names why.LineTooLong
 stop_line names (TooMuch n) = line_of names why.CommandsTooLong
 stop_line names (stop.Joint e) = joint_line names (Some e)
 stop_line names stop.OutOfMemory = line_of names why.OutOfMemory
-
-abbrev pub session_status : Result (Unit {0}) DebugError → ℕ
-session_status (Ok u) = 0
-session_status (Err e) = stop_status e
 
 abbrev pub session_line : FileNames → Result (Unit {0}) DebugError → List ℕ
 session_line names (Ok u) = []
@@ -94,6 +154,13 @@ session_told names t = record { status = session_status t.result; out = t.text; 
 -- the session with a log and its program
 abbrev pub debug_with : FileNames → Commands → Content → Program → Told
 debug_with names c d i = session_told names (transcript (joined d i) (input_in c))
+
+-- a session over this joint replay, which read these bytes: it did what `step_debugger` promises of its end
+pub record SessionOver (j : Joining) (bytes : List ℕ) (status : ℕ) (left now_left : Option (List ℕ)) (before now reads now_reads : ℕ) (out now_out : Option (List ℕ)) (out_faults now_out_faults : ℕ) : Type 0 where
+  pub result : Result (Unit {0}) DebugError
+  pub ends : EndsBy result status
+  pub counted : CountedSession (at_start j) left now_left before now reads now_reads out now_out out_faults now_out_faults result
+  pub gone : counted.session.gone ≡ bytes
 
 -- ---- the command
 

@@ -8,7 +8,8 @@ use Rattle.step_debugger.specs.declared.error.DebugError.{DebugError}
 use Rattle.bugnet.specs.Names.{FileNames}
 use Rattle.bugnet.specs.Refusals.{line_of}
 use Rattle.bugnet.specs.Outside.{WithFiles, Wrote}
-use Rattle.bugnet.specs.Sessions.{Commands, AreRead, input_in, stop_status, stop_line, session_told, IsSession, IsDebug}
+use Rattle.bugnet.specs.Debugging.{SessionIs}
+use Rattle.bugnet.specs.Sessions.{Commands, AreRead, IsUnread, SessionOver, input_in, stop_status, stop_line, session_told, IsSession, IsDebug}
 use Rattle.bugnet.specs.Run.{Call, printing, SomeTold, Tells, StoppedBy}
 use Rattle.bugnet.specs.declared.refusal.Refusal.TheVariants as why
 
@@ -19,15 +20,17 @@ ToldStop names e status old new before now =
     ⊎ ((status ≡ 9) × Wrote old new before now (line_of names why.OutOfMemory))
 
 -- a session over a joint replay: commands were read, and what they make it tell is told
-abbrev pub DebugsPair : {O X : Type 0} → FileNames → Joining → (status : ℕ) → (left now_left : Option (List ℕ)) → (before now : ℕ)
+abbrev pub DebugsPair : {O X : Type 0} → FileNames → Joining → (status : ℕ) → (left now_left : Option (List ℕ)) → (before now reads now_reads : ℕ)
     → (O → Option (List ℕ)) → (O → ℕ) → (X → Option (List ℕ)) → (X → ℕ) → O → X → O → X → Type 0
-DebugsPair names j status left now_left before now out out_faults err err_faults o e p f =
-    (c : Commands) × AreRead c status left now_left before now
+DebugsPair names j status left now_left before now reads now_reads out out_faults err err_faults o e p f =
+    (c : Commands) × AreRead c status left now_left before now reads now_reads
     × ((files : Option Files) (had : Counts) → Tells names (session_told names (transcript j (input_in c))) status (printing files had out out_faults err err_faults o e p f))
+    × (IsUnread c reads now_reads ⊎ SessionOver j c.bytes status left now_left before now reads now_reads (out o) (out p) (out_faults o) (out_faults p))
 
 -- by the names of a log and a program: commands were read, and what they make the command tell is told, or it was stopped
 -- before it had an answer
-abbrev pub DebugsNamed : FileNames → (status : ℕ) → (left now_left : Option (List ℕ)) → (before now : ℕ) → Call → Type 0
-DebugsNamed names status left now_left before now k =
-    (c : Commands) × AreRead c status left now_left before now
+abbrev pub DebugsNamed : FileNames → (status : ℕ) → (left now_left : Option (List ℕ)) → (before now reads now_reads : ℕ) → Call → Type 0
+DebugsNamed names status left now_left before now reads now_reads k =
+    (c : Commands) × AreRead c status left now_left before now reads now_reads
     × WithFiles k.old.files (λ files. SomeTold (IsSession c files names) (λ what. Tells names what status k) ⊎ StoppedBy names (λ files. IsDebug files names) files status k)
+    × WithFiles k.old.files (λ files. SessionIs c names.log names.elf files status left now_left before now reads now_reads k)

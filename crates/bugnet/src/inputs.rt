@@ -1,6 +1,8 @@
 //! The files that a command loads before it answers.
-ghost use Rattle.std.specs.Prelude.{◌≡◌};
+ghost use Rattle.std.specs.Prelude.{◌≡◌, IfErr};
 ghost use Rattle.bn_outside.specs.Counts.{NoneFell};
+ghost use Rattle.bn_outside.specs.StoreCalls.{LoadCall};
+ghost use Rattle.bugnet.specs.Calls.{IsOfLoad, LoadsTo};
 ghost use Rattle.bugnet.specs.Inputs.{no_bytes, bytes_of, put, limit_of, IsLoaded, stored, OnlyLoads};
 ghost use Rattle.bugnet.specs.Names.{name_of};
 ghost use Rattle.bugnet.specs.Outside.{ResultCause, WithFiles, FetchTells};
@@ -35,6 +37,8 @@ pub fn fetch<S: Store>(
     ensures asks { S.saves store.new ≡ S.saves store.old }
     ensures later { NoneFell (S.counts store.old) (S.counts store.new) }
     ensures cause { ResultCause (S.counts store.old) (S.counts store.new) result }
+    ensures called { S.noted store.new ≡ S.note (S.noted store.old) (LoadCall (name_of names.now role) limit) }
+    ensures stops { IfErr result (IsOfLoad role) }
 {
     match store.load(alloc, names.of(role), limit) {
         Ok(bytes) => Ok(bytes),
@@ -104,6 +108,7 @@ pub fn load_inputs<S: Store>(
 ) -> Result<Inputs, Refusal>
     ensures loads { WithFiles (S.files store.old) (λ files. IsLoaded names.now roles.now files result) }
     ensures only { OnlyLoads (stored S.files S.saves S.counts store.old) (stored S.files S.saves S.counts store.new) result }
+    ensures calls { LoadsTo names.now roles.now S.note (S.noted store.old) (S.noted store.new) result }
 {
     let mut inputs = Inputs::none(alloc);
     for role in roles {

@@ -1,5 +1,5 @@
 // What holds of answers.
-ghost use Rattle.bugnet.specs.Debugging.{ConvertedHaveTheirLimit, SessionsShowTheRun, RecordingsCanBeDebugged};
+ghost use Rattle.bugnet.specs.Debugging.{ConvertedHaveTheirLimit, SessionsShowTheRun, RecordingsCanBeDebugged, PrefixesCanBeDebugged};
 ghost use Rattle.bugnet.specs.Laws.{OneAnswer, OneSession, SeedsAreWhole, FilesKeepToTheirSize};
 ghost use Rattle.bugnet.specs.Agreements.{AuditsAgree};
 ghost use Rattle.bugnet.specs.Complete.{EachHasAnAnswer, EachCanBeDone};
@@ -24,6 +24,7 @@ use replay_laws::{ends_suffice, the_rows_of_an_interval_stand_together};
 use report_laws::races_say_the_run;
 use run_laws::{faults_are_kept, kept_records_are_an_end, own_asks_are_orderly};
 use run_model::{files_number_their_version, verdicts_are_unique};
+use step_debugger::laws::refusals_stay;
 
 /// No words have two answers, whatever the files are; but a recording without a seed has one for each
 /// list of turns, and of a lean one without a seed, which saves no list, nothing is said.
@@ -68,6 +69,15 @@ pub fn recordings_can_be_debugged()
     ensures { RecordingsCanBeDebugged }
 {
     sessions_show_the_run();
+}
+
+/// Where all commands of an input keep to their limits, there is all that a session needs with each prefix of
+/// them: a session isn't stopped in the middle of an input that isn't refused.
+pub fn prefixes_can_be_debugged()
+    ensures { PrefixesCanBeDebugged }
+{
+    recordings_can_be_debugged();
+    refusals_stay();
 }
 
 /// The answer to the replay of an interval from a log that says an end of a recording's records is the text

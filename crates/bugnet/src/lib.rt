@@ -23,10 +23,11 @@ mod texts;
 pub use answer::{Answer, IntervalToReplay, NewLog, RunEnd, RunToTell};
 pub use laws::{
     audits_agree, crashes_are_shown, each_can_be_done, each_has_an_answer,
-    files_keep_to_their_size, headline, joint_headline, one_answer, one_session, races_are_told,
-    recordings_are_joined, recordings_are_replayed, recordings_can_be_debugged,
-    recordings_can_be_joined, recordings_say_ends, salvaged_logs_are_replayed,
-    salvaged_logs_say_ends, seeds_are_whole, sessions_show_the_run, slices_are_told,
+    files_keep_to_their_size, headline, joint_headline, one_answer, one_session,
+    prefixes_can_be_debugged, races_are_told, recordings_are_joined, recordings_are_replayed,
+    recordings_can_be_debugged, recordings_can_be_joined, recordings_say_ends,
+    salvaged_logs_are_replayed, salvaged_logs_say_ends, seeds_are_whole, sessions_show_the_run,
+    slices_are_told,
 };
 pub use manner::Manner;
 pub use names::{Names, Role};

@@ -3,6 +3,7 @@ ghost use Rattle.std.specs.Prelude.{◌≡◌, ◌≢◌, ◌≤◌, ◌⊎◌, 
 ghost use Rattle.std.specs.Str.{bytes_eq};
 ghost use Rattle.bn_outside.specs.Counts.{Rose, NoneFell};
 ghost use Rattle.bugnet.specs.Asks.{saves_after, AtMostSaves, SavesEach};
+ghost use Rattle.bugnet.specs.Calls.{saves_of, SavesTo, SavesTold};
 ghost use Rattle.bugnet.specs.Outside.{SaveTells, saved_new, told_of_new};
 ghost use Rattle.bugnet.specs.Run.{call, Tells};
 
@@ -27,6 +28,7 @@ fn save_new<S: Store>(store: &mut S, names: &Names, file: &[u8]) -> Result<(), R
     ensures later { NoneFell (S.counts store.old) (S.counts store.new) }
     ensures few { AtMostSaves true (S.saves store.old) (S.saves store.new) }
     ensures all { OnOk result (S.saves store.new ≡ saves_after true (S.saves store.old)) }
+    ensures calls { SavesTo names.now (saves_of true) S.note (S.noted store.old) (S.noted store.new) result }
 {
     match store.save(names.log, file) {
         Ok(()) => Ok(()),
@@ -46,6 +48,7 @@ pub fn keep_new<S: Store, O: Sink, X: Sink>(
 ) -> u8
     ensures told { Tells names.now (told_of_new new.now) result (call S.files S.counts O.written O.faults X.written X.faults store.old out.old err.old store.new out.new err.new) }
     ensures saves { SavesEach true result (S.saves store.old) (S.saves store.new) }
+    ensures calls { SavesTold names.now (saves_of true) result S.note (S.noted store.old) (S.noted store.new) (call S.files S.counts O.written O.faults X.written X.faults store.old out.old err.old store.new out.new err.new) }
     ensures later { NoneFell (S.counts store.old) (S.counts store.new) }
     ensures out_later { O.faults out.old ≤ O.faults out.new }
     ensures err_later { X.faults err.old ≤ X.faults err.new }

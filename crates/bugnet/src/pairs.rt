@@ -1,11 +1,12 @@
 //! A log and the program that it was recorded of.
-ghost use Rattle.std.specs.Prelude.{◌≡◌};
+ghost use Rattle.std.specs.Prelude.{◌≡◌, IfOk};
 ghost use Rattle.std.specs.Str.{bytes_eq};
 ghost use Rattle.sha2.specs.Sha256.{sha256};
 ghost use Rattle.bn_outside.specs.Counts.{NoneFell};
+ghost use Rattle.bugnet.specs.Calls.{LoadsTo};
 ghost use Rattle.bugnet.specs.Evaluated.{Makes, IsPairOfBytes, where_same};
 ghost use Rattle.bugnet.specs.Outside.{GivesOf, IsOwn, ResultCause, WithFiles};
-ghost use Rattle.bugnet.specs.Pairs.{ByPair, pair_roles, IsPair};
+ghost use Rattle.bugnet.specs.Pairs.{ByPair, pair_roles, IsPair, LoadedPair};
 ghost use Rattle.bugnet.specs.Reading.{by_reading};
 
 use crate::answer::{digest_of, load_program, read_log};
@@ -71,10 +72,12 @@ pub fn load_pair<S: Store>(
     store: &mut S,
 ) -> Result<JointReading, Refusal>
     ensures told { (go : ByPair) → WithFiles (S.files store.old) (λ files. GivesOf (by_reading go) names.now (λ files. IsPair go files names.now) files result) }
+    ensures loaded { WithFiles (S.files store.old) (λ files. IfOk result (λ pair. LoadedPair names.now.log names.now.elf files pair.log pair.image)) }
     ensures same { S.files store.new ≡ S.files store.old }
     ensures asks { S.saves store.new ≡ S.saves store.old }
     ensures later { NoneFell (S.counts store.old) (S.counts store.new) }
     ensures cause { ResultCause (S.counts store.old) (S.counts store.new) result }
+    ensures calls { LoadsTo names.now pair_roles S.note (S.noted store.old) (S.noted store.new) result }
 {
     match load_inputs(alloc, names, pair_roles(), store) {
         Ok(inputs) => read_pair(alloc, &inputs.log, &inputs.elf),

@@ -3,10 +3,11 @@ ghost use Rattle.std.specs.Prelude.{◌≡◌, ◌≢◌, ◌≤◌, ◌⊎◌, 
 ghost use Rattle.bn_outside.specs.Counts.{Rose, NoneFell};
 ghost use Rattle.command_words.specs.Words.{command_in, seen, seen_recording};
 ghost use Rattle.bugnet.specs.Answers.{names_in, manner_of, refusal_in, IsAnswer};
-ghost use Rattle.bugnet.specs.Asks.{LineSaves, RecordsRun, AnswerSaves};
+ghost use Rattle.bugnet.specs.Asks.{LineSaves, FitsLine, AnswerSaves};
+ghost use Rattle.bugnet.specs.Calls.{line_roles, needed_roles, saves_in, CallsBy, SavesTold, CallsOnly, HasShape, AnswersDemo, TellsDemo};
 ghost use Rattle.bugnet.specs.Laws.{IsReadOnly, IsNoSession, IsNoRecording};
 ghost use Rattle.bugnet.specs.Sessions.{is_begun};
-ghost use Rattle.bugnet.specs.Debugging.{Debugs};
+ghost use Rattle.bugnet.specs.Debugging.{CanBegin, Debugs};
 ghost use Rattle.bugnet.specs.Agreements.{AuditsRun};
 ghost use Rattle.bugnet.specs.Complete.{IsDone};
 ghost use Rattle.bugnet.specs.Headline.{PrintsRun};
@@ -45,6 +46,7 @@ use log_blocks::readings::{files_are_read, readings_are_unique};
 use std::alloc::Global;
 use std::sync::Wait;
 use std::thread::Threads;
+use step_debugger::laws::refusals_stay;
 
 // The names of the files of a command.
 fn names_of<'a>(command: &Command<'a>) -> Names<'a>
@@ -107,8 +109,10 @@ fn answer_to<S: Store>(
     ensures same { S.files store.new ≡ S.files store.old }
     ensures later { NoneFell (S.counts store.old) (S.counts store.new) }
     ensures cause { CauseBy (refusal_in (seen command.now)) (S.counts store.old) (S.counts store.new) result }
+    ensures calls { CallsBy (refusal_in (seen command.now)) names.now (line_roles (seen command.now)) (needed_roles (seen command.now)) S.note (S.noted store.old) (S.noted store.new) result }
     ensures prints { IsReadOnly (Some (seen command.now)) → IfOk result IsPrinted }
-    ensures records { IfOk result (RecordsRun (seen command.now)) }
+    ensures records { IfOk result (FitsLine (seen command.now)) }
+    ensures demo { AnswersDemo (seen command.now) names.now result }
     ensures asks { S.saves store.new ≡ S.saves store.old }
 {
     match command {
@@ -146,6 +150,7 @@ pub fn act<S: Store, O: Sink, X: Sink>(
     ensures told { Tells names.now (told_of names.now answer.now) result (call S.files S.counts O.written O.faults X.written X.faults store.old out.old err.old store.new out.new err.new) }
     ensures still { IsPrinted answer.now → S.files store.new ≡ S.files store.old }
     ensures saves { AnswerSaves answer.now result (S.saves store.old) (S.saves store.new) }
+    ensures calls { SavesTold names.now (saves_in answer.now) result S.note (S.noted store.old) (S.noted store.new) (call S.files S.counts O.written O.faults X.written X.faults store.old out.old err.old store.new out.new err.new) }
     ensures later { NoneFell (S.counts store.old) (S.counts store.new) }
     ensures out_later { O.faults out.old ≤ O.faults out.new }
     ensures err_later { X.faults err.old ≤ X.faults err.new }
@@ -188,6 +193,8 @@ fn reply<S: Store, O: Sink, X: Sink>(
     ensures err_later { X.faults err.old ≤ X.faults err.new }
     ensures still { IsReadOnly (Some (seen command.now)) → S.files store.new ≡ S.files store.old }
     ensures saves { LineSaves (Some (seen command.now)) result (S.saves store.old) (S.saves store.new) }
+    ensures calls { CallsOnly (Some (seen command.now)) result S.note (S.noted store.old) (S.noted store.new) (call S.files S.counts O.written O.faults X.written X.faults store.old out.old err.old store.new out.new err.new) }
+    ensures demo { TellsDemo (Some (seen command.now)) result (call S.files S.counts O.written O.faults X.written X.faults store.old out.old err.old store.new out.new err.new) }
     ensures failed { result ≡ 3 → Rose (S.counts store.old).faults (S.counts store.new).faults }
     ensures missing { result ≡ 4 → Rose (S.counts store.old).misses (S.counts store.new).misses }
     ensures long { result ≡ 5 → Rose (S.counts store.old).longs (S.counts store.new).longs }
@@ -218,9 +225,12 @@ pub fn perform<S: Store, I: Source, O: Sink, X: Sink>(
     ensures err_later { X.faults err.old ≤ X.faults err.new }
     ensures still { IsReadOnly (Some (seen command.now)) → S.files store.new ≡ S.files store.old }
     ensures saves { LineSaves (Some (seen command.now)) result (S.saves store.old) (S.saves store.new) }
-    ensures session { Debugs (Some (seen command.now)) result (I.left input.old) (I.left input.new) (I.faults input.old) (I.faults input.new)
+    ensures calls { CallsOnly (Some (seen command.now)) result S.note (S.noted store.old) (S.noted store.new) (call S.files S.counts O.written O.faults X.written X.faults store.old out.old err.old store.new out.new err.new) }
+    ensures demo { TellsDemo (Some (seen command.now)) result (call S.files S.counts O.written O.faults X.written X.faults store.old out.old err.old store.new out.new err.new) }
+    ensures session { Debugs (Some (seen command.now)) result (I.left input.old) (I.left input.new) (I.faults input.old) (I.faults input.new) (I.reads input.old) (I.reads input.new)
         (call S.files S.counts O.written O.faults X.written X.faults store.old out.old err.old store.new out.new err.new) }
     ensures first { (is_begun result ≡ true) ⊎ (input.new ≡ input.old) }
+    ensures begins { (input.new ≡ input.old) ⊎ WithFiles (S.files store.old) (λ files. CanBegin (Some (seen command.now)) files) }
     ensures unread { IsNoSession (Some (seen command.now)) → input.new ≡ input.old }
     ensures read { result ≡ 12 → Rose (I.faults input.old) (I.faults input.new) }
     ensures read_later { I.faults input.old ≤ I.faults input.new }
@@ -236,6 +246,7 @@ pub fn perform<S: Store, I: Source, O: Sink, X: Sink>(
     saved_files_keep_to_the_limit();
     converted_files_keep_to_the_limit();
     files_are_read();
+    refusals_stay();
     let names = names_of(command);
     // What `debug` prints depends on what it reads meanwhile, so it has no answer that is made first.
     match command {
@@ -263,9 +274,12 @@ fn obey<S: Store, I: Source, O: Sink, X: Sink, G: Gate, R: Threads + Wait + Sync
     ensures recorded { LeavesRun (Some (seen command.now)) result (S.files store.old) (S.files store.new) }
     ensures still { IsReadOnly (Some (seen command.now)) → S.files store.new ≡ S.files store.old }
     ensures saves { LineSaves (Some (seen command.now)) result (S.saves store.old) (S.saves store.new) }
-    ensures session { Debugs (Some (seen command.now)) result (I.left input.old) (I.left input.new) (I.faults input.old) (I.faults input.new)
+    ensures calls { CallsOnly (Some (seen command.now)) result S.note (S.noted store.old) (S.noted store.new) (call S.files S.counts O.written O.faults X.written X.faults store.old out.old err.old store.new out.new err.new) }
+    ensures demo { TellsDemo (Some (seen command.now)) result (call S.files S.counts O.written O.faults X.written X.faults store.old out.old err.old store.new out.new err.new) }
+    ensures session { Debugs (Some (seen command.now)) result (I.left input.old) (I.left input.new) (I.faults input.old) (I.faults input.new) (I.reads input.old) (I.reads input.new)
         (call S.files S.counts O.written O.faults X.written X.faults store.old out.old err.old store.new out.new err.new) }
     ensures first { (is_begun result ≡ true) ⊎ (input.new ≡ input.old) }
+    ensures begins { (input.new ≡ input.old) ⊎ WithFiles (S.files store.old) (λ files. CanBegin (Some (seen command.now)) files) }
     ensures unread { IsNoSession (Some (seen command.now)) → input.new ≡ input.old }
     ensures read { result ≡ 12 → Rose (I.faults input.old) (I.faults input.new) }
     ensures read_later { I.faults input.old ≤ I.faults input.new }
@@ -382,6 +396,17 @@ pub fn run<S: Store, I: Source, O: Sink, X: Sink, G: Gate, R: Threads + Wait + S
     // have `convert` and `salvage`; a refused one at most so often, and no other command saves.
     ensures saves { LineSaves (command_in words.now) result (S.saves store.old) (S.saves store.new) }
 
+    // It makes the calls of its words, in their order, and no other. Where the store refuses one, that call is
+    // the last, nothing is printed, and err has the line of that call's file. A recording that is done has made
+    // them all; words that are refused make none.
+    ensures calls { CallsOnly (command_in words.now) result S.note (S.noted store.old) (S.noted store.new) (call S.files S.counts O.written O.faults X.written X.faults store.old out.old err.old store.new out.new err.new) }
+
+    // Whatever the store tells: a command that isn't done is refused, unless memory ran out or a write failed.
+    // Then nothing is printed, and err has the line of a refusal of this status. But what `replay`, `joint`,
+    // `debug` and `races` tell may end where a replay stops, or the reading of commands. `demo` tells its text.
+    ensures shape { HasShape (command_in words.now) result (call S.files S.counts O.written O.faults X.written X.faults store.old out.old err.old store.new out.new err.new) }
+    ensures demo { TellsDemo (command_in words.now) result (call S.files S.counts O.written O.faults X.written X.faults store.old out.old err.old store.new out.new err.new) }
+
     // A recording leaves under LOG the file of the run of a legal and finished list of turns, with a seed of
     // the list that it chooses, in the version of its format: its records have at most log-size bytes, and
     // the file has 124 more in version 1, in version 2 136 and 48 a block. The status says how that run
@@ -390,11 +415,15 @@ pub fn run<S: Store, I: Source, O: Sink, X: Sink, G: Gate, R: Threads + Wait + S
 
     // Only `debug` reads commands, and only once its files are loaded and tested. What they make it tell
     // is told: the text of its session, up to a read that failed, a line or commands that are too long, or
-    // a refusal of the replay. It reads nothing behind `quit`. Where the log is a recording's, all that it
-    // shows is the run's, and no replay is refused.
-    ensures session { Debugs (command_in words.now) result (I.left input.old) (I.left input.new) (I.faults input.old) (I.faults input.new)
+    // a refusal of the replay. However it ends, each byte was read once, and none after the first `quit`, at
+    // 18 none after the first byte too many, at 14 and 15 none after the line that was refused. One more
+    // read finds the end of the input, or fails. A session that isn't stopped by its whole input is stopped
+    // at no prefix of it. Where the log is a recording's, all that it shows is the run's, and no replay is
+    // refused.
+    ensures session { Debugs (command_in words.now) result (I.left input.old) (I.left input.new) (I.faults input.old) (I.faults input.new) (I.reads input.old) (I.reads input.new)
         (call S.files S.counts O.written O.faults X.written X.faults store.old out.old err.old store.new out.new err.new) }
     ensures first { (is_begun result ≡ true) ⊎ (input.new ≡ input.old) }
+    ensures begins { (input.new ≡ input.old) ⊎ WithFiles (S.files store.old) (λ files. CanBegin (command_in words.now) files) }
     ensures unread { IsNoSession (command_in words.now) → input.new ≡ input.old }
 
     // Where an audit is done, LOG is the file of the run of BOOK's turns, or that file in version 2; they are

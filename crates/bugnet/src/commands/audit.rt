@@ -2,11 +2,13 @@
 ghost use Rattle.std.specs.Prelude.{◌≡◌, ◌≢◌, ◌≤◌, ◌⊎◌, Option, IfOk};
 ghost use Rattle.bn_outside.specs.Counts.{Counts, NoneFell, Rose};
 ghost use Rattle.bn_outside.specs.Files.{Files};
+ghost use Rattle.bugnet.specs.Asks.{IsMade};
 ghost use Rattle.bugnet.specs.Audits.{IsAudit};
+ghost use Rattle.bugnet.specs.Calls.{LoadsTo};
 ghost use Rattle.bugnet.specs.Command.Audit.{roles_of, IsAudited, audit_by};
 ghost use Rattle.bugnet.specs.Evaluated.{Makes};
 ghost use Rattle.bugnet.specs.Inputs.{bytes_of};
-ghost use Rattle.bugnet.specs.Outside.{GivesBy, IsOwn, IsPrinted, ResultCause, WithFiles, Sent};
+ghost use Rattle.bugnet.specs.Outside.{GivesBy, IsOwn, ResultCause, WithFiles, Sent};
 ghost use Rattle.bugnet.specs.Run.{printing, Tells};
 ghost use Rattle.bugnet.specs.Texts.{agree_text};
 ghost use Rattle.bugnet.specs.Told.{printed};
@@ -89,7 +91,8 @@ pub fn audit_files<S: Store>(
     ensures asks { S.saves store.new ≡ S.saves store.old }
     ensures later { NoneFell (S.counts store.old) (S.counts store.new) }
     ensures cause { ResultCause (S.counts store.old) (S.counts store.new) result }
-    ensures prints { IfOk result IsPrinted }
+    ensures calls { LoadsTo names.now (roles_of has_input) S.note (S.noted store.old) (S.noted store.new) result }
+    ensures prints { IfOk result IsMade }
 {
     match load_inputs(alloc, names, roles_of(has_input), store) {
         Err(refusal) => Err(refusal),

@@ -1,8 +1,10 @@
 //! The command `check`: what a log has.
 ghost use Rattle.std.specs.Prelude.{◌≡◌, IfOk, ◌≢◌, ◌≤◌, ◌⊎◌, Option};
 ghost use Rattle.bn_outside.specs.Counts.{NoneFell, Counts, Rose};
+ghost use Rattle.bugnet.specs.Asks.{IsMade};
+ghost use Rattle.bugnet.specs.Calls.{log_roles, LoadsTo};
 ghost use Rattle.bugnet.specs.Commands.{IsCheck, IsByLog, check_of};
-ghost use Rattle.bugnet.specs.Outside.{GivesBy, ResultCause, WithFiles, IsPrinted, Gives, IsOwn, Sent};
+ghost use Rattle.bugnet.specs.Outside.{GivesBy, ResultCause, WithFiles, Gives, IsOwn, Sent};
 ghost use Rattle.bn_outside.specs.Files.{Files};
 ghost use Rattle.bugnet.specs.Texts.{check_line};
 ghost use Rattle.bugnet.specs.Run.{printing, Tells};
@@ -27,7 +29,8 @@ pub fn check_files<S: Store>(alloc: Global, names: &Names, store: &mut S) -> Res
     ensures asks { S.saves store.new ≡ S.saves store.old }
     ensures later { NoneFell (S.counts store.old) (S.counts store.new) }
     ensures cause { ResultCause (S.counts store.old) (S.counts store.new) result }
-    ensures prints { IfOk result IsPrinted }
+    ensures calls { LoadsTo names.now log_roles S.note (S.noted store.old) (S.noted store.new) result }
+    ensures prints { IfOk result IsMade }
 {
     match fetch(alloc, names, store, Role::Log, LOG_LIMIT) {
         Ok(log) => check_of(alloc, names, &log),
@@ -39,7 +42,7 @@ pub fn check_files<S: Store>(alloc: Global, names: &Names, store: &mut S) -> Res
 pub fn check_of(alloc: Global, names: &Names, log: &[u8]) -> Result<Answer, Refusal>
     ensures gives { Gives names.now (IsByLog names.now log.now check_of) result }
     ensures own { IsOwn result }
-    ensures prints { IfOk result IsPrinted }
+    ensures prints { IfOk result IsMade }
 {
     match count_file(alloc, log) {
         Ok(counts) => Ok(Answer::Checked(counts)),

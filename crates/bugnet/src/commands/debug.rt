@@ -1,9 +1,12 @@
 //! The command `debug`: a session of the debugger over the joint replay of all intervals that a log keeps.
-ghost use Rattle.std.specs.Prelude.{◌≡◌, ◌≢◌, ◌≤◌, ◌⊎◌, true};
+ghost use Rattle.std.specs.Prelude.{◌≡◌, ◌≢◌, ◌≤◌, ◌⊎◌, true, None};
 ghost use Rattle.bn_outside.specs.Counts.{Rose, NoneFell};
 ghost use Rattle.back_step.specs.Traces.{at_start};
 ghost use Rattle.joint_replay.specs.Joining.{Joining};
+ghost use Rattle.bugnet.specs.Calls.{loads_of, CallsSo};
 ghost use Rattle.bugnet.specs.Joined.{joined};
+ghost use Rattle.bugnet.specs.Outside.{WithFiles};
+ghost use Rattle.bugnet.specs.Pairs.{HasPair, pair_roles};
 ghost use Rattle.bugnet.specs.Sessions.{is_begun};
 ghost use Rattle.bugnet.specs.Steps.{ToldStop, DebugsPair, DebugsNamed};
 ghost use Rattle.bugnet.specs.Run.{call};
@@ -45,7 +48,7 @@ fn debug_trail<I: Source, O: Sink, X: Sink>(
     out: &mut O,
     err: &mut X,
 ) -> u8
-    ensures told { (first : Joining) → trail.old.trace ≡ at_start first → DebugsPair names.now first result (I.left input.old) (I.left input.new) (I.faults input.old) (I.faults input.new)
+    ensures told { (first : Joining) → trail.old.trace ≡ at_start first → DebugsPair names.now first result (I.left input.old) (I.left input.new) (I.faults input.old) (I.faults input.new) (I.reads input.old) (I.reads input.new)
         O.written O.faults X.written X.faults out.old err.old out.new err.new }
     ensures begun { is_begun result ≡ true }
     ensures write { result ≡ 13 → Rose (O.faults out.old) (O.faults out.new) ⊎ Rose (X.faults err.old) (X.faults err.new) }
@@ -68,7 +71,7 @@ fn debug_pair<I: Source, O: Sink, X: Sink>(
     out: &mut O,
     err: &mut X,
 ) -> u8
-    ensures told { DebugsPair names.now (joined reading.now.log reading.now.image) result (I.left input.old) (I.left input.new) (I.faults input.old) (I.faults input.new)
+    ensures told { DebugsPair names.now (joined reading.now.log reading.now.image) result (I.left input.old) (I.left input.new) (I.faults input.old) (I.faults input.new) (I.reads input.old) (I.reads input.new)
         O.written O.faults X.written X.faults out.old err.old out.new err.new }
     ensures begun { is_begun result ≡ true }
     ensures write { result ≡ 13 → Rose (O.faults out.old) (O.faults out.new) ⊎ Rose (X.faults err.old) (X.faults err.new) }
@@ -92,11 +95,13 @@ pub fn debug_files<S: Store, I: Source, O: Sink, X: Sink>(
     out: &mut O,
     err: &mut X,
 ) -> u8
-    ensures told { DebugsNamed names.now result (I.left input.old) (I.left input.new) (I.faults input.old) (I.faults input.new)
+    ensures told { DebugsNamed names.now result (I.left input.old) (I.left input.new) (I.faults input.old) (I.faults input.new) (I.reads input.old) (I.reads input.new)
         (call S.files S.counts O.written O.faults X.written X.faults store.old out.old err.old store.new out.new err.new) }
     ensures first { (is_begun result ≡ true) ⊎ (input.new ≡ input.old) }
+    ensures begins { (input.new ≡ input.old) ⊎ WithFiles (S.files store.old) (λ files. HasPair names.now.log names.now.elf files) }
     ensures same { S.files store.new ≡ S.files store.old }
     ensures asks { S.saves store.new ≡ S.saves store.old }
+    ensures calls { CallsSo names.now (loads_of pair_roles) (loads_of pair_roles) None true result S.note (S.noted store.old) (S.noted store.new) (call S.files S.counts O.written O.faults X.written X.faults store.old out.old err.old store.new out.new err.new) }
     ensures words { result ≢ 2 }
     ensures failed { result ≡ 3 → Rose (S.counts store.old).faults (S.counts store.new).faults }
     ensures missing { result ≡ 4 → Rose (S.counts store.old).misses (S.counts store.new).misses }

@@ -5,9 +5,11 @@ ghost use Rattle.bn_outside.specs.Files.{Files};
 ghost use Rattle.joint_replay.specs.declared.error.JointError.TheVariants.{Stuck};
 ghost use Rattle.joint_replay.specs.Joining.{run_all};
 ghost use Rattle.joint_replay.specs.Texts.{known_text, steps_text, memory_text, joint_text};
+ghost use Rattle.bugnet.specs.Calls.{LoadsTo};
 ghost use Rattle.bugnet.specs.Joined.{position_text, positions_text, stuck_line, ran_told, IsJoint};
 ghost use Rattle.bugnet.specs.Joinings.{told_of_joint, stop_of, RanAs, ToldEnd};
 ghost use Rattle.bugnet.specs.Outside.{GivesBy, IsPrinted, ResultCause, WithFiles, Sent, Gathered};
+ghost use Rattle.bugnet.specs.Pairs.{pair_roles};
 ghost use Rattle.bugnet.specs.Run.{printing, Tells};
 
 use crate::answer::Answer;
@@ -29,6 +31,7 @@ pub fn join_files<S: Store>(alloc: Global, names: &Names, store: &mut S) -> Resu
     ensures asks { S.saves store.new ≡ S.saves store.old }
     ensures later { NoneFell (S.counts store.old) (S.counts store.new) }
     ensures cause { ResultCause (S.counts store.old) (S.counts store.new) result }
+    ensures calls { LoadsTo names.now pair_roles S.note (S.noted store.old) (S.noted store.new) result }
     ensures prints { IfOk result IsPrinted }
 {
     match load_pair(alloc, names, store) {

@@ -1,8 +1,10 @@
 //! The command `list`: a line for each interval that a log keeps.
 ghost use Rattle.std.specs.Prelude.{◌≡◌, IfOk, ◌≢◌, ◌≤◌, ◌⊎◌, ◌++◌, Option, drop};
 ghost use Rattle.bn_outside.specs.Counts.{NoneFell, Counts, Rose};
+ghost use Rattle.bugnet.specs.Asks.{IsMade};
+ghost use Rattle.bugnet.specs.Calls.{log_roles, LoadsTo};
 ghost use Rattle.bugnet.specs.Commands.{IsList, IsByLog, list_of};
-ghost use Rattle.bugnet.specs.Outside.{GivesBy, ResultCause, WithFiles, IsPrinted, Gives, IsOwn, Sent, Gathered};
+ghost use Rattle.bugnet.specs.Outside.{GivesBy, ResultCause, WithFiles, Gives, IsOwn, Sent, Gathered};
 ghost use Rattle.bn_outside.specs.Files.{Files};
 ghost use Rattle.bugnet.specs.Texts.{interval_text, list_text, record_text};
 ghost use Rattle.bugnet.specs.Run.{printing, Tells};
@@ -28,7 +30,8 @@ pub fn list_files<S: Store>(alloc: Global, names: &Names, store: &mut S) -> Resu
     ensures asks { S.saves store.new ≡ S.saves store.old }
     ensures later { NoneFell (S.counts store.old) (S.counts store.new) }
     ensures cause { ResultCause (S.counts store.old) (S.counts store.new) result }
-    ensures prints { IfOk result IsPrinted }
+    ensures calls { LoadsTo names.now log_roles S.note (S.noted store.old) (S.noted store.new) result }
+    ensures prints { IfOk result IsMade }
 {
     match fetch(alloc, names, store, Role::Log, LOG_LIMIT) {
         Ok(log) => list_of(alloc, names, &log),
@@ -40,7 +43,7 @@ pub fn list_files<S: Store>(alloc: Global, names: &Names, store: &mut S) -> Resu
 pub fn list_of(alloc: Global, names: &Names, log: &[u8]) -> Result<Answer, Refusal>
     ensures gives { Gives names.now (IsByLog names.now log.now list_of) result }
     ensures own { IsOwn result }
-    ensures prints { IfOk result IsPrinted }
+    ensures prints { IfOk result IsMade }
 {
     match read_log(alloc, log) {
         Ok(log) => Ok(Answer::Listed(log)),

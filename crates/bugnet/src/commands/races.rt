@@ -1,7 +1,9 @@
 //! The command `races`: the races of what a log keeps.
 ghost use Rattle.std.specs.Prelude.{◌≡◌, IfOk};
 ghost use Rattle.bn_outside.specs.Counts.{NoneFell};
+ghost use Rattle.bugnet.specs.Calls.{LoadsTo};
 ghost use Rattle.bugnet.specs.Outside.{Gives, GivesBy, IsOwn, IsPrinted, ResultCause, WithFiles};
+ghost use Rattle.bugnet.specs.Pairs.{pair_roles};
 ghost use Rattle.bugnet.specs.Racing.{races_with, IsRaces};
 
 use crate::answer::Answer;
@@ -44,6 +46,7 @@ pub fn race_files<S: Store>(
     ensures asks { S.saves store.new ≡ S.saves store.old }
     ensures later { NoneFell (S.counts store.old) (S.counts store.new) }
     ensures cause { ResultCause (S.counts store.old) (S.counts store.new) result }
+    ensures calls { LoadsTo names.now pair_roles S.note (S.noted store.old) (S.noted store.new) result }
     ensures prints { IfOk result IsPrinted }
 {
     match load_pair(alloc, names, store) {

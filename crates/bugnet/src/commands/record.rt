@@ -8,6 +8,7 @@ ghost use Rattle.le_numbers.specs.Numbers.{AreBytes};
 ghost use Rattle.bn_base.specs.Ranges.{first_bad};
 ghost use Rattle.bugnet.specs.Answers.{setting_refusal};
 ghost use Rattle.bugnet.specs.Asks.{IsRecordedRun, saves_after, AtMostSaves, SavesEach, is_lean};
+ghost use Rattle.bugnet.specs.Calls.{elf_roles, input_roles, record_roles, saves_of, CallsTo, CallsBy, SavesTo, SavesTold};
 ghost use Rattle.bugnet.specs.Commands.{is_clash, IsByInput, IsByProgram, IsByNames, IsRecord};
 ghost use Rattle.bugnet.specs.Recordings.{IsRun};
 ghost use Rattle.bugnet.specs.Saves.{HoldsBytes};
@@ -43,6 +44,7 @@ fn load_input<S: Store>(
     ensures asks { S.saves store.new ≡ S.saves store.old }
     ensures later { NoneFell (S.counts store.old) (S.counts store.new) }
     ensures cause { ResultCause (S.counts store.old) (S.counts store.new) result }
+    ensures calls { CallsTo names.now (input_roles has_input) [] S.note (S.noted store.old) (S.noted store.new) result }
 {
     if !has_input {
         return Ok(start);
@@ -71,6 +73,7 @@ fn load_start<S: Store>(
     ensures asks { S.saves store.new ≡ S.saves store.old }
     ensures later { NoneFell (S.counts store.old) (S.counts store.new) }
     ensures cause { ResultCause (S.counts store.old) (S.counts store.new) result }
+    ensures calls { CallsTo names.now (input_roles has_input) [] S.note (S.noted store.old) (S.noted store.new) result }
 {
     match load_program(alloc, elf, settings) {
         Err(refusal) => Err(refusal),
@@ -100,6 +103,7 @@ fn load_files<S: Store>(
     ensures asks { S.saves store.new ≡ S.saves store.old }
     ensures later { NoneFell (S.counts store.old) (S.counts store.new) }
     ensures cause { ResultCause (S.counts store.old) (S.counts store.new) result }
+    ensures calls { CallsTo names.now (record_roles has_input) elf_roles S.note (S.noted store.old) (S.noted store.new) result }
 {
     match fetch(alloc, names, store, Role::Elf, ELF_LIMIT) {
         Err(refusal) => Err(refusal),
@@ -150,6 +154,7 @@ pub fn record_files<S: Store, G: Gate, R: Threads + Wait + Sync>(
     ensures recorded { IfOk result (IsRecordedRun how.now.lean) }
     ensures later { NoneFell (S.counts store.old) (S.counts store.new) }
     ensures cause { CauseBy (setting_refusal (first_bad settings.now) (is_clash how.now.lean names.now.log names.now.book)) (S.counts store.old) (S.counts store.new) result }
+    ensures calls { CallsBy (setting_refusal (first_bad settings.now) (is_clash how.now.lean names.now.log names.now.book)) names.now (record_roles has_input) elf_roles S.note (S.noted store.old) (S.noted store.new) result }
 {
     match tested(names, settings, how) {
         Err(refusal) => Err(refusal),
@@ -169,6 +174,7 @@ fn save<S: Store>(store: &mut S, names: &Names, recording: &RunToTell) -> Result
     ensures later { NoneFell (S.counts store.old) (S.counts store.new) }
     ensures few { AtMostSaves (is_lean recording.now) (S.saves store.old) (S.saves store.new) }
     ensures all { OnOk result (S.saves store.new ≡ saves_after (is_lean recording.now) (S.saves store.old)) }
+    ensures calls { SavesTo names.now (saves_of (is_lean recording.now)) S.note (S.noted store.old) (S.noted store.new) result }
 {
     match store.save(names.log, &recording.log) {
         Ok(()) => match &recording.book {
@@ -195,6 +201,7 @@ pub fn keep<S: Store, O: Sink, X: Sink>(
 ) -> u8
     ensures told { Tells names.now (told_of_recording recording.now) result (call S.files S.counts O.written O.faults X.written X.faults store.old out.old err.old store.new out.new err.new) }
     ensures saves { SavesEach (is_lean recording.now) result (S.saves store.old) (S.saves store.new) }
+    ensures calls { SavesTold names.now (saves_of (is_lean recording.now)) result S.note (S.noted store.old) (S.noted store.new) (call S.files S.counts O.written O.faults X.written X.faults store.old out.old err.old store.new out.new err.new) }
     ensures later { NoneFell (S.counts store.old) (S.counts store.new) }
     ensures out_later { O.faults out.old ≤ O.faults out.new }
     ensures err_later { X.faults err.old ≤ X.faults err.new }

@@ -1,10 +1,12 @@
 //! The command `replay`: what the recorded run did in one interval.
 ghost use Rattle.std.specs.Prelude.{◌≡◌, IfOk, ◌≢◌, ◌≤◌, ◌⊎◌, Option, IfErr};
 ghost use Rattle.bn_outside.specs.Counts.{NoneFell, Counts, Rose};
+ghost use Rattle.bugnet.specs.Calls.{elf_roles, LoadsTo};
 ghost use Rattle.bugnet.specs.Commands.{IsReplayOf, IsReplay, IsByLog, replay_of};
 ghost use Rattle.bugnet.specs.Outside.{GivesBy, ResultCause, WithFiles, IsPrinted, Gives, IsOwn, told_of_reading};
 ghost use Rattle.bn_outside.specs.Files.{Files};
 ghost use Rattle.bugnet.specs.Logs.{IsBegun, IsAbsent};
+ghost use Rattle.bugnet.specs.Pairs.{pair_roles};
 ghost use Rattle.bugnet.specs.Run.{printing, Tells};
 ghost use Rattle.bugnet.specs.declared.refusal.Refusal.TheVariants.{OutOfMemory};
 
@@ -34,6 +36,7 @@ fn replay_with<S: Store>(
     ensures asks { S.saves store.new ≡ S.saves store.old }
     ensures later { NoneFell (S.counts store.old) (S.counts store.new) }
     ensures cause { ResultCause (S.counts store.old) (S.counts store.new) result }
+    ensures calls { LoadsTo names.now elf_roles S.note (S.noted store.old) (S.noted store.new) result }
     ensures prints { IfOk result IsPrinted }
 {
     match fetch(alloc, names, store, Role::Elf, ELF_LIMIT) {
@@ -55,6 +58,7 @@ pub fn replay_files<S: Store>(
     ensures asks { S.saves store.new ≡ S.saves store.old }
     ensures later { NoneFell (S.counts store.old) (S.counts store.new) }
     ensures cause { ResultCause (S.counts store.old) (S.counts store.new) result }
+    ensures calls { LoadsTo names.now pair_roles S.note (S.noted store.old) (S.noted store.new) result }
     ensures prints { IfOk result IsPrinted }
 {
     match fetch(alloc, names, store, Role::Log, LOG_LIMIT) {

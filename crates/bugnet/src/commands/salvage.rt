@@ -4,6 +4,7 @@ ghost use Rattle.std.specs.Str.{bytes_eq};
 ghost use Rattle.bn_outside.specs.Counts.{NoneFell};
 ghost use Rattle.bugnet.specs.Answers.{name_refusal};
 ghost use Rattle.bugnet.specs.Asks.{IsRenewed};
+ghost use Rattle.bugnet.specs.Calls.{origin_roles, LoadsTo, CallsBy};
 ghost use Rattle.bugnet.specs.Outside.{Gives, GivesBy, IsOwn, CauseBy, ResultCause, WithFiles};
 ghost use Rattle.bugnet.specs.Renewing.{IsBySalvage, IsByOrigin, IsSalvage};
 
@@ -40,6 +41,7 @@ fn salvage_loaded<S: Store>(alloc: Global, names: &Names, store: &mut S) -> Resu
     ensures asks { S.saves store.new ≡ S.saves store.old }
     ensures later { NoneFell (S.counts store.old) (S.counts store.new) }
     ensures cause { ResultCause (S.counts store.old) (S.counts store.new) result }
+    ensures calls { LoadsTo names.now origin_roles S.note (S.noted store.old) (S.noted store.new) result }
     ensures renews { IfOk result IsRenewed }
 {
     match fetch(alloc, names, store, Role::Origin, LOG_LIMIT) {
@@ -59,6 +61,7 @@ pub fn salvage_files<S: Store>(
     ensures asks { S.saves store.new ≡ S.saves store.old }
     ensures later { NoneFell (S.counts store.old) (S.counts store.new) }
     ensures cause { CauseBy (name_refusal (bytes_eq names.now.origin names.now.log)) (S.counts store.old) (S.counts store.new) result }
+    ensures calls { CallsBy (name_refusal (bytes_eq names.now.origin names.now.log)) names.now origin_roles origin_roles S.note (S.noted store.old) (S.noted store.new) result }
     ensures renews { IfOk result IsRenewed }
 {
     if is_same_name(names) {

@@ -1,7 +1,10 @@
 //! The command `slice`: the backward slice of a row.
 ghost use Rattle.std.specs.Prelude.{◌≡◌, IfOk};
 ghost use Rattle.bn_outside.specs.Counts.{NoneFell};
-ghost use Rattle.bugnet.specs.Outside.{Gives, GivesBy, IsOwn, IsPrinted, ResultCause, WithFiles};
+ghost use Rattle.bugnet.specs.Asks.{IsMade};
+ghost use Rattle.bugnet.specs.Calls.{LoadsTo};
+ghost use Rattle.bugnet.specs.Outside.{Gives, GivesBy, IsOwn, ResultCause, WithFiles};
+ghost use Rattle.bugnet.specs.Pairs.{pair_roles};
 ghost use Rattle.bugnet.specs.Slicing.{slice_with, IsSlice};
 
 use crate::answer::Answer;
@@ -24,7 +27,7 @@ fn slice_of(
 ) -> Result<Answer, Refusal>
     ensures gives { Gives names.now (λ what. what ≡ slice_with names.now hart interval ic reading.now.log reading.now.image) result }
     ensures own { IsOwn result }
-    ensures prints { IfOk result IsPrinted }
+    ensures prints { IfOk result IsMade }
 {
     match slice_text(alloc, &reading.image, &reading.log, hart, interval, ic) {
         Ok(text) => Ok(Answer::Shown(text)),
@@ -49,7 +52,8 @@ pub fn slice_files<S: Store>(
     ensures asks { S.saves store.new ≡ S.saves store.old }
     ensures later { NoneFell (S.counts store.old) (S.counts store.new) }
     ensures cause { ResultCause (S.counts store.old) (S.counts store.new) result }
-    ensures prints { IfOk result IsPrinted }
+    ensures calls { LoadsTo names.now pair_roles S.note (S.noted store.old) (S.noted store.new) result }
+    ensures prints { IfOk result IsMade }
 {
     match load_pair(alloc, names, store) {
         Ok(reading) => slice_of(alloc, names, &reading, hart, interval, ic),

@@ -1,9 +1,12 @@
-use Rattle.std.proofs.Common.{inl}
+use Rattle.std.proofs.Common.{inl, true, arith}
 use Rattle.bugnet.proofs.Causes.{sends-told}
 use Rattle.bugnet.specs.Outside.{saved_new, told_of_new}
 use Rattle.bugnet.proofs.Asks.{unsaved-saves}
 use Rattle.bugnet.proofs.Prints.{appends-nothing}
 use Rattle.bugnet.proofs.Tells.{unsaved-told, stopped-told}
+use Rattle.bugnet.specs.Calls.{saves_of}
+use Rattle.bugnet.specs.Run.{call}
+use Rattle.bugnet.proofs.Calls.{saves-refused, saves-done}
 use Rattle.bugnet.proofs.new_log.keep_new.Goals as goal
 
 pub returns-in-Err-clause-told : goal.returns-in-Err-clause-told
@@ -36,3 +39,16 @@ returns-in-Err-send_check-clause-long g c = (sends-told c.args.names.now c.in-Er
 
 pub returns-in-Err-send_check-clause-write : goal.returns-in-Err-send_check-clause-write
 returns-in-Err-send_check-clause-write g c = λ e. inl ((sends-told c.args.names.now c.in-Err-send_check.refusal c.refuse-in-Err-send_check.result _ _ _ _ _ _ c.in-Err-send_check.ensures.sent.1 c.refuse-in-Err-send_check.ensures.told).write e)
+
+pub returns-in-Err-clause-calls : goal.returns-in-Err-clause-calls
+returns-in-Err-clause-calls g c =
+    saves-refused g.S.Store.note c.args.names.now (saves_of true) c.in-Err.refusal c.refuse.result (g.S.Store.noted c.args.store.now) (g.S.Store.noted c.save_new.new.store) (call (g.S.Store.files) (g.S.Store.counts) (g.O.Sink.written) (g.O.Sink.faults) (g.X.Sink.written) (g.X.Sink.faults) c.args.store.now c.args.out.now c.args.err.now c.save_new.new.store c.args.out.now c.refuse.new.err) c.in-Err.ensures.calls (appends-nothing (g.O.Sink.written c.args.out.now)) c.refuse.ensures.told
+
+pub returns-in-Err-send_check-clause-calls : goal.returns-in-Err-send_check-clause-calls
+returns-in-Err-send_check-clause-calls g c =
+    saves-done g.S.Store.note c.args.names.now (saves_of true) c.refuse-in-Err-send_check.result (g.S.Store.noted c.args.store.now) (g.S.Store.noted c.save_new.new.store) _ c.in-Ok.ensures.calls
+    (sends-told c.args.names.now c.in-Err-send_check.refusal c.refuse-in-Err-send_check.result _ _ _ _ _ _ c.in-Err-send_check.ensures.sent.1 c.refuse-in-Err-send_check.ensures.told).failed
+
+pub returns-in-Ok-send_check-clause-calls : goal.returns-in-Ok-send_check-clause-calls
+returns-in-Ok-send_check-clause-calls g c =
+    saves-done g.S.Store.note c.args.names.now (saves_of true) 0 (g.S.Store.noted c.args.store.now) (g.S.Store.noted c.save_new.new.store) _ c.in-Ok.ensures.calls (λ e. omega (arith, e))

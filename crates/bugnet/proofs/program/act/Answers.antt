@@ -1,8 +1,9 @@
-use Rattle.std.proofs.Common.{Some, refl, inl}
+use Rattle.std.proofs.Common.{Some, refl, inl, []}
 use Rattle.bugnet.proofs.Causes.{sends-end}
 use Rattle.bugnet.proofs.Prints.{appends-nothing}
 use Rattle.bugnet.proofs.Tells.{untouched}
 use Rattle.bugnet.proofs.Races.{halted-told}
+use Rattle.bugnet.proofs.Calls.{saves-done}
 use Rattle.bugnet.proofs.program.act.Goals as goal
 
 pub returns-in-Halted-clause-told : goal.returns-in-Halted-clause-told
@@ -102,3 +103,39 @@ returns-in-Recorded-clause-saves g c = rw c.in-Recorded.is c.keep.ensures.saves
 
 pub returns-in-Recorded-clause-still : goal.returns-in-Recorded-clause-still
 returns-in-Recorded-clause-still g c = λ p. absurd (rw c.in-Recorded.is at p)
+
+pub returns-in-Interval-clause-calls : goal.returns-in-Interval-clause-calls
+returns-in-Interval-clause-calls g c =
+    rw c.in-Interval.is (saves-done g.S.Store.note c.args.names.now [] c.print_interval.result (g.S.Store.noted c.args.store.now) (g.S.Store.noted c.args.store.now) _ refl c.print_interval.ensures.failed)
+
+pub returns-in-Joined-clause-calls : goal.returns-in-Joined-clause-calls
+returns-in-Joined-clause-calls g c =
+    rw c.in-Joined.is (saves-done g.S.Store.note c.args.names.now [] c.print_joint.result (g.S.Store.noted c.args.store.now) (g.S.Store.noted c.args.store.now) _ refl c.print_joint.ensures.failed)
+
+pub returns-in-Listed-clause-calls : goal.returns-in-Listed-clause-calls
+returns-in-Listed-clause-calls g c =
+    rw c.in-Listed.is (saves-done g.S.Store.note c.args.names.now [] c.print_list.result (g.S.Store.noted c.args.store.now) (g.S.Store.noted c.args.store.now) _ refl c.print_list.ensures.failed)
+
+pub returns-in-Checked-clause-calls : goal.returns-in-Checked-clause-calls
+returns-in-Checked-clause-calls g c =
+    rw c.in-Checked.is (saves-done g.S.Store.note c.args.names.now [] c.print_check.result (g.S.Store.noted c.args.store.now) (g.S.Store.noted c.args.store.now) _ refl c.print_check.ensures.failed)
+
+pub returns-in-Agreed-clause-calls : goal.returns-in-Agreed-clause-calls
+returns-in-Agreed-clause-calls g c =
+    rw c.in-Agreed.is (saves-done g.S.Store.note c.args.names.now [] c.print_agreement.result (g.S.Store.noted c.args.store.now) (g.S.Store.noted c.args.store.now) _ refl c.print_agreement.ensures.failed)
+
+pub returns-in-Shown-clause-calls : goal.returns-in-Shown-clause-calls
+returns-in-Shown-clause-calls g c =
+    rw c.in-Shown.is (saves-done g.S.Store.note c.args.names.now [] c.print_text.result (g.S.Store.noted c.args.store.now) (g.S.Store.noted c.args.store.now) _ refl c.print_text.ensures.failed)
+
+pub returns-in-Halted-clause-calls : goal.returns-in-Halted-clause-calls
+returns-in-Halted-clause-calls g c =
+    rw c.in-Halted.is (saves-done g.S.Store.note c.args.names.now [] c.stop.result (g.S.Store.noted c.args.store.now) (g.S.Store.noted c.args.store.now) _ refl (sends-end c.args.names.now (Some c.in-Halted.error) c.stop.result _ _ _ _ (g.O.Sink.faults c.args.out.now) (g.O.Sink.faults c.args.out.now) c.stop.ensures.told).failed)
+
+pub returns-in-Renewed-clause-calls : goal.returns-in-Renewed-clause-calls
+returns-in-Renewed-clause-calls g c =
+    rw c.in-Renewed.is c.keep_new.ensures.calls
+
+pub returns-in-Recorded-clause-calls : goal.returns-in-Recorded-clause-calls
+returns-in-Recorded-clause-calls g c =
+    rw c.in-Recorded.is c.keep.ensures.calls

@@ -1,4 +1,4 @@
-use Rattle.std.proofs.Common.{◌≡◌}
+use Rattle.std.proofs.Common.{◌≡◌, [], refl, sym, ◌∙◌}
 use Rattle.demo_run.specs.Demonstration.{demo_text}
 use Rattle.bugnet.specs.Told.{Told, printed}
 use Rattle.bugnet.specs.Commands.{IsReplay, IsList, IsCheck}
@@ -7,6 +7,8 @@ use Rattle.bugnet.specs.Racing.{IsRaces}
 use Rattle.bugnet.specs.Slicing.{IsSlice}
 use Rattle.bugnet.specs.Renewing.{IsConvert, IsSalvage}
 use Rattle.bugnet.proofs.Loads.{gives-any, by-names, by-origin, ok-any}
+use Rattle.bugnet.proofs.Calls.{origin-calls, own-loads, made-printed, audit-calls, mapped}
+use Rattle.bugnet.specs.declared.answer.Answer.{Answer}
 use Rattle.bugnet.proofs.program.answer_to.Goals as goal
 
 pub returns-in-Demo-clause-told : goal.returns-in-Demo-clause-told
@@ -62,11 +64,11 @@ returns-in-List-clause-cause g c =
 
 pub returns-in-List-clause-records : goal.returns-in-List-clause-records
 returns-in-List-clause-records g c =
-    rw c.in-List.is (ok-any c.list_files.result)
+    rw c.in-List.is c.list_files.ensures.prints
 
 pub returns-in-List-clause-prints : goal.returns-in-List-clause-prints
 returns-in-List-clause-prints g c =
-    λ read. c.list_files.ensures.prints
+    λ read. made-printed c.list_files.result c.list_files.ensures.prints
 
 pub returns-in-Check-clause-told : goal.returns-in-Check-clause-told
 returns-in-Check-clause-told g c =
@@ -79,11 +81,11 @@ returns-in-Check-clause-cause g c =
 
 pub returns-in-Check-clause-records : goal.returns-in-Check-clause-records
 returns-in-Check-clause-records g c =
-    rw c.in-Check.is (ok-any c.check_files.result)
+    rw c.in-Check.is c.check_files.ensures.prints
 
 pub returns-in-Check-clause-prints : goal.returns-in-Check-clause-prints
 returns-in-Check-clause-prints g c =
-    λ read. c.check_files.ensures.prints
+    λ read. made-printed c.check_files.result c.check_files.ensures.prints
 
 pub returns-in-Audit-clause-cause : goal.returns-in-Audit-clause-cause
 returns-in-Audit-clause-cause g c =
@@ -91,11 +93,11 @@ returns-in-Audit-clause-cause g c =
 
 pub returns-in-Audit-clause-records : goal.returns-in-Audit-clause-records
 returns-in-Audit-clause-records g c =
-    rw c.in-Audit.is (ok-any c.audit_files.result)
+    rw c.in-Audit.is c.audit_files.ensures.prints
 
 pub returns-in-Audit-clause-prints : goal.returns-in-Audit-clause-prints
 returns-in-Audit-clause-prints g c =
-    λ read. c.audit_files.ensures.prints
+    λ read. made-printed c.audit_files.result c.audit_files.ensures.prints
 
 pub returns-in-Races-clause-told : goal.returns-in-Races-clause-told
 returns-in-Races-clause-told g c =
@@ -125,11 +127,11 @@ returns-in-Slice-clause-cause g c =
 
 pub returns-in-Slice-clause-records : goal.returns-in-Slice-clause-records
 returns-in-Slice-clause-records g c =
-    rw c.in-Slice.is (ok-any c.slice_files.result)
+    rw c.in-Slice.is c.slice_files.ensures.prints
 
 pub returns-in-Slice-clause-prints : goal.returns-in-Slice-clause-prints
 returns-in-Slice-clause-prints g c =
-    λ read. c.slice_files.ensures.prints
+    λ read. made-printed c.slice_files.result c.slice_files.ensures.prints
 
 pub returns-in-Convert-clause-told : goal.returns-in-Convert-clause-told
 returns-in-Convert-clause-told g c =
@@ -148,3 +150,83 @@ returns-in-Salvage-clause-told g c =
 pub returns-in-Salvage-clause-cause : goal.returns-in-Salvage-clause-cause
 returns-in-Salvage-clause-cause g c =
     rw c.in-Salvage.is (by-origin c.args.names.now _ (g.S.Store.counts c.args.store.now) (g.S.Store.counts c.salvage_files.new.store) c.salvage_files.result (rw c.in-Salvage.is at c.requires.named) c.salvage_files.ensures.cause)
+
+pub returns-in-Replay-clause-calls : goal.returns-in-Replay-clause-calls
+returns-in-Replay-clause-calls g c =
+    rw c.in-Replay.is c.replay_files.ensures.calls
+
+pub returns-in-Joint-clause-calls : goal.returns-in-Joint-clause-calls
+returns-in-Joint-clause-calls g c =
+    rw c.in-Joint.is c.join_files.ensures.calls
+
+pub returns-in-List-clause-calls : goal.returns-in-List-clause-calls
+returns-in-List-clause-calls g c =
+    rw c.in-List.is c.list_files.ensures.calls
+
+pub returns-in-Check-clause-calls : goal.returns-in-Check-clause-calls
+returns-in-Check-clause-calls g c =
+    rw c.in-Check.is c.check_files.ensures.calls
+
+pub returns-in-Races-clause-calls : goal.returns-in-Races-clause-calls
+returns-in-Races-clause-calls g c =
+    rw c.in-Races.is c.race_files.ensures.calls
+
+pub returns-in-Slice-clause-calls : goal.returns-in-Slice-clause-calls
+returns-in-Slice-clause-calls g c =
+    rw c.in-Slice.is c.slice_files.ensures.calls
+
+pub returns-in-Audit-clause-calls : goal.returns-in-Audit-clause-calls
+returns-in-Audit-clause-calls g c =
+    rw c.in-Audit.is
+    (audit-calls Answer g.S.Store.note c.args.names.now c.is_some.result _ (g.S.Store.noted c.args.store.now) (g.S.Store.noted c.audit_files.new.store) c.audit_files.result
+    (c.is_some.ensures ∙ sym (mapped _ _ _ c.in-Audit.input)) c.audit_files.ensures.calls)
+
+pub returns-in-Convert-clause-calls : goal.returns-in-Convert-clause-calls
+returns-in-Convert-clause-calls g c =
+    rw c.in-Convert.is (origin-calls Answer g.S.Store.note c.args.names.now _ (g.S.Store.noted c.args.store.now) (g.S.Store.noted c.convert_files.new.store) c.convert_files.result (rw c.in-Convert.is at c.requires.named) c.convert_files.ensures.calls)
+
+pub returns-in-Salvage-clause-calls : goal.returns-in-Salvage-clause-calls
+returns-in-Salvage-clause-calls g c =
+    rw c.in-Salvage.is (origin-calls Answer g.S.Store.note c.args.names.now _ (g.S.Store.noted c.args.store.now) (g.S.Store.noted c.salvage_files.new.store) c.salvage_files.result (rw c.in-Salvage.is at c.requires.named) c.salvage_files.ensures.calls)
+
+pub returns-in-Demo-clause-calls : goal.returns-in-Demo-clause-calls
+returns-in-Demo-clause-calls g c =
+    rw c.in-Demo.is (own-loads Answer g.S.Store.note c.args.names.now [] (g.S.Store.noted c.args.store.now) (g.S.Store.noted c.args.store.now) c.demonstrate.result refl c.demonstrate.ensures.own)
+
+pub returns-in-Demo-clause-records : goal.returns-in-Demo-clause-records
+returns-in-Demo-clause-records g c =
+    rw c.in-Demo.is c.demonstrate.ensures.prints
+
+pub returns-in-Demo-clause-prints : goal.returns-in-Demo-clause-prints
+returns-in-Demo-clause-prints g c =
+    λ read. made-printed c.demonstrate.result c.demonstrate.ensures.prints
+
+pub returns-in-Replay-clause-demo : goal.returns-in-Replay-clause-demo
+returns-in-Replay-clause-demo g c = rw c.in-Replay.is tt
+
+pub returns-in-Joint-clause-demo : goal.returns-in-Joint-clause-demo
+returns-in-Joint-clause-demo g c = rw c.in-Joint.is tt
+
+pub returns-in-List-clause-demo : goal.returns-in-List-clause-demo
+returns-in-List-clause-demo g c = rw c.in-List.is tt
+
+pub returns-in-Check-clause-demo : goal.returns-in-Check-clause-demo
+returns-in-Check-clause-demo g c = rw c.in-Check.is tt
+
+pub returns-in-Audit-clause-demo : goal.returns-in-Audit-clause-demo
+returns-in-Audit-clause-demo g c = rw c.in-Audit.is tt
+
+pub returns-in-Races-clause-demo : goal.returns-in-Races-clause-demo
+returns-in-Races-clause-demo g c = rw c.in-Races.is tt
+
+pub returns-in-Slice-clause-demo : goal.returns-in-Slice-clause-demo
+returns-in-Slice-clause-demo g c = rw c.in-Slice.is tt
+
+pub returns-in-Convert-clause-demo : goal.returns-in-Convert-clause-demo
+returns-in-Convert-clause-demo g c = rw c.in-Convert.is tt
+
+pub returns-in-Salvage-clause-demo : goal.returns-in-Salvage-clause-demo
+returns-in-Salvage-clause-demo g c = rw c.in-Salvage.is tt
+
+pub returns-in-Demo-clause-demo : goal.returns-in-Demo-clause-demo
+returns-in-Demo-clause-demo g c = rw c.in-Demo.is c.demonstrate.ensures.shows

@@ -11,6 +11,8 @@ use Rattle.bugnet.proofs.Loads.{record-answers, record-cause, record-lean, recor
 use Rattle.bugnet.proofs.Tells.{refusal-answers, answer-answers, tells-from}
 use Rattle.bugnet.proofs.Causes.{refusal-causes, refusal-words, answer-words}
 use Rattle.bugnet.proofs.Leaves.{leaves-none, told-apart, call-leaves}
+use Rattle.bugnet.specs.declared.answer.Answer.{Answer}
+use Rattle.bugnet.proofs.Calls.{record-calls, refusal-calls, answer-calls}
 use Rattle.bugnet.proofs.program.obey.Goals as goal
 
 pub returns-in-Err-clause-told : goal.returns-in-Err-clause-told
@@ -125,3 +127,32 @@ returns-in-Ok-clause-saves g c =
     rw c.in-Record.is
     (line-acts (RecordLine (seen_recording r)) c.in-Ok.answer c.act.result (g.S.Store.saves c.args.store.now) (g.S.Store.saves c.record_files.new.store) (g.S.Store.saves c.act.new.store)
     (record-lean r c.manner_of-how.result c.in-Ok.answer c.manner_of-how.ensures c.in-Ok.ensures.recorded) (λ no. absurd no) c.in-Ok.ensures.asks c.act.ensures.saves)
+
+pub returns-in-Err-clause-calls : goal.returns-in-Err-clause-calls
+returns-in-Err-clause-calls g c =
+    let r = c.in-Record.recording in
+    let names = c.names_of-names.result in
+    let line = RecordLine (seen_recording r) in
+    let own : names ≡ names_in (RecordLine (seen_recording r)) = rw c.in-Record.is at c.names_of-names.ensures in
+    rw c.in-Record.is
+    (refusal-calls Answer g.S.Store.note (RecordLine (seen_recording r)) names c.in-Err.refusal c.refuse.result (g.S.Store.noted c.args.store.now) (g.S.Store.noted c.record_files.new.store) _ _ (call (g.S.Store.files) (g.S.Store.counts) (g.O.Sink.written) (g.O.Sink.faults) (g.X.Sink.written) (g.X.Sink.faults) c.args.store.now c.args.out.now c.args.err.now c.record_files.new.store c.args.out.now c.refuse.new.err) own
+    (record-calls Answer g.S.Store.note names r c.manner_of-how.result c.is_some-has_input.result (g.S.Store.noted c.args.store.now) (g.S.Store.noted c.record_files.new.store) (Err c.in-Err.refusal) own c.manner_of-how.ensures c.is_some-has_input.ensures c.in-Err.ensures.calls)
+    (record-cause names r c.manner_of-how.result _ _ (Err c.in-Err.refusal) own c.manner_of-how.ensures c.in-Err.ensures.cause) (appends-nothing (g.O.Sink.written c.args.out.now)) c.refuse.ensures.told)
+
+pub returns-in-Ok-clause-calls : goal.returns-in-Ok-clause-calls
+returns-in-Ok-clause-calls g c =
+    let r = c.in-Record.recording in
+    let names = c.names_of-names.result in
+    let line = RecordLine (seen_recording r) in
+    let own : names ≡ names_in (RecordLine (seen_recording r)) = rw c.in-Record.is at c.names_of-names.ensures in
+    rw c.in-Record.is
+    (answer-calls g.S.Store.note (RecordLine (seen_recording r)) names c.in-Ok.answer c.act.result (g.S.Store.noted c.args.store.now) (g.S.Store.noted c.record_files.new.store) (g.S.Store.noted c.act.new.store) _ _ (g.S.Store.files c.args.store.now) (g.S.Store.counts c.args.store.now) (call (g.S.Store.files) (g.S.Store.counts) (g.O.Sink.written) (g.O.Sink.faults) (g.X.Sink.written) (g.X.Sink.faults) c.record_files.new.store c.args.out.now c.args.err.now c.act.new.store c.act.new.out c.act.new.err) own
+    (record-calls Answer g.S.Store.note names r c.manner_of-how.result c.is_some-has_input.result (g.S.Store.noted c.args.store.now) (g.S.Store.noted c.record_files.new.store) (Ok c.in-Ok.answer) own c.manner_of-how.ensures c.is_some-has_input.ensures c.in-Ok.ensures.calls)
+    (record-cause names r c.manner_of-how.result _ _ (Ok c.in-Ok.answer) own c.manner_of-how.ensures c.in-Ok.ensures.cause)
+    (record-lean r c.manner_of-how.result c.in-Ok.answer c.manner_of-how.ensures c.in-Ok.ensures.recorded) (λ no. absurd no) c.act.ensures.calls c.act.ensures.told)
+
+pub returns-in-Err-clause-demo : goal.returns-in-Err-clause-demo
+returns-in-Err-clause-demo g c = rw c.in-Record.is tt
+
+pub returns-in-Ok-clause-demo : goal.returns-in-Ok-clause-demo
+returns-in-Ok-clause-demo g c = rw c.in-Record.is tt

@@ -9,6 +9,8 @@ use Rattle.bugnet.proofs.Prints.{appends-nothing}
 use Rattle.bugnet.proofs.Tells.{refusal-answers, answer-answers, tells-from}
 use Rattle.bugnet.proofs.Causes.{refusal-causes, refusal-words, answer-words}
 use Rattle.bugnet.proofs.Leaves.{told-apart}
+use Rattle.bugnet.proofs.Calls.{refusal-calls, answer-calls, demo-refused, demo-answers}
+use Rattle.bugnet.specs.declared.answer.Answer.{Answer}
 use Rattle.bugnet.proofs.program.reply.Goals as goal
 
 pub returns-in-Err-clause-told : goal.returns-in-Err-clause-told
@@ -66,3 +68,23 @@ returns-in-Ok-clause-saves g c =
 pub returns-in-Err-clause-read : goal.returns-in-Err-clause-read
 returns-in-Err-clause-read g c =
     (refusal-causes _ (refusal_in (seen c.args.command.now)) _ _ c.args.names.now c.in-Err.refusal c.refuse.result _ _ _ _ c.in-Err.ensures.cause c.refuse.ensures.told).read
+
+pub returns-in-Err-clause-calls : goal.returns-in-Err-clause-calls
+returns-in-Err-clause-calls g c =
+    refusal-calls Answer g.S.Store.note (seen c.args.command.now) c.args.names.now c.in-Err.refusal c.refuse.result (g.S.Store.noted c.args.store.now) (g.S.Store.noted c.answer_to.new.store) _ _ (call (g.S.Store.files) (g.S.Store.counts) (g.O.Sink.written) (g.O.Sink.faults) (g.X.Sink.written) (g.X.Sink.faults) c.args.store.now c.args.out.now c.args.err.now c.answer_to.new.store c.args.out.now c.refuse.new.err) c.requires.named
+    c.in-Err.ensures.calls c.in-Err.ensures.cause (appends-nothing (g.O.Sink.written c.args.out.now)) c.refuse.ensures.told
+
+pub returns-in-Ok-clause-calls : goal.returns-in-Ok-clause-calls
+returns-in-Ok-clause-calls g c =
+    answer-calls g.S.Store.note (seen c.args.command.now) c.args.names.now c.in-Ok.answer c.act.result (g.S.Store.noted c.args.store.now) (g.S.Store.noted c.answer_to.new.store) (g.S.Store.noted c.act.new.store) _ _ (g.S.Store.files c.args.store.now) (g.S.Store.counts c.args.store.now) (call (g.S.Store.files) (g.S.Store.counts) (g.O.Sink.written) (g.O.Sink.faults) (g.X.Sink.written) (g.X.Sink.faults) c.answer_to.new.store c.args.out.now c.args.err.now c.act.new.store c.act.new.out c.act.new.err) c.requires.named
+    c.in-Ok.ensures.calls c.in-Ok.ensures.cause c.in-Ok.ensures.records c.in-Ok.ensures.prints c.act.ensures.calls c.act.ensures.told
+
+pub returns-in-Err-clause-demo : goal.returns-in-Err-clause-demo
+returns-in-Err-clause-demo g c =
+    demo-refused (seen c.args.command.now) c.args.names.now c.in-Err.refusal c.refuse.result (call (g.S.Store.files) (g.S.Store.counts) (g.O.Sink.written) (g.O.Sink.faults) (g.X.Sink.written) (g.X.Sink.faults) c.args.store.now c.args.out.now c.args.err.now c.answer_to.new.store c.args.out.now c.refuse.new.err) c.requires.named
+    c.in-Err.ensures.demo (appends-nothing (g.O.Sink.written c.args.out.now)) c.in-Err.ensures.same c.refuse.ensures.told
+
+pub returns-in-Ok-clause-demo : goal.returns-in-Ok-clause-demo
+returns-in-Ok-clause-demo g c =
+    demo-answers (seen c.args.command.now) c.args.names.now c.in-Ok.answer c.act.result (call (g.S.Store.files) (g.S.Store.counts) (g.O.Sink.written) (g.O.Sink.faults) (g.X.Sink.written) (g.X.Sink.faults) c.args.store.now c.args.out.now c.args.err.now c.act.new.store c.act.new.out c.act.new.err) c.requires.named c.in-Ok.ensures.demo
+    (tells-from c.args.names.now (told_of c.args.names.now c.in-Ok.answer) c.act.result (g.S.Store.files c.args.store.now) (g.S.Store.counts c.args.store.now) (call (g.S.Store.files) (g.S.Store.counts) (g.O.Sink.written) (g.O.Sink.faults) (g.X.Sink.written) (g.X.Sink.faults) c.answer_to.new.store c.args.out.now c.args.err.now c.act.new.store c.act.new.out c.act.new.err) c.in-Ok.ensures.same c.in-Ok.ensures.later c.act.ensures.told)

@@ -5,11 +5,11 @@ use Rattle.command_words.specs.declared.error.WordsError.{WordsError}
 use Rattle.bugnet.specs.Names.{FileNames}
 use Rattle.bugnet.specs.Answers.{names_by, refusal_by}
 use Rattle.bugnet.specs.Told.{refused}
-use Rattle.bugnet.specs.Outside.{ToldRefusal}
+use Rattle.bugnet.specs.Outside.{ToldRefusal, WithFiles}
 use Rattle.bugnet.specs.Run.{call, TellsAnswer, ByWords}
 use Rattle.bugnet.specs.declared.refusal.Refusal.TheVariants.{WordsRefused, OutOfMemory}
 use Rattle.bugnet.specs.Asks.{LineSaves}
-use Rattle.bugnet.specs.Debugging.{Debugs}
+use Rattle.bugnet.specs.Debugging.{CanBegin, Debugs}
 use Rattle.bugnet.specs.Laws.{IsNoSession}
 use Rattle.bugnet.proofs.Debugs.{debugs-early, not-read}
 use Rattle.bugnet.proofs.Asks.{line-none, memory-saves}
@@ -22,6 +22,8 @@ use Rattle.bugnet.proofs.Agrees.{call-audits}
 use Rattle.bugnet.proofs.Complete.{call-done}
 use Rattle.bugnet.specs.Saves.{LeavesRun}
 use Rattle.bugnet.proofs.Leaves.{leaves-none, told-apart}
+use Rattle.bugnet.specs.Calls.{CallsOnly, TellsDemo}
+use Rattle.bugnet.proofs.Calls.{words-calls, unread-calls, call-shape, demo-unread}
 use Rattle.bugnet.proofs.program.run.Goals as goal
 
 pub returns-in-Err-Refused-clause-told : goal.returns-in-Err-Refused-clause-told
@@ -172,7 +174,7 @@ pub returns-in-Err-Refused-clause-session : goal.returns-in-Err-Refused-clause-s
 returns-in-Err-Refused-clause-session g c =
     let k = call (g.S.Store.files) (g.S.Store.counts) (g.O.Sink.written) (g.O.Sink.faults) (g.X.Sink.written) (g.X.Sink.faults) c.args.store.now c.args.out.now c.args.err.now c.args.store.now c.args.out.now c.refuse.new.err in
     let none : command_in c.args.words.now ≡ None = c.read_words.ensures.refused (c.in-Err-Refused.is ∙ ap (λ (e : WordsError). Err e) c.in-Err-Refused.field-0-is) in
-    subst (λ (l : Option Line). Debugs l c.refuse.result (g.I.Source.left c.args.input.now) (g.I.Source.left c.args.input.now) (g.I.Source.faults c.args.input.now) (g.I.Source.faults c.args.input.now) k) (sym none) tt
+    subst (λ (l : Option Line). Debugs l c.refuse.result (g.I.Source.left c.args.input.now) (g.I.Source.left c.args.input.now) (g.I.Source.faults c.args.input.now) (g.I.Source.faults c.args.input.now) (g.I.Source.reads c.args.input.now) (g.I.Source.reads c.args.input.now) k) (sym none) tt
 
 pub returns-in-Err-Refused-clause-read : goal.returns-in-Err-Refused-clause-read
 returns-in-Err-Refused-clause-read g c = λ e. absurd (not-read c.none.result WordsRefused c.refuse.result _ _ _ _ (λ f. omega (arith, f)) c.refuse.ensures.told e)
@@ -181,7 +183,7 @@ pub returns-in-Err-OutOfMemory-clause-session : goal.returns-in-Err-OutOfMemory-
 returns-in-Err-OutOfMemory-clause-session g c =
     let k = call (g.S.Store.files) (g.S.Store.counts) (g.O.Sink.written) (g.O.Sink.faults) (g.X.Sink.written) (g.X.Sink.faults) c.args.store.now c.args.out.now c.args.err.now c.args.store.now c.args.out.now c.refuse-in-Err-OutOfMemory.new.err in
     let line = command_in c.args.words.now in
-    debugs-early line c.refuse-in-Err-OutOfMemory.result (g.I.Source.left c.args.input.now) (g.I.Source.faults c.args.input.now) k (appends-nothing (g.O.Sink.written c.args.out.now)) refl
+    debugs-early line c.refuse-in-Err-OutOfMemory.result (g.I.Source.left c.args.input.now) (g.I.Source.faults c.args.input.now) (g.I.Source.reads c.args.input.now) k (appends-nothing (g.O.Sink.written c.args.out.now)) refl
     (memory-names c.none-in-Err-OutOfMemory.result (names_by line) c.refuse-in-Err-OutOfMemory.result k.old.err k.new.err k.old.err_faults k.new.err_faults c.refuse-in-Err-OutOfMemory.ensures.told)
 
 pub returns-in-Err-OutOfMemory-clause-read : goal.returns-in-Err-OutOfMemory-clause-read
@@ -190,7 +192,14 @@ returns-in-Err-OutOfMemory-clause-read g c = λ e. absurd (not-read c.none-in-Er
 pub returns-in-Ok-clause-session : goal.returns-in-Ok-clause-session
 returns-in-Ok-clause-session g c =
     let k = call (g.S.Store.files) (g.S.Store.counts) (g.O.Sink.written) (g.O.Sink.faults) (g.X.Sink.written) (g.X.Sink.faults) c.args.store.now c.args.out.now c.args.err.now c.obey.new.store c.obey.new.out c.obey.new.err in
-    subst (λ (l : Option Line). Debugs l c.obey.result (g.I.Source.left c.args.input.now) (g.I.Source.left c.obey.new.input) (g.I.Source.faults c.args.input.now) (g.I.Source.faults c.obey.new.input) k) (sym c.in-Ok.ensures.taken) c.obey.ensures.session
+    subst (λ (l : Option Line). Debugs l c.obey.result (g.I.Source.left c.args.input.now) (g.I.Source.left c.obey.new.input) (g.I.Source.faults c.args.input.now) (g.I.Source.faults c.obey.new.input) (g.I.Source.reads c.args.input.now) (g.I.Source.reads c.obey.new.input) k) (sym c.in-Ok.ensures.taken) c.obey.ensures.session
+
+pub returns-in-Ok-clause-begins : goal.returns-in-Ok-clause-begins
+returns-in-Ok-clause-begins g c =
+    elim c.obey.ensures.begins [
+      | inl same ↦ inl same
+      | inr can ↦ inr (subst (λ (l : Option Line). WithFiles (g.S.Store.files c.args.store.now) (λ files. CanBegin l files)) (sym c.in-Ok.ensures.taken) can)
+    ]
 
 pub returns-in-Ok-clause-unread : goal.returns-in-Ok-clause-unread
 returns-in-Ok-clause-unread g c = λ no. c.obey.ensures.unread (subst (λ (l : Option Line). IsNoSession l) c.in-Ok.ensures.taken no)
@@ -233,3 +242,50 @@ returns-in-Err-Refused-clause-write g c = λ e. absurd ((by-words (g.S.Store.cou
 
 pub returns-in-Err-OutOfMemory-clause-write : goal.returns-in-Err-OutOfMemory-clause-write
 returns-in-Err-OutOfMemory-clause-write g c = λ e. absurd ((caused c.none-in-Err-OutOfMemory.result (g.S.Store.counts c.args.store.now) (g.S.Store.counts c.args.store.now) OutOfMemory c.refuse-in-Err-OutOfMemory.result _ _ _ _ tt c.refuse-in-Err-OutOfMemory.ensures.told).causes.write e)
+
+pub returns-in-Err-Refused-clause-calls : goal.returns-in-Err-Refused-clause-calls
+returns-in-Err-Refused-clause-calls g c =
+    let k = (call (g.S.Store.files) (g.S.Store.counts) (g.O.Sink.written) (g.O.Sink.faults) (g.X.Sink.written) (g.X.Sink.faults) c.args.store.now c.args.out.now c.args.err.now c.args.store.now c.args.out.now c.refuse.new.err) in
+    let none : command_in c.args.words.now ≡ None = c.read_words.ensures.refused (c.in-Err-Refused.is ∙ ap (λ (e : WordsError). Err e) c.in-Err-Refused.field-0-is) in
+    subst (λ (l : Option Line). CallsOnly l c.refuse.result g.S.Store.note (g.S.Store.noted c.args.store.now) (g.S.Store.noted c.args.store.now) k) (sym none)
+    (words-calls g.S.Store.note c.refuse.result (g.S.Store.noted c.args.store.now) k (appends-nothing (g.O.Sink.written c.args.out.now))
+    (subst (λ (n : FileNames). ToldRefusal n WordsRefused c.refuse.result k.old.err k.new.err k.old.err_faults k.new.err_faults) c.none.ensures c.refuse.ensures.told))
+
+pub returns-in-Err-OutOfMemory-clause-calls : goal.returns-in-Err-OutOfMemory-clause-calls
+returns-in-Err-OutOfMemory-clause-calls g c =
+    let k = (call (g.S.Store.files) (g.S.Store.counts) (g.O.Sink.written) (g.O.Sink.faults) (g.X.Sink.written) (g.X.Sink.faults) c.args.store.now c.args.out.now c.args.err.now c.args.store.now c.args.out.now c.refuse-in-Err-OutOfMemory.new.err) in
+    let line = command_in c.args.words.now in
+    unread-calls g.S.Store.note line c.refuse-in-Err-OutOfMemory.result (g.S.Store.noted c.args.store.now) k (appends-nothing (g.O.Sink.written c.args.out.now))
+    (memory-names c.none-in-Err-OutOfMemory.result (names_by line) c.refuse-in-Err-OutOfMemory.result k.old.err k.new.err k.old.err_faults k.new.err_faults c.refuse-in-Err-OutOfMemory.ensures.told)
+
+pub returns-in-Ok-clause-calls : goal.returns-in-Ok-clause-calls
+returns-in-Ok-clause-calls g c =
+    subst (λ (l : Option Line). CallsOnly l c.obey.result g.S.Store.note (g.S.Store.noted c.args.store.now) (g.S.Store.noted c.obey.new.store) (call (g.S.Store.files) (g.S.Store.counts) (g.O.Sink.written) (g.O.Sink.faults) (g.X.Sink.written) (g.X.Sink.faults) c.args.store.now c.args.out.now c.args.err.now c.obey.new.store c.obey.new.out c.obey.new.err)) (sym c.in-Ok.ensures.taken) c.obey.ensures.calls
+
+pub returns-in-Err-Refused-clause-shape : goal.returns-in-Err-Refused-clause-shape
+returns-in-Err-Refused-clause-shape g c =
+    call-shape g.S.Store.note (command_in c.args.words.now) c.refuse.result (g.S.Store.noted c.args.store.now) (g.S.Store.noted c.args.store.now) (call (g.S.Store.files) (g.S.Store.counts) (g.O.Sink.written) (g.O.Sink.faults) (g.X.Sink.written) (g.X.Sink.faults) c.args.store.now c.args.out.now c.args.err.now c.args.store.now c.args.out.now c.refuse.new.err) (returns-in-Err-Refused-clause-calls g c)
+
+pub returns-in-Err-OutOfMemory-clause-shape : goal.returns-in-Err-OutOfMemory-clause-shape
+returns-in-Err-OutOfMemory-clause-shape g c =
+    call-shape g.S.Store.note (command_in c.args.words.now) c.refuse-in-Err-OutOfMemory.result (g.S.Store.noted c.args.store.now) (g.S.Store.noted c.args.store.now) (call (g.S.Store.files) (g.S.Store.counts) (g.O.Sink.written) (g.O.Sink.faults) (g.X.Sink.written) (g.X.Sink.faults) c.args.store.now c.args.out.now c.args.err.now c.args.store.now c.args.out.now c.refuse-in-Err-OutOfMemory.new.err) (returns-in-Err-OutOfMemory-clause-calls g c)
+
+pub returns-in-Ok-clause-shape : goal.returns-in-Ok-clause-shape
+returns-in-Ok-clause-shape g c =
+    call-shape g.S.Store.note (command_in c.args.words.now) c.obey.result (g.S.Store.noted c.args.store.now) (g.S.Store.noted c.obey.new.store) (call (g.S.Store.files) (g.S.Store.counts) (g.O.Sink.written) (g.O.Sink.faults) (g.X.Sink.written) (g.X.Sink.faults) c.args.store.now c.args.out.now c.args.err.now c.obey.new.store c.obey.new.out c.obey.new.err) (returns-in-Ok-clause-calls g c)
+
+pub returns-in-Err-Refused-clause-demo : goal.returns-in-Err-Refused-clause-demo
+returns-in-Err-Refused-clause-demo g c =
+    let none : command_in c.args.words.now ≡ None = c.read_words.ensures.refused (c.in-Err-Refused.is ∙ ap (λ (e : WordsError). Err e) c.in-Err-Refused.field-0-is) in
+    subst (λ (l : Option Line). TellsDemo l c.refuse.result (call (g.S.Store.files) (g.S.Store.counts) (g.O.Sink.written) (g.O.Sink.faults) (g.X.Sink.written) (g.X.Sink.faults) c.args.store.now c.args.out.now c.args.err.now c.args.store.now c.args.out.now c.refuse.new.err)) (sym none) tt
+
+pub returns-in-Err-OutOfMemory-clause-demo : goal.returns-in-Err-OutOfMemory-clause-demo
+returns-in-Err-OutOfMemory-clause-demo g c =
+    let k = (call (g.S.Store.files) (g.S.Store.counts) (g.O.Sink.written) (g.O.Sink.faults) (g.X.Sink.written) (g.X.Sink.faults) c.args.store.now c.args.out.now c.args.err.now c.args.store.now c.args.out.now c.refuse-in-Err-OutOfMemory.new.err) in
+    let line = command_in c.args.words.now in
+    demo-unread line c.refuse-in-Err-OutOfMemory.result k (appends-nothing (g.O.Sink.written c.args.out.now)) refl
+    (memory-names c.none-in-Err-OutOfMemory.result (names_by line) c.refuse-in-Err-OutOfMemory.result k.old.err k.new.err k.old.err_faults k.new.err_faults c.refuse-in-Err-OutOfMemory.ensures.told)
+
+pub returns-in-Ok-clause-demo : goal.returns-in-Ok-clause-demo
+returns-in-Ok-clause-demo g c =
+    subst (λ (l : Option Line). TellsDemo l c.obey.result (call (g.S.Store.files) (g.S.Store.counts) (g.O.Sink.written) (g.O.Sink.faults) (g.X.Sink.written) (g.X.Sink.faults) c.args.store.now c.args.out.now c.args.err.now c.obey.new.store c.obey.new.out c.obey.new.err)) (sym c.in-Ok.ensures.taken) c.obey.ensures.demo

@@ -1,14 +1,15 @@
-use Rattle.std.proofs.Common.{List, subst}
-use Rattle.std.specs.Prelude.{Result, Ok, Err}
-use Rattle.bn_outside.specs.Files.{Files}
+use Rattle.std.proofs.Common.{List, subst, ◌≡◌}
+use Rattle.std.specs.Prelude.{Ok, Err}
 use Rattle.bugnet.specs.Audits.{IsAudit}
 use Rattle.bugnet.specs.Command.Audit.{roles_of, IsAudited, shown, IsAuditCommand}
 use Rattle.bugnet.specs.Inputs.{IsLoaded}
 use Rattle.bugnet.specs.Outside.{WithFiles}
-use Rattle.bugnet.specs.Told.{Told}
 use Rattle.bugnet.specs.declared.names.Role.{Role}
 use Rattle.bugnet.proofs.Commanded.{load-refused, loaded-made, with-also}
 use Rattle.bugnet.proofs.SameAudit.{says-audit}
+use Rattle.bugnet.specs.Calls.{LoadsUpTo, noted_after, loads_of}
+use Rattle.bugnet.proofs.Calls.{own-loads}
+use Rattle.bugnet.specs.declared.answer.Answer.{Answer}
 use Rattle.bugnet.proofs.commands.audit.audit_files.Goals as goal
 
 pub returns-in-Err-clause-told : goal.returns-in-Err-clause-told
@@ -43,3 +44,16 @@ returns-in-Err-clause-cause g c = c.in-Err.ensures.only.cause
 
 pub returns-in-Err-evaluate-clause-cause : goal.returns-in-Err-evaluate-clause-cause
 returns-in-Err-evaluate-clause-cause g c = c.in-Err-evaluate.ensures.own _ _
+
+pub returns-in-Err-clause-calls : goal.returns-in-Err-clause-calls
+returns-in-Err-clause-calls g c =
+    subst (λ (rs : List Role). LoadsUpTo c.args.names.now rs rs g.S.Store.note (g.S.Store.noted c.args.store.now) (g.S.Store.noted c.load_inputs.new.store) c.in-Err.refusal) c.roles_of.ensures c.in-Err.ensures.calls
+
+pub returns-in-Ok-evaluate-clause-calls : goal.returns-in-Ok-evaluate-clause-calls
+returns-in-Ok-evaluate-clause-calls g c =
+    subst (λ (rs : List Role). (g.S.Store.noted c.load_inputs.new.store) ≡ noted_after g.S.Store.note c.args.names.now (g.S.Store.noted c.args.store.now) (loads_of rs)) c.roles_of.ensures c.in-Ok.ensures.calls
+
+pub returns-in-Err-evaluate-clause-calls : goal.returns-in-Err-evaluate-clause-calls
+returns-in-Err-evaluate-clause-calls g c =
+    own-loads Answer g.S.Store.note c.args.names.now (roles_of c.args.has_input) (g.S.Store.noted c.args.store.now) (g.S.Store.noted c.load_inputs.new.store) (Err c.in-Err-evaluate.refusal)
+    (subst (λ (rs : List Role). (g.S.Store.noted c.load_inputs.new.store) ≡ noted_after g.S.Store.note c.args.names.now (g.S.Store.noted c.args.store.now) (loads_of rs)) c.roles_of.ensures c.in-Ok.ensures.calls) c.in-Err-evaluate.ensures.own

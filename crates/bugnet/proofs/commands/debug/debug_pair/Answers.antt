@@ -6,7 +6,7 @@ use Rattle.bugnet.proofs.commands.debug.debug_pair.Goals as goal
 
 pub returns-in-Err-clause-told : goal.returns-in-Err-clause-told
 returns-in-Err-clause-told g c =
-    pair-unbegun c.args.names.now (joined c.args.reading.now.log c.args.reading.now.image) c.refuse.result (g.I.Source.left c.args.input.now) (g.I.Source.faults c.args.input.now) (g.O.Sink.written) (g.O.Sink.faults) (g.X.Sink.written) (g.X.Sink.faults) c.args.out.now c.args.err.now c.refuse.new.err c.refuse.ensures.told
+    pair-unbegun c.args.names.now (joined c.args.reading.now.log c.args.reading.now.image) c.refuse.result (g.I.Source.left c.args.input.now) (g.I.Source.faults c.args.input.now) (g.I.Source.reads c.args.input.now) (g.O.Sink.written) (g.O.Sink.faults) (g.X.Sink.written) (g.X.Sink.faults) c.args.out.now c.args.err.now c.refuse.new.err c.refuse.ensures.told
 
 pub returns-in-Err-clause-begun : goal.returns-in-Err-clause-begun
 returns-in-Err-clause-begun g c = memory-begun c.refuse.result (memory-status c.args.names.now c.refuse.result _ _ _ _ c.refuse.ensures.told)

@@ -1,6 +1,9 @@
 use Rattle.bugnet.specs.Commands.{IsByLog, list_of}
 use Rattle.bugnet.specs.declared.names.Role.TheVariants.{Log}
 use Rattle.bugnet.proofs.Loads.{gives-stopped, gives-loaded, gives-any}
+use Rattle.bugnet.specs.Calls.{log_roles}
+use Rattle.bugnet.proofs.Calls.{load-stops, own-loads}
+use Rattle.std.proofs.Common.{[]}
 use Rattle.bugnet.proofs.commands.list.list_files.Goals as goal
 
 pub returns-in-Ok-clause-told : goal.returns-in-Ok-clause-told
@@ -16,3 +19,11 @@ returns-in-Ok-clause-cause g c = c.list_of.ensures.own _ _
 pub returns-in-Err-clause-told : goal.returns-in-Err-clause-told
 returns-in-Err-clause-told g c =
     gives-stopped (g.S.Store.files c.args.store.now) c.args.names.now Log 272629760 c.in-Err.refusal (λ files log what. IsByLog c.args.names.now log list_of what) c.in-Err.ensures.told
+
+pub returns-in-Ok-clause-calls : goal.returns-in-Ok-clause-calls
+returns-in-Ok-clause-calls g c =
+    own-loads _ g.S.Store.note c.args.names.now log_roles (g.S.Store.noted c.args.store.now) (g.S.Store.noted c.fetch.new.store) c.list_of.result c.in-Ok.ensures.called c.list_of.ensures.own
+
+pub returns-in-Err-clause-calls : goal.returns-in-Err-clause-calls
+returns-in-Err-clause-calls g c =
+    load-stops g.S.Store.note c.args.names.now Log [] log_roles (g.S.Store.noted c.args.store.now) (g.S.Store.noted c.fetch.new.store) c.in-Err.refusal c.in-Err.ensures.called c.in-Err.ensures.stops

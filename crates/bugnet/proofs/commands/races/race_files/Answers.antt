@@ -1,5 +1,7 @@
 use Rattle.bugnet.specs.Racing.{races_with}
 use Rattle.bugnet.proofs.Races.{pair-gives}
+use Rattle.bugnet.specs.Pairs.{pair_roles}
+use Rattle.bugnet.proofs.Calls.{own-loads}
 use Rattle.bugnet.proofs.commands.races.race_files.Goals as goal
 
 pub returns-in-Ok-clause-told : goal.returns-in-Ok-clause-told
@@ -12,3 +14,7 @@ returns-in-Ok-clause-cause g c = c.races_of.ensures.own _ _
 
 pub returns-in-Err-clause-told : goal.returns-in-Err-clause-told
 returns-in-Err-clause-told g c = c.in-Err.ensures.told (races_with c.args.names.now c.args.most)
+
+pub returns-in-Ok-clause-calls : goal.returns-in-Ok-clause-calls
+returns-in-Ok-clause-calls g c =
+    own-loads _ g.S.Store.note c.args.names.now pair_roles (g.S.Store.noted c.args.store.now) (g.S.Store.noted c.load_pair.new.store) c.races_of.result c.in-Ok.ensures.calls c.races_of.ensures.own

@@ -1,9 +1,13 @@
-use Rattle.std.proofs.Common.{inl}
+use Rattle.std.proofs.Common.{inl, sym, ◌∙◌}
 use Rattle.bugnet.proofs.Causes.{sends-told}
 use Rattle.bugnet.specs.Outside.{told_of_recording, saved_of}
 use Rattle.bugnet.proofs.Asks.{unsaved-saves}
 use Rattle.bugnet.proofs.Prints.{appends-nothing}
 use Rattle.bugnet.proofs.Tells.{unsaved-told, stopped-told, half-told}
+use Rattle.bugnet.specs.Asks.{is_lean}
+use Rattle.bugnet.specs.Calls.{saves_of}
+use Rattle.bugnet.specs.Run.{call}
+use Rattle.bugnet.proofs.Calls.{saves-refused, saves-done, end-other}
 use Rattle.bugnet.proofs.commands.record.keep.Goals as goal
 
 pub returns-in-Err-clause-told : goal.returns-in-Err-clause-told
@@ -57,3 +61,21 @@ returns-in-Err-send_bytes-2-clause-missing g c = (sends-told c.args.names.now c.
 
 pub returns-in-Err-send_bytes-2-clause-long : goal.returns-in-Err-send_bytes-2-clause-long
 returns-in-Err-send_bytes-2-clause-long g c = (sends-told c.args.names.now c.in-Err-send_bytes-2.refusal c.refuse-in-Err-send_bytes-2.result _ _ _ _ _ _ c.in-Err-send_bytes-2.ensures.sent.1 c.refuse-in-Err-send_bytes-2.ensures.told).long
+
+pub returns-in-Err-clause-calls : goal.returns-in-Err-clause-calls
+returns-in-Err-clause-calls g c =
+    saves-refused g.S.Store.note c.args.names.now (saves_of (is_lean c.args.recording.now)) c.in-Err.refusal c.refuse.result (g.S.Store.noted c.args.store.now) (g.S.Store.noted c.save.new.store) (call (g.S.Store.files) (g.S.Store.counts) (g.O.Sink.written) (g.O.Sink.faults) (g.X.Sink.written) (g.X.Sink.faults) c.args.store.now c.args.out.now c.args.err.now c.save.new.store c.args.out.now c.refuse.new.err) c.in-Err.ensures.calls (appends-nothing (g.O.Sink.written c.args.out.now)) c.refuse.ensures.told
+
+pub returns-in-Err-send_bytes-clause-calls : goal.returns-in-Err-send_bytes-clause-calls
+returns-in-Err-send_bytes-clause-calls g c =
+    saves-done g.S.Store.note c.args.names.now (saves_of (is_lean c.args.recording.now)) c.refuse-in-Err-send_bytes.result (g.S.Store.noted c.args.store.now) (g.S.Store.noted c.save.new.store) _ c.in-Ok.ensures.calls
+    (sends-told c.args.names.now c.in-Err-send_bytes.refusal c.refuse-in-Err-send_bytes.result _ _ _ _ _ _ c.in-Err-send_bytes.ensures.sent.1 c.refuse-in-Err-send_bytes.ensures.told).failed
+
+pub returns-in-Err-send_bytes-2-clause-calls : goal.returns-in-Err-send_bytes-2-clause-calls
+returns-in-Err-send_bytes-2-clause-calls g c =
+    saves-done g.S.Store.note c.args.names.now (saves_of (is_lean c.args.recording.now)) c.refuse-in-Err-send_bytes-2.result (g.S.Store.noted c.args.store.now) (g.S.Store.noted c.save.new.store) _ c.in-Ok.ensures.calls
+    (sends-told c.args.names.now c.in-Err-send_bytes-2.refusal c.refuse-in-Err-send_bytes-2.result _ _ _ _ _ _ c.in-Err-send_bytes-2.ensures.sent.1 c.refuse-in-Err-send_bytes-2.ensures.told).failed
+
+pub returns-in-Ok-send_bytes-2-clause-calls : goal.returns-in-Ok-send_bytes-2-clause-calls
+returns-in-Ok-send_bytes-2-clause-calls g c =
+    saves-done g.S.Store.note c.args.names.now (saves_of (is_lean c.args.recording.now)) c.status.result (g.S.Store.noted c.args.store.now) (g.S.Store.noted c.save.new.store) _ c.in-Ok.ensures.calls (λ e. end-other c.args.recording.now.end (sym c.status.ensures ∙ e))

@@ -1,6 +1,13 @@
 use Rattle.bugnet.specs.Commands.{is_clash}
 use Rattle.bugnet.proofs.Begins.{words-refused, words-cause, own-cause, start-refused, run-recorded}
 use Rattle.bn_base.specs.Ranges.{first_bad}
+use Rattle.std.specs.Prelude.{Ok, Err}
+use Rattle.bugnet.specs.Answers.{setting_refusal}
+use Rattle.bugnet.specs.Calls.{record_roles, elf_roles}
+use Rattle.bugnet.specs.declared.answer.Answer.{Answer}
+use Rattle.bugnet.specs.declared.answer.Answer.TheVariants.{Recorded}
+use Rattle.bugnet.specs.declared.refusal.Refusal.TheVariants.{OutOfMemory}
+use Rattle.bugnet.proofs.Calls.{words-first, words-pass, memory-loads}
 use Rattle.bugnet.proofs.commands.record.record_files.Goals as goal
 
 pub returns-in-Err-clause-told : goal.returns-in-Err-clause-told
@@ -26,3 +33,19 @@ returns-in-Ok-record_run-clause-told g c =
 
 pub returns-in-Ok-record_run-clause-cause : goal.returns-in-Ok-record_run-clause-cause
 returns-in-Ok-record_run-clause-cause g c = own-cause _ _ _ _ c.in-Ok.ensures.ok.1 tt
+
+pub returns-in-Err-clause-calls : goal.returns-in-Err-clause-calls
+returns-in-Err-clause-calls g c =
+    words-first Answer g.S.Store.note c.args.names.now (setting_refusal (first_bad c.args.settings.now) (is_clash c.args.how.now.lean c.args.names.now.log c.args.names.now.book)) c.in-Err.refusal (record_roles c.args.has_input) elf_roles (g.S.Store.noted c.args.store.now) (Err c.in-Err.refusal) c.in-Err.ensures.refused
+
+pub returns-in-Err-load_files-clause-calls : goal.returns-in-Err-load_files-clause-calls
+returns-in-Err-load_files-clause-calls g c =
+    words-pass Answer g.S.Store.note c.args.names.now (setting_refusal (first_bad c.args.settings.now) (is_clash c.args.how.now.lean c.args.names.now.log c.args.names.now.book)) (record_roles c.args.has_input) elf_roles (g.S.Store.noted c.args.store.now) (g.S.Store.noted c.load_files.new.store) (Err c.in-Err-load_files.refusal) c.in-Ok.ensures.ok.1 c.in-Err-load_files.ensures.calls
+
+pub returns-in-Ok-record_run-clause-calls : goal.returns-in-Ok-record_run-clause-calls
+returns-in-Ok-record_run-clause-calls g c =
+    words-pass Answer g.S.Store.note c.args.names.now (setting_refusal (first_bad c.args.settings.now) (is_clash c.args.how.now.lean c.args.names.now.log c.args.names.now.book)) (record_roles c.args.has_input) elf_roles (g.S.Store.noted c.args.store.now) (g.S.Store.noted c.load_files.new.store) (Ok (Recorded c.in-Ok-record_run.recording)) c.in-Ok.ensures.ok.1 c.in-Ok-load_files.ensures.calls
+
+pub returns-clause-calls : goal.returns-clause-calls
+returns-clause-calls g c =
+    words-pass Answer g.S.Store.note c.args.names.now (setting_refusal (first_bad c.args.settings.now) (is_clash c.args.how.now.lean c.args.names.now.log c.args.names.now.book)) (record_roles c.args.has_input) elf_roles (g.S.Store.noted c.args.store.now) (g.S.Store.noted c.load_files.new.store) (Err OutOfMemory) c.in-Ok.ensures.ok.1 (memory-loads g.S.Store.note c.args.names.now (record_roles c.args.has_input) elf_roles (g.S.Store.noted c.args.store.now) (g.S.Store.noted c.load_files.new.store) c.in-Ok-load_files.ensures.calls)

@@ -4,6 +4,9 @@ use Rattle.bugnet.specs.Commands.{IsReplayOf}
 use Rattle.bugnet.specs.Outside.{WithFiles, GivesBy}
 use Rattle.bugnet.specs.declared.names.Role.TheVariants.{Log}
 use Rattle.bugnet.proofs.Loads.{gives-stopped, gives-loaded}
+use Rattle.bugnet.specs.Calls.{elf_roles}
+use Rattle.bugnet.specs.Pairs.{pair_roles}
+use Rattle.bugnet.proofs.Calls.{load-stops, then-loads}
 use Rattle.bugnet.proofs.commands.replay.replay_files.Goals as goal
 
 pub returns-in-Ok-clause-told : goal.returns-in-Ok-clause-told
@@ -17,3 +20,11 @@ returns-in-Ok-clause-told g c =
 pub returns-in-Err-clause-told : goal.returns-in-Err-clause-told
 returns-in-Err-clause-told g c =
     gives-stopped (g.S.Store.files c.args.store.now) c.args.names.now Log 272629760 c.in-Err.refusal (λ files log what. IsReplayOf files c.args.names.now c.args.hart c.args.interval log what) c.in-Err.ensures.told
+
+pub returns-in-Ok-clause-calls : goal.returns-in-Ok-clause-calls
+returns-in-Ok-clause-calls g c =
+    then-loads _ g.S.Store.note c.args.names.now Log elf_roles elf_roles (g.S.Store.noted c.args.store.now) (g.S.Store.noted c.fetch.new.store) (g.S.Store.noted c.replay_with.new.store) c.replay_with.result c.in-Ok.ensures.called c.replay_with.ensures.calls
+
+pub returns-in-Err-clause-calls : goal.returns-in-Err-clause-calls
+returns-in-Err-clause-calls g c =
+    load-stops g.S.Store.note c.args.names.now Log elf_roles pair_roles (g.S.Store.noted c.args.store.now) (g.S.Store.noted c.fetch.new.store) c.in-Err.refusal c.in-Err.ensures.called c.in-Err.ensures.stops

@@ -1,6 +1,9 @@
 use Rattle.bugnet.specs.Renewing.{IsBySalvage}
 use Rattle.bugnet.specs.declared.names.Role.TheVariants.{Origin}
 use Rattle.bugnet.proofs.Loads.{gives-stopped, gives-loaded, gives-any}
+use Rattle.bugnet.specs.Calls.{origin_roles}
+use Rattle.bugnet.proofs.Calls.{load-stops, own-loads}
+use Rattle.std.proofs.Common.{[]}
 use Rattle.bugnet.proofs.commands.salvage.salvage_loaded.Goals as goal
 
 pub returns-in-Ok-clause-told : goal.returns-in-Ok-clause-told
@@ -16,3 +19,11 @@ returns-in-Ok-clause-cause g c = c.salvage_of.ensures.own _ _
 pub returns-in-Err-clause-told : goal.returns-in-Err-clause-told
 returns-in-Err-clause-told g c =
     gives-stopped (g.S.Store.files c.args.store.now) c.args.names.now Origin 272629760 c.in-Err.refusal (λ files log what. IsBySalvage c.args.names.now log what) c.in-Err.ensures.told
+
+pub returns-in-Ok-clause-calls : goal.returns-in-Ok-clause-calls
+returns-in-Ok-clause-calls g c =
+    own-loads _ g.S.Store.note c.args.names.now origin_roles (g.S.Store.noted c.args.store.now) (g.S.Store.noted c.fetch.new.store) c.salvage_of.result c.in-Ok.ensures.called c.salvage_of.ensures.own
+
+pub returns-in-Err-clause-calls : goal.returns-in-Err-clause-calls
+returns-in-Err-clause-calls g c =
+    load-stops g.S.Store.note c.args.names.now Origin [] origin_roles (g.S.Store.noted c.args.store.now) (g.S.Store.noted c.fetch.new.store) c.in-Err.refusal c.in-Err.ensures.called c.in-Err.ensures.stops

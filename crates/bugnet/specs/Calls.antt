@@ -1,0 +1,330 @@
+-- Which calls a command makes of its store, in which order, and what it tells if one of them or what it loaded ends it.
+use Rattle.std.specs.Prelude.{◌≡◌, ◌≢◌, ◌⊎◌, ℕ, ◌==◌, ◌||◌, Bool, true, false, List, [], ◌∷◌, ◌++◌, Option, Some, None, Result, Ok, Err, is_some}
+use Rattle.std.specs.Io.KnownBytes.{Appends}
+use Rattle.bn_outside.specs.Counts.{Counts}
+use Rattle.bn_outside.specs.StoreCalls.{StoreCall, LoadCall, SaveCall}
+use Rattle.demo_run.specs.Demonstration.{demo_text}
+use Rattle.command_words.specs.Words.{Line, RecordLine, ReplayLine, JointLine, DebugLine, ListLine, CheckLine, AuditLine, RacesLine, SliceLine, ConvertLine, SalvageLine, DemoLine}
+use Rattle.bugnet.specs.Names.{FileNames, name_of, no_names}
+use Rattle.bugnet.specs.Answers.{names_by, refusal_by}
+use Rattle.bugnet.specs.Asks.{is_lean}
+use Rattle.bugnet.specs.Command.Audit.{roles_of}
+use Rattle.bugnet.specs.Inputs.{limit_of}
+use Rattle.bugnet.specs.Outside.{RefusalCause, Wrote, ToldRefusal, told_of}
+use Rattle.bugnet.specs.Pairs.{pair_roles}
+use Rattle.bugnet.specs.Refusals.{status_of, line_of}
+use Rattle.bugnet.specs.Run.{Call, Tells}
+use Rattle.bugnet.specs.Sessions.{is_begun}
+use Rattle.bugnet.specs.Told.{printed}
+use Rattle.bugnet.specs.declared.answer.Answer.{Answer}
+use Rattle.bugnet.specs.declared.answer.Answer.TheVariants.{Recorded, Renewed}
+use Rattle.bugnet.specs.declared.names.Role.{Role}
+use Rattle.bugnet.specs.declared.names.Role.TheVariants as role
+use Rattle.bugnet.specs.declared.refusal.Refusal.{Refusal}
+use Rattle.bugnet.specs.declared.refusal.Refusal.TheVariants as why
+
+-- ---- the calls
+
+-- a load or a save of the file in a role
+pub data FileCall : Type 0 where
+  Loads : Role → FileCall
+  Saves : Role → FileCall
+
+-- the call that the store gets: by the file's name, and a load with the most bytes that the file may have
+abbrev pub store_call : FileNames → FileCall → StoreCall
+store_call names (Loads r) = LoadCall (name_of names r) (limit_of r)
+store_call names (Saves r) = SaveCall (name_of names r)
+
+-- how a store notes a call: the number that it had noted, the call, and the number after it
+abbrev pub Note : Type 0
+Note = ℕ → StoreCall → ℕ
+
+-- what a store that notes each call by `note` has noted after these, the first of them first
+abbrev pub noted_after : (note : Note) → FileNames → ℕ → List FileCall → ℕ
+noted_after note names noted [] = noted
+noted_after note names noted (made ∷ calls) = noted_after note names (note noted (store_call names made)) calls
+
+abbrev pub loads_of : List Role → List FileCall
+loads_of [] = []
+loads_of (r ∷ roles) = Loads r ∷ loads_of roles
+
+-- the log of a recording, and then the list of its turns, unless it is lean; a log made of another is saved alone
+abbrev pub saves_of : (lean : Bool) → List FileCall
+saves_of true = Saves role.Log ∷ []
+saves_of false = Saves role.Log ∷ Saves role.Book ∷ []
+
+-- ---- the calls of a line
+
+abbrev pub log_roles : List Role
+log_roles = role.Log ∷ []
+
+abbrev pub elf_roles : List Role
+elf_roles = role.Elf ∷ []
+
+abbrev pub origin_roles : List Role
+origin_roles = role.Origin ∷ []
+
+abbrev pub input_roles : (has_input : Bool) → List Role
+input_roles true = role.Input ∷ []
+input_roles false = []
+
+abbrev pub record_roles : (has_input : Bool) → List Role
+record_roles has_input = role.Elf ∷ input_roles has_input
+
+-- what a line loads, in this order
+abbrev pub line_roles : Line → List Role
+line_roles (RecordLine r) = record_roles (is_some r.input)
+line_roles (ReplayLine log elf hart interval) = pair_roles
+line_roles (JointLine log elf) = pair_roles
+line_roles (DebugLine log elf) = pair_roles
+line_roles (ListLine log) = log_roles
+line_roles (CheckLine log) = log_roles
+line_roles (AuditLine log elf book input) = roles_of (is_some input)
+line_roles (RacesLine log elf most) = pair_roles
+line_roles (SliceLine log elf hart interval ic) = pair_roles
+line_roles (ConvertLine log copy) = origin_roles
+line_roles (SalvageLine log copy) = origin_roles
+line_roles (DemoLine seed) = []
+
+-- what it loads before it reads what it loaded: all, but a recording reads its program before it loads the input
+abbrev pub needed_roles : Line → List Role
+needed_roles (RecordLine r) = elf_roles
+needed_roles (ReplayLine log elf hart interval) = pair_roles
+needed_roles (JointLine log elf) = pair_roles
+needed_roles (DebugLine log elf) = pair_roles
+needed_roles (ListLine log) = log_roles
+needed_roles (CheckLine log) = log_roles
+needed_roles (AuditLine log elf book input) = roles_of (is_some input)
+needed_roles (RacesLine log elf most) = pair_roles
+needed_roles (SliceLine log elf hart interval ic) = pair_roles
+needed_roles (ConvertLine log copy) = origin_roles
+needed_roles (SalvageLine log copy) = origin_roles
+needed_roles (DemoLine seed) = []
+
+-- what it saves after that
+abbrev pub line_saves : Line → List FileCall
+line_saves (RecordLine r) = saves_of r.lean
+line_saves (ReplayLine log elf hart interval) = []
+line_saves (JointLine log elf) = []
+line_saves (DebugLine log elf) = []
+line_saves (ListLine log) = []
+line_saves (CheckLine log) = []
+line_saves (AuditLine log elf book input) = []
+line_saves (RacesLine log elf most) = []
+line_saves (SliceLine log elf hart interval ic) = []
+line_saves (ConvertLine log copy) = saves_of true
+line_saves (SalvageLine log copy) = saves_of true
+line_saves (DemoLine seed) = []
+
+-- all its calls, in their order; words that say no line have none
+abbrev pub calls_of : Option Line → List FileCall
+calls_of None = []
+calls_of (Some line) = loads_of (line_roles line) ++ line_saves line
+
+abbrev pub needed_of : Option Line → List FileCall
+needed_of None = []
+needed_of (Some line) = loads_of (needed_roles line)
+
+-- what an answer saves
+abbrev pub saves_in : Answer → List FileCall
+saves_in (Recorded r) = saves_of (is_lean r)
+saves_in (Renewed n) = saves_of true
+saves_in answer = []
+
+-- ---- where it stops
+
+-- the last of the calls that were made
+abbrev pub EndsWith : (made : List FileCall) → FileCall → Type 0
+EndsWith made last = (earlier : List FileCall) × (made ≡ earlier ++ last ∷ [])
+
+-- the store refused the last call, a load, and the refusal names its file
+abbrev pub StopsLoad : Refusal → (made : List FileCall) → Type 0
+StopsLoad refusal made =
+    (r : Role) × EndsWith made (Loads r)
+    × ((refusal ≡ why.StoreFailed r) ⊎ ((refusal ≡ why.Missing r) ⊎ (refusal ≡ why.TooLong r)))
+
+-- the same of a save
+abbrev pub StopsSave : Refusal → (made : List FileCall) → Type 0
+StopsSave refusal made = (r : Role) × EndsWith made (Saves r) × (refusal ≡ why.StoreFailed r)
+
+-- no refusal by a store, of words, of a write, or of the commands of a session
+abbrev pub IsOfContent : Refusal → Type 0
+IsOfContent refusal = (before now : Counts) → RefusalCause before now refusal
+
+-- why a command stopped, and after which calls: out of memory; by the store, at the last of them; or by what the files
+-- hold, and then all that is needed is loaded
+abbrev pub StopsAt : (needed : List FileCall) → Refusal → (made : List FileCall) → Type 0
+StopsAt needed refusal made =
+    (refusal ≡ why.OutOfMemory)
+    ⊎ (StopsLoad refusal made ⊎ (StopsSave refusal made ⊎ (IsOfContent refusal × (made ≡ needed))))
+
+-- ---- a part of a command
+
+-- its calls were made up to where it stopped
+pub record LoadsUpTo (names : FileNames) (roles needed : List Role) (note : Note) (before after : ℕ) (refusal : Refusal)
+    : Type 0 where
+  pub made : List FileCall
+  pub left : List FileCall
+  pub parts : loads_of roles ≡ made ++ left
+  pub noted : after ≡ noted_after note names before made
+  pub at : StopsAt (loads_of needed) refusal made
+
+-- all files in these roles were loaded, or it stopped
+abbrev pub CallsTo : {A : Type 0} → FileNames → (roles needed : List Role) → (note : Note) → (before after : ℕ)
+    → Result A Refusal → Type 0
+CallsTo names roles needed note before after (Ok made) = after ≡ noted_after note names before (loads_of roles)
+CallsTo names roles needed note before after (Err refusal) = LoadsUpTo names roles needed note before after refusal
+
+-- the same, if what they hold is read after all loads
+abbrev pub LoadsTo : {A : Type 0} → FileNames → (roles : List Role) → (note : Note) → (before after : ℕ)
+    → Result A Refusal → Type 0
+LoadsTo names roles note before after result = CallsTo names roles roles note before after result
+
+-- the same of a command that tests its words first
+abbrev pub CallsBy : {A : Type 0} → Option Refusal → FileNames → (roles needed : List Role) → (note : Note)
+    → (before after : ℕ) → Result A Refusal → Type 0
+CallsBy (Some refusal) names roles needed note before after result = after ≡ before
+CallsBy None names roles needed note before after result = CallsTo names roles needed note before after result
+
+-- why a load gave nothing
+abbrev pub IsOfLoad : Role → Refusal → Type 0
+IsOfLoad r refusal =
+    (refusal ≡ why.OutOfMemory)
+    ⊎ ((refusal ≡ why.StoreFailed r) ⊎ ((refusal ≡ why.Missing r) ⊎ (refusal ≡ why.TooLong r)))
+
+-- why a save was refused: out of memory, or by the store, at the last of the calls
+abbrev pub IsOfSave : Refusal → (made : List FileCall) → Type 0
+IsOfSave refusal made = (refusal ≡ why.OutOfMemory) ⊎ StopsSave refusal made
+
+-- saves were made up to where it stopped
+pub record SavesUpTo (names : FileNames) (saves : List FileCall) (note : Note) (before after : ℕ) (refusal : Refusal)
+    : Type 0 where
+  pub made : List FileCall
+  pub left : List FileCall
+  pub parts : saves ≡ made ++ left
+  pub noted : after ≡ noted_after note names before made
+  pub at : IsOfSave refusal made
+
+-- all saves were made, or it stopped
+abbrev pub SavesTo : {A : Type 0} → FileNames → (saves : List FileCall) → (note : Note) → (before after : ℕ)
+    → Result A Refusal → Type 0
+SavesTo names saves note before after (Ok made) = after ≡ noted_after note names before saves
+SavesTo names saves note before after (Err refusal) = SavesUpTo names saves note before after refusal
+
+-- a refused save is told, and nothing is printed
+pub record SaveRefused (names : FileNames) (made : List FileCall) (status : ℕ) (k : Call) : Type 0 where
+  pub refusal : Refusal
+  pub at : IsOfSave refusal made
+  pub out : Appends k.old.out k.new.out []
+  pub told : ToldRefusal names refusal status k.old.err k.new.err k.old.err_faults k.new.err_faults
+
+-- the saves of an answer: all of them, or up to one that was refused
+pub record SavesTold (names : FileNames) (saves : List FileCall) (status : ℕ) (note : Note) (before after : ℕ)
+    (k : Call) : Type 0 where
+  pub made : List FileCall
+  pub left : List FileCall
+  pub parts : saves ≡ made ++ left
+  pub noted : after ≡ noted_after note names before made
+  pub ends : ((left ≡ []) × (status ≢ 3)) ⊎ SaveRefused names made status k
+
+-- ---- a command
+
+-- a command that prints a replay as it comes, reads commands, or tells where a joint replay stopped
+abbrev pub line_replays : Line → Bool
+line_replays (RecordLine r) = false
+line_replays (ReplayLine log elf hart interval) = true
+line_replays (JointLine log elf) = true
+line_replays (DebugLine log elf) = true
+line_replays (ListLine log) = false
+line_replays (CheckLine log) = false
+line_replays (AuditLine log elf book input) = false
+line_replays (RacesLine log elf most) = true
+line_replays (SliceLine log elf hart interval ic) = false
+line_replays (ConvertLine log copy) = false
+line_replays (SalvageLine log copy) = false
+line_replays (DemoLine seed) = false
+
+abbrev pub replays_of : Option Line → Bool
+replays_of None = false
+replays_of (Some line) = line_replays line
+
+-- it is done, or memory ran out or a write failed
+abbrev pub is_ended : ℕ → Bool
+is_ended status = (status == 0) || (status == 9) || (status == 10) || (status == 11) || (status == 13)
+
+-- what a command may end with once all its calls are made: this, or that a replay or the reading of commands stopped
+abbrev pub is_past : (replays : Bool) → ℕ → Bool
+is_past true status = is_begun status || is_ended status
+is_past false status = is_ended status
+
+-- it is refused: by its words, and then it makes no call, or after these. Nothing is printed, and err has the line
+pub record RefusedAfter (names : FileNames) (needed : List FileCall) (words : Option Refusal) (made : List FileCall)
+    (status : ℕ) (k : Call) : Type 0 where
+  pub refusal : Refusal
+  pub at : ((words ≡ Some refusal) × (made ≡ [])) ⊎ StopsAt needed refusal made
+  pub out : Appends k.old.out k.new.out []
+  pub told : ToldRefusal names refusal status k.old.err k.new.err k.old.err_faults k.new.err_faults
+
+-- of these calls the first ones are made, in this order, and no other: all of them, unless it is refused
+pub record CallsSo (names : FileNames) (calls needed : List FileCall) (words : Option Refusal) (replays : Bool)
+    (status : ℕ) (note : Note) (before after : ℕ) (k : Call) : Type 0 where
+  pub made : List FileCall
+  pub left : List FileCall
+  pub parts : calls ≡ made ++ left
+  pub noted : after ≡ noted_after note names before made
+  pub ends : ((left ≡ []) × (is_past replays status ≡ true)) ⊎ RefusedAfter names needed words made status k
+
+-- so it is with the calls of a line
+abbrev pub CallsOnly : Option Line → (status : ℕ) → (note : Note) → (before after : ℕ) → Call → Type 0
+CallsOnly line status note before after k =
+    CallsSo (names_by line) (calls_of line) (needed_of line) (refusal_by line) (replays_of line)
+    status note before after k
+
+-- ---- what it tells, whatever the store tells
+
+-- a refusal with this status is told, and nothing is printed
+pub record TellsRefusal (names : FileNames) (status : ℕ) (k : Call) : Type 0 where
+  pub refusal : Refusal
+  pub status_is : status ≡ status_of refusal
+  pub out : Appends k.old.out k.new.out []
+  pub err : Wrote k.old.err k.new.err k.old.err_faults k.new.err_faults (line_of names refusal)
+
+-- so it is unless the command is done, or memory ran out, a write failed, or a replay or a reading of commands stopped
+abbrev pub HasShape : Option Line → (status : ℕ) → Call → Type 0
+HasShape line status k = is_past (replays_of line) status ≡ false → TellsRefusal (names_by line) status k
+
+-- an answer that is this text, or memory ran out
+abbrev pub ShowsText : FileNames → List ℕ → Result Answer Refusal → Type 0
+ShowsText names text (Ok answer) = told_of names answer ≡ printed text
+ShowsText names text (Err refusal) = refusal ≡ why.OutOfMemory
+
+-- that of `demo` is the text of its number
+abbrev pub AnswersDemo : Line → FileNames → Result Answer Refusal → Type 0
+AnswersDemo (RecordLine r) names result = Unit {0}
+AnswersDemo (ReplayLine log elf hart interval) names result = Unit {0}
+AnswersDemo (JointLine log elf) names result = Unit {0}
+AnswersDemo (DebugLine log elf) names result = Unit {0}
+AnswersDemo (ListLine log) names result = Unit {0}
+AnswersDemo (CheckLine log) names result = Unit {0}
+AnswersDemo (AuditLine log elf book input) names result = Unit {0}
+AnswersDemo (RacesLine log elf most) names result = Unit {0}
+AnswersDemo (SliceLine log elf hart interval ic) names result = Unit {0}
+AnswersDemo (ConvertLine log copy) names result = Unit {0}
+AnswersDemo (SalvageLine log copy) names result = Unit {0}
+AnswersDemo (DemoLine seed) names result = ShowsText names (demo_text seed) result
+
+-- `demo` tells the text of its number
+abbrev pub TellsDemo : Option Line → (status : ℕ) → Call → Type 0
+TellsDemo None status k = Unit {0}
+TellsDemo (Some (RecordLine r)) status k = Unit {0}
+TellsDemo (Some (ReplayLine log elf hart interval)) status k = Unit {0}
+TellsDemo (Some (JointLine log elf)) status k = Unit {0}
+TellsDemo (Some (DebugLine log elf)) status k = Unit {0}
+TellsDemo (Some (ListLine log)) status k = Unit {0}
+TellsDemo (Some (CheckLine log)) status k = Unit {0}
+TellsDemo (Some (AuditLine log elf book input)) status k = Unit {0}
+TellsDemo (Some (RacesLine log elf most)) status k = Unit {0}
+TellsDemo (Some (SliceLine log elf hart interval ic)) status k = Unit {0}
+TellsDemo (Some (ConvertLine log copy)) status k = Unit {0}
+TellsDemo (Some (SalvageLine log copy)) status k = Unit {0}
+TellsDemo (Some (DemoLine seed)) status k = Tells no_names (printed (demo_text seed)) status k
