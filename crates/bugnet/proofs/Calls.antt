@@ -1,6 +1,6 @@
 -- The calls that a command makes of its store.
 use Rattle.std.proofs.Common.{◌≡◌, ◌≢◌, ℕ, List, [], ◌∷◌, ◌++◌, Option, Some, None, ◌∙◌, ap, subst, sym, refl, arith, true, false, Bool, inl, inr, ◌⊎◌, append_assoc}
-use Rattle.std.specs.Prelude.{Result, Ok, Err, IfOk, is_some, option_map, ◌||◌}
+use Rattle.std.specs.Prelude.{Result, Ok, Err, IfOk, is_some, option_map}
 use Rattle.std.specs.Str.{bytes_eq}
 use Rattle.std.specs.Io.KnownBytes.{Appends}
 use Rattle.std.proofs.lemmas.List.{append-nil}
@@ -25,7 +25,7 @@ use Rattle.bn_base.specs.declared.end_mark.EndMark.{EndMark}
 use Rattle.bugnet.specs.Names.{FileNames, name_of, no_names}
 use Rattle.bugnet.specs.Answers.{names_in, names_by, manner_of, name_refusal, setting_refusal, refusal_in, refusal_by}
 use Rattle.bugnet.specs.Asks.{IsRenewed, IsRecordedRun, IsMade, FitsLine}
-use Rattle.bugnet.specs.Calls.{FileCall, Loads, Saves, store_call, noted_after, loads_of, saves_of, input_roles, record_roles, elf_roles, origin_roles, line_roles, needed_roles, line_saves, calls_of, needed_of, saves_in, EndsWith, IsOfContent, StopsAt, LoadsUpTo, CallsTo, LoadsTo, CallsBy, IsOfLoad, IsOfSave, SavesUpTo, SavesTo, SaveRefused, SavesTold, line_replays, replays_of, is_ended, is_past, RefusedAfter, CallsSo, CallsOnly, TellsRefusal, HasShape, AnswersDemo, TellsDemo}
+use Rattle.bugnet.specs.Calls.{FileCall, Loads, Saves, store_call, noted_after, loads_of, saves_of, input_roles, record_roles, elf_roles, origin_roles, line_roles, needed_roles, line_saves, calls_of, needed_of, saves_in, EndsWith, IsOfContent, StopsAt, LoadsUpTo, CallsTo, LoadsTo, CallsBy, IsOfLoad, IsOfSave, SavesUpTo, SavesTo, SaveRefused, SavesTold, is_printed, is_recorded, line_past, past_of, RefusedAfter, CallsSo, CallsOnly, TellsRefusal, HasShape, AnswersDemo, TellsDemo}
 use Rattle.bugnet.specs.Command.Audit.{roles_of}
 use Rattle.bugnet.specs.Commands.{is_clash, replay_found, ended}
 use Rattle.bugnet.specs.Inputs.{limit_of}
@@ -353,15 +353,15 @@ made-printed (Err e) p = tt
 
 -- ---- what an answer ends with
 
-past-at : (replays : Bool) (status n : ℕ) → status ≡ n → is_past replays n ≡ true → is_past replays status ≡ true
-past-at replays status n e h = ap (λ (m : ℕ). is_past replays m) e ∙ h
+past-at : (past : ℕ → Bool) (status n : ℕ) → status ≡ n → past n ≡ true → past status ≡ true
+past-at past status n e h = ap past e ∙ h
 
-end-past : (e : RunEnd) → is_past false (end_status e) ≡ true
+end-past : (e : RunEnd) → is_recorded (end_status e) ≡ true
 end-past run_end.Done = refl
 end-past run_end.Fault = refl
 end-past run_end.Limit = refl
 
-replay-past : (e : ReplayError) → is_past true (replay_status e) ≡ true
+replay-past : (e : ReplayError) → is_begun (replay_status e) ≡ true
 replay-past (replay.NoInterval hart interval) = refl
 replay-past (replay.LoadMissing hart ic addr) = refl
 replay-past (replay.ScMissing hart ic) = refl
@@ -369,23 +369,23 @@ replay-past (replay.RecordsLeft hart left) = refl
 replay-past (replay.EndDiffers hart said found) = refl
 replay-past replay.OutOfMemory = refl
 
-joint-past : (o : Option JointError) → is_past true (joint_status o) ≡ true
+joint-past : (o : Option JointError) → is_begun (joint_status o) ≡ true
 joint-past None = refl
 joint-past (Some (Replay e)) = replay-past e
 joint-past (Some (Stuck positions)) = refl
 joint-past (Some joint.OutOfMemory) = refl
 
-outcome-past : (names : FileNames) (hart interval : ℕ) (mark : EndMark) (text : List ℕ) (o : Outcome) → is_past true (ended names hart interval mark text o).status ≡ true
+outcome-past : (names : FileNames) (hart interval : ℕ) (mark : EndMark) (text : List ℕ) (o : Outcome) → is_begun (ended names hart interval mark text o).status ≡ true
 unfolding ended
 outcome-past names hart interval mark text Done = refl
 outcome-past names hart interval mark text (Refused e) = replay-past e
 
-found-past : (names : FileNames) (hart interval : ℕ) (d : Content) (i : Program) (o : Option rows.Interval) → is_past true (replay_found names hart interval d i o).status ≡ true
+found-past : (names : FileNames) (hart interval : ℕ) (d : Content) (i : Program) (o : Option rows.Interval) → is_begun (replay_found names hart interval d i o).status ≡ true
 unfolding refused
 found-past names hart interval d i None = refl
 found-past names hart interval d i (Some v) = outcome-past names hart interval v.mark _ (replayed i d.records hart interval).outcome
 
-printed-past : (names : FileNames) (answer : Answer) → IsPrinted answer → is_past true (told_of names answer).status ≡ true
+printed-past : (names : FileNames) (answer : Answer) → IsPrinted answer → is_begun (told_of names answer).status ≡ true
 unfolding ran_told halted
 printed-past names (Recorded r) p = absurd p
 printed-past names (Interval r) p = found-past names r.hart r.interval r.log r.image (interval_of r.hart r.interval r.log.records)
@@ -397,7 +397,7 @@ printed-past names (Renewed n) p = absurd p
 printed-past names (Shown text) p = refl
 printed-past names (Halted error) p = joint-past (Some error)
 
-made-past : (names : FileNames) (answer : Answer) → IsMade answer → is_past false (told_of names answer).status ≡ true
+made-past : (names : FileNames) (answer : Answer) → IsMade answer → is_printed (told_of names answer).status ≡ true
 made-past names (Recorded r) p = absurd p
 made-past names (Interval r) p = absurd p
 made-past names (Joined r) p = absurd p
@@ -408,7 +408,7 @@ made-past names (Renewed n) p = absurd p
 made-past names (Shown text) p = refl
 made-past names (Halted error) p = absurd p
 
-renewed-past : (names : FileNames) (answer : Answer) → IsRenewed answer → is_past false (told_of names answer).status ≡ true
+renewed-past : (names : FileNames) (answer : Answer) → IsRenewed answer → is_printed (told_of names answer).status ≡ true
 renewed-past names (Recorded r) p = absurd p
 renewed-past names (Interval r) p = absurd p
 renewed-past names (Joined r) p = absurd p
@@ -419,7 +419,7 @@ renewed-past names (Renewed n) p = refl
 renewed-past names (Shown text) p = absurd p
 renewed-past names (Halted error) p = absurd p
 
-recorded-past : (lean : Bool) (names : FileNames) (answer : Answer) → IsRecordedRun lean answer → is_past false (told_of names answer).status ≡ true
+recorded-past : (lean : Bool) (names : FileNames) (answer : Answer) → IsRecordedRun lean answer → is_recorded (told_of names answer).status ≡ true
 recorded-past lean names (Recorded r) p = end-past r.end
 recorded-past lean names (Interval r) p = absurd p
 recorded-past lean names (Joined r) p = absurd p
@@ -430,7 +430,7 @@ recorded-past lean names (Renewed n) p = absurd p
 recorded-past lean names (Shown text) p = absurd p
 recorded-past lean names (Halted error) p = absurd p
 
-line-past : (line : Line) (names : FileNames) (answer : Answer) → FitsLine line answer → (IsReadOnly (Some line) → IsPrinted answer) → is_past (line_replays line) (told_of names answer).status ≡ true
+line-past : (line : Line) (names : FileNames) (answer : Answer) → FitsLine line answer → (IsReadOnly (Some line) → IsPrinted answer) → line_past line (told_of names answer).status ≡ true
 line-past (RecordLine r) names answer fits prints = recorded-past r.lean names answer fits
 line-past (ReplayLine log elf hart interval) names answer fits prints = printed-past names answer (prints tt)
 line-past (JointLine log elf) names answer fits prints = printed-past names answer (prints tt)
@@ -444,23 +444,43 @@ line-past (ConvertLine log copy) names answer fits prints = renewed-past names a
 line-past (SalvageLine log copy) names answer fits prints = renewed-past names answer fits
 line-past (DemoLine seed) names answer fits prints = made-past names answer fits
 
-memory-past : (replays : Bool) → is_past replays 9 ≡ true
-memory-past true = refl
-memory-past false = refl
+memory-past : (line : Line) → line_past line 9 ≡ true
+memory-past (RecordLine r) = refl
+memory-past (ReplayLine log elf hart interval) = refl
+memory-past (JointLine log elf) = refl
+memory-past (DebugLine log elf) = refl
+memory-past (ListLine log) = refl
+memory-past (CheckLine log) = refl
+memory-past (AuditLine log elf book input) = refl
+memory-past (RacesLine log elf most) = refl
+memory-past (SliceLine log elf hart interval ic) = refl
+memory-past (ConvertLine log copy) = refl
+memory-past (SalvageLine log copy) = refl
+memory-past (DemoLine seed) = refl
 
-write-past : (replays : Bool) → is_past replays 13 ≡ true
-write-past true = refl
-write-past false = refl
+write-past : (line : Line) → line_past line 13 ≡ true
+write-past (RecordLine r) = refl
+write-past (ReplayLine log elf hart interval) = refl
+write-past (JointLine log elf) = refl
+write-past (DebugLine log elf) = refl
+write-past (ListLine log) = refl
+write-past (CheckLine log) = refl
+write-past (AuditLine log elf book input) = refl
+write-past (RacesLine log elf most) = refl
+write-past (SliceLine log elf hart interval ic) = refl
+write-past (ConvertLine log copy) = refl
+write-past (SalvageLine log copy) = refl
+write-past (DemoLine seed) = refl
 
-free-past : (replays : Bool) (status : ℕ) → IsFree status → status ≢ 3 → is_past replays status ≡ true
-free-past replays status (inl e) other = absurd (other e)
-free-past replays status (inr (inl e)) other = past-at replays status 9 e (memory-past replays)
-free-past replays status (inr (inr e)) other = past-at replays status 13 e (write-past replays)
+free-past : (line : Line) (status : ℕ) → IsFree status → status ≢ 3 → line_past line status ≡ true
+free-past line status (inl e) other = absurd (other e)
+free-past line status (inr (inl e)) other = past-at (line_past line) status 9 e (memory-past line)
+free-past line status (inr (inr e)) other = past-at (line_past line) status 13 e (write-past line)
 
 tells-past : (line : Line) (names : FileNames) (answer : Answer) (status : ℕ) (k : Call) → FitsLine line answer → (IsReadOnly (Some line) → IsPrinted answer)
-    → Tells names (told_of names answer) status k → status ≢ 3 → is_past (line_replays line) status ≡ true
-tells-past line names answer status k fits prints (inl done) other = past-at (line_replays line) status (told_of names answer).status done.status_is (line-past line names answer fits prints)
-tells-past line names answer status k fits prints (inr s) other = free-past (line_replays line) status (stopped-free names (told_of names answer) status k s) other
+    → Tells names (told_of names answer) status k → status ≢ 3 → line_past line status ≡ true
+tells-past line names answer status k fits prints (inl done) other = past-at (line_past line) status (told_of names answer).status done.status_is (line-past line names answer fits prints)
+tells-past line names answer status k fits prints (inr s) other = free-past line status (stopped-free names (told_of names answer) status k s) other
 
 -- ---- a command
 
@@ -471,17 +491,17 @@ no-answer : (A : Type 0) (a : A) (x : Refusal) → ◌≡◌ {A = Result A Refus
 no-answer A a x e = grind arith
 
 -- it is refused before it saves
-refused-so : (A : Type 0) (note : ℕ → StoreCall → ℕ) (names : FileNames) (o : Option Refusal) (roles needed : List Role) (saves : List FileCall) (replays : Bool) (r : Refusal) (status : ℕ) (before after : ℕ) (first last : Counts) (k : Call)
+refused-so : (A : Type 0) (note : ℕ → StoreCall → ℕ) (names : FileNames) (o : Option Refusal) (roles needed : List Role) (saves : List FileCall) (past : ℕ → Bool) (r : Refusal) (status : ℕ) (before after : ℕ) (first last : Counts) (k : Call)
     → CallsBy {A = A} o names roles needed note before after (Err r) → CauseBy {A = A} o first last (Err r) → Appends k.old.out k.new.out []
-    → ToldRefusal names r status k.old.err k.new.err k.old.err_faults k.new.err_faults → CallsSo names (loads_of roles ++ saves) (loads_of needed) o replays status note before after k
-refused-so A note names (Some x) roles needed saves replays r status before after first last k h c out told = record {
+    → ToldRefusal names r status k.old.err k.new.err k.old.err_faults k.new.err_faults → CallsSo names (loads_of roles ++ saves) (loads_of needed) o past status note before after k
+refused-so A note names (Some x) roles needed saves past r status before after first last k h c out told = record {
   made = [];
   left = loads_of roles ++ saves;
   parts = refl;
   noted = h;
   ends = inr (record { refusal = r; at = inl (same_refusal A r x c.0, refl); out = out; told = told });
 }
-refused-so A note names None roles needed saves replays r status before after first last k h c out told = record {
+refused-so A note names None roles needed saves past r status before after first last k h c out told = record {
   made = h.made;
   left = h.left ++ saves;
   parts = ap (λ (calls : List FileCall). calls ++ saves) h.parts ∙ append_assoc h.made h.left saves;
@@ -493,15 +513,15 @@ pub refusal-calls : (A : Type 0) (note : ℕ → StoreCall → ℕ) (line : Line
     → CallsBy {A = A} (refusal_in line) names (line_roles line) (needed_roles line) note before after (Err r) → CauseBy {A = A} (refusal_in line) first last (Err r) → Appends k.old.out k.new.out []
     → ToldRefusal names r status k.old.err k.new.err k.old.err_faults k.new.err_faults → CallsOnly (Some line) status note before after k
 refusal-calls A note line names r status before after first last k e h c out told =
-    subst (λ (n : FileNames). CallsSo n (calls_of (Some line)) (needed_of (Some line)) (refusal_in line) (line_replays line) status note before after k) e
-    (refused-so A note names (refusal_in line) (line_roles line) (needed_roles line) (line_saves line) (line_replays line) r status before after first last k h c out told)
+    subst (λ (n : FileNames). CallsSo n (calls_of (Some line)) (needed_of (Some line)) (refusal_in line) (line_past line) status note before after k) e
+    (refused-so A note names (refusal_in line) (line_roles line) (needed_roles line) (line_saves line) (line_past line) r status before after first last k h c out told)
 
 -- it has its answer, of which all is saved, or not
-answer-so : (A : Type 0) (a : A) (note : ℕ → StoreCall → ℕ) (names : FileNames) (o : Option Refusal) (roles needed : List Role) (saves : List FileCall) (replays : Bool) (status : ℕ) (before mid after : ℕ) (first last : Counts) (files : Option Files) (counts : Counts) (k : Call)
-    → CallsBy o names roles needed note before mid (Ok a) → CauseBy o first last (Ok a) → SavesTold names saves status note mid after k → (status ≢ 3 → is_past replays status ≡ true)
-    → CallsSo names (loads_of roles ++ saves) (loads_of needed) o replays status note before after (from files counts k)
-answer-so A a note names (Some x) roles needed saves replays status before mid after first last files counts k h c s past = absurd (no-answer A a x c.0)
-answer-so A a note names None roles needed saves replays status before mid after first last files counts k h c s past = record {
+answer-so : (A : Type 0) (a : A) (note : ℕ → StoreCall → ℕ) (names : FileNames) (o : Option Refusal) (roles needed : List Role) (saves : List FileCall) (past : ℕ → Bool) (status : ℕ) (before mid after : ℕ) (first last : Counts) (files : Option Files) (counts : Counts) (k : Call)
+    → CallsBy o names roles needed note before mid (Ok a) → CauseBy o first last (Ok a) → SavesTold names saves status note mid after k → (status ≢ 3 → past status ≡ true)
+    → CallsSo names (loads_of roles ++ saves) (loads_of needed) o past status note before after (from files counts k)
+answer-so A a note names (Some x) roles needed saves past status before mid after first last files counts k h c s goes = absurd (no-answer A a x c.0)
+answer-so A a note names None roles needed saves past status before mid after first last files counts k h c s goes = record {
   made = loads_of roles ++ s.made;
   left = s.left;
   parts = ap (λ (calls : List FileCall). loads_of roles ++ calls) s.parts ∙ sym (append_assoc (loads_of roles) s.made s.left);
@@ -510,8 +530,8 @@ answer-so A a note names None roles needed saves replays status before mid after
 }
   where
     by : ((s.left ≡ []) × (status ≢ 3)) ⊎ SaveRefused names s.made status k
-        → ((s.left ≡ []) × (is_past replays status ≡ true)) ⊎ RefusedAfter names (loads_of needed) None (loads_of roles ++ s.made) status (from files counts k)
-    by (inl (all, other)) = inl (all, past other)
+        → ((s.left ≡ []) × (past status ≡ true)) ⊎ RefusedAfter names (loads_of needed) None (loads_of roles ++ s.made) status (from files counts k)
+    by (inl (all, other)) = inl (all, goes other)
     by (inr t) = inr (record { refusal = t.refusal; at = inr (stops-save (loads_of needed) t.refusal (loads_of roles) s.made t.at); out = t.out; told = t.told })
 
 pub answer-calls : (note : ℕ → StoreCall → ℕ) (line : Line) (names : FileNames) (answer : Answer) (status : ℕ) (before mid after : ℕ) (first last : Counts) (files : Option Files) (counts : Counts) (k : Call) → names ≡ names_in line
@@ -519,19 +539,16 @@ pub answer-calls : (note : ℕ → StoreCall → ℕ) (line : Line) (names : Fil
     → FitsLine line answer → (IsReadOnly (Some line) → IsPrinted answer) → SavesTold names (saves_in answer) status note mid after k → Tells names (told_of names answer) status k
     → CallsOnly (Some line) status note before after (from files counts k)
 answer-calls note line names answer status before mid after first last files counts k e h c fits prints s told =
-    subst (λ (n : FileNames). CallsSo n (calls_of (Some line)) (needed_of (Some line)) (refusal_in line) (line_replays line) status note before after (from files counts k)) e
-    (answer-so Answer answer note names (refusal_in line) (line_roles line) (needed_roles line) (line_saves line) (line_replays line) status before mid after first last files counts k h c
+    subst (λ (n : FileNames). CallsSo n (calls_of (Some line)) (needed_of (Some line)) (refusal_in line) (line_past line) status note before after (from files counts k)) e
+    (answer-so Answer answer note names (refusal_in line) (line_roles line) (needed_roles line) (line_saves line) (line_past line) status before mid after first last files counts k h c
     (subst (λ (saves : List FileCall). SavesTold names saves status note mid after k) (answer-saves line answer fits prints) s) (λ other. tells-past line names answer status k fits prints told other))
 
 -- ---- a session
 
-begun-past : (status : ℕ) → is_begun status ≡ true → is_past true status ≡ true
-begun-past status e = ap (λ (b : Bool). b || is_ended status) e
-
 -- it isn't begun
 pub unbegun-calls : (A : Type 0) (note : ℕ → StoreCall → ℕ) (names : FileNames) (roles : List Role) (r : Refusal) (status : ℕ) (before after : ℕ) (k : Call)
     → LoadsTo {A = A} names roles note before after (Err r) → Appends k.old.out k.new.out [] → ToldRefusal names r status k.old.err k.new.err k.old.err_faults k.new.err_faults
-    → CallsSo names (loads_of roles) (loads_of roles) None true status note before after k
+    → CallsSo names (loads_of roles) (loads_of roles) None is_begun status note before after k
 unbegun-calls A note names roles r status before after k h out told = record {
   made = h.made;
   left = h.left;
@@ -542,22 +559,22 @@ unbegun-calls A note names roles r status before after k h out told = record {
 
 -- it is
 pub begun-calls : (note : ℕ → StoreCall → ℕ) (names : FileNames) (roles : List Role) (status : ℕ) (before after : ℕ) (k : Call) → after ≡ noted_after note names before (loads_of roles) → is_begun status ≡ true
-    → CallsSo names (loads_of roles) (loads_of roles) None true status note before after k
+    → CallsSo names (loads_of roles) (loads_of roles) None is_begun status note before after k
 begun-calls note names roles status before after k e begun = record {
   made = loads_of roles;
   left = [];
   parts = sym (append-nil (loads_of roles));
   noted = e;
-  ends = inl (refl, begun-past status begun);
+  ends = inl (refl, begun);
 }
 
 -- by the names that its line says
 session-named : (log elf : List ℕ) (note : ℕ → StoreCall → ℕ) (names : FileNames) (status : ℕ) (before after : ℕ) (k : Call) → names ≡ names_in (DebugLine log elf)
-    → CallsSo names (loads_of pair_roles) (loads_of pair_roles) None true status note before after k → CallsOnly (Some (DebugLine log elf)) status note before after k
-session-named log elf note names status before after k e h = subst (λ (n : FileNames). CallsSo n (loads_of pair_roles) (loads_of pair_roles) None true status note before after k) e h
+    → CallsSo names (loads_of pair_roles) (loads_of pair_roles) None is_begun status note before after k → CallsOnly (Some (DebugLine log elf)) status note before after k
+session-named log elf note names status before after k e h = subst (λ (n : FileNames). CallsSo n (loads_of pair_roles) (loads_of pair_roles) None is_begun status note before after k) e h
 
 pub session-calls : (line : Line) (note : ℕ → StoreCall → ℕ) (names : FileNames) (status : ℕ) (before after : ℕ) (k : Call) → (IsNoSession (Some line) → ⊥) → names ≡ names_in line
-    → CallsSo names (loads_of pair_roles) (loads_of pair_roles) None true status note before after k → CallsOnly (Some line) status note before after k
+    → CallsSo names (loads_of pair_roles) (loads_of pair_roles) None is_begun status note before after k → CallsOnly (Some line) status note before after k
 session-calls (RecordLine r) note names status before after k is e h = absurd (is tt)
 session-calls (ReplayLine log elf hart interval) note names status before after k is e h = absurd (is tt)
 session-calls (JointLine log elf) note names status before after k is e h = absurd (is tt)
@@ -594,10 +611,10 @@ call-shape note line status before after k calls other = by calls.ends
     told : (r : RefusedAfter (names_by line) (needed_of line) (refusal_by line) calls.made status k)
         → ToldRefusal (names_by line) r.refusal status k.old.err k.new.err k.old.err_faults k.new.err_faults → TellsRefusal (names_by line) status k
     told r (inl h) = record { refusal = r.refusal; status_is = h.0; out = r.out; err = h.1 }
-    told r (inr h) = absurd (apart (is_past (replays_of line) status) (past-at (replays_of line) status 9 h.0 (memory-past (replays_of line))) other)
+    told r (inr h) = record { refusal = OutOfMemory; status_is = h.0; out = r.out; err = h.1 }
 
-    by : ((calls.left ≡ []) × (is_past (replays_of line) status ≡ true)) ⊎ RefusedAfter (names_by line) (needed_of line) (refusal_by line) calls.made status k → TellsRefusal (names_by line) status k
-    by (inl (all, past)) = absurd (apart (is_past (replays_of line) status) past other)
+    by : ((calls.left ≡ []) × (past_of line status ≡ true)) ⊎ RefusedAfter (names_by line) (needed_of line) (refusal_by line) calls.made status k → TellsRefusal (names_by line) status k
+    by (inl (all, past)) = absurd (apart (past_of line status) past other)
     by (inr r) = told r r.told
 
 -- ---- `demo`

@@ -229,33 +229,36 @@ pub record SavesTold (names : FileNames) (saves : List FileCall) (status : ℕ) 
 
 -- ---- a command
 
--- a command that prints a replay as it comes, reads commands, or tells where a joint replay stopped
-abbrev pub line_replays : Line → Bool
-line_replays (RecordLine r) = false
-line_replays (ReplayLine log elf hart interval) = true
-line_replays (JointLine log elf) = true
-line_replays (DebugLine log elf) = true
-line_replays (ListLine log) = false
-line_replays (CheckLine log) = false
-line_replays (AuditLine log elf book input) = false
-line_replays (RacesLine log elf most) = true
-line_replays (SliceLine log elf hart interval ic) = false
-line_replays (ConvertLine log copy) = false
-line_replays (SalvageLine log copy) = false
-line_replays (DemoLine seed) = false
-
-abbrev pub replays_of : Option Line → Bool
-replays_of None = false
-replays_of (Some line) = line_replays line
-
 -- it is done, or memory ran out or a write failed
-abbrev pub is_ended : ℕ → Bool
-is_ended status = (status == 0) || (status == 9) || (status == 10) || (status == 11) || (status == 13)
+abbrev pub is_printed : ℕ → Bool
+is_printed status = (status == 0) || (status == 9) || (status == 13)
 
--- what a command may end with once all its calls are made: this, or that a replay or the reading of commands stopped
-abbrev pub is_past : (replays : Bool) → ℕ → Bool
-is_past true status = is_begun status || is_ended status
-is_past false status = is_ended status
+-- the same of a recording, which is also done if its run ended in a fault, or by the limit
+abbrev pub is_recorded : ℕ → Bool
+is_recorded status = is_printed status || (status == 10) || (status == 11)
+
+-- what a command may end with once all its calls are made: a replay that it prints as it comes may stop too, and the reading
+-- of commands
+abbrev pub line_past : Line → ℕ → Bool
+line_past (RecordLine r) = is_recorded
+line_past (ReplayLine log elf hart interval) = is_begun
+line_past (JointLine log elf) = is_begun
+line_past (DebugLine log elf) = is_begun
+line_past (ListLine log) = is_printed
+line_past (CheckLine log) = is_printed
+line_past (AuditLine log elf book input) = is_printed
+line_past (RacesLine log elf most) = is_begun
+line_past (SliceLine log elf hart interval ic) = is_printed
+line_past (ConvertLine log copy) = is_printed
+line_past (SalvageLine log copy) = is_printed
+line_past (DemoLine seed) = is_printed
+
+abbrev pub no_status : ℕ → Bool
+no_status status = false
+
+abbrev pub past_of : Option Line → ℕ → Bool
+past_of None = no_status
+past_of (Some line) = line_past line
 
 -- it is refused: by its words, and then it makes no call, or after these. Nothing is printed, and err has the line
 pub record RefusedAfter (names : FileNames) (needed : List FileCall) (words : Option Refusal) (made : List FileCall)
@@ -266,18 +269,18 @@ pub record RefusedAfter (names : FileNames) (needed : List FileCall) (words : Op
   pub told : ToldRefusal names refusal status k.old.err k.new.err k.old.err_faults k.new.err_faults
 
 -- of these calls the first ones are made, in this order, and no other: all of them, unless it is refused
-pub record CallsSo (names : FileNames) (calls needed : List FileCall) (words : Option Refusal) (replays : Bool)
+pub record CallsSo (names : FileNames) (calls needed : List FileCall) (words : Option Refusal) (past : ℕ → Bool)
     (status : ℕ) (note : Note) (before after : ℕ) (k : Call) : Type 0 where
   pub made : List FileCall
   pub left : List FileCall
   pub parts : calls ≡ made ++ left
   pub noted : after ≡ noted_after note names before made
-  pub ends : ((left ≡ []) × (is_past replays status ≡ true)) ⊎ RefusedAfter names needed words made status k
+  pub ends : ((left ≡ []) × (past status ≡ true)) ⊎ RefusedAfter names needed words made status k
 
 -- so it is with the calls of a line
 abbrev pub CallsOnly : Option Line → (status : ℕ) → (note : Note) → (before after : ℕ) → Call → Type 0
 CallsOnly line status note before after k =
-    CallsSo (names_by line) (calls_of line) (needed_of line) (refusal_by line) (replays_of line)
+    CallsSo (names_by line) (calls_of line) (needed_of line) (refusal_by line) (past_of line)
     status note before after k
 
 -- ---- what it tells, whatever the store tells
@@ -291,7 +294,7 @@ pub record TellsRefusal (names : FileNames) (status : ℕ) (k : Call) : Type 0 w
 
 -- so it is unless the command is done, or memory ran out, a write failed, or a replay or a reading of commands stopped
 abbrev pub HasShape : Option Line → (status : ℕ) → Call → Type 0
-HasShape line status k = is_past (replays_of line) status ≡ false → TellsRefusal (names_by line) status k
+HasShape line status k = past_of line status ≡ false → TellsRefusal (names_by line) status k
 
 -- an answer that is this text, or memory ran out
 abbrev pub ShowsText : FileNames → List ℕ → Result Answer Refusal → Type 0

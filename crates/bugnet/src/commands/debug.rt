@@ -101,7 +101,7 @@ pub fn debug_files<S: Store, I: Source, O: Sink, X: Sink>(
     ensures begins { (input.new ≡ input.old) ⊎ WithFiles (S.files store.old) (λ files. HasPair names.now.log names.now.elf files) }
     ensures same { S.files store.new ≡ S.files store.old }
     ensures asks { S.saves store.new ≡ S.saves store.old }
-    ensures calls { CallsSo names.now (loads_of pair_roles) (loads_of pair_roles) None true result S.note (S.noted store.old) (S.noted store.new) (call S.files S.counts O.written O.faults X.written X.faults store.old out.old err.old store.new out.new err.new) }
+    ensures calls { CallsSo names.now (loads_of pair_roles) (loads_of pair_roles) None is_begun result S.note (S.noted store.old) (S.noted store.new) (call S.files S.counts O.written O.faults X.written X.faults store.old out.old err.old store.new out.new err.new) }
     ensures words { result ≢ 2 }
     ensures failed { result ≡ 3 → Rose (S.counts store.old).faults (S.counts store.new).faults }
     ensures missing { result ≡ 4 → Rose (S.counts store.old).misses (S.counts store.new).misses }
