@@ -114,9 +114,9 @@ pub record DebugsFiles (c : Commands) (log elf : List ℕ) (files : Files) (stat
       ⊎ StoppedEarly (Some (DebugLine log elf)) files status k
   pub done : CanDebug c log elf files → IsFree status ⊎ (status ≡ 0)
   pub shows : ShowsSession c log elf files status k.old.out k.new.out
-  -- what was read was read by a session with the log and the program that are there, and no further than that one's end says
+  -- what was read was read by a session with the log and the program that are there, no further than its end says
   pub session : SessionIs c log elf files status left now_left before now reads now_reads k
-  -- and if a session with all that the source had left isn't stopped, no prefix stops it: it is done, unless a read failed
+  -- if a session with all that the source had left isn't stopped, no prefix stops it: it is done, or a read failed
   pub whole : (all : List ℕ) → left ≡ Some all → CanDebug (whole_input all) log elf files → IsFree status ⊎ ((status ≡ 12) ⊎ (status ≡ 0))
 
 -- a session reads commands, and does so by them

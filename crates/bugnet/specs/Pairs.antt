@@ -60,8 +60,8 @@ pub record ArePair (log elf : List ℕ) (files : Files) (d : Content) (i : Progr
   pub same : bytes_eq (sha256 bytes) d.head.digest ≡ true
   pub loaded : image_of bytes d.head.settings ≡ Ok i
 
--- LOG is there within its limit and reads as this log; ELF is there within its limit, has the digest that the log says, and
--- loads as this program
+-- LOG is there within its limit and reads as this log; ELF is there within its limit, has the digest that the log
+-- says, and loads as this program
 pub record LoadedPair (log elf : List ℕ) (files : Files) (d : Content) (i : Program) : Type 0 where
   pub log_bytes : List ℕ
   pub elf_bytes : List ℕ

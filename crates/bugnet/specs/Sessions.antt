@@ -91,8 +91,9 @@ EndsBy (Err e) status = (status ≡ stop_status e) ⊎ (status ≡ 9)
 
 -- ---- how far a session reads
 
--- how far one reads that ends so: to its first `quit` or to the end of the source; to the read that failed; to the first byte
--- that is too many; to the end of a line, if the replay was refused or an answer could not be written. No `quit` is passed
+-- how far one reads that ends so: to its first `quit` or to the end of the source; to the read that failed; to the
+-- first byte that is too many; to the end of a line, if the replay was refused or an answer could not be written. No
+-- `quit` is passed
 abbrev pub ReadsUpTo : (bytes : List ℕ) → (left now_left : Option (List ℕ)) → Result (Unit {0}) DebugError → Type 0
 ReadsUpTo bytes left now_left (Ok u) = EndsWithQuit bytes ⊎ ReadsAll left now_left bytes
 ReadsUpTo bytes left now_left (Err ReadFault) = NoQuit (input_of bytes).lines × ((input_of bytes).refused ≡ None)
