@@ -109,6 +109,11 @@ not_over j s count left now_left written now_written t more line e =
     let is : input_of (t.gone ++ more) ≡ with_lines t.lines (ends_in line None) = joined j s count left now_left written now_written t more (ends_in line None) e in
     ap (λ (i : Input). (answers i.lines (begin_at j)).ends) is ∙ ap (λ (a : Answer). a.ends) (t.said [])
 
+-- nor is one of them too many
+none_over : (j : Trace) (s : Session) (count : ℕ) (left now_left written now_written : Option (List ℕ)) (t : Stands j s count left now_left written now_written) (more line : List ℕ) → input_from count [] more ≡ ends_in line None
+    → (input_of (t.gone ++ more)).refused ≡ None
+none_over j s count left now_left written now_written t more line e = ap (λ (i : Input). i.refused) (joined j s count left now_left written now_written t more (ends_in line None) e)
+
 -- the transcript begins with what is sent
 told_first : (j : Trace) (s : Session) (count : ℕ) (left now_left written now_written : Option (List ℕ)) (t : Stands j s count left now_left written now_written) (more : List ℕ)
     → transcript_from j (input_of (t.gone ++ more)) ≡ told_of (behind t.text (answers (lines_in (input_from count [] more)) s)) (input_from count [] more).refused
@@ -153,7 +158,13 @@ module _ (j : Trace) (s : Session) (old new : Reading) (left now_left next_left 
       up_to (LineTooLong k) n = too_many_at n.stops
       up_to (TooMuch k) n = too_many_at n.stops
       up_to (Joint f) n = tt
-      up_to OutOfMemory n = inr (not_over j s old.count left now_left written now_written t n.gone (new.line ++ n.read.0 ∷ []) (ap (input_from old.count []) (sym (append-nil n.gone)) ∙ n.read.1 []))
+      up_to OutOfMemory n =
+          let is : input_from old.count [] n.gone ≡ ends_in (new.line ++ n.read.0 ∷ []) None =
+          ap (input_from old.count []) (sym (append-nil n.gone)) ∙ n.read.1 [] in
+          inr (
+            not_over j s old.count left now_left written now_written t n.gone (new.line ++ n.read.0 ∷ []) is,
+            none_over j s old.count left now_left written now_written t n.gone (new.line ++ n.read.0 ∷ []) is,
+          )
 
       by : (e : DebugError) (n : NextLine old now_left next_left before after (Err e) new) → Debugs j (t.gone ++ n.gone) left next_left start after written now_written write_before write_after (Err e)
       by ReadFault n =
@@ -203,9 +214,10 @@ module _ (j : Trace) (s : Session) (old new : Reading) (left now_left next_left 
         line = new.line;
         lines = ap (λ (i : Input). i.lines) is;
         last = ap (λ (i : Input). i.last) is;
+        none = ap (λ (i : Input). i.refused) is;
         before = ap (λ (ls : List (List ℕ)). (answers ls (begin_at j)).ends) (sym (append-nil t.lines)) ∙ ap (λ (a : Answer). a.ends) (t.said []);
       })
-  line_or_all false n = inr (record { all = all_gone left now_left next_left t.gone n.gone t.taken n.read.1; before = not_over j s old.count left now_left written now_written t n.gone new.line n.read.0 })
+  line_or_all false n = inr (record { all = all_gone left now_left next_left t.gone n.gone t.taken n.read.1; none = none_over j s old.count left now_left written now_written t n.gone new.line n.read.0; before = not_over j s old.count left now_left written now_written t n.gone new.line n.read.0 })
 
   -- its answer isn't sent
   pub not_sent : (e : DebugError) → write_start ≤ write_before → AppendsPart now_written next_written answered.text × Stops write_before write_after e
@@ -218,7 +230,7 @@ module _ (j : Trace) (s : Session) (old new : Reading) (left now_left next_left 
       up_to (LineTooLong k) h = absurd h
       up_to (TooMuch k) h = absurd h
       up_to (Joint f) h = tt
-      up_to OutOfMemory h = elim (line_or_all whole n) [ inl x ↦ inl x | inr x ↦ inr x.before ]
+      up_to OutOfMemory h = elim (line_or_all whole n) [ inl x ↦ inl x | inr x ↦ inr (x.before, x.none) ]
 
       part : AppendsPart now_written next_written answered.text → AppendsPart written next_written (transcript_from j (input_of all)).text
       part p =
@@ -254,10 +266,11 @@ module _ (j : Trace) (s : Session) (old new : Reading) (left now_left next_left 
         line = new.line;
         lines = ap (λ (i : Input). i.lines) is;
         last = ap (λ (i : Input). i.last) is;
+        none = ap (λ (i : Input). i.refused) is;
         before = ap (λ (ls : List (List ℕ)). (answers ls (begin_at j)).ends) (sym (append-nil t.lines)) ∙ ap (λ (a : Answer). a.ends) (t.said []);
         there = ap (λ (a : Answer). a.ends) (t.said (new.line ∷ [])) ∙ ap (λ (y : Ending). (goes_on_by y answered (λ u. answers [] u)).ends) on ∙ ap (λ (a : Answer). a.ends) last ∙ on;
       })
-  there e on last false n = inr (record { all = all_gone left now_left next_left t.gone n.gone t.taken n.read.1; before = not_over j s old.count left now_left written now_written t n.gone new.line n.read.0 })
+  there e on last false n = inr (record { all = all_gone left now_left next_left t.gone n.gone t.taken n.read.1; none = none_over j s old.count left now_left written now_written t n.gone new.line n.read.0; before = not_over j s old.count left now_left written now_written t n.gone new.line n.read.0 })
 
   pub quits : answered.ends ≡ Quits → Appends now_written next_written answered.text → Debugged j left next_left start after written next_written write_start write_after (Ok (tt {0}))
   quits on h =
@@ -273,7 +286,7 @@ module _ (j : Trace) (s : Session) (old new : Reading) (left now_left next_left 
 
   all_if : (w : Bool) (n : NextLine old now_left next_left before after (Ok w) new) → w ≡ false → EndsAll j left next_left (t.gone ++ n.gone)
   all_if true n e = absurd cc
-  all_if false n e = record { all = all_gone left now_left next_left t.gone n.gone t.taken n.read.1; before = not_over j s old.count left now_left written now_written t n.gone new.line n.read.0 }
+  all_if false n e = record { all = all_gone left now_left next_left t.gone n.gone t.taken n.read.1; none = none_over j s old.count left now_left written now_written t n.gone new.line n.read.0; before = not_over j s old.count left now_left written now_written t n.gone new.line n.read.0 }
 
   module _ (reads mid now : ℕ) (first : mid ≡ counted_by (length t.gone) reads) (last : now ≡ counted_by (reads_for n.gone (Ok whole)) mid) where
     counts : (now ≡ counted_by (length all) reads) ⊎ (EndsAll j left next_left all × (now ≡ counted_by (length all + 1) reads))
@@ -312,7 +325,7 @@ ends j s old new left now_left next_left written now_written next_written start 
     record {
       gone = t.gone ++ n.gone;
       taken = Consumes-trans left now_left next_left t.gone n.gone t.taken n.taken;
-      done = (ap (λ (u : Told). u.result) is, subst (λ (x : List ℕ). Appends written next_written x) (sym (ap (λ (u : Told). u.text) is ∙ ap (λ x. t.text ++ x) (append-nil a.text))) (Appends-trans written now_written next_written t.text a.text t.sent h), inr (record { all = all_gone left now_left next_left t.gone n.gone t.taken n.read.1; before = not_over j s old.count left now_left written now_written t n.gone new.line n.read.0 }));
+      done = (ap (λ (u : Told). u.result) is, subst (λ (x : List ℕ). Appends written next_written x) (sym (ap (λ (u : Told). u.text) is ∙ ap (λ x. t.text ++ x) (append-nil a.text))) (Appends-trans written now_written next_written t.text a.text t.sent h), inr (record { all = all_gone left now_left next_left t.gone n.gone t.taken n.read.1; none = none_over j s old.count left now_left written now_written t n.gone new.line n.read.0; before = not_over j s old.count left now_left written now_written t n.gone new.line n.read.0 }));
       up_to = tt;
     }
 
@@ -325,6 +338,7 @@ ends_counted j s old new left now_left next_left written now_written next_writte
   count = inr (
     record {
       all = all_gone left now_left next_left t.stands.gone c.line.gone t.stands.taken c.line.read.1;
+      none = none_over j s old.count left now_left written now_written t.stands c.line.gone new.line c.line.read.0;
       before = not_over j s old.count left now_left written now_written t.stands c.line.gone new.line c.line.read.0;
     },
     joined_one t.stands.gone c.line.gone reads mid now t.read c.count,

@@ -55,26 +55,30 @@ transcript j input = transcript_from (at_start j) input
 
 -- ---- what a session does
 
--- the bytes end with the line that ended the session: none of those behind it is gone
+-- the bytes end with the line that ended the session: none of those behind it is gone, not even one that is too many
 pub record EndsThere (t : Trace) (gone : List ℕ) (e : Ending) : Type 0 where
   pub front : List (List ℕ)
   pub line : List ℕ
   pub lines : (input_of gone).lines ≡ front ++ line ∷ []
   pub last : (input_of gone).last ≡ []
+  pub none : (input_of gone).refused ≡ None
   pub before : (answers front (begin_at t)).ends ≡ GoesOn
   pub there : (answers (front ++ line ∷ []) (begin_at t)).ends ≡ e
 
--- the bytes end with a line that ends with LF, and no line before it ended the session
+-- the bytes end with a line that ends with LF, none of them is too many, and no line before it ended the session
 pub record EndsWithLine (t : Trace) (gone : List ℕ) : Type 0 where
   pub front : List (List ℕ)
   pub line : List ℕ
   pub lines : (input_of gone).lines ≡ front ++ line ∷ []
   pub last : (input_of gone).last ≡ []
+  pub none : (input_of gone).refused ≡ None
   pub before : (answers front (begin_at t)).ends ≡ GoesOn
 
--- all bytes are gone, and no line of them that ends with LF ended the session: what comes after the last LF may have
+-- all bytes are gone, none of them is too many, and no line of them that ends with LF ended the session: what comes after
+-- the last LF may have
 pub record EndsAll (t : Trace) (left now_left : Option (List ℕ)) (gone : List ℕ) : Type 0 where
   pub all : ConsumesAll left now_left gone
+  pub none : (input_of gone).refused ≡ None
   pub before : (answers (input_of gone).lines (begin_at t)).ends ≡ GoesOn
 
 -- a session ends as its transcript does, and its text is written: at the line that ended it, or at the end of its source, or
@@ -99,11 +103,13 @@ Debugs t gone left now_left read_before read_now written now_written before now 
     (told.result ≡ Err e) × Appends written now_written told.text
 
 -- how far a session reads that an error stops. After the line that ended it, or whose answer could not be written, nothing
--- is read; nor is it after the first byte that is too many. If memory ran out for a byte, no line before that ended the session.
--- `Debugs` says it of the other results
+-- is read; nor is it after the first byte that is too many. If memory ran out for a byte, no line before that ended the session,
+-- and no byte was too many. `Debugs` says it of the other results
 abbrev pub ReadsUpTo : Trace → (gone : List ℕ) → (left now_left : Option (List ℕ)) → Result (Unit {0}) DebugError → Type 0
 ReadsUpTo t gone left now_left (Err WriteFault) = EndsWithLine t gone ⊎ EndsAll t left now_left gone
-ReadsUpTo t gone left now_left (Err OutOfMemory) = EndsWithLine t gone ⊎ ((answers (input_of gone).lines (begin_at t)).ends ≡ GoesOn)
+ReadsUpTo t gone left now_left (Err OutOfMemory) =
+    let goes_on : Type 0 = (answers (input_of gone).lines (begin_at t)).ends ≡ GoesOn in
+    EndsWithLine t gone ⊎ (goes_on × ((input_of gone).refused ≡ None))
 ReadsUpTo t gone left now_left (Err (LineTooLong n)) = EndsTooMany 0 gone
 ReadsUpTo t gone left now_left (Err (TooMuch n)) = EndsTooMany 0 gone
 ReadsUpTo t gone left now_left result = Unit {0}
