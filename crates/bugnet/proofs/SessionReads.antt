@@ -7,12 +7,12 @@ use Rattle.back_step.specs.Traces.{Trace, at_start}
 use Rattle.step_debugger.specs.Answers.{begin_at}
 use Rattle.step_debugger.specs.Lines.{Input, input_of}
 use Rattle.step_debugger.specs.Transcript.{answers, lines_in, result_by, transcript_from, EndsThere, EndsAll, Debugs, IsReadOnce, CountedSession}
-use Rattle.step_debugger.specs.Transcript.{EndsWithLine as LineEnds, ReadsUpTo as UpTo}
+use Rattle.step_debugger.specs.Transcript.{StopsAtLine, StopsAtEnd, StopsInLine, EndsWithLine as LineEnds, ReadsUpTo as UpTo}
 use Rattle.step_debugger.specs.declared.error.DebugError.{DebugError}
 use Rattle.step_debugger.specs.declared.error.DebugError.TheVariants as stop
 use Rattle.step_debugger.specs.declared.session.Ending.{Ending}
 use Rattle.step_debugger.specs.declared.session.Ending.TheVariants as ending
-use Rattle.bugnet.specs.Sessions.{NoQuit, EndsWithQuit, EndsWithLine, ReadsAll, EndsBy, ReadsUpTo, ReadsOnce, SessionReads, SessionOver}
+use Rattle.bugnet.specs.Sessions.{NoQuit, EndsWithQuit, EndsWithLine, NoneEnds, ReadsAll, EndsBy, ReadsUpTo, ReadsOnce, SessionReads, SessionOver}
 use Rattle.bugnet.proofs.Sessions.{no-quit, last-quit}
 
 -- ---- where it stops
@@ -43,36 +43,39 @@ too-many t gone e own is =
 
 module _ (t : Trace) (gone : List ℕ) (left now_left : Option (List ℕ)) where
   reads-all : EndsAll t left now_left gone → ReadsAll left now_left gone
-  reads-all h = (h.all, no-quit (input_of gone).lines (begin_at t) h.before)
+  reads-all h = (h.all, (no-quit (input_of gone).lines (begin_at t) h.before, h.none))
 
   with-line : LineEnds t gone → EndsWithLine gone
-  with-line h = record { front = h.front; line = h.line; lines = h.lines; last = h.last; before = no-quit h.front (begin_at t) h.before }
+  with-line h = record { front = h.front; line = h.line; lines = h.lines; last = h.last; none = h.none; before = no-quit h.front (begin_at t) h.before }
 
-  line-or-all : LineEnds t gone ⊎ EndsAll t left now_left gone → EndsWithLine gone ⊎ ReadsAll left now_left gone
-  line-or-all (inl h) = inl (with-line h)
-  line-or-all (inr h) = inr (reads-all h)
+  line-or-all : (e : DebugError) (written now_written : Option (List ℕ)) → StopsAtLine t gone e written now_written ⊎ StopsAtEnd t gone left now_left e written now_written
+      → EndsWithLine gone ⊎ ReadsAll left now_left gone
+  line-or-all e written now_written (inl h) = inl (with-line h.line_is)
+  line-or-all e written now_written (inr h) = inr (reads-all h.at_end)
 
   pub quits-or-all : EndsThere t gone ending.Quits ⊎ EndsAll t left now_left gone → EndsWithQuit gone ⊎ ReadsAll left now_left gone
-  quits-or-all (inl h) = inl (record { front = h.front; line = h.line; lines = h.lines; last = h.last; before = no-quit h.front (begin_at t) h.before; quit = last-quit h.front h.line (begin_at t) h.before h.there })
+  quits-or-all (inl h) = inl (record { front = h.front; line = h.line; lines = h.lines; last = h.last; none = h.none; before = no-quit h.front (begin_at t) h.before; quit = last-quit h.front h.line (begin_at t) h.before h.there })
   quits-or-all (inr h) = inr (reads-all h)
 
   refused-or-all : (e : JointError) → EndsThere t gone (ending.Refused e) ⊎ EndsAll t left now_left gone → EndsWithLine gone ⊎ ReadsAll left now_left gone
-  refused-or-all e (inl h) = inl (record { front = h.front; line = h.line; lines = h.lines; last = h.last; before = no-quit h.front (begin_at t) h.before })
+  refused-or-all e (inl h) = inl (record { front = h.front; line = h.line; lines = h.lines; last = h.last; none = h.none; before = no-quit h.front (begin_at t) h.before })
   refused-or-all e (inr h) = inr (reads-all h)
 
-  line-or-none : LineEnds t gone ⊎ ((answers (input_of gone).lines (begin_at t)).ends ≡ ending.GoesOn) → EndsWithLine gone ⊎ NoQuit (input_of gone).lines
-  line-or-none (inl h) = inl (with-line h)
-  line-or-none (inr h) = inr (no-quit (input_of gone).lines (begin_at t) h)
+  line-or-none : (e : DebugError) (written now_written : Option (List ℕ))
+      → StopsAtLine t gone e written now_written ⊎ (StopsAtEnd t gone left now_left e written now_written ⊎ StopsInLine t gone written now_written) → EndsWithLine gone ⊎ NoneEnds (input_of gone)
+  line-or-none e written now_written (inl h) = inl (with-line h.line_is)
+  line-or-none e written now_written (inr (inl h)) = inr (no-quit (input_of gone).lines (begin_at t) h.at_end.before, h.at_end.none)
+  line-or-none e written now_written (inr (inr h)) = inr (no-quit (input_of gone).lines (begin_at t) h.before, h.none)
 
   up-to : (before now : ℕ) (written now_written : Option (List ℕ)) (b n : ℕ) (result : Result (Unit {0}) DebugError) → Debugs t gone left now_left before now written now_written b n result
-      → UpTo t gone left now_left result → ReadsUpTo gone left now_left result
+      → UpTo t gone left now_left written now_written result → ReadsUpTo gone left now_left result
   up-to before now written now_written b n (Ok u) d h = quits-or-all d.2
   up-to before now written now_written b n (Err stop.ReadFault) d h = (no-quit (input_of gone).lines (begin_at t) d.0, d.1)
-  up-to before now written now_written b n (Err stop.WriteFault) d h = line-or-all h
+  up-to before now written now_written b n (Err stop.WriteFault) d h = line-or-all stop.WriteFault written now_written h
   up-to before now written now_written b n (Err (stop.LineTooLong m)) d h = (too-many t gone (stop.LineTooLong m) (λ f e. absurd cc) d.0, h)
   up-to before now written now_written b n (Err (stop.TooMuch m)) d h = (too-many t gone (stop.TooMuch m) (λ f e. absurd cc) d.0, h)
   up-to before now written now_written b n (Err (stop.Joint e)) d h = refused-or-all e d.2
-  up-to before now written now_written b n (Err stop.OutOfMemory) d h = line-or-none h
+  up-to before now written now_written b n (Err stop.OutOfMemory) d h = line-or-none stop.OutOfMemory written now_written h
 
   -- ---- how often it reads
 

@@ -48,26 +48,32 @@ input_in c = cut c.failed (input_of c.bytes)
 abbrev pub NoQuit : List (List ℕ) → Type 0
 NoQuit lines = AllByRecursion (λ line. command_of line ≢ Quit) lines
 
--- bytes end with the line `quit`, the first one: no byte behind it is there
+-- bytes end with the line `quit`, the first one: no byte behind it is there, not even one that is too many
 pub record EndsWithQuit (bytes : List ℕ) : Type 0 where
   pub front : List (List ℕ)
   pub line : List ℕ
   pub lines : (input_of bytes).lines ≡ front ++ line ∷ []
   pub last : (input_of bytes).last ≡ []
+  pub none : (input_of bytes).refused ≡ None
   pub before : NoQuit front
   pub quit : command_of line ≡ Quit
 
--- bytes end with a line that ends with LF, and no line before it is `quit`
+-- bytes end with a line that ends with LF, none of them is too many, and no line before it is `quit`
 pub record EndsWithLine (bytes : List ℕ) : Type 0 where
   pub front : List (List ℕ)
   pub line : List ℕ
   pub lines : (input_of bytes).lines ≡ front ++ line ∷ []
   pub last : (input_of bytes).last ≡ []
+  pub none : (input_of bytes).refused ≡ None
   pub before : NoQuit front
 
--- all bytes of the source are gone, and no line of them that ends with LF is `quit`
+-- lines of which none is `quit`, and behind them no byte is too many
+abbrev pub NoneEnds : Input → Type 0
+NoneEnds input = NoQuit input.lines × (input.refused ≡ None)
+
+-- all bytes of the source are gone, none of them is too many, and no line of them that ends with LF is `quit`
 abbrev pub ReadsAll : (left now_left : Option (List ℕ)) → List ℕ → Type 0
-ReadsAll left now_left bytes = ConsumesAll left now_left bytes × NoQuit (input_of bytes).lines
+ReadsAll left now_left bytes = ConsumesAll left now_left bytes × NoneEnds (input_of bytes)
 
 -- ---- how a session ends
 
@@ -92,16 +98,16 @@ EndsBy (Err e) status = (status ≡ stop_status e) ⊎ (status ≡ 9)
 -- ---- how far a session reads
 
 -- how far one reads that ends so: to its first `quit` or to the end of the source; to the read that failed; to the
--- first byte that is too many; to the end of a line, if the replay was refused or an answer could not be written. No
--- `quit` is passed
+-- first byte that is too many; to the end of a line, if the replay was refused or an answer could not be written; to
+-- the end of a line or to a byte that isn't too many, if memory ran out. No `quit` is passed
 abbrev pub ReadsUpTo : (bytes : List ℕ) → (left now_left : Option (List ℕ)) → Result (Unit {0}) DebugError → Type 0
 ReadsUpTo bytes left now_left (Ok u) = EndsWithQuit bytes ⊎ ReadsAll left now_left bytes
-ReadsUpTo bytes left now_left (Err ReadFault) = NoQuit (input_of bytes).lines × ((input_of bytes).refused ≡ None)
+ReadsUpTo bytes left now_left (Err ReadFault) = NoneEnds (input_of bytes)
 ReadsUpTo bytes left now_left (Err WriteFault) = EndsWithLine bytes ⊎ ReadsAll left now_left bytes
 ReadsUpTo bytes left now_left (Err (stop.LineTooLong n)) = NoQuit (input_of bytes).lines × EndsTooMany 0 bytes
 ReadsUpTo bytes left now_left (Err (TooMuch n)) = NoQuit (input_of bytes).lines × EndsTooMany 0 bytes
 ReadsUpTo bytes left now_left (Err (stop.Joint e)) = EndsWithLine bytes ⊎ ReadsAll left now_left bytes
-ReadsUpTo bytes left now_left (Err stop.OutOfMemory) = EndsWithLine bytes ⊎ NoQuit (input_of bytes).lines
+ReadsUpTo bytes left now_left (Err stop.OutOfMemory) = EndsWithLine bytes ⊎ NoneEnds (input_of bytes)
 
 -- how often it reads: once for each byte, and once more if a read failed or the end of the source was found
 abbrev pub ReadsOnce : (bytes : List ℕ) → (left now_left : Option (List ℕ)) → (reads now_reads : ℕ) → Result (Unit {0}) DebugError → Type 0
@@ -129,7 +135,7 @@ pub record AreRead (c : Commands) (status : ℕ) (left now_left : Option (List �
   pub failed : c.failed ≡ true → Rose before now × NoQuit (input_of c.bytes).lines
   pub cause : status ≡ 12 → c.failed ≡ true
   -- a session that is done has read nothing behind the first `quit`; or all, and then no line that ends with LF is `quit`
-  pub done : status ≡ 0 → EndsWithQuit c.bytes ⊎ (ConsumesAll left now_left c.bytes × NoQuit (input_of c.bytes).lines)
+  pub done : status ≡ 0 → EndsWithQuit c.bytes ⊎ ReadsAll left now_left c.bytes
   -- however it ended, it has read no further than its end says, and each byte once; before a session nothing is read
   pub up_to : IsUnread c reads now_reads ⊎ SessionReads c.bytes status left now_left reads now_reads
 

@@ -15,10 +15,10 @@ use Rattle.step_debugger.specs.declared.session.Ending.TheVariants.{GoesOn, Quit
 use Rattle.step_debugger.specs.Commands.{command_of}
 use Rattle.step_debugger.specs.Lines.{Reading, Input, input_from, input_of, with_line, ends_in, EndsTooMany, NextLine, reads_for, CountedLine}
 use Rattle.step_debugger.specs.Answers.{Session, Answer, says, answer, begin_at}
-use Rattle.step_debugger.specs.Transcript.{behind, goes_on_by, answers, lines_in, Told, result_by, transcript_from, EndsThere, EndsWithLine, EndsAll, Debugs, ReadsUpTo, Debugged, IsReadOnce, CountedSession}
-use Rattle.step_debugger.specs.Goings.{Stops}
+use Rattle.step_debugger.specs.Transcript.{behind, goes_on_by, answers, lines_in, Told, result_by, transcript_from, EndsThere, EndsAll, Debugs, WritesUpTo, StopsAtLine, StopsAtEnd, StopsInLine, ReadsUpTo, Debugged, IsReadOnce, CountedSession}
+use Rattle.step_debugger.specs.Goings.{Stops, SendsPart}
 use Rattle.step_debugger.proofs.ReadCounts.{joined_reads, joined_one, not_read_once, read_once}
-use Rattle.step_debugger.proofs.Sent.{part_longer, part_behind, part_whole, rose_later}
+use Rattle.step_debugger.proofs.Sent.{part_longer, part_behind, part_whole, part_of_cut, rose_later}
 
 -- ---- what is read
 
@@ -109,6 +109,40 @@ not_over j s count left now_left written now_written t more line e =
     let is : input_of (t.gone ++ more) ≡ with_lines t.lines (ends_in line None) = joined j s count left now_left written now_written t more (ends_in line None) e in
     ap (λ (i : Input). (answers i.lines (begin_at j)).ends) is ∙ ap (λ (a : Answer). a.ends) (t.said [])
 
+-- nor is one of them too many
+none_over : (j : Trace) (s : Session) (count : ℕ) (left now_left written now_written : Option (List ℕ)) (t : Stands j s count left now_left written now_written) (more line : List ℕ) → input_from count [] more ≡ ends_in line None
+    → (input_of (t.gone ++ more)).refused ≡ None
+none_over j s count left now_left written now_written t more line e = ap (λ (i : Input). i.refused) (joined j s count left now_left written now_written t more (ends_in line None) e)
+
+-- the answers of the lines before are written, and then a prefix of the next one's is
+answered_first : (j : Trace) (s : Session) (count : ℕ) (left now_left written now_written next_written : Option (List ℕ)) (t : Stands j s count left now_left written now_written) (line : List ℕ) (e : DebugError)
+    → SendsPart e now_written next_written (answer s (command_of line)).text → WritesUpTo j t.lines line e written next_written
+answered_first j s count left now_left written now_written next_written t line e p =
+    let sent : Appends written now_written (t.text ++ []) = subst (λ (x : List ℕ). Appends written now_written x) (sym (append-nil t.text)) t.sent in
+    let is : answers t.lines (begin_at j) ≡ behind t.text (says s []) = ap (λ (ls : List (List ℕ)). answers ls (begin_at j)) (sym (append-nil t.lines)) ∙ t.said [] in
+    subst (λ (a : Answer). (mid : Option (List ℕ)) × Appends written mid a.text × SendsPart e mid next_written (answer a.session (command_of line)).text) (sym is) (now_written, sent, p)
+
+-- where no LF is among further bytes, they are that next line
+last_first : (j : Trace) (s : Session) (count : ℕ) (left now_left written now_written next_written : Option (List ℕ)) (t : Stands j s count left now_left written now_written) (more line : List ℕ) (e : DebugError)
+    → input_from count [] more ≡ ends_in line None → SendsPart e now_written next_written (answer s (command_of line)).text
+    → WritesUpTo j (input_of (t.gone ++ more)).lines (input_of (t.gone ++ more)).last e written next_written
+last_first j s count left now_left written now_written next_written t more line e none p =
+    let is : input_of (t.gone ++ more) ≡ with_lines t.lines (ends_in line None) = joined j s count left now_left written now_written t more (ends_in line None) none in
+    let first = answered_first j s count left now_left written now_written next_written t line e p in
+    subst (λ (i : Input). WritesUpTo j i.lines i.last e written next_written) (sym is) (subst (λ (ls : List (List ℕ)). WritesUpTo j ls line e written next_written) (sym (append-nil t.lines)) first)
+
+-- or the first bytes of it
+stops_in : (j : Trace) (s : Session) (count : ℕ) (left now_left written now_written : Option (List ℕ)) (t : Stands j s count left now_left written now_written) (more line : List ℕ) → input_from count [] more ≡ ends_in line None
+    → StopsInLine j (t.gone ++ more) written now_written
+stops_in j s count left now_left written now_written t more line none =
+    let is : input_of (t.gone ++ more) ≡ with_lines t.lines (ends_in line None) = joined j s count left now_left written now_written t more (ends_in line None) none in
+    let said : answers (input_of (t.gone ++ more)).lines (begin_at j) ≡ behind t.text (says s []) = ap (λ (i : Input). answers i.lines (begin_at j)) is ∙ t.said [] in
+    record {
+      none = ap (λ (i : Input). i.refused) is;
+      before = ap (λ (a : Answer). a.ends) said;
+      sent = subst (λ (x : List ℕ). Appends written now_written x) (sym (ap (λ (a : Answer). a.text) said ∙ append-nil t.text)) t.sent;
+    }
+
 -- the transcript begins with what is sent
 told_first : (j : Trace) (s : Session) (count : ℕ) (left now_left written now_written : Option (List ℕ)) (t : Stands j s count left now_left written now_written) (more : List ℕ)
     → transcript_from j (input_of (t.gone ++ more)) ≡ told_of (behind t.text (answers (lines_in (input_from count [] more)) s)) (input_from count [] more).refused
@@ -147,13 +181,16 @@ module _ (j : Trace) (s : Session) (old new : Reading) (left now_left next_left 
         none = ap (λ (i : Input). i.refused) (t.read x.front) ∙ x.none;
       }
 
-      up_to : (e : DebugError) (n : NextLine old now_left next_left before after (Err e) new) → ReadsUpTo j (t.gone ++ n.gone) left next_left (Err e)
+      up_to : (e : DebugError) (n : NextLine old now_left next_left before after (Err e) new) → ReadsUpTo j (t.gone ++ n.gone) left next_left written now_written (Err e)
       up_to ReadFault n = tt
       up_to WriteFault n = absurd n.read
       up_to (LineTooLong k) n = too_many_at n.stops
       up_to (TooMuch k) n = too_many_at n.stops
       up_to (Joint f) n = tt
-      up_to OutOfMemory n = inr (not_over j s old.count left now_left written now_written t n.gone (new.line ++ n.read.0 ∷ []) (ap (input_from old.count []) (sym (append-nil n.gone)) ∙ n.read.1 []))
+      up_to OutOfMemory n =
+          let is : input_from old.count [] n.gone ≡ ends_in (new.line ++ n.read.0 ∷ []) None =
+          ap (input_from old.count []) (sym (append-nil n.gone)) ∙ n.read.1 [] in
+          inr (inr (stops_in j s old.count left now_left written now_written t n.gone (new.line ++ n.read.0 ∷ []) is))
 
       by : (e : DebugError) (n : NextLine old now_left next_left before after (Err e) new) → Debugs j (t.gone ++ n.gone) left next_left start after written now_written write_before write_after (Err e)
       by ReadFault n =
@@ -194,31 +231,45 @@ module _ (j : Trace) (s : Session) (old new : Reading) (left now_left next_left 
       ([], told_first j s old.count left now_left written now_written t n.gone ∙ ap (λ (i : Input). told_of (behind t.text (answers (lines_in i) s)) i.refused) n.read.0)
 
   -- it ends with LF, or all bytes are gone
-  line_or_all : (w : Bool) (n : NextLine old now_left next_left before after (Ok w) new) → EndsWithLine j (t.gone ++ n.gone) ⊎ EndsAll j left next_left (t.gone ++ n.gone)
-  line_or_all true n =
+  line_or_all : (w : Bool) (n : NextLine old now_left next_left before after (Ok w) new) (e : DebugError) → SendsPart e now_written next_written answered.text
+      → StopsAtLine j (t.gone ++ n.gone) e written next_written ⊎ StopsAtEnd j (t.gone ++ n.gone) left next_left e written next_written
+  line_or_all true n e p =
       let is : input_of (t.gone ++ n.gone) ≡ with_lines t.lines (with_line new.line (ends_in [] None)) =
       joined j s old.count left now_left written now_written t n.gone (with_line new.line (ends_in [] None)) (ap (input_from old.count []) (sym (append-nil n.gone)) ∙ n.read.2 []) in
       inl (record {
-        front = t.lines;
-        line = new.line;
-        lines = ap (λ (i : Input). i.lines) is;
-        last = ap (λ (i : Input). i.last) is;
-        before = ap (λ (ls : List (List ℕ)). (answers ls (begin_at j)).ends) (sym (append-nil t.lines)) ∙ ap (λ (a : Answer). a.ends) (t.said []);
+        line_is = record {
+          front = t.lines;
+          line = new.line;
+          lines = ap (λ (i : Input). i.lines) is;
+          last = ap (λ (i : Input). i.last) is;
+          none = ap (λ (i : Input). i.refused) is;
+          before = ap (λ (ls : List (List ℕ)). (answers ls (begin_at j)).ends) (sym (append-nil t.lines)) ∙ ap (λ (a : Answer). a.ends) (t.said []);
+        };
+        sent = answered_first j s old.count left now_left written now_written next_written t new.line e p;
       })
-  line_or_all false n = inr (record { all = all_gone left now_left next_left t.gone n.gone t.taken n.read.1; before = not_over j s old.count left now_left written now_written t n.gone new.line n.read.0 })
+  line_or_all false n e p =
+      inr (record {
+        at_end = record {
+          all = all_gone left now_left next_left t.gone n.gone t.taken n.read.1;
+          none = none_over j s old.count left now_left written now_written t n.gone new.line n.read.0;
+          before = not_over j s old.count left now_left written now_written t n.gone new.line n.read.0;
+        };
+        sent = last_first j s old.count left now_left written now_written next_written t n.gone new.line e n.read.0 p;
+      })
 
   -- its answer isn't sent
-  pub not_sent : (e : DebugError) → write_start ≤ write_before → AppendsPart now_written next_written answered.text × Stops write_before write_after e
+  pub not_sent : (e : DebugError) → write_start ≤ write_before → SendsPart e now_written next_written answered.text × Stops write_before write_after e
       → Debugged j left next_left start after written next_written write_start write_after (Err e)
-  not_sent e fell h = record { gone = all; taken = taken_all; done = by e h; up_to = up_to e h.1 }
+  not_sent e fell h = record { gone = all; taken = taken_all; done = by e h; up_to = up_to e h.0 h.1 }
     where
-      up_to : (e : DebugError) → Stops write_before write_after e → ReadsUpTo j all left next_left (Err e)
-      up_to ReadFault h = tt
-      up_to WriteFault h = line_or_all whole n
-      up_to (LineTooLong k) h = absurd h
-      up_to (TooMuch k) h = absurd h
-      up_to (Joint f) h = tt
-      up_to OutOfMemory h = elim (line_or_all whole n) [ inl x ↦ inl x | inr x ↦ inr x.before ]
+      up_to : (e : DebugError) → SendsPart e now_written next_written answered.text → Stops write_before write_after e
+          → ReadsUpTo j all left next_left written next_written (Err e)
+      up_to ReadFault p h = tt
+      up_to WriteFault p h = line_or_all whole n WriteFault p
+      up_to (LineTooLong k) p h = absurd h
+      up_to (TooMuch k) p h = absurd h
+      up_to (Joint f) p h = tt
+      up_to OutOfMemory p h = elim (line_or_all whole n OutOfMemory p) [ inl x ↦ inl x | inr x ↦ inr (inl x) ]
 
       part : AppendsPart now_written next_written answered.text → AppendsPart written next_written (transcript_from j (input_of all)).text
       part p =
@@ -227,9 +278,9 @@ module _ (j : Trace) (s : Session) (old new : Reading) (left now_left next_left 
           subst (λ (x : List ℕ). AppendsPart written next_written x) (sym (ap (λ (u : Told). u.text) x.1 ∙ ap (λ y. t.text ++ y) f.1))
           (part_behind written now_written next_written t.text (answered.text ++ f.0) t.sent (part_longer now_written next_written answered.text f.0 p))
 
-      by : (e : DebugError) → AppendsPart now_written next_written answered.text × Stops write_before write_after e → Debugs j all left next_left start after written next_written write_start write_after (Err e)
+      by : (e : DebugError) → SendsPart e now_written next_written answered.text × Stops write_before write_after e → Debugs j all left next_left start after written next_written write_start write_after (Err e)
       by ReadFault h = absurd h.1
-      by WriteFault h = (part h.0, rose_later write_start write_before write_after fell h.1)
+      by WriteFault h = (part (part_of_cut WriteFault now_written next_written answered.text h.0), rose_later write_start write_before write_after fell h.1)
       by (LineTooLong k) h = absurd h.1
       by (TooMuch k) h = absurd h.1
       by (Joint f) h = absurd h.1
@@ -254,10 +305,11 @@ module _ (j : Trace) (s : Session) (old new : Reading) (left now_left next_left 
         line = new.line;
         lines = ap (λ (i : Input). i.lines) is;
         last = ap (λ (i : Input). i.last) is;
+        none = ap (λ (i : Input). i.refused) is;
         before = ap (λ (ls : List (List ℕ)). (answers ls (begin_at j)).ends) (sym (append-nil t.lines)) ∙ ap (λ (a : Answer). a.ends) (t.said []);
         there = ap (λ (a : Answer). a.ends) (t.said (new.line ∷ [])) ∙ ap (λ (y : Ending). (goes_on_by y answered (λ u. answers [] u)).ends) on ∙ ap (λ (a : Answer). a.ends) last ∙ on;
       })
-  there e on last false n = inr (record { all = all_gone left now_left next_left t.gone n.gone t.taken n.read.1; before = not_over j s old.count left now_left written now_written t n.gone new.line n.read.0 })
+  there e on last false n = inr (record { all = all_gone left now_left next_left t.gone n.gone t.taken n.read.1; none = none_over j s old.count left now_left written now_written t n.gone new.line n.read.0; before = not_over j s old.count left now_left written now_written t n.gone new.line n.read.0 })
 
   pub quits : answered.ends ≡ Quits → Appends now_written next_written answered.text → Debugged j left next_left start after written next_written write_start write_after (Ok (tt {0}))
   quits on h =
@@ -273,13 +325,13 @@ module _ (j : Trace) (s : Session) (old new : Reading) (left now_left next_left 
 
   all_if : (w : Bool) (n : NextLine old now_left next_left before after (Ok w) new) → w ≡ false → EndsAll j left next_left (t.gone ++ n.gone)
   all_if true n e = absurd cc
-  all_if false n e = record { all = all_gone left now_left next_left t.gone n.gone t.taken n.read.1; before = not_over j s old.count left now_left written now_written t n.gone new.line n.read.0 }
+  all_if false n e = record { all = all_gone left now_left next_left t.gone n.gone t.taken n.read.1; none = none_over j s old.count left now_left written now_written t n.gone new.line n.read.0; before = not_over j s old.count left now_left written now_written t n.gone new.line n.read.0 }
 
   module _ (reads mid now : ℕ) (first : mid ≡ counted_by (length t.gone) reads) (last : now ≡ counted_by (reads_for n.gone (Ok whole)) mid) where
     counts : (now ≡ counted_by (length all) reads) ⊎ (EndsAll j left next_left all × (now ≡ counted_by (length all + 1) reads))
     counts = read_once j left next_left t.gone n.gone reads mid now whole first last (all_if whole n)
 
-    pub not_sent_counted : (e : DebugError) → write_start ≤ write_before → AppendsPart now_written next_written answered.text × Stops write_before write_after e
+    pub not_sent_counted : (e : DebugError) → write_start ≤ write_before → SendsPart e now_written next_written answered.text × Stops write_before write_after e
         → CountedSession j left next_left start after reads now written next_written write_start write_after (Err e)
     unfolding not_sent
     not_sent_counted e fell h = record { session = not_sent e fell h; count = by e h.1 }
@@ -312,7 +364,7 @@ ends j s old new left now_left next_left written now_written next_written start 
     record {
       gone = t.gone ++ n.gone;
       taken = Consumes-trans left now_left next_left t.gone n.gone t.taken n.taken;
-      done = (ap (λ (u : Told). u.result) is, subst (λ (x : List ℕ). Appends written next_written x) (sym (ap (λ (u : Told). u.text) is ∙ ap (λ x. t.text ++ x) (append-nil a.text))) (Appends-trans written now_written next_written t.text a.text t.sent h), inr (record { all = all_gone left now_left next_left t.gone n.gone t.taken n.read.1; before = not_over j s old.count left now_left written now_written t n.gone new.line n.read.0 }));
+      done = (ap (λ (u : Told). u.result) is, subst (λ (x : List ℕ). Appends written next_written x) (sym (ap (λ (u : Told). u.text) is ∙ ap (λ x. t.text ++ x) (append-nil a.text))) (Appends-trans written now_written next_written t.text a.text t.sent h), inr (record { all = all_gone left now_left next_left t.gone n.gone t.taken n.read.1; none = none_over j s old.count left now_left written now_written t n.gone new.line n.read.0; before = not_over j s old.count left now_left written now_written t n.gone new.line n.read.0 }));
       up_to = tt;
     }
 
@@ -325,6 +377,7 @@ ends_counted j s old new left now_left next_left written now_written next_writte
   count = inr (
     record {
       all = all_gone left now_left next_left t.stands.gone c.line.gone t.stands.taken c.line.read.1;
+      none = none_over j s old.count left now_left written now_written t.stands c.line.gone new.line c.line.read.0;
       before = not_over j s old.count left now_left written now_written t.stands c.line.gone new.line c.line.read.0;
     },
     joined_one t.stands.gone c.line.gone reads mid now t.read c.count,

@@ -1,19 +1,19 @@
 -- Texts that are sent one after another.
-use Rattle.std.proofs.Common.{◌≡◌, ℕ, suc, ◌+◌, ◌-◌, ◌≤◌, ◌<◌, List, [], ◌∷◌, ◌++◌, length, take, Bool, true, false, Option, Some, None, ◌∙◌, ap, subst, sym, refl, arith, inl, inr, ◌⊎◌, append_assoc}
+use Rattle.std.proofs.Common.{◌≡◌, ℕ, suc, ◌+◌, ◌-◌, ◌≤◌, ◌<◌, List, [], ◌∷◌, ◌++◌, length, take, Bool, true, false, Option, Some, None, ◌∙◌, ap, subst, sym, refl, arith, inl, inr, ◌⊎◌, append_assoc, length-append}
 use Rattle.std.specs.Prelude.{Ok}
 use Rattle.std.specs.Io.KnownBytes.{Appends}
 use Rattle.std.proofs.KnownBytes.{Appends-nil, Appends-trans}
 use Rattle.std.proofs.lemmas.List.{append-nil, take_all, take-append-le}
 use Rattle.std.proofs.lemmas.Bool.{cases_lt}
 use Rattle.bn_outside.specs.Counts.{Rose}
-use Rattle.bn_outside.specs.Streams.{AppendsPart}
+use Rattle.bn_outside.specs.Streams.{AppendsPart, AppendsShort}
 use Rattle.joint_replay.specs.Joining.{Joining, readiness, choice, steps_left}
 use Rattle.back_step.specs.Traces.{Trace, trace_step}
 use Rattle.step_debugger.specs.declared.error.DebugError.{DebugError}
 use Rattle.step_debugger.specs.declared.error.DebugError.TheVariants.{ReadFault, WriteFault, LineTooLong, TooMuch, Joint, OutOfMemory}
 use Rattle.step_debugger.specs.declared.session.Ending.{Ending}
 use Rattle.step_debugger.specs.Answers.{Moves, step_by, step_up_to, go_by, go_for, go_on, hart_place, places_from}
-use Rattle.step_debugger.specs.Goings.{StepsOnce, GoesOnce, Stops, Gathers, Goes, ended}
+use Rattle.step_debugger.specs.Goings.{StepsOnce, GoesOnce, Stops, SendsPart, Gathers, Goes, ended}
 
 -- the front of a longer text
 front_longer : (n : ℕ) (s t : List ℕ) → (length s < n) ⊎ (n ≤ length s) → (m : ℕ) × (take m (s ++ t) ≡ take n s)
@@ -35,6 +35,42 @@ take_behind (x ∷ s) t n =
 pub part_behind : (a b c : Option (List ℕ)) (s t : List ℕ) → Appends a b s → AppendsPart b c t → AppendsPart a c (s ++ t)
 part_behind a b c s t h k =
     (length s + k.0, subst (λ (u : List ℕ). Appends a c u) (sym (take_behind s t k.0)) (Appends-trans a b c s (take k.0 t) h k.1))
+
+-- the same of a front that isn't all of it
+short_longer : (a b : Option (List ℕ)) (s t : List ℕ) → AppendsShort a b s → AppendsShort a b (s ++ t)
+short_longer a b s t h =
+    let size = length-append s t in
+    (h.0, omega (arith, size, h.1), subst (λ (u : List ℕ). Appends a b u) (sym (take-append-le h.0 s t (omega (arith, h.1)))) h.2)
+
+short_behind : (a b c : Option (List ℕ)) (s t : List ℕ) → Appends a b s → AppendsShort b c t → AppendsShort a c (s ++ t)
+short_behind a b c s t h k =
+    let size = length-append s t in
+    (length s + k.0, omega (arith, size, k.1), subst (λ (u : List ℕ). Appends a c u) (sym (take_behind s t k.0)) (Appends-trans a b c s (take k.0 t) h k.2))
+
+-- and of a text that an error stopped
+pub cut_longer : (e : DebugError) (a b : Option (List ℕ)) (s t : List ℕ) → SendsPart e a b s → SendsPart e a b (s ++ t)
+cut_longer WriteFault a b s t h = short_longer a b s t h
+cut_longer ReadFault a b s t h = part_longer a b s t h
+cut_longer (LineTooLong n) a b s t h = part_longer a b s t h
+cut_longer (TooMuch n) a b s t h = part_longer a b s t h
+cut_longer (Joint f) a b s t h = part_longer a b s t h
+cut_longer OutOfMemory a b s t h = part_longer a b s t h
+
+pub cut_behind : (e : DebugError) (a b c : Option (List ℕ)) (s t : List ℕ) → Appends a b s → SendsPart e b c t → SendsPart e a c (s ++ t)
+cut_behind WriteFault a b c s t h k = short_behind a b c s t h k
+cut_behind ReadFault a b c s t h k = part_behind a b c s t h k
+cut_behind (LineTooLong n) a b c s t h k = part_behind a b c s t h k
+cut_behind (TooMuch n) a b c s t h k = part_behind a b c s t h k
+cut_behind (Joint f) a b c s t h k = part_behind a b c s t h k
+cut_behind OutOfMemory a b c s t h k = part_behind a b c s t h k
+
+pub part_of_cut : (e : DebugError) (a b : Option (List ℕ)) (s : List ℕ) → SendsPart e a b s → AppendsPart a b s
+part_of_cut WriteFault a b s h = (h.0, h.2)
+part_of_cut ReadFault a b s h = h
+part_of_cut (LineTooLong n) a b s h = h
+part_of_cut (TooMuch n) a b s h = h
+part_of_cut (Joint f) a b s h = h
+part_of_cut OutOfMemory a b s h = h
 
 pub part_whole : (old new : Option (List ℕ)) (text : List ℕ) → Appends old new text → AppendsPart old new text
 part_whole old new text h = (length text, subst (λ (t : List ℕ). Appends old new t) (sym (take_all (length text) text (omega arith))) h)
@@ -111,11 +147,11 @@ module _ (first : List ℕ) (whole : Moves) (h count k : ℕ) (j new : Trace) (w
 
   -- or none of it
   pub not_sent : (next : Option (List ℕ)) (last : ℕ) (e : DebugError) → SoFar first whole (step_up_to h (count - k) j) waiting old now before after → k < count → StepsOnce j h (Ok None) new waiting text
-      → AppendsPart now next text × Stops after last e → AppendsPart old next (first ++ whole.text) × Stops before last e
+      → SendsPart e now next text × Stops after last e → SendsPart e old next (first ++ whole.text) × Stops before last e
   not_sent next last e s low t g =
       let m = told s low t in
       let rest = step_up_to h (count - (k + 1)) new in
-      (subst (λ (x : List ℕ). AppendsPart old next x) (sym m.text) (part_behind old now next m.sent (text ++ rest.text) m.appended (part_longer now next text rest.text g.0)), stops_later before after last e m.later g.1)
+      (subst (λ (x : List ℕ). SendsPart e old next x) (sym m.text) (cut_behind e old now next m.sent (text ++ rest.text) m.appended (cut_longer e now next text rest.text g.0)), stops_later before after last e m.later g.1)
 
   -- the steps end
   pub they_end : (ending : Ending) → SoFar first whole (step_up_to h (count - k) j) waiting old now before after → k < count → StepsOnce j h (Ok (Some ending)) new waiting text
@@ -125,9 +161,9 @@ module _ (first : List ℕ) (whole : Moves) (h count k : ℕ) (j new : Trace) (w
       (s.sent, s.appended, s.text ∙ ap (λ (m : Moves). s.sent ++ (waiting ++ m.text)) is ∙ ap (λ (x : List ℕ). s.sent ++ x) (sym t.1), (sym (s.moved ∙ ap (λ (m : Moves). m.now) is), sym (s.ends ∙ ap (λ (m : Moves). m.ends) is)))
 
   -- memory is wanting
-  pub they_starve : (e : DebugError) → SoFar first whole (step_up_to h (count - k) j) waiting old now before after → e ≡ OutOfMemory → AppendsPart old now (first ++ whole.text) × Stops before after e
+  pub they_starve : (e : DebugError) → SoFar first whole (step_up_to h (count - k) j) waiting old now before after → e ≡ OutOfMemory → SendsPart e old now (first ++ whole.text) × Stops before after e
   they_starve e s none =
-      (subst (λ (x : List ℕ). AppendsPart old now x) (sym s.text) (part_longer old now s.sent (waiting ++ (step_up_to h (count - k) j).text) (part_whole old now s.sent s.appended)), starved before after e none)
+      (subst (λ (x : DebugError). SendsPart x old now (first ++ whole.text)) (sym none) (subst (λ (x : List ℕ). AppendsPart old now x) (sym s.text) (part_longer old now s.sent (waiting ++ (step_up_to h (count - k) j).text) (part_whole old now s.sent s.appended))), starved before after e none)
 
 -- all steps are done
 pub all_told : (first : List ℕ) (whole : Moves) (h count k : ℕ) (j : Trace) (waiting : List ℕ) (old now : Option (List ℕ)) (before after : ℕ) (ending : Ending) → SoFar first whole (step_up_to h (count - k) j) waiting old now before after → count ≤ k

@@ -2,7 +2,7 @@
 use Rattle.std.specs.Prelude.{◌≡◌, ℕ, ◌+◌, Bool, true, List, ◌++◌, Option, Some, None, Result, Ok, Err}
 use Rattle.std.specs.Io.KnownBytes.{Appends}
 use Rattle.bn_outside.specs.Counts.{Rose}
-use Rattle.bn_outside.specs.Streams.{AppendsPart}
+use Rattle.bn_outside.specs.Streams.{AppendsPart, AppendsShort}
 use Rattle.hart_replay.specs.declared.error.ReplayError.{ReplayError}
 use Rattle.hart_replay.specs.declared.error.ReplayError.TheVariants as replay
 use Rattle.joint_replay.specs.declared.error.JointError.{JointError}
@@ -93,15 +93,20 @@ Stops before now OutOfMemory = Unit {0}
 Stops before now WriteFault = Rose before now
 Stops before now e = ⊥
 
+-- a prefix of a text was sent; not all of it, if a write failed
+abbrev pub SendsPart : DebugError → Option (List ℕ) → Option (List ℕ) → List ℕ → Type 0
+SendsPart WriteFault written now_written text = AppendsShort written now_written text
+SendsPart e written now_written text = AppendsPart written now_written text
+
 -- a text was sent, or a prefix of it
 abbrev pub Sends : {A : Type 0} → List ℕ → (A → Type 0) → (written now_written : Option (List ℕ)) → (before now : ℕ) → Result A DebugError → Type 0
 Sends text P written now_written before now (Ok value) = Appends written now_written text × P value
-Sends text P written now_written before now (Err e) = AppendsPart written now_written text × Stops before now e
+Sends text P written now_written before now (Err e) = SendsPart e written now_written text × Stops before now e
 
 -- of a text some was sent and the rest waits, or a prefix of it was sent
 abbrev pub Gathers : {A : Type 0} → List ℕ → (A → Type 0) → (written now_written : Option (List ℕ)) → (before now : ℕ) → (waiting : List ℕ) → Result A DebugError → Type 0
 Gathers text P written now_written before now waiting (Ok value) = (sent : List ℕ) × Appends written now_written sent × (text ≡ sent ++ waiting) × P value
-Gathers text P written now_written before now waiting (Err e) = AppendsPart written now_written text × Stops before now e
+Gathers text P written now_written before now waiting (Err e) = SendsPart e written now_written text × Stops before now e
 
 -- ---- a session, by its parts
 

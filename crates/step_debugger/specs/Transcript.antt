@@ -13,6 +13,7 @@ use Rattle.step_debugger.specs.declared.session.Ending.TheVariants.{GoesOn, Quit
 use Rattle.step_debugger.specs.Commands.{command_of}
 use Rattle.step_debugger.specs.Lines.{Input, input_of, EndsTooMany}
 use Rattle.step_debugger.specs.Answers.{Session, Answer, begin_at, says, answer}
+use Rattle.step_debugger.specs.Goings.{SendsPart}
 
 -- the answer behind another
 abbrev pub behind : List ℕ → Answer → Answer
@@ -55,26 +56,43 @@ transcript j input = transcript_from (at_start j) input
 
 -- ---- what a session does
 
--- the bytes end with the line that ended the session: none of those behind it is gone
+-- the bytes end with the line that ended the session: none of those behind it is gone, not even one that is too many
 pub record EndsThere (t : Trace) (gone : List ℕ) (e : Ending) : Type 0 where
   pub front : List (List ℕ)
   pub line : List ℕ
   pub lines : (input_of gone).lines ≡ front ++ line ∷ []
   pub last : (input_of gone).last ≡ []
+  pub none : (input_of gone).refused ≡ None
   pub before : (answers front (begin_at t)).ends ≡ GoesOn
   pub there : (answers (front ++ line ∷ []) (begin_at t)).ends ≡ e
 
--- the bytes end with a line that ends with LF, and no line before it ended the session
+-- the bytes end with a line that ends with LF, none of them is too many, and no line before it ended the session
 pub record EndsWithLine (t : Trace) (gone : List ℕ) : Type 0 where
   pub front : List (List ℕ)
   pub line : List ℕ
   pub lines : (input_of gone).lines ≡ front ++ line ∷ []
   pub last : (input_of gone).last ≡ []
+  pub none : (input_of gone).refused ≡ None
   pub before : (answers front (begin_at t)).ends ≡ GoesOn
 
--- all bytes are gone, and no line of them that ends with LF ended the session: what comes after the last LF may have
+-- the answers of lines are written whole, and then a prefix of the answer of the next line; not all of that, if a write
+-- failed
+abbrev pub WritesUpTo : Trace → List (List ℕ) → List ℕ → DebugError → (written now_written : Option (List ℕ)) → Type 0
+WritesUpTo t lines line e written now_written =
+    let before : Answer = answers lines (begin_at t) in
+    let next : Answer = answer before.session (command_of line) in
+    (then_written : Option (List ℕ)) × Appends written then_written before.text × SendsPart e then_written now_written next.text
+
+-- the bytes end with a line whose answer an error stopped, and the answers of the lines before it are written whole
+pub record StopsAtLine (t : Trace) (gone : List ℕ) (e : DebugError) (written now_written : Option (List ℕ)) : Type 0 where
+  pub line_is : EndsWithLine t gone
+  pub sent : WritesUpTo t line_is.front line_is.line e written now_written
+
+-- all bytes are gone, none of them is too many, and no line of them that ends with LF ended the session: what comes
+-- after the last LF may have
 pub record EndsAll (t : Trace) (left now_left : Option (List ℕ)) (gone : List ℕ) : Type 0 where
   pub all : ConsumesAll left now_left gone
+  pub none : (input_of gone).refused ≡ None
   pub before : (answers (input_of gone).lines (begin_at t)).ends ≡ GoesOn
 
 -- a session ends as its transcript does, and its text is written: at the line that ended it, or at the end of its source, or
@@ -98,22 +116,38 @@ Debugs t gone left now_left read_before read_now written now_written before now 
     let told : Told = transcript_from t (input_of gone) in
     (told.result ≡ Err e) × Appends written now_written told.text
 
--- how far a session reads that an error stops. After the line that ended it, or whose answer could not be written, nothing
--- is read; nor is it after the first byte that is too many. If memory ran out for a byte, no line before that ended the session.
--- `Debugs` says it of the other results
-abbrev pub ReadsUpTo : Trace → (gone : List ℕ) → (left now_left : Option (List ℕ)) → Result (Unit {0}) DebugError → Type 0
-ReadsUpTo t gone left now_left (Err WriteFault) = EndsWithLine t gone ⊎ EndsAll t left now_left gone
-ReadsUpTo t gone left now_left (Err OutOfMemory) = EndsWithLine t gone ⊎ ((answers (input_of gone).lines (begin_at t)).ends ≡ GoesOn)
-ReadsUpTo t gone left now_left (Err (LineTooLong n)) = EndsTooMany 0 gone
-ReadsUpTo t gone left now_left (Err (TooMuch n)) = EndsTooMany 0 gone
-ReadsUpTo t gone left now_left result = Unit {0}
+-- all bytes are gone, an error stopped the answer of what comes after the last LF, and those of the lines are written
+-- whole
+pub record StopsAtEnd (t : Trace) (gone : List ℕ) (left now_left : Option (List ℕ)) (e : DebugError) (written now_written : Option (List ℕ)) : Type 0 where
+  pub at_end : EndsAll t left now_left gone
+  pub sent : WritesUpTo t (input_of gone).lines (input_of gone).last e written now_written
+
+-- the bytes end within a line, none of them is too many, no line before ended the session, and their answers are
+-- written whole
+pub record StopsInLine (t : Trace) (gone : List ℕ) (written now_written : Option (List ℕ)) : Type 0 where
+  pub none : (input_of gone).refused ≡ None
+  pub before : (answers (input_of gone).lines (begin_at t)).ends ≡ GoesOn
+  pub sent : Appends written now_written (answers (input_of gone).lines (begin_at t)).text
+
+-- how far a session reads that an error stops. After the line that ended it, or whose answer could not be written,
+-- nothing is read; nor is it after the first byte that is too many. If memory ran out, it was for a line's answer or for
+-- a byte. `Debugs` says it of the other results
+abbrev pub ReadsUpTo : Trace → (gone : List ℕ) → (left now_left written now_written : Option (List ℕ)) → Result (Unit {0}) DebugError → Type 0
+ReadsUpTo t gone left now_left written now_written (Err WriteFault) =
+    StopsAtLine t gone WriteFault written now_written ⊎ StopsAtEnd t gone left now_left WriteFault written now_written
+ReadsUpTo t gone left now_left written now_written (Err OutOfMemory) =
+    StopsAtLine t gone OutOfMemory written now_written
+    ⊎ (StopsAtEnd t gone left now_left OutOfMemory written now_written ⊎ StopsInLine t gone written now_written)
+ReadsUpTo t gone left now_left written now_written (Err (LineTooLong n)) = EndsTooMany 0 gone
+ReadsUpTo t gone left now_left written now_written (Err (TooMuch n)) = EndsTooMany 0 gone
+ReadsUpTo t gone left now_left written now_written result = Unit {0}
 
 -- bytes of the source are gone, and they are the commands
 pub record Debugged (t : Trace) (left now_left : Option (List ℕ)) (read_before read_now : ℕ) (written now_written : Option (List ℕ)) (before now : ℕ) (result : Result (Unit {0}) DebugError) : Type 0 where
   pub gone : List ℕ
   pub taken : Consumes left now_left gone
   pub done : Debugs t gone left now_left read_before read_now written now_written before now result
-  pub up_to : ReadsUpTo t gone left now_left result
+  pub up_to : ReadsUpTo t gone left now_left written now_written result
 
 -- the source was read once for each byte that is gone, and once more if a read failed, or if its end was found and no line that
 -- ends with LF had ended the session

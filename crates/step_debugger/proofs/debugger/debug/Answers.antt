@@ -1,10 +1,9 @@
 use Rattle.std.proofs.Common.{◌≡◌, ℕ, List, Bool, Ok, ap, sym, ◌∙◌, subst, arith}
 use Rattle.std.specs.Io.KnownBytes.{Appends}
-use Rattle.bn_outside.specs.Streams.{AppendsPart}
 use Rattle.step_debugger.specs.Commands.{command_of}
 use Rattle.step_debugger.specs.Lines.{Reading, CountedLine}
 use Rattle.step_debugger.specs.Answers.{Session, answer}
-use Rattle.step_debugger.specs.Goings.{session_of, Stops}
+use Rattle.step_debugger.specs.Goings.{session_of, Stops, SendsPart}
 use Rattle.step_debugger.proofs.Lasting.{CountedStands, counted_at_begin, counted_more, not_read_counted, not_sent_counted, quits_counted, refused_counted, ends_counted}
 use Rattle.step_debugger.proofs.Apart.{goes_on, not_read_apart, not_answered, quits_apart, refused_apart}
 use Rattle.step_debugger.proofs.debugger.debug.Goals as goal
@@ -30,7 +29,7 @@ returns-in-Err-answer-clause-counted g c =
     (g.O.Sink.written c.args.out.now) (g.O.Sink.written c.lines.out) (g.O.Sink.written c.answer.new.out) (g.I.Source.faults c.args.input.now) (g.I.Source.faults c.lines.input) (g.I.Source.faults c.next.new.source)
     (g.O.Sink.faults c.args.out.now) (g.O.Sink.faults c.lines.out) (g.O.Sink.faults c.answer.new.out) c.in-Ok.whole c.lines.invariant.stands.stands c.in-Ok.ensures.read.line
     (g.I.Source.reads c.args.input.now) (g.I.Source.reads c.lines.input) (g.I.Source.reads c.next.new.source) c.lines.invariant.stands.read c.in-Ok.ensures.read.count c.in-Err-answer.error c.lines.invariant.later
-    (subst (λ (x : List ℕ). AppendsPart (g.O.Sink.written c.lines.out) (g.O.Sink.written c.answer.new.out) (answer (session_of c.lines.trail.trace c.lines.focus) (command_of x)).text
+    (subst (λ (x : List ℕ). SendsPart c.in-Err-answer.error (g.O.Sink.written c.lines.out) (g.O.Sink.written c.answer.new.out) (answer (session_of c.lines.trail.trace c.lines.focus) (command_of x)).text
     × Stops (g.O.Sink.faults c.lines.out) (g.O.Sink.faults c.answer.new.out) c.in-Err-answer.error) c.line.ensures c.in-Err-answer.ensures.sent)
 
 pub lines-preserved : goal.lines-preserved
