@@ -11,7 +11,7 @@ use Rattle.joint_replay.specs.Points.{sources_into}
 use Rattle.joint_replay.specs.Memory.{word_in}
 use Rattle.joint_replay.specs.Calls.{bare, state_at}
 use Rattle.back_step.specs.Traces.{Trace, IsGoneBack}
-use Rattle.back_step.specs.Trails.{LeadsBy, Stands}
+use Rattle.back_step.specs.Trails.{LeadsBy, IsBackAt}
 use Rattle.back_step.proofs.Leading.{leads_walk}
 
 -- ---- one hart
@@ -95,7 +95,7 @@ ready_bare records lanes h (l ∷ ls) (suc k) = ready_bare records lanes h ls k
 
 -- ---- all that is shown
 
-module _ (there now : Joining) (s : Stands there now) where
+module _ (there now : Joining) (s : IsBackAt there now) where
   pub same_ready : (h : ℕ) → readiness now h ≡ readiness there h
   same_ready h =
       sym (ready_bare now.records now.lanes h now.lanes h)
@@ -110,7 +110,7 @@ module _ (there now : Joining) (s : Stands there now) where
   same_state h = sym (state_in_bare now.lanes h) ∙ ap (λ (ls : List Lane). state_in (slice_get ls h)) s.lanes ∙ state_in_bare there.lanes h
 
 -- so a trace shows the state at its entries' harts
-pub gone_back : (t : Trace) (there : Joining) → LeadsBy t.start t.entries there → Stands there t.now → IsGoneBack t
+pub gone_back : (t : Trace) (there : Joining) → LeadsBy t.start t.entries there → IsBackAt there t.now → IsGoneBack t
 gone_back t there led s =
     let r = leads_walk (begun t.start) there t.entries led in
     record {

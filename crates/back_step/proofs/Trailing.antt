@@ -14,7 +14,7 @@ use Rattle.joint_replay.specs.Calls.{bare, stepped_of, StepUnrefused, Steps}
 use Rattle.joint_replay.specs.Orders.{ready_step}
 use Rattle.back_step.specs.declared.entry.Entry.{Entry}
 use Rattle.back_step.specs.Traces.{entry_of, entry_told, harts_of, state_after, Trace, Trailed, with_entry, cut, IsGoneBack}
-use Rattle.back_step.specs.Trails.{LeadsBy, Stands, with_copy, HasCopies, trailed, IsTrail, TrailSteps, GoesOnFrom}
+use Rattle.back_step.specs.Trails.{LeadsBy, IsBackAt, with_copy, HasCopies, trailed, IsTrail, TrailSteps, GoesOnFrom}
 use Rattle.back_step.proofs.Leading.{step_there, step_calm, leads_append, one_longer, state_is}
 use Rattle.back_step.proofs.Copying.{AreCopies, is_due, next_many, many_after, copies_kept, copies_longer, due_tells}
 
@@ -57,7 +57,7 @@ module _ (every : ℕ) (start : Joining) (entries : List Entry) (now : Joining) 
     with_kept = record { some = t.some; calm = t.calm; there = t.there; led = t.led; stands = t.stands; copied = are; many = inl size; tried = inr size }
 
     module _ (h : ℕ) (new : Joining) where
-      stands_by : (e : JointError) → Steps now h (Err e) new → Stands t.there new
+      stands_by : (e : JointError) → Steps now h (Err e) new → IsBackAt t.there new
       stands_by e (inl r) = record {
         program = ap (λ (j : Joining). j.program) r.repeated ∙ t.stands.program;
         records = ap (λ (j : Joining). j.records) r.repeated ∙ t.stands.records;

@@ -32,7 +32,7 @@ abbrev pub CanTake : Joining → List Entry → Type 0
 CanTake j es = (k : Joining) × LeadsBy j es k
 
 -- a joint replay stands there, but that it may repeat a refusal, and then nothing is known of what is left of its replays
-pub record Stands (there now : Joining) : Type 0 where
+pub record IsBackAt (there now : Joining) : Type 0 where
   pub program : now.program ≡ there.program
   pub records : now.records ≡ there.records
   pub lanes : map bare now.lanes ≡ map bare there.lanes
@@ -60,7 +60,7 @@ pub record IsTrail (every : ℕ) (start : Joining) (entries : List Entry) (now :
   pub calm : start.refused ≡ None
   pub there : Joining
   pub led : LeadsBy start entries there
-  pub stands : Stands there now
+  pub stands : IsBackAt there now
   pub copied : (i : ℕ) (c : Joining) → slice_get copies i ≡ Some c → LeadsBy start (take (i * every) entries) c
   pub many : HasCopies every (length entries) (length copies)
   -- if a refusal is repeated, a step was tried

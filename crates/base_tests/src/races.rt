@@ -1,5 +1,5 @@
 ghost use Rattle.std.specs.Prelude.{◌≡◌, ◌+◌, ◌*◌, ◌<◌, ◌≤◌, ◌^◌, ◌%◌, ℕ, ◌==◌, if◌then◌else◌, IfOk, OnOk, IsTrue};
-ghost use Rattle.race_log.specs.Stands.{harts_of, lasting_of, lasts, next_turn, next_count};
+ghost use Rattle.race_log.specs.Represents.{harts_of, lasting_of, lasts, next_turn, next_count};
 
 use bn_base::{HartId, Ic, RawSettings, Settings};
 use race_log::Mode::{self, Read, Write};

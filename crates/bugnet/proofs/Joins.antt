@@ -10,7 +10,7 @@ use Rattle.joint_replay.specs.declared.error.JointError.TheVariants as joint
 use Rattle.joint_replay.specs.Memory.{known_from}
 use Rattle.joint_replay.specs.Joining.{Joining, Ran, begun, ran, run_all}
 use Rattle.joint_replay.specs.Texts.{item_text, known_text, steps_text, memory_text, joint_text}
-use Rattle.joint_replay.specs.Runs.{one_step, Advanced, Advances, IsFirst, RunsGoOn, RunsEnd}
+use Rattle.joint_replay.specs.Runs.{one_step, Advanced, Advances, IsFirstTaken, RunsGoOn, RunsEnd}
 use Rattle.bugnet.specs.Names.{FileNames}
 use Rattle.bugnet.specs.Joined.{joint_status, joint_line, ran_told, joined}
 use Rattle.bugnet.specs.Joinings.{told_of_joint, stop_of, RanAs, ToldEnd}
@@ -39,7 +39,7 @@ walks-none whole known faults = record { sent = so_far-none (text_of whole) know
 with-line : RunsGoOn → (whole now next : Joining) (waiting text : List ℕ) (old here : Option (List ℕ)) (before after : ℕ) → Advanced now next waiting text → Walks whole now waiting old here before after
     → SoFar (text_of whole) (text ++ text_of next) old here before after
 with-line go whole now next waiting text old here before after a w =
-    let first : IsFirst now a.taken next = go now a.taken next a.step in
+    let first : IsFirstTaken now a.taken next = go now a.taken next a.step in
     let line : List ℕ = item_text a.taken.hart a.taken.item in
     let parts : waiting ++ text_of now ≡ text ++ text_of next =
     ap (λ (t : List ℕ). waiting ++ t) first.text ∙ sym (append_assoc waiting line (text_of next)) ∙ ap (λ (t : List ℕ). t ++ text_of next) (sym a.text) in
@@ -49,7 +49,7 @@ with-line go whole now next waiting text old here before after a w =
 pub walks-more : RunsGoOn → (whole now next : Joining) (waiting text left : List ℕ) (old here there : Option (List ℕ)) (before after last : ℕ) → Advanced now next waiting text → Walks whole now waiting old here before after
     → (sent : List ℕ) × Appends here there sent × (text ≡ sent ++ left) → after ≤ last → Walks whole next left old there before last
 walks-more go whole now next waiting text left old here there before after last a w h fell =
-    let first : IsFirst now a.taken next = go now a.taken next a.step in
+    let first : IsFirstTaken now a.taken next = go now a.taken next a.step in
     record {
       sent = so_far-gathered (text_of whole) text left (text_of next) old here there before after last (with-line go whole now next waiting text old here before after a w) h fell;
       last = w.last ∙ first.now;

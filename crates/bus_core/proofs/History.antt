@@ -4,10 +4,10 @@ use Rattle.rv_meaning.specs.declared.asks.Ask.{Ask}
 use Rattle.rv_meaning.specs.declared.asks.Reply.{Reply}
 use Rattle.bn_outside.specs.declared.turn_row.TurnRow.{TurnRow}
 use Rattle.run_model.specs.declared.start.Start.{Start}
-use Rattle.run_model.specs.Stands.Plain.{PlainParts, IsRun, everyone}
+use Rattle.run_model.specs.Represents.Plain.{PlainParts, IsRun, everyone}
 use Rattle.run_model.specs.Turn.{Run, serve, turn, ask_at, is_orderly, halted}
-use Rattle.run_model.specs.Stands.Turning.{is_live}
-use Rattle.run_model.specs.Stands.Harts.{hart_in}
+use Rattle.run_model.specs.Represents.Turning.{is_live}
+use Rattle.run_model.specs.Represents.Harts.{hart_in}
 use Rattle.bus_core.proofs.OwnTurn.{ask_is, own_orderly, or_not_true}
 use Rattle.log_ring.specs.Kept.{Held, HoldsLog}
 use Rattle.race_log.specs.Noted.{NotesDecide}

@@ -7,7 +7,7 @@ use Rattle.std.proofs.lemmas.List.{take_more, map-append}
 use Rattle.bn_base.specs.declared.end_mark.EndMark.{EndMark}
 use Rattle.bn_base.specs.declared.settings.TheConstants.{HARTS}
 use Rattle.run_model.specs.declared.hart.Hart.{Hart}
-use Rattle.run_model.specs.Stands.Harts.{AreHarts, hart_in, no_hart}
+use Rattle.run_model.specs.Represents.Harts.{AreHarts, hart_in, no_hart}
 use Rattle.run_model.specs.Runs.{any_live}
 use Rattle.bus_core.specs.Bus.{marks}
 

@@ -4,9 +4,9 @@ use Rattle.std.proofs.lemmas.Option.{get_or_from_slice_get}
 use Rattle.rv_meaning.specs.declared.asks.Ask.{Ask}
 use Rattle.rv_meaning.specs.declared.asks.Reply.{Reply}
 use Rattle.run_model.specs.declared.hart.Hart.{Hart}
-use Rattle.run_model.specs.Stands.Harts.{AreHarts, hart_in, no_hart}
-use Rattle.run_model.specs.Stands.Plain.{PlainParts, IsRun}
-use Rattle.run_model.specs.Stands.Turning.{is_live}
+use Rattle.run_model.specs.Represents.Harts.{AreHarts, hart_in, no_hart}
+use Rattle.run_model.specs.Represents.Plain.{PlainParts, IsRun}
+use Rattle.run_model.specs.Represents.Turning.{is_live}
 use Rattle.run_model.specs.Turn.{Run, ask_at, is_orderly}
 use Rattle.bus_core.specs.Bus.{Began, row, turn_row, served_reply, served_guarded}
 use Rattle.bus_core.proofs.Rows.{live_within}

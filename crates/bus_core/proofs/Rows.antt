@@ -5,7 +5,7 @@ use Rattle.bn_base.specs.Programs.{Program}
 use Rattle.bn_base.specs.declared.settings.RawSettings.{RawSettings}
 use Rattle.bn_outside.specs.declared.turn_row.TurnRow.{TurnRow}
 use Rattle.run_model.specs.declared.hart.Hart.{Hart}
-use Rattle.run_model.specs.Stands.Harts.{AreHarts, hart_in, is_live_hart}
+use Rattle.run_model.specs.Represents.Harts.{AreHarts, hart_in, is_live_hart}
 use Rattle.run_model.specs.Runs.{is_live}
 use Rattle.run_model.specs.Turn.{Run, serve, is_orderly, dead}
 use Rattle.run_laws.specs.History.{after_rows, are_orderly, IsLawful}

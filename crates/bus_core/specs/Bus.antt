@@ -9,16 +9,16 @@ use Rattle.log_record.specs.Spelling.{total}
 use Rattle.log_ring.specs.Kept.{Held, HoldsLog}
 use Rattle.race_log.specs.Points.{Point}
 use Rattle.race_log.specs.declared.shadow.Shadow.{Shadow}
-use Rattle.race_log.specs.Stands.{Stands}
+use Rattle.race_log.specs.Represents.{RepresentsAccesses}
 use Rattle.race_log.specs.Noted.{Noted, noted}
 use Rattle.bn_outside.specs.declared.turn_row.TurnRow.{TurnRow}
 use Rattle.run_model.specs.declared.hart.Hart.{Hart}
 use Rattle.run_model.specs.declared.start.Start.{Start}
-use Rattle.run_model.specs.Stands.Plain.{PlainParts, IsRun, everyone}
-use Rattle.run_model.specs.Stands.Parts.{MachineParts, IsMachine}
-use Rattle.first_load_bits.specs.Stands.{Contents}
-use Rattle.run_model.specs.Stands.EachCache.{AreCaches}
-use Rattle.run_model.specs.Stands.Harts.{AreHarts, is_live_hart}
+use Rattle.run_model.specs.Represents.Plain.{PlainParts, IsRun, everyone}
+use Rattle.run_model.specs.Represents.Parts.{MachineParts, IsMachine}
+use Rattle.first_load_bits.specs.Represents.{Contents}
+use Rattle.run_model.specs.Represents.EachCache.{AreCaches}
+use Rattle.run_model.specs.Represents.Harts.{AreHarts, is_live_hart}
 use Rattle.run_model.specs.Turn.{Run, halted, serve, turn}
 use Rattle.run_model.specs.Runs.{start}
 use Rattle.run_laws.specs.History.{after_rows, are_orderly, row_at, IsLawful}
@@ -70,7 +70,7 @@ seen p halted disordered rows = record {
 pub record AreNotes (notes : Noted) (points : List Point) : Type 0 where
   pub shadow : Shadow
   pub same : noted shadow ≡ notes
-  pub stands : Stands points everyone shadow
+  pub stands : RepresentsAccesses points everyone shadow
 
 -- all of it is that of the run: what a bus does next stands on no more than this
 pub record IsState (s : Seen) (run : Run) : Type 0 where

@@ -24,7 +24,7 @@ pub struct Bus<B: Book> {
 impl<B: Book> Model for Bus<B> {
     ghost use Rattle.std.specs.Prelude.{◌≡◌, true, List};
     ghost use Rattle.bn_outside.specs.declared.turn_row.TurnRow.{TurnRow};
-    ghost use Rattle.run_model.specs.Stands.Turning.{parts};
+    ghost use Rattle.run_model.specs.Represents.Turning.{parts};
     ghost use Rattle.bus_core.specs.Bus.{Seen, seen, IsKept};
 
     ghost Value = { Seen };

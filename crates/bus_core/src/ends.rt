@@ -2,7 +2,7 @@
 ghost use Rattle.std.specs.Prelude.{◌≡◌, ◌≤◌, not, ◌&&◌, map, length, vec_len, vec_capacity, IfOk};
 ghost use Rattle.bn_base.specs.declared.settings.TheConstants.{HARTS};
 ghost use Rattle.run_model.specs.declared.hart.Hart.{Hart};
-ghost use Rattle.run_model.specs.Stands.Harts.{hart_in};
+ghost use Rattle.run_model.specs.Represents.Harts.{hart_in};
 ghost use Rattle.run_model.specs.Runs.{any_live};
 
 use bn_base::{EndMark, HARTS};

@@ -1,8 +1,8 @@
 // A turn of a hart in the bus's own place: its quiet instructions, and what it asks after them.
 ghost use Rattle.std.specs.Prelude.{◌≡◌, ◌<◌, ◌+◌, ◌∷◌, ◌++◌, [], true, false, IsTrue, OnOk, OnErr};
 ghost use Rattle.run_model.specs.Turn.{Run, ask_at, is_orderly};
-ghost use Rattle.run_model.specs.Stands.Harts.{hart_in};
-ghost use Rattle.run_model.specs.Stands.Turning.{parts};
+ghost use Rattle.run_model.specs.Represents.Harts.{hart_in};
+ghost use Rattle.run_model.specs.Represents.Turning.{parts};
 ghost use Rattle.bus_core.specs.Bus.{turned_run, turn_row, is_live, IsState};
 
 use crate::bus::Bus;

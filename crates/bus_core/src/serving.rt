@@ -5,7 +5,7 @@ ghost use Rattle.rv_meaning.specs.Orderly.{is_reply_to};
 ghost use Rattle.log_record.specs.Spelling.{Fits};
 ghost use Rattle.log_order.specs.Order.{broken_by};
 ghost use Rattle.log_ring.specs.Kept.{HoldsLog};
-ghost use Rattle.run_model.specs.Stands.Harts.{hart_in};
+ghost use Rattle.run_model.specs.Represents.Harts.{hart_in};
 ghost use Rattle.run_model.specs.Runs.{is_over, most_turns};
 ghost use Rattle.run_model.specs.Runs as runs;
 ghost use Rattle.run_model.specs.Turn.{Run, budget, halted, is_orderly};

@@ -1,9 +1,9 @@
 // One served ask: the machine's turn and the book's row.
 ghost use Rattle.std.specs.Prelude.{◌≡◌, ◌<◌, ◌∷◌, ◌++◌, [], Bool, true, false, not, IsTrue, IfOk, OnOk, OnErr};
 ghost use Rattle.run_model.specs.Turn.{Run, serve, is_orderly};
-ghost use Rattle.run_model.specs.Stands.Harts.{hart_in};
-ghost use Rattle.run_model.specs.Stands.Plain.{IsRun};
-ghost use Rattle.run_model.specs.Stands.Turning.{parts, is_live};
+ghost use Rattle.run_model.specs.Represents.Harts.{hart_in};
+ghost use Rattle.run_model.specs.Represents.Plain.{IsRun};
+ghost use Rattle.run_model.specs.Represents.Turning.{parts, is_live};
 ghost use Rattle.bus_core.specs.Bus.{row};
 
 use bn_base::HartId;

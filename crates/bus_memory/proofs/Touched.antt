@@ -5,7 +5,7 @@ use Rattle.std.specs.Prelude.{Option, None}
 use Rattle.std.proofs.lemmas.Bool.{cases_lt}
 use Rattle.bn_base.specs.Programs.{Program, Part, AreApart, end_of, is_in, part_or, part_at, first_in, first_at}
 use Rattle.bus_memory.specs.Contents.{HoldsMap, has_page, shares_page, is_touched}
-use Rattle.bus_memory.specs.Frames.{Frame, no_frame, contents_of, IsFirst}
+use Rattle.bus_memory.specs.Frames.{Frame, no_frame, contents_of, IsFirstFrame}
 use Rattle.bus_memory.proofs.Laws.{length_words, word_at, made_at, no_page_at}
 
 neither : (x y : Bool) → (x || y) ≡ false → (x ≡ false) × (y ≡ false)
@@ -46,7 +46,7 @@ none_past low high (p ∷ ps) page h past =
 
 -- the first pages of a program
 abbrev pub FirstPages : Program → List Frame → ℕ → Type 0
-FirstPages i fs n = (j : ℕ) → j < n → IsFirst i j (get_or fs j no_frame)
+FirstPages i fs n = (j : ℕ) → j < n → IsFirstFrame i j (get_or fs j no_frame)
 
 -- they hold the program's first words
 pub first_words_held : (i : Program) (fs : List Frame) (n : ℕ) → n ≡ length fs → FirstPages i fs n → HoldsMap (contents_of fs).words (first_at i)

@@ -22,7 +22,7 @@ unfoldable pub contents_of : List Frame → Contents
 contents_of fs = record { words = map (word_of fs) (range_with_len 0 (1024 * length fs)); made = map (λ f. f.made) fs }
 
 -- a page as it stands before the run: made if a segment touches it, with the program's first words
-pub record IsFirst (i : Program) (page : ℕ) (f : Frame) : Type 0 where
+pub record IsFirstFrame (i : Program) (page : ℕ) (f : Frame) : Type 0 where
   pub made : f.made ≡ is_touched i page
   pub words : (k : ℕ) → k < 1024 → get_or f.words k 0 ≡ first_at i (4096 * page + 4 * k)
 

@@ -2,7 +2,7 @@
 ghost use Rattle.std.specs.Prelude.{◌≡◌, ◌≤◌, ◌<◌, ◌+◌, ◌*◌, ◌^◌, ℕ, slice_index, vec_len, IfOk};
 ghost use Rattle.bn_base.specs.Programs.{first_at};
 ghost use Rattle.bus_memory.specs.Contents.{is_touched};
-ghost use Rattle.bus_memory.specs.Frames.{IsFirst};
+ghost use Rattle.bus_memory.specs.Frames.{IsFirstFrame};
 
 use crate::page::{PAGE_BYTES, PAGE_WORDS, Page};
 use bn_base::Image;
@@ -11,7 +11,7 @@ use std::alloc::{AllocError, Global};
 /// The page of a number before the run. It is made where a segment touches it.
 pub(crate) fn first_page(alloc: Global, image: &Image, number: u32) -> Result<Page, AllocError>
     requires { number < 2 ^ 20 }
-    ensures { IfOk result (λ p. IsFirst image.now number p) }
+    ensures { IfOk result (λ p. IsFirstFrame image.now number p) }
 {
     if !is_touched(image, number) {
         return Ok(Page::unmade(alloc));

@@ -9,7 +9,7 @@ use Rattle.joint_replay.specs.declared.error.JointError.TheVariants.{Replay, Stu
 use Rattle.joint_replay.specs.declared.error.JointError.TheVariants as joint
 use Rattle.joint_replay.specs.Memory.{known_from}
 use Rattle.joint_replay.specs.Joining.{Joining, Ran, begun, ran, run_all}
-use Rattle.joint_replay.specs.Runs.{Advances, IsFirst, RunsGoOn, RunsEnd}
+use Rattle.joint_replay.specs.Runs.{Advances, IsFirstTaken, RunsGoOn, RunsEnd}
 use Rattle.demo_run.specs.Demonstration.{word_bytes}
 
 -- ---- steps
@@ -22,7 +22,7 @@ pub record Walks (whole now : Joining) : Type 0 where
 -- one step more
 pub walks-more : RunsGoOn → (whole now next : Joining) (waiting text : List ℕ) → Advances now (Ok true) next waiting text → Walks whole now → Walks whole next
 walks-more go whole now next waiting text a w =
-    let first : IsFirst now a.taken next = go now a.taken next a.step in
+    let first : IsFirstTaken now a.taken next = go now a.taken next a.step in
     record { last = w.last ∙ first.now; stopped = sym first.stopped ∙ w.stopped }
 
 -- no step is left

@@ -8,7 +8,7 @@ use Rattle.bn_base.specs.Programs.{Program}
 use Rattle.bn_base.specs.declared.row.Row.{Row}
 use Rattle.log_order.specs.Content.{Content}
 use Rattle.log_file.specs.Counts.{counts_of}
-use Rattle.log_file.specs.Layout.{IsFirst}
+use Rattle.log_file.specs.Layout.{IsVersion1}
 use Rattle.log_file.specs.declared.counting.LogCounts.{LogCounts}
 use Rattle.hart_replay.specs.Replay.{Done, Replayed, replayed}
 use Rattle.joint_replay.specs.Joining.{fresh, run_all}
@@ -27,7 +27,7 @@ use Rattle.demo_run.proofs.Joins.{eight-each}
 use Rattle.demo_run.proofs.Whole.{low_limit, first_format}
 
 -- what the log says is what version 1 can say
-pub says : DemonstrationsAreRecordings → LogsAreContents → (seed : ℕ) → IsFirst (demo_log seed)
+pub says : DemonstrationsAreRecordings → LogsAreContents → (seed : ℕ) → IsVersion1 (demo_log seed)
 says are law seed = (law demo_settings (demo_program seed) (demo_elf seed) [] (demo_turns seed) (are seed), first_format)
 
 -- what is counted, where it can't be refused

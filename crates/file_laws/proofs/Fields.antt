@@ -17,7 +17,7 @@ use Rattle.log_record.specs.Spelling.{Fits, AreRegisters, has_value, is_mark, is
 use Rattle.run_model.specs.declared.hart.Hart.{Hart}
 use Rattle.run_model.specs.declared.turn_end.TurnEnd.{TurnEnd}
 use Rattle.run_model.specs.declared.turn_end.TurnEnd.TheVariants.{GoesOn, NewInterval, HartOver, RunOver}
-use Rattle.run_model.specs.Stands.Logs.{is_marked_next}
+use Rattle.run_model.specs.Represents.Logs.{is_marked_next}
 use Rattle.run_model.specs.Turn.{edges_from, edge_records, load_record, sc_record, next_records, stopped_records, run_over_records, by_guard, header, mark}
 use Rattle.file_laws.proofs.Views.{AreSources}
 use Rattle.file_laws.proofs.Sources.{ListedEdges, ArePoints, sources_are}

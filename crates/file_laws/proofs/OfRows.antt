@@ -30,8 +30,8 @@ use Rattle.run_model.specs.declared.turn_end.TurnEnd.{TurnEnd}
 use Rattle.run_model.specs.declared.turn_end.TurnEnd.TheVariants.{GoesOn, NewInterval, HartOver, RunOver}
 use Rattle.run_model.specs.declared.span.Span.{Span}
 use Rattle.run_model.specs.Machine.{Answered, answer, call_of}
-use Rattle.run_model.specs.Stands.Harts.{all_left}
-use Rattle.run_model.specs.Stands.Logs.{is_marked_next}
+use Rattle.run_model.specs.Represents.Harts.{all_left}
+use Rattle.run_model.specs.Represents.Logs.{is_marked_next}
 use Rattle.run_model.specs.Turn.{Run, Served, serve, after_ask, span_of, next_of, loading, warmth, word_before, point_of, edges_from, edge_records, load_record, sc_record, next_records, stopped_records, run_over_records, harts_after, is_orderly, mark, is_guarded, by_guard, begun_anew, guarded_run, guard_records}
 use Rattle.run_model.specs.Runs.{start, start_hart, start_state, first_headers, most_turns}
 use Rattle.run_model.specs.Counts.{MovesOn, turns_left, IsRested}

@@ -11,7 +11,7 @@ use Rattle.first_load_bits.specs.Events.{Touch, Drop, Clear}
 use Rattle.first_load_bits.specs.Warm.{warm}
 use Rattle.first_load_bits.specs.Lines.{Line, put, lost, put_in, put_lost, taken_out, all_but, cleared, bits_of, bits_known, touched_line, levels, lines_below, in_front, place_of}
 use Rattle.first_load_bits.specs.Ways.{line_in, known_bits, given_up, has_line, latest_first, HasLine, IsPlaceFor}
-use Rattle.first_load_bits.specs.Stands.{Level, Contents, StandsFor, lines_of, first_level, second_level}
+use Rattle.first_load_bits.specs.Represents.{Level, Contents, RepresentsEvents, lines_of, first_level, second_level}
 use Rattle.first_load_bits.specs.Cached.{AreKept}
 use Rattle.first_load_bits.specs.Steps.{IsListed, IsTouch, IsBitsBelow, IsTakenBelow, IsTakenListed, IsFallen, with_ways, with_ways_below}
 use Rattle.first_load_bits.proofs.Warmth.{warm_is}
@@ -38,7 +38,7 @@ lost_at g (x ∷ xs) k ls ms e = put_at g x k ls ms e
 abbrev pub HasSets : Contents → Type 0
 HasSets c = 0 < c.geometry.ways2 → 0 < c.geometry.sets2
 
-bits_below : (c : Contents) (l : ℕ) (es : List Event) → HasSets c → StandsFor c es
+bits_below : (c : Contents) (l : ℕ) (es : List Event) → HasSets c → RepresentsEvents c es
     → bits_of l (lines_of (second_level c) (set_of (second_of c.geometry) l)) ≡ bits_of l (lines_below c.geometry (set_of (second_of c.geometry) l) es)
 bits_below c l es w h = let s = set_of (second_of c.geometry) l in elim (eqb_tells c.geometry.ways2 0) [
   | inl e ↦
@@ -59,7 +59,7 @@ pub record IsFound (c : Contents) (a l first i place below : ℕ) (ws : List Way
   pub place_is : place ≡ place_of c.geometry a
   pub below_is : IsBitsBelow c l below
 
-known_now : (c : Contents) (a l first i place below : ℕ) (ws : List Way) (w : Way) (es : List Event) → IsFound c a l first i place below ws w → StandsFor c es
+known_now : (c : Contents) (a l first i place below : ℕ) (ws : List Way) (w : Way) (es : List Event) → IsFound c a l first i place below ws w → RepresentsEvents c es
     → known_bits c.generation l below w ≡ bits_known c.geometry (line_of c.geometry a) (levels c.geometry es)
 known_now c a l first i place below ws w es f h =
     let g : Geometry = c.geometry in
@@ -67,7 +67,7 @@ known_now c a l first i place below ws w es f h =
     ∙ (ap₂ (λ xs m. elim (is_some (in_front l xs)) as (λ b. ℕ) [ true ↦ bits_of l xs | false ↦ m ]) (h.sets (set_of g l) f.read.below) (f.below_is ∙ bits_below c l es f.sets h)
     ∙ ap (λ k. bits_known g k (levels g es)) f.line_is)
 
-touch_answers : (c : Contents) (a l first i place below : ℕ) (ws : List Way) (w : Way) (es : List Event) → 0 < c.geometry.ways → IsFound c a l first i place below ws w → StandsFor c es
+touch_answers : (c : Contents) (a l first i place below : ℕ) (ws : List Way) (w : Way) (es : List Event) → 0 < c.geometry.ways → IsFound c a l first i place below ws w → RepresentsEvents c es
     → (bit_at (known_bits c.generation l below w) place == 1) ≡ warm c.geometry a es
 touch_answers c a l first i place below ws w es some f h =
     ap₂ (λ m p. bit_at m p == 1) (known_now c a l first i place below ws w es f h) f.place_is ∙ bits_law c.geometry a es some
@@ -87,7 +87,7 @@ touched_way c l place below w = record { line = l; mask = bit_or (known_bits c.g
 abbrev pub touched_cache : Contents → (at : ℕ) → Way → List Way → Contents
 touched_cache c at v below = record { geometry = c.geometry; steps = c.steps + 1; generation = c.generation; ways = set c.ways at v; ways_below = below }
 
-touched_is : (c : Contents) (a l first i place below : ℕ) (ws : List Way) (w : Way) (es : List Event) → IsFound c a l first i place below ws w → StandsFor c es
+touched_is : (c : Contents) (a l first i place below : ℕ) (ws : List Way) (w : Way) (es : List Event) → IsFound c a l first i place below ws w → RepresentsEvents c es
     → line_in c.generation (touched_way c l place below w) ≡ touched_line c.geometry a (levels c.geometry es)
 touched_is c a l first i place below ws w es f h =
     counted c.generation (touched_way c l place below w) refl
@@ -101,7 +101,7 @@ pub touch_stands : (c : Contents) (a l first i place below : ℕ) (ws : List Way
     → ((k : ℕ) → k < c.geometry.sets2 → lines_of (second_level (with_ways_below c out)) k ≡ taken_out (second_of c.geometry) l (lines_of (second_level c)) k)
     → (let now : Contents = touched_cache c (first + i) (touched_way c l place below w) out in
     (k : ℕ) → k < c.geometry.sets2 → lines_of (second_level (with_ways_below now fallen)) k ≡ put_lost (second_of c.geometry) (given_up c.generation l w) (lines_of (second_level now)) k)
-    → StandsFor c es → StandsFor (touched_cache c (first + i) (touched_way c l place below w) fallen) (Touch a ∷ es)
+    → RepresentsEvents c es → RepresentsEvents (touched_cache c (first + i) (touched_way c l place below w) fallen) (Touch a ∷ es)
 touch_stands c a l first i place below ws w out fallen es f kept gone fell h = record {
   steps = ap (λ n. n + 1) h.steps;
   sets = λ k m.
@@ -165,9 +165,9 @@ found_by now x r a l first i place below ws w t = record {
   below_is = t.below_is;
 }
 
-touch_goes : (now x r : Contents) (a l first i place below : ℕ) (ws : List Way) (w : Way) (es : List Event) → IsTouched now x r a l first i place below ws w → StandsFor now es → StandsFor r (Touch a ∷ es)
+touch_goes : (now x r : Contents) (a l first i place below : ℕ) (ws : List Way) (w : Way) (es : List Event) → IsTouched now x r a l first i place below ws w → RepresentsEvents now es → RepresentsEvents r (Touch a ∷ es)
 touch_goes now x r a l first i place below ws w es t h =
-    subst (λ (y : Contents). StandsFor y (Touch a ∷ es)) (sym after)
+    subst (λ (y : Contents). RepresentsEvents y (Touch a ∷ es)) (sym after)
     (touch_stands now a l first i place below ws w x.ways_below r.ways_below es (found_by now x r a l first i place below ws w t)
     (subst (λ (y : Contents). AreKept (second_level y)) t.taken.same t.kept_below)
     (λ k m. sym (ap (λ (y : Contents). lines_of (second_level y) k) t.taken.same) ∙ t.taken.lines k m)
@@ -193,7 +193,7 @@ touch_is now x r a l first i place below ws w told some t e = record {
   steps = ap (λ (y : Contents). y.steps) t.fallen.same ∙ ap (λ (y : Contents). y.steps + 1) t.taken.same;
 }
   where
-    answered : (es : List Event) → StandsFor now es → told ≡ (if warm now.geometry a es then Warm.Warm else Warm.Cold)
+    answered : (es : List Event) → RepresentsEvents now es → told ≡ (if warm now.geometry a es then Warm.Warm else Warm.Cold)
     answered es h = e ∙ ap (λ b. if b then Warm.Warm else Warm.Cold) (touch_answers now a l first i place below ws w es some (found_by now x r a l first i place below ws w t) h)
 
 -- ---- what the code reads of a level; now is the cache as its callers see it
@@ -290,7 +290,7 @@ put_below_goes c n l first i k ws v e h r at line age =
 pub drop_stands : (c : Contents) (a l : ℕ) (out kept : List Way) (es : List Event) → l ≡ line_of c.geometry a
     → ((k : ℕ) → k < c.geometry.sets2 → lines_of (second_level (with_ways_below c out)) k ≡ taken_out (second_of c.geometry) l (lines_of (second_level c)) k)
     → ((k : ℕ) → k < c.geometry.sets → lines_of (first_level (with_ways (with_ways_below c out) kept)) k ≡ taken_out c.geometry l (lines_of (first_level c)) k)
-    → StandsFor c es → StandsFor (with_ways (with_ways_below c out) kept) (Drop a ∷ es)
+    → RepresentsEvents c es → RepresentsEvents (with_ways (with_ways_below c out) kept) (Drop a ∷ es)
 drop_stands c a l out kept es e below listed h = record {
   steps = h.steps;
   sets = λ k m. listed k m ∙ (out_at c.geometry l k (lines_of (first_level c)) (levels c.geometry es).first (h.sets k m) ∙ ap (λ j. taken_out c.geometry j (levels c.geometry es).first k) e);
@@ -298,9 +298,9 @@ drop_stands c a l out kept es e below listed h = record {
       below k m ∙ (out_at (second_of c.geometry) l k (lines_of (second_level c)) (levels c.geometry es).second (h.sets_below k m) ∙ ap (λ j. taken_out (second_of c.geometry) j (levels c.geometry es).second k) e);
 }
 
-pub drop_goes : (now m r : Contents) (a l : ℕ) (es : List Event) → IsTakenBelow now l m → IsTakenListed m l r → l ≡ line_of now.geometry a → StandsFor now es → StandsFor r (Drop a ∷ es)
+pub drop_goes : (now m r : Contents) (a l : ℕ) (es : List Event) → IsTakenBelow now l m → IsTakenListed m l r → l ≡ line_of now.geometry a → RepresentsEvents now es → RepresentsEvents r (Drop a ∷ es)
 drop_goes now m r a l es t u e h =
-    subst (λ (y : Contents). StandsFor y (Drop a ∷ es)) (sym after)
+    subst (λ (y : Contents). RepresentsEvents y (Drop a ∷ es)) (sym after)
     (drop_stands now a l m.ways_below r.ways es e
     (λ k n. sym (ap (λ (y : Contents). lines_of (second_level y) k) t.same) ∙ t.lines k n)
     (λ k n. sym (ap (λ (y : Contents). lines_of (first_level y) k) after) ∙ listed k n) h)
@@ -314,12 +314,12 @@ drop_goes now m r a l es t u e h =
 abbrev pub cleared_cache : Contents → Contents
 cleared_cache c = record { geometry = c.geometry; steps = c.steps + 1; generation = c.steps + 1; ways = c.ways; ways_below = c.ways_below }
 
-pub clear_stands : (c : Contents) (es : List Event) → AreKept (first_level c) → AreKept (second_level c) → StandsFor c es → StandsFor (cleared_cache c) (Clear ∷ es)
+pub clear_stands : (c : Contents) (es : List Event) → AreKept (first_level c) → AreKept (second_level c) → RepresentsEvents c es → RepresentsEvents (cleared_cache c) (Clear ∷ es)
 clear_stands c es w v h = record {
   steps = ap (λ x. x + 1) h.steps;
   sets = λ k m. clear_goes (first_level c) k w ∙ ap (map cleared) (h.sets k m);
   sets_below = λ k m. clear_goes (second_level c) k v ∙ ap (map cleared) (h.sets_below k m);
 }
 
-pub new_stands : (c : Contents) → c.steps ≡ 0 → StandsFor c []
+pub new_stands : (c : Contents) → c.steps ≡ 0 → RepresentsEvents c []
 new_stands c e = record { steps = e; sets = λ k m. new_lines (first_level c) k e; sets_below = λ k m. new_lines (second_level c) k e }

@@ -3,7 +3,7 @@ use Rattle.std.proofs.Common.{◌≡◌, ℕ, Bool, true, false, ◌==◌, List,
 use Rattle.std.proofs.lemmas.Bool.Decides.{eqb_tells}
 use Rattle.first_load_bits.specs.Events.{Geometry, Event, Drop, line_of, set_of, second_of}
 use Rattle.first_load_bits.specs.Lines.{Line, all_but, taken_out, levels}
-use Rattle.first_load_bits.specs.Stands.{Contents, StandsFor}
+use Rattle.first_load_bits.specs.Represents.{Contents, RepresentsEvents}
 use Rattle.first_load_bits.proofs.Order.{but_here, but_there}
 
 all_but_twice : (l : ℕ) (xs : List Line) → all_but l (all_but l xs) ≡ all_but l xs
@@ -22,7 +22,7 @@ where_taken false l xs = refl
 taken_twice : (g : Geometry) (l : ℕ) (ls : ℕ → List Line) (k : ℕ) → taken_out g l (taken_out g l ls) k ≡ taken_out g l ls k
 taken_twice g l ls k = where_taken (set_of g l == k) l (ls k)
 
-pub second_drop : (c : Contents) (a b : ℕ) (es : List Event) → line_of c.geometry a ≡ line_of c.geometry b → StandsFor c (Drop b ∷ es) → StandsFor c (Drop a ∷ Drop b ∷ es)
+pub second_drop : (c : Contents) (a b : ℕ) (es : List Event) → line_of c.geometry a ≡ line_of c.geometry b → RepresentsEvents c (Drop b ∷ es) → RepresentsEvents c (Drop a ∷ Drop b ∷ es)
 second_drop c a b es same s =
     let g = c.geometry in
     let h = second_of c.geometry in

@@ -11,7 +11,7 @@ use Rattle.first_load_bits.specs.declared.way.Way.{Way}
 use Rattle.first_load_bits.specs.Events.{set_of}
 use Rattle.first_load_bits.specs.Lines.{Line, put, lost, put_in, taken_out, cleared, bits_of, in_front}
 use Rattle.first_load_bits.specs.Ways.{line_in, known_bits, given_up, latest_first, has_line, AreApart, HasLine, IsPlaceFor}
-use Rattle.first_load_bits.specs.Stands.{Level, ways_of, lines_of}
+use Rattle.first_load_bits.specs.Represents.{Level, ways_of, lines_of}
 use Rattle.first_load_bits.specs.Cached.{AreKept}
 use Rattle.first_load_bits.proofs.Latest.{others_of, All-others, latest_next, but_none, cleared_latest}
 use Rattle.first_load_bits.proofs.Apart.{set_apart, newest_apart, none_beside, place_within, bits_there_are, known_there, put_lines, lost_lines, dropped_lines}

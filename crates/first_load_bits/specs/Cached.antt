@@ -1,7 +1,7 @@
 -- How the fields of a cache are seen, and what is true of them.
 use Rattle.std.specs.Prelude.{ℕ, ◌<◌, ◌≤◌, ◌≡◌, ◌*◌, ◌^◌, ◌==◌, true, false, All, AllPairs, vec_len}
 use Rattle.first_load_bits.specs.declared.cache.Cache.TheInside.{Inside}
-use Rattle.first_load_bits.specs.Stands.{Level, Contents, ways_of, first_level, second_level}
+use Rattle.first_load_bits.specs.Represents.{Level, Contents, ways_of, first_level, second_level}
 use Rattle.first_load_bits.specs.Ways.{AreApart}
 
 -- the number of sets of the second level: none if they would have no ways

@@ -9,13 +9,13 @@ use Rattle.first_load_bits.specs.History.{IsWarm}
 use Rattle.first_load_bits.specs.Warm.{warm}
 use Rattle.first_load_bits.specs.Lines.{bits_of, put_in, put_lost, taken_out}
 use Rattle.first_load_bits.specs.Ways.{HasLine, line_in, given_up}
-use Rattle.first_load_bits.specs.Stands.{Contents, StandsFor, lines_of, first_level, second_level}
+use Rattle.first_load_bits.specs.Represents.{Contents, RepresentsEvents, lines_of, first_level, second_level}
 
 -- the word at address a is touched, and answered is whether it was warm
 pub record IsTouch (old : Contents) (a : ℕ) (told : Warm) (new : Contents) : Type 0 where
-  pub answer : (es : List Event) → StandsFor old es → told ≡ (if warm old.geometry a es then Answer.Warm else Answer.Cold)
-  pub history : (es : List Event) → StandsFor old es → ((told ≡ Answer.Warm) ↔ IsWarm old.geometry a es)
-  pub stands : (es : List Event) → StandsFor old es → StandsFor new (Touch a ∷ es)
+  pub answer : (es : List Event) → RepresentsEvents old es → told ≡ (if warm old.geometry a es then Answer.Warm else Answer.Cold)
+  pub history : (es : List Event) → RepresentsEvents old es → ((told ≡ Answer.Warm) ↔ IsWarm old.geometry a es)
+  pub stands : (es : List Event) → RepresentsEvents old es → RepresentsEvents new (Touch a ∷ es)
   pub geometry : new.geometry ≡ old.geometry
   pub steps : new.steps ≡ old.steps + 1
 

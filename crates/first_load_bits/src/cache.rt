@@ -4,7 +4,7 @@ ghost use Rattle.std.specs.Int.{is_power_of_two};
 ghost use Rattle.first_load_bits.specs.Events.{Event, Touch, Drop, Clear, line_of, set_of, second_of};
 ghost use Rattle.first_load_bits.specs.History.{IsWarm};
 ghost use Rattle.first_load_bits.specs.Warm.{warm};
-ghost use Rattle.first_load_bits.specs.Stands.{StandsFor, geometry_of};
+ghost use Rattle.first_load_bits.specs.Represents.{RepresentsEvents, geometry_of};
 ghost use Rattle.first_load_bits.specs.Lines.{place_of};
 ghost use Rattle.first_load_bits.specs.Ways.{empty_way};
 ghost use Rattle.first_load_bits.specs.Steps.{IsListed, IsTouch, IsBitsBelow, IsTakenBelow, IsPutBelow, IsFallen, IsTakenListed};
@@ -18,7 +18,7 @@ use std::marker::Model;
 /// A hart's cache: so many ways for each of its sets, and a second level of such sets, if the settings give one. It keeps
 /// the lines' numbers and bits alone, and counts its touches and clears.
 ///
-/// Contracts see a cache as its geometry, that count, the latest clear and its ways, and say by `StandsFor` which histories
+/// Contracts see a cache as its geometry, that count, the latest clear and its ways, and say by `RepresentsEvents` which histories
 /// of touches, drops and clears it stands for. Only `new` takes memory.
 #[derive(Drop)]
 pub struct Cache {
@@ -42,7 +42,7 @@ pub struct Cache {
 }
 
 impl Model for Cache {
-    ghost use Rattle.first_load_bits.specs.Stands.{Contents};
+    ghost use Rattle.first_load_bits.specs.Represents.{Contents};
 
     ghost Value = { Contents };
 
@@ -86,7 +86,7 @@ impl Cache {
     /// that the cache will ever need, and the only error is want of it.
     pub fn new(alloc: Global, settings: &Settings) -> Result<Cache, AllocError>
         ensures geometry { IfOk result (λ c. c.geometry ≡ geometry_of settings.now) }
-        ensures empty { IfOk result (λ c. StandsFor c []) }
+        ensures empty { IfOk result (λ c. RepresentsEvents c []) }
     {
         let raw = settings.raw();
         let width = settings.ways() as usize;
@@ -178,9 +178,9 @@ impl Cache {
     #[inline(always)]
     pub fn touch(&mut self, addr: Addr) -> Warm
         requires { self.old.steps < 2 ^ 42 }
-        ensures answer { (es : List Event) → StandsFor self.old es → result ≡ (if warm self.old.geometry addr es then Warm.Warm else Warm.Cold) }
-        ensures history { (es : List Event) → StandsFor self.old es → ((result ≡ Warm.Warm) ↔ IsWarm self.old.geometry addr es) }
-        ensures stands { (es : List Event) → StandsFor self.old es → StandsFor self.new (Touch addr ∷ es) }
+        ensures answer { (es : List Event) → RepresentsEvents self.old es → result ≡ (if warm self.old.geometry addr es then Warm.Warm else Warm.Cold) }
+        ensures history { (es : List Event) → RepresentsEvents self.old es → ((result ≡ Warm.Warm) ↔ IsWarm self.old.geometry addr es) }
+        ensures stands { (es : List Event) → RepresentsEvents self.old es → RepresentsEvents self.new (Touch addr ∷ es) }
         ensures geometry { self.new.geometry ≡ self.old.geometry }
         ensures steps { self.new.steps ≡ self.old.steps + 1 }
     {
@@ -259,7 +259,7 @@ impl Cache {
     /// listed or below stays so.
     #[inline(always)]
     pub fn drop_line(&mut self, addr: Addr)
-        ensures stands { (es : List Event) → StandsFor self.old es → StandsFor self.new (Drop addr ∷ es) }
+        ensures stands { (es : List Event) → RepresentsEvents self.old es → RepresentsEvents self.new (Drop addr ∷ es) }
         ensures geometry { self.new.geometry ≡ self.old.geometry }
         ensures steps { self.new.steps ≡ self.old.steps }
     {
@@ -293,7 +293,7 @@ impl Cache {
     /// whatever the size of the cache.
     pub fn clear_bits(&mut self)
         requires { self.old.steps < 2 ^ 42 }
-        ensures stands { (es : List Event) → StandsFor self.old es → StandsFor self.new (Clear ∷ es) }
+        ensures stands { (es : List Event) → RepresentsEvents self.old es → RepresentsEvents self.new (Clear ∷ es) }
         ensures geometry { self.new.geometry ≡ self.old.geometry }
         ensures steps { self.new.steps ≡ self.old.steps + 1 }
     {

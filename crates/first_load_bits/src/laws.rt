@@ -4,7 +4,7 @@ ghost use Rattle.first_load_bits.specs.Events.{Geometry, Event, Touch, Drop, Cle
 ghost use Rattle.first_load_bits.specs.History.{IsListed, IsHeld, IsWarm};
 ghost use Rattle.first_load_bits.specs.Warm.{later_lines, second_history, listed, held, warm};
 ghost use Rattle.first_load_bits.specs.Lines.{levels, lines, lines_below, in_front, is_set};
-ghost use Rattle.first_load_bits.specs.Stands.{Contents, StandsFor};
+ghost use Rattle.first_load_bits.specs.Represents.{Contents, RepresentsEvents};
 ghost use Rattle.first_load_bits.specs.Worked.{answers, smallest, small, with_second};
 
 /// The tests that compute say what the history says: which lines are listed, which are held, and which words are warm.
@@ -38,7 +38,7 @@ pub fn only_a_touch_warms()
 /// drop each line once.
 pub fn a_second_drop_changes_nothing()
     ensures { (c : Contents) (a b : ℕ) (es : List Event) → line_of c.geometry a ≡ line_of c.geometry b →
-        StandsFor c (Drop b ∷ es) → StandsFor c (Drop a ∷ Drop b ∷ es) }
+        RepresentsEvents c (Drop b ∷ es) → RepresentsEvents c (Drop a ∷ Drop b ∷ es) }
 {}
 
 /// Small histories, with the answers of their touches and the lists that they lead to.

@@ -13,7 +13,7 @@ use Rattle.joint_replay.specs.Lanes.{Cursor, Lane, Item, Doing, Ending, row_give
 use Rattle.joint_replay.specs.Memory.{memory_after}
 use Rattle.joint_replay.specs.Joining.{Joining, Taken, Walk, Ran, begun, ran, choice, move, next_step, error_of, positions_from, steps_left, run_on, run_for, run_all}
 use Rattle.joint_replay.specs.Texts.{item_text, steps_text}
-use Rattle.joint_replay.specs.Runs.{one_step, IsStep, IsFirst, RunsGoOn, RunsEnd}
+use Rattle.joint_replay.specs.Runs.{one_step, IsStep, IsFirstTaken, RunsGoOn, RunsEnd}
 
 -- ---- a step lowers what is left
 
@@ -205,7 +205,7 @@ first_of j o =
     all_is j ∙ o.goes [] (λ v. run_for (steps_left j.lanes) v) ∙ run_older (steps_left j.lanes) [] (o.taken ∷ []) o.next
     ∙ ap (with_older (o.taken ∷ [])) (fuel (steps_left j.lanes) (steps_left o.next.lanes + 1) [] o.next less (omega arith))
 
-is_first : (j : Joining) (o : Onward j) → IsFirst j o.taken o.next
+is_first : (j : Joining) (o : Onward j) → IsFirstTaken j o.taken o.next
 is_first j o = record {
   text = ap (λ (r : Ran). steps_text r.walk.taken) (first_of j o) ∙ text_older (run_all o.next).walk.taken (o.taken ∷ []);
   now = ap (λ (r : Ran). r.walk.now) (first_of j o);
@@ -215,7 +215,7 @@ is_first j o = record {
 pub runs_go_on : RunsGoOn
 runs_go_on j t next e =
     let o = is_onward j t next e in
-    subst (λ (k : Joining). IsFirst j t k) o.2 (subst (λ (u : Taken). IsFirst j u o.0.next) o.1 (is_first j o.0))
+    subst (λ (k : Joining). IsFirstTaken j t k) o.2 (subst (λ (u : Taken). IsFirstTaken j u o.0.next) o.1 (is_first j o.0))
 
 pub runs_end : RunsEnd
 runs_end j next s e = by (shape j)

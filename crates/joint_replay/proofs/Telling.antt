@@ -16,7 +16,7 @@ use Rattle.joint_replay.specs.Lanes.{Lane, Item, Passing, Doing, Ending}
 use Rattle.joint_replay.specs.Joining.{Joining, Taken, Walk, Ran, begun, ran, choice, choice_from, readiness, readiness_of, positions_from, error_of, next_step, run_for, run_all}
 use Rattle.joint_replay.specs.Calls.{stepped_of, IsHalted, IsRefused, StepUnrefused, Steps}
 use Rattle.joint_replay.specs.Texts.{item_text, stepped_text, steps_text}
-use Rattle.joint_replay.specs.Runs.{one_step, IsStep, Advanced, IsStarved, RunUnrefused, Advances, Runs, IsFirst, RunsGoOn, RunsEnd}
+use Rattle.joint_replay.specs.Runs.{one_step, IsStep, Advanced, IsStarved, RunUnrefused, Advances, Runs, IsFirstTaken, RunsGoOn, RunsEnd}
 use Rattle.joint_replay.proofs.Onward.{walk_of, taken_by, step_made, first_step, none_ready, step_fewer, step_taken, step_refused, longer_run}
 
 -- ---- the lowest ready hart
@@ -148,7 +148,7 @@ step_here w now t next here s = ap one_step here ∙ s
 
 pub stands_more : RunsGoOn → (old now next : Joining) (out_old out_now out_next : List ℕ) → Stands old now out_old out_now → Advanced now next out_now out_next → Stands old next out_old out_next
 stands_more go old now next out_old out_now out_next s a =
-    let first : IsFirst now a.taken next = go now a.taken next a.step in
+    let first : IsFirstTaken now a.taken next = go now a.taken next a.step in
     let line : List ℕ = item_text a.taken.hart a.taken.item in
     record {
       steps = suc s.steps;

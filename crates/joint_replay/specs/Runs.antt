@@ -73,14 +73,14 @@ Runs old result new out_old out_new = RanToEnd old result new out_old out_new �
 -- ---- a run is its first step, and the run after it
 
 -- a run is its first step and the run from there on: in its text, the point where it ends and why
-pub record IsFirst (j : Joining) (t : Taken) (next : Joining) : Type 0 where
+pub record IsFirstTaken (j : Joining) (t : Taken) (next : Joining) : Type 0 where
   pub text : steps_text (run_all j).walk.taken ≡ item_text t.hart t.item ++ steps_text (run_all next).walk.taken
   pub now : (run_all j).walk.now ≡ (run_all next).walk.now
   pub stopped : (run_all j).stopped ≡ (run_all next).stopped
 
 -- so it is with each run that has a step
 abbrev pub RunsGoOn : Type 0
-RunsGoOn = (j : Joining) (t : Taken) (next : Joining) → IsStep j t next → IsFirst j t next
+RunsGoOn = (j : Joining) (t : Taken) (next : Joining) → IsStep j t next → IsFirstTaken j t next
 
 -- if no step is taken the run ends
 abbrev pub RunsEnd : Type 0

@@ -15,7 +15,7 @@ use Rattle.log_file.specs.declared.error.FileError.{FileError}
 use Rattle.log_file.specs.declared.error.FileError.TheVariants.{LengthDiffers, BadRecord, BadOrder, OutOfMemory}
 use Rattle.log_file.specs.Blocks.{blocks_of}
 use Rattle.log_file.specs.File as first
-use Rattle.log_file.specs.Layout.{file_bytes, file_bytes2, IsFirst}
+use Rattle.log_file.specs.Layout.{file_bytes, file_bytes2, IsVersion1}
 use Rattle.log_file.specs.Readings.{TestsTell}
 use Rattle.log_file.specs.Readings as of_first
 use Rattle.log_blocks.specs.declared.damage.Damage.{Damage}
@@ -223,7 +223,7 @@ of_second : (bytes : List ℕ) → is_second bytes ≡ true → ((d : Content) �
 of_second bytes named (inl x) = (Ok x.0, (x.1, to_second (is_second bytes) (bytes ≡ file_bytes2 x.0) ((x.0.head.settings.format ≡ 1) × (bytes ≡ file_bytes x.0)) named x.2))
 of_second bytes named (inr x) = (Err x.0, (to_second (is_second bytes) (IsSecondRefusal bytes x.0) (IsFirstRefusal bytes x.0) named x.1, x.2))
 
-of_version_1 : (bytes : List ℕ) → is_second bytes ≡ false → ((d : Content) × IsFirst d × (bytes ≡ file_bytes d)) ⊎ ((e : FileError) × first.IsRefusal bytes e × (e ≢ OutOfMemory)) → Verdict bytes
+of_version_1 : (bytes : List ℕ) → is_second bytes ≡ false → ((d : Content) × IsVersion1 d × (bytes ≡ file_bytes d)) ⊎ ((e : FileError) × first.IsRefusal bytes e × (e ≢ OutOfMemory)) → Verdict bytes
 of_version_1 bytes named (inl x) = (Ok x.0, (x.1.0, to_first (is_second bytes) (bytes ≡ file_bytes2 x.0) ((x.0.head.settings.format ≡ 1) × (bytes ≡ file_bytes x.0)) named (x.1.1, x.2)))
 of_version_1 bytes named (inr x) = (Err (File x.0), (to_first (is_second bytes) (IsSecondRefusal bytes (File x.0)) (IsFirstRefusal bytes (File x.0)) named x.1, no_memory x.0 x.2))
 

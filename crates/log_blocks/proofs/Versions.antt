@@ -9,7 +9,7 @@ use Rattle.le_numbers.specs.Laws.{HaveTheirWidth, AreRead}
 use Rattle.log_order.specs.Content.{Content, IsContent}
 use Rattle.log_file.specs.declared.error.FileError.{FileError}
 use Rattle.log_file.specs.declared.error.FileError.TheVariants.{OutOfMemory}
-use Rattle.log_file.specs.Layout.{magic, settings_bytes, signed_bytes, file_bytes, file_bytes2, IsFirst}
+use Rattle.log_file.specs.Layout.{magic, settings_bytes, signed_bytes, file_bytes, file_bytes2, IsVersion1}
 use Rattle.log_file.specs.Laws as of_first
 use Rattle.log_blocks.specs.declared.damage.Damage.{Damage}
 use Rattle.log_blocks.specs.declared.damage.Damage.TheVariants.{File, BadBlock}
@@ -72,11 +72,11 @@ read_second_only name same taken bytes (Err y) ic f x d id e =
     let second : is_second bytes ≡ true = ap is_second e ∙ (name d id).0 in
     taken d id y (subst (λ (b : List ℕ). IsSecondRefusal b y) e (spelled_second (is_second bytes) (IsSecondRefusal bytes y) (IsFirstRefusal bytes y) second x))
 
-pub first_refused : of_first.AreNotRefused → (bytes : List ℕ) (e : Damage) (d : Content) → IsFirst d → bytes ≡ file_bytes d → IsFirstRefusal bytes e → e ≡ File OutOfMemory
+pub first_refused : of_first.AreNotRefused → (bytes : List ℕ) (e : Damage) (d : Content) → IsVersion1 d → bytes ≡ file_bytes d → IsFirstRefusal bytes e → e ≡ File OutOfMemory
 first_refused taken bytes (File f) d id e x = ap (λ (g : FileError). File g) (taken d id f (subst (λ (b : List ℕ). IsFirstRefusal b (File f)) e x))
 first_refused taken bytes (BadBlock at) d id e x = absurd x
 
-pub read_first_only : NameTheirVersion → of_first.SayOneThing → of_first.AreNotRefused → (bytes : List ℕ) (r : Result Content Damage) → IfOk r (λ c. IsContent c) → IfOk r (IsSpelled bytes) → IfErr r (IsRefusal bytes) → (d : Content) → IsFirst d → bytes ≡ file_bytes d
+pub read_first_only : NameTheirVersion → of_first.SayOneThing → of_first.AreNotRefused → (bytes : List ℕ) (r : Result Content Damage) → IfOk r (λ c. IsContent c) → IfOk r (IsSpelled bytes) → IfErr r (IsRefusal bytes) → (d : Content) → IsVersion1 d → bytes ≡ file_bytes d
     → MatchResult r (λ c. c ≡ d) (λ e. e ≡ File OutOfMemory)
 read_first_only name same taken bytes (Ok c) ic f x d id e =
     let first : is_second bytes ≡ false = ap is_second e ∙ (name d id.0).1 in

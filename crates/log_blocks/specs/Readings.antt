@@ -3,7 +3,7 @@ use Rattle.std.specs.Prelude.{◌≡◌, ◌≢◌, ℕ, List, Result, Ok, Err}
 use Rattle.le_numbers.specs.Numbers.{AreBytes}
 use Rattle.log_order.specs.Content.{Content, IsContent}
 use Rattle.log_file.specs.declared.error.FileError.TheVariants.{OutOfMemory}
-use Rattle.log_file.specs.Layout.{file_bytes, file_bytes2, saved_bytes, IsFirst}
+use Rattle.log_file.specs.Layout.{file_bytes, file_bytes2, saved_bytes, IsVersion1}
 use Rattle.log_file.specs.Readings.{TestsTell}
 use Rattle.log_blocks.specs.declared.damage.Damage.{Damage}
 use Rattle.log_blocks.specs.declared.damage.Damage.TheVariants.{File}
@@ -39,7 +39,7 @@ AreSalvagedOrRefused = TestsTell → (bytes : List ℕ) → AreBytes bytes → (
 
 -- the files of either version say the log that they are of; so does what a recording saves, in the version of its settings' format
 pub record FilesAreRead : Type 0 where
-  pub first : (c : Content) → IsFirst c → Reads (file_bytes c) (Ok c)
+  pub first : (c : Content) → IsVersion1 c → Reads (file_bytes c) (Ok c)
   pub second : (c : Content) → IsContent c → Reads (file_bytes2 c) (Ok c)
   pub saved : (c : Content) → IsContent c → Reads (saved_bytes c) (Ok c)
 

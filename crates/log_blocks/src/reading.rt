@@ -5,7 +5,7 @@ ghost use Rattle.std.specs.List.{AllByRecursion};
 ghost use Rattle.log_record.specs.Spelling.{total, Fits};
 ghost use Rattle.log_order.specs.Content.{Content, content, IsContent};
 ghost use Rattle.log_file.specs.declared.error.FileError.TheVariants.{OutOfMemory};
-ghost use Rattle.log_file.specs.Layout.{file_bytes, file_bytes2, IsFirst};
+ghost use Rattle.log_file.specs.Layout.{file_bytes, file_bytes2, IsVersion1};
 ghost use Rattle.log_blocks.specs.declared.damage.Damage.TheVariants.{File};
 ghost use Rattle.log_blocks.specs.Fields.{settings_in, head_in, dropped_in, size_in, head_digest, blocks_in};
 ghost use Rattle.log_blocks.specs.Faults.{is_second, head_fault};
@@ -147,7 +147,7 @@ pub fn read_file(alloc: Global, bytes: &[u8]) -> Result<KeptLog, Damage>
     ensures content { IfOk result (λ c. IsContent c) }
     ensures found { IfOk result (IsSpelled bytes.now) }
     // A log whose spelling in either version the bytes are is read.
-    ensures first { (d : Content) → IsFirst d → bytes.now ≡ file_bytes d → MatchResult result (λ c. c ≡ d) (λ e. e ≡ File OutOfMemory) }
+    ensures first { (d : Content) → IsVersion1 d → bytes.now ≡ file_bytes d → MatchResult result (λ c. c ≡ d) (λ e. e ≡ File OutOfMemory) }
     ensures second { (d : Content) → IsContent d → bytes.now ≡ file_bytes2 d → MatchResult result (λ c. c ≡ d) (λ e. e ≡ File OutOfMemory) }
     ensures refused { IfErr result (IsRefusal bytes.now) }
 {

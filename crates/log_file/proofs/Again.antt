@@ -22,7 +22,7 @@ use Rattle.log_order.specs.Order.{order_break, broken_by}
 use Rattle.log_order.specs.Content.{Content, content, IsContent}
 use Rattle.log_file.specs.declared.error.FileError.{FileError}
 use Rattle.log_file.specs.declared.error.FileError.TheVariants.{Short, BadMagic, BadVersion, BadHead, LengthDiffers, DigestDiffers, BadRecord, BadOrder, OutOfMemory}
-use Rattle.log_file.specs.Layout.{magic, signed_bytes, file_bytes, IsFirst, settings_in, head_in, dropped_in, size_in}
+use Rattle.log_file.specs.Layout.{magic, signed_bytes, file_bytes, IsVersion1, settings_in, head_in, dropped_in, size_in}
 use Rattle.log_file.specs.Faults.{head_fault, signed_of, file_fault}
 use Rattle.log_file.specs.File.{IsRecordsFault, IsRefusal}
 use Rattle.log_file.specs.Laws.{SayOneThing, AreNotRefused, HaveTheirSize}
@@ -33,7 +33,7 @@ use Rattle.log_file.proofs.Heads.{spelled, signed_is_spelled}
 few_harts : (s : RawSettings) → IsSetting s → s.format ≡ 1 → s.harts ≤ 8
 few_harts s is one = subst (λ (f : ℕ). s.harts ≤ (if f == 2 then 16 else 8)) one is.harts_high
 
-fit_first : (c : Content) → IsFirst c → AllByRecursion (Fits 1) c.records
+fit_first : (c : Content) → IsVersion1 c → AllByRecursion (Fits 1) c.records
 fit_first c is = subst (λ (f : ℕ). AllByRecursion (Fits f) c.records) is.1 is.0.fit
 
 none_else : (none power : Bool) → IsTrue (none || 1 == 2 && power) → none ≡ true
@@ -148,7 +148,7 @@ module _ (long : HaveTheirWidth) where
 pub small_size : (c : Content) → IsContent c → length (flat_map bytes_of c.records) < 2 ^ 32
 small_size c is = omega (arith, is.bound, is.settings.log_size_high)
 
-pub content_again : AreRead → (c : Content) → IsFirst c → Again (signed_bytes c.head c.dropped (flat_map bytes_of c.records)) c.head c.dropped (length (flat_map bytes_of c.records)) (flat_map bytes_of c.records)
+pub content_again : AreRead → (c : Content) → IsVersion1 c → Again (signed_bytes c.head c.dropped (flat_map bytes_of c.records)) c.head c.dropped (length (flat_map bytes_of c.records)) (flat_map bytes_of c.records)
 content_again read c is =
     spelled_again read c.head c.dropped (length (flat_map bytes_of c.records)) (flat_map bytes_of c.records) (signed_bytes c.head c.dropped (flat_map bytes_of c.records))
     is.0.settings is.1 is.0.digest is.0.dropped (small_size c is.0) (signed_is_spelled c.head c.dropped (flat_map bytes_of c.records))
@@ -191,7 +191,7 @@ abbrev signed_for : Content → List ℕ
 signed_for c = signed_bytes c.head c.dropped (flat_map bytes_of c.records)
 
 -- a head that is written has no fault
-pub no_fault_again : AreRead → (c : Content) → IsFirst c → head_fault (signed_for c) (sha256 (signed_for c)) ≡ None
+pub no_fault_again : AreRead → (c : Content) → IsVersion1 c → head_fault (signed_for c) (sha256 (signed_for c)) ≡ None
 no_fault_again read c is =
     let a = content_again read c is in
     let long : size_in (signed_for c) ≡ length (signed_for c) - 92 = a.n_is ∙ sym (ap length a.rest_is) ∙ length-drop 92 (signed_for c) in
@@ -225,7 +225,7 @@ faultfree = None
 no_error : (e : FileError) → faultfree ≡ Some e → ⊥
 no_error e h = cc
 
-records_fault_again : BeginNoOther → (c : Content) → IsFirst c → (e : FileError) → IsRecordsFault c.head c.dropped (flat_map bytes_of c.records) e → e ≡ OutOfMemory
+records_fault_again : BeginNoOther → (c : Content) → IsVersion1 c → (e : FileError) → IsRecordsFault c.head c.dropped (flat_map bytes_of c.records) e → e ≡ OutOfMemory
 records_fault_again alone c is (Short n) x = absurd x
 records_fault_again alone c is BadMagic x = absurd x
 records_fault_again alone c is (BadVersion found) x = absurd x
@@ -270,7 +270,7 @@ at_content c e a x =
     (subst (λ (t : List ℕ). IsRecordsFault (head_in (signed_for c)) (dropped_in (signed_for c)) t e) a.rest_is x))
 
 -- a file that is written is refused only for want of memory
-pub refused_again : HaveTheirWidth → AreRead → BeginNoOther → (c : Content) → IsFirst c → (e : FileError) → IsRefusal (file_bytes c) e → e ≡ OutOfMemory
+pub refused_again : HaveTheirWidth → AreRead → BeginNoOther → (c : Content) → IsVersion1 c → (e : FileError) → IsRefusal (file_bytes c) e → e ≡ OutOfMemory
 refused_again long read alone c is e x =
     let a = content_again read c is in
     let fault : head_fault (signed_of (file_bytes c)) (drop (length (file_bytes c) - 32) (file_bytes c)) ≡ None = rw (signed_again c, digest_again c) (no_fault_again read c is) in
@@ -281,7 +281,7 @@ refused_again long read alone c is e x =
     ]
 
 -- two logs with one spelling are one
-pub one_content : AreRead → BeginNoOther → (c d : Content) → IsFirst c → IsFirst d → file_bytes c ≡ file_bytes d → c ≡ d
+pub one_content : AreRead → BeginNoOther → (c d : Content) → IsVersion1 c → IsVersion1 d → file_bytes c ≡ file_bytes d → c ≡ d
 one_content read alone c d ic id e =
     let s : signed_for c ≡ signed_for d = sym (signed_again c) ∙ ap signed_of e ∙ signed_again d in
     let a = content_again read c ic in
@@ -292,7 +292,7 @@ one_content read alone c d ic id e =
     ap (λ (h : Head). content h c.dropped c.records) head ∙ ap (λ (n : ℕ). content d.head n c.records) dropped ∙ ap (content d.head d.dropped) rs
 
 -- a file is read as the log whose spelling it is, since it is that of no other, and has no cause for a refusal
-pub read_only : SayOneThing → AreNotRefused → (bytes : List ℕ) (r : Result Content FileError) → IfOk r (λ c. IsFirst c) → IfOk r (λ c. bytes ≡ file_bytes c) → IfErr r (λ e. IsRefusal bytes e) → (d : Content) → IsFirst d → bytes ≡ file_bytes d
+pub read_only : SayOneThing → AreNotRefused → (bytes : List ℕ) (r : Result Content FileError) → IfOk r (λ c. IsVersion1 c) → IfOk r (λ c. bytes ≡ file_bytes c) → IfErr r (λ e. IsRefusal bytes e) → (d : Content) → IsVersion1 d → bytes ≡ file_bytes d
     → MatchResult r (λ c. c ≡ d) (λ e. e ≡ OutOfMemory)
 read_only same taken bytes (Ok c) ic f x d id e = same c d ic id (sym f ∙ e)
 read_only same taken bytes (Err y) ic f x d id e = taken d id y (subst (λ (b : List ℕ). IsRefusal b y) e x)

@@ -13,7 +13,7 @@ use Rattle.log_order.specs.Content.{Content, content}
 use Rattle.log_file.specs.declared.counting.LogCounts.{LogCounts}
 use Rattle.log_file.specs.declared.error.FileError.{FileError}
 use Rattle.log_file.specs.declared.error.FileError.TheVariants.{OutOfMemory}
-use Rattle.log_file.specs.Layout.{settings_in, digest_in, dropped_in, file_bytes, IsFirst}
+use Rattle.log_file.specs.Layout.{settings_in, digest_in, dropped_in, file_bytes, IsVersion1}
 use Rattle.log_file.specs.Faults.{head_fault}
 use Rattle.log_file.specs.File.{IsRefusal}
 use Rattle.log_file.specs.Laws.{SayOneThing, AreNotRefused}
@@ -59,6 +59,6 @@ counts_file written bytes signed kept (Ok n) parts are long h k =
 
 -- a file is counted as the log whose spelling it is, since it is that of no other, and has no cause for a refusal
 pub counts_only : SayOneThing → AreNotRefused → (bytes : List ℕ) (r : Result LogCounts FileError) → IfOk r (CountsFile bytes) → IfErr r (λ e. IsRefusal bytes e) → IfErr r (λ e. e ≢ OutOfMemory)
-    → (c : Content) → IsFirst c → bytes ≡ file_bytes c → r ≡ Ok (counts_of c)
+    → (c : Content) → IsVersion1 c → bytes ≡ file_bytes c → r ≡ Ok (counts_of c)
 counts_only same taken bytes (Ok n) k x m c is e = ap Ok (k.counts ∙ ap counts_of (same k.log c k.content is (sym k.spelled ∙ e)))
 counts_only same taken bytes (Err y) k x m c is e = absurd (m (taken c is y (subst (λ (b : List ℕ). IsRefusal b y) e x)))

@@ -21,7 +21,7 @@ use Rattle.log_order.specs.Content.{Content, content, IsContent}
 use Rattle.log_file.specs.Faults.{setting_fault, head_fault, file_fault, signed_of}
 use Rattle.log_file.specs.File.{NoRecord, IsRefusal}
 use Rattle.log_file.specs.Readings.{AreReadOrRefused}
-use Rattle.log_file.specs.Layout.{head_in, dropped_in, settings_in, size_in, magic, file_bytes, IsFirst}
+use Rattle.log_file.specs.Layout.{head_in, dropped_in, settings_in, size_in, magic, file_bytes, IsVersion1}
 use Rattle.log_file.specs.declared.error.FileError.{FileError}
 use Rattle.log_file.specs.declared.error.FileError.TheVariants.{Short, BadMagic, BadVersion, BadHead, LengthDiffers, DigestDiffers, BadRecord, BadOrder, OutOfMemory}
 use Rattle.log_file.proofs.Heads.{no_fault, is_file, front_bytes}
@@ -159,7 +159,7 @@ under_none true e r h = grind arith
 under_none false e r h = (refl, h)
 
 abbrev Verdict : List ℕ → Type 0
-Verdict bytes = ((d : Content) × IsFirst d × (bytes ≡ file_bytes d)) ⊎ ((e : FileError) × IsRefusal bytes e × (e ≢ OutOfMemory))
+Verdict bytes = ((d : Content) × IsVersion1 d × (bytes ≡ file_bytes d)) ⊎ ((e : FileError) × IsRefusal bytes e × (e ≢ OutOfMemory))
 
 pub decided : TellTheirSize → AreWritten → AreRead → NumbersAreWritten → Fit → AreReadOrRefused
 decided tell written read numbers_written fit tests bytes are = by (file_fault bytes) refl

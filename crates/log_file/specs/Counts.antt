@@ -14,7 +14,7 @@ use Rattle.log_order.specs.Content.{Content}
 use Rattle.log_file.specs.declared.counting.LogCounts.{LogCounts}
 use Rattle.log_file.specs.declared.counting.Tally.{Tally}
 use Rattle.log_file.specs.declared.counting.Walked.{Walked}
-use Rattle.log_file.specs.Layout.{file_bytes, IsFirst}
+use Rattle.log_file.specs.Layout.{file_bytes, IsVersion1}
 use Rattle.log_file.specs.File.{HasFields}
 
 -- 1 if the record is a Header, else 0
@@ -71,13 +71,13 @@ pub record IsCounted (head : Head) (dropped : ℕ) (bytes : List ℕ) (n : LogCo
 -- these are the counts of a log that has what stands at the places of the fields
 pub record CountsFields (signed : List ℕ) (n : LogCounts) : Type 0 where
   pub log : Content
-  pub content : IsFirst log
+  pub content : IsVersion1 log
   pub fields : HasFields signed log
   pub counts : n ≡ counts_of log
 
 -- these are the counts of the log whose spelling the bytes are
 pub record CountsFile (bytes : List ℕ) (n : LogCounts) : Type 0 where
   pub log : Content
-  pub content : IsFirst log
+  pub content : IsVersion1 log
   pub spelled : bytes ≡ file_bytes log
   pub counts : n ≡ counts_of log

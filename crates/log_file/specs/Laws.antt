@@ -6,7 +6,7 @@ use Rattle.log_record.specs.Spelling.{total}
 use Rattle.log_order.specs.Content.{Content, IsContent}
 use Rattle.log_file.specs.declared.error.FileError.{FileError}
 use Rattle.log_file.specs.declared.error.FileError.TheVariants.{OutOfMemory}
-use Rattle.log_file.specs.Layout.{file_bytes, IsFirst}
+use Rattle.log_file.specs.Layout.{file_bytes, IsVersion1}
 use Rattle.log_file.specs.File.{IsRefusal}
 
 -- settings in range have no bad one
@@ -15,11 +15,11 @@ AreNotBad = (s : RawSettings) → IsSetting s → first_bad s ≡ None
 
 -- no file says two things
 abbrev pub SayOneThing : Type 0
-SayOneThing = (c d : Content) → IsFirst c → IsFirst d → file_bytes c ≡ file_bytes d → c ≡ d
+SayOneThing = (c d : Content) → IsVersion1 c → IsVersion1 d → file_bytes c ≡ file_bytes d → c ≡ d
 
 -- bytes that are a log's have no cause for a refusal
 abbrev pub AreNotRefused : Type 0
-AreNotRefused = (c : Content) → IsFirst c → (e : FileError) → IsRefusal (file_bytes c) e → e ≡ OutOfMemory
+AreNotRefused = (c : Content) → IsVersion1 c → (e : FileError) → IsRefusal (file_bytes c) e → e ≡ OutOfMemory
 
 -- a file has 124 bytes beside those of its records: the head of 92, and the digest of 32 at its end
 abbrev pub HaveTheirSize : Type 0

@@ -32,8 +32,8 @@ abbrev pub file_bytes : Content → List ℕ
 file_bytes c = spelling c.head c.dropped (flat_map bytes_of c.records)
 
 -- what version 1 can say: its settings are those of format 1, which has no other fields
-abbrev pub IsFirst : Content → Type 0
-IsFirst c = IsContent c × (c.head.settings.format ≡ 1)
+abbrev pub IsVersion1 : Content → Type 0
+IsVersion1 c = IsContent c × (c.head.settings.format ≡ 1)
 
 -- ---- version 2
 

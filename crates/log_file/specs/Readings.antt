@@ -6,7 +6,7 @@ use Rattle.le_numbers.specs.Numbers.{AreBytes}
 use Rattle.log_order.specs.Content.{Content}
 use Rattle.log_file.specs.declared.error.FileError.{FileError}
 use Rattle.log_file.specs.declared.error.FileError.TheVariants.{OutOfMemory}
-use Rattle.log_file.specs.Layout.{file_bytes, IsFirst}
+use Rattle.log_file.specs.Layout.{file_bytes, IsVersion1}
 use Rattle.log_file.specs.File.{IsRefusal}
 
 -- settings of which none is bad are in range
@@ -16,4 +16,4 @@ TestsTell = (s : RawSettings) → first_bad s ≡ None → IsSetting s
 -- given that, bytes are a log's, or there is a cause to refuse them
 abbrev pub AreReadOrRefused : Type 0
 AreReadOrRefused = TestsTell → (bytes : List ℕ) → AreBytes bytes
-    → ((d : Content) × IsFirst d × (bytes ≡ file_bytes d)) ⊎ ((e : FileError) × IsRefusal bytes e × (e ≢ OutOfMemory))
+    → ((d : Content) × IsVersion1 d × (bytes ≡ file_bytes d)) ⊎ ((e : FileError) × IsRefusal bytes e × (e ≢ OutOfMemory))

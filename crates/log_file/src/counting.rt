@@ -8,7 +8,7 @@ ghost use Rattle.log_order.specs.declared.walk.OrderBreak.{OrderBreak};
 ghost use Rattle.log_order.specs.Content.{Content};
 ghost use Rattle.log_order.specs.Order.{after_all, is_late, late_edge, ended, broken_in};
 ghost use Rattle.log_file.specs.declared.error.FileError.TheVariants.{OutOfMemory};
-ghost use Rattle.log_file.specs.Layout.{settings_in, head_in, dropped_in, file_bytes, IsFirst};
+ghost use Rattle.log_file.specs.Layout.{settings_in, head_in, dropped_in, file_bytes, IsVersion1};
 ghost use Rattle.log_file.specs.File.{NoRecord, IsRecordsFault, IsRefusal};
 ghost use Rattle.log_file.specs.Counts.{headers_of, counts_of, Walks, IsWalked, IsTallied, IsCounted, CountsFields, CountsFile};
 
@@ -283,7 +283,7 @@ pub fn count_file(bytes: &[u8]) -> Result<LogCounts, FileError>
     // The counts are those of a log, and the bytes are its spelling.
     ensures counted { IfOk result (CountsFile bytes.now) }
     // A log whose spelling the bytes are is counted.
-    ensures only { (c : Content) → IsFirst c → bytes.now ≡ file_bytes c → result ≡ Ok (counts_of c) }
+    ensures only { (c : Content) → IsVersion1 c → bytes.now ≡ file_bytes c → result ≡ Ok (counts_of c) }
     ensures refused { IfErr result (λ e. IsRefusal bytes.now e) }
     ensures memory { IfErr result (λ e. e ≢ OutOfMemory) }
 {

@@ -2,7 +2,7 @@
 ghost use Rattle.std.specs.Prelude.{◌≡◌, ◌≤◌, ◌++◌, length, drop, None, MatchResult, IfOk, IfErr};
 ghost use Rattle.log_order.specs.Content.{Content};
 ghost use Rattle.log_file.specs.declared.error.FileError.TheVariants.{OutOfMemory};
-ghost use Rattle.log_file.specs.Layout.{settings_in, head_in, dropped_in, file_bytes, IsFirst};
+ghost use Rattle.log_file.specs.Layout.{settings_in, head_in, dropped_in, file_bytes, IsVersion1};
 ghost use Rattle.log_file.specs.Faults.{head_fault};
 ghost use Rattle.log_file.specs.File.{HasFields, IsRecordsFault, IsRefusal};
 
@@ -22,7 +22,7 @@ fn content_in(alloc: Global, signed: &[u8], settings: Settings) -> Result<KeptLo
     requires long { 92 ≤ length signed.now }
     requires settings { settings ≡ settings_in signed.now }
     requires bound { length (drop 92 signed.now) ≤ settings.log_size }
-    ensures content { IfOk result (λ c. IsFirst c) }
+    ensures content { IfOk result (λ c. IsVersion1 c) }
     ensures fields { IfOk result (HasFields signed.now) }
     ensures refused { IfErr result (λ e. IsRecordsFault (head_in signed.now) (dropped_in signed.now) (drop 92 signed.now) e) }
 {
@@ -42,7 +42,7 @@ fn content_in(alloc: Global, signed: &[u8], settings: Settings) -> Result<KeptLo
 }
 
 fn read(alloc: Global, bytes: &[u8]) -> Result<KeptLog, FileError>
-    ensures content { IfOk result (λ c. IsFirst c) }
+    ensures content { IfOk result (λ c. IsVersion1 c) }
     ensures found { IfOk result (λ c. bytes.now ≡ file_bytes c) }
     ensures refused { IfErr result (λ e. IsRefusal bytes.now e) }
 {
@@ -61,10 +61,10 @@ fn read(alloc: Global, bytes: &[u8]) -> Result<KeptLog, FileError>
 /// What a log file says. The error is the first that applies, in the order of `FileError`.
 pub fn read_file(alloc: Global, bytes: &[u8]) -> Result<KeptLog, FileError>
     // A log that is read is one that version 1 has, and the bytes are its spelling.
-    ensures content { IfOk result (λ c. IsFirst c) }
+    ensures content { IfOk result (λ c. IsVersion1 c) }
     ensures found { IfOk result (λ c. bytes.now ≡ file_bytes c) }
     // A log whose spelling the bytes are is read.
-    ensures only { (d : Content) → IsFirst d → bytes.now ≡ file_bytes d → MatchResult result (λ c. c ≡ d) (λ e. e ≡ OutOfMemory) }
+    ensures only { (d : Content) → IsVersion1 d → bytes.now ≡ file_bytes d → MatchResult result (λ c. c ≡ d) (λ e. e ≡ OutOfMemory) }
     ensures refused { IfErr result (λ e. IsRefusal bytes.now e) }
 {
     files_say_one_thing();

@@ -34,7 +34,7 @@ byte_passed at next bytes b rest n e = ap (λ (k : ℕ). drop k bytes) (sym n) �
 -- ---- what the fields make has the bytes that stand there
 
 -- some bytes begin with those of a record, and go on at a place
-pub record Stands (bytes : List ℕ) (r : Record) (next : ℕ) : Type 0 where
+pub record BeginsAt (bytes : List ℕ) (r : Record) (next : ℕ) : Type 0 where
   pub fits : FitsFields r
   pub parts : bytes ≡ bytes_of r ++ drop next bytes
 
@@ -60,7 +60,7 @@ no_size : (tag : ℕ) → 7 ≤ tag → size_of tag ≡ None
 no_size tag le = rw (apart tag 1 (omega arith), apart tag 2 (omega arith), apart tag 3 (omega arith), apart tag 4 (omega arith), apart tag 5 (omega arith), apart tag 6 (omega arith)) refl
 
 module _ (written : NumbersAreWritten) (fit : Fit) where
-  first_load_stands : (bytes : List ℕ) → AreBytes bytes → 10 ≤ length bytes → slice_index bytes 0 ≡ 2 → Stands bytes (first_load_in bytes) 10
+  first_load_stands : (bytes : List ℕ) → AreBytes bytes → 10 ≤ length bytes → slice_index bytes 0 ≡ 2 → BeginsAt bytes (first_load_in bytes) 10
   unfolding first_load_in
   first_load_stands bytes are within tag =
       let skip = number_bytes 4 (number_at 4 2 bytes) in
@@ -74,7 +74,7 @@ module _ (written : NumbersAreWritten) (fit : Fit) where
             ∙ sym (append_assoc skip value (drop 10 bytes))));
       }
 
-  edge_stands : (bytes : List ℕ) → AreBytes bytes → 19 ≤ length bytes → slice_index bytes 0 ≡ 5 → Stands bytes (edge_in bytes) 19
+  edge_stands : (bytes : List ℕ) → AreBytes bytes → 19 ≤ length bytes → slice_index bytes 0 ≡ 5 → BeginsAt bytes (edge_in bytes) 19
   unfolding edge_in
   edge_stands bytes are within tag =
       let ic = number_bytes 8 (number_at 8 2 bytes) in
@@ -88,7 +88,7 @@ module _ (written : NumbersAreWritten) (fit : Fit) where
             ∙ sym (append_assoc ic (slice_index bytes 10 ∷ j) (drop 19 bytes))));
       }
 
-  end_stands : (bytes : List ℕ) → AreBytes bytes → 15 ≤ length bytes → slice_index bytes 0 ≡ 6 → Stands bytes (end_in bytes) 15
+  end_stands : (bytes : List ℕ) → AreBytes bytes → 15 ≤ length bytes → slice_index bytes 0 ≡ 6 → BeginsAt bytes (end_in bytes) 15
   unfolding end_in
   end_stands bytes are within tag =
       let ic = number_bytes 8 (number_at 8 2 bytes) in
@@ -102,7 +102,7 @@ module _ (written : NumbersAreWritten) (fit : Fit) where
             ∙ sym (append_assoc ic (slice_index bytes 10 ∷ value) (drop 15 bytes))));
       }
 
-  header_stands : (bytes : List ℕ) → AreBytes bytes → 146 ≤ length bytes → slice_index bytes 0 ≡ 1 → Stands bytes (header_in bytes) 146
+  header_stands : (bytes : List ℕ) → AreBytes bytes → 146 ≤ length bytes → slice_index bytes 0 ≡ 1 → BeginsAt bytes (header_in bytes) 146
   unfolding header_in
   header_stands bytes are within tag =
       let n = number_bytes 8 (number_at 8 2 bytes) in
@@ -128,7 +128,7 @@ module _ (written : NumbersAreWritten) (fit : Fit) where
             ∙ grouped));
       }
 
-  by_tag : (tag n : ℕ) (bytes : List ℕ) → AreBytes bytes → slice_index bytes 0 ≡ tag → some n ≡ size_of tag → n ≤ length bytes → Stands bytes (record_in bytes) n
+  by_tag : (tag n : ℕ) (bytes : List ℕ) → AreBytes bytes → slice_index bytes 0 ≡ tag → some n ≡ size_of tag → n ≤ length bytes → BeginsAt bytes (record_in bytes) n
   unfolding record_in
   by_tag zero n bytes are e size within = absurd (none_is n (sym size))
   by_tag (suc zero) n bytes are e size within = let k = some_is n 146 size in rw (e, k) (header_stands bytes are (omega arith) e)

@@ -8,7 +8,7 @@ use Rattle.race_log.specs.declared.shadow.Shadow.{Shadow}
 use Rattle.race_log.specs.Kept.{is_write}
 use Rattle.race_log.specs.Search.{gathered, counts_after}
 use Rattle.race_log.specs.Slots.{counts_past}
-use Rattle.race_log.specs.Stands.{harts_of, times_of, next_count, kept_of, TakesIn}
+use Rattle.race_log.specs.Represents.{harts_of, times_of, next_count, kept_of, TakesIn}
 use Rattle.race_log.specs.Words.{counts_at}
 use Rattle.race_log.proofs.BoolFacts.{known, same_number, other_number}
 

@@ -13,7 +13,7 @@ use Rattle.race_log.specs.Kept.{Kept, In}
 use Rattle.race_log.specs.Slots.{kept_by, kept_here, write_in, read_in, reads_in, word_in}
 use Rattle.race_log.specs.Sweep.{sum_below, accessed_below}
 use Rattle.race_log.specs.Words.{place_of, page_of, epoch_counts}
-use Rattle.race_log.specs.Stands.{Stands, harts_of, kept_of, words_of, held_of}
+use Rattle.race_log.specs.Represents.{RepresentsAccesses, harts_of, kept_of, words_of, held_of}
 use Rattle.race_log.proofs.BoolFacts.{known}
 use Rattle.race_log.proofs.MergeLaws.{is_in}
 use Rattle.race_log.proofs.PageLemmas.{word_none}
@@ -81,7 +81,7 @@ unfolding sum_below
 sum_most f g most zero each = omega arith
 sum_most f g most (suc n) each = omega (arith, sum_most f g most n each, each n, mul-add most (sum_below g n) (g n))
 
-pub most_held : (s : Shadow) (run : List Point) (live : ℕ → Bool) → Stands run live s → held_of s ≤ (harts_of s + 1) * accessed_below run (words_of s)
+pub most_held : (s : Shadow) (run : List Point) (live : ℕ → Bool) → RepresentsAccesses run live s → held_of s ≤ (harts_of s + 1) * accessed_below run (words_of s)
 most_held s run live stands =
     sum_most (λ i. length (kept_of s (4 * i))) (λ i. if list_any (touches (4 * i)) run then 1 else 0) (harts_of s + 1) (words_of s) (λ i. each (4 * i))
   where

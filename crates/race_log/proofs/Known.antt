@@ -8,7 +8,7 @@ use Rattle.race_log.specs.Merges.{is_of_hart}
 use Rattle.race_log.specs.ByCount.{IsInOrder, IsPointAt, IsEdgeBetween, IsLatestPoint, IsTimesOf}
 use Rattle.race_log.specs.Holds.{UpTo, OwnUpTo}
 use Rattle.race_log.specs.Kept.{after, In}
-use Rattle.race_log.specs.Stands.{Stands, harts_of, times_of}
+use Rattle.race_log.specs.Represents.{RepresentsAccesses, harts_of, times_of}
 use Rattle.race_log.proofs.BoolFacts.{same_number}
 use Rattle.race_log.proofs.EdgeLaws.{edge_is, is_edge}
 use Rattle.race_log.proofs.MergeLaws.{is_in, of_hart_at}
@@ -66,7 +66,7 @@ module _ (run : List Point) (b : Point) (up : IsInOrder (after run b)) where
   )
 
 -- what a hart knows of is what is its latest point or before it
-pub latest_times : (run : List Point) (live : ℕ → Bool) (s : Shadow) (hart : ℕ) → Stands run live s → hart < harts_of s
+pub latest_times : (run : List Point) (live : ℕ → Bool) (s : Shadow) (hart : ℕ) → RepresentsAccesses run live s → hart < harts_of s
     → (p : Point) → IsLatestPoint run hart p → IsTimesOf run p (times_of s hart)
 latest_times run live s hart stands low p l =
     times_are run stands.in_order l.place p (times_of s hart) l.at
@@ -91,7 +91,7 @@ latest_times run live s hart stands low p l =
             ]
 
 -- a hart without a point knows of none
-pub no_times : (run : List Point) (live : ℕ → Bool) (s : Shadow) (hart : ℕ) → Stands run live s → hart < harts_of s
+pub no_times : (run : List Point) (live : ℕ → Bool) (s : Shadow) (hart : ℕ) → RepresentsAccesses run live s → hart < harts_of s
     → All (λ p. p.hart ≢ hart) run → (h : ℕ) → times_of s hart h ≡ 0
 no_times run live s hart stands low none h = elim ((stands.own hart low).exact h) [
   | inl z ↦ z

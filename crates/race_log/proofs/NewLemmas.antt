@@ -5,7 +5,7 @@ use Rattle.vector_time.specs.Times.{count_of}
 use Rattle.race_log.specs.declared.shadow.Shadow.{Shadow}
 use Rattle.race_log.specs.Points.{Point}
 use Rattle.race_log.specs.Kept.{Suffices}
-use Rattle.race_log.specs.Stands.{Stands, is_live, times_of, kept_of}
+use Rattle.race_log.specs.Represents.{RepresentsAccesses, is_live, times_of, kept_of}
 use Rattle.race_log.specs.Words.{counts_at}
 
 no_point : (m : ℕ) (p : Point) → slice_get [] m ≡ Some p → ⊥
@@ -18,7 +18,7 @@ none_suffices live w = record {
   accesses = λ m p e t. absurd (no_point m p e);
 }
 
-pub stands_none : (s : Shadow) → ((h g : ℕ) → times_of s h g ≡ 0) → ((w : ℕ) → kept_of s w ≡ []) → (live : ℕ → Bool) → Stands [] live s
+pub stands_none : (s : Shadow) → ((h g : ℕ) → times_of s h g ≡ 0) → ((w : ℕ) → kept_of s w ≡ []) → (live : ℕ → Bool) → RepresentsAccesses [] live s
 stands_none s zeros none live = record {
   in_order = record { turns = λ i j d low fits. absurd (omega arith); counts = λ i j d low fits same. absurd (omega arith) };
   harts = λ k d low. absurd (omega arith);

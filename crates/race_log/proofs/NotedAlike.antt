@@ -9,7 +9,7 @@ use Rattle.race_log.specs.Kept.{Kept, Suffices}
 use Rattle.race_log.specs.Sweep.{has_bit}
 use Rattle.race_log.specs.Slots.{counts_in, word_in, slots_of}
 use Rattle.race_log.specs.Words.{counts_at, place_of}
-use Rattle.race_log.specs.Stands.{is_live, kept_of}
+use Rattle.race_log.specs.Represents.{is_live, kept_of}
 use Rattle.race_log.specs.Noted.{Noted, noted, NotesDecide}
 
 slots_or : Option (List Slot) → List Slot

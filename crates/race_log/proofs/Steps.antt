@@ -16,7 +16,7 @@ use Rattle.race_log.specs.Kept.{Kept, is_write, access_point, after, In, Suffice
 use Rattle.race_log.specs.Search.{gathered, sources, counts_after}
 use Rattle.race_log.specs.Sweep.{has_bit}
 use Rattle.race_log.specs.Words.{KeepsAccess, counts_at}
-use Rattle.race_log.specs.Stands.{Stands, KnowsSame, harts_of, lasting_of, lasts, is_live, next_turn, next_count, times_of, kept_of}
+use Rattle.race_log.specs.Represents.{RepresentsAccesses, KnowsSame, harts_of, lasting_of, lasts, is_live, next_turn, next_count, times_of, kept_of}
 use Rattle.race_log.proofs.BoolFacts.{and_left, both, known}
 use Rattle.race_log.proofs.EdgeLaws.{edge_is, is_edge}
 use Rattle.race_log.proofs.MergeLaws.{is_in, of_hart_at}
@@ -88,7 +88,7 @@ counts_there (x ∷ ts) (suc h) zero t apart g = refl
 counts_there (x ∷ ts) (suc h) (suc other) t apart g = counts_there ts h other t (λ e. apart (ap suc e)) g
 
 -- a shadow that knows and keeps the same stands for the same runs
-pub stands_same : (old new : Shadow) → KnowsSame old new → (run : List Point) (live : ℕ → Bool) → Stands run live old → Stands run live new
+pub stands_same : (old new : Shadow) → KnowsSame old new → (run : List Point) (live : ℕ → Bool) → RepresentsAccesses run live old → RepresentsAccesses run live new
 stands_same old new same run live s = record {
   in_order = s.in_order;
   harts = subst (λ n. All (λ p. p.hart < n) run) (sym same.harts) s.harts;
@@ -99,7 +99,7 @@ stands_same old new same run live s = record {
       (subst (Suffices run (is_live old live) w) (sym (same.kept w)) (s.kept w)));
 }
 
-module _ (run : List Point) (hart count turn first n : ℕ) (mode : Mode) (live : ℕ → Bool) (old : Shadow) (stands : Stands run live old)
+module _ (run : List Point) (hart count turn first n : ℕ) (mode : Mode) (live : ℕ → Bool) (old : Shadow) (stands : RepresentsAccesses run live old)
     (in_harts : hart < harts_of old) (later : next_count old hart ≤ count) (turn_later : next_turn old ≤ turn) (lasting : lasts old hart ≡ true) (lives : live hart ≡ true) where
   abbrev b : Point
   b = access_point hart count turn first n mode
@@ -183,7 +183,7 @@ module _ (run : List Point) (hart count turn first n : ℕ) (mode : Mode) (live 
         → ((h : ℕ) → times_of new hart h ≡ next h) → ((other : ℕ) → other ≢ hart → (h : ℕ) → times_of new other h ≡ times_of old other h)
         → k.turn ≡ turn → k.hart ≡ hart → k.ic ≡ count → k.mode ≡ mode → ((h : ℕ) → k.times h ≡ next h)
         → (1 < harts_of old → KeepsAccess k first n (kept_of old) (kept_of new)) → (harts_of old ≤ 1 → (w : ℕ) → kept_of new w ≡ kept_of old w)
-        → Stands (after run (access_point hart count turn first n mode)) live new
+        → RepresentsAccesses (after run (access_point hart count turn first n mode)) live new
     stands_after new k same_harts same_lasting new_turn new_own new_others is_turn is_hart is_count is_mode is_times many alone = record {
       in_order = now_in_order;
       harts = All-push (λ p. p.hart < harts_of new) run b (subst (λ n. All (λ p. p.hart < n) run) (sym same_harts) stands.harts)

@@ -11,7 +11,7 @@ use Rattle.race_log.specs.Holds.{OwnUpTo, CountsOf}
 use Rattle.race_log.specs.Kept.{Kept, In, KeptAt, AllKnow, Suffices}
 use Rattle.race_log.specs.Sweep.{has_bit, all_below}
 use Rattle.race_log.specs.Words.{has_room, has_epoch, HasRoom}
-use Rattle.race_log.specs.Stands.{Stands, harts_of, lasts, is_live, next_turn, times_of, kept_of, is_known}
+use Rattle.race_log.specs.Represents.{RepresentsAccesses, harts_of, lasts, is_live, next_turn, times_of, kept_of, is_known}
 use Rattle.race_log.proofs.BoolFacts.{known, and_left, and_right, both, same_number}
 use Rattle.race_log.proofs.Rounds.{same_counts}
 use Rattle.race_log.proofs.KeptLemmas.{fewer_suffice}
@@ -45,7 +45,7 @@ pub stands_swept : (old new : Shadow) (set : ℕ) → harts_of new ≡ harts_of 
     → ((hart other : ℕ) → times_of new hart other ≡ times_of old hart other)
     → ((hart : ℕ) → lasts new hart ≡ (lasts old hart && has_bit set hart))
     → ((w : ℕ) → kept_of new w ≡ filter (λ k. not (is_known old set k.hart k.ic)) (kept_of old w))
-    → (run : List Point) (live_one : ℕ → Bool) → Stands run live_one old → Stands run live_one new
+    → (run : List Point) (live_one : ℕ → Bool) → RepresentsAccesses run live_one old → RepresentsAccesses run live_one new
 stands_swept old new set harts turn times lasting kept run live_one s = record {
   in_order = s.in_order;
   harts = subst (λ n. All (λ p. p.hart < n) run) (sym harts) s.harts;

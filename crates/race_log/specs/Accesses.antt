@@ -8,8 +8,8 @@ use Rattle.race_log.specs.ByCount.{IsTimesOf}
 use Rattle.race_log.specs.Laws.{AreSources}
 use Rattle.race_log.specs.Kept.{after}
 use Rattle.race_log.specs.Sweep.{one_more}
-use Rattle.race_log.specs.Stands.{Stands, harts_of, lasting_of, lasts, next_turn, next_count}
-use Rattle.race_log.specs.Stands.{times_of, reserved_range, edges_of, unswept_of}
+use Rattle.race_log.specs.Represents.{RepresentsAccesses, harts_of, lasting_of, lasts, next_turn, next_count}
+use Rattle.race_log.specs.Represents.{times_of, reserved_range, edges_of, unswept_of}
 
 -- the shadow may take in the hart's access of n words from the first, at this count and in this turn: the words are
 -- reserved, turn and count are past those so far, and the hart's bit was clear at no sweep
@@ -25,17 +25,17 @@ pub record MayAccess (hart ic turn first n : ℕ) (s : Shadow) : Type 0 where
 
 -- the points that the edges into the hart's point b come from are there then, each once, and the latest first
 pub record HasEdges (hart : ℕ) (b : Point) (old new : Shadow) : Type 0 where
-  pub listed : (run : List Point) (live : ℕ → Bool) → IsTrue (live hart) → Stands run live old
+  pub listed : (run : List Point) (live : ℕ → Bool) → IsTrue (live hart) → RepresentsAccesses run live old
       → edges_of new ≡ sources_into (after run b) (length run)
-  pub exact : (run : List Point) (live : ℕ → Bool) → IsTrue (live hart) → Stands run live old
+  pub exact : (run : List Point) (live : ℕ → Bool) → IsTrue (live hart) → RepresentsAccesses run live old
       → AreSources run b (edges_of new)
   pub few : length (edges_of new) < harts_of old
 
 -- the shadow then stands for the run with the hart's point b, the hart's times are those of b, and the others' stay
 pub record TakesPoint (hart : ℕ) (b : Point) (old new : Shadow) : Type 0 where
-  pub stands : (run : List Point) (live : ℕ → Bool) → IsTrue (live hart) → Stands run live old
-      → Stands (after run b) live new
-  pub times : (run : List Point) (live : ℕ → Bool) → IsTrue (live hart) → Stands run live old
+  pub stands : (run : List Point) (live : ℕ → Bool) → IsTrue (live hart) → RepresentsAccesses run live old
+      → RepresentsAccesses (after run b) live new
+  pub times : (run : List Point) (live : ℕ → Bool) → IsTrue (live hart) → RepresentsAccesses run live old
       → IsTimesOf (after run b) b (times_of new hart)
   pub others : (other : ℕ) → other ≢ hart → (h : ℕ) → times_of new other h ≡ times_of old other h
 

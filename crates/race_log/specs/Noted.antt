@@ -6,7 +6,7 @@ use Rattle.race_log.specs.declared.shadow.Shadow.{Shadow}
 use Rattle.race_log.specs.declared.slot.Slot.{Slot}
 use Rattle.race_log.specs.declared.epochs.Epoch.{Epoch}
 use Rattle.race_log.specs.Points.{Point}
-use Rattle.race_log.specs.Stands.{Stands, harts_of, lasting_of, next_turn}
+use Rattle.race_log.specs.Represents.{RepresentsAccesses, harts_of, lasting_of, next_turn}
 
 -- what a shadow notes: how many harts there are, which of them last, the lowest turn that the next access may have, the times of each hart, the
 -- slots of each page, and the epochs that they name
@@ -31,4 +31,4 @@ noted s = record {
 
 -- shadows that note the same represent the same runs
 abbrev pub NotesDecide : Type 0
-NotesDecide = (one other : Shadow) → noted one ≡ noted other → (run : List Point) (live : ℕ → Bool) → Stands run live one → Stands run live other
+NotesDecide = (one other : Shadow) → noted one ≡ noted other → (run : List Point) (live : ℕ → Bool) → RepresentsAccesses run live one → RepresentsAccesses run live other

@@ -42,7 +42,7 @@ impl Shadow {
     ghost use Rattle.race_log.specs.Kept.{access_point};
     ghost use Rattle.race_log.specs.Sweep.{has_bit, is_covered, accessed_below};
     ghost use Rattle.race_log.specs.Accesses.{MayAccess, HasEdges, TakesPoint, AwaitsNext};
-    ghost use Rattle.race_log.specs.Stands.{Stands, KnowsSame, harts_of, lasting_of, lasts, next_turn, next_count, times_of, kept_of, words_of, held_of, is_known, reserved_range, edges_of, unswept_of, TakesIn};
+    ghost use Rattle.race_log.specs.Represents.{RepresentsAccesses, KnowsSame, harts_of, lasting_of, lasts, next_turn, next_count, times_of, kept_of, words_of, held_of, is_known, reserved_range, edges_of, unswept_of, TakesIn};
 
     /// Knows of no point and keeps nothing.
     pub fn new(alloc: Global, settings: &Settings) -> Result<Shadow, AllocError>
@@ -53,7 +53,7 @@ impl Shadow {
         ensures edges { IfOk result (λ s. edges_of s ≡ []) }
         ensures unswept { IfOk result (λ s. unswept_of s ≡ 0) }
         ensures lasting { IfOk result (λ s. (h : ℕ) → h < harts_of s → IsTrue (lasts s h)) }
-        ensures stands { IfOk result (λ s. (live : ℕ → Bool) → Stands [] live s) }
+        ensures stands { IfOk result (λ s. (live : ℕ → Bool) → RepresentsAccesses [] live s) }
     {
         let harts = settings.harts();
         let mut times = Vec::new(alloc);
@@ -81,7 +81,7 @@ impl Shadow {
         requires aligned { first % 4 ≡ 0 }
         requires range { first + 4 * count ≤ 2 ^ 32 }
         ensures same { KnowsSame self.old self.new }
-        ensures stands { (run : List Point) (live : ℕ → Bool) → Stands run live self.old → Stands run live self.new }
+        ensures stands { (run : List Point) (live : ℕ → Bool) → RepresentsAccesses run live self.old → RepresentsAccesses run live self.new }
         ensures ok { OnOk result (reserved_range self.new ≡ Some (first, count)) }
         ensures err { OnErr result (reserved_range self.new ≡ reserved_range self.old) }
         ensures ready { reserved_range self.old ≡ Some (first, count) → IsOk result }
@@ -186,9 +186,9 @@ impl Shadow {
     pub fn times(&self, hart: HartId) -> &Times
         requires { hart < harts_of self.now }
         ensures value { (h : ℕ) → count_of result.now h ≡ times_of self.now hart h }
-        ensures latest { (run : List Point) (live : ℕ → Bool) → Stands run live self.now →
+        ensures latest { (run : List Point) (live : ℕ → Bool) → RepresentsAccesses run live self.now →
             (p : Point) → IsLatestPoint run hart p → IsTimesOf run p (count_of result.now) }
-        ensures none { (run : List Point) (live : ℕ → Bool) → Stands run live self.now →
+        ensures none { (run : List Point) (live : ℕ → Bool) → RepresentsAccesses run live self.now →
             All (λ p. p.hart ≢ hart) run → (h : ℕ) → count_of result.now h ≡ 0 }
     {
         &self.times[hart as usize]
@@ -203,7 +203,7 @@ impl Shadow {
         requires { live < 2 ^ harts_of self.old }
         ensures kept { (word : ℕ) → kept_of self.new word ≡ filter (λ k. not (is_known self.old live k.hart k.ic)) (kept_of self.old word) }
         ensures gone { result + held_of self.new ≡ held_of self.old }
-        ensures stands { (run : List Point) (live_one : ℕ → Bool) → Stands run live_one self.old → Stands run live_one self.new }
+        ensures stands { (run : List Point) (live_one : ℕ → Bool) → RepresentsAccesses run live_one self.old → RepresentsAccesses run live_one self.new }
 
         // How the conditions of the next access change.
         ensures lasting { (h : ℕ) → lasts self.new h ≡ (lasts self.old h && has_bit live h) }
@@ -231,7 +231,7 @@ impl Shadow {
     /// How many accesses are kept: at most one more than there are harts for each word that was accessed so far.
     pub fn held(&self) -> u64
         ensures value { result ≡ held_of self.now }
-        ensures most { (run : List Point) (live : ℕ → Bool) → Stands run live self.now →
+        ensures most { (run : List Point) (live : ℕ → Bool) → RepresentsAccesses run live self.now →
             result ≤ (harts_of self.now + 1) * accessed_below run (words_of self.now) }
     {
         self.words.held()

@@ -31,7 +31,7 @@ use Rattle.log_record.specs.declared.record.Record.{Record}
 use Rattle.race_report.specs.declared.race.Race.{Race}
 use Rattle.race_report.specs.Races.{races_of}
 use Rattle.race_report.specs.Found.{total}
-use Rattle.race_report.specs.Reports.{IsReport, Tells, Stops, TakesRow, Advances, HasState, IsOnTheWay, Gathers, GathersRest, GathersInto, joint_of}
+use Rattle.race_report.specs.Reports.{IsReport, TellsReport, Stops, TakesRow, Advances, HasState, IsOnTheWay, Gathers, GathersRest, GathersInto, joint_of}
 
 -- ---- a step that did no row
 
@@ -146,21 +146,21 @@ did_row h most row asked old new g next result is s t =
 
 -- ---- a step that is refused, or none
 
-pub told : (e : JointError) (r : RaceError) (j : Joining) → Tells e r → ((run_all j).stopped ≡ Some e) → Stops j r
+pub told : (e : JointError) (r : RaceError) (j : Joining) → TellsReport e r → ((run_all j).stopped ≡ Some e) → Stops j r
 told e (Joint f) j t s = (s ∙ ap (λ (x : JointError). Some x) (sym t.0), t.1)
 told e (TooMany max) j t s = t
 told e OutOfMemory j t s = tt
 
-pub out_of_memory : (e : JointError) (r : RaceError) (j : Joining) → e ≡ why.OutOfMemory → Tells e r → Stops j r
+pub out_of_memory : (e : JointError) (r : RaceError) (j : Joining) → e ≡ why.OutOfMemory → TellsReport e r → Stops j r
 out_of_memory e (Joint f) j is t = absurd (t.1 (t.0 ∙ is))
 out_of_memory e (TooMany max) j is t = t
 out_of_memory e OutOfMemory j is t = tt
 
-pub refused_step : RunsByStep → (h most : ℕ) (old new : Joining) (g : Gathered) (e : JointError) (r : RaceError) → old.refused ≡ None → choice old ≡ Hart h → Steps old h (Err e) new → Tells e r → Advances h most old g (Err r) new g
+pub refused_step : RunsByStep → (h most : ℕ) (old new : Joining) (g : Gathered) (e : JointError) (r : RaceError) → old.refused ≡ None → choice old ≡ Hart h → Steps old h (Err e) new → TellsReport e r → Advances h most old g (Err r) new g
 refused_step law h most old new g e r none lowest (inl f) t = told e r old t (ap (λ (x : Ran). x.stopped) (law.refused old h f.refusal none lowest f.there) ∙ ap (λ (x : JointError). Some x) (sym f.error_is))
 refused_step law h most old new g e r none lowest (inr f) t = out_of_memory e r old f.0 t
 
-pub stuck_run : (old new : Joining) (e : JointError) (r : RaceError) (out_old out_new : List ℕ) → Runs old (Err e) new out_old out_new → Tells e r → Stops old r
+pub stuck_run : (old new : Joining) (e : JointError) (r : RaceError) (out_old out_new : List ℕ) → Runs old (Err e) new out_old out_new → TellsReport e r → Stops old r
 stuck_run old new e r out_old out_new (inl f) t = told e r old t f.ends
 stuck_run old new e r out_old out_new (inr f) t = out_of_memory e r old (same_error e f.0) t
   where

@@ -5,7 +5,7 @@ use Rattle.bn_base.specs.declared.row.Row.{Row}
 use Rattle.race_log.specs.Points.{Point}
 use Rattle.race_log.specs.ByCount.{IsInOrder, IsTimesOf}
 use Rattle.race_log.specs.Kept.{after}
-use Rattle.race_log.specs.Stands.{Stands, harts_of, next_turn, next_count, lasts, lasting_of}
+use Rattle.race_log.specs.Represents.{RepresentsAccesses, harts_of, next_turn, next_count, lasts, lasting_of}
 use Rattle.race_log.specs.Sweep.{has_bit}
 use Rattle.race_report.specs.declared.meeting.Meeting.{Meeting}
 use Rattle.race_report.specs.declared.touch.Touch.{Touch}
@@ -35,8 +35,8 @@ pub record IsTaken (hart : ℕ) (row : Row) (touch : Touch) (n : ℕ) (old new :
   pub harts : new.harts ≡ old.harts
   pub rows : new.rows.items ≡ old.rows.items ++ row ∷ []
   pub owners : new.owners.items ≡ old.owners.items ++ hart ∷ []
-  pub stands : (run : List Point) → Stands run everyone old.shadow → Stands (after run (sync_of hart n touch)) everyone new.shadow
-  pub known : (run : List Point) → Stands run everyone old.shadow → IsTimesOf (after run (sync_of hart n touch)) (sync_of hart n touch) counts
+  pub stands : (run : List Point) → RepresentsAccesses run everyone old.shadow → RepresentsAccesses (after run (sync_of hart n touch)) everyone new.shadow
+  pub known : (run : List Point) → RepresentsAccesses run everyone old.shadow → IsTimesOf (after run (sync_of hart n touch)) (sync_of hart n touch) counts
   pub shadow_harts : harts_of new.shadow ≡ harts_of old.shadow
   pub lasting : lasting_of new.shadow ≡ lasting_of old.shadow
   pub turn : next_turn new.shadow ≡ n + 1
@@ -68,8 +68,8 @@ module _ (tests : TestsDecide) (places : PlacesStandForCounts) (harts hart : ℕ
   syncs_are : after (syncs_from 0 run) (sync_of hart (length run) touch) ≡ syncs_from 0 (run ++ p ∷ [])
   syncs_are = sym (syncs_more 0 run p ∙ ap (λ (k : ℕ). syncs_from 0 run ++ sync_point k p ∷ []) (no_more (length run)))
 
-  stands_now : Stands (syncs_from 0 (run ++ p ∷ [])) everyone new.shadow
-  stands_now = subst (λ (ps : List Point). Stands ps everyone new.shadow) syncs_are (t.stands (syncs_from 0 run) g.stands)
+  stands_now : RepresentsAccesses (syncs_from 0 (run ++ p ∷ [])) everyone new.shadow
+  stands_now = subst (λ (ps : List Point). RepresentsAccesses ps everyone new.shadow) syncs_are (t.stands (syncs_from 0 run) g.stands)
 
   times_now : IsTimesOf (syncs_from 0 (run ++ p ∷ [])) (sync_of hart (length run) touch) counts
   times_now = subst (λ (ps : List Point). IsTimesOf ps (sync_of hart (length run) touch) counts) syncs_are (t.known (syncs_from 0 run) g.stands)

@@ -26,15 +26,15 @@ left_none entries count n w end now l = by l.places l.chain l.rest
         no k e = cc
 
 -- the first place that is left is the entry's
-pub record IsFirst (entries : List TrackEntry) (e : TrackEntry) (count n w : ℕ) (end now : List (List Meeting)) : Type 0 where
+pub record IsFirstPlace (entries : List TrackEntry) (e : TrackEntry) (count n w : ℕ) (end now : List (List Meeting)) : Type 0 where
   pub places : List ℕ
   pub chain : IsChain entries e.previous places
   pub rest : end ≡ met_all n w (uncovered count (e.place ∷ places)) now
 
-first_left : (entries : List TrackEntry) (k : ℕ) (e : TrackEntry) (count n w : ℕ) (end now : List (List Meeting)) → slice_get entries k ≡ Some e → IsLeft entries (Some k) count n w end now → IsFirst entries e count n w end now
+first_left : (entries : List TrackEntry) (k : ℕ) (e : TrackEntry) (count n w : ℕ) (end now : List (List Meeting)) → slice_get entries k ≡ Some e → IsLeft entries (Some k) count n w end now → IsFirstPlace entries e count n w end now
 first_left entries k e count n w end now at l = by l.places l.chain l.rest
   where
-    by : (ps : List ℕ) → IsChain entries (Some k) ps → end ≡ met_all n w (uncovered count ps) now → IsFirst entries e count n w end now
+    by : (ps : List ℕ) → IsChain entries (Some k) ps → end ≡ met_all n w (uncovered count ps) now → IsFirstPlace entries e count n w end now
     by [] c r = absurd (no c)
       where
         no : ◌≡◌ {A = Option ℕ} (Some k) None → ⊥

@@ -5,7 +5,7 @@ use Rattle.bn_base.specs.declared.settings.TheConstants.{HARTS}
 use Rattle.bn_base.specs.declared.row.Row.{Row}
 use Rattle.race_log.specs.Points.{Point, Access}
 use Rattle.race_log.specs.Tests.{clashes}
-use Rattle.race_log.specs.Stands.{Stands, harts_of, next_turn, next_count, lasts}
+use Rattle.race_log.specs.Represents.{RepresentsAccesses, harts_of, next_turn, next_count, lasts}
 use Rattle.race_report.specs.declared.touch.Touch.{Touch}
 use Rattle.race_report.specs.declared.track.Track.{Track}
 use Rattle.race_report.specs.declared.gathered.Gathered.{Gathered}
@@ -64,7 +64,7 @@ pub record IsGathered (harts : ℕ) (run : List Accessing) (g : Gathered) : Type
   pub owners : g.owners.items ≡ map (λ p. p.hart) run
   pub all : Follows harts run true g.all
   pub written : Follows harts run false g.written
-  pub stands : Stands (syncs_from 0 run) everyone g.shadow
+  pub stands : RepresentsAccesses (syncs_from 0 run) everyone g.shadow
   pub shadow_harts : harts_of g.shadow ≡ harts
   pub turn : next_turn g.shadow ≤ length run
   pub counts : (h : ℕ) → next_count g.shadow h ≤ length run

@@ -36,10 +36,10 @@ IsReport harts most r (Err OutOfMemory) = Unit {0}
 -- ---- its parts
 
 -- how an error of the joint replay is told: running out of memory as such, and any other as what it is
-abbrev pub Tells : JointError → RaceError → Type 0
-Tells e (Joint f) = (f ≡ e) × (f ≢ why.OutOfMemory)
-Tells e (TooMany max) = ⊥
-Tells e OutOfMemory = e ≡ why.OutOfMemory
+abbrev pub TellsReport : JointError → RaceError → Type 0
+TellsReport e (Joint f) = (f ≡ e) × (f ≢ why.OutOfMemory)
+TellsReport e (TooMany max) = ⊥
+TellsReport e OutOfMemory = e ≡ why.OutOfMemory
 
 -- a joint replay stops with an error
 abbrev pub Stops : Joining → RaceError → Type 0

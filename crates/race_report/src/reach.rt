@@ -5,7 +5,7 @@ ghost use Rattle.vector_time.specs.Times.{count_of};
 ghost use Rattle.race_log.specs.Points.{Point};
 ghost use Rattle.race_log.specs.ByCount.{IsTimesOf};
 ghost use Rattle.race_log.specs.Kept.{after, is_write};
-ghost use Rattle.race_log.specs.Stands.{Stands, harts_of, next_turn, next_count, lasts, lasting_of};
+ghost use Rattle.race_log.specs.Represents.{RepresentsAccesses, harts_of, next_turn, next_count, lasts, lasting_of};
 ghost use Rattle.race_report.specs.Points.{IsTouch};
 ghost use Rattle.race_report.specs.Gathering.{everyone, sync_of};
 
@@ -43,8 +43,8 @@ pub(crate) fn reach(
     requires turn { next_turn shadow.old ≤ place }
     requires count { next_count shadow.old hart ≤ place }
     requires lasting { IsTrue (lasts shadow.old hart) }
-    ensures stands { OnOk result ((run : List Point) → Stands run everyone shadow.old → Stands (after run (sync_of hart place touch)) everyone shadow.new) }
-    ensures known { IfOk result (λ known. (run : List Point) → Stands run everyone shadow.old → IsTimesOf (after run (sync_of hart place touch)) (sync_of hart place touch) (count_of known)) }
+    ensures stands { OnOk result ((run : List Point) → RepresentsAccesses run everyone shadow.old → RepresentsAccesses (after run (sync_of hart place touch)) everyone shadow.new) }
+    ensures known { IfOk result (λ known. (run : List Point) → RepresentsAccesses run everyone shadow.old → IsTimesOf (after run (sync_of hart place touch)) (sync_of hart place touch) (count_of known)) }
     ensures harts { OnOk result (harts_of shadow.new ≡ harts_of shadow.old) }
     ensures lasting { OnOk result (lasting_of shadow.new ≡ lasting_of shadow.old) }
     ensures turn { OnOk result (next_turn shadow.new ≡ place + 1) }

@@ -5,7 +5,7 @@ ghost use Rattle.joint_replay.specs.declared.kinds.Next.TheVariants.{Hart, NoneR
 ghost use Rattle.joint_replay.specs.Joining.{Joining, choice};
 ghost use Rattle.joint_replay.specs.Calls.{state_at};
 ghost use Rattle.race_report.specs.Points.{asked_by};
-ghost use Rattle.race_report.specs.Reports.{IsReport, Tells, Stops, Advances, TakesRow, HasState, IsOnTheWay, Gathers, GathersRest, GathersInto, joint_of};
+ghost use Rattle.race_report.specs.Reports.{IsReport, TellsReport, Stops, Advances, TakesRow, HasState, IsOnTheWay, Gathers, GathersRest, GathersInto, joint_of};
 ghost use Rattle.race_report.specs.Gathering.{IsGathered};
 
 use crate::calls::Asked;
@@ -21,7 +21,7 @@ use std::alloc::Global;
 
 // How an error of the joint replay is told.
 fn told_as(error: JointError) -> RaceError
-    ensures { Tells error result }
+    ensures { TellsReport error result }
 {
     match error {
         JointError::OutOfMemory => RaceError::OutOfMemory,

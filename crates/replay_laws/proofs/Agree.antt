@@ -17,7 +17,7 @@ use Rattle.race_log.specs.declared.mode.Mode.{Mode}
 use Rattle.race_log.specs.declared.mode.Mode.TheVariants.{Read, Write}
 use Rattle.first_load_bits.specs.Events.{Geometry, Event, line_of, word_of}
 use Rattle.first_load_bits.specs.Events.{Touch, Drop}
-use Rattle.first_load_bits.specs.Stands.{geometry_of}
+use Rattle.first_load_bits.specs.Represents.{geometry_of}
 use Rattle.first_load_bits.specs.Warm.{warm, held}
 use Rattle.run_model.specs.declared.span.Span.{Span}
 use Rattle.run_model.specs.declared.turn_end.TurnEnd.{TurnEnd}

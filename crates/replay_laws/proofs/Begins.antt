@@ -11,7 +11,7 @@ use Rattle.bn_base.specs.declared.state.HartState.{HartState}
 use Rattle.system_calls.specs.declared.effect.Plan.{Plan}
 use Rattle.first_load_bits.specs.Events.{Event}
 use Rattle.first_load_bits.specs.Events.{Clear}
-use Rattle.first_load_bits.specs.Stands.{geometry_of}
+use Rattle.first_load_bits.specs.Represents.{geometry_of}
 use Rattle.first_load_bits.specs.Warm.{warm}
 use Rattle.log_record.specs.declared.record.Record.{Record}
 use Rattle.hart_replay.specs.Replay.{Interval, puts, nothing, interval_from, interval_of}

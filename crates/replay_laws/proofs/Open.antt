@@ -17,7 +17,7 @@ use Rattle.rv_meaning.specs.declared.asks.Ask.{Ask}
 use Rattle.rv_meaning.specs.declared.asks.Want.{Want}
 use Rattle.rv_meaning.specs.declared.asks.Want.TheVariants.{Load, Store, LoadReserved, StoreConditional, Amo, System, Cut, Faulted}
 use Rattle.first_load_bits.specs.Events.{Event}
-use Rattle.first_load_bits.specs.Stands.{geometry_of}
+use Rattle.first_load_bits.specs.Represents.{geometry_of}
 use Rattle.first_load_bits.specs.Warm.{warm}
 use Rattle.rv_meaning.specs.Rows.{known, fault_row}
 use Rattle.hart_replay.specs.Replay.{Interval, Position, Logged, Replayed, puts, steps, onto}

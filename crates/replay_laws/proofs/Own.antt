@@ -15,7 +15,7 @@ use Rattle.system_calls.specs.declared.effect.Plan.{Plan}
 use Rattle.race_log.specs.declared.mode.Mode.{Mode}
 use Rattle.race_log.specs.declared.mode.Mode.TheVariants.{Read, Write}
 use Rattle.first_load_bits.specs.Events.{Geometry, Event, word_of}
-use Rattle.first_load_bits.specs.Stands.{geometry_of}
+use Rattle.first_load_bits.specs.Represents.{geometry_of}
 use Rattle.first_load_bits.specs.Warm.{warm}
 use Rattle.run_model.specs.declared.span.Span.{Span}
 use Rattle.run_model.specs.declared.turn_end.TurnEnd.{TurnEnd}

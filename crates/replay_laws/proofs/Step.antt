@@ -20,7 +20,7 @@ use Rattle.rv_meaning.specs.declared.asks.Reply.{Reply}
 use Rattle.rv_meaning.specs.declared.asks.Reply.TheVariants as replies
 use Rattle.bus_memory.specs.Contents.{updated}
 use Rattle.first_load_bits.specs.Events.{Event}
-use Rattle.first_load_bits.specs.Stands.{geometry_of}
+use Rattle.first_load_bits.specs.Represents.{geometry_of}
 use Rattle.first_load_bits.specs.Warm.{warm}
 use Rattle.first_load_bits.specs.declared.warm.Warm.{Warm}
 use Rattle.first_load_bits.specs.declared.warm.Warm.TheVariants as answers

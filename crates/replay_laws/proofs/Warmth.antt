@@ -8,7 +8,7 @@ use Rattle.bn_base.specs.declared.state.HartState.{HartState}
 use Rattle.rv_meaning.specs.Orderly.{is_counted, passes}
 use Rattle.first_load_bits.specs.Events.{Event}
 use Rattle.first_load_bits.specs.Events.{Clear}
-use Rattle.first_load_bits.specs.Stands.{geometry_of}
+use Rattle.first_load_bits.specs.Represents.{geometry_of}
 use Rattle.first_load_bits.specs.Warm.{warm}
 use Rattle.run_model.specs.declared.turn_end.TurnEnd.TheVariants.{GoesOn}
 use Rattle.run_model.specs.Turn.{Run, turn, ask_at, is_guarded, is_orderly, guarded_run, budget}

@@ -25,7 +25,7 @@ use Rattle.log_record.specs.Spelling.{total}
 use Rattle.first_load_bits.specs.declared.warm.Warm.{Warm}
 use Rattle.run_model.specs.Runs.{start_hart, start_state, run_from, legal_from, is_live}
 use Rattle.run_model.specs.Counts.{IsFit, IsRested, anew, GuardedAsksFit, EachTurnMovesOn, EachTurnFits, OthersStayFit, turns_left}
-use Rattle.run_model.specs.Stands.Harts.{all_left}
+use Rattle.run_model.specs.Represents.Harts.{all_left}
 use Rattle.run_laws.specs.Laws.{TurnsMoveTheirHart}
 use Rattle.run_laws.specs.History.{after_rows, IsLawful, IsOwn, Place, place_of, place_from, place_after, begun_at, row_at, rows_from, rows_by}
 

@@ -10,17 +10,17 @@ use Rattle.bn_base.specs.declared.settings.TheConstants.{HARTS}
 use Rattle.rv_meaning.specs.Orderly.{is_cut}
 use Rattle.rv_meaning.specs.declared.asks.Ask.{Ask}
 use Rattle.race_log.specs.declared.shadow.Shadow.{Shadow}
-use Rattle.race_log.specs.Stands.{harts_of, lasts, next_turn, next_count}
+use Rattle.race_log.specs.Represents.{harts_of, lasts, next_turn, next_count}
 use Rattle.run_model.specs.declared.hart.Hart.{Hart}
 use Rattle.run_model.specs.declared.trace.Trace.{Trace}
 use Rattle.run_model.specs.Turn.{is_orderly}
 use Rattle.run_model.specs.Runs.{start_machine, most_turns}
 use Rattle.run_model.specs.Counts.{IsFit, IsRested, EachTurnMovesOn, GuardedAsksFit, anew, turns_left}
-use Rattle.run_model.specs.Stands.EachCache.{steps_in, touches}
-use Rattle.run_model.specs.Stands.Harts.{hart_in, all_left}
-use Rattle.run_model.specs.Stands.Logs.{taken}
-use Rattle.run_model.specs.Stands.Plain.{IsTraceFit, IsHartFit}
-use Rattle.run_model.specs.Stands.Tracing.{IsAnew}
+use Rattle.run_model.specs.Represents.EachCache.{steps_in, touches}
+use Rattle.run_model.specs.Represents.Harts.{hart_in, all_left}
+use Rattle.run_model.specs.Represents.Logs.{taken}
+use Rattle.run_model.specs.Represents.Plain.{IsTraceFit, IsHartFit}
+use Rattle.run_model.specs.Represents.Tracing.{IsAnew}
 use Rattle.run_model.proofs.Fits.{counted_by}
 use Rattle.run_model.proofs.MoveOn.{budget_limit}
 

@@ -7,16 +7,16 @@ use Rattle.bn_base.specs.declared.settings.RawSettings.{RawSettings}
 use Rattle.bn_base.specs.declared.settings.TheConstants.{HARTS}
 use Rattle.log_ring.specs.Kept.{Held, HoldsLog, held, kept}
 use Rattle.run_model.specs.declared.log.Log.{Log}
-use Rattle.race_log.specs.Stands.{Stands, harts_of, lasts, next_turn, next_count}
+use Rattle.race_log.specs.Represents.{RepresentsAccesses, harts_of, lasts, next_turn, next_count}
 use Rattle.run_model.specs.declared.hart.Hart.{Hart}
 use Rattle.run_model.specs.declared.trace.Trace.{Trace}
 use Rattle.run_model.specs.Runs.{start, start_state, first_headers}
 use Rattle.run_model.specs.Counts.{IsRested, turns_left}
-use Rattle.run_model.specs.Stands.EachCache.{AreCaches, steps_in}
-use Rattle.run_model.specs.Stands.First.{AreFirst, first_hart}
-use Rattle.run_model.specs.Stands.Harts.{hart_in, all_left}
-use Rattle.run_model.specs.Stands.Plain.{IsTrace, IsTraceFit, everyone}
-use Rattle.run_model.specs.Stands.Logs.{IsLog}
+use Rattle.run_model.specs.Represents.EachCache.{AreCaches, steps_in}
+use Rattle.run_model.specs.Represents.First.{AreFirst, first_hart}
+use Rattle.run_model.specs.Represents.Harts.{hart_in, all_left}
+use Rattle.run_model.specs.Represents.Plain.{IsTrace, IsTraceFit, everyone}
+use Rattle.run_model.specs.Represents.Logs.{IsLog}
 use Rattle.run_model.proofs.Bytes.{headers_have}
 use Rattle.run_model.proofs.Fits.{fit_start}
 use Rattle.run_model.proofs.Owns.{hart_of_run}
@@ -33,7 +33,7 @@ empty_holds size = record { latest = refl; counted = refl }
 pub empty_is : (log : Log) (size : ℕ) → log.ring ≡ held [] 0 size → log.bytes ≡ 0 → IsLog log []
 empty_is log size e none = record { holds = subst (λ (r : Held). HoldsLog r []) (sym e) (empty_holds size); bytes = none }
 
-pub trace_begins : (c : RawSettings) (i : Program) (n : ℕ) (old : Log) (t : Trace) (input : List ℕ) → n ≡ c.harts → AreFirst c i n old t.harts.items t.log → IsLog old [] → AreCaches c t.caches (λ k. []) → Stands [] everyone t.shadow
+pub trace_begins : (c : RawSettings) (i : Program) (n : ℕ) (old : Log) (t : Trace) (input : List ℕ) → n ≡ c.harts → AreFirst c i n old t.harts.items t.log → IsLog old [] → AreCaches c t.caches (λ k. []) → RepresentsAccesses [] everyone t.shadow
     → IsTrace c t (start c i input)
 trace_begins c i n old t input e first empty caches shadow =
     let log : IsLog t.log (first_headers c i 0 c.harts) = subst (λ (m : ℕ). IsLog t.log (first_headers c i 0 m)) e (first.log [] empty) in

@@ -5,18 +5,18 @@ use Rattle.bn_base.specs.declared.settings.RawSettings.{RawSettings}
 use Rattle.bn_base.specs.declared.state.HartState.{HartState}
 use Rattle.first_load_bits.specs.Events.{Event}
 use Rattle.first_load_bits.specs.Events.{Clear}
-use Rattle.first_load_bits.specs.Stands.{Contents, StandsFor}
+use Rattle.first_load_bits.specs.Represents.{Contents, RepresentsEvents}
 use Rattle.log_record.specs.Spelling.{total}
 use Rattle.race_log.specs.declared.shadow.Shadow.{Shadow}
-use Rattle.race_log.specs.Stands.{Stands}
+use Rattle.race_log.specs.Represents.{RepresentsAccesses}
 use Rattle.run_model.specs.declared.hart.Hart.{Hart}
 use Rattle.run_model.specs.declared.trace.Trace.{Trace}
 use Rattle.run_model.specs.Counts.{anew}
 use Rattle.run_model.specs.Turn.{Run, by_guard, next_records, guard_records, begun_anew, guarded_run}
-use Rattle.run_model.specs.Stands.EachCache.{AreCaches, cache_of, events_cleared}
-use Rattle.run_model.specs.Stands.Harts.{AreHarts}
-use Rattle.run_model.specs.Stands.Logs.{IsLog}
-use Rattle.run_model.specs.Stands.Plain.{IsTrace, everyone}
+use Rattle.run_model.specs.Represents.EachCache.{AreCaches, cache_of, events_cleared}
+use Rattle.run_model.specs.Represents.Harts.{AreHarts}
+use Rattle.run_model.specs.Represents.Logs.{IsLog}
+use Rattle.run_model.specs.Represents.Plain.{IsTrace, everyone}
 use Rattle.run_model.proofs.Bytes.{total_append}
 use Rattle.run_model.proofs.Stopping.{are_set}
 
@@ -33,7 +33,7 @@ caches_begun : (c : RawSettings) (cs : List Contents) (run : Run) (k : ℕ) (s :
 caches_begun c cs run k s are = record {
   count = are.count;
   geometry = are.geometry;
-  stands = λ j below. subst (λ (es : List Event). StandsFor (cache_of cs j) es) (cleared_by (j == k) j k run.events refl (same_hart j k)) (are.stands j below);
+  stands = λ j below. subst (λ (es : List Event). RepresentsEvents (cache_of cs j) es) (cleared_by (j == k) j k run.events refl (same_hart j k)) (are.stands j below);
 }
 
 more_bytes : (now before old more : ℕ) → now ≡ old + more → old ≡ before → now ≡ before + more
@@ -52,7 +52,7 @@ trace_begun c old new run k s x own is within same log eo items caches shadow =
       harts = subst (λ (hs : List Hart). AreHarts hs begun.harts) (sym items)
           (are_set old.harts.items k own run.harts begun.harts is.harts within (λ j. ap (λ (t : Hart). elim (j == k) as (λ y. Hart) [ true ↦ t | false ↦ run.harts j ]) own_is));
       caches = caches_begun c new.caches run k s caches;
-      shadow = subst (λ (x : Shadow). Stands run.points everyone x) (sym shadow) is.shadow;
+      shadow = subst (λ (x : Shadow). RepresentsAccesses run.points everyone x) (sym shadow) is.shadow;
       log = logged;
       bytes = bytes;
     }

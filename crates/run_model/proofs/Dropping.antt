@@ -1,21 +1,21 @@
 -- The line of a word that is the line of the word before it, too, need not be dropped again.
 use Rattle.std.proofs.Common.{◌≡◌, ◌+◌, ◌-◌, ◌*◌, ℕ, zero, suc, List, ◌∷◌, ap, ◌∙◌, arith, subst, refl}
 use Rattle.first_load_bits.specs.Events.{Event, Drop, line_of}
-use Rattle.first_load_bits.specs.Stands.{Contents, StandsFor}
+use Rattle.first_load_bits.specs.Represents.{Contents, RepresentsEvents}
 use Rattle.run_model.specs.Turn.{drops}
 
 -- a second drop of a line right behind the first changes nothing
 abbrev pub DropsOnce : Type 0
-DropsOnce = (c : Contents) (a b : ℕ) (es : List Event) → line_of c.geometry a ≡ line_of c.geometry b → StandsFor c (Drop b ∷ es) → StandsFor c (Drop a ∷ Drop b ∷ es)
+DropsOnce = (c : Contents) (a b : ℕ) (es : List Event) → line_of c.geometry a ≡ line_of c.geometry b → RepresentsEvents c (Drop b ∷ es) → RepresentsEvents c (Drop a ∷ Drop b ∷ es)
 
 -- one more word is dropped
-pub after : (c : Contents) (first place : ℕ) (es : List Event) → StandsFor c (Drop (first + 4 * place) ∷ drops first place es) → StandsFor c (drops first (place + 1) es)
+pub after : (c : Contents) (first place : ℕ) (es : List Event) → RepresentsEvents c (Drop (first + 4 * place) ∷ drops first place es) → RepresentsEvents c (drops first (place + 1) es)
 after c first place es s =
     let more : suc place ≡ place + 1 = omega arith in
-    subst (λ (n : ℕ). StandsFor c (drops first n es)) more s
+    subst (λ (n : ℕ). RepresentsEvents c (drops first n es)) more s
 
 pub again : DropsOnce → (c : Contents) (first place : ℕ) (es : List Event) → (place ≡ 0 → ⊥) → line_of c.geometry (first + 4 * place) ≡ line_of c.geometry (first + 4 * place - 4)
-    → StandsFor c (drops first place es) → StandsFor c (drops first (place + 1) es)
+    → RepresentsEvents c (drops first place es) → RepresentsEvents c (drops first (place + 1) es)
 again once c first zero es some same s = absurd (some refl)
 again once c first (suc m) es some same s =
     let before : first + 4 * suc m - 4 ≡ first + 4 * m = omega arith in

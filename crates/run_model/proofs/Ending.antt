@@ -12,8 +12,8 @@ use Rattle.run_model.specs.declared.trace.Trace.{Trace}
 use Rattle.run_model.specs.Turn.{dead}
 use Rattle.run_model.specs.Runs.{most_turns}
 use Rattle.run_model.specs.Counts.{IsRested, turns_left}
-use Rattle.run_model.specs.Stands.Harts.{AreHarts, is_live_hart, hart_in, all_left, no_hart}
-use Rattle.run_model.specs.Stands.Plain.{IsTraceFit, IsHartFit}
+use Rattle.run_model.specs.Represents.Harts.{AreHarts, is_live_hart, hart_in, all_left, no_hart}
+use Rattle.run_model.specs.Represents.Plain.{IsTraceFit, IsHartFit}
 use Rattle.run_model.proofs.OneTurn.{live_within}
 
 -- the harts below a number were ended

@@ -8,7 +8,7 @@ use Rattle.log_record.specs.declared.record.Record.{Record}
 use Rattle.run_model.specs.declared.hart.Hart.{Hart}
 use Rattle.run_model.specs.Turn.{header}
 use Rattle.run_model.specs.Runs.{start_state, first_headers}
-use Rattle.run_model.specs.Stands.Harts.{AreHarts}
+use Rattle.run_model.specs.Represents.Harts.{AreHarts}
 
 headers_next : (n : ℕ) (c : RawSettings) (i : Program) (k : ℕ) → first_headers c i k n ++ header (k + n) 0 (start_state c i (k + n)) ∷ [] ≡ first_headers c i k (suc n)
 headers_next zero c i k =

@@ -6,7 +6,7 @@ use Rattle.std.proofs.lemmas.Bool.Decides.{eqb_tells}
 use Rattle.bn_base.specs.Programs.{Program}
 use Rattle.bn_base.specs.declared.settings.RawSettings.{RawSettings}
 use Rattle.bn_base.specs.declared.state.HartState.{HartState}
-use Rattle.first_load_bits.specs.Stands.{Contents}
+use Rattle.first_load_bits.specs.Represents.{Contents}
 use Rattle.rv_meaning.specs.Orderly.{is_cut, passes}
 use Rattle.rv_meaning.specs.Execute.{absorbed}
 use Rattle.rv_meaning.specs.declared.asks.Ask.{Ask}
@@ -14,7 +14,7 @@ use Rattle.rv_meaning.specs.declared.asks.Want.{Want}
 use Rattle.rv_meaning.specs.declared.asks.Reply.{Reply}
 use Rattle.rv_meaning.specs.declared.asks.Want.TheVariants.{Load, Store}
 use Rattle.race_log.specs.declared.shadow.Shadow.{Shadow}
-use Rattle.race_log.specs.Stands.{Stands, lasts, next_turn, next_count, harts_of}
+use Rattle.race_log.specs.Represents.{RepresentsAccesses, lasts, next_turn, next_count, harts_of}
 use Rattle.log_record.specs.declared.record.Record.{Record}
 use Rattle.log_record.specs.Spelling.{total}
 use Rattle.run_model.specs.declared.hart.Hart.{Hart}
@@ -25,12 +25,12 @@ use Rattle.run_model.specs.declared.trace.Trace.{Trace}
 use Rattle.run_model.specs.Machine.{answer}
 use Rattle.run_model.specs.Turn.{Run, budget, is_orderly, serve_call, span_of, counted, point_of, edge_records, load_record, sc_record, next_records, run_over_records, warmth, loading, word_before, hart_after, harts_after, other_after, skipped_after, events_after, is_guarded, bytes_since}
 use Rattle.run_model.specs.Counts.{IsRested, turns_left}
-use Rattle.run_model.specs.Stands.EachCache.{steps_in, AreCaches}
-use Rattle.run_model.specs.Stands.Harts.{AreHarts, hart_in, no_hart, all_left}
-use Rattle.run_model.specs.Stands.InPlace.{ask_here, in_state, moved_harts, moved_run, IsMoved}
-use Rattle.run_model.specs.Stands.Logs.{taken, IsLog}
-use Rattle.run_model.specs.Stands.Plain.{IsTraceFit, IsHartFit, IsTrace, IsSwept, everyone, IsRun, PlainParts}
-use Rattle.run_model.specs.Stands.Parts.{MachineParts, IsMachine}
+use Rattle.run_model.specs.Represents.EachCache.{steps_in, AreCaches}
+use Rattle.run_model.specs.Represents.Harts.{AreHarts, hart_in, no_hart, all_left}
+use Rattle.run_model.specs.Represents.InPlace.{ask_here, in_state, moved_harts, moved_run, IsMoved}
+use Rattle.run_model.specs.Represents.Logs.{taken, IsLog}
+use Rattle.run_model.specs.Represents.Plain.{IsTraceFit, IsHartFit, IsTrace, IsSwept, everyone, IsRun, PlainParts}
+use Rattle.run_model.specs.Represents.Parts.{MachineParts, IsMachine}
 use Rattle.run_model.specs.declared.start.Start.{Start}
 use Rattle.run_model.proofs.Fits.{counted_by, guarded_below, left_live, le_is, lt_is}
 use Rattle.run_model.proofs.MoveOn.{budget_interval, some_budget}
@@ -136,7 +136,7 @@ moved_is c old new run k s within m is =
     record {
       harts = subst (λ (xs : List Hart). AreHarts xs (moved_harts run.harts k s)) (sym m.harts) named;
       caches = subst (λ (cs : List Contents). AreCaches c cs run.events) (sym m.caches) is.caches;
-      shadow = subst (λ (x : Shadow). Stands run.points everyone x) (sym m.shadow) is.shadow;
+      shadow = subst (λ (x : Shadow). RepresentsAccesses run.points everyone x) (sym m.shadow) is.shadow;
       log = subst (λ (l : Log). IsLog l run.stream) (sym m.log) is.log;
       bytes = ap (λ (l : Log). l.bytes) m.log ∙ is.bytes;
     }

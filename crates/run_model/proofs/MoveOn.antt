@@ -24,7 +24,7 @@ use Rattle.run_model.specs.declared.turn_end.TurnEnd.TheVariants.{GoesOn, NewInt
 use Rattle.run_model.specs.declared.span.Span.{Span}
 use Rattle.run_model.specs.Machine.{Machine, answer_call, answer_sc, is_reserved, planned, kernel_of}
 use Rattle.run_model.specs.Turn.{budget, span_of, counted, after_call, is_orderly}
-use Rattle.run_model.specs.Stands.Logs.{is_marked_next}
+use Rattle.run_model.specs.Represents.Logs.{is_marked_next}
 use Rattle.run_model.specs.Counts.{IsFit, MovesOn, AskMovesOn, EachTurnMovesOn, is_on}
 
 -- both of two tests hold

@@ -1,14 +1,14 @@
 -- The caches before the first turn, one by one.
 use Rattle.std.proofs.Common.{◌≡◌, ◌∷◌, ◌++◌, [], ℕ, zero, suc, ◌+◌, ◌<◌, List, length, refl, ◌∙◌, ap, arith, length-append}
 use Rattle.bn_base.specs.declared.settings.RawSettings.{RawSettings}
-use Rattle.first_load_bits.specs.Stands.{Contents, StandsFor, geometry_of}
-use Rattle.run_model.specs.Stands.EachCache.{cache_of, steps_in}
+use Rattle.first_load_bits.specs.Represents.{Contents, RepresentsEvents, geometry_of}
+use Rattle.run_model.specs.Represents.EachCache.{cache_of, steps_in}
 
 -- so many caches, none of which lists a line
 pub record AreNew (c : RawSettings) (n : ℕ) (cs : List Contents) : Type 0 where
   pub count : length cs ≡ n
   pub geometry : (k : ℕ) → k < n → (cache_of cs k).geometry ≡ geometry_of c
-  pub stands : (k : ℕ) → k < n → StandsFor (cache_of cs k) []
+  pub stands : (k : ℕ) → k < n → RepresentsEvents (cache_of cs k) []
   pub steps : (k : ℕ) → steps_in cs k ≡ 0
 
 -- what holds of each, and of one more, holds of all
@@ -28,10 +28,10 @@ push_steps (y ∷ cs) x zero all own = all zero
 push_steps (y ∷ cs) x (suc k) all own = push_steps cs x k (λ j. all (suc j)) own
 
 -- one cache more
-pub one_new : (c : RawSettings) (n : ℕ) (cs : List Contents) (x : Contents) → AreNew c n cs → x.geometry ≡ geometry_of c → StandsFor x [] → AreNew c (n + 1) (cs ++ x ∷ [])
+pub one_new : (c : RawSettings) (n : ℕ) (cs : List Contents) (x : Contents) → AreNew c n cs → x.geometry ≡ geometry_of c → RepresentsEvents x [] → AreNew c (n + 1) (cs ++ x ∷ [])
 one_new c n cs x are same empty = record {
   count = length-append cs (x ∷ []) ∙ ap (λ (m : ℕ). m + 1) are.count;
   geometry = λ k below. push_each (λ (y : Contents). y.geometry ≡ geometry_of c) cs x k (λ j inside. are.geometry j (omega (arith, inside, are.count))) same (omega (arith, below, are.count));
-  stands = λ k below. push_each (λ (y : Contents). StandsFor y []) cs x k (λ j inside. are.stands j (omega (arith, inside, are.count))) empty (omega (arith, below, are.count));
+  stands = λ k below. push_each (λ (y : Contents). RepresentsEvents y []) cs x k (λ j inside. are.stands j (omega (arith, inside, are.count))) empty (omega (arith, below, are.count));
   steps = λ k. push_steps cs x k are.steps empty.steps;
 }

@@ -12,7 +12,7 @@ use Rattle.run_model.specs.declared.hart.Hart.{Hart}
 use Rattle.run_model.specs.Machine.{call_of}
 use Rattle.run_model.specs.Turn.{Run, serve, serve_call, serve_orderly, served_if, turn, ask_at, is_orderly, is_guarded, budget}
 use Rattle.run_model.specs.Counts.{IsFit}
-use Rattle.run_model.specs.Stands.Harts.{is_live_hart, hart_in}
+use Rattle.run_model.specs.Represents.Harts.{is_live_hart, hart_in}
 use Rattle.run_model.proofs.MoveOn.{budget_limit, both}
 
 pub live_within : (hs : List Hart) (k : ℕ) → is_live_hart (slice_get hs k) ≡ true → (k < length hs) × ((hart_in hs k).live ≡ true)

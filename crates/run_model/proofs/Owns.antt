@@ -13,7 +13,7 @@ use Rattle.run_model.specs.declared.hart.Hart.{Hart}
 use Rattle.run_model.specs.declared.turn_end.TurnEnd.{TurnEnd}
 use Rattle.run_model.specs.declared.turn_end.TurnEnd.TheVariants.{GoesOn, NewInterval, HartOver, RunOver}
 use Rattle.run_model.specs.Turn.{next_of, hart_after, skipped_after}
-use Rattle.run_model.specs.Stands.Harts.{AreHarts, hart_in}
+use Rattle.run_model.specs.Represents.Harts.{AreHarts, hart_in}
 
 -- a hart of the list
 pub hart_at : (hs : List Hart) (k : ℕ) (x : Hart) → k < length hs → x ≡ get_or hs k x → x ≡ hart_in hs k

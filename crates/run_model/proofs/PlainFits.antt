@@ -1,7 +1,7 @@
 -- A turn of a plain machine keeps its counts within the settings.
 use Rattle.std.proofs.Common.{◌≡◌, ℕ, zero, suc, ◌+◌, ◌<◌, ◌≤◌, ◌==◌, Bool, true, false, List, length, refl, sym, ◌∙◌, ap, subst, arith, inl, inr}
 use Rattle.std.specs.Global.{Global}
-use Rattle.first_load_bits.specs.Stands.{Contents}
+use Rattle.first_load_bits.specs.Represents.{Contents}
 use Rattle.run_model.specs.declared.log.Log.{Log}
 use Rattle.std.specs.Prelude.{Vec, Option, Some, None, is_some, ◌≢◌, if◌then◌else◌}
 use Rattle.std.proofs.lemmas.Bool.Decides.{eqb_tells}
@@ -16,7 +16,7 @@ use Rattle.system_calls.specs.declared.effect.Plan.{Plan}
 use Rattle.first_load_bits.specs.declared.warm.Warm.{Warm}
 use Rattle.first_load_bits.specs.declared.warm.Warm.TheVariants as answers
 use Rattle.race_log.specs.Sweep.{has_bit}
-use Rattle.race_log.specs.Stands.{harts_of, lasting_of, next_turn, next_count}
+use Rattle.race_log.specs.Represents.{harts_of, lasting_of, next_turn, next_count}
 use Rattle.run_model.specs.declared.hart.Hart.{Hart}
 use Rattle.run_model.specs.declared.turn_end.TurnEnd.{TurnEnd}
 use Rattle.run_model.specs.declared.turn_end.TurnEnd.TheVariants.{GoesOn, NewInterval, HartOver, RunOver}
@@ -25,10 +25,10 @@ use Rattle.run_model.specs.declared.trace.Trace.{Trace}
 use Rattle.run_model.specs.Machine.{Machine, answer, call_of}
 use Rattle.run_model.specs.Turn.{Run, span_of, next_of, loading, hart_after, harts_after, other_after, skipped_after}
 use Rattle.run_model.specs.Counts.{IsRested, MovesOn, AskMovesOn, EachTurnMovesOn, turns_left, is_there, is_loading}
-use Rattle.run_model.specs.Stands.EachCache.{AreCaches, steps_in, touched_word, touches}
-use Rattle.run_model.specs.Stands.Harts.{AreHarts, hart_in, all_left}
-use Rattle.run_model.specs.Stands.Logs.{taken, IsLog, is_marked_next}
-use Rattle.run_model.specs.Stands.Plain.{IsTrace, IsTraceFit, IsHartFit, IsSwept, count_after, clears}
+use Rattle.run_model.specs.Represents.EachCache.{AreCaches, steps_in, touched_word, touches}
+use Rattle.run_model.specs.Represents.Harts.{AreHarts, hart_in, all_left}
+use Rattle.run_model.specs.Represents.Logs.{taken, IsLog, is_marked_next}
+use Rattle.run_model.specs.Represents.Plain.{IsTrace, IsTraceFit, IsHartFit, IsSwept, count_after, clears}
 use Rattle.run_model.proofs.Fits.{fit_by, fewer_left, fit_other, no_more_left}
 use Rattle.run_model.proofs.Asked.{IsOwnFit, IsAsked, all_less, if_true, if_false, eqb_same}
 

@@ -13,16 +13,16 @@ use Rattle.system_calls.specs.declared.effect.Plan.{Plan}
 use Rattle.first_load_bits.specs.declared.warm.Warm.{Warm}
 use Rattle.log_record.specs.declared.record.Record.{Record}
 use Rattle.log_record.specs.Spelling.{total}
-use Rattle.run_model.specs.Stands.Logs.{IsLog}
+use Rattle.run_model.specs.Represents.Logs.{IsLog}
 use Rattle.race_log.specs.declared.shadow.Shadow.{Shadow}
-use Rattle.race_log.specs.Stands.{Stands}
+use Rattle.race_log.specs.Represents.{RepresentsAccesses}
 use Rattle.run_model.specs.declared.hart.Hart.{Hart}
 use Rattle.run_model.specs.declared.trace.Trace.{Trace}
 use Rattle.run_model.specs.Machine.{answer}
 use Rattle.run_model.specs.Turn.{Run, serve_call, span_of, next_of, hart_after, harts_after, events_after, skipped_after, warmth, loading, word_before, point_of, points_after, edge_records, load_record, sc_record, next_records, run_over_records}
-use Rattle.run_model.specs.Stands.EachCache.{AreCaches}
-use Rattle.run_model.specs.Stands.Harts.{AreHarts}
-use Rattle.run_model.specs.Stands.Plain.{IsTrace, IsRaceReady, everyone}
+use Rattle.run_model.specs.Represents.EachCache.{AreCaches}
+use Rattle.run_model.specs.Represents.Harts.{AreHarts}
+use Rattle.run_model.specs.Represents.Plain.{IsTrace, IsRaceReady, everyone}
 use Rattle.run_model.proofs.Bytes.{total_append}
 
 -- five lists behind a first one
@@ -35,7 +35,7 @@ six_lists a e l s n o =
 pub record Traced (c : RawSettings) (run : Run) (k : ℕ) (ask : Ask) (call : Option Plan) (turns n : ℕ) (g h : Hart) (load : Option Warm) (word : ℕ) (reply : Reply) (t : Trace) : Type 0 where
   pub harts : AreHarts t.harts.items (harts_after (next_of c call h ask.want reply (absorbed ask reply).ic) k (hart_after (next_of c call h ask.want reply (absorbed ask reply).ic) (absorbed ask reply) (skipped_after load h.skipped) t.log.bytes h) run.harts)
   pub caches : AreCaches c t.caches (events_after (next_of c call h ask.want reply (absorbed ask reply).ic) k call (span_of call ask.want reply) run.events)
-  pub shadow : Stands (points_after (point_of k ask.state.ic turns (span_of call ask.want reply)) run.points) everyone t.shadow
+  pub shadow : RepresentsAccesses (points_after (point_of k ask.state.ic turns (span_of call ask.want reply)) run.points) everyone t.shadow
   pub log : IsLog t.log (run.stream ++ edge_records (point_of k ask.state.ic turns (span_of call ask.want reply)) run.points ++ load_record load k g.skipped word ++ sc_record reply k
       ++ next_records (next_of c call h ask.want reply (absorbed ask reply).ic) k h.number (absorbed ask reply) ++ run_over_records (next_of c call h ask.want reply (absorbed ask reply).ic) k n run.harts)
 

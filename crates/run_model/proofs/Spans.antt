@@ -8,7 +8,7 @@ use Rattle.system_calls.specs.declared.effect.Plan.{Plan}
 use Rattle.bus_memory.specs.Contents.{Contents}
 use Rattle.run_model.specs.declared.span.Span.{Span}
 use Rattle.run_model.specs.Turn.{span_of}
-use Rattle.run_model.specs.Stands.Parts.{AreWordsIn, AreAddresses}
+use Rattle.run_model.specs.Represents.Parts.{AreWordsIn, AreAddresses}
 
 inside : (c : Contents) (o : Option Span) → 4 * length c.words ≤ 2 ^ 32 → AreWordsIn c o → AreAddresses o
 inside c None size h = tt

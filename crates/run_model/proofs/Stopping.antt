@@ -11,7 +11,7 @@ use Rattle.run_model.specs.declared.hart.Hart.{Hart}
 use Rattle.run_model.specs.declared.turn_end.TurnEnd.{TurnEnd}
 use Rattle.run_model.specs.declared.turn_end.TurnEnd.TheVariants.{GoesOn, NewInterval, HartOver, RunOver}
 use Rattle.run_model.specs.Turn.{other_after, harts_after, stopped_records, run_over_records, next_records, mark}
-use Rattle.run_model.specs.Stands.Harts.{AreHarts, others_after, stopped_at, stopped_below, stop_record, stop_records}
+use Rattle.run_model.specs.Represents.Harts.{AreHarts, others_after, stopped_at, stopped_below, stop_record, stop_records}
 
 -- hart k of a list in which one was set
 pub set_one : (hs : List Hart) (n k : ℕ) (t y : Hart) (g : ℕ → Hart) → AreHarts hs g → n < length hs → k < length hs → slice_get (slice_set hs n t) k ≡ Some (elim (k == n) [ true ↦ t | false ↦ g k ])

@@ -6,6 +6,6 @@ pub mod Rows
 pub mod Files
 pub mod Counts
 pub mod Guards
-pub mod Stands
+pub mod Represents
 pub mod Examples
 pub mod Audits

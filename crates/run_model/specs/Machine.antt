@@ -1,5 +1,5 @@
 -- The machine that all harts share: its memory, the harts' reservations, and what system calls change; and how it answers what
--- a hart asks. The files of this folder say what a recording is, and nothing of code. Those of `Stands` say which machines and
+-- a hart asks. The files of this folder say what a recording is, and nothing of code. Those of `Represents` say which machines and
 -- runs the parts of the code represent.
 use Rattle.std.specs.Prelude.{ℕ, zero, suc, ◌+◌, ◌-◌, ◌*◌, ◌/◌, ◌%◌, ◌==◌, nat_lt, nat_le, Bool, true, false, ◌&&◌, List, [], ◌∷◌, ◌++◌, length, take, drop, slice_index, Option, Some, None, cond, if◌then◌else◌}
 use Rattle.bn_base.specs.Programs.{Program}

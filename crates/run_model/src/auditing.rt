@@ -5,8 +5,8 @@ ghost use Rattle.run_model.specs.Turn.{Run};
 ghost use Rattle.run_model.specs.Runs.{start, run_from, run_of, live_harts};
 ghost use Rattle.run_model.specs.Lists.{unfinished, error_from, list_error};
 ghost use Rattle.run_model.specs.Audits.{is_version2, audited_file, IsVerdict};
-ghost use Rattle.run_model.specs.Stands.Plain.{IsRun};
-ghost use Rattle.run_model.specs.Stands.Turning.{parts};
+ghost use Rattle.run_model.specs.Represents.Plain.{IsRun};
+ghost use Rattle.run_model.specs.Represents.Turning.{parts};
 
 use crate::error::TurnError;
 use crate::plain::Plain;

@@ -7,14 +7,14 @@ ghost use Rattle.rv_meaning.specs.declared.asks.Reply.{Reply};
 ghost use Rattle.system_calls.specs.declared.effect.Plan.{Plan};
 ghost use Rattle.first_load_bits.specs.Events.{Event};
 ghost use Rattle.first_load_bits.specs.Events.{Touch, Clear};
-ghost use Rattle.first_load_bits.specs.Stands.{Contents, StandsFor};
+ghost use Rattle.first_load_bits.specs.Represents.{Contents, RepresentsEvents};
 ghost use Rattle.run_model.specs.declared.turn_end.TurnEnd.TheVariants.{GoesOn, NewInterval};
 ghost use Rattle.run_model.specs.Machine.{Machine};
 ghost use Rattle.run_model.specs.declared.span.Span.{Span};
 ghost use Rattle.run_model.specs.Turn.{drops, dropped, events_after, loading, span_of, warmth};
-ghost use Rattle.run_model.specs.Stands.Parts.{AreAddresses};
-ghost use Rattle.run_model.specs.Stands.Tracing.{CachesGoOn, touched_by};
-ghost use Rattle.run_model.specs.Stands.EachCache.{AreCaches, cache_of, steps_in, touched_word, touches, where_loading, events_cleared, is_spared, IsDropped, IsSetTo};
+ghost use Rattle.run_model.specs.Represents.Parts.{AreAddresses};
+ghost use Rattle.run_model.specs.Represents.Tracing.{CachesGoOn, touched_by};
+ghost use Rattle.run_model.specs.Represents.EachCache.{AreCaches, cache_of, steps_in, touched_word, touches, where_loading, events_cleared, is_spared, IsDropped, IsSetTo};
 
 use crate::span::Span;
 use bn_base::{Addr, HartId, Settings};
@@ -34,7 +34,7 @@ pub struct Caches {
 
 impl Model for Caches {
     ghost use Rattle.std.specs.Prelude.{List};
-    ghost use Rattle.first_load_bits.specs.Stands.{Contents};
+    ghost use Rattle.first_load_bits.specs.Represents.{Contents};
 
     ghost Value = { List Contents };
 
@@ -44,7 +44,7 @@ impl Model for Caches {
 // Drops the line of a word after those of the words from the first up to it, unless it is the line of the one before.
 fn drop_word(cache: &mut Cache, first: Addr, place: u32)
     requires { first + 4 * place < 2 ^ 32 }
-    ensures stands { (es : List Event) → StandsFor cache.old (drops first place es) → StandsFor cache.new (drops first (place + 1) es) }
+    ensures stands { (es : List Event) → RepresentsEvents cache.old (drops first place es) → RepresentsEvents cache.new (drops first (place + 1) es) }
     ensures geometry { cache.new.geometry ≡ cache.old.geometry }
     ensures steps { cache.new.steps ≡ cache.old.steps }
 {
@@ -59,7 +59,7 @@ fn drop_word(cache: &mut Cache, first: Addr, place: u32)
 #[inline(never)]
 fn drop_words(cache: &mut Cache, first: Addr, count: u32)
     requires { first + 4 * count ≤ 2 ^ 32 }
-    ensures stands { (es : List Event) → StandsFor cache.old es → StandsFor cache.new (drops first count es) }
+    ensures stands { (es : List Event) → RepresentsEvents cache.old es → RepresentsEvents cache.new (drops first count es) }
     ensures geometry { cache.new.geometry ≡ cache.old.geometry }
     ensures steps { cache.new.steps ≡ cache.old.steps }
 {
@@ -72,7 +72,7 @@ fn drop_words(cache: &mut Cache, first: Addr, count: u32)
 #[inline(always)]
 fn drop_few(cache: &mut Cache, first: Addr, count: u32)
     requires { first + 4 * count ≤ 2 ^ 32 }
-    ensures stands { (es : List Event) → StandsFor cache.old es → StandsFor cache.new (drops first count es) }
+    ensures stands { (es : List Event) → RepresentsEvents cache.old es → RepresentsEvents cache.new (drops first count es) }
     ensures geometry { cache.new.geometry ≡ cache.old.geometry }
     ensures steps { cache.new.steps ≡ cache.old.steps }
 {
@@ -87,7 +87,7 @@ fn drop_few(cache: &mut Cache, first: Addr, count: u32)
 #[inline(always)]
 fn drop_unless(cache: &mut Cache, spared: bool, first: Addr, count: u32)
     requires { first + 4 * count ≤ 2 ^ 32 }
-    ensures stands { (es : List Event) → StandsFor cache.old es → StandsFor cache.new (elim spared [ true ↦ es | false ↦ drops first count es ]) }
+    ensures stands { (es : List Event) → RepresentsEvents cache.old es → RepresentsEvents cache.new (elim spared [ true ↦ es | false ↦ drops first count es ]) }
     ensures geometry { cache.new.geometry ≡ cache.old.geometry }
     ensures steps { cache.new.steps ≡ cache.old.steps }
 {

@@ -1,8 +1,8 @@
 // What is traced before the first turn.
 ghost use Rattle.std.specs.Prelude.{◌≡◌, ◌≤◌, ◌<◌, ◌^◌, ◌+◌, ◌∷◌, ◌++◌, [], ℕ, List, length, IfOk};
 ghost use Rattle.run_model.specs.Runs.{start as first_run, start_state};
-ghost use Rattle.run_model.specs.Stands.Plain.{IsTrace, IsTraceFit};
-ghost use Rattle.run_model.specs.Stands.First.{AreFirst};
+ghost use Rattle.run_model.specs.Represents.Plain.{IsTrace, IsTraceFit};
+ghost use Rattle.run_model.specs.Represents.First.{AreFirst};
 
 use crate::caches::Caches;
 use crate::hart::Hart;

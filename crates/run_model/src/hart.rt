@@ -5,7 +5,7 @@ ghost use Rattle.rv_meaning.specs.Orderly.{is_reply_to};
 ghost use Rattle.run_model.specs.Runs.{start_hart};
 ghost use Rattle.run_model.specs.Counts.{anew};
 ghost use Rattle.run_model.specs.Turn.{budget, hart_after, mark, stopped, dead, skipped_after};
-ghost use Rattle.run_model.specs.Stands.InPlace.{ask_here};
+ghost use Rattle.run_model.specs.Represents.InPlace.{ask_here};
 
 use crate::turn_end::TurnEnd;
 use bn_base::end_mark::STOPPED;

@@ -5,8 +5,8 @@ ghost use Rattle.bn_base.specs.declared.settings.TheConstants.{HARTS};
 ghost use Rattle.run_model.specs.declared.hart.Hart.{Hart};
 ghost use Rattle.bn_base.specs.declared.state.HartState.{HartState};
 ghost use Rattle.run_model.specs.Turn.{harts_after, hart_after, run_over_records, dead};
-ghost use Rattle.run_model.specs.Stands.Harts.{AreHarts, others_after, stopped_below, stopped_at, stop_record, stop_records};
-ghost use Rattle.run_model.specs.Stands.Logs.{taken, IsLog};
+ghost use Rattle.run_model.specs.Represents.Harts.{AreHarts, others_after, stopped_below, stopped_at, stop_record, stop_records};
+ghost use Rattle.run_model.specs.Represents.Logs.{taken, IsLog};
 
 use crate::hart::Hart;
 use crate::log::Log;

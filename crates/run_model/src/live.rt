@@ -2,7 +2,7 @@
 ghost use Rattle.std.specs.Prelude.{◌≡◌, ◌<◌, ◌≤◌, ◌+◌, ◌^◌, ℕ, length};
 ghost use Rattle.bn_base.specs.declared.settings.TheConstants.{HARTS};
 ghost use Rattle.race_log.specs.Sweep.{has_bit};
-ghost use Rattle.run_model.specs.Stands.Harts.{hart_in};
+ghost use Rattle.run_model.specs.Represents.Harts.{hart_in};
 
 use crate::hart::Hart;
 

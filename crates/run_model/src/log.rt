@@ -1,6 +1,6 @@
 //! The log of a run, and how many bytes it took.
 ghost use Rattle.std.specs.Prelude.{◌≤◌, ◌*◌};
-ghost use Rattle.run_model.specs.Stands.Taken.{taken};
+ghost use Rattle.run_model.specs.Represents.Taken.{taken};
 
 use log_ring::Ring;
 

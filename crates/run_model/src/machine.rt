@@ -17,8 +17,8 @@ ghost use Rattle.run_model.specs.Machine.{Machine as Meant, answered, with_memor
 ghost use Rattle.run_model.specs.Machine.{call_of, cut_reply, is_reserved, word_count};
 ghost use Rattle.run_model.specs.Turn.{loading, word_before, span_of, call_span, span};
 ghost use Rattle.run_model.specs.Runs.{start_machine};
-ghost use Rattle.run_model.specs.Stands.Parts.{MachineParts, IsMachine, IsPlanned, IsSameMachine, AreWordsIn, AreWordsReady, AreAddresses, IsSpanReady, has_width, HasCallRoom, HasPlanRoom};
-ghost use Rattle.run_model.specs.Stands.Parts.{HasStreamRoom, HasRoom, IsAnswer, size_of, kernel_in};
+ghost use Rattle.run_model.specs.Represents.Parts.{MachineParts, IsMachine, IsPlanned, IsSameMachine, AreWordsIn, AreWordsReady, AreAddresses, IsSpanReady, has_width, HasCallRoom, HasPlanRoom};
+ghost use Rattle.run_model.specs.Represents.Parts.{HasStreamRoom, HasRoom, IsAnswer, size_of, kernel_in};
 
 mod bytes;
 mod reservations;
@@ -55,7 +55,7 @@ pub struct Machine {
 impl Model for Machine {
     ghost use Rattle.std.specs.Prelude.{◌≤◌, ◌*◌, ◌^◌, length, vec_len, vec_capacity};
     ghost use Rattle.system_calls.specs.Calls.{stream_size};
-    ghost use Rattle.run_model.specs.Stands.Parts.{MachineParts, size_of};
+    ghost use Rattle.run_model.specs.Represents.Parts.{MachineParts, size_of};
 
     ghost Value = { MachineParts };
 

@@ -1,7 +1,7 @@
 // The plain machine.
 ghost use Rattle.std.specs.Prelude.{◌≡◌};
-ghost use Rattle.run_model.specs.Stands.Parts.{size_of};
-ghost use Rattle.run_model.specs.Stands.Plain.{IsTraceFit};
+ghost use Rattle.run_model.specs.Represents.Parts.{size_of};
+ghost use Rattle.run_model.specs.Represents.Plain.{IsTraceFit};
 
 use crate::machine::Machine;
 use crate::start::Start;

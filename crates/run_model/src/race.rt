@@ -3,11 +3,11 @@ ghost use Rattle.std.specs.Prelude.{◌≡◌, ◌≤◌, ◌<◌, ◌+◌, ◌^
 ghost use Rattle.log_record.specs.declared.record.Record.{Record};
 ghost use Rattle.bn_base.specs.declared.settings.TheConstants.{HARTS};
 ghost use Rattle.race_log.specs.Points.{Point};
-ghost use Rattle.race_log.specs.Stands.{Stands, harts_of, lasting_of, lasts, next_turn, next_count};
+ghost use Rattle.race_log.specs.Represents.{RepresentsAccesses, harts_of, lasting_of, lasts, next_turn, next_count};
 ghost use Rattle.run_model.specs.Turn.{point_of, points_after, edge_records};
-ghost use Rattle.run_model.specs.Stands.Logs.{taken, IsLog};
-ghost use Rattle.run_model.specs.Stands.Accessed.{CanNote, IsNoted};
-ghost use Rattle.run_model.specs.Stands.Plain.{everyone, IsRaceReady, IsSwept, count_after};
+ghost use Rattle.run_model.specs.Represents.Logs.{taken, IsLog};
+ghost use Rattle.run_model.specs.Represents.Accessed.{CanNote, IsNoted};
+ghost use Rattle.run_model.specs.Represents.Plain.{everyone, IsRaceReady, IsSwept, count_after};
 
 use crate::hart::Hart;
 use crate::live::live_set;
@@ -31,7 +31,7 @@ pub fn record_access(
     requires can { CanNote shadow.old turn hart ic span }
     requires room { taken log.old.ring + HARTS < 2 ^ 56 }
     ensures noted { IsNoted shadow.old shadow.new turn hart ic span }
-    ensures holds { (points : List Point) (rs : List Record) → Stands points everyone shadow.old → IsLog log.old rs → IsLog log.new (rs ++ edge_records (point_of hart ic turn span) points) }
+    ensures holds { (points : List Point) (rs : List Record) → RepresentsAccesses points everyone shadow.old → IsLog log.old rs → IsLog log.new (rs ++ edge_records (point_of hart ic turn span) points) }
     ensures took { taken log.new.ring ≤ taken log.old.ring + HARTS }
     ensures size { log.new.ring.size ≡ log.old.ring.size }
 {

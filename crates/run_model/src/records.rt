@@ -5,7 +5,7 @@ ghost use Rattle.log_record.specs.declared.record.Record.TheVariants.{End, First
 ghost use Rattle.log_record.specs.Spelling.{bytes_of, is_mark, is_marked};
 ghost use Rattle.log_ring.specs.Kept.{held};
 ghost use Rattle.run_model.specs.Turn.{edges_from, load_record, sc_record, header, mark, next_records};
-ghost use Rattle.run_model.specs.Stands.Logs.{taken, Took, IsLog, is_marked_next};
+ghost use Rattle.run_model.specs.Represents.Logs.{taken, Took, IsLog, is_marked_next};
 
 use crate::log::Log;
 use crate::turn_end::TurnEnd;

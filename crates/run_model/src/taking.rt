@@ -2,9 +2,9 @@
 ghost use Rattle.std.specs.Prelude.{◌≡◌, true, OnOk, OnErr};
 ghost use Rattle.rv_meaning.specs.declared.asks.Ask.{Ask};
 ghost use Rattle.run_model.specs.Turn.{Run, turn, ask_at};
-ghost use Rattle.run_model.specs.Stands.Harts.{hart_in};
-ghost use Rattle.run_model.specs.Stands.Plain.{IsRun};
-ghost use Rattle.run_model.specs.Stands.Turning.{parts, is_live};
+ghost use Rattle.run_model.specs.Represents.Harts.{hart_in};
+ghost use Rattle.run_model.specs.Represents.Plain.{IsRun};
+ghost use Rattle.run_model.specs.Represents.Turning.{parts, is_live};
 
 use crate::plain::Plain;
 use bn_base::{Addr, HartId, HartState, Ic, Registers};

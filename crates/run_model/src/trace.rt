@@ -8,20 +8,20 @@ ghost use Rattle.first_load_bits.specs.Events.{Event};
 ghost use Rattle.log_record.specs.declared.record.Record.{Record};
 ghost use Rattle.bn_base.specs.declared.settings.TheConstants.{HARTS};
 ghost use Rattle.race_log.specs.Points.{Point};
-ghost use Rattle.race_log.specs.Stands.{Stands, KnowsSame, harts_of, lasting_of, lasts, next_turn, next_count};
+ghost use Rattle.race_log.specs.Represents.{RepresentsAccesses, KnowsSame, harts_of, lasting_of, lasts, next_turn, next_count};
 ghost use Rattle.run_model.specs.declared.hart.Hart.{Hart};
 ghost use Rattle.run_model.specs.declared.turn_end.TurnEnd.TheVariants.{GoesOn};
 ghost use Rattle.run_model.specs.declared.span.Span.{Span};
 ghost use Rattle.run_model.specs.Machine.{Machine, call_of};
 ghost use Rattle.run_model.specs.Turn.{Run, begun_anew, guarded_run, span_of, next_of, next_records, hart_after, loading, warmth, point_of, points_after, events_after, skipped_after};
-ghost use Rattle.run_model.specs.Stands.Harts.{AreHarts, hart_in};
-ghost use Rattle.run_model.specs.Stands.Logs.{taken, IsLog, is_marked_next};
-ghost use Rattle.run_model.specs.Stands.Tracing.{IsAnew, CachesGoOn, next_by, harts_by, with_ends, with_access};
-ghost use Rattle.run_model.specs.Stands.Accessed.{CanNote, IsNoted, CanFinish, IsFinished};
-ghost use Rattle.run_model.specs.Stands.EachCache.{AreCaches, steps_in, where_loading, touched_word, touches};
+ghost use Rattle.run_model.specs.Represents.Harts.{AreHarts, hart_in};
+ghost use Rattle.run_model.specs.Represents.Logs.{taken, IsLog, is_marked_next};
+ghost use Rattle.run_model.specs.Represents.Tracing.{IsAnew, CachesGoOn, next_by, harts_by, with_ends, with_access};
+ghost use Rattle.run_model.specs.Represents.Accessed.{CanNote, IsNoted, CanFinish, IsFinished};
+ghost use Rattle.run_model.specs.Represents.EachCache.{AreCaches, steps_in, where_loading, touched_word, touches};
 ghost use Rattle.run_model.specs.Counts.{is_loading};
-ghost use Rattle.run_model.specs.Stands.Parts.{AreAddresses};
-ghost use Rattle.run_model.specs.Stands.Plain.{IsTrace, everyone, IsRaceReady, IsSwept, count_after, clears};
+ghost use Rattle.run_model.specs.Represents.Parts.{AreAddresses};
+ghost use Rattle.run_model.specs.Represents.Plain.{IsTrace, everyone, IsRaceReady, IsSwept, count_after, clears};
 
 use crate::caches::Caches;
 use crate::hart::{Hart, skipped_after};
@@ -95,7 +95,7 @@ impl Trace {
     pub fn reserve(&mut self, span: Option<Span>) -> Result<(), AllocError>
         requires { AreAddresses span }
         ensures ready { OnOk result (IsRaceReady self.new.shadow span) }
-        ensures shadow { (points : List Point) → Stands points everyone self.old.shadow → Stands points everyone self.new.shadow }
+        ensures shadow { (points : List Point) → RepresentsAccesses points everyone self.old.shadow → RepresentsAccesses points everyone self.new.shadow }
         ensures same { KnowsSame self.old.shadow self.new.shadow }
         ensures harts { self.new.harts ≡ self.old.harts }
         ensures caches { self.new.caches ≡ self.old.caches }
@@ -169,7 +169,7 @@ impl Trace {
         ensures caches { (c : RawSettings) (events : ℕ → List Event) → AreCaches c self.old.caches events →
             AreCaches c self.new.caches (events_after GoesOn hart call (span_of call ask.now.want reply) events) }
         ensures noted { IsNoted self.old.shadow self.new.shadow turn hart ask.now.state.ic (span_of call ask.now.want reply) }
-        ensures holds { (points : List Point) (rs : List Record) → Stands points everyone self.old.shadow → IsLog self.old.log rs →
+        ensures holds { (points : List Point) (rs : List Record) → RepresentsAccesses points everyone self.old.shadow → IsLog self.old.log rs →
             IsLog self.new.log (with_access self.old.harts.items turn hart call ask.now reply result word points rs) }
         ensures harts { self.new.harts ≡ self.old.harts }
         ensures count { length self.new.caches ≡ length self.old.caches }

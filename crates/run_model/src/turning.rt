@@ -5,13 +5,13 @@ ghost use Rattle.rv_meaning.specs.declared.asks.Reply.{Reply};
 ghost use Rattle.rv_meaning.specs.declared.asks.Reply.TheVariants as replies;
 ghost use Rattle.run_model.specs.Machine.{Machine as Meant, call_of};
 ghost use Rattle.run_model.specs.Turn.{Run, span_of, is_orderly, is_guarded, bytes_since, serve_call, serve_disorderly, halted, budget};
-ghost use Rattle.run_model.specs.Stands.Parts.{HasRoom, IsMachine, AreAddresses};
-ghost use Rattle.run_model.specs.Stands.Harts.{hart_in};
-ghost use Rattle.run_model.specs.Stands.Plain.{IsRun, IsRaceReady};
+ghost use Rattle.run_model.specs.Represents.Parts.{HasRoom, IsMachine, AreAddresses};
+ghost use Rattle.run_model.specs.Represents.Harts.{hart_in};
+ghost use Rattle.run_model.specs.Represents.Plain.{IsRun, IsRaceReady};
 ghost use Rattle.log_ring.specs.Kept.{HoldsLog};
 ghost use Rattle.run_model.specs.Runs.{start, most_turns};
 ghost use Rattle.run_model.specs.Runs as runs;
-ghost use Rattle.run_model.specs.Stands.Turning.{parts, is_live};
+ghost use Rattle.run_model.specs.Represents.Turning.{parts, is_live};
 
 use crate::hart::{HEADER_SIZE, Hart};
 use crate::harts::end_each;

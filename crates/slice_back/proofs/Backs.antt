@@ -9,14 +9,14 @@ use Rattle.slice_back.specs.declared.slicing.Slicing.{Slicing}
 use Rattle.slice_back.specs.declared.lists.Slice.{Slice}
 use Rattle.slice_back.specs.Slices.{is_last, live, register_if, registers_from, slice_rows, slice_regs, slice_words, slice_of}
 use Rattle.slice_back.specs.Sets.{has_register}
-use Rattle.slice_back.specs.Passes.{Tells}
+use Rattle.slice_back.specs.Passes.{TellsLive}
 
 last_is : (es : List Noted) → is_last es ≡ (length es == 0)
 last_is [] = refl
 last_is (e ∷ es) = elim (eqb_tells (suc (length es)) 0) [ inl p ↦ absurd (omega (arith, p.1)) | inr p ↦ sym p.0 ]
 
-pub tells-more : (t u : Slicing) (es : List Noted) (passed : ℕ) (e : Noted) → passed < length es → get_or es (length es - 1 - passed) e ≡ e → Tells t (drop (length es - passed) es)
-    → ((later : List Noted) → is_last later ≡ (passed == 0) → Tells t later → Tells u (e ∷ later)) → Tells u (drop (length es - (passed + 1)) es)
+pub tells-more : (t u : Slicing) (es : List Noted) (passed : ℕ) (e : Noted) → passed < length es → get_or es (length es - 1 - passed) e ≡ e → TellsLive t (drop (length es - passed) es)
+    → ((later : List Noted) → is_last later ≡ (passed == 0) → TellsLive t later → TellsLive u (e ∷ later)) → TellsLive u (drop (length es - (passed + 1)) es)
 tells-more t u es passed e less at tells step =
     let later : List Noted = drop (length es - passed) es in
     let first : length es - (passed + 1) ≡ length es - 1 - passed = omega arith in
@@ -24,12 +24,12 @@ tells-more t u es passed e less at tells step =
     let count : length later ≡ passed = omega (arith, less, length-drop (length es - passed) es) in
     let parts : drop (length es - (passed + 1)) es ≡ e ∷ later =
     ap (λ n. drop n es) first ∙ drop-cons es (length es - 1 - passed) e (omega (arith, less)) ∙ ap (λ x. x ∷ drop (suc (length es - 1 - passed)) es) at ∙ ap (λ n. e ∷ drop n es) next in
-    subst (λ (xs : List Noted). Tells u xs) (sym parts) (step later (last_is later ∙ ap (λ n. n == 0) count) tells)
+    subst (λ (xs : List Noted). TellsLive u xs) (sym parts) (step later (last_is later ∙ ap (λ n. n == 0) count) tells)
 
-pub tells-all : (t : Slicing) (es : List Noted) (passed : ℕ) → length es ≤ passed → Tells t (drop (length es - passed) es) → Tells t es
+pub tells-all : (t : Slicing) (es : List Noted) (passed : ℕ) → length es ≤ passed → TellsLive t (drop (length es - passed) es) → TellsLive t es
 tells-all t es passed more tells =
     let none : length es - passed ≡ 0 = omega (arith, more) in
-    subst (λ (n : ℕ). Tells t (drop n es)) none tells
+    subst (λ (n : ℕ). TellsLive t (drop n es)) none tells
 
 pub registers-more : (x : List ℕ) (used : ℕ → Bool) (q : ℕ) → q < 32 → registers_from x used q (32 - q) ≡ register_if (used q) (q, slice_index x q) (registers_from x used (q + 1) (32 - (q + 1)))
 unfolding registers_from
@@ -52,7 +52,7 @@ registers-alike x some other q (suc n) within alike =
     ∙ ap (λ rs. register_if (other q) (q, slice_index x q) rs) (registers-alike x some other (q + 1) n (omega (arith, within)) alike)
 
 -- the lists that are told of all rows, oldest first, are the slice
-pub sliced_back : (t : Slicing) (es : List Noted) (x : List ℕ) (regs : List (ℕ × ℕ)) → Tells t es → regs ≡ registers_from x (has_register t.set) 0 32
+pub sliced_back : (t : Slicing) (es : List Noted) (x : List ℕ) (regs : List (ℕ × ℕ)) → TellsLive t es → regs ≡ registers_from x (has_register t.set) 0 32
     → ◌≡◌ {A = Slice} (record { rows = reverse t.rows.items; regs = regs; words = reverse t.words.items; branches = reverse t.branches.items }) (slice_of x es)
 sliced_back t es x regs tells e =
     let alike : regs ≡ slice_regs x es = e ∙ registers-alike x (has_register t.set) (live es).registers 0 32 (omega arith) tells.set.registers in

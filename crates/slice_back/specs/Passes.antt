@@ -6,7 +6,7 @@ use Rattle.slice_back.specs.declared.slicing.Slicing.{Slicing}
 use Rattle.slice_back.specs.Sets.{Holds}
 
 -- what is told, latest row first, is the slice of the last of these rows, as far as they go
-pub record Tells (t : Slicing) (later : List Noted) : Type 0 where
+pub record TellsLive (t : Slicing) (later : List Noted) : Type 0 where
   pub set : Holds t.set (live later)
   pub rows : reverse t.rows.items ≡ slice_rows later
   pub words : reverse t.words.items ≡ slice_words later

@@ -4,7 +4,7 @@ ghost use Rattle.slice_back.specs.declared.noted.Noted.{Noted as NotedOf};
 ghost use Rattle.slice_back.specs.Uses.{is_branch, stores_word};
 ghost use Rattle.slice_back.specs.Slices.{Live, in_slice, is_last, taken, word_if, row_if, register_if, registers_from, slice_of};
 ghost use Rattle.slice_back.specs.Sets.{Holds, has_register};
-ghost use Rattle.slice_back.specs.Passes.{Tells};
+ghost use Rattle.slice_back.specs.Passes.{TellsLive};
 
 use crate::lists::Slice;
 use crate::live_set::LiveSet;
@@ -37,7 +37,7 @@ pub(crate) struct Slicing {
 impl Slicing {
     // Before the last row.
     fn new(alloc: Global) -> Slicing
-        ensures { Tells result [] }
+        ensures { TellsLive result [] }
     {
         Slicing {
             set: LiveSet::new(alloc),
@@ -49,7 +49,7 @@ impl Slicing {
 
     // Whether a row is in the slice.
     fn chooses(&self, last: bool, entry: &Noted) -> bool
-        ensures { (later : List NotedOf) → is_last later ≡ last → Tells self.now later → in_slice entry.now later ≡ result }
+        ensures { (later : List NotedOf) → is_last later ≡ last → TellsLive self.now later → in_slice entry.now later ≡ result }
     {
         last || self.set.gives(&entry.row)
     }
@@ -81,7 +81,7 @@ impl Slicing {
         }
     }
 
-    // Tells the word that a row takes.
+    // TellsLive the word that a row takes.
     fn tell_word(&mut self, chosen: bool, entry: &Noted) -> Result<(), AllocError>
         ensures words { OnOk result ((l : Live) → Holds self.old.set l → reverse self.new.words.items ≡ word_if entry.now.row.ic (taken chosen l entry.now) (reverse self.old.words.items)) }
         ensures rest { self.new ≡ record self.old { words = self.new.words } }
@@ -95,7 +95,7 @@ impl Slicing {
         }
     }
 
-    // Tells a row of the slice, or a branch that isn't in it.
+    // TellsLive a row of the slice, or a branch that isn't in it.
     fn tell_row(&mut self, chosen: bool, row: &Row) -> Result<(), AllocError>
         ensures rows { OnOk result (reverse self.new.rows.items ≡ row_if chosen row.now (reverse self.old.rows.items)) }
         ensures branches { OnOk result (reverse self.new.branches.items ≡ row_if (not chosen && is_branch row.now) row.now (reverse self.old.branches.items)) }
@@ -107,7 +107,7 @@ impl Slicing {
 
     // Goes back over a row, the last one first.
     fn pass(&mut self, last: bool, entry: &Noted) -> Result<(), AllocError>
-        ensures { OnOk result ((later : List NotedOf) → is_last later ≡ last → Tells self.old later → Tells self.new (entry.now ∷ later)) }
+        ensures { OnOk result ((later : List NotedOf) → is_last later ≡ last → TellsLive self.old later → TellsLive self.new (entry.now ∷ later)) }
     {
         let chosen = self.chooses(last, entry);
         self.tell_word(chosen, entry)?;
@@ -117,7 +117,7 @@ impl Slicing {
 
     // Goes back over all rows.
     fn over(alloc: Global, noted: &[Noted]) -> Result<Slicing, AllocError>
-        ensures { IfOk result (λ s. Tells s noted.now) }
+        ensures { IfOk result (λ s. TellsLive s noted.now) }
     {
         let mut slicing = Slicing::new(alloc);
         let count = noted.len();

@@ -39,7 +39,7 @@ lines_before lines input = by input.refused
 -- ---- where a session stands
 
 -- so many bytes are gone, these lines of them are answered, and this text is sent
-pub record Stands (j : Trace) (s : Session) (count : ℕ) (left now_left written now_written : Option (List ℕ)) : Type 0 where
+pub record SessionAt (j : Trace) (s : Session) (count : ℕ) (left now_left written now_written : Option (List ℕ)) : Type 0 where
   pub gone : List ℕ
   pub lines : List (List ℕ)
   pub text : List ℕ
@@ -48,7 +48,7 @@ pub record Stands (j : Trace) (s : Session) (count : ℕ) (left now_left written
   pub said : (rest : List (List ℕ)) → answers (lines ++ rest) (begin_at j) ≡ behind text (answers rest s)
   pub sent : Appends written now_written text
 
-pub at_begin : (j : Trace) (s : Session) (count : ℕ) (left written : Option (List ℕ)) → s ≡ begin_at j → count ≡ 0 → Stands j s count left left written written
+pub at_begin : (j : Trace) (s : Session) (count : ℕ) (left written : Option (List ℕ)) → s ≡ begin_at j → count ≡ 0 → SessionAt j s count left left written written
 at_begin j s count left written e z = record {
   gone = [];
   lines = [];
@@ -61,7 +61,7 @@ at_begin j s count left written e z = record {
 
 -- and the source was read once for each of these bytes
 pub record CountedStands (j : Trace) (s : Session) (count : ℕ) (left now_left written now_written : Option (List ℕ)) (reads now_reads : ℕ) : Type 0 where
-  pub stands : Stands j s count left now_left written now_written
+  pub stands : SessionAt j s count left now_left written now_written
   pub read : now_reads ≡ counted_by (length stands.gone) reads
 
 pub counted_at_begin : (j : Trace) (s : Session) (count : ℕ) (left written : Option (List ℕ)) (reads : ℕ) → s ≡ begin_at j → count ≡ 0 → CountedStands j s count left left written written reads reads
@@ -70,8 +70,8 @@ counted_at_begin j s count left written reads e z = record { stands = at_begin j
 
 module _ (j : Trace) (s : Session) (old new : Reading) (left now_left next_left written now_written : Option (List ℕ)) (before after : ℕ) where
   -- one line is answered, and the session goes on
-  pub one_more : (next_written : Option (List ℕ)) → Stands j s old.count left now_left written now_written → NextLine old now_left next_left before after (Ok true) new → (answer s (command_of new.line)).ends ≡ GoesOn
-      → Appends now_written next_written (answer s (command_of new.line)).text → Stands j (answer s (command_of new.line)).session new.count left next_left written next_written
+  pub one_more : (next_written : Option (List ℕ)) → SessionAt j s old.count left now_left written now_written → NextLine old now_left next_left before after (Ok true) new → (answer s (command_of new.line)).ends ≡ GoesOn
+      → Appends now_written next_written (answer s (command_of new.line)).text → SessionAt j (answer s (command_of new.line)).session new.count left next_left written next_written
   one_more next_written t n on h =
       let a : Answer = answer s (command_of new.line) in
       record {
@@ -98,24 +98,24 @@ abbrev told_of : Answer → Option DebugError → Told
 told_of a refused = record { text = a.text; result = result_by a.ends refused }
 
 -- what further bytes hold, which are gone too
-joined : (j : Trace) (s : Session) (count : ℕ) (left now_left written now_written : Option (List ℕ)) (t : Stands j s count left now_left written now_written) (more : List ℕ) (input : Input) → input_from count [] more ≡ input
+joined : (j : Trace) (s : Session) (count : ℕ) (left now_left written now_written : Option (List ℕ)) (t : SessionAt j s count left now_left written now_written) (more : List ℕ) (input : Input) → input_from count [] more ≡ input
     → input_of (t.gone ++ more) ≡ with_lines t.lines input
 joined j s count left now_left written now_written t more input e = t.read more ∙ ap (with_lines t.lines) e
 
 -- where no LF is among further bytes, the lines before them are all, and the session went on after them
-not_over : (j : Trace) (s : Session) (count : ℕ) (left now_left written now_written : Option (List ℕ)) (t : Stands j s count left now_left written now_written) (more line : List ℕ) → input_from count [] more ≡ ends_in line None
+not_over : (j : Trace) (s : Session) (count : ℕ) (left now_left written now_written : Option (List ℕ)) (t : SessionAt j s count left now_left written now_written) (more line : List ℕ) → input_from count [] more ≡ ends_in line None
     → (answers (input_of (t.gone ++ more)).lines (begin_at j)).ends ≡ GoesOn
 not_over j s count left now_left written now_written t more line e =
     let is : input_of (t.gone ++ more) ≡ with_lines t.lines (ends_in line None) = joined j s count left now_left written now_written t more (ends_in line None) e in
     ap (λ (i : Input). (answers i.lines (begin_at j)).ends) is ∙ ap (λ (a : Answer). a.ends) (t.said [])
 
 -- nor is one of them too many
-none_over : (j : Trace) (s : Session) (count : ℕ) (left now_left written now_written : Option (List ℕ)) (t : Stands j s count left now_left written now_written) (more line : List ℕ) → input_from count [] more ≡ ends_in line None
+none_over : (j : Trace) (s : Session) (count : ℕ) (left now_left written now_written : Option (List ℕ)) (t : SessionAt j s count left now_left written now_written) (more line : List ℕ) → input_from count [] more ≡ ends_in line None
     → (input_of (t.gone ++ more)).refused ≡ None
 none_over j s count left now_left written now_written t more line e = ap (λ (i : Input). i.refused) (joined j s count left now_left written now_written t more (ends_in line None) e)
 
 -- the answers of the lines before are written, and then a prefix of the next one's is
-answered_first : (j : Trace) (s : Session) (count : ℕ) (left now_left written now_written next_written : Option (List ℕ)) (t : Stands j s count left now_left written now_written) (line : List ℕ) (e : DebugError)
+answered_first : (j : Trace) (s : Session) (count : ℕ) (left now_left written now_written next_written : Option (List ℕ)) (t : SessionAt j s count left now_left written now_written) (line : List ℕ) (e : DebugError)
     → SendsPart e now_written next_written (answer s (command_of line)).text → WritesUpTo j t.lines line e written next_written
 answered_first j s count left now_left written now_written next_written t line e p =
     let sent : Appends written now_written (t.text ++ []) = subst (λ (x : List ℕ). Appends written now_written x) (sym (append-nil t.text)) t.sent in
@@ -123,7 +123,7 @@ answered_first j s count left now_left written now_written next_written t line e
     subst (λ (a : Answer). (mid : Option (List ℕ)) × Appends written mid a.text × SendsPart e mid next_written (answer a.session (command_of line)).text) (sym is) (now_written, sent, p)
 
 -- where no LF is among further bytes, they are that next line
-last_first : (j : Trace) (s : Session) (count : ℕ) (left now_left written now_written next_written : Option (List ℕ)) (t : Stands j s count left now_left written now_written) (more line : List ℕ) (e : DebugError)
+last_first : (j : Trace) (s : Session) (count : ℕ) (left now_left written now_written next_written : Option (List ℕ)) (t : SessionAt j s count left now_left written now_written) (more line : List ℕ) (e : DebugError)
     → input_from count [] more ≡ ends_in line None → SendsPart e now_written next_written (answer s (command_of line)).text
     → WritesUpTo j (input_of (t.gone ++ more)).lines (input_of (t.gone ++ more)).last e written next_written
 last_first j s count left now_left written now_written next_written t more line e none p =
@@ -132,7 +132,7 @@ last_first j s count left now_left written now_written next_written t more line 
     subst (λ (i : Input). WritesUpTo j i.lines i.last e written next_written) (sym is) (subst (λ (ls : List (List ℕ)). WritesUpTo j ls line e written next_written) (sym (append-nil t.lines)) first)
 
 -- or the first bytes of it
-stops_in : (j : Trace) (s : Session) (count : ℕ) (left now_left written now_written : Option (List ℕ)) (t : Stands j s count left now_left written now_written) (more line : List ℕ) → input_from count [] more ≡ ends_in line None
+stops_in : (j : Trace) (s : Session) (count : ℕ) (left now_left written now_written : Option (List ℕ)) (t : SessionAt j s count left now_left written now_written) (more line : List ℕ) → input_from count [] more ≡ ends_in line None
     → StopsInLine j (t.gone ++ more) written now_written
 stops_in j s count left now_left written now_written t more line none =
     let is : input_of (t.gone ++ more) ≡ with_lines t.lines (ends_in line None) = joined j s count left now_left written now_written t more (ends_in line None) none in
@@ -144,7 +144,7 @@ stops_in j s count left now_left written now_written t more line none =
     }
 
 -- the transcript begins with what is sent
-told_first : (j : Trace) (s : Session) (count : ℕ) (left now_left written now_written : Option (List ℕ)) (t : Stands j s count left now_left written now_written) (more : List ℕ)
+told_first : (j : Trace) (s : Session) (count : ℕ) (left now_left written now_written : Option (List ℕ)) (t : SessionAt j s count left now_left written now_written) (more : List ℕ)
     → transcript_from j (input_of (t.gone ++ more)) ≡ told_of (behind t.text (answers (lines_in (input_from count [] more)) s)) (input_from count [] more).refused
 told_first j s count left now_left written now_written t more =
     let i = input_from count [] more in
@@ -163,7 +163,7 @@ all_gone (Some z) None c x y p q = absurd p
 all_gone (Some z) (Some w) c x y p q = (ap (λ u. x ++ u) q.0 ∙ sym p, q.1)
 
 -- no line is left to read
-module _ (j : Trace) (s : Session) (old new : Reading) (left now_left next_left written now_written : Option (List ℕ)) (start before after write_before write_after : ℕ) (t : Stands j s old.count left now_left written now_written) (fell : start ≤ before) where
+module _ (j : Trace) (s : Session) (old new : Reading) (left now_left next_left written now_written : Option (List ℕ)) (start before after write_before write_after : ℕ) (t : SessionAt j s old.count left now_left written now_written) (fell : start ≤ before) where
   stopped : (e : DebugError) (n : NextLine old now_left next_left before after (Err e) new) → input_from old.count [] n.gone ≡ ends_in new.line (Some e)
       → ((transcript_from j (input_of (t.gone ++ n.gone))).result ≡ Err e) × Appends written now_written (transcript_from j (input_of (t.gone ++ n.gone))).text
   stopped e n f =
@@ -212,7 +212,7 @@ module _ (j : Trace) (s : Session) (old new : Reading) (left now_left next_left 
 
 -- a line is read
 module _ (j : Trace) (s : Session) (old new : Reading) (left now_left next_left written now_written next_written : Option (List ℕ)) (start before after write_start write_before write_after : ℕ) (whole : Bool)
-    (t : Stands j s old.count left now_left written now_written) (n : NextLine old now_left next_left before after (Ok whole) new) where
+    (t : SessionAt j s old.count left now_left written now_written) (n : NextLine old now_left next_left before after (Ok whole) new) where
   abbrev answered : Answer
   answered = answer s (command_of new.line)
 
@@ -354,7 +354,7 @@ module _ (j : Trace) (s : Session) (old new : Reading) (left now_left next_left 
 
 -- the last line, behind which there is none
 pub ends : (j : Trace) (s : Session) (old new : Reading) (left now_left next_left written now_written next_written : Option (List ℕ)) (start before after write_start write_after : ℕ)
-    → Stands j s old.count left now_left written now_written → NextLine old now_left next_left before after (Ok false) new → (answer s (command_of new.line)).ends ≡ GoesOn → Appends now_written next_written (answer s (command_of new.line)).text
+    → SessionAt j s old.count left now_left written now_written → NextLine old now_left next_left before after (Ok false) new → (answer s (command_of new.line)).ends ≡ GoesOn → Appends now_written next_written (answer s (command_of new.line)).text
     → Debugged j left next_left start after written next_written write_start write_after (Ok (tt {0}))
 ends j s old new left now_left next_left written now_written next_written start before after write_start write_after t n on h =
     let a : Answer = answer s (command_of new.line) in

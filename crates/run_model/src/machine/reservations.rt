@@ -2,7 +2,7 @@
 ghost use Rattle.std.specs.Prelude.{◌≡◌, ◌<◌, ◌+◌, ◌*◌, ◌==◌, ℕ, Option, None, cond};
 ghost use Rattle.bn_base.specs.declared.settings.TheConstants.{HARTS};
 ghost use Rattle.run_model.specs.Machine.{reserving, unless, others_lose, is_among, all_lose, is_reserved};
-ghost use Rattle.run_model.specs.Stands.Parts.{AreReserved};
+ghost use Rattle.run_model.specs.Represents.Parts.{AreReserved};
 
 use bn_base::{Addr, HARTS, HartId};
 use std::marker::Model;

@@ -1,6 +1,6 @@
 use Rattle.std.proofs.Common.{◌≡◌, ◌∙◌, ◌&&◌, ℕ, Bool, true, arith, ap, subst, sym}
 use Rattle.race_log.specs.Sweep.{has_bit}
-use Rattle.race_log.specs.Stands.{lasts}
+use Rattle.race_log.specs.Represents.{lasts}
 use Rattle.base_tests.proofs.races.known_go.Goals as goal
 
 pub one_step-requires-clause-lasting : goal.one_step-requires-clause-lasting

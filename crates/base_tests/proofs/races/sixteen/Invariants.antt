@@ -1,5 +1,5 @@
 use Rattle.std.proofs.Common.{◌≡◌, ◌≤◌, IsTrue}
-use Rattle.race_log.specs.Stands.{harts_of, lasts, next_turn, next_count}
+use Rattle.race_log.specs.Represents.{harts_of, lasts, next_turn, next_count}
 use Rattle.base_tests.proofs.races.sixteen.Given as goal
 
 abbrev pub invariant-loads : goal.invariant-loads

@@ -1,5 +1,5 @@
 use Rattle.std.proofs.Common.{◌≡◌, ◌≤◌, ℕ}
-use Rattle.race_log.specs.Stands.{harts_of, lasting_of, next_turn, next_count}
+use Rattle.race_log.specs.Represents.{harts_of, lasting_of, next_turn, next_count}
 use Rattle.bench.proofs.race_timing.many.Given as goal
 
 abbrev pub invariant-loop-turn : goal.invariant-loop-turn

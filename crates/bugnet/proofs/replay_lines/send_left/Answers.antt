@@ -7,7 +7,7 @@ use Rattle.bugnet.specs.Printed.{outcome_of}
 use Rattle.bugnet.specs.Outside.{Sent}
 use Rattle.bugnet.specs.declared.replay_lines.ReplayEnd.{ReplayEnd}
 use Rattle.bugnet.specs.declared.refusal.Refusal.{Refusal}
-use Rattle.bugnet.proofs.Rows.{Stands, stands-none, stands-more, stands-stopped, stands-sent, stands-short, stands-done, stands-refused}
+use Rattle.bugnet.proofs.Rows.{RowsSoFar, stands-none, stands-more, stands-stopped, stands-sent, stands-short, stands-done, stands-refused}
 use Rattle.bugnet.proofs.replay_lines.send_left.Goals as goal
 
 pub rows-preserved : goal.rows-preserved
@@ -54,4 +54,4 @@ rows-init g c =
     let left = c.args.replayer.now.left in
     let known = g.O.Sink.written c.args.out.now in
     let faults = g.O.Sink.faults c.args.out.now in
-    subst (λ (t : List ℕ). Stands left left t known known faults faults) (sym c.requires) (stands-none left known faults)
+    subst (λ (t : List ℕ). RowsSoFar left left t known known faults faults) (sym c.requires) (stands-none left known faults)

@@ -1,9 +1,9 @@
 use Rattle.std.proofs.Common.{length}
-use Rattle.bugnet.proofs.Rows.{Stands}
+use Rattle.bugnet.proofs.Rows.{RowsSoFar}
 use Rattle.bugnet.proofs.replay_lines.send_left.Given as goal
 
 abbrev pub invariant-rows : goal.invariant-rows
-invariant-rows g l = Stands l.fn.replayer.left l.replayer.left l.text (g.O.Sink.written l.fn.out) (g.O.Sink.written l.out) (g.O.Sink.faults l.fn.out) (g.O.Sink.faults l.out)
+invariant-rows g l = RowsSoFar l.fn.replayer.left l.replayer.left l.text (g.O.Sink.written l.fn.out) (g.O.Sink.written l.out) (g.O.Sink.faults l.fn.out) (g.O.Sink.faults l.out)
 
 -- the rows that are left
 abbrev pub decreases-rows : goal.decreases-rows

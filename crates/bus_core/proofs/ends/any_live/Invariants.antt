@@ -1,5 +1,5 @@
 use Rattle.std.proofs.Common.{◌≡◌}
-use Rattle.run_model.specs.Stands.Harts.{hart_in}
+use Rattle.run_model.specs.Represents.Harts.{hart_in}
 use Rattle.run_model.specs.Runs.{any_live}
 use Rattle.bus_core.proofs.ends.any_live.Given as goal
 

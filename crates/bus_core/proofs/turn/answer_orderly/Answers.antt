@@ -3,9 +3,9 @@ use Rattle.std.specs.Prelude.{Vec}
 use Rattle.std.specs.Global.{Global}
 use Rattle.run_model.specs.declared.hart.Hart.{Hart}
 use Rattle.run_model.specs.declared.start.Start.{Start}
-use Rattle.run_model.specs.Stands.Harts.{hart_in}
-use Rattle.run_model.specs.Stands.Plain.{IsRun}
-use Rattle.run_model.specs.Stands.Turning.{parts}
+use Rattle.run_model.specs.Represents.Harts.{hart_in}
+use Rattle.run_model.specs.Represents.Plain.{IsRun}
+use Rattle.run_model.specs.Represents.Turning.{parts}
 use Rattle.run_model.specs.Turn.{Run, Served, serve, is_orderly, is_guarded}
 use Rattle.rv_meaning.specs.Orderly.{passes}
 use Rattle.bus_core.proofs.Rows.{second_of, live_within, live_there}

@@ -2,7 +2,7 @@ use Rattle.std.proofs.Common.{◌≡◌, ℕ, ◌∙◌, sym, ap, subst, refl, L
 use Rattle.race_log.specs.Points.{Point}
 use Rattle.race_log.specs.ByCount.{IsTimesOf, IsUpTo}
 use Rattle.race_log.specs.Kept.{after, access_point}
-use Rattle.race_log.specs.Stands.{Stands, times_of}
+use Rattle.race_log.specs.Represents.{RepresentsAccesses, times_of}
 use Rattle.race_report.specs.Gathering.{everyone, sync_of}
 use Rattle.race_report.proofs.Points.{point_is, times_by}
 use Rattle.race_report.proofs.reach.reach.Goals as goal
@@ -10,7 +10,7 @@ use Rattle.race_report.proofs.reach.reach.Goals as goal
 pub returns-clause-stands : goal.returns-clause-stands
 returns-clause-stands c = λ run s.
     let same = point_is c.args.hart c.args.place c.from-turn.result c.counted-count.result c.args.touch c.mode_of.result c.from-turn.ensures c.mode_of.ensures c.counted-count.ensures c.requires.whole in
-    subst (λ (p : Point). Stands (after run p) everyone c.access.new.self) same (c.access.ensures.point.stands run everyone refl (c.in_ok-reserve.ensures.stands run everyone s))
+    subst (λ (p : Point). RepresentsAccesses (after run p) everyone c.access.new.self) same (c.access.ensures.point.stands run everyone refl (c.in_ok-reserve.ensures.stands run everyone s))
 
 pub returns-clause-known : goal.returns-clause-known
 returns-clause-known c = λ run s.

@@ -3,8 +3,8 @@ use Rattle.run_model.specs.declared.start.Start.{Start}
 use Rattle.run_model.specs.Turn.{Run, turn}
 use Rattle.run_model.specs.Runs.{run_from, is_live, live_harts}
 use Rattle.run_model.specs.Lists.{unfinished, error_from}
-use Rattle.run_model.specs.Stands.Plain.{IsRun}
-use Rattle.run_model.specs.Stands.Turning.{parts}
+use Rattle.run_model.specs.Represents.Plain.{IsRun}
+use Rattle.run_model.specs.Represents.Turning.{parts}
 use Rattle.run_model.proofs.Followed.{run_more, wrong_here, wrong_later, all_taken, wrong_at_end}
 use Rattle.run_model.proofs.auditing.follow.Goals as goal
 

@@ -2,8 +2,8 @@ use Rattle.std.proofs.Common.{None, Some, ap, inr}
 use Rattle.run_model.specs.declared.start.Start.{Start}
 use Rattle.run_model.specs.Turn.{Run}
 use Rattle.run_model.specs.Runs.{start}
-use Rattle.run_model.specs.Stands.Plain.{IsRun}
-use Rattle.run_model.specs.Stands.Turning.{parts}
+use Rattle.run_model.specs.Represents.Plain.{IsRun}
+use Rattle.run_model.specs.Represents.Turning.{parts}
 use Rattle.run_model.proofs.Followed.{kept_run, kept_error}
 use Rattle.run_model.proofs.auditing.follow_whole.Goals as goal
 

@@ -1,12 +1,12 @@
 use Rattle.std.proofs.Common.{◌≡◌, List}
 use Rattle.first_load_bits.specs.Events.{Event}
-use Rattle.first_load_bits.specs.Stands.{StandsFor}
+use Rattle.first_load_bits.specs.Represents.{RepresentsEvents}
 use Rattle.run_model.specs.Turn.{drops}
 use Rattle.run_model.proofs.caches.drop_words.Given as goal
 
 abbrev pub invariant-loop-place : goal.invariant-loop-place
 invariant-loop-place l = record {
-  stands : (es : List Event) → StandsFor l.fn.cache es → StandsFor l.cache (drops l.first l.place es);
+  stands : (es : List Event) → RepresentsEvents l.fn.cache es → RepresentsEvents l.cache (drops l.first l.place es);
   geometry : l.cache.geometry ≡ l.fn.cache.geometry;
   steps : l.cache.steps ≡ l.fn.cache.steps;
 }

@@ -1,4 +1,4 @@
-use Rattle.run_model.specs.Stands.First.{AreFirst}
+use Rattle.run_model.specs.Represents.First.{AreFirst}
 use Rattle.run_model.proofs.first.first_harts.Given as goal
 
 -- the harts so far were made

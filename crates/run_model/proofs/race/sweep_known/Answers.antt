@@ -1,5 +1,5 @@
 use Rattle.std.proofs.Common.{◌∙◌}
-use Rattle.run_model.specs.Stands.Plain.{everyone}
+use Rattle.run_model.specs.Represents.Plain.{everyone}
 use Rattle.run_model.proofs.LiveSets.{and_true}
 use Rattle.run_model.proofs.race.sweep_known.Goals as goal
 

@@ -1,6 +1,6 @@
 use Rattle.std.proofs.Common.{List, subst, sym, ◌∙◌}
 use Rattle.log_record.specs.declared.record.Record.{Record}
-use Rattle.run_model.specs.Stands.Logs.{IsLog}
+use Rattle.run_model.specs.Represents.Logs.{IsLog}
 use Rattle.run_model.proofs.Edges.{edges_more}
 use Rattle.run_model.proofs.records.append_edge.Goals as goal
 

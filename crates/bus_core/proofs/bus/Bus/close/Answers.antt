@@ -5,8 +5,8 @@ use Rattle.bn_base.specs.Ranges.{IsSetting}
 use Rattle.run_model.specs.declared.hart.Hart.{Hart}
 use Rattle.run_model.specs.declared.start.Start.{Start}
 use Rattle.run_model.specs.Runs.{any_live, is_over}
-use Rattle.run_model.specs.Stands.Harts.{hart_in}
-use Rattle.run_model.specs.Stands.Turning.{parts}
+use Rattle.run_model.specs.Represents.Harts.{hart_in}
+use Rattle.run_model.specs.Represents.Turning.{parts}
 use Rattle.log_ring.specs.Kept.{Held, HoldsLog}
 use Rattle.bus_core.specs.Bus.{Seen, seen, marks, began_of, run_after, IsState, IsLogged}
 use Rattle.bus_core.proofs.History.{logged_is}

@@ -1,5 +1,5 @@
 use Rattle.std.proofs.Common.{◌≡◌, true, false, subst}
-use Rattle.run_model.specs.Stands.Turning.{parts}
+use Rattle.run_model.specs.Represents.Turning.{parts}
 use Rattle.bus_core.specs.Bus.{Seen, is_live}
 use Rattle.bus_core.proofs.History.{live_runs}
 use Rattle.bus_core.proofs.bus.Bus.live.Goals as goal

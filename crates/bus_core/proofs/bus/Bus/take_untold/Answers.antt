@@ -5,8 +5,8 @@ use Rattle.rv_meaning.specs.declared.asks.Ask.{Ask}
 use Rattle.bn_base.specs.declared.settings.RawSettings.{RawSettings}
 use Rattle.run_model.specs.declared.start.Start.{Start}
 use Rattle.run_model.specs.declared.hart.Hart.{Hart}
-use Rattle.run_model.specs.Stands.Harts.{hart_in}
-use Rattle.run_model.specs.Stands.Turning.{parts}
+use Rattle.run_model.specs.Represents.Harts.{hart_in}
+use Rattle.run_model.specs.Represents.Turning.{parts}
 use Rattle.run_model.specs.Turn.{ask_at, budget, is_orderly}
 use Rattle.bus_core.specs.Bus.{Seen, seen, IsState, began_of, run_after, turned_run, is_live}
 use Rattle.bus_core.proofs.History.{history_turned, history_same, run_is, state_is}

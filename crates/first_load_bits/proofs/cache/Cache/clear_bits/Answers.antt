@@ -1,9 +1,9 @@
 use Rattle.std.proofs.Common.{sym, subst}
-use Rattle.first_load_bits.specs.Stands.{Contents, StandsFor}
+use Rattle.first_load_bits.specs.Represents.{Contents, RepresentsEvents}
 use Rattle.first_load_bits.specs.Cached.{contents}
 use Rattle.first_load_bits.proofs.Both.{clear_stands}
 use Rattle.first_load_bits.proofs.cache.Cache.clear_bits.Goals as goal
 
 pub returns-clause-stands : goal.returns-clause-stands
 returns-clause-stands c = λ es h.
-    clear_stands (contents c.self.inside) es c.self.invariant.kept c.self.invariant.kept_below (subst (λ (x : Contents). StandsFor x es) (sym c.self.view_is) h)
+    clear_stands (contents c.self.inside) es c.self.invariant.kept c.self.invariant.kept_below (subst (λ (x : Contents). RepresentsEvents x es) (sym c.self.view_is) h)

@@ -1,7 +1,7 @@
 use Rattle.std.proofs.Common.{◌≡◌, ◌<◌, ◌≤◌, ◌+◌, ◌-◌, ◌∙◌, All, take, drop, set, ap, sym, subst, refl, arith}
 use Rattle.std.proofs.lemmas.List.Elements.{All-weaker}
 use Rattle.first_load_bits.specs.Events.{second_of}
-use Rattle.first_load_bits.specs.Stands.{Level, Contents, second_level}
+use Rattle.first_load_bits.specs.Represents.{Level, Contents, second_level}
 use Rattle.first_load_bits.specs.Cached.{contents, AreKept}
 use Rattle.first_load_bits.specs.Steps.{IsPutBelow, with_ways_below}
 use Rattle.first_load_bits.proofs.Standing.{IsRead}

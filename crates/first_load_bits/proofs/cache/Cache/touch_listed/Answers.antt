@@ -6,7 +6,7 @@ use Rattle.first_load_bits.specs.Events.{line_of, set_of}
 use Rattle.first_load_bits.specs.Lines.{place_of}
 use Rattle.first_load_bits.specs.Ways.{known_bits, HasLine}
 use Rattle.first_load_bits.specs.Steps.{IsListed, IsTouch}
-use Rattle.first_load_bits.specs.Stands.{Contents, first_level, second_level}
+use Rattle.first_load_bits.specs.Represents.{Contents, first_level, second_level}
 use Rattle.first_load_bits.specs.Cached.{contents}
 use Rattle.first_load_bits.proofs.Standing.{IsRead, put_keeps, kept_later, known_read}
 use Rattle.first_load_bits.proofs.Both.{listed_is, mask_is, read_first, touched_cache}

@@ -2,7 +2,7 @@ use Rattle.std.proofs.Common.{◌≡◌, ◌∙◌, ℕ, Bool, List, IsTrue, len
 use Rattle.race_log.specs.Kept.{access_point, after}
 use Rattle.race_log.specs.Points.{Point}
 use Rattle.race_log.specs.ByCount.{IsPointAt, IsEdgeBetween}
-use Rattle.race_log.specs.Stands.{Stands, edges_of, times_of}
+use Rattle.race_log.specs.Represents.{RepresentsAccesses, edges_of, times_of}
 use Rattle.race_log.specs.Tests.{sources_into}
 use Rattle.race_log.proofs.AccessLemmas.{counts_taken}
 use Rattle.race_log.proofs.Known.{listed_exactly}
@@ -22,7 +22,7 @@ returns-clause-edges c = record {
     b : Point
     b = access_point c.args.hart c.args.ic c.args.turn c.args.first c.args.count c.args.mode
 
-    listed : (run : List Point) (live : ℕ → Bool) → IsTrue (live c.args.hart) → Stands run live c.args.self.now
+    listed : (run : List Point) (live : ℕ → Bool) → IsTrue (live c.args.hart) → RepresentsAccesses run live c.args.self.now
         → edges_of c.take_in.new.self ≡ sources_into (after run b) (length run)
     listed run live lives stands =
         c.take_in.ensures.edges

@@ -3,7 +3,7 @@ use Rattle.rv_meaning.specs.Access.{amo_result}
 use Rattle.rv_meaning.specs.declared.asks.Reply.TheVariants.{Word}
 use Rattle.bus_memory.specs.Contents.{Contents, HoldsMap, updated}
 use Rattle.run_model.specs.Machine.{Machine, with_memory, others_lose}
-use Rattle.run_model.specs.Stands.Parts.{IsMachine}
+use Rattle.run_model.specs.Represents.Parts.{IsMachine}
 use Rattle.run_model.proofs.machine.Machine.amo.Goals as goal
 
 pub returns-clause-answer : goal.returns-clause-answer

@@ -1,7 +1,7 @@
 use Rattle.std.proofs.Common.{sym, subst, Option}
 use Rattle.system_calls.specs.declared.effect.Plan.{Plan}
 use Rattle.run_model.specs.Machine.{answer}
-use Rattle.run_model.specs.Stands.Parts.{IsAnswer}
+use Rattle.run_model.specs.Represents.Parts.{IsAnswer}
 use Rattle.run_model.proofs.machine.Machine.answer.Goals as goal
 
 pub returns-in-None-clause-answer : goal.returns-in-None-clause-answer

@@ -1,7 +1,7 @@
 use Rattle.std.proofs.Common.{sym, subst}
 use Rattle.rv_meaning.specs.declared.asks.Want.{Want}
 use Rattle.run_model.specs.Machine.{answer_access}
-use Rattle.run_model.specs.Stands.Parts.{IsAnswer}
+use Rattle.run_model.specs.Represents.Parts.{IsAnswer}
 use Rattle.run_model.proofs.machine.Machine.answer_access.Goals as goal
 
 pub returns-in-LoadReserved-clause-answer : goal.returns-in-LoadReserved-clause-answer

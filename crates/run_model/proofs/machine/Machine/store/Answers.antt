@@ -3,7 +3,7 @@ use Rattle.rv_meaning.specs.Words.{aligned}
 use Rattle.rv_meaning.specs.Access.{stored_word}
 use Rattle.bus_memory.specs.Contents.{Contents, HoldsMap, updated}
 use Rattle.run_model.specs.Machine.{with_memory, others_lose}
-use Rattle.run_model.specs.Stands.Parts.{IsMachine}
+use Rattle.run_model.specs.Represents.Parts.{IsMachine}
 use Rattle.run_model.proofs.machine.Machine.store.Goals as goal
 
 pub returns-clause-answer : goal.returns-clause-answer

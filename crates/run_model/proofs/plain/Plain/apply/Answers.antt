@@ -3,15 +3,15 @@ use Rattle.std.specs.Prelude.{Vec, if◌then◌else◌}
 use Rattle.std.specs.Global.{Global}
 use Rattle.rv_meaning.specs.Execute.{absorbed}
 use Rattle.race_log.specs.declared.shadow.Shadow.{Shadow}
-use Rattle.race_log.specs.Stands.{Stands, harts_of, lasting_of, next_turn, next_count}
+use Rattle.race_log.specs.Represents.{RepresentsAccesses, harts_of, lasting_of, next_turn, next_count}
 use Rattle.run_model.specs.declared.hart.Hart.{Hart}
 use Rattle.run_model.specs.Machine.{answer}
-use Rattle.run_model.specs.Stands.Parts.{IsMachine}
-use Rattle.run_model.specs.Stands.Logs.{taken, is_marked_next}
-use Rattle.run_model.specs.Stands.EachCache.{steps_in, touched_word, touches}
-use Rattle.run_model.specs.Stands.Harts.{AreHarts, hart_in}
+use Rattle.run_model.specs.Represents.Parts.{IsMachine}
+use Rattle.run_model.specs.Represents.Logs.{taken, is_marked_next}
+use Rattle.run_model.specs.Represents.EachCache.{steps_in, touched_word, touches}
+use Rattle.run_model.specs.Represents.Harts.{AreHarts, hart_in}
 use Rattle.run_model.specs.Turn.{guarded_run, serve_call, span_of, next_of, hart_after, harts_after, skipped_after, points_after, point_of}
-use Rattle.run_model.specs.Stands.Plain.{IsTrace, IsRaceReady, everyone, count_after, clears}
+use Rattle.run_model.specs.Represents.Plain.{IsTrace, IsRaceReady, everyone, count_after, clears}
 use Rattle.run_model.proofs.Owns.{hart_of_run}
 use Rattle.run_model.proofs.PlainRuns.{traced, race_ready}
 use Rattle.run_model.proofs.Asked.{asked_fit, asked_counts, few_steps, few_steps_more, low_number, few_skipped, some_room, eqb_same, if_true}
@@ -46,7 +46,7 @@ returns-clause-run c run is =
     (record {
       harts = f.ensures.harts answering.harts are;
       caches = f.ensures.caches settings (span_of call ask.want reply) answering.events (a.ensures.caches settings answering.events before.caches);
-      shadow = subst (λ (s : Shadow). Stands (points_after (point_of k ask.state.ic p.turns (span_of call ask.want reply)) run.points) everyone s) (sym f.ensures.finished.shadow) (a.ensures.noted.stands run.points before.shadow);
+      shadow = subst (λ (s : Shadow). RepresentsAccesses (points_after (point_of k ask.state.ic p.turns (span_of call ask.want reply)) run.points) everyone s) (sym f.ensures.finished.shadow) (a.ensures.noted.stands run.points before.shadow);
       log = f.ensures.holds answering.harts _ are (a.ensures.holds run.points answering.stream before.shadow before.log);
     })
     (sym before.bytes ∙ before.log.bytes) in

@@ -11,18 +11,18 @@ use Rattle.rv_meaning.specs.declared.asks.Reply.TheVariants as replies
 use Rattle.log_record.specs.declared.record.Record.{Record}
 use Rattle.race_log.specs.declared.mode.Mode.TheVariants.{Read}
 use Rattle.race_log.specs.declared.shadow.Shadow.{Shadow}
-use Rattle.race_log.specs.Stands.{Stands, harts_of, lasting_of, next_turn, next_count}
+use Rattle.race_log.specs.Represents.{RepresentsAccesses, harts_of, lasting_of, next_turn, next_count}
 use Rattle.run_model.specs.declared.hart.Hart.{Hart}
 use Rattle.bn_base.specs.declared.state.HartState.{HartState}
 use Rattle.run_model.specs.declared.turn_end.TurnEnd.{TurnEnd}
 use Rattle.run_model.specs.declared.span.Span.{Span}
-use Rattle.run_model.specs.Stands.EachCache.{AreCaches}
-use Rattle.run_model.specs.Stands.Logs.{taken, IsLog, is_marked_next}
-use Rattle.run_model.specs.Stands.EachCache.{steps_in, touched_word}
-use Rattle.run_model.specs.Stands.Harts.{AreHarts, hart_in}
-use Rattle.run_model.specs.Stands.InPlace.{ask_here}
+use Rattle.run_model.specs.Represents.EachCache.{AreCaches}
+use Rattle.run_model.specs.Represents.Logs.{taken, IsLog, is_marked_next}
+use Rattle.run_model.specs.Represents.EachCache.{steps_in, touched_word}
+use Rattle.run_model.specs.Represents.Harts.{AreHarts, hart_in}
+use Rattle.run_model.specs.Represents.InPlace.{ask_here}
 use Rattle.run_model.specs.Turn.{span, serve_call, next_of, hart_after, harts_after, skipped_after, points_after, point_of, edge_records, load_record, events_after, next_records, run_over_records}
-use Rattle.run_model.specs.Stands.Plain.{IsTrace, everyone, count_after, clears}
+use Rattle.run_model.specs.Represents.Plain.{IsTrace, everyone, count_after, clears}
 use Rattle.run_model.proofs.Owns.{hart_at, hart_of_run}
 use Rattle.run_model.proofs.PlainRuns.{traced}
 use Rattle.run_model.proofs.Asked.{as_it_is, IsAsked, few_steps_more, low_number, few_skipped, some_room, eqb_same, if_true}
@@ -66,8 +66,8 @@ returns-clause-run c run is =
     (record {
       harts = subst (λ (y : Hart). AreHarts f.new.self.harts.items (harts_after (next y) k (hart_after (next y) (state y) (skipped_after (Some a.result) y.skipped) f.new.self.log.bytes y) run.harts)) same (f.ensures.harts run.harts are);
       caches = subst (λ (y : Hart). AreCaches settings f.new.self.caches (events_after (next y) k None words run.events)) same (f.ensures.caches settings words run.events (a.ensures.accessed.caches settings run.events is.trace.caches));
-      shadow = subst (λ (s : Shadow). Stands (points_after (point_of k h.state.ic p.turns words) run.points) everyone s) (sym f.ensures.finished.shadow)
-          (subst (λ (n : ℕ). Stands (points_after (point_of k n p.turns words) run.points) everyone a.new.self.shadow) ic (a.ensures.accessed.noted.stands run.points is.trace.shadow));
+      shadow = subst (λ (s : Shadow). RepresentsAccesses (points_after (point_of k h.state.ic p.turns words) run.points) everyone s) (sym f.ensures.finished.shadow)
+          (subst (λ (n : ℕ). RepresentsAccesses (points_after (point_of k n p.turns words) run.points) everyone a.new.self.shadow) ic (a.ensures.accessed.noted.stands run.points is.trace.shadow));
       log = subst (λ (y : Hart). IsLog f.new.self.log (recs ++ next_records (next y) k y.number (state y) ++ run_over_records (next y) k (length a.new.self.harts.items) run.harts)) same (f.ensures.holds run.harts recs are held_all);
     })
     (sym is.trace.bytes ∙ is.trace.log.bytes) in

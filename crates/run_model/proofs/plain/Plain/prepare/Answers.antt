@@ -1,13 +1,13 @@
 use Rattle.std.proofs.Common.{ℕ, List, sym, subst, ap, ◌∙◌}
 use Rattle.std.specs.Prelude.{Vec}
 use Rattle.std.specs.Global.{Global}
-use Rattle.first_load_bits.specs.Stands.{Contents}
+use Rattle.first_load_bits.specs.Represents.{Contents}
 use Rattle.run_model.specs.declared.log.Log.{Log}
 use Rattle.run_model.specs.declared.hart.Hart.{Hart}
-use Rattle.run_model.specs.Stands.Parts.{IsMachine}
-use Rattle.run_model.specs.Stands.EachCache.{AreCaches}
-use Rattle.run_model.specs.Stands.Harts.{AreHarts}
-use Rattle.run_model.specs.Stands.Logs.{IsLog}
+use Rattle.run_model.specs.Represents.Parts.{IsMachine}
+use Rattle.run_model.specs.Represents.EachCache.{AreCaches}
+use Rattle.run_model.specs.Represents.Harts.{AreHarts}
+use Rattle.run_model.specs.Represents.Logs.{IsLog}
 use Rattle.run_model.proofs.Meant.{is_before}
 use Rattle.run_model.proofs.plain.Plain.prepare.Goals as goal
 

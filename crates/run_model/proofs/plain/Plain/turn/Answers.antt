@@ -1,4 +1,4 @@
-use Rattle.run_model.specs.Stands.Harts.{hart_in}
+use Rattle.run_model.specs.Represents.Harts.{hart_in}
 use Rattle.run_model.proofs.Owns.{hart_at}
 use Rattle.run_model.proofs.OneTurn.{live_within, ask_is}
 use Rattle.run_model.proofs.plain.Plain.turn.Goals as goal

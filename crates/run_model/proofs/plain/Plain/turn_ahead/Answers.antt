@@ -3,18 +3,18 @@ use Rattle.std.specs.Prelude.{Vec, None, slice_get}
 use Rattle.std.specs.Global.{Global}
 use Rattle.bn_base.specs.declared.state.HartState.{HartState}
 use Rattle.run_model.specs.declared.start.Start.{Start}
-use Rattle.run_model.specs.Stands.Plain.{IsRun, IsTrace, IsTraceFit}
-use Rattle.run_model.specs.Stands.Parts.{size_of}
+use Rattle.run_model.specs.Represents.Plain.{IsRun, IsTrace, IsTraceFit}
+use Rattle.run_model.specs.Represents.Parts.{size_of}
 use Rattle.std.proofs.lemmas.Result.{on_ok_weaker, on_err_weaker}
 use Rattle.std.proofs.lemmas.List.{length-set}
-use Rattle.run_model.specs.Stands.Turning.{parts}
+use Rattle.run_model.specs.Represents.Turning.{parts}
 use Rattle.run_model.specs.declared.hart.Hart.{Hart}
 use Rattle.bn_base.specs.Programs.{Program}
 use Rattle.rv_meaning.specs.declared.asks.Ask.{Ask}
 use Rattle.rv_meaning.specs.declared.asks.Want.{Want}
 use Rattle.rv_meaning.specs.declared.asks.Want.TheVariants.{Load, Store}
-use Rattle.run_model.specs.Stands.Harts.{hart_in, is_live_hart}
-use Rattle.run_model.specs.Stands.InPlace.{IsMoved, ask_here, in_state, moved_run}
+use Rattle.run_model.specs.Represents.Harts.{hart_in, is_live_hart}
+use Rattle.run_model.specs.Represents.InPlace.{IsMoved, ask_here, in_state, moved_run}
 use Rattle.run_model.specs.Turn.{Run, turn, ask_at, is_orderly, serve_call}
 use Rattle.run_model.proofs.OneTurn.{live_within, asked_orderly, turn_is, passes_of}
 use Rattle.run_model.proofs.MoveOn.{both}

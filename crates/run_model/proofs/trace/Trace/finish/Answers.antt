@@ -6,9 +6,9 @@ use Rattle.log_record.specs.declared.record.Record.{Record}
 use Rattle.run_model.specs.declared.hart.Hart.{Hart}
 use Rattle.run_model.specs.declared.log.Log.{Log}
 use Rattle.run_model.specs.declared.turn_end.TurnEnd.{TurnEnd}
-use Rattle.run_model.specs.Stands.EachCache.{AreCaches}
-use Rattle.run_model.specs.Stands.Harts.{AreHarts, hart_in}
-use Rattle.run_model.specs.Stands.Logs.{IsLog}
+use Rattle.run_model.specs.Represents.EachCache.{AreCaches}
+use Rattle.run_model.specs.Represents.Harts.{AreHarts, hart_in}
+use Rattle.run_model.specs.Represents.Logs.{IsLog}
 use Rattle.run_model.specs.Turn.{events_after, harts_after, hart_after, skipped_after, next_of, next_records}
 use Rattle.run_model.proofs.Owns.{hart_at, next_at, own_after}
 use Rattle.run_model.proofs.Stopping.{with_own, own_set, others_then, ends_are}

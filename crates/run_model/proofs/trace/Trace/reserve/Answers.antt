@@ -1,4 +1,4 @@
-use Rattle.run_model.specs.Stands.Plain.{everyone}
+use Rattle.run_model.specs.Represents.Plain.{everyone}
 use Rattle.run_model.proofs.trace.Trace.reserve.Goals as goal
 
 pub returns-in-Some-clause-shadow : goal.returns-in-Some-clause-shadow

@@ -1,7 +1,7 @@
 use Rattle.std.proofs.Common.{◌-◌, drop}
-use Rattle.slice_back.specs.Passes.{Tells}
+use Rattle.slice_back.specs.Passes.{TellsLive}
 use Rattle.slice_back.proofs.slicing.Slicing.over.Given as goal
 
 -- the rows from a place on are told
 abbrev pub invariant-loop-passed : goal.invariant-loop-passed
-invariant-loop-passed l = Tells l.slicing (drop (l.count - l.passed) l.noted)
+invariant-loop-passed l = TellsLive l.slicing (drop (l.count - l.passed) l.noted)

@@ -9,7 +9,7 @@ use Rattle.rv_meaning.specs.declared.asks.Want.{Want}
 use Rattle.rv_meaning.specs.declared.asks.Reply.{Reply}
 use Rattle.system_calls.specs.declared.effect.Plan.{Plan}
 use Rattle.first_load_bits.specs.Events.{Event}
-use Rattle.first_load_bits.specs.Stands.{Contents}
+use Rattle.first_load_bits.specs.Represents.{Contents}
 use Rattle.first_load_bits.specs.declared.warm.Warm.{Warm}
 use Rattle.log_record.specs.declared.record.Record.{Record}
 use Rattle.race_log.specs.Points.{Point}
@@ -21,9 +21,9 @@ use Rattle.run_model.specs.declared.trace.Trace.{Trace}
 use Rattle.run_model.specs.Machine.{Machine, call_of}
 use Rattle.run_model.specs.Turn.{span_of, next_of, point_of, edge_records, load_record, sc_record, next_records, run_over_records, harts_after, hart_after, events_after, skipped_after}
 use Rattle.run_model.specs.Counts.{anew}
-use Rattle.run_model.specs.Stands.Logs.{taken}
-use Rattle.run_model.specs.Stands.Harts.{hart_in}
-use Rattle.run_model.specs.Stands.EachCache.{AreCaches, steps_in, touched_word}
+use Rattle.run_model.specs.Represents.Logs.{taken}
+use Rattle.run_model.specs.Represents.Harts.{hart_in}
+use Rattle.run_model.specs.Represents.EachCache.{AreCaches, steps_in, touched_word}
 
 -- the word of its own that an ask touches, if it does
 abbrev pub touched_by : Program → Machine → Want → Reply → Option ℕ

@@ -53,7 +53,7 @@ abbrev pub second_level : Contents → Level
 second_level c = record { geometry = second_of c.geometry; steps = c.steps; generation = c.generation; ways = c.ways_below }
 
 -- the cache represents the events, given latest first: each of its sets lists the lines that they lead to
-pub record StandsFor (c : Contents) (es : List Event) : Type 0 where
+pub record RepresentsEvents (c : Contents) (es : List Event) : Type 0 where
   pub steps : c.steps ≡ steps_of es
   pub sets : (k : ℕ) → k < c.geometry.sets → lines_of (first_level c) k ≡ lines c.geometry k es
   pub sets_below : (k : ℕ) → k < c.geometry.sets2 → lines_of (second_level c) k ≡ lines_below c.geometry k es

@@ -6,7 +6,7 @@ use Rattle.rv_meaning.specs.declared.asks.Want.{Want}
 use Rattle.run_model.specs.declared.hart.Hart.{Hart}
 use Rattle.run_model.specs.declared.trace.Trace.{Trace}
 use Rattle.run_model.specs.Turn.{Run}
-use Rattle.run_model.specs.Stands.Harts.{hart_in}
+use Rattle.run_model.specs.Represents.Harts.{hart_in}
 
 -- what a hart asks in its present state
 abbrev pub ask_here : Hart → Want → Ask

@@ -1,8 +1,8 @@
 -- The parts of a plain machine.
 use Rattle.std.specs.Prelude.{ℕ, Bool, slice_get}
-use Rattle.run_model.specs.Stands.Harts.{is_live_hart}
+use Rattle.run_model.specs.Represents.Harts.{is_live_hart}
 use Rattle.run_model.specs.declared.plain.Plain.{Plain}
-use Rattle.run_model.specs.Stands.Plain.{PlainParts}
+use Rattle.run_model.specs.Represents.Plain.{PlainParts}
 
 abbrev pub parts : Plain → PlainParts
 parts p = record { start = p.start; machine = p.machine; trace = p.trace; turns = p.turns }

@@ -5,19 +5,19 @@ use Rattle.bn_base.specs.declared.settings.RawSettings.{RawSettings}
 use Rattle.bn_base.specs.declared.settings.TheConstants.{HARTS}
 use Rattle.race_log.specs.declared.shadow.Shadow.{Shadow}
 use Rattle.race_log.specs.Points.{Point}
-use Rattle.race_log.specs.Stands.{Stands, harts_of, lasts, next_turn, next_count, reserved_range}
+use Rattle.race_log.specs.Represents.{RepresentsAccesses, harts_of, lasts, next_turn, next_count, reserved_range}
 use Rattle.run_model.specs.declared.hart.Hart.{Hart}
 use Rattle.run_model.specs.declared.turn_end.TurnEnd.{TurnEnd}
 use Rattle.run_model.specs.declared.turn_end.TurnEnd.TheVariants.{GoesOn, NewInterval, HartOver, RunOver}
 use Rattle.run_model.specs.declared.span.Span.{Span}
 use Rattle.run_model.specs.declared.start.Start.{Start}
 use Rattle.run_model.specs.declared.trace.Trace.{Trace}
-use Rattle.run_model.specs.Stands.Parts.{MachineParts, IsMachine}
-use Rattle.run_model.specs.Stands.EachCache.{AreCaches, steps_in}
+use Rattle.run_model.specs.Represents.Parts.{MachineParts, IsMachine}
+use Rattle.run_model.specs.Represents.EachCache.{AreCaches, steps_in}
 use Rattle.run_model.specs.Turn.{Run}
 use Rattle.run_model.specs.Runs.{most_turns}
-use Rattle.run_model.specs.Stands.Logs.{taken, IsLog}
-use Rattle.run_model.specs.Stands.Harts.{AreHarts, hart_in, all_left}
+use Rattle.run_model.specs.Represents.Logs.{taken, IsLog}
+use Rattle.run_model.specs.Represents.Harts.{AreHarts, hart_in, all_left}
 use Rattle.run_model.specs.Counts.{IsRested}
 
 -- every hart's knowledge counts
@@ -32,7 +32,7 @@ IsRaceReady s (Some x) = (x.first % 4 ≡ 0) × (x.first + 4 * x.count ≤ 2 ^ 3
 -- accesses may have been given up that all live harts know of: the race log represents the same points, and the live harts
 -- last that did before
 pub record IsSwept (old new : Shadow) (hs : List Hart) : Type 0 where
-  pub stands : (points : List Point) → Stands points everyone old → Stands points everyone new
+  pub stands : (points : List Point) → RepresentsAccesses points everyone old → RepresentsAccesses points everyone new
   pub harts : harts_of new ≡ harts_of old
   pub turn : next_turn new ≡ next_turn old
   pub counts : (k : ℕ) → next_count new k ≡ next_count old k
@@ -63,7 +63,7 @@ pub record PlainParts : Type 0 where
 pub record IsTrace (c : RawSettings) (t : Trace) (run : Run) : Type 0 where
   pub harts : AreHarts t.harts.items run.harts
   pub caches : AreCaches c t.caches run.events
-  pub shadow : Stands run.points everyone t.shadow
+  pub shadow : RepresentsAccesses run.points everyone t.shadow
   pub log : IsLog t.log run.stream
   pub bytes : t.log.bytes ≡ run.bytes
 

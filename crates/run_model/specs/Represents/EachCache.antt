@@ -3,7 +3,7 @@ use Rattle.std.specs.Prelude.{ℕ, ◌+◌, ◌≤◌, ◌<◌, ◌==◌, ◌≡
 use Rattle.bn_base.specs.declared.settings.RawSettings.{RawSettings}
 use Rattle.first_load_bits.specs.Events.{Event}
 use Rattle.first_load_bits.specs.Events.{Clear}
-use Rattle.first_load_bits.specs.Stands.{Contents, StandsFor, geometry_of, no_contents}
+use Rattle.first_load_bits.specs.Represents.{Contents, RepresentsEvents, geometry_of, no_contents}
 use Rattle.first_load_bits.specs.declared.warm.Warm.{Warm}
 use Rattle.system_calls.specs.declared.effect.Plan.{Plan}
 use Rattle.run_model.specs.declared.span.Span.{Span}
@@ -23,7 +23,7 @@ steps_in cs k = (cache_of cs k).steps
 pub record AreCaches (c : RawSettings) (cs : List Contents) (events : ℕ → List Event) : Type 0 where
   pub count : length cs ≡ c.harts
   pub geometry : (k : ℕ) → k < c.harts → (cache_of cs k).geometry ≡ geometry_of c
-  pub stands : (k : ℕ) → k < c.harts → StandsFor (cache_of cs k) (events k)
+  pub stands : (k : ℕ) → k < c.harts → RepresentsEvents (cache_of cs k) (events k)
 
 -- the word that an access touches in the hart's own cache; a system call touches none
 abbrev pub touched_word : Option Plan → Option Span → Option ℕ
@@ -56,7 +56,7 @@ pub record IsDropped (spared : Option ℕ) (lost : List Event → List Event) (n
   pub count : length new ≡ length old
   pub geometry : (k : ℕ) → (cache_of new k).geometry ≡ (cache_of old k).geometry
   pub steps : (k : ℕ) → steps_in new k ≡ steps_in old k
-  pub done : (k : ℕ) → k < n → (es : List Event) → StandsFor (cache_of old k) es → StandsFor (cache_of new k) (elim (is_spared spared k) [ true ↦ es | false ↦ lost es ])
+  pub done : (k : ℕ) → k < n → (es : List Event) → RepresentsEvents (cache_of old k) es → RepresentsEvents (cache_of new k) (elim (is_spared spared k) [ true ↦ es | false ↦ lost es ])
   pub rest : (k : ℕ) → n ≤ k → cache_of new k ≡ cache_of old k
 
 -- an event, a touch or a clear, happens to hart h's cache
@@ -64,5 +64,5 @@ pub record IsSetTo (h : ℕ) (event : Event) (old new : List Contents) : Type 0 
   pub count : length new ≡ length old
   pub geometry : (k : ℕ) → (cache_of new k).geometry ≡ (cache_of old k).geometry
   pub steps : steps_in new h ≡ steps_in old h + 1
-  pub own : (es : List Event) → StandsFor (cache_of old h) es → StandsFor (cache_of new h) (event ∷ es)
+  pub own : (es : List Event) → RepresentsEvents (cache_of old h) es → RepresentsEvents (cache_of new h) (event ∷ es)
   pub others : (k : ℕ) → k ≢ h → cache_of new k ≡ cache_of old k

@@ -81,7 +81,7 @@ pub record KnowsSame (old new : Shadow) : Type 0 where
   pub kept : (word : ℕ) → kept_of new word ≡ kept_of old word
 
 -- the shadow represents the run: it knows of these points and no others, and what it keeps suffices for its live harts
-pub record Stands (run : List Point) (live : ℕ → Bool) (s : Shadow) : Type 0 where
+pub record RepresentsAccesses (run : List Point) (live : ℕ → Bool) (s : Shadow) : Type 0 where
   pub in_order : IsInOrder run
   pub harts : All (λ p. p.hart < harts_of s) run
   pub past : All (λ p. p.turn < next_turn s) run

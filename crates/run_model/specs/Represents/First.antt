@@ -6,8 +6,8 @@ use Rattle.run_model.specs.declared.log.Log.{Log}
 use Rattle.log_record.specs.declared.record.Record.{Record}
 use Rattle.run_model.specs.declared.hart.Hart.{Hart}
 use Rattle.run_model.specs.Runs.{start_state, start_hart, first_headers}
-use Rattle.run_model.specs.Stands.Harts.{AreHarts}
-use Rattle.run_model.specs.Stands.Logs.{Took, IsLog}
+use Rattle.run_model.specs.Represents.Harts.{AreHarts}
+use Rattle.run_model.specs.Represents.Logs.{Took, IsLog}
 
 -- hart k before its first turn
 abbrev pub first_hart : RawSettings → Program → ℕ → Hart

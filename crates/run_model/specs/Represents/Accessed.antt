@@ -12,18 +12,18 @@ use Rattle.first_load_bits.specs.declared.warm.Warm.{Warm}
 use Rattle.log_record.specs.declared.record.Record.{Record}
 use Rattle.race_log.specs.Points.{Point}
 use Rattle.race_log.specs.declared.shadow.Shadow.{Shadow}
-use Rattle.race_log.specs.Stands.{Stands, harts_of, lasting_of, lasts, next_turn, next_count}
+use Rattle.race_log.specs.Represents.{RepresentsAccesses, harts_of, lasting_of, lasts, next_turn, next_count}
 use Rattle.run_model.specs.declared.span.Span.{Span}
 use Rattle.run_model.specs.declared.trace.Trace.{Trace}
 use Rattle.run_model.specs.declared.turn_end.TurnEnd.{TurnEnd}
 use Rattle.run_model.specs.declared.turn_end.TurnEnd.TheVariants.{GoesOn}
 use Rattle.run_model.specs.Turn.{Run, serve_call, point_of, points_after, edge_records, load_record, events_after}
-use Rattle.run_model.specs.Stands.Harts.{hart_in}
-use Rattle.run_model.specs.Stands.Logs.{taken, IsLog, is_marked_next}
-use Rattle.run_model.specs.Stands.EachCache.{AreCaches, steps_in}
-use Rattle.run_model.specs.Stands.Plain.{PlainParts, IsRun, IsRaceReady, IsSwept, everyone, count_after, clears}
-use Rattle.run_model.specs.Stands.Tracing.{next_by}
-use Rattle.run_model.specs.Stands.InPlace.{ask_here}
+use Rattle.run_model.specs.Represents.Harts.{hart_in}
+use Rattle.run_model.specs.Represents.Logs.{taken, IsLog, is_marked_next}
+use Rattle.run_model.specs.Represents.EachCache.{AreCaches, steps_in}
+use Rattle.run_model.specs.Represents.Plain.{PlainParts, IsRun, IsRaceReady, IsSwept, everyone, count_after, clears}
+use Rattle.run_model.specs.Represents.Tracing.{next_by}
+use Rattle.run_model.specs.Represents.InPlace.{ask_here}
 
 -- the race log can take in the access of these words by hart k's instruction of this count, at this turn: the hart has
 -- a place in it, no count is ahead, and it is ready for the words
@@ -38,7 +38,7 @@ pub record CanNote (s : Shadow) (turn k at : ℕ) (words : Option Span) : Type 0
 
 -- from one to the other the race log took in that access: it represents the points with it
 pub record IsNoted (old new : Shadow) (turn k at : ℕ) (words : Option Span) : Type 0 where
-  pub stands : (points : List Point) → Stands points everyone old → Stands (points_after (point_of k at turn words) points) everyone new
+  pub stands : (points : List Point) → RepresentsAccesses points everyone old → RepresentsAccesses (points_after (point_of k at turn words) points) everyone new
   pub harts : harts_of new ≡ harts_of old
   pub lasting : lasting_of new ≡ lasting_of old
   pub turn_is : next_turn new ≤ turn + 1
@@ -59,7 +59,7 @@ pub record CanAccess (t : Trace) (turn k at : ℕ) (words : Span) : Type 0 where
 pub record IsAccessed (old new : Trace) (turn k at : ℕ) (words : Span) (load : Option Warm) (word : ℕ) : Type 0 where
   pub caches : (c : RawSettings) (events : ℕ → List Event) → AreCaches c old.caches events → AreCaches c new.caches (events_after GoesOn k None (Some words) events)
   pub noted : IsNoted old.shadow new.shadow turn k at (Some words)
-  pub holds : (points : List Point) (rs : List Record) → Stands points everyone old.shadow → IsLog old.log rs
+  pub holds : (points : List Point) (rs : List Record) → RepresentsAccesses points everyone old.shadow → IsLog old.log rs
       → IsLog new.log (rs ++ edge_records (point_of k at turn (Some words)) points ++ load_record load k (hart_in old.harts.items k).skipped word)
   pub harts : new.harts ≡ old.harts
   pub count : length new.caches ≡ length old.caches
