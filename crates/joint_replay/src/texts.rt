@@ -1,33 +1,12 @@
 //! The lines of a joint replay.
-ghost use Rattle.std.specs.Prelude.{◌≡◌, ◌++◌, codes, decimal, OnOk, OnErr};
-ghost use Rattle.rv_text.specs.Instructions.{hex8};
+ghost use Rattle.std.specs.Prelude.{◌≡◌, ◌++◌, OnOk, OnErr};
 ghost use Rattle.rv_text.specs.Texts.{BeginsWith};
 ghost use Rattle.joint_replay.specs.Texts.{pass_text, known_text, stepped_text};
 
 use crate::kinds::Stepped;
 use bn_base::{Addr, HartId, Ic};
-use rv_text::{RowLines, Text, write_end, write_row};
+use rv_text::{RowLines, Text, end_with_decimal, end_with_hex8, write_end, write_row};
 use std::alloc::AllocError;
-
-// A count behind a space, and the end of the line.
-fn write_count(ic: Ic, text: &mut Text) -> Result<(), AllocError>
-    ensures ok { OnOk result (text.new ≡ text.old ++ (codes " " ++ decimal ic ++ codes "\n")) }
-    ensures begins { BeginsWith text.old text.new }
-{
-    text.push_str(" ")?;
-    text.push_decimal(ic)?;
-    text.push_str("\n")
-}
-
-// The contents of a word behind a sign of equality, and the end of the line.
-fn write_contents(word: u32, text: &mut Text) -> Result<(), AllocError>
-    ensures ok { OnOk result (text.new ≡ text.old ++ (codes "=" ++ hex8 word ++ codes "\n")) }
-    ensures begins { BeginsWith text.old text.new }
-{
-    text.push_str("=")?;
-    text.push_hex8(word)?;
-    text.push_str("\n")
-}
 
 // The line of an ordering point, which may stop in the middle.
 #[tactic(auto, unfolding(crate::specs::Texts::pass_text))]
@@ -37,7 +16,7 @@ fn write_pass_parts(hart: HartId, ic: Ic, text: &mut Text) -> Result<(), AllocEr
 {
     text.push_str("pass ")?;
     text.push_decimal(u64::from(hart))?;
-    write_count(ic, text)
+    end_with_decimal(" ", ic, text)
 }
 
 // The line of an ordering point.
@@ -61,7 +40,7 @@ fn write_known_parts(addr: Addr, word: u32, text: &mut Text) -> Result<(), Alloc
 {
     text.push_str("word ")?;
     text.push_hex8(addr)?;
-    write_contents(word, text)
+    end_with_hex8("=", word, text)
 }
 
 /// Appends the line of a known word: the word `word`, and its address and contents as eight

@@ -1,12 +1,11 @@
 //! The lines of a race report.
 ghost use Rattle.std.specs.Prelude.{◌≡◌, ◌++◌, codes, OnOk, OnErr};
-ghost use Rattle.rv_text.specs.Instructions.{hex8};
 ghost use Rattle.rv_text.specs.Texts.{BeginsWith};
 ghost use Rattle.race_report.specs.Texts.{place_text, race_text, count_text};
 
 use crate::race::Race;
-use bn_base::{Addr, Row};
-use rv_text::{Text, write_row};
+use bn_base::Row;
+use rv_text::{Text, end_with_decimal, end_with_hex8, write_row};
 use std::alloc::AllocError;
 
 // A point by its hart and count, which may stop in the middle.
@@ -31,16 +30,6 @@ fn write_places(race: &Race, text: &mut Text) -> Result<(), AllocError>
     write_place(&race.second, text)
 }
 
-// A word behind a space, and the end of the line, which may stop in the middle.
-fn write_word(word: Addr, text: &mut Text) -> Result<(), AllocError>
-    ensures ok { OnOk result (text.new ≡ text.old ++ (codes " " ++ hex8 word ++ codes "\n")) }
-    ensures begins { BeginsWith text.old text.new }
-{
-    text.push_str(" ")?;
-    text.push_hex8(word)?;
-    text.push_str("\n")
-}
-
 // The lines of a race, which may stop in the middle.
 #[tactic(auto, unfolding(crate::specs::Texts::race_text))]
 fn write_race_parts(race: &Race, text: &mut Text) -> Result<(), AllocError>
@@ -48,7 +37,7 @@ fn write_race_parts(race: &Race, text: &mut Text) -> Result<(), AllocError>
     ensures begins { BeginsWith text.old text.new }
 {
     write_places(race, text)?;
-    write_word(race.word, text)?;
+    end_with_hex8(" ", race.word, text)?;
     write_row(&race.first, text)?;
     write_row(&race.second, text)
 }
@@ -73,9 +62,7 @@ fn write_count_parts(count: u64, text: &mut Text) -> Result<(), AllocError>
     ensures ok { OnOk result (text.new ≡ text.old ++ count_text count) }
     ensures begins { BeginsWith text.old text.new }
 {
-    text.push_str("races ")?;
-    text.push_decimal(count)?;
-    text.push_str("\n")
+    end_with_decimal("races ", count, text)
 }
 
 /// Appends the line of how many races there are. Where memory is wanting the text is as before.

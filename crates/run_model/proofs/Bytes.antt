@@ -1,12 +1,10 @@
 -- How many bytes records have.
-use Rattle.std.proofs.Common.{◌≡◌, ℕ, zero, suc, ◌+◌, ◌*◌, List, [], ◌∷◌, ◌++◌, length, drop, refl, ap, arith, length-append}
+use Rattle.std.proofs.Common.{◌≡◌, ℕ, zero, suc, ◌+◌, ◌*◌, List, [], ◌∷◌, ◌++◌, length, refl, arith, length-append}
 use Rattle.std.specs.List.{flat_map}
 use Rattle.le_numbers.specs.Numbers.{number_bytes}
-use Rattle.bn_base.specs.declared.end_mark.EndMark.{EndMark}
 use Rattle.bn_base.specs.Programs.{Program}
 use Rattle.bn_base.specs.declared.settings.RawSettings.{RawSettings}
 use Rattle.log_record.specs.declared.record.Record.{Record}
-use Rattle.log_record.specs.declared.record.Record.TheVariants.{Header, FirstLoad, Edge, End}
 use Rattle.log_record.specs.Spelling.{bytes_of, total}
 use Rattle.run_model.specs.Turn.{header, header_size}
 use Rattle.run_model.specs.Runs.{start_state, first_headers}
@@ -26,32 +24,3 @@ header_has c i k = refl
 pub headers_have : (c : RawSettings) (i : Program) (k n : ℕ) → total (first_headers c i k n) ≡ header_size * n
 headers_have c i k zero = refl
 headers_have c i k (suc n) = omega (arith, total_more (header k 0 (start_state c i k)) (first_headers c i (k + 1) n), header_has c i k, headers_have c i (k + 1) n)
-
--- ---- the bytes of each kind of record
-
-words_have : (xs : List ℕ) → length (flat_map (number_bytes 4) xs) ≡ 4 * length xs
-unfolding number_bytes
-words_have [] = refl
-words_have (x ∷ xs) = omega (arith, length-append (number_bytes 4 x) (flat_map (number_bytes 4) xs), word_has x, words_have xs)
-  where
-    word_has : (x : ℕ) → length (number_bytes 4 x) ≡ 4
-    word_has x = refl
-
-behind_22 : (n : ℕ) → n ≡ 124 → suc (suc (suc (suc (suc (suc (suc (suc (suc (suc (suc (suc (suc (suc (suc (suc (suc (suc (suc (suc (suc (suc (n)))))))))))))))))))))) ≡ 146
-behind_22 n e = ap (λ (n : ℕ). suc (suc (suc (suc (suc (suc (suc (suc (suc (suc (suc (suc (suc (suc (suc (suc (suc (suc (suc (suc (suc (suc (n))))))))))))))))))))))) e
-
-pub header_size_is : (h n ic pc : ℕ) (x : List ℕ) → length (drop 1 x) ≡ 31 → length (bytes_of (Header h n ic pc x)) ≡ 146
-unfolding number_bytes
-header_size_is h n ic pc x e = behind_22 (length (flat_map (number_bytes 4) (drop 1 x))) (omega (arith, words_have (drop 1 x), e))
-
-pub load_size_is : (h skip value : ℕ) → length (bytes_of (FirstLoad h skip value)) ≡ 10
-unfolding number_bytes
-load_size_is h skip value = refl
-
-pub edge_size_is : (h ic s j : ℕ) → length (bytes_of (Edge h ic s j)) ≡ 19
-unfolding number_bytes
-edge_size_is h ic s j = refl
-
-pub end_size_is : (h : ℕ) (mark : EndMark) → length (bytes_of (End h mark)) ≡ 15
-unfolding number_bytes
-end_size_is h mark = refl

@@ -2,7 +2,7 @@
 ghost use Rattle.std.specs.Prelude.{◌≡◌, ◌≤◌, ◌<◌, ◌+◌, ◌*◌, ◌^◌, ◌∷◌, ◌++◌, [], ℕ, List, length, take, IsTrue, IfOk};
 ghost use Rattle.log_record.specs.declared.record.Record.{Record};
 ghost use Rattle.log_record.specs.declared.record.Record.TheVariants.{End, FirstLoad};
-ghost use Rattle.log_record.specs.Spelling.{bytes_of, is_mark, is_marked};
+ghost use Rattle.log_record.specs.Spelling.{is_mark, is_marked};
 ghost use Rattle.log_ring.specs.Kept.{held};
 ghost use Rattle.run_model.specs.Turn.{edges_from, load_record, sc_record, header, mark, next_records};
 ghost use Rattle.run_model.specs.Represents.Logs.{taken, Took, IsLog, is_marked_next};
@@ -16,24 +16,6 @@ use log_ring::Ring;
 use race_log::Edges;
 use rv_meaning::Reply;
 use std::alloc::{AllocError, Global};
-
-// How many bytes a record has.
-fn size_of(entry: &Record) -> u64
-    ensures value { result ≡ length (bytes_of entry.now) }
-    ensures most { result ≤ 146 }
-{
-    match entry {
-        Record::Header { x, .. } => {
-            let _others = x.others();
-            146
-        }
-        Record::FirstLoad { .. } => 10,
-        Record::ScOk { .. } => 2,
-        Record::ScFailed { .. } => 2,
-        Record::Edge { .. } => 19,
-        Record::End { .. } => 15,
-    }
-}
 
 impl Log {
     /// A log that keeps up to `size` bytes of records, and took none yet. The only error is want of
@@ -56,7 +38,7 @@ impl Log {
         ensures holds { (rs : List Record) → IsLog self.old rs → IsLog self.new (rs ++ entry.now ∷ []) }
         ensures took { Took self.old 1 self.new }
     {
-        self.bytes += size_of(entry);
+        self.bytes += entry.size() as u64;
         self.ring.append(entry);
     }
 }
