@@ -145,21 +145,21 @@ MUTANTS = [
     ("Each command line is refused (2).", edit("command_words", "taken_line_refused")),
     (
         "A missing file is told as a failure of the store, and a failure as a missing file (3, 4).",
-        edit("bugnet", "a_missing_file_and_a_failed_load_are_exchanged"),
+        edit("log_commands", "a_missing_file_and_a_failed_load_are_exchanged"),
     ),
-    ("A command loads another name than its line gives (4).", edit("bugnet", "a_replay_loads_the_log_as_its_program")),
-    ("An audit names a missing program before a missing log (4).", edit("bugnet", "an_audit_loads_its_program_first")),
-    ("Each file is loaded with a limit of 0 bytes (5).", edit("bugnet", "loads_with_limit_0")),
+    ("A command loads another name than its line gives (4).", edit("log_commands", "a_replay_loads_the_log_as_its_program")),
+    ("An audit names a missing program before a missing log (4).", edit("log_commands", "an_audit_loads_its_program_first")),
+    ("Each file is loaded with a limit of 0 bytes (5).", edit("log_commands", "loads_with_limit_0")),
     ("Each program file is refused (6).", edit("elf_loader", "the_entry_of_each_program_is_outside")),
     ("Each log is refused by its digest (7).", edit("log_file", "each_digest_differs")),
-    ("Each program is taken for another than the log's (8).", edit("bugnet", "each_program_differs")),
+    ("Each program is taken for another than the log's (8).", edit("log_commands", "each_program_differs")),
     (
         "Each command ends out of memory (9). Contracts let any allocation fail.",
         case("program_cases", "a recording saves its log and its turns"),
     ),
     (
         "A recording that ends in a fault says that it met the limit, and the other way round (10, 11).",
-        edit("bugnet", "a_fault_and_a_limit_are_exchanged"),
+        edit("log_commands", "a_fault_and_a_limit_are_exchanged"),
     ),
     (
         "Each session of the debugger ends with a failed read (12).",

@@ -21,20 +21,23 @@ use Rattle.run_model.specs.declared.verdict.Verdict.TheVariants.{Agree, Differ}
 use Rattle.bus_core.specs.Bus.{Began}
 use Rattle.hart_worker.specs.Laws.{WholeRunsHaveNoError}
 use Rattle.command_words.specs.Words.{Line, RecordLine, ReplayLine, JointLine, DebugLine, ListLine, CheckLine, AuditLine, RacesLine, SliceLine, ConvertLine, SalvageLine, DemoLine}
-use Rattle.bugnet.specs.Names.{FileNames}
-use Rattle.bugnet.specs.Told.{Told}
-use Rattle.bugnet.specs.Commands.{WithFile, IsByLog, by_log}
-use Rattle.bugnet.specs.Pairs.{ByPair, pair_loaded, pair_same, pair_of}
+use Rattle.log_commands.specs.Names.{FileNames}
+use Rattle.log_commands.specs.Told.{Told}
+use Rattle.log_commands.specs.Commands.{WithFile, IsByLog, by_log}
+use Rattle.log_commands.specs.Pairs.{ByPair, pair_loaded, pair_same, pair_of}
 use Rattle.bugnet.specs.Answers.{names_in, names_by, IsAnswer}
-use Rattle.bugnet.specs.Audits.{turns_told, audited, IsAuditOf, IsAuditWith, IsAuditBy, IsAuditIn, IsAudit, Agrees}
+use Rattle.log_commands.specs.Audits.{turns_told, audited, IsAuditOf, IsAuditWith, IsAuditBy, IsAuditIn, IsAudit, Agrees}
 use Rattle.bugnet.specs.Agreements.{AuditsAgree, AuditsRun}
-use Rattle.bugnet.specs.Outside.{WithFiles}
-use Rattle.bugnet.specs.Run.{Call, Tells, StoppedEarly, SomeTold, TellsAnswer}
-use Rattle.bugnet.specs.Saves.{IsRecorded}
-use Rattle.bugnet.specs.declared.names.Role.TheVariants as role
-use Rattle.bugnet.specs.declared.refusal.Refusal.TheVariants.{ElfRefused, LogRefused, ProgramDiffers, BookRefused, FileDiffers}
-use Rattle.bugnet.proofs.Leaves.{by-file, by-input, refused-apart, free-apart}
-use Rattle.bugnet.proofs.Tells.{with-files, stopped-free, early-free}
+use Rattle.log_commands.specs.Outside.{WithFiles}
+use Rattle.log_commands.specs.Effects.{Call, Tells, SomeTold}
+use Rattle.bugnet.specs.Run.{StoppedEarly, TellsAnswer}
+use Rattle.log_commands.specs.RunEnds.{IsRecorded}
+use Rattle.log_commands.specs.declared.names.Role.TheVariants as role
+use Rattle.log_commands.specs.declared.refusal.Refusal.TheVariants.{ElfRefused, LogRefused, ProgramDiffers, BookRefused, FileDiffers}
+use Rattle.bugnet.proofs.Leaves.{by-file, by-input, free-apart}
+use Rattle.log_commands.proofs.StatusesApart.{refused-apart}
+use Rattle.log_commands.proofs.Tells.{with-files, stopped-free}
+use Rattle.bugnet.proofs.LineTells.{early-free}
 
 pub record AuditLaws : Type 0 where
   pub verdicts : VerdictsAreUnique

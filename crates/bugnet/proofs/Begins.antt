@@ -10,23 +10,26 @@ use Rattle.bn_outside.specs.Files.{Files}
 use Rattle.elf_loader.specs.Loaded.{image_of}
 use Rattle.elf_loader.specs.declared.error.ElfError.{ElfError}
 use Rattle.run_model.specs.declared.start.Start.{Start}
-use Rattle.bugnet.specs.Answers.{name_refusal, setting_refusal}
-use Rattle.bugnet.specs.Commands.{is_clash, WithFile, IsByInput, IsByProgram, IsByNames, IsBySettings, IsRecord}
-use Rattle.bugnet.specs.Names.{FileNames, name_of}
-use Rattle.bugnet.specs.Outside.{WithFiles, FetchTells, ProgramTells, GivesBy, ResultCause, CauseBy, told_of, told_of_recording}
+use Rattle.log_commands.specs.Refusals.{name_refusal}
+use Rattle.bugnet.specs.Answers.{setting_refusal}
+use Rattle.bugnet.specs.Command.Record.{is_clash, IsByProgram, IsByNames, IsBySettings, IsRecord}
+use Rattle.log_commands.specs.Commands.{WithFile, IsByInput}
+use Rattle.log_commands.specs.Names.{FileNames, name_of}
+use Rattle.log_commands.specs.Outside.{WithFiles, FetchTells, ProgramTells, GivesBy, ResultCause, CauseBy, told_of, told_of_recording}
 use Rattle.bugnet.specs.Recordings.{IsRun}
 use Rattle.bugnet.specs.Starts.{BeginsBy}
-use Rattle.bugnet.specs.Told.{Told, refused}
-use Rattle.bugnet.specs.declared.answer.Answer.{Answer}
-use Rattle.bugnet.specs.declared.answer.Answer.TheVariants.{Recorded}
-use Rattle.bugnet.specs.declared.answer.RunToTell.{RunToTell}
+use Rattle.log_commands.specs.Told.{Told, refused}
+use Rattle.log_commands.specs.declared.answer.Answer.{Answer}
+use Rattle.log_commands.specs.declared.answer.Answer.TheVariants.{Recorded}
+use Rattle.log_commands.specs.declared.answer.RunToTell.{RunToTell}
 use Rattle.bugnet.specs.declared.manner.Manner.{Manner}
-use Rattle.bugnet.specs.declared.names.Role.{Role}
-use Rattle.bugnet.specs.declared.names.Role.TheVariants.{Input}
-use Rattle.bugnet.specs.declared.refusal.Refusal.{Refusal}
-use Rattle.bugnet.specs.declared.refusal.Refusal.TheVariants.{OutOfRange, SameName}
-use Rattle.bugnet.proofs.Commanded.{with-also}
-use Rattle.bugnet.proofs.Loads.{by-bytes, made-stopped, loaded, program-refused, bad-one, none-bad}
+use Rattle.log_commands.specs.declared.names.Role.{Role}
+use Rattle.log_commands.specs.declared.names.Role.TheVariants.{Input}
+use Rattle.log_commands.specs.declared.refusal.Refusal.{Refusal}
+use Rattle.log_commands.specs.declared.refusal.Refusal.TheVariants.{OutOfRange, SameName}
+use Rattle.log_commands.proofs.Commanded.{with-also}
+use Rattle.log_commands.proofs.Loads.{by-bytes, made-stopped, loaded}
+use Rattle.bugnet.proofs.RecordLoads.{program-refused, bad-one, none-bad}
 
 -- ---- a file
 

@@ -18,7 +18,7 @@ use Rattle.run_laws.specs.Ends.{last_end}
 use Rattle.run_laws.specs.Retained.{HasEnded}
 use Rattle.hart_replay.specs.Replay.{Interval, Logged, interval_of, interval_from, puts, nothing}
 use Rattle.hart_replay.specs.Scans.{mark_in}
-use Rattle.bugnet.proofs.Marks.{mark_of_load, mark_of_ok, mark_of_failed}
+use Rattle.log_commands.proofs.Marks.{mark_of_load, mark_of_ok, mark_of_failed}
 
 abbrev Harts : Type 0
 Harts = List HartView

@@ -20,17 +20,18 @@ use Rattle.run_model.specs.Turn.{Run, turn, mark}
 use Rattle.run_laws.specs.Laws.{OwnAsksAreOrderly}
 use Rattle.run_laws.specs.Retained.{IsGuarding, HasEnded, FaultsAreKept}
 use Rattle.bugnet.specs.Answers.{names_in, IsAnswer}
-use Rattle.bugnet.specs.Commands.{WithFile, IsByLog, list_of}
+use Rattle.log_commands.specs.Commands.{WithFile, IsByLog, list_of}
 use Rattle.bugnet.specs.Crashes.{IsCrash, mark_of_crash, HasLine, ShowsCrash, CrashesAreShown}
 use Rattle.bugnet.specs.Headline.{RecordingsAreReplayed}
-use Rattle.bugnet.specs.Recordings.{marks_of, end_by, end_status}
+use Rattle.bugnet.specs.Recordings.{marks_of, end_by}
+use Rattle.log_commands.specs.RunEnds.{end_status}
 use Rattle.bugnet.specs.Saves.{Leaves}
-use Rattle.bugnet.specs.declared.answer.RunEnd.{RunEnd}
-use Rattle.bugnet.specs.declared.answer.RunEnd.TheVariants as ends
+use Rattle.log_commands.specs.declared.answer.RunEnd.{RunEnd}
+use Rattle.log_commands.specs.declared.answer.RunEnd.TheVariants as ends
 use Rattle.hart_replay.specs.Scans.{mark_in}
-use Rattle.bugnet.specs.Texts.{interval_text, record_text, list_text}
-use Rattle.bugnet.specs.Told.{Told}
-use Rattle.bugnet.specs.declared.names.Role.TheVariants as role
+use Rattle.log_commands.specs.Texts.{interval_text, record_text, list_text}
+use Rattle.log_commands.specs.Told.{Told}
+use Rattle.log_commands.specs.declared.names.Role.TheVariants as role
 use Rattle.bugnet.proofs.Closing.{Closes, closes}
 use Rattle.bugnet.proofs.Faulting.{is-crash}
 use Rattle.bugnet.proofs.Single.{Grammar}

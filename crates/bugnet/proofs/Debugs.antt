@@ -18,45 +18,44 @@ use Rattle.joint_replay.specs.declared.error.JointError.TheVariants as joint
 use Rattle.joint_replay.specs.Joining.{Joining, fresh}
 use Rattle.joint_laws.specs.Recordings.{Recording, IsLogOf, begin}
 use Rattle.back_step.specs.Traces.{Trace, at_start}
-use Rattle.step_debugger.specs.Answers.{begin_at}
-use Rattle.step_debugger.specs.Answers.{begin as session_begin}
+use Rattle.step_debugger.specs.Answers.{begin_at, begin as session_begin}
 use Rattle.step_debugger.specs.Lines.{Input, input_limit, is_line_feed, is_over, ends_in, with_line, input_from, input_of, RefusalsStay}
-use Rattle.step_debugger.specs.Transcript.{answers, lines_in, result_by, transcript, transcript_from, Debugs, CountedSession}
-use Rattle.step_debugger.specs.Transcript.{Told as Transcript}
+use Rattle.step_debugger.specs.Transcript.{answers, lines_in, result_by, transcript, transcript_from, Debugs, CountedSession, Told as Transcript}
 use Rattle.step_debugger.specs.declared.error.DebugError.{DebugError}
 use Rattle.step_debugger.specs.declared.error.DebugError.TheVariants as stop
 use Rattle.step_debugger.specs.declared.session.Ending.{Ending}
 use Rattle.step_debugger.specs.declared.session.Ending.TheVariants as ending
-use Rattle.bugnet.specs.Names.{FileNames}
-use Rattle.bugnet.specs.Refusals.{status_of}
-use Rattle.bugnet.specs.Told.{Told, refused}
-use Rattle.bugnet.specs.Commands.{Either}
-use Rattle.bugnet.specs.Joined.{joint_status, joined}
-use Rattle.bugnet.specs.Pairs.{LoadedPair, HasPair}
+use Rattle.log_commands.specs.Names.{FileNames}
+use Rattle.log_commands.specs.Refusals.{status_of}
+use Rattle.log_commands.specs.Told.{Told, refused}
+use Rattle.log_commands.specs.Commands.{Either}
+use Rattle.log_commands.specs.Joined.{joint_status, joined}
+use Rattle.log_commands.specs.Pairs.{LoadedPair, HasPair}
 use Rattle.bugnet.specs.Answers.{names_in, names_by, IsAnswer}
-use Rattle.bugnet.specs.Debugging.{ShowsRun, SessionsShowTheRun, session_of, DoneSession, ShowsSession, RecordingsCanBeDebugged, PrefixesCanBeDebugged, CanBegin, SessionIs, DebugsFiles}
-use Rattle.bugnet.specs.Debugging.{Debugs as DebugsLine}
+use Rattle.bugnet.specs.Debugging.{ShowsRun, SessionsShowTheRun, session_of, DoneSession, ShowsSession, RecordingsCanBeDebugged, PrefixesCanBeDebugged, CanBegin, SessionIs, DebugsFiles, Debugs as DebugsLine}
 use Rattle.bugnet.specs.Laws.{IsNoSession}
-use Rattle.bugnet.specs.Outside.{WithFiles, SendStops, ToldRefusal, Wrote, SameFiles, IsEarly, GivesOf, RefusalCause}
-use Rattle.bugnet.specs.Run.{Call, printing, IsFree, AreKept, SomeTold, Tells, StoppedBy, StoppedEarly, TellsAnswer}
+use Rattle.log_commands.specs.Outside.{WithFiles, SendStops, ToldRefusal, Wrote, SameFiles, IsEarly, GivesOf, RefusalCause}
+use Rattle.log_commands.specs.Effects.{Call, printing, IsFree, AreKept, SomeTold, Tells, StoppedBy}
+use Rattle.bugnet.specs.Run.{StoppedEarly, TellsAnswer}
 use Rattle.bugnet.specs.Sessions.{Commands, CanDebug, whole_input, cut, input_in, IsUnread, SessionReads, SessionOver, AreRead, stop_status, session_status, session_line, session_told, debug_with, IsSession, IsDebug, is_begun}
 use Rattle.bugnet.specs.Steps.{ToldStop, DebugsPair, DebugsNamed}
-use Rattle.bugnet.specs.declared.names.Role.TheVariants as role
-use Rattle.bugnet.specs.declared.pairs.JointReading.{JointReading}
-use Rattle.bugnet.specs.declared.refusal.Refusal.{Refusal}
-use Rattle.bugnet.specs.declared.refusal.Refusal.TheVariants.{TooLong}
-use Rattle.bugnet.specs.declared.refusal.Refusal.TheVariants as why
-use Rattle.bugnet.proofs.Causes.{Causes, caused}
+use Rattle.log_commands.specs.declared.names.Role.TheVariants as role
+use Rattle.log_commands.specs.declared.pairs.JointReading.{JointReading}
+use Rattle.log_commands.specs.declared.refusal.Refusal.{Refusal}
+use Rattle.log_commands.specs.declared.refusal.Refusal.TheVariants.{TooLong}
+use Rattle.log_commands.specs.declared.refusal.Refusal.TheVariants as why
+use Rattle.log_commands.proofs.Causes.{Causes, caused}
 use Rattle.bugnet.proofs.Complete.{session-done}
 use Rattle.bugnet.proofs.Jointly.{Limits, is-log, pair-so, are-pair}
-use Rattle.bugnet.proofs.Leaves.{told-apart}
-use Rattle.bugnet.proofs.Prints.{appends-nothing, part-none, part-whole}
+use Rattle.log_commands.proofs.StatusesApart.{told-apart}
+use Rattle.log_commands.proofs.Prints.{appends-nothing, part-none, part-whole}
 use Rattle.bugnet.proofs.SessionReads.{quits-or-all, session-reads, session-over}
 use Rattle.bugnet.proofs.Sessions.{no-quit}
 use Rattle.bugnet.proofs.Single.{Grammar, one-session}
 use Rattle.bugnet.proofs.Suffices.{FileLaws, then-so}
 use Rattle.bugnet.proofs.Whole.{whole-done}
-use Rattle.bugnet.proofs.Tells.{with-files, refused-told, stopped-told, stopped-free, early-free, same-files, untouched, with-any}
+use Rattle.log_commands.proofs.Tells.{with-files, refused-told, stopped-told, stopped-free, same-files, untouched, with-any}
+use Rattle.bugnet.proofs.LineTells.{early-free}
 
 -- ---- the status by the end of a session
 

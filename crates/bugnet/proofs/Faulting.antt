@@ -27,7 +27,7 @@ use Rattle.run_laws.specs.Laws.{OwnAsksAreOrderly}
 use Rattle.bus_core.specs.Bus.{marks}
 use Rattle.bugnet.specs.Crashes.{IsCrash}
 use Rattle.bugnet.specs.Recordings.{marks_of, is_fault, is_limit, end_by}
-use Rattle.bugnet.specs.declared.answer.RunEnd.TheVariants as ends
+use Rattle.log_commands.specs.declared.answer.RunEnd.TheVariants as ends
 
 not_both : {P : Type 0} → true ≡ false → P
 not_both e = absurd cc

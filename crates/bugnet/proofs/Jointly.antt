@@ -23,23 +23,25 @@ use Rattle.joint_replay.specs.Texts.{joint_text}
 use Rattle.run_model.specs.Files.{file_of}
 use Rattle.joint_laws.specs.Recordings.{Recording, IsRecorded, IsLogOf, begin}
 use Rattle.joint_laws.specs.Laws.{SaysTheRun, JointReplaysSayTheRun}
-use Rattle.bugnet.specs.Names.{FileNames}
-use Rattle.bugnet.specs.Told.{Told, refused, printed}
-use Rattle.bugnet.specs.Commands.{Either, WithFile, IsByLog}
-use Rattle.bugnet.specs.Joined.{joint_status, joint_line, ran_told, joint_with, IsJoint}
-use Rattle.bugnet.specs.Pairs.{ByPair, pair_loaded, pair_same, pair_of, IsPairOf, IsPair, HoldsLog, ArePair}
+use Rattle.log_commands.specs.Names.{FileNames}
+use Rattle.log_commands.specs.Told.{Told, refused, printed}
+use Rattle.log_commands.specs.Commands.{Either, WithFile, IsByLog}
+use Rattle.log_commands.specs.Joined.{joint_status, joint_line, ran_told, joint_with, IsJoint}
+use Rattle.log_commands.specs.Pairs.{ByPair, pair_loaded, pair_same, pair_of, IsPairOf, IsPair, HoldsLog, ArePair}
 use Rattle.bugnet.specs.Answers.{names_in, names_by, IsAnswer}
 use Rattle.bugnet.specs.Jointly.{HasRun, JoinsRun, TellsRun, IsJoined, JointHeadline, RecordingsCanBeJoined, recording_of, RecordingsAreJoined, DoneJointly, PrintsJointly}
 use Rattle.bugnet.specs.Debugging.{ConvertedHaveTheirLimit}
-use Rattle.bugnet.specs.Outside.{WithFiles}
-use Rattle.bugnet.specs.Run.{Call, IsFree, SomeTold, Tells, StoppedEarly, TellsAnswer}
-use Rattle.bugnet.specs.declared.names.Role.TheVariants as role
-use Rattle.bugnet.specs.declared.refusal.Refusal.TheVariants.{TooLong}
-use Rattle.bugnet.proofs.Loads.{fits, of_false}
+use Rattle.log_commands.specs.Outside.{WithFiles}
+use Rattle.log_commands.specs.Effects.{Call, IsFree, SomeTold, Tells}
+use Rattle.bugnet.specs.Run.{StoppedEarly, TellsAnswer}
+use Rattle.log_commands.specs.declared.names.Role.TheVariants as role
+use Rattle.log_commands.specs.declared.refusal.Refusal.TheVariants.{TooLong}
+use Rattle.log_commands.proofs.Loads.{fits, of_false}
 use Rattle.bugnet.proofs.Single.{Grammar}
 use Rattle.run_laws.specs.Laws.{KeptIsAnEnd}
 use Rattle.bugnet.proofs.Suffices.{FileLaws, Sizes, read-size, by-file, by-size, then-so, same, by-content, saved-end}
-use Rattle.bugnet.proofs.Tells.{with-files, stopped-free, early-free}
+use Rattle.log_commands.proofs.Tells.{with-files, stopped-free}
+use Rattle.bugnet.proofs.LineTells.{early-free}
 
 -- ---- the log
 

@@ -6,8 +6,7 @@ use Rattle.joint_replay.specs.Joining.{Joining}
 use Rattle.back_step.specs.Traces.{Trace, at_start}
 use Rattle.step_debugger.specs.Answers.{begin_at}
 use Rattle.step_debugger.specs.Lines.{Input, input_of}
-use Rattle.step_debugger.specs.Transcript.{answers, lines_in, result_by, transcript_from, EndsThere, EndsAll, Debugs, IsReadOnce, CountedSession}
-use Rattle.step_debugger.specs.Transcript.{StopsAtLine, StopsAtEnd, StopsInLine, EndsWithLine as LineEnds, ReadsUpTo as UpTo}
+use Rattle.step_debugger.specs.Transcript.{answers, lines_in, result_by, transcript_from, EndsThere, EndsAll, Debugs, IsReadOnce, CountedSession, StopsAtLine, StopsAtEnd, StopsInLine, EndsWithLine as LineEnds, ReadsUpTo as UpTo}
 use Rattle.step_debugger.specs.declared.error.DebugError.{DebugError}
 use Rattle.step_debugger.specs.declared.error.DebugError.TheVariants as stop
 use Rattle.step_debugger.specs.declared.session.Ending.{Ending}

@@ -22,8 +22,7 @@ use Rattle.joint_laws.specs.Laws.{GoesOn, IsNotRefused, ReachedSayTheRun}
 use Rattle.back_step.specs.declared.entry.Entry.{Entry}
 use Rattle.back_step.specs.Traces.{entry_of, harts_of, Trace, at_start, with_entry, trace_step, cut}
 use Rattle.step_debugger.specs.declared.stop.Stop.{Stop}
-use Rattle.step_debugger.specs.Answers.{Moves, Session, Answer, hart_text, address_text, word_text, registers_text, places_from, break_limit, is_set, stop_unless, step_by, step_up_to, go_past, go_by, go_for, go_on, back_by, stop_below, back_to, back_to_stop, says, moved, unknown, answer}
-use Rattle.step_debugger.specs.Answers.{begin as session_begin}
+use Rattle.step_debugger.specs.Answers.{Moves, Session, Answer, hart_text, address_text, word_text, registers_text, places_from, break_limit, is_set, stop_unless, step_by, step_up_to, go_past, go_by, go_for, go_on, back_by, stop_below, back_to, back_to_stop, says, moved, unknown, answer, begin as session_begin}
 use Rattle.step_debugger.specs.Commands.{command_of}
 use Rattle.step_debugger.specs.Transcript.{goes_on_by, answers}
 use Rattle.step_debugger.specs.declared.command.DebugCommand.{DebugCommand}

@@ -29,19 +29,21 @@ use Rattle.run_laws.specs.Laws.{KeptIsAnEnd}
 use Rattle.replay_laws.specs.Law.{EndsSuffice, RowsStandTogether}
 use Rattle.file_laws.specs.Given.{IsRecording}
 use Rattle.file_laws.specs.Laws.{LogsAreContents}
-use Rattle.bugnet.specs.Names.{FileNames}
-use Rattle.bugnet.specs.Told.{Told, refused, printed}
-use Rattle.bugnet.specs.Commands.{Either, IsByFile, WithFile, by_log, IsByLog, replay_same, replay_loaded, replay_found, replay_of, interval_told, ended, IsReplayOf, IsReplay}
+use Rattle.log_commands.specs.Names.{FileNames}
+use Rattle.log_commands.specs.Told.{Told, refused, printed}
+use Rattle.log_commands.specs.Commands.{Either, IsByFile, WithFile, by_log, IsByLog, replay_same, replay_loaded, replay_found, replay_of, interval_told, ended, IsReplayOf, IsReplay}
 use Rattle.bugnet.specs.Answers.{names_in, names_by, IsAnswer}
 use Rattle.bugnet.specs.Headline.{Part, interval_rows, run_text, SaysEnd, ReplaysRun, IsReplayed, Headline, part_of, RecordingsAreReplayed, RecordingsSayEnds, PrintsRun}
-use Rattle.bugnet.specs.Outside.{WithFiles}
-use Rattle.bugnet.specs.Run.{Call, IsFree, SomeTold, Tells, StoppedEarly, TellsAnswer}
-use Rattle.bugnet.specs.declared.names.Role.{Role}
-use Rattle.bugnet.specs.declared.names.Role.TheVariants as role
-use Rattle.bugnet.specs.declared.refusal.Refusal.TheVariants.{TooLong}
-use Rattle.bugnet.proofs.Loads.{fits, of_false}
+use Rattle.log_commands.specs.Outside.{WithFiles}
+use Rattle.log_commands.specs.Effects.{Call, IsFree, SomeTold, Tells}
+use Rattle.bugnet.specs.Run.{StoppedEarly, TellsAnswer}
+use Rattle.log_commands.specs.declared.names.Role.{Role}
+use Rattle.log_commands.specs.declared.names.Role.TheVariants as role
+use Rattle.log_commands.specs.declared.refusal.Refusal.TheVariants.{TooLong}
+use Rattle.log_commands.proofs.Loads.{fits, of_false}
 use Rattle.bugnet.proofs.Single.{Grammar}
-use Rattle.bugnet.proofs.Tells.{with-files, stopped-free, early-free}
+use Rattle.log_commands.proofs.Tells.{with-files, stopped-free}
+use Rattle.bugnet.proofs.LineTells.{early-free}
 
 -- ---- the log file
 

@@ -16,16 +16,16 @@ use Rattle.race_report.specs.declared.race.Race.{Race}
 use Rattle.report_laws.specs.Laws.{SayTheRun, RacesSayTheRun}
 use Rattle.slice_back.specs.Slices.{slice_in}
 use Rattle.slice_back.specs.Texts.{text_of}
-use Rattle.bugnet.specs.Names.{FileNames}
-use Rattle.bugnet.specs.Told.{Told, refused}
-use Rattle.bugnet.specs.Commands.{Either}
-use Rattle.bugnet.specs.declared.names.Role.TheVariants as role
-use Rattle.bugnet.specs.declared.refusal.Refusal.TheVariants.{TooLong}
+use Rattle.log_commands.specs.Names.{FileNames}
+use Rattle.log_commands.specs.Told.{Told, refused}
+use Rattle.log_commands.specs.Commands.{Either}
+use Rattle.log_commands.specs.declared.names.Role.TheVariants as role
+use Rattle.log_commands.specs.declared.refusal.Refusal.TheVariants.{TooLong}
 use Rattle.command_words.specs.Words.{RacesLine, SliceLine}
 use Rattle.bugnet.specs.Answers.{names_in}
 use Rattle.bugnet.specs.Jointly.{joint_run}
-use Rattle.bugnet.specs.Racing.{races_listed, races_unless, races_in, races_with}
-use Rattle.bugnet.specs.Slicing.{slice_told, slice_with}
+use Rattle.log_commands.specs.Racing.{races_listed, races_unless, races_in, races_with}
+use Rattle.log_commands.specs.Slicing.{slice_told, slice_with}
 use Rattle.bugnet.specs.Traced.{races_kept, RacesAreTold, ListsRaces, PrintedRacesSayTheRun, slice_kept, SlicesAreTold}
 use Rattle.bugnet.proofs.Jointly.{Limits, is-log, pair-so}
 use Rattle.bugnet.proofs.Single.{Grammar}

@@ -22,9 +22,9 @@ use Rattle.step_debugger.specs.declared.error.DebugError.{DebugError}
 use Rattle.step_debugger.specs.declared.error.DebugError.TheVariants as stop
 use Rattle.step_debugger.specs.declared.session.Ending.{Ending}
 use Rattle.step_debugger.specs.declared.session.Ending.TheVariants as ending
-use Rattle.bugnet.specs.Joined.{joined}
-use Rattle.bugnet.specs.Pairs.{HoldsLog, ArePair, LoadedPair}
-use Rattle.bugnet.specs.Run.{IsFree}
+use Rattle.log_commands.specs.Joined.{joined}
+use Rattle.log_commands.specs.Pairs.{HoldsLog, ArePair, LoadedPair}
+use Rattle.log_commands.specs.Effects.{IsFree}
 use Rattle.bugnet.specs.Sessions.{EndsBy, SessionOver, CanDebug, whole_input}
 use Rattle.bugnet.proofs.Single.{Grammar}
 use Rattle.bugnet.proofs.Suffices.{FileLaws}

@@ -2,9 +2,9 @@
 use Rattle.std.specs.Prelude.{◌≡◌, ℕ, List, Option, Some, None}
 use Rattle.bn_outside.specs.Files.{Files}
 use Rattle.command_words.specs.Words.{Line, RecordLine, ReplayLine, JointLine, DebugLine, ListLine, CheckLine, AuditLine, RacesLine, SliceLine, ConvertLine, SalvageLine, DemoLine}
-use Rattle.bugnet.specs.Told.{Told}
+use Rattle.log_commands.specs.Told.{Told}
 use Rattle.bugnet.specs.Answers.{IsAnswer}
-use Rattle.bugnet.specs.Audits.{Agrees}
+use Rattle.log_commands.specs.Audits.{Agrees}
 
 -- the log is the file of the run of the book's turns, in its own version or in version 2
 abbrev pub AuditsAgree : Type 0

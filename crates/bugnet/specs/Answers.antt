@@ -1,23 +1,25 @@
 -- What the program answers to its words.
-use Rattle.std.specs.Prelude.{◌≡◌, [], Bool, true, false, Option, Some, None, is_some, unwrap_or}
+use Rattle.std.specs.Prelude.{◌≡◌, [], Bool, Option, Some, None, is_some, unwrap_or}
 use Rattle.std.specs.Str.{bytes_eq}
 use Rattle.bn_base.specs.Ranges.{first_bad}
 use Rattle.bn_base.specs.declared.settings.BadSetting.{BadSetting}
 use Rattle.bn_outside.specs.Files.{Files}
 use Rattle.command_words.specs.Words.{Line, RecordingLine, RecordLine, ReplayLine, JointLine, DebugLine, ListLine, CheckLine, AuditLine, RacesLine, SliceLine, ConvertLine, SalvageLine, DemoLine}
-use Rattle.bugnet.specs.Names.{FileNames, no_names}
+use Rattle.log_commands.specs.Names.{FileNames, no_names}
 use Rattle.demo_run.specs.Demonstration.{demo_text}
-use Rattle.bugnet.specs.Told.{Told, refused, printed}
-use Rattle.bugnet.specs.Commands.{is_clash, IsRecord, IsReplay, IsList, IsCheck}
+use Rattle.log_commands.specs.Told.{Told, refused, printed}
+use Rattle.bugnet.specs.Command.Record.{is_clash, IsRecord}
+use Rattle.log_commands.specs.Commands.{IsReplay, IsList, IsCheck}
 use Rattle.bugnet.specs.declared.manner.Manner.{Manner}
-use Rattle.bugnet.specs.Joined.{IsJoint}
-use Rattle.bugnet.specs.Racing.{IsRaces}
-use Rattle.bugnet.specs.Slicing.{IsSlice}
+use Rattle.log_commands.specs.Joined.{IsJoint}
+use Rattle.log_commands.specs.Racing.{IsRaces}
+use Rattle.log_commands.specs.Slicing.{IsSlice}
 use Rattle.bugnet.specs.Sessions.{IsDebug}
-use Rattle.bugnet.specs.Audits.{IsAudit}
-use Rattle.bugnet.specs.Renewing.{IsConvert, IsSalvage}
-use Rattle.bugnet.specs.declared.refusal.Refusal.{Refusal}
-use Rattle.bugnet.specs.declared.refusal.Refusal.TheVariants.{WordsRefused, OutOfRange, SameName}
+use Rattle.log_commands.specs.Audits.{IsAudit}
+use Rattle.log_commands.specs.Renewing.{IsConvert, IsSalvage}
+use Rattle.log_commands.specs.declared.refusal.Refusal.{Refusal}
+use Rattle.log_commands.specs.declared.refusal.Refusal.TheVariants.{WordsRefused, OutOfRange}
+use Rattle.log_commands.specs.Refusals.{name_refusal}
 
 -- the names of the files of a line
 abbrev pub names_in : Line → FileNames
@@ -41,12 +43,6 @@ names_by (Some line) = names_in line
 -- how a line records
 abbrev pub manner_of : RecordingLine → Manner
 manner_of r = record { seed = r.seed; lean = r.lean }
-
--- what the words alone refuse, in the order of the tests: a setting, and then LOG and BOOK under one name, if both are saved; or
--- LOG and NEW under one name
-abbrev pub name_refusal : Bool → Option Refusal
-name_refusal true = Some SameName
-name_refusal false = None
 
 abbrev pub setting_refusal : Option BadSetting → Bool → Option Refusal
 setting_refusal (Some bad) same = Some (OutOfRange bad)

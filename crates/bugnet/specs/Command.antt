@@ -1,2 +1,2 @@
--- What each command is: the files that it loads, and what it comes to by their bytes.
-pub mod Audit
+-- What each command is that a log isn't enough for.
+pub mod Record

@@ -9,18 +9,20 @@ use Rattle.log_order.specs.Content.{Content, IsContent}
 use Rattle.log_file.specs.Layout.{file_bytes2}
 use Rattle.elf_loader.specs.Loaded.{image_of}
 use Rattle.hart_replay.specs.Replay.{Interval}
-use Rattle.bugnet.specs.Told.{Told}
-use Rattle.bugnet.specs.Commands.{is_clash}
+use Rattle.log_commands.specs.Told.{Told}
+use Rattle.bugnet.specs.Command.Record.{is_clash}
 use Rattle.le_numbers.specs.Numbers.{AreBytes}
-use Rattle.bugnet.specs.Audits.{Agrees}
-use Rattle.bugnet.specs.Pairs.{HoldsLog}
-use Rattle.bugnet.specs.Joined.{CanJoin}
-use Rattle.bugnet.specs.Racing.{CanRace}
-use Rattle.bugnet.specs.Slicing.{CanSlice}
+use Rattle.log_commands.specs.Audits.{Agrees}
+use Rattle.log_commands.specs.Pairs.{HoldsLog}
+use Rattle.log_commands.specs.Joined.{CanJoin}
+use Rattle.log_commands.specs.Racing.{CanRace}
+use Rattle.log_commands.specs.Slicing.{CanSlice}
 use Rattle.bugnet.specs.Answers.{IsAnswer}
 use Rattle.bugnet.specs.Headline.{Part, ReplaysRun}
-use Rattle.bugnet.specs.Run.{IsFree}
-use Rattle.bugnet.specs.Saves.{IsRecorded, input_by, HoldsBytes}
+use Rattle.log_commands.specs.Effects.{IsFree}
+use Rattle.log_commands.specs.RunEnds.{IsRecorded}
+use Rattle.log_commands.specs.Inputs.{input_by}
+use Rattle.bugnet.specs.Saves.{HoldsBytes}
 
 -- ---- answers
 

@@ -15,8 +15,8 @@ use Rattle.rv_meaning.specs.declared.asks.Want.TheVariants.{Faulted}
 use Rattle.bugnet.specs.Answers.{IsAnswer}
 use Rattle.bugnet.specs.Headline.{run_text, part_of}
 use Rattle.bugnet.specs.Saves.{Leaves, TellsEnd}
-use Rattle.bugnet.specs.Texts.{interval_text}
-use Rattle.bugnet.specs.Told.{Told, printed}
+use Rattle.log_commands.specs.Texts.{interval_text}
+use Rattle.log_commands.specs.Told.{Told, printed}
 
 -- the last turn of a run is a fault: of this hart, of this kind and with this value
 pub record IsCrash (c : RawSettings) (i : Program) (input turns : List ℕ) : Type 0 where

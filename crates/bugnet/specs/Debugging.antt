@@ -11,20 +11,19 @@ use Rattle.joint_replay.specs.declared.error.JointError.{JointError}
 use Rattle.joint_replay.specs.Joining.{Walk}
 use Rattle.joint_laws.specs.Recordings.{Recording, IsLogOf, begin}
 use Rattle.joint_laws.specs.Laws.{SaysSoFar}
-use Rattle.step_debugger.specs.Answers.{Answer}
-use Rattle.step_debugger.specs.Answers.{begin as session_begin}
+use Rattle.step_debugger.specs.Answers.{Answer, begin as session_begin}
 use Rattle.step_debugger.specs.Lines.{input_of}
-use Rattle.step_debugger.specs.Transcript.{answers, transcript}
-use Rattle.step_debugger.specs.Transcript.{Told as Transcript}
+use Rattle.step_debugger.specs.Transcript.{answers, transcript, Told as Transcript}
 use Rattle.step_debugger.specs.declared.error.DebugError.TheVariants.{Joint}
 use Rattle.step_debugger.specs.declared.session.Ending.TheVariants.{Refused}
-use Rattle.bugnet.specs.Commands.{Either}
-use Rattle.bugnet.specs.Outside.{WithFiles}
+use Rattle.log_commands.specs.Commands.{Either}
+use Rattle.log_commands.specs.Outside.{WithFiles}
 use Rattle.bugnet.specs.Answers.{names_in}
 use Rattle.bugnet.specs.Jointly.{HasRun}
-use Rattle.bugnet.specs.Run.{Call, IsFree, SomeTold, Tells, StoppedEarly}
-use Rattle.bugnet.specs.Joined.{joined}
-use Rattle.bugnet.specs.Pairs.{LoadedPair, HasPair}
+use Rattle.log_commands.specs.Effects.{Call, IsFree, SomeTold, Tells}
+use Rattle.bugnet.specs.Run.{StoppedEarly}
+use Rattle.log_commands.specs.Joined.{joined}
+use Rattle.log_commands.specs.Pairs.{LoadedPair, HasPair}
 use Rattle.bugnet.specs.Sessions.{Commands, AreRead, IsUnread, SessionOver, whole_input, input_in, session_status, IsSession, CanDebug}
 
 -- ---- a recording

@@ -17,14 +17,14 @@ use Rattle.replay_laws.specs.Law.{end_of}
 use Rattle.run_model.specs.Runs.{start, run_of}
 use Rattle.file_laws.specs.Given.{IsRecording}
 use Rattle.rv_text.specs.Marks.{end_text}
-use Rattle.bugnet.specs.Texts.{begin_text, rows_text}
-use Rattle.bugnet.specs.Told.{Told, refused, printed}
-use Rattle.bugnet.specs.Commands.{Either}
+use Rattle.log_commands.specs.Texts.{begin_text, rows_text}
+use Rattle.log_commands.specs.Told.{Told, refused, printed}
+use Rattle.log_commands.specs.Commands.{Either}
 use Rattle.bugnet.specs.Answers.{names_by, IsAnswer}
-use Rattle.bugnet.specs.Run.{IsFree}
+use Rattle.log_commands.specs.Effects.{IsFree}
 use Rattle.bugnet.specs.Saves.{Leaves}
-use Rattle.bugnet.specs.declared.names.Role.TheVariants as role
-use Rattle.bugnet.specs.declared.refusal.Refusal.TheVariants.{TooLong}
+use Rattle.log_commands.specs.declared.names.Role.TheVariants as role
+use Rattle.log_commands.specs.declared.refusal.Refusal.TheVariants.{TooLong}
 
 -- an interval of a run: the settings, the program file and its program, the input, the list of turns, the hart and number
 pub record Part : Type 0 where

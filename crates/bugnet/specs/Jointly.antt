@@ -8,15 +8,15 @@ use Rattle.joint_replay.specs.Texts.{joint_text}
 use Rattle.log_record.specs.declared.record.Record.{Record}
 use Rattle.joint_laws.specs.Recordings.{Recording, IsRecorded, kept, begin}
 use Rattle.joint_laws.specs.Laws.{SaysTheRun}
-use Rattle.bugnet.specs.Told.{Told, refused, printed}
-use Rattle.bugnet.specs.Commands.{Either}
-use Rattle.bugnet.specs.Joined.{CanJoin}
+use Rattle.log_commands.specs.Told.{Told, refused, printed}
+use Rattle.log_commands.specs.Commands.{Either}
+use Rattle.log_commands.specs.Joined.{CanJoin}
 use Rattle.bugnet.specs.Answers.{names_by, IsAnswer}
 use Rattle.bugnet.specs.Headline.{SaysEnd}
-use Rattle.bugnet.specs.Run.{IsFree}
+use Rattle.log_commands.specs.Effects.{IsFree}
 use Rattle.bugnet.specs.Saves.{Leaves}
-use Rattle.bugnet.specs.declared.names.Role.TheVariants as role
-use Rattle.bugnet.specs.declared.refusal.Refusal.TheVariants.{TooLong}
+use Rattle.log_commands.specs.declared.names.Role.TheVariants as role
+use Rattle.log_commands.specs.declared.refusal.Refusal.TheVariants.{TooLong}
 
 -- the joint replay of a recording's records, the lowest ready hart first
 abbrev pub joint_run : Recording → List Record → Ran

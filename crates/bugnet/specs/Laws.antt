@@ -10,9 +10,9 @@ use Rattle.run_model.specs.Files.{content_of}
 use Rattle.run_model.specs.Runs.{run_of, seeded}
 use Rattle.replay_laws.specs.Law.{IsWhole}
 use Rattle.file_laws.specs.Given.{IsRecording}
-use Rattle.bugnet.specs.Names.{FileNames}
+use Rattle.log_commands.specs.Names.{FileNames}
 use Rattle.bugnet.specs.Sessions.{Commands, IsSession}
-use Rattle.bugnet.specs.Told.{Told, Saved}
+use Rattle.log_commands.specs.Told.{Told, Saved}
 use Rattle.bugnet.specs.Answers.{IsAnswer}
 use Rattle.bugnet.specs.Saves.{IsWithin}
 

@@ -1,144 +1,20 @@
--- What a whole call of the program does.
-use Rattle.std.specs.Prelude.{◌≡◌, ◌≢◌, ◌≤◌, ◌⊎◌, ℕ, List, [], Option, Some, None}
-use Rattle.std.specs.Io.KnownBytes.{Appends}
-use Rattle.bn_outside.specs.Counts.{Counts, Rose}
+-- What a whole call of the program does, by its line.
+use Rattle.std.specs.Prelude.{◌⊎◌, ℕ, Option}
 use Rattle.bn_outside.specs.Files.{Files, WhereTold}
-use Rattle.bn_outside.specs.Streams.{AppendsPart, AppendsShort}
 use Rattle.command_words.specs.Words.{Line}
-use Rattle.bugnet.specs.Names.{FileNames}
-use Rattle.bugnet.specs.Told.{Told, Saved}
 use Rattle.bugnet.specs.Answers.{names_by, refusal_by, IsAnswer}
-use Rattle.bugnet.specs.Outside.{WithFiles, Wrote, SendStops, ToldRefusal, IsEarly, SameFiles, KeptFiles, MayChange, Unsaved}
-use Rattle.bugnet.specs.declared.refusal.Refusal.{Refusal}
-use Rattle.bugnet.specs.declared.refusal.Refusal.TheVariants as why
-
--- ---- what is around a call
-
--- what a store, out and err tell: the files, how often the store failed, and what each stream was given and how often a
--- write to it failed
-pub record Outside : Type 0 where
-  pub files : Option Files
-  pub counts : Counts
-  pub out : Option (List ℕ)
-  pub out_faults : ℕ
-  pub err : Option (List ℕ)
-  pub err_faults : ℕ
-
--- that before a call and after it
-pub record Call : Type 0 where
-  pub old : Outside
-  pub new : Outside
-
-abbrev pub call : {S O X : Type 0} → (S → Option Files) → (S → Counts) → (O → Option (List ℕ)) → (O → ℕ) → (X → Option (List ℕ)) → (X → ℕ)
-    → S → O → X → S → O → X → Call
-call files counts out out_faults err err_faults s o e t p f = record {
-  old = record { files = files s; counts = counts s; out = out o; out_faults = out_faults o; err = err e; err_faults = err_faults e };
-  new = record { files = files t; counts = counts t; out = out p; out_faults = out_faults p; err = err f; err_faults = err_faults f };
-}
-
--- a call that leaves a store alone
-abbrev pub printing : {O X : Type 0} → Option Files → Counts → (O → Option (List ℕ)) → (O → ℕ) → (X → Option (List ℕ)) → (X → ℕ) → O → X → O → X → Call
-printing files counts out out_faults err err_faults o e p f = record {
-  old = record { files = files; counts = counts; out = out o; out_faults = out_faults o; err = err e; err_faults = err_faults e };
-  new = record { files = files; counts = counts; out = out p; out_faults = out_faults p; err = err f; err_faults = err_faults f };
-}
-
--- ---- the statuses
-
--- those that neither words nor files explain: the store failed, memory ran out, a write failed
-abbrev pub IsFree : ℕ → Type 0
-IsFree status = (status ≡ 3) ⊎ ((status ≡ 9) ⊎ (status ≡ 13))
-
--- those at which something may not be saved: the store failed, memory ran out
-abbrev pub IsUnsaved : ℕ → Type 0
-IsUnsaved status = (status ≡ 3) ⊎ (status ≡ 9)
-
--- ---- a command that has its answer
-
--- err has all that a recording writes. Of the line of a refusal a front may be written, if a write failed
-abbrev pub ErrHas : Option Saved → Option (List ℕ) → Option (List ℕ) → (before now : ℕ) → List ℕ → Type 0
-ErrHas (Some saved) old new before now text = Appends old new text
-ErrHas None old new before now text = Wrote old new before now text
-
--- what was to be saved is saved, and nothing else
-abbrev pub AreKept : FileNames → Told → Call → Type 0
-AreKept names what k = WhereTold k.old.files k.new.files (KeptFiles what.saved names.log names.book)
-
--- all of what is told is done
-pub record Done (names : FileNames) (what : Told) (status : ℕ) (k : Call) : Type 0 where
-  pub status_is : status ≡ what.status
-  pub out : Appends k.old.out k.new.out what.out
-  pub err : ErrHas what.saved k.old.err k.new.err k.old.err_faults k.new.err_faults what.err
-  pub files : AreKept names what k
-
--- a save was refused: nothing is printed
-pub record SavingStopped (names : FileNames) (what : Told) (refusal : Refusal) (k : Call) : Type 0 where
-  pub out : Appends k.old.out k.new.out []
-  pub files : Unsaved what.saved names k.old.files k.new.files k.old.counts k.new.counts refusal
-
--- sending to out stopped, by running out of memory or by a write: out has a prefix of its text
-pub record OutStopped (names : FileNames) (what : Told) (refusal : Refusal) (k : Call) : Type 0 where
-  pub out : AppendsPart k.old.out k.new.out what.out
-  pub cause : SendStops k.old.out_faults k.new.out_faults refusal
-  pub files : AreKept names what k
-
--- what a recording writes to err
-abbrev pub own_err : Told → List ℕ
-own_err what = elim what.saved [ None ↦ [] | Some saved ↦ what.err ]
-
--- a write of a recording's text to err failed: a prefix of it is there, and not all
-pub record ErrStopped (names : FileNames) (what : Told) (refusal : Refusal) (k : Call) (mid : Option (List ℕ)) (faults : ℕ) : Type 0 where
-  pub refusal_is : refusal ≡ why.WriteFailed
-  pub out : Appends k.old.out k.new.out what.out
-  pub err : AppendsShort k.old.err mid (own_err what)
-  pub cause : Rose k.old.err_faults faults
-  pub files : AreKept names what k
-
--- err is as it was
-pub record ErrWaits (k : Call) (mid : Option (List ℕ)) (faults : ℕ) : Type 0 where
-  pub text : mid ≡ k.old.err
-  pub count : faults ≡ k.old.err_faults
-
--- it was stopped by the store, by running out of memory or by a write, and after that err has the refusal's line
-pub record Stopped (names : FileNames) (what : Told) (status : ℕ) (k : Call) : Type 0 where
-  pub refusal : Refusal
-  pub mid : Option (List ℕ)
-  pub faults : ℕ
-  pub later : k.old.err_faults ≤ faults
-  pub place : ErrWaits k mid faults × (SavingStopped names what refusal k ⊎ OutStopped names what refusal k) ⊎ ErrStopped names what refusal k mid faults
-  pub line : ToldRefusal names refusal status mid k.new.err faults k.new.err_faults
-
--- what is told is done, or it was stopped
-abbrev pub Tells : FileNames → Told → ℕ → Call → Type 0
-Tells names what status k = Done names what status k ⊎ Stopped names what status k
+use Rattle.log_commands.specs.Outside.{WithFiles, SameFiles, KeptFiles, MayChange}
+use Rattle.log_commands.specs.Effects.{Call, IsByWords, IsUnsaved, SomeTold, StoppedBy, Tells}
 
 -- ---- any command
-
--- it was stopped by the store or by running out of memory before there was an answer: out has nothing new, err the refusal's line,
--- and the files are as they were
-pub record StoppedBy (names : FileNames) (Is : Files → Told → Type 0) (files : Files) (status : ℕ) (k : Call) : Type 0 where
-  pub refusal : Refusal
-  pub early : IsEarly names Is files refusal
-  pub out : Appends k.old.out k.new.out []
-  pub same : k.new.files ≡ k.old.files
-  pub told : ToldRefusal names refusal status k.old.err k.new.err k.old.err_faults k.new.err_faults
 
 -- so it is with the answer that words have
 abbrev pub StoppedEarly : Option Line → Files → ℕ → Call → Type 0
 StoppedEarly line files status k = StoppedBy (names_by line) (λ files. IsAnswer line files) files status k
 
--- there is such an answer, of which this holds
-abbrev pub SomeTold : (Told → Type 0) → (Told → Type 0) → Type 0
-SomeTold Is Also = (what : Told) × Is what × Also what
-
 -- by the files that are there it tells what it has to answer, or was stopped before there was an answer
 abbrev pub TellsAnswer : Option Line → ℕ → Call → Type 0
 TellsAnswer line status k = WithFiles k.old.files (λ files. SomeTold (IsAnswer line files) (λ what. Tells (names_by line) what status k) ⊎ StoppedEarly line files status k)
-
--- a refusal by the words alone is told, and nothing is printed; without one the status isn't 2
-abbrev pub IsByWords : Option Refusal → FileNames → ℕ → Call → Type 0
-IsByWords None names status k = status ≢ 2
-IsByWords (Some refusal) names status k = Appends k.old.out k.new.out [] × ToldRefusal names refusal status k.old.err k.new.err k.old.err_faults k.new.err_faults
 
 -- a command that its words alone refuse is told so, whatever the files are, and no other has that status
 abbrev pub ByWords : Option Line → ℕ → Call → Type 0

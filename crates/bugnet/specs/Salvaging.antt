@@ -15,7 +15,7 @@ use Rattle.run_model.specs.Runs.{run_of}
 use Rattle.file_laws.specs.Given.{IsRecording}
 use Rattle.bugnet.specs.Answers.{IsAnswer}
 use Rattle.bugnet.specs.Headline.{Part, run_text, SaysEnd}
-use Rattle.bugnet.specs.Told.{Told, printed}
+use Rattle.log_commands.specs.Told.{Told, printed}
 
 -- a log is salvaged of these bytes, and what is undamaged of them is a recording's: the head, and at the end some of its
 -- blocks, all from some one on

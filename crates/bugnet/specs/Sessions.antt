@@ -11,18 +11,17 @@ use Rattle.back_step.specs.Traces.{at_start}
 use Rattle.joint_replay.specs.Joining.{Joining}
 use Rattle.step_debugger.specs.Commands.{command_of}
 use Rattle.step_debugger.specs.Lines.{Input, input_of, EndsTooMany}
-use Rattle.step_debugger.specs.Transcript.{transcript, CountedSession}
-use Rattle.step_debugger.specs.Transcript.{Told as Transcript}
+use Rattle.step_debugger.specs.Transcript.{transcript, CountedSession, Told as Transcript}
 use Rattle.step_debugger.specs.declared.command.DebugCommand.TheVariants.{Quit}
 use Rattle.step_debugger.specs.declared.error.DebugError.{DebugError}
 use Rattle.step_debugger.specs.declared.error.DebugError.TheVariants.{ReadFault, WriteFault, TooMuch}
 use Rattle.step_debugger.specs.declared.error.DebugError.TheVariants as stop
-use Rattle.bugnet.specs.Names.{FileNames}
-use Rattle.bugnet.specs.Refusals.{line_of, status_of}
-use Rattle.bugnet.specs.Told.{Told}
-use Rattle.bugnet.specs.Pairs.{IsPair, ArePair}
-use Rattle.bugnet.specs.Joined.{joint_status, joint_line, joined}
-use Rattle.bugnet.specs.declared.refusal.Refusal.TheVariants as why
+use Rattle.log_commands.specs.Names.{FileNames}
+use Rattle.log_commands.specs.Refusals.{line_of, status_of}
+use Rattle.log_commands.specs.Told.{Told}
+use Rattle.log_commands.specs.Pairs.{IsPair, ArePair}
+use Rattle.log_commands.specs.Joined.{joint_status, joint_line, joined}
+use Rattle.log_commands.specs.declared.refusal.Refusal.TheVariants as why
 
 -- ---- the commands
 

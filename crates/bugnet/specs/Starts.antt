@@ -2,12 +2,12 @@
 use Rattle.std.specs.Prelude.{◌⊎◌, Result, Ok, Err}
 use Rattle.bn_outside.specs.Files.{Files}
 use Rattle.run_model.specs.declared.start.Start.{Start}
-use Rattle.bugnet.specs.Names.{FileNames}
-use Rattle.bugnet.specs.Told.{Told, refused}
+use Rattle.log_commands.specs.Names.{FileNames}
+use Rattle.log_commands.specs.Told.{Told, refused}
 use Rattle.bugnet.specs.Recordings.{IsRun}
-use Rattle.bugnet.specs.Outside.{IsEarly}
+use Rattle.log_commands.specs.Outside.{IsEarly}
 use Rattle.bugnet.specs.declared.manner.Manner.{Manner}
-use Rattle.bugnet.specs.declared.refusal.Refusal.{Refusal}
+use Rattle.log_commands.specs.declared.refusal.Refusal.{Refusal}
 
 -- whatever a recording that begins so may tell is what the command has to answer by the files that are there; or it was
 -- stopped before it had an answer, or is refused

@@ -5,13 +5,13 @@ use Rattle.bn_outside.specs.Files.{Files}
 use Rattle.joint_replay.specs.Joining.{Joining}
 use Rattle.step_debugger.specs.Transcript.{transcript}
 use Rattle.step_debugger.specs.declared.error.DebugError.{DebugError}
-use Rattle.bugnet.specs.Names.{FileNames}
-use Rattle.bugnet.specs.Refusals.{line_of}
-use Rattle.bugnet.specs.Outside.{WithFiles, Wrote}
+use Rattle.log_commands.specs.Names.{FileNames}
+use Rattle.log_commands.specs.Refusals.{line_of}
+use Rattle.log_commands.specs.Outside.{WithFiles, Wrote}
 use Rattle.bugnet.specs.Debugging.{SessionIs}
 use Rattle.bugnet.specs.Sessions.{Commands, AreRead, IsUnread, SessionOver, input_in, stop_status, stop_line, session_told, IsSession, IsDebug}
-use Rattle.bugnet.specs.Run.{Call, printing, SomeTold, Tells, StoppedBy}
-use Rattle.bugnet.specs.declared.refusal.Refusal.TheVariants as why
+use Rattle.log_commands.specs.Effects.{Call, printing, SomeTold, Tells, StoppedBy}
+use Rattle.log_commands.specs.declared.refusal.Refusal.TheVariants as why
 
 -- the end of a session was told, or its line found no memory
 abbrev pub ToldStop : FileNames → DebugError → ℕ → Option (List ℕ) → Option (List ℕ) → ℕ → ℕ → Type 0

@@ -13,15 +13,15 @@ use Rattle.race_report.specs.declared.race.Race.{Race}
 use Rattle.report_laws.specs.Laws.{SayTheRun}
 use Rattle.slice_back.specs.Slices.{noted, up_to, slice_or}
 use Rattle.slice_back.specs.Texts.{text_of}
-use Rattle.bugnet.specs.Names.{FileNames}
-use Rattle.bugnet.specs.Told.{Told, refused, printed}
-use Rattle.bugnet.specs.Commands.{Either}
-use Rattle.bugnet.specs.Racing.{races_listed}
-use Rattle.bugnet.specs.Slicing.{slice_told}
+use Rattle.log_commands.specs.Names.{FileNames}
+use Rattle.log_commands.specs.Told.{Told, refused, printed}
+use Rattle.log_commands.specs.Commands.{Either}
+use Rattle.log_commands.specs.Racing.{races_listed}
+use Rattle.log_commands.specs.Slicing.{slice_told}
 use Rattle.bugnet.specs.Answers.{names_in, IsAnswer}
 use Rattle.bugnet.specs.Jointly.{joint_run, HasRun}
-use Rattle.bugnet.specs.declared.names.Role.TheVariants as role
-use Rattle.bugnet.specs.declared.refusal.Refusal.TheVariants.{TooLong, ReplayStopped}
+use Rattle.log_commands.specs.declared.names.Role.TheVariants as role
+use Rattle.log_commands.specs.declared.refusal.Refusal.TheVariants.{TooLong, ReplayStopped}
 
 -- a program file of more than 2 ^ 26 bytes is too long for any command, also for the one that records
 abbrev pub UnlessLong : FileNames → Recording → Told → Type 0 → Type 0

@@ -4,23 +4,12 @@
 //! sinks.
 #![tactic(auto)]
 
-mod answer;
 mod commands;
-mod inputs;
 mod laws;
-mod lines;
 mod manner;
-mod names;
-mod new_log;
-mod pairs;
 mod program;
 mod recorder;
-mod refusal;
-mod replay_lines;
-mod send;
-mod texts;
 
-pub use answer::{Answer, IntervalToReplay, NewLog, RunEnd, RunToTell};
 pub use laws::{
     audits_agree, crashes_are_shown, each_can_be_done, each_has_an_answer,
     files_keep_to_their_size, headline, joint_headline, one_answer, one_session,
@@ -30,9 +19,4 @@ pub use laws::{
     slices_are_told,
 };
 pub use manner::Manner;
-pub use names::{Names, Role};
-pub use pairs::JointReading;
 pub use program::{perform, run};
-pub use refusal::Refusal;
-pub use replay_lines::ReplayEnd;
-pub use texts::RunCounts;

@@ -3,18 +3,19 @@ ghost use Rattle.std.specs.Prelude.{◌≡◌, ◌++◌, [], ℕ, List, IfOk, So
 ghost use Rattle.std.specs.List.{list_any};
 ghost use Rattle.bus_core.specs.Bus.{began_of};
 ghost use Rattle.hart_worker.specs.Closed.{IsClosed};
-ghost use Rattle.bugnet.specs.Recordings.{count_of, instructions_of, is_fault, is_limit, end_by, end_word};
-ghost use Rattle.bugnet.specs.Texts.{summary_text};
+ghost use Rattle.bugnet.specs.Recordings.{count_of, instructions_of, is_fault, is_limit, end_by};
+ghost use Rattle.log_commands.specs.RunEnds.{end_word};
+ghost use Rattle.log_commands.specs.Texts.{summary_text};
 ghost use Rattle.bugnet.specs.Keeping.{IsRecordingOf, IsRecordingBy};
 
-use crate::answer::{RunEnd, RunToTell};
 use crate::manner::Manner;
-use crate::texts::{RunCounts, push_summary};
 use bn_base::EndMark;
 use bn_base::end_mark::{FAULT, LIMIT};
 use bn_outside::{Book, Gate, LeanBook};
 use bus_core::Closed;
 use hart_worker::{Listed, run_listed, run_seeded, run_threads_lean, run_threads_listed};
+use log_commands::answer::{RunEnd, RunToTell};
+use log_commands::texts::{RunCounts, push_summary};
 use run_model::Start;
 use rv_text::Text;
 use std::alloc::{AllocError, Global};

@@ -3,21 +3,22 @@ ghost use Rattle.std.specs.Prelude.{◌≡◌, ◌≢◌, ◌≤◌, ◌⊎◌, 
 ghost use Rattle.bn_outside.specs.Counts.{Rose, NoneFell};
 ghost use Rattle.back_step.specs.Traces.{at_start};
 ghost use Rattle.joint_replay.specs.Joining.{Joining};
-ghost use Rattle.bugnet.specs.Calls.{loads_of, CallsSo};
-ghost use Rattle.bugnet.specs.Joined.{joined};
-ghost use Rattle.bugnet.specs.Outside.{WithFiles};
-ghost use Rattle.bugnet.specs.Pairs.{HasPair, pair_roles};
+ghost use Rattle.log_commands.specs.FileCalls.{loads_of};
+ghost use Rattle.bugnet.specs.LineCalls.{CallsSo};
+ghost use Rattle.log_commands.specs.Joined.{joined};
+ghost use Rattle.log_commands.specs.Outside.{WithFiles};
+ghost use Rattle.log_commands.specs.Pairs.{HasPair, pair_roles};
 ghost use Rattle.bugnet.specs.Sessions.{is_begun};
 ghost use Rattle.bugnet.specs.Steps.{ToldStop, DebugsPair, DebugsNamed};
-ghost use Rattle.bugnet.specs.Run.{call};
+ghost use Rattle.log_commands.specs.Effects.{call};
 
-use crate::commands::joint::stop;
-use crate::names::Names;
-use crate::pairs::{JointReading, load_pair};
-use crate::refusal::Refusal;
-use crate::send::refuse;
 use back_step::Trail;
 use bn_outside::{Sink, Source, Store};
+use log_commands::commands::joint::stop;
+use log_commands::names::Names;
+use log_commands::pairs::{JointReading, load_pair};
+use log_commands::refusal::Refusal;
+use log_commands::send::refuse;
 use std::alloc::Global;
 use step_debugger::{DebugError, debug};
 

@@ -1,15 +1,15 @@
 //! The command `demo`: the demonstration of a number.
 ghost use Rattle.std.specs.Prelude.{◌≡◌, IfOk};
 ghost use Rattle.demo_run.specs.Demonstration.{demo_text};
-ghost use Rattle.bugnet.specs.Asks.{IsMade};
-ghost use Rattle.bugnet.specs.Calls.{ShowsText};
-ghost use Rattle.bugnet.specs.Outside.{Gives, IsOwn};
-ghost use Rattle.bugnet.specs.Told.{printed};
+ghost use Rattle.log_commands.specs.SaveCounts.{IsMade};
+ghost use Rattle.bugnet.specs.LineCalls.{ShowsText};
+ghost use Rattle.log_commands.specs.Outside.{Gives, IsOwn};
+ghost use Rattle.log_commands.specs.Told.{printed};
 
-use crate::answer::Answer;
-use crate::names::Names;
-use crate::refusal::Refusal;
 use demo_run::demo_lines;
+use log_commands::answer::Answer;
+use log_commands::names::Names;
+use log_commands::refusal::Refusal;
 use std::alloc::Global;
 
 /// The lines of the demonstration of a number. No file is loaded.

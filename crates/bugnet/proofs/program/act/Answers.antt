@@ -1,9 +1,9 @@
 use Rattle.std.proofs.Common.{Some, refl, inl, []}
-use Rattle.bugnet.proofs.Causes.{sends-end}
-use Rattle.bugnet.proofs.Prints.{appends-nothing}
-use Rattle.bugnet.proofs.Tells.{untouched}
-use Rattle.bugnet.proofs.Races.{halted-told}
-use Rattle.bugnet.proofs.Calls.{saves-done}
+use Rattle.log_commands.proofs.Causes.{sends-end}
+use Rattle.log_commands.proofs.Prints.{appends-nothing}
+use Rattle.log_commands.proofs.Tells.{untouched}
+use Rattle.log_commands.proofs.Races.{halted-told}
+use Rattle.log_commands.proofs.FileCalls.{saves-done}
 use Rattle.bugnet.proofs.program.act.Goals as goal
 
 pub returns-in-Halted-clause-told : goal.returns-in-Halted-clause-told

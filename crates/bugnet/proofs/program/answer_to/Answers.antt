@@ -1,14 +1,16 @@
 use Rattle.std.proofs.Common.{◌≡◌, [], refl, sym, ◌∙◌}
 use Rattle.demo_run.specs.Demonstration.{demo_text}
-use Rattle.bugnet.specs.Told.{Told, printed}
-use Rattle.bugnet.specs.Commands.{IsReplay, IsList, IsCheck}
-use Rattle.bugnet.specs.Joined.{IsJoint}
-use Rattle.bugnet.specs.Racing.{IsRaces}
-use Rattle.bugnet.specs.Slicing.{IsSlice}
-use Rattle.bugnet.specs.Renewing.{IsConvert, IsSalvage}
-use Rattle.bugnet.proofs.Loads.{gives-any, by-names, by-origin, ok-any}
-use Rattle.bugnet.proofs.Calls.{origin-calls, own-loads, made-printed, audit-calls, mapped}
-use Rattle.bugnet.specs.declared.answer.Answer.{Answer}
+use Rattle.log_commands.specs.Told.{Told, printed}
+use Rattle.log_commands.specs.Commands.{IsReplay, IsList, IsCheck}
+use Rattle.log_commands.specs.Joined.{IsJoint}
+use Rattle.log_commands.specs.Racing.{IsRaces}
+use Rattle.log_commands.specs.Slicing.{IsSlice}
+use Rattle.log_commands.specs.Renewing.{IsConvert, IsSalvage}
+use Rattle.log_commands.proofs.Loads.{gives-any, by-names, ok-any}
+use Rattle.bugnet.proofs.RecordLoads.{by-origin}
+use Rattle.bugnet.proofs.LineCalls.{origin-calls, made-printed, audit-calls, mapped}
+use Rattle.log_commands.proofs.FileCalls.{own-loads}
+use Rattle.log_commands.specs.declared.answer.Answer.{Answer}
 use Rattle.bugnet.proofs.program.answer_to.Goals as goal
 
 pub returns-in-Demo-clause-told : goal.returns-in-Demo-clause-told

@@ -1,18 +1,21 @@
 use Rattle.std.proofs.Common.{◌≡◌, Some, subst, refl}
 use Rattle.std.specs.Prelude.{Ok, Err}
 use Rattle.command_words.specs.Words.{RecordLine, seen, seen_recording}
-use Rattle.bugnet.specs.Names.{FileNames}
+use Rattle.log_commands.specs.Names.{FileNames}
 use Rattle.bugnet.specs.Answers.{names_in, refusal_in}
-use Rattle.bugnet.specs.Outside.{told_of}
-use Rattle.bugnet.specs.Run.{call, IsByWords}
-use Rattle.bugnet.proofs.Asks.{none-saved, line-none, line-acts}
-use Rattle.bugnet.proofs.Prints.{appends-nothing}
-use Rattle.bugnet.proofs.Loads.{record-answers, record-cause, record-lean, record-bytes}
-use Rattle.bugnet.proofs.Tells.{refusal-answers, answer-answers, tells-from}
-use Rattle.bugnet.proofs.Causes.{refusal-causes, refusal-words, answer-words}
-use Rattle.bugnet.proofs.Leaves.{leaves-none, told-apart, call-leaves}
-use Rattle.bugnet.specs.declared.answer.Answer.{Answer}
-use Rattle.bugnet.proofs.Calls.{record-calls, refusal-calls, answer-calls}
+use Rattle.log_commands.specs.Outside.{told_of}
+use Rattle.log_commands.specs.Effects.{call, IsByWords}
+use Rattle.log_commands.proofs.SaveCounts.{none-saved}
+use Rattle.bugnet.proofs.Asks.{line-none, line-acts}
+use Rattle.log_commands.proofs.Prints.{appends-nothing}
+use Rattle.bugnet.proofs.RecordLoads.{record-answers, record-cause, record-lean, record-bytes}
+use Rattle.bugnet.proofs.LineTells.{refusal-answers, answer-answers}
+use Rattle.log_commands.proofs.Tells.{tells-from}
+use Rattle.log_commands.proofs.Causes.{refusal-causes, refusal-words, answer-words}
+use Rattle.bugnet.proofs.Leaves.{leaves-none, call-leaves}
+use Rattle.log_commands.proofs.StatusesApart.{told-apart}
+use Rattle.log_commands.specs.declared.answer.Answer.{Answer}
+use Rattle.bugnet.proofs.LineCalls.{record-calls, refusal-calls, answer-calls}
 use Rattle.bugnet.proofs.program.obey.Goals as goal
 
 pub returns-in-Err-clause-told : goal.returns-in-Err-clause-told

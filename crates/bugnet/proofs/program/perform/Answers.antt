@@ -1,11 +1,11 @@
 use Rattle.std.proofs.Common.{inl, inr}
 use Rattle.command_words.specs.Words.{seen}
-use Rattle.bugnet.specs.Run.{call}
+use Rattle.log_commands.specs.Effects.{call}
 use Rattle.bugnet.proofs.Debugs.{debugs-any, answers-any, begins-any}
 use Rattle.bugnet.proofs.Jointly.{Limits}
 use Rattle.bugnet.proofs.Single.{Grammar}
 use Rattle.bugnet.proofs.Suffices.{FileLaws}
-use Rattle.bugnet.proofs.Calls.{session-calls}
+use Rattle.bugnet.proofs.LineCalls.{session-calls}
 use Rattle.bugnet.proofs.program.perform.Goals as goal
 
 pub returns-in-Debug-clause-told : goal.returns-in-Debug-clause-told

@@ -1,16 +1,18 @@
 use Rattle.std.proofs.Common.{Some, subst, refl}
 use Rattle.command_words.specs.Words.{seen}
-use Rattle.bugnet.specs.Names.{FileNames}
+use Rattle.log_commands.specs.Names.{FileNames}
 use Rattle.bugnet.specs.Answers.{refusal_in}
-use Rattle.bugnet.specs.Outside.{told_of}
-use Rattle.bugnet.specs.Run.{call, IsByWords}
-use Rattle.bugnet.proofs.Asks.{none-saved, line-none, line-acts}
-use Rattle.bugnet.proofs.Prints.{appends-nothing}
-use Rattle.bugnet.proofs.Tells.{refusal-answers, answer-answers, tells-from}
-use Rattle.bugnet.proofs.Causes.{refusal-causes, refusal-words, answer-words}
-use Rattle.bugnet.proofs.Leaves.{told-apart}
-use Rattle.bugnet.proofs.Calls.{refusal-calls, answer-calls, demo-refused, demo-answers}
-use Rattle.bugnet.specs.declared.answer.Answer.{Answer}
+use Rattle.log_commands.specs.Outside.{told_of}
+use Rattle.log_commands.specs.Effects.{call, IsByWords}
+use Rattle.log_commands.proofs.SaveCounts.{none-saved}
+use Rattle.bugnet.proofs.Asks.{line-none, line-acts}
+use Rattle.log_commands.proofs.Prints.{appends-nothing}
+use Rattle.bugnet.proofs.LineTells.{refusal-answers, answer-answers}
+use Rattle.log_commands.proofs.Tells.{tells-from}
+use Rattle.log_commands.proofs.Causes.{refusal-causes, refusal-words, answer-words}
+use Rattle.log_commands.proofs.StatusesApart.{told-apart}
+use Rattle.bugnet.proofs.LineCalls.{refusal-calls, answer-calls, demo-refused, demo-answers}
+use Rattle.log_commands.specs.declared.answer.Answer.{Answer}
 use Rattle.bugnet.proofs.program.reply.Goals as goal
 
 pub returns-in-Err-clause-told : goal.returns-in-Err-clause-told

@@ -2,28 +2,32 @@ use Rattle.std.proofs.Common.{Option, None, sym, ap, ◌∙◌, subst, refl, inl
 use Rattle.std.specs.Prelude.{Err}
 use Rattle.command_words.specs.Words.{Line, command_in}
 use Rattle.command_words.specs.declared.error.WordsError.{WordsError}
-use Rattle.bugnet.specs.Names.{FileNames}
+use Rattle.log_commands.specs.Names.{FileNames}
 use Rattle.bugnet.specs.Answers.{names_by, refusal_by}
-use Rattle.bugnet.specs.Told.{refused}
-use Rattle.bugnet.specs.Outside.{ToldRefusal, WithFiles}
-use Rattle.bugnet.specs.Run.{call, TellsAnswer, ByWords}
-use Rattle.bugnet.specs.declared.refusal.Refusal.TheVariants.{WordsRefused, OutOfMemory}
+use Rattle.log_commands.specs.Told.{refused}
+use Rattle.log_commands.specs.Outside.{ToldRefusal, WithFiles}
+use Rattle.log_commands.specs.Effects.{call}
+use Rattle.bugnet.specs.Run.{TellsAnswer, ByWords}
+use Rattle.log_commands.specs.declared.refusal.Refusal.TheVariants.{WordsRefused, OutOfMemory}
 use Rattle.bugnet.specs.Asks.{LineSaves}
 use Rattle.bugnet.specs.Debugging.{CanBegin, Debugs}
 use Rattle.bugnet.specs.Laws.{IsNoSession}
 use Rattle.bugnet.proofs.Debugs.{debugs-early, not-read}
-use Rattle.bugnet.proofs.Asks.{line-none, memory-saves}
-use Rattle.bugnet.proofs.Prints.{appends-nothing}
-use Rattle.bugnet.proofs.Tells.{refusal-answers, memory-names, with-any, answers-keep, answers-few}
-use Rattle.bugnet.proofs.Causes.{by-words, caused, memory-words}
+use Rattle.bugnet.proofs.Asks.{line-none}
+use Rattle.log_commands.proofs.SaveCounts.{memory-saves}
+use Rattle.log_commands.proofs.Prints.{appends-nothing}
+use Rattle.bugnet.proofs.LineTells.{refusal-answers, answers-keep, answers-few}
+use Rattle.log_commands.proofs.Tells.{memory-names, with-any}
+use Rattle.log_commands.proofs.Causes.{by-words, caused, memory-words}
 use Rattle.bugnet.proofs.Suffices.{prints-run}
 use Rattle.bugnet.proofs.Jointly.{prints-jointly}
 use Rattle.bugnet.proofs.Agrees.{call-audits}
 use Rattle.bugnet.proofs.Complete.{call-done}
 use Rattle.bugnet.specs.Saves.{LeavesRun}
-use Rattle.bugnet.proofs.Leaves.{leaves-none, told-apart}
-use Rattle.bugnet.specs.Calls.{CallsOnly, TellsDemo}
-use Rattle.bugnet.proofs.Calls.{words-calls, unread-calls, call-shape, demo-unread}
+use Rattle.bugnet.proofs.Leaves.{leaves-none}
+use Rattle.log_commands.proofs.StatusesApart.{told-apart}
+use Rattle.bugnet.specs.LineCalls.{CallsOnly, TellsDemo}
+use Rattle.bugnet.proofs.LineCalls.{words-calls, unread-calls, call-shape, demo-unread}
 use Rattle.bugnet.proofs.program.run.Goals as goal
 
 pub returns-in-Err-Refused-clause-told : goal.returns-in-Err-Refused-clause-told

@@ -1,12 +1,12 @@
 use Rattle.std.proofs.Common.{refl, inl, inr}
-use Rattle.bugnet.specs.Run.{call}
+use Rattle.log_commands.specs.Effects.{call}
 use Rattle.bugnet.specs.Sessions.{debug_with}
-use Rattle.bugnet.proofs.Prints.{appends-nothing}
-use Rattle.bugnet.proofs.Tells.{tells-from, with-any}
+use Rattle.log_commands.proofs.Prints.{appends-nothing}
+use Rattle.log_commands.proofs.Tells.{tells-from, with-any}
 use Rattle.bugnet.proofs.Debugs.{no_commands, none-read, named-refused, named-made, named-session, named-begins, refused-status, begun-not}
-use Rattle.bugnet.specs.Pairs.{pair_roles}
-use Rattle.bugnet.specs.declared.pairs.JointReading.{JointReading}
-use Rattle.bugnet.proofs.Calls.{unbegun-calls, begun-calls}
+use Rattle.log_commands.specs.Pairs.{pair_roles}
+use Rattle.log_commands.specs.declared.pairs.JointReading.{JointReading}
+use Rattle.bugnet.proofs.LineCalls.{unbegun-calls, begun-calls}
 use Rattle.bugnet.proofs.commands.debug.debug_files.Goals as goal
 
 pub returns-in-Err-clause-told : goal.returns-in-Err-clause-told

@@ -1,4 +1,4 @@
-use Rattle.bugnet.specs.Joined.{joined}
+use Rattle.log_commands.specs.Joined.{joined}
 use Rattle.std.proofs.Common.{ap}
 use Rattle.back_step.specs.Traces.{Trailed}
 use Rattle.bugnet.proofs.Debugs.{pair-unbegun, memory-status, memory-begun}

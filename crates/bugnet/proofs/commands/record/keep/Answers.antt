@@ -1,13 +1,14 @@
 use Rattle.std.proofs.Common.{inl, sym, ◌∙◌}
-use Rattle.bugnet.proofs.Causes.{sends-told}
-use Rattle.bugnet.specs.Outside.{told_of_recording, saved_of}
-use Rattle.bugnet.proofs.Asks.{unsaved-saves}
-use Rattle.bugnet.proofs.Prints.{appends-nothing}
-use Rattle.bugnet.proofs.Tells.{unsaved-told, stopped-told, half-told}
-use Rattle.bugnet.specs.Asks.{is_lean}
-use Rattle.bugnet.specs.Calls.{saves_of}
-use Rattle.bugnet.specs.Run.{call}
-use Rattle.bugnet.proofs.Calls.{saves-refused, saves-done, end-other}
+use Rattle.log_commands.proofs.Causes.{sends-told}
+use Rattle.log_commands.specs.Outside.{told_of_recording, saved_of}
+use Rattle.log_commands.proofs.SaveCounts.{unsaved-saves}
+use Rattle.log_commands.proofs.Prints.{appends-nothing}
+use Rattle.log_commands.proofs.Tells.{unsaved-told, stopped-told, half-told}
+use Rattle.log_commands.specs.SaveCounts.{is_lean}
+use Rattle.log_commands.specs.FileCalls.{saves_of}
+use Rattle.log_commands.specs.Effects.{call}
+use Rattle.log_commands.proofs.FileCalls.{saves-refused, saves-done}
+use Rattle.bugnet.proofs.LineCalls.{end-other}
 use Rattle.bugnet.proofs.commands.record.keep.Goals as goal
 
 pub returns-in-Err-clause-told : goal.returns-in-Err-clause-told

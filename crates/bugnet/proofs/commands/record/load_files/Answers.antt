@@ -2,13 +2,13 @@ use Rattle.std.proofs.Common.{Option, subst, []}
 use Rattle.sha2.specs.Sha256.{sha256}
 use Rattle.bn_outside.specs.Files.{Files}
 use Rattle.elf_loader.specs.Loaded.{image_of}
-use Rattle.bugnet.specs.Commands.{IsByProgram}
-use Rattle.bugnet.specs.Outside.{WithFiles}
+use Rattle.bugnet.specs.Command.Record.{IsByProgram}
+use Rattle.log_commands.specs.Outside.{WithFiles}
 use Rattle.bugnet.specs.Starts.{BeginsBy}
-use Rattle.bugnet.specs.declared.names.Role.TheVariants.{Elf}
+use Rattle.log_commands.specs.declared.names.Role.TheVariants.{Elf}
 use Rattle.bugnet.proofs.Begins.{begins-stopped, begins-loaded}
-use Rattle.bugnet.specs.Calls.{input_roles, elf_roles}
-use Rattle.bugnet.proofs.Calls.{load-stops, then-loads}
+use Rattle.log_commands.specs.FileCalls.{input_roles, elf_roles}
+use Rattle.log_commands.proofs.FileCalls.{load-stops, then-loads}
 use Rattle.bugnet.proofs.commands.record.load_files.Goals as goal
 
 pub returns-in-Err-clause-told : goal.returns-in-Err-clause-told

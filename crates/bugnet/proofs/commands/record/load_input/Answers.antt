@@ -2,8 +2,9 @@ use Rattle.bugnet.specs.Recordings.{IsRun}
 use Rattle.bugnet.proofs.Begins.{no-input, input-refused, input-taken}
 use Rattle.std.proofs.Common.{[]}
 use Rattle.std.specs.Prelude.{Ok, Err}
-use Rattle.bugnet.specs.declared.names.Role.TheVariants.{Input}
-use Rattle.bugnet.proofs.Calls.{no-input-loads, input-loads, load-stops}
+use Rattle.log_commands.specs.declared.names.Role.TheVariants.{Input}
+use Rattle.bugnet.proofs.LineCalls.{no-input-loads, input-loads}
+use Rattle.log_commands.proofs.FileCalls.{load-stops}
 use Rattle.run_model.specs.declared.start.Start.{Start}
 use Rattle.bugnet.proofs.commands.record.load_input.Goals as goal
 

@@ -1,7 +1,7 @@
 use Rattle.sha2.specs.Sha256.{sha256}
 use Rattle.bugnet.proofs.Begins.{begins-refused, begins-program}
-use Rattle.bugnet.specs.Calls.{input_roles}
-use Rattle.bugnet.proofs.Calls.{own-first}
+use Rattle.log_commands.specs.FileCalls.{input_roles}
+use Rattle.bugnet.proofs.LineCalls.{own-first}
 use Rattle.bugnet.proofs.commands.record.load_start.Goals as goal
 
 pub returns-in-Err-clause-told : goal.returns-in-Err-clause-told

@@ -1,13 +1,13 @@
-use Rattle.bugnet.specs.Commands.{is_clash}
+use Rattle.bugnet.specs.Command.Record.{is_clash}
 use Rattle.bugnet.proofs.Begins.{words-refused, words-cause, own-cause, start-refused, run-recorded}
 use Rattle.bn_base.specs.Ranges.{first_bad}
 use Rattle.std.specs.Prelude.{Ok, Err}
 use Rattle.bugnet.specs.Answers.{setting_refusal}
-use Rattle.bugnet.specs.Calls.{record_roles, elf_roles}
-use Rattle.bugnet.specs.declared.answer.Answer.{Answer}
-use Rattle.bugnet.specs.declared.answer.Answer.TheVariants.{Recorded}
-use Rattle.bugnet.specs.declared.refusal.Refusal.TheVariants.{OutOfMemory}
-use Rattle.bugnet.proofs.Calls.{words-first, words-pass, memory-loads}
+use Rattle.log_commands.specs.FileCalls.{record_roles, elf_roles}
+use Rattle.log_commands.specs.declared.answer.Answer.{Answer}
+use Rattle.log_commands.specs.declared.answer.Answer.TheVariants.{Recorded}
+use Rattle.log_commands.specs.declared.refusal.Refusal.TheVariants.{OutOfMemory}
+use Rattle.bugnet.proofs.LineCalls.{words-first, words-pass, memory-loads}
 use Rattle.bugnet.proofs.commands.record.record_files.Goals as goal
 
 pub returns-in-Err-clause-told : goal.returns-in-Err-clause-told

@@ -2,14 +2,14 @@ use Rattle.std.proofs.Common.{◌≡◌, sym, ap, refl, inl, inr, true, false, �
 use Rattle.std.specs.Prelude.{ℕ, Option, option_map, not, is_some, Ok, Err}
 use Rattle.std.specs.declared.vec.Vec.{Vec}
 use Rattle.std.specs.declared.alloc.Global.{Global}
-use Rattle.bugnet.specs.Outside.{saved_of}
-use Rattle.bugnet.specs.declared.names.Role.TheVariants.{Book, Log}
-use Rattle.bugnet.proofs.Prints.{rose-later}
-use Rattle.bugnet.proofs.Tells.{kept-both, both-saved, log-alone, log-saved}
-use Rattle.bugnet.specs.Asks.{is_lean}
-use Rattle.bugnet.proofs.Calls.{lean-saves, log-save-stops, next-save-stops}
+use Rattle.log_commands.specs.Outside.{saved_of}
+use Rattle.log_commands.specs.declared.names.Role.TheVariants.{Book, Log}
+use Rattle.log_commands.proofs.Prints.{rose-later}
+use Rattle.log_commands.proofs.Tells.{kept-both, both-saved, log-alone, log-saved}
+use Rattle.log_commands.specs.SaveCounts.{is_lean}
+use Rattle.bugnet.proofs.LineCalls.{lean-saves, log-save-stops, next-save-stops}
 use Rattle.bn_outside.specs.StoreCalls.{SaveCall}
-use Rattle.bugnet.specs.declared.refusal.Refusal.TheVariants.{StoreFailed, OutOfMemory}
+use Rattle.log_commands.specs.declared.refusal.Refusal.TheVariants.{StoreFailed, OutOfMemory}
 use Rattle.bugnet.proofs.commands.record.save.Goals as goal
 
 pub returns-in-Ok-save-clause-told : goal.returns-in-Ok-save-clause-told

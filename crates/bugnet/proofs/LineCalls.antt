@@ -1,0 +1,568 @@
+-- Which calls a line makes of its store.
+use Rattle.std.proofs.Common.{◌≡◌, ◌≢◌, ℕ, List, [], ◌∷◌, ◌++◌, Option, Some, None, ◌∙◌, ap, subst, sym, refl, arith, true, false, Bool, inl, inr, ◌⊎◌, append_assoc}
+use Rattle.std.specs.Prelude.{Result, Ok, Err, IfOk, is_some, option_map}
+use Rattle.std.specs.Str.{bytes_eq}
+use Rattle.std.specs.Io.KnownBytes.{Appends}
+use Rattle.std.proofs.lemmas.List.{append-nil}
+use Rattle.bn_base.specs.Ranges.{first_bad}
+use Rattle.bn_outside.specs.Counts.{Counts}
+use Rattle.bn_outside.specs.Files.{Files}
+use Rattle.bn_outside.specs.StoreCalls.{StoreCall}
+use Rattle.command_words.specs.Words.{Line, RecordLine, ReplayLine, JointLine, DebugLine, ListLine, CheckLine, AuditLine, RacesLine, SliceLine, ConvertLine, SalvageLine, DemoLine, seen_recording}
+use Rattle.command_words.specs.declared.commands.RecordOptions.{RecordOptions}
+use Rattle.demo_run.specs.Demonstration.{demo_text}
+use Rattle.hart_replay.specs.Replay.{Outcome, Done, Refused, interval_of, replayed}
+use Rattle.hart_replay.specs.Replay as rows
+use Rattle.hart_replay.specs.declared.error.ReplayError.{ReplayError}
+use Rattle.hart_replay.specs.declared.error.ReplayError.TheVariants as replay
+use Rattle.joint_replay.specs.declared.error.JointError.{JointError}
+use Rattle.joint_replay.specs.declared.error.JointError.TheVariants.{Replay, Stuck}
+use Rattle.joint_replay.specs.declared.error.JointError.TheVariants as joint
+use Rattle.joint_replay.specs.Joining.{run_all}
+use Rattle.log_order.specs.Content.{Content}
+use Rattle.bn_base.specs.Programs.{Program}
+use Rattle.bn_base.specs.declared.end_mark.EndMark.{EndMark}
+use Rattle.log_commands.specs.Names.{FileNames, no_names}
+use Rattle.bugnet.specs.Answers.{names_in, names_by, manner_of, setting_refusal, refusal_in, refusal_by}
+use Rattle.log_commands.specs.Refusals.{name_refusal, replay_status}
+use Rattle.log_commands.specs.SaveCounts.{IsRenewed, IsRecordedRun, IsMade}
+use Rattle.bugnet.specs.Asks.{FitsLine}
+use Rattle.log_commands.specs.FileCalls.{FileCall, Saves, store_call, noted_after, loads_of, saves_of, input_roles, record_roles, elf_roles, origin_roles, saves_in, IsOfContent, StopsAt, LoadsUpTo, CallsTo, LoadsTo, CallsBy, IsOfSave, SavesUpTo, SavesTo, SaveRefused, SavesTold}
+use Rattle.bugnet.specs.LineCalls.{line_roles, needed_roles, line_saves, calls_of, needed_of, is_printed, is_recorded, line_past, past_of, RefusedAfter, CallsSo, CallsOnly, TellsRefusal, HasShape, AnswersDemo, TellsDemo}
+use Rattle.log_commands.specs.Command.Audit.{roles_of}
+use Rattle.bugnet.specs.Command.Record.{is_clash}
+use Rattle.log_commands.specs.Commands.{replay_found, ended}
+use Rattle.log_commands.specs.Joined.{joint_status, ran_told, joined}
+use Rattle.bugnet.specs.Laws.{IsReadOnly, IsNoSession}
+use Rattle.log_commands.specs.Outside.{CauseBy, IsPrinted, ToldRefusal, told_of}
+use Rattle.log_commands.specs.Pairs.{pair_roles}
+use Rattle.log_commands.specs.Racing.{halted}
+use Rattle.log_commands.specs.RunEnds.{end_status}
+use Rattle.log_commands.specs.Effects.{Call, IsFree, Tells}
+use Rattle.bugnet.specs.Sessions.{is_begun}
+use Rattle.log_commands.specs.Told.{Told, refused, printed}
+use Rattle.log_commands.specs.declared.answer.Answer.{Answer}
+use Rattle.log_commands.specs.declared.answer.Answer.TheVariants.{Recorded, Interval, Joined, Listed, Checked, Agreed, Renewed, Shown, Halted}
+use Rattle.log_commands.specs.declared.answer.RunEnd.{RunEnd}
+use Rattle.log_commands.specs.declared.answer.RunEnd.TheVariants as run_end
+use Rattle.bugnet.specs.declared.manner.Manner.{Manner}
+use Rattle.log_commands.specs.declared.names.Role.{Role}
+use Rattle.log_commands.specs.declared.names.Role.TheVariants as role
+use Rattle.log_commands.specs.declared.refusal.Refusal.{Refusal}
+use Rattle.log_commands.specs.declared.refusal.Refusal.TheVariants.{OutOfMemory, StoreFailed, WordsRefused}
+use Rattle.log_commands.proofs.Prints.{part-longer, part-whole}
+use Rattle.log_commands.proofs.Tells.{from, stopped-free, memory-names, wanting, same-files}
+use Rattle.log_commands.proofs.FileCalls.{CalledSoFar, ends-behind, noted-append, one-save-stops}
+
+-- ---- the last of the calls
+
+-- at a save
+stops-save : (needed : List FileCall) (r : Refusal) (first made : List FileCall) → IsOfSave r made → StopsAt needed r (first ++ made)
+stops-save needed r first made (inl memory) = inl memory
+stops-save needed r first made (inr (role, last, is)) = inr (inr (inl (role, ends-behind first made (Saves role) last, is)))
+
+-- ---- loads
+
+-- a program is refused before the input is loaded
+pub own-first : (note : ℕ → StoreCall → ℕ) (names : FileNames) (roles : List Role) (n : ℕ) (r : Refusal) → IsOfContent r → LoadsUpTo names roles [] note n n r
+own-first note names roles n r own = record { made = []; left = loads_of roles; parts = refl; noted = refl; at = inr (inr (inr (own, refl))) }
+
+-- all is loaded, and then memory runs out
+pub memory-loads : (note : ℕ → StoreCall → ℕ) (names : FileNames) (roles needed : List Role) (before after : ℕ) → after ≡ noted_after note names before (loads_of roles)
+    → LoadsUpTo names roles needed note before after OutOfMemory
+memory-loads note names roles needed before after e = record {
+  made = loads_of roles;
+  left = [];
+  parts = sym (append-nil (loads_of roles));
+  noted = e;
+  at = inl refl;
+}
+
+-- ---- a recording's input
+
+pub no-input-loads : (note : ℕ → StoreCall → ℕ) (names : FileNames) (has : Bool) (n : ℕ) → has ≡ false → n ≡ noted_after note names n (loads_of (input_roles has))
+no-input-loads note names false n e = refl
+no-input-loads note names true n e = grind arith
+
+pub input-loads : (A : Type 0) (note : ℕ → StoreCall → ℕ) (names : FileNames) (has : Bool) (needed : List Role) (before after : ℕ) (result : Result A Refusal) → has ≡ true
+    → CallsTo names (input_roles true) needed note before after result → CallsTo names (input_roles has) needed note before after result
+input-loads A note names has needed before after result e h = subst (λ (b : Bool). CallsTo names (input_roles b) needed note before after result) (sym e) h
+
+-- ---- a loop over roles
+
+pub called-first : (note : ℕ → StoreCall → ℕ) (names : FileNames) (roles : List Role) (n : ℕ) → CalledSoFar note names roles roles n n
+called-first note names roles n = record { made = []; parts = refl; noted = refl }
+
+pub called-last : (note : ℕ → StoreCall → ℕ) (names : FileNames) (roles left : List Role) (before now : ℕ) → left ≡ [] → CalledSoFar note names roles left before now
+    → now ≡ noted_after note names before (loads_of roles)
+called-last note names roles left before now e so_far =
+    so_far.noted ∙ ap (λ (calls : List FileCall). noted_after note names before calls)
+    (sym (so_far.parts ∙ ap (λ (rs : List Role). so_far.made ++ loads_of rs) e ∙ append-nil so_far.made))
+
+-- ---- words that are tested first
+
+-- they are refused
+pub words-first : (A : Type 0) (note : ℕ → StoreCall → ℕ) (names : FileNames) (o : Option Refusal) (x : Refusal) (roles needed : List Role) (n : ℕ) (result : Result A Refusal) → o ≡ Some x → CallsBy o names roles needed note n n result
+words-first A note names o x roles needed n result e = subst (λ (p : Option Refusal). CallsBy p names roles needed note n n result) (sym e) refl
+
+-- they aren't
+pub words-pass : (A : Type 0) (note : ℕ → StoreCall → ℕ) (names : FileNames) (o : Option Refusal) (roles needed : List Role) (before after : ℕ) (result : Result A Refusal) → o ≡ None
+    → CallsTo names roles needed note before after result → CallsBy o names roles needed note before after result
+words-pass A note names o roles needed before after result e h = subst (λ (p : Option Refusal). CallsBy p names roles needed note before after result) (sym e) h
+
+-- the test of LOG and NEW
+pub origin-first : (A : Type 0) (note : ℕ → StoreCall → ℕ) (names : FileNames) (same : Bool) (roles : List Role) (n : ℕ) (result : Result A Refusal) → same ≡ true → CallsBy (name_refusal same) names roles roles note n n result
+origin-first A note names true roles n result e = refl
+origin-first A note names false roles n result e = grind arith
+
+pub origin-pass : (A : Type 0) (note : ℕ → StoreCall → ℕ) (names : FileNames) (same : Bool) (roles : List Role) (before after : ℕ) (result : Result A Refusal) → same ≡ false
+    → LoadsTo names roles note before after result → CallsBy (name_refusal same) names roles roles note before after result
+origin-pass A note names false roles before after result e h = h
+origin-pass A note names true roles before after result e h = grind arith
+
+-- by the names that a line says
+pub origin-calls : (A : Type 0) (note : ℕ → StoreCall → ℕ) (names own : FileNames) (before after : ℕ) (result : Result A Refusal) → names ≡ own
+    → CallsBy (name_refusal (bytes_eq names.origin names.log)) names origin_roles origin_roles note before after result
+    → CallsBy (name_refusal (bytes_eq own.origin own.log)) names origin_roles origin_roles note before after result
+origin-calls A note names own before after result e h = subst (λ (n : FileNames). CallsBy (name_refusal (bytes_eq n.origin n.log)) names origin_roles origin_roles note before after result) e h
+
+pub mapped : (A : Type 0) (B : Type 0) (f : A → B) (o : Option A) → is_some (option_map f o) ≡ is_some o
+mapped A B f None = refl
+mapped A B f (Some a) = refl
+
+-- an audit's input
+pub audit-calls : (A : Type 0) (note : ℕ → StoreCall → ℕ) (names : FileNames) (has there : Bool) (before after : ℕ) (result : Result A Refusal) → has ≡ there
+    → LoadsTo names (roles_of has) note before after result → LoadsTo names (roles_of there) note before after result
+audit-calls A note names has there before after result e h = subst (λ (b : Bool). LoadsTo names (roles_of b) note before after result) e h
+
+-- and by what a recording's line asks for
+pub record-calls : (A : Type 0) (note : ℕ → StoreCall → ℕ) (names : FileNames) (r : RecordOptions) (how : Manner) (has : Bool) (before after : ℕ) (result : Result A Refusal) → names ≡ names_in (RecordLine (seen_recording r))
+    → how ≡ manner_of (seen_recording r) → has ≡ is_some r.input
+    → CallsBy (setting_refusal (first_bad r.settings) (is_clash how.lean names.log names.book)) names (record_roles has) elf_roles note before after result
+    → CallsBy (refusal_in (RecordLine (seen_recording r))) names (line_roles (RecordLine (seen_recording r))) (needed_roles (RecordLine (seen_recording r))) note before after result
+record-calls A note names r how has before after result e m input h =
+    let s = seen_recording r in
+    let there : has ≡ is_some s.input = input ∙ sym (mapped _ _ _ r.input) in
+    subst (λ (n : FileNames). CallsBy (setting_refusal (first_bad s.settings) (is_clash s.lean n.log n.book)) names (record_roles (is_some s.input)) elf_roles note before after result) e
+    (subst (λ (b : Bool). CallsBy (setting_refusal (first_bad s.settings) (is_clash s.lean names.log names.book)) names (record_roles b) elf_roles note before after result) there
+    (subst (λ (x : Manner). CallsBy (setting_refusal (first_bad s.settings) (is_clash x.lean names.log names.book)) names (record_roles has) elf_roles note before after result) m h))
+
+-- ---- saves
+
+-- the second of two
+pub next-save-stops : (note : ℕ → StoreCall → ℕ) (names : FileNames) (first last : Role) (before mid after : ℕ) (r : Refusal) → mid ≡ note before (store_call names (Saves first)) → after ≡ note mid (store_call names (Saves last))
+    → (r ≡ OutOfMemory) ⊎ (r ≡ StoreFailed last) → SavesUpTo names (Saves first ∷ Saves last ∷ []) note before after r
+next-save-stops note names first last before mid after r f e is = record {
+  made = Saves first ∷ Saves last ∷ [];
+  left = [];
+  parts = refl;
+  noted = e ∙ ap (λ (n : ℕ). note n (store_call names (Saves last))) f;
+  at = by is;
+}
+  where
+    by : (r ≡ OutOfMemory) ⊎ (r ≡ StoreFailed last) → IsOfSave r (Saves first ∷ Saves last ∷ [])
+    by (inl memory) = inl memory
+    by (inr is) = inr (last, (Saves first ∷ [], refl), is)
+
+-- whether there is a list decides
+pub lean-saves : (lean known : Bool) (note : ℕ → StoreCall → ℕ) (names : FileNames) (A : Type 0) (before after : ℕ) (result : Result A Refusal) → lean ≡ known
+    → SavesTo names (saves_of known) note before after result → SavesTo names (saves_of lean) note before after result
+lean-saves lean known note names A before after result e h = subst (λ (b : Bool). SavesTo names (saves_of b) note before after result) (sym e) h
+
+-- the first was refused, whichever follows
+pub log-save-stops : (lean : Bool) (note : ℕ → StoreCall → ℕ) (names : FileNames) (before after : ℕ) (r : Refusal) → after ≡ note before (store_call names (Saves role.Log))
+    → (r ≡ OutOfMemory) ⊎ (r ≡ StoreFailed role.Log) → SavesUpTo names (saves_of lean) note before after r
+log-save-stops true note names before after r e is = one-save-stops note names role.Log [] before after r e is
+log-save-stops false note names before after r e is = one-save-stops note names role.Log (Saves role.Book ∷ []) before after r e is
+
+-- a recording's end is none of the store
+pub end-other : (e : RunEnd) → end_status e ≢ 3
+end-other run_end.Done = λ e. omega (arith, e)
+end-other run_end.Fault = λ e. omega (arith, e)
+end-other run_end.Limit = λ e. omega (arith, e)
+
+-- ---- what an answer saves is what its line saves
+
+printed-none : (answer : Answer) → IsPrinted answer → saves_in answer ≡ []
+printed-none (Recorded r) p = absurd p
+printed-none (Interval r) p = refl
+printed-none (Joined r) p = refl
+printed-none (Listed d) p = refl
+printed-none (Checked d) p = refl
+printed-none Agreed p = refl
+printed-none (Renewed n) p = absurd p
+printed-none (Shown text) p = refl
+printed-none (Halted error) p = refl
+
+renewed-one : (answer : Answer) → IsRenewed answer → saves_in answer ≡ saves_of true
+renewed-one (Recorded r) is = absurd is
+renewed-one (Interval r) is = absurd is
+renewed-one (Joined r) is = absurd is
+renewed-one (Listed d) is = absurd is
+renewed-one (Checked d) is = absurd is
+renewed-one Agreed is = absurd is
+renewed-one (Renewed n) is = refl
+renewed-one (Shown text) is = absurd is
+renewed-one (Halted error) is = absurd is
+
+recorded-so : (lean : Bool) (answer : Answer) → IsRecordedRun lean answer → saves_in answer ≡ saves_of lean
+recorded-so lean (Recorded r) is = ap saves_of is
+recorded-so lean (Interval r) is = absurd is
+recorded-so lean (Joined r) is = absurd is
+recorded-so lean (Listed d) is = absurd is
+recorded-so lean (Checked d) is = absurd is
+recorded-so lean Agreed is = absurd is
+recorded-so lean (Renewed n) is = absurd is
+recorded-so lean (Shown text) is = absurd is
+recorded-so lean (Halted error) is = absurd is
+
+answer-saves : (line : Line) (answer : Answer) → FitsLine line answer → (IsReadOnly (Some line) → IsPrinted answer) → saves_in answer ≡ line_saves line
+answer-saves (RecordLine r) answer records prints = recorded-so r.lean answer records
+answer-saves (ReplayLine log elf hart interval) answer records prints = printed-none answer (prints tt)
+answer-saves (JointLine log elf) answer records prints = printed-none answer (prints tt)
+answer-saves (DebugLine log elf) answer records prints = printed-none answer (prints tt)
+answer-saves (ListLine log) answer records prints = printed-none answer (prints tt)
+answer-saves (CheckLine log) answer records prints = printed-none answer (prints tt)
+answer-saves (AuditLine log elf book input) answer records prints = printed-none answer (prints tt)
+answer-saves (RacesLine log elf most) answer records prints = printed-none answer (prints tt)
+answer-saves (SliceLine log elf hart interval ic) answer records prints = printed-none answer (prints tt)
+answer-saves (ConvertLine log copy) answer records prints = renewed-one answer records
+answer-saves (SalvageLine log copy) answer records prints = renewed-one answer records
+answer-saves (DemoLine seed) answer records prints = printed-none answer (prints tt)
+
+pub made-printed : {E : Type 0} (result : Result Answer E) → IfOk result IsMade → IfOk result IsPrinted
+made-printed (Ok (Recorded r)) p = absurd p
+made-printed (Ok (Interval r)) p = absurd p
+made-printed (Ok (Joined r)) p = absurd p
+made-printed (Ok (Listed d)) p = tt
+made-printed (Ok (Checked n)) p = tt
+made-printed (Ok Agreed) p = tt
+made-printed (Ok (Renewed n)) p = absurd p
+made-printed (Ok (Shown text)) p = tt
+made-printed (Ok (Halted error)) p = absurd p
+made-printed (Err e) p = tt
+
+-- ---- what an answer ends with
+
+past-at : (past : ℕ → Bool) (status n : ℕ) → status ≡ n → past n ≡ true → past status ≡ true
+past-at past status n e h = ap past e ∙ h
+
+end-past : (e : RunEnd) → is_recorded (end_status e) ≡ true
+end-past run_end.Done = refl
+end-past run_end.Fault = refl
+end-past run_end.Limit = refl
+
+replay-past : (e : ReplayError) → is_begun (replay_status e) ≡ true
+replay-past (replay.NoInterval hart interval) = refl
+replay-past (replay.LoadMissing hart ic addr) = refl
+replay-past (replay.ScMissing hart ic) = refl
+replay-past (replay.RecordsLeft hart left) = refl
+replay-past (replay.EndDiffers hart said found) = refl
+replay-past replay.OutOfMemory = refl
+
+joint-past : (o : Option JointError) → is_begun (joint_status o) ≡ true
+joint-past None = refl
+joint-past (Some (Replay e)) = replay-past e
+joint-past (Some (Stuck positions)) = refl
+joint-past (Some joint.OutOfMemory) = refl
+
+outcome-past : (names : FileNames) (hart interval : ℕ) (mark : EndMark) (text : List ℕ) (o : Outcome) → is_begun (ended names hart interval mark text o).status ≡ true
+unfolding ended
+outcome-past names hart interval mark text Done = refl
+outcome-past names hart interval mark text (Refused e) = replay-past e
+
+found-past : (names : FileNames) (hart interval : ℕ) (d : Content) (i : Program) (o : Option rows.Interval) → is_begun (replay_found names hart interval d i o).status ≡ true
+unfolding refused
+found-past names hart interval d i None = refl
+found-past names hart interval d i (Some v) = outcome-past names hart interval v.mark _ (replayed i d.records hart interval).outcome
+
+printed-past : (names : FileNames) (answer : Answer) → IsPrinted answer → is_begun (told_of names answer).status ≡ true
+unfolding ran_told halted
+printed-past names (Recorded r) p = absurd p
+printed-past names (Interval r) p = found-past names r.hart r.interval r.log r.image (interval_of r.hart r.interval r.log.records)
+printed-past names (Joined r) p = joint-past (run_all (joined r.log r.image)).stopped
+printed-past names (Listed d) p = refl
+printed-past names (Checked n) p = refl
+printed-past names Agreed p = refl
+printed-past names (Renewed n) p = absurd p
+printed-past names (Shown text) p = refl
+printed-past names (Halted error) p = joint-past (Some error)
+
+made-past : (names : FileNames) (answer : Answer) → IsMade answer → is_printed (told_of names answer).status ≡ true
+made-past names (Recorded r) p = absurd p
+made-past names (Interval r) p = absurd p
+made-past names (Joined r) p = absurd p
+made-past names (Listed d) p = refl
+made-past names (Checked n) p = refl
+made-past names Agreed p = refl
+made-past names (Renewed n) p = absurd p
+made-past names (Shown text) p = refl
+made-past names (Halted error) p = absurd p
+
+renewed-past : (names : FileNames) (answer : Answer) → IsRenewed answer → is_printed (told_of names answer).status ≡ true
+renewed-past names (Recorded r) p = absurd p
+renewed-past names (Interval r) p = absurd p
+renewed-past names (Joined r) p = absurd p
+renewed-past names (Listed d) p = absurd p
+renewed-past names (Checked n) p = absurd p
+renewed-past names Agreed p = absurd p
+renewed-past names (Renewed n) p = refl
+renewed-past names (Shown text) p = absurd p
+renewed-past names (Halted error) p = absurd p
+
+recorded-past : (lean : Bool) (names : FileNames) (answer : Answer) → IsRecordedRun lean answer → is_recorded (told_of names answer).status ≡ true
+recorded-past lean names (Recorded r) p = end-past r.end
+recorded-past lean names (Interval r) p = absurd p
+recorded-past lean names (Joined r) p = absurd p
+recorded-past lean names (Listed d) p = absurd p
+recorded-past lean names (Checked n) p = absurd p
+recorded-past lean names Agreed p = absurd p
+recorded-past lean names (Renewed n) p = absurd p
+recorded-past lean names (Shown text) p = absurd p
+recorded-past lean names (Halted error) p = absurd p
+
+line-past : (line : Line) (names : FileNames) (answer : Answer) → FitsLine line answer → (IsReadOnly (Some line) → IsPrinted answer) → line_past line (told_of names answer).status ≡ true
+line-past (RecordLine r) names answer fits prints = recorded-past r.lean names answer fits
+line-past (ReplayLine log elf hart interval) names answer fits prints = printed-past names answer (prints tt)
+line-past (JointLine log elf) names answer fits prints = printed-past names answer (prints tt)
+line-past (DebugLine log elf) names answer fits prints = printed-past names answer (prints tt)
+line-past (ListLine log) names answer fits prints = made-past names answer fits
+line-past (CheckLine log) names answer fits prints = made-past names answer fits
+line-past (AuditLine log elf book input) names answer fits prints = made-past names answer fits
+line-past (RacesLine log elf most) names answer fits prints = printed-past names answer (prints tt)
+line-past (SliceLine log elf hart interval ic) names answer fits prints = made-past names answer fits
+line-past (ConvertLine log copy) names answer fits prints = renewed-past names answer fits
+line-past (SalvageLine log copy) names answer fits prints = renewed-past names answer fits
+line-past (DemoLine seed) names answer fits prints = made-past names answer fits
+
+memory-past : (line : Line) → line_past line 9 ≡ true
+memory-past (RecordLine r) = refl
+memory-past (ReplayLine log elf hart interval) = refl
+memory-past (JointLine log elf) = refl
+memory-past (DebugLine log elf) = refl
+memory-past (ListLine log) = refl
+memory-past (CheckLine log) = refl
+memory-past (AuditLine log elf book input) = refl
+memory-past (RacesLine log elf most) = refl
+memory-past (SliceLine log elf hart interval ic) = refl
+memory-past (ConvertLine log copy) = refl
+memory-past (SalvageLine log copy) = refl
+memory-past (DemoLine seed) = refl
+
+write-past : (line : Line) → line_past line 13 ≡ true
+write-past (RecordLine r) = refl
+write-past (ReplayLine log elf hart interval) = refl
+write-past (JointLine log elf) = refl
+write-past (DebugLine log elf) = refl
+write-past (ListLine log) = refl
+write-past (CheckLine log) = refl
+write-past (AuditLine log elf book input) = refl
+write-past (RacesLine log elf most) = refl
+write-past (SliceLine log elf hart interval ic) = refl
+write-past (ConvertLine log copy) = refl
+write-past (SalvageLine log copy) = refl
+write-past (DemoLine seed) = refl
+
+free-past : (line : Line) (status : ℕ) → IsFree status → status ≢ 3 → line_past line status ≡ true
+free-past line status (inl e) other = absurd (other e)
+free-past line status (inr (inl e)) other = past-at (line_past line) status 9 e (memory-past line)
+free-past line status (inr (inr e)) other = past-at (line_past line) status 13 e (write-past line)
+
+tells-past : (line : Line) (names : FileNames) (answer : Answer) (status : ℕ) (k : Call) → FitsLine line answer → (IsReadOnly (Some line) → IsPrinted answer)
+    → Tells names (told_of names answer) status k → status ≢ 3 → line_past line status ≡ true
+tells-past line names answer status k fits prints (inl done) other = past-at (line_past line) status (told_of names answer).status done.status_is (line-past line names answer fits prints)
+tells-past line names answer status k fits prints (inr s) other = free-past line status (stopped-free names (told_of names answer) status k s) other
+
+-- ---- a command
+
+same_refusal : (A : Type 0) (r x : Refusal) → ◌≡◌ {A = Result A Refusal} (Err r) (Err x) → Some x ≡ Some r
+same_refusal A r x e = grind arith
+
+no-answer : (A : Type 0) (a : A) (x : Refusal) → ◌≡◌ {A = Result A Refusal} (Ok a) (Err x) → ⊥
+no-answer A a x e = grind arith
+
+-- it is refused before it saves
+refused-so : (A : Type 0) (note : ℕ → StoreCall → ℕ) (names : FileNames) (o : Option Refusal) (roles needed : List Role) (saves : List FileCall) (past : ℕ → Bool) (r : Refusal) (status : ℕ) (before after : ℕ) (first last : Counts) (k : Call)
+    → CallsBy {A = A} o names roles needed note before after (Err r) → CauseBy {A = A} o first last (Err r) → Appends k.old.out k.new.out []
+    → ToldRefusal names r status k.old.err k.new.err k.old.err_faults k.new.err_faults → CallsSo names (loads_of roles ++ saves) (loads_of needed) o past status note before after k
+refused-so A note names (Some x) roles needed saves past r status before after first last k h c out told = record {
+  made = [];
+  left = loads_of roles ++ saves;
+  parts = refl;
+  noted = h;
+  ends = inr (record { refusal = r; at = inl (same_refusal A r x c.0, refl); out = out; told = told });
+}
+refused-so A note names None roles needed saves past r status before after first last k h c out told = record {
+  made = h.made;
+  left = h.left ++ saves;
+  parts = ap (λ (calls : List FileCall). calls ++ saves) h.parts ∙ append_assoc h.made h.left saves;
+  noted = h.noted;
+  ends = inr (record { refusal = r; at = inr h.at; out = out; told = told });
+}
+
+pub refusal-calls : (A : Type 0) (note : ℕ → StoreCall → ℕ) (line : Line) (names : FileNames) (r : Refusal) (status : ℕ) (before after : ℕ) (first last : Counts) (k : Call) → names ≡ names_in line
+    → CallsBy {A = A} (refusal_in line) names (line_roles line) (needed_roles line) note before after (Err r) → CauseBy {A = A} (refusal_in line) first last (Err r) → Appends k.old.out k.new.out []
+    → ToldRefusal names r status k.old.err k.new.err k.old.err_faults k.new.err_faults → CallsOnly (Some line) status note before after k
+refusal-calls A note line names r status before after first last k e h c out told =
+    subst (λ (n : FileNames). CallsSo n (calls_of (Some line)) (needed_of (Some line)) (refusal_in line) (line_past line) status note before after k) e
+    (refused-so A note names (refusal_in line) (line_roles line) (needed_roles line) (line_saves line) (line_past line) r status before after first last k h c out told)
+
+-- it has its answer, of which all is saved, or not
+answer-so : (A : Type 0) (a : A) (note : ℕ → StoreCall → ℕ) (names : FileNames) (o : Option Refusal) (roles needed : List Role) (saves : List FileCall) (past : ℕ → Bool) (status : ℕ) (before mid after : ℕ) (first last : Counts) (files : Option Files) (counts : Counts) (k : Call)
+    → CallsBy o names roles needed note before mid (Ok a) → CauseBy o first last (Ok a) → SavesTold names saves status note mid after k → (status ≢ 3 → past status ≡ true)
+    → CallsSo names (loads_of roles ++ saves) (loads_of needed) o past status note before after (from files counts k)
+answer-so A a note names (Some x) roles needed saves past status before mid after first last files counts k h c s goes = absurd (no-answer A a x c.0)
+answer-so A a note names None roles needed saves past status before mid after first last files counts k h c s goes = record {
+  made = loads_of roles ++ s.made;
+  left = s.left;
+  parts = ap (λ (calls : List FileCall). loads_of roles ++ calls) s.parts ∙ sym (append_assoc (loads_of roles) s.made s.left);
+  noted = s.noted ∙ ap (λ (n : ℕ). noted_after note names n s.made) h ∙ sym (noted-append note names before (loads_of roles) s.made);
+  ends = by s.ends;
+}
+  where
+    by : ((s.left ≡ []) × (status ≢ 3)) ⊎ SaveRefused names s.made status k
+        → ((s.left ≡ []) × (past status ≡ true)) ⊎ RefusedAfter names (loads_of needed) None (loads_of roles ++ s.made) status (from files counts k)
+    by (inl (all, other)) = inl (all, goes other)
+    by (inr t) = inr (record { refusal = t.refusal; at = inr (stops-save (loads_of needed) t.refusal (loads_of roles) s.made t.at); out = t.out; told = t.told })
+
+pub answer-calls : (note : ℕ → StoreCall → ℕ) (line : Line) (names : FileNames) (answer : Answer) (status : ℕ) (before mid after : ℕ) (first last : Counts) (files : Option Files) (counts : Counts) (k : Call) → names ≡ names_in line
+    → CallsBy (refusal_in line) names (line_roles line) (needed_roles line) note before mid (Ok answer) → CauseBy (refusal_in line) first last (Ok answer)
+    → FitsLine line answer → (IsReadOnly (Some line) → IsPrinted answer) → SavesTold names (saves_in answer) status note mid after k → Tells names (told_of names answer) status k
+    → CallsOnly (Some line) status note before after (from files counts k)
+answer-calls note line names answer status before mid after first last files counts k e h c fits prints s told =
+    subst (λ (n : FileNames). CallsSo n (calls_of (Some line)) (needed_of (Some line)) (refusal_in line) (line_past line) status note before after (from files counts k)) e
+    (answer-so Answer answer note names (refusal_in line) (line_roles line) (needed_roles line) (line_saves line) (line_past line) status before mid after first last files counts k h c
+    (subst (λ (saves : List FileCall). SavesTold names saves status note mid after k) (answer-saves line answer fits prints) s) (λ other. tells-past line names answer status k fits prints told other))
+
+-- ---- a session
+
+-- it isn't begun
+pub unbegun-calls : (A : Type 0) (note : ℕ → StoreCall → ℕ) (names : FileNames) (roles : List Role) (r : Refusal) (status : ℕ) (before after : ℕ) (k : Call)
+    → LoadsTo {A = A} names roles note before after (Err r) → Appends k.old.out k.new.out [] → ToldRefusal names r status k.old.err k.new.err k.old.err_faults k.new.err_faults
+    → CallsSo names (loads_of roles) (loads_of roles) None is_begun status note before after k
+unbegun-calls A note names roles r status before after k h out told = record {
+  made = h.made;
+  left = h.left;
+  parts = h.parts;
+  noted = h.noted;
+  ends = inr (record { refusal = r; at = inr h.at; out = out; told = told });
+}
+
+-- it is
+pub begun-calls : (note : ℕ → StoreCall → ℕ) (names : FileNames) (roles : List Role) (status : ℕ) (before after : ℕ) (k : Call) → after ≡ noted_after note names before (loads_of roles) → is_begun status ≡ true
+    → CallsSo names (loads_of roles) (loads_of roles) None is_begun status note before after k
+begun-calls note names roles status before after k e begun = record {
+  made = loads_of roles;
+  left = [];
+  parts = sym (append-nil (loads_of roles));
+  noted = e;
+  ends = inl (refl, begun);
+}
+
+-- by the names that its line says
+session-named : (log elf : List ℕ) (note : ℕ → StoreCall → ℕ) (names : FileNames) (status : ℕ) (before after : ℕ) (k : Call) → names ≡ names_in (DebugLine log elf)
+    → CallsSo names (loads_of pair_roles) (loads_of pair_roles) None is_begun status note before after k → CallsOnly (Some (DebugLine log elf)) status note before after k
+session-named log elf note names status before after k e h = subst (λ (n : FileNames). CallsSo n (loads_of pair_roles) (loads_of pair_roles) None is_begun status note before after k) e h
+
+pub session-calls : (line : Line) (note : ℕ → StoreCall → ℕ) (names : FileNames) (status : ℕ) (before after : ℕ) (k : Call) → (IsNoSession (Some line) → ⊥) → names ≡ names_in line
+    → CallsSo names (loads_of pair_roles) (loads_of pair_roles) None is_begun status note before after k → CallsOnly (Some line) status note before after k
+session-calls (RecordLine r) note names status before after k is e h = absurd (is tt)
+session-calls (ReplayLine log elf hart interval) note names status before after k is e h = absurd (is tt)
+session-calls (JointLine log elf) note names status before after k is e h = absurd (is tt)
+session-calls (DebugLine log elf) note names status before after k is e h = session-named log elf note names status before after k e h
+session-calls (ListLine log) note names status before after k is e h = absurd (is tt)
+session-calls (CheckLine log) note names status before after k is e h = absurd (is tt)
+session-calls (AuditLine log elf book input) note names status before after k is e h = absurd (is tt)
+session-calls (RacesLine log elf most) note names status before after k is e h = absurd (is tt)
+session-calls (SliceLine log elf hart interval ic) note names status before after k is e h = absurd (is tt)
+session-calls (ConvertLine log copy) note names status before after k is e h = absurd (is tt)
+session-calls (SalvageLine log copy) note names status before after k is e h = absurd (is tt)
+session-calls (DemoLine seed) note names status before after k is e h = absurd (is tt)
+
+-- ---- words
+
+-- they say no line
+pub words-calls : (note : ℕ → StoreCall → ℕ) (status : ℕ) (n : ℕ) (k : Call) → Appends k.old.out k.new.out [] → ToldRefusal no_names WordsRefused status k.old.err k.new.err k.old.err_faults k.new.err_faults
+    → CallsOnly None status note n n k
+words-calls note status n k out told = record { made = []; left = []; parts = refl; noted = refl; ends = inr (record { refusal = WordsRefused; at = inl (refl, refl); out = out; told = told }) }
+
+-- no memory to read them
+pub unread-calls : (note : ℕ → StoreCall → ℕ) (line : Option Line) (status : ℕ) (n : ℕ) (k : Call) → Appends k.old.out k.new.out []
+    → ToldRefusal (names_by line) OutOfMemory status k.old.err k.new.err k.old.err_faults k.new.err_faults → CallsOnly line status note n n k
+unread-calls note line status n k out told = record { made = []; left = calls_of line; parts = refl; noted = refl; ends = inr (record { refusal = OutOfMemory; at = inr (inl refl); out = out; told = told }) }
+
+-- ---- what is told
+
+pub call-shape : (note : ℕ → StoreCall → ℕ) (line : Option Line) (status : ℕ) (before after : ℕ) (k : Call) → CallsOnly line status note before after k → HasShape line status k
+call-shape note line status before after k calls other = by calls.ends
+  where
+    apart : (b : Bool) → b ≡ true → b ≡ false → ⊥
+    apart b x y = grind arith
+
+    told : (r : RefusedAfter (names_by line) (needed_of line) (refusal_by line) calls.made status k)
+        → ToldRefusal (names_by line) r.refusal status k.old.err k.new.err k.old.err_faults k.new.err_faults → TellsRefusal (names_by line) status k
+    told r (inl h) = record { refusal = r.refusal; status_is = h.0; out = r.out; err = h.1 }
+    told r (inr h) = record { refusal = OutOfMemory; status_is = h.0; out = r.out; err = h.1 }
+
+    by : ((calls.left ≡ []) × (past_of line status ≡ true)) ⊎ RefusedAfter (names_by line) (needed_of line) (refusal_by line) calls.made status k → TellsRefusal (names_by line) status k
+    by (inl (all, past)) = absurd (apart (past_of line status) past other)
+    by (inr r) = told r r.told
+
+-- ---- `demo`
+
+demo-memory : (line : Line) (names : FileNames) (status : ℕ) (k : Call) → names ≡ names_in line → Appends k.old.out k.new.out [] → k.new.files ≡ k.old.files
+    → ToldRefusal names OutOfMemory status k.old.err k.new.err k.old.err_faults k.new.err_faults → TellsDemo (Some line) status k
+demo-memory (RecordLine r) names status k e out same told = tt
+demo-memory (ReplayLine log elf hart interval) names status k e out same told = tt
+demo-memory (JointLine log elf) names status k e out same told = tt
+demo-memory (DebugLine log elf) names status k e out same told = tt
+demo-memory (ListLine log) names status k e out same told = tt
+demo-memory (CheckLine log) names status k e out same told = tt
+demo-memory (AuditLine log elf book input) names status k e out same told = tt
+demo-memory (RacesLine log elf most) names status k e out same told = tt
+demo-memory (SliceLine log elf hart interval ic) names status k e out same told = tt
+demo-memory (ConvertLine log copy) names status k e out same told = tt
+demo-memory (SalvageLine log copy) names status k e out same told = tt
+demo-memory (DemoLine seed) names status k e out same told =
+    inr (wanting no_names (printed (demo_text seed)) status k (part-longer k.old.out k.new.out [] (demo_text seed) (part-whole k.old.out k.new.out [] out)) (same-files k.old.files k.new.files same)
+    (memory-names names no_names status k.old.err k.new.err k.old.err_faults k.new.err_faults told))
+
+-- it is refused
+pub demo-refused : (line : Line) (names : FileNames) (r : Refusal) (status : ℕ) (k : Call) → names ≡ names_in line → AnswersDemo line names (Err r) → Appends k.old.out k.new.out [] → k.new.files ≡ k.old.files
+    → ToldRefusal names r status k.old.err k.new.err k.old.err_faults k.new.err_faults → TellsDemo (Some line) status k
+demo-refused (RecordLine recording) names r status k e shows out same told = tt
+demo-refused (ReplayLine log elf hart interval) names r status k e shows out same told = tt
+demo-refused (JointLine log elf) names r status k e shows out same told = tt
+demo-refused (DebugLine log elf) names r status k e shows out same told = tt
+demo-refused (ListLine log) names r status k e shows out same told = tt
+demo-refused (CheckLine log) names r status k e shows out same told = tt
+demo-refused (AuditLine log elf book input) names r status k e shows out same told = tt
+demo-refused (RacesLine log elf most) names r status k e shows out same told = tt
+demo-refused (SliceLine log elf hart interval ic) names r status k e shows out same told = tt
+demo-refused (ConvertLine log copy) names r status k e shows out same told = tt
+demo-refused (SalvageLine log copy) names r status k e shows out same told = tt
+demo-refused (DemoLine seed) names r status k e shows out same told =
+    demo-memory (DemoLine seed) names status k e out same (subst (λ (x : Refusal). ToldRefusal names x status k.old.err k.new.err k.old.err_faults k.new.err_faults) shows told)
+
+-- it has its answer
+pub demo-answers : (line : Line) (names : FileNames) (answer : Answer) (status : ℕ) (k : Call) → names ≡ names_in line → AnswersDemo line names (Ok answer) → Tells names (told_of names answer) status k
+    → TellsDemo (Some line) status k
+demo-answers (RecordLine r) names answer status k e shows told = tt
+demo-answers (ReplayLine log elf hart interval) names answer status k e shows told = tt
+demo-answers (JointLine log elf) names answer status k e shows told = tt
+demo-answers (DebugLine log elf) names answer status k e shows told = tt
+demo-answers (ListLine log) names answer status k e shows told = tt
+demo-answers (CheckLine log) names answer status k e shows told = tt
+demo-answers (AuditLine log elf book input) names answer status k e shows told = tt
+demo-answers (RacesLine log elf most) names answer status k e shows told = tt
+demo-answers (SliceLine log elf hart interval ic) names answer status k e shows told = tt
+demo-answers (ConvertLine log copy) names answer status k e shows told = tt
+demo-answers (SalvageLine log copy) names answer status k e shows told = tt
+demo-answers (DemoLine seed) names answer status k e shows told =
+    subst (λ (n : FileNames). Tells n (printed (demo_text seed)) status k) e (subst (λ (what : Told). Tells names what status k) shows told)
+
+-- no memory to read the words
+pub demo-unread : (line : Option Line) (status : ℕ) (k : Call) → Appends k.old.out k.new.out [] → k.new.files ≡ k.old.files
+    → ToldRefusal (names_by line) OutOfMemory status k.old.err k.new.err k.old.err_faults k.new.err_faults → TellsDemo line status k
+demo-unread None status k out same told = tt
+demo-unread (Some line) status k out same told = demo-memory line (names_in line) status k refl out same told

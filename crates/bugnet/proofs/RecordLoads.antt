@@ -1,0 +1,85 @@
+-- What a recording answers after its loads.
+use Rattle.std.proofs.Common.{◌≡◌, ℕ, List, Option, Some, None, ◌∙◌, ap, subst, sym, refl, arith, Bool, inl, inr}
+use Rattle.std.specs.Prelude.{Result, Ok, Err, is_some, option_map}
+use Rattle.std.specs.Str.{bytes_eq}
+use Rattle.bn_outside.specs.Counts.{Counts}
+use Rattle.bn_outside.specs.Files.{Files}
+use Rattle.bn_base.specs.Programs.{Program}
+use Rattle.bn_base.specs.Ranges.{checked_by, first_bad}
+use Rattle.bn_base.specs.declared.settings.BadSetting.{BadSetting}
+use Rattle.bn_base.specs.declared.settings.RawSettings.{RawSettings}
+use Rattle.elf_loader.specs.Loaded.{image_of}
+use Rattle.elf_loader.specs.declared.error.ElfError.{ElfError}
+use Rattle.command_words.specs.Words.{RecordLine, seen_recording}
+use Rattle.command_words.specs.declared.commands.RecordOptions.{RecordOptions}
+use Rattle.log_commands.specs.Names.{FileNames}
+use Rattle.log_commands.specs.Refusals.{name_refusal}
+use Rattle.log_commands.specs.Told.{refused}
+use Rattle.bugnet.specs.Command.Record.{is_clash, IsByProgram, IsRecord}
+use Rattle.bugnet.specs.declared.manner.Manner.{Manner}
+use Rattle.bugnet.specs.Answers.{names_in, manner_of, setting_refusal, refusal_in, IsAnswer}
+use Rattle.log_commands.specs.SaveCounts.{IsRecordedRun}
+use Rattle.bugnet.specs.Asks.{FitsLine}
+use Rattle.bugnet.specs.Saves.{HoldsBytes, HasElf}
+use Rattle.log_commands.specs.Outside.{WithFiles, ProgramTells, GivesBy, CauseBy}
+use Rattle.log_commands.specs.declared.answer.Answer.{Answer}
+use Rattle.log_commands.specs.declared.refusal.Refusal.{Refusal}
+
+-- ---- what a recording loads
+
+-- a program that is refused ends the command
+pub program-refused : (known : Option Files) (names : FileNames) (bytes : List ℕ) (c : RawSettings) (how : Manner) (has : Bool) (digest : List ℕ) (r : Refusal) → ProgramTells bytes c (Err r)
+    → WithFiles known (λ files. GivesBy names (λ f. IsByProgram (image_of bytes c) f names c how has digest) files (Err r))
+program-refused None names bytes c how has digest r h = tt
+program-refused (Some files) names bytes c how has digest r (inl e) = inl (inl e)
+program-refused (Some files) names bytes c how has digest r (inr h) =
+    inr (subst (λ (i : Result Program ElfError). IsByProgram i files names c how has digest (refused names r)) (sym h.2) (ap (λ (x : Refusal). refused names x) h.1))
+
+-- ---- settings
+
+-- settings that were tested
+pub bad-one : (o : Option BadSetting) (s : RawSettings) (bad : BadSetting) → checked_by o s ≡ Err bad → o ≡ Some bad
+bad-one (Some other) s bad e = grind arith
+bad-one None s bad e = grind arith
+
+pub none-bad : (o : Option BadSetting) (s x : RawSettings) → checked_by o s ≡ Ok x → (o ≡ None) × (x ≡ s)
+none-bad None s x e = (refl, grind arith)
+none-bad (Some other) s x e = grind arith
+
+-- ---- a recording
+
+mapped : (A : Type 0) (B : Type 0) (f : A → B) (o : Option A) → is_some (option_map f o) ≡ is_some o
+mapped A B f None = refl
+mapped A B f (Some a) = refl
+
+-- what a recording's line asks for, by the names in it
+pub record-answers : (known : Option Files) (names : FileNames) (r : RecordOptions) (how : Manner) (has : Bool) (result : Result Answer Refusal) → names ≡ names_in (RecordLine (seen_recording r))
+    → how ≡ manner_of (seen_recording r) → has ≡ is_some r.input
+    → WithFiles known (λ files. GivesBy names (λ f. IsRecord f names r.settings how has) files result)
+    → WithFiles known (λ files. GivesBy names (IsAnswer (Some (RecordLine (seen_recording r)))) files result)
+record-answers known names r how has result e m input h =
+    let s = seen_recording r in
+    let there : has ≡ is_some s.input = input ∙ sym (mapped _ _ _ r.input) in
+    subst (λ (n : FileNames). WithFiles known (λ files. GivesBy names (λ f. IsRecord f n s.settings (manner_of s) (is_some s.input)) files result)) e
+    (subst (λ (b : Bool). WithFiles known (λ files. GivesBy names (λ f. IsRecord f names s.settings (manner_of s) b) files result)) there
+    (subst (λ (x : Manner). WithFiles known (λ files. GivesBy names (λ f. IsRecord f names s.settings x has) files result)) m h))
+
+-- what the words of such a line refuse, whether it is lean, and what its program file holds
+pub record-cause : (names : FileNames) (r : RecordOptions) (how : Manner) (before now : Counts) (result : Result Answer Refusal) → names ≡ names_in (RecordLine (seen_recording r))
+    → how ≡ manner_of (seen_recording r) → CauseBy (setting_refusal (first_bad r.settings) (is_clash how.lean names.log names.book)) before now result
+    → CauseBy (refusal_in (RecordLine (seen_recording r))) before now result
+record-cause names r how before now result e m h =
+    let s = seen_recording r in
+    subst (λ (n : FileNames). CauseBy (setting_refusal (first_bad s.settings) (is_clash s.lean n.log n.book)) before now result) e
+    (subst (λ (x : Manner). CauseBy (setting_refusal (first_bad s.settings) (is_clash x.lean names.log names.book)) before now result) m h)
+
+pub record-lean : (r : RecordOptions) (how : Manner) (answer : Answer) → how ≡ manner_of (seen_recording r) → IsRecordedRun how.lean answer → FitsLine (RecordLine (seen_recording r)) answer
+record-lean r how answer m h = subst (λ (x : Manner). IsRecordedRun x.lean answer) m h
+
+pub record-bytes : (known : Option Files) (names : FileNames) (r : RecordOptions) → names ≡ names_in (RecordLine (seen_recording r))
+    → WithFiles known (λ files. HoldsBytes (files names.elf)) → HasElf (RecordLine (seen_recording r)) known
+record-bytes known names r e h = subst (λ (n : FileNames). WithFiles known (λ files. HoldsBytes (files n.elf))) e h
+
+pub by-origin : (names own : FileNames) (before now : Counts) (result : Result Answer Refusal) → names ≡ own
+    → CauseBy (name_refusal (bytes_eq names.origin names.log)) before now result → CauseBy (name_refusal (bytes_eq own.origin own.log)) before now result
+by-origin names own before now result e h = subst (λ (n : FileNames). CauseBy (name_refusal (bytes_eq n.origin n.log)) before now result) e h

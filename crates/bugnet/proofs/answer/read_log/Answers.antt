@@ -1,8 +1,0 @@
-use Rattle.bugnet.proofs.Loads.{refused-log, own-log}
-use Rattle.bugnet.proofs.answer.read_log.Goals as goal
-
-pub returns-in-Err-clause-says : goal.returns-in-Err-clause-says
-returns-in-Err-clause-says c = refused-log c.args.bytes.now c.in-Err.damage c.of_damage.result c.of_damage.ensures c.in-Err.ensures.refused
-
-pub returns-in-Err-clause-own : goal.returns-in-Err-clause-own
-returns-in-Err-clause-own c = λ before now. own-log c.in-Err.damage c.of_damage.result before now c.of_damage.ensures

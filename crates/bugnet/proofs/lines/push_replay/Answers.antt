@@ -1,6 +1,0 @@
-use Rattle.bugnet.specs.Refusals.{replay_said}
-use Rattle.bugnet.proofs.lines.push_replay.Goals as goal
-
-pub returns-in-EndDiffers : goal.returns-in-EndDiffers
-unfolding replay_said
-returns-in-EndDiffers c = rw c.in-EndDiffers.is c.push_ends.ensures

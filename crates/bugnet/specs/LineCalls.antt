@@ -1,0 +1,180 @@
+-- Which calls a line makes of its store, in which order, and what it tells if one of them or what it loaded ends it.
+use Rattle.std.specs.Prelude.{◌≡◌, ◌⊎◌, ℕ, ◌==◌, ◌||◌, Bool, true, false, List, [], ◌++◌, Option, Some, None, Result, Ok, Err, is_some}
+use Rattle.std.specs.Io.KnownBytes.{Appends}
+use Rattle.demo_run.specs.Demonstration.{demo_text}
+use Rattle.command_words.specs.Words.{Line, RecordLine, ReplayLine, JointLine, DebugLine, ListLine, CheckLine, AuditLine, RacesLine, SliceLine, ConvertLine, SalvageLine, DemoLine}
+use Rattle.log_commands.specs.Names.{FileNames, no_names}
+use Rattle.bugnet.specs.Answers.{names_by, refusal_by}
+use Rattle.log_commands.specs.Command.Audit.{roles_of}
+use Rattle.log_commands.specs.Outside.{Wrote, ToldRefusal, told_of}
+use Rattle.log_commands.specs.Pairs.{pair_roles}
+use Rattle.log_commands.specs.Refusals.{status_of, line_of}
+use Rattle.log_commands.specs.Effects.{Call, Tells}
+use Rattle.bugnet.specs.Sessions.{is_begun}
+use Rattle.log_commands.specs.Told.{printed}
+use Rattle.log_commands.specs.declared.answer.Answer.{Answer}
+use Rattle.log_commands.specs.declared.names.Role.{Role}
+use Rattle.log_commands.specs.declared.refusal.Refusal.{Refusal}
+use Rattle.log_commands.specs.declared.refusal.Refusal.TheVariants as why
+use Rattle.log_commands.specs.FileCalls.{FileCall, Note, StopsAt, elf_roles, loads_of, log_roles, noted_after, origin_roles, record_roles, saves_of}
+
+-- ---- the calls of a line
+
+-- what a line loads, in this order
+abbrev pub line_roles : Line → List Role
+line_roles (RecordLine r) = record_roles (is_some r.input)
+line_roles (ReplayLine log elf hart interval) = pair_roles
+line_roles (JointLine log elf) = pair_roles
+line_roles (DebugLine log elf) = pair_roles
+line_roles (ListLine log) = log_roles
+line_roles (CheckLine log) = log_roles
+line_roles (AuditLine log elf book input) = roles_of (is_some input)
+line_roles (RacesLine log elf most) = pair_roles
+line_roles (SliceLine log elf hart interval ic) = pair_roles
+line_roles (ConvertLine log copy) = origin_roles
+line_roles (SalvageLine log copy) = origin_roles
+line_roles (DemoLine seed) = []
+
+-- what it loads before it reads what it loaded: all, but a recording reads its program before it loads the input
+abbrev pub needed_roles : Line → List Role
+needed_roles (RecordLine r) = elf_roles
+needed_roles (ReplayLine log elf hart interval) = pair_roles
+needed_roles (JointLine log elf) = pair_roles
+needed_roles (DebugLine log elf) = pair_roles
+needed_roles (ListLine log) = log_roles
+needed_roles (CheckLine log) = log_roles
+needed_roles (AuditLine log elf book input) = roles_of (is_some input)
+needed_roles (RacesLine log elf most) = pair_roles
+needed_roles (SliceLine log elf hart interval ic) = pair_roles
+needed_roles (ConvertLine log copy) = origin_roles
+needed_roles (SalvageLine log copy) = origin_roles
+needed_roles (DemoLine seed) = []
+
+-- what it saves after that
+abbrev pub line_saves : Line → List FileCall
+line_saves (RecordLine r) = saves_of r.lean
+line_saves (ReplayLine log elf hart interval) = []
+line_saves (JointLine log elf) = []
+line_saves (DebugLine log elf) = []
+line_saves (ListLine log) = []
+line_saves (CheckLine log) = []
+line_saves (AuditLine log elf book input) = []
+line_saves (RacesLine log elf most) = []
+line_saves (SliceLine log elf hart interval ic) = []
+line_saves (ConvertLine log copy) = saves_of true
+line_saves (SalvageLine log copy) = saves_of true
+line_saves (DemoLine seed) = []
+
+-- all its calls, in their order; words that say no line have none
+abbrev pub calls_of : Option Line → List FileCall
+calls_of None = []
+calls_of (Some line) = loads_of (line_roles line) ++ line_saves line
+
+abbrev pub needed_of : Option Line → List FileCall
+needed_of None = []
+needed_of (Some line) = loads_of (needed_roles line)
+
+-- ---- a command
+
+-- it is done, or memory ran out or a write failed
+abbrev pub is_printed : ℕ → Bool
+is_printed status = (status == 0) || (status == 9) || (status == 13)
+
+-- the same of a recording, which is also done if its run ended in a fault, or by the limit
+abbrev pub is_recorded : ℕ → Bool
+is_recorded status = is_printed status || (status == 10) || (status == 11)
+
+-- what a command may end with once all its calls are made: a replay that it prints as it comes may stop too, and the reading
+-- of commands
+abbrev pub line_past : Line → ℕ → Bool
+line_past (RecordLine r) = is_recorded
+line_past (ReplayLine log elf hart interval) = is_begun
+line_past (JointLine log elf) = is_begun
+line_past (DebugLine log elf) = is_begun
+line_past (ListLine log) = is_printed
+line_past (CheckLine log) = is_printed
+line_past (AuditLine log elf book input) = is_printed
+line_past (RacesLine log elf most) = is_begun
+line_past (SliceLine log elf hart interval ic) = is_printed
+line_past (ConvertLine log copy) = is_printed
+line_past (SalvageLine log copy) = is_printed
+line_past (DemoLine seed) = is_printed
+
+abbrev pub no_status : ℕ → Bool
+no_status status = false
+
+abbrev pub past_of : Option Line → ℕ → Bool
+past_of None = no_status
+past_of (Some line) = line_past line
+
+-- it is refused: by its words, and then it makes no call, or after these. Nothing is printed, and err has the line
+pub record RefusedAfter (names : FileNames) (needed : List FileCall) (words : Option Refusal) (made : List FileCall)
+    (status : ℕ) (k : Call) : Type 0 where
+  pub refusal : Refusal
+  pub at : ((words ≡ Some refusal) × (made ≡ [])) ⊎ StopsAt needed refusal made
+  pub out : Appends k.old.out k.new.out []
+  pub told : ToldRefusal names refusal status k.old.err k.new.err k.old.err_faults k.new.err_faults
+
+-- of these calls the first ones are made, in this order, and no other: all of them, unless it is refused
+pub record CallsSo (names : FileNames) (calls needed : List FileCall) (words : Option Refusal) (past : ℕ → Bool)
+    (status : ℕ) (note : Note) (before after : ℕ) (k : Call) : Type 0 where
+  pub made : List FileCall
+  pub left : List FileCall
+  pub parts : calls ≡ made ++ left
+  pub noted : after ≡ noted_after note names before made
+  pub ends : ((left ≡ []) × (past status ≡ true)) ⊎ RefusedAfter names needed words made status k
+
+-- so it is with the calls of a line
+abbrev pub CallsOnly : Option Line → (status : ℕ) → (note : Note) → (before after : ℕ) → Call → Type 0
+CallsOnly line status note before after k =
+    CallsSo (names_by line) (calls_of line) (needed_of line) (refusal_by line) (past_of line)
+    status note before after k
+
+-- ---- what it tells, whatever the store tells
+
+-- a refusal with this status is told, and nothing is printed
+pub record TellsRefusal (names : FileNames) (status : ℕ) (k : Call) : Type 0 where
+  pub refusal : Refusal
+  pub status_is : status ≡ status_of refusal
+  pub out : Appends k.old.out k.new.out []
+  pub err : Wrote k.old.err k.new.err k.old.err_faults k.new.err_faults (line_of names refusal)
+
+-- so it is unless the command is done, or memory ran out, a write failed, or a replay or a reading of commands stopped
+abbrev pub HasShape : Option Line → (status : ℕ) → Call → Type 0
+HasShape line status k = past_of line status ≡ false → TellsRefusal (names_by line) status k
+
+-- an answer that is this text, or memory ran out
+abbrev pub ShowsText : FileNames → List ℕ → Result Answer Refusal → Type 0
+ShowsText names text (Ok answer) = told_of names answer ≡ printed text
+ShowsText names text (Err refusal) = refusal ≡ why.OutOfMemory
+
+-- that of `demo` is the text of its number
+abbrev pub AnswersDemo : Line → FileNames → Result Answer Refusal → Type 0
+AnswersDemo (RecordLine r) names result = Unit {0}
+AnswersDemo (ReplayLine log elf hart interval) names result = Unit {0}
+AnswersDemo (JointLine log elf) names result = Unit {0}
+AnswersDemo (DebugLine log elf) names result = Unit {0}
+AnswersDemo (ListLine log) names result = Unit {0}
+AnswersDemo (CheckLine log) names result = Unit {0}
+AnswersDemo (AuditLine log elf book input) names result = Unit {0}
+AnswersDemo (RacesLine log elf most) names result = Unit {0}
+AnswersDemo (SliceLine log elf hart interval ic) names result = Unit {0}
+AnswersDemo (ConvertLine log copy) names result = Unit {0}
+AnswersDemo (SalvageLine log copy) names result = Unit {0}
+AnswersDemo (DemoLine seed) names result = ShowsText names (demo_text seed) result
+
+-- `demo` tells the text of its number
+abbrev pub TellsDemo : Option Line → (status : ℕ) → Call → Type 0
+TellsDemo None status k = Unit {0}
+TellsDemo (Some (RecordLine r)) status k = Unit {0}
+TellsDemo (Some (ReplayLine log elf hart interval)) status k = Unit {0}
+TellsDemo (Some (JointLine log elf)) status k = Unit {0}
+TellsDemo (Some (DebugLine log elf)) status k = Unit {0}
+TellsDemo (Some (ListLine log)) status k = Unit {0}
+TellsDemo (Some (CheckLine log)) status k = Unit {0}
+TellsDemo (Some (AuditLine log elf book input)) status k = Unit {0}
+TellsDemo (Some (RacesLine log elf most)) status k = Unit {0}
+TellsDemo (Some (SliceLine log elf hart interval ic)) status k = Unit {0}
+TellsDemo (Some (ConvertLine log copy)) status k = Unit {0}
+TellsDemo (Some (SalvageLine log copy)) status k = Unit {0}
+TellsDemo (Some (DemoLine seed)) status k = Tells no_names (printed (demo_text seed)) status k

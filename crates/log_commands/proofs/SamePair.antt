@@ -1,0 +1,137 @@
+-- What is loaded by two roles and read is an answer by a log and its program.
+use Rattle.std.proofs.Common.{◌≡◌, ◌≤◌, nat_lt, length, List, [], Bool, true, false, Option, Some, None, ◌∙◌, ap, sym, subst, refl, arith}
+use Rattle.std.specs.Prelude.{ℕ, Result, Ok, Err, IfOk}
+use Rattle.std.specs.Str.{bytes_eq}
+use Rattle.std.proofs.lemmas.Bool.Decides.{nat_tests}
+use Rattle.sha2.specs.Sha256.{sha256}
+use Rattle.bn_base.specs.Programs.{Program}
+use Rattle.bn_outside.specs.Files.{Files}
+use Rattle.elf_loader.specs.Loaded.{image_of}
+use Rattle.elf_loader.specs.declared.error.ElfError.{ElfError}
+use Rattle.log_order.specs.Content.{Content}
+use Rattle.log_blocks.specs.declared.damage.Damage.{Damage}
+use Rattle.log_commands.specs.Names.{FileNames}
+use Rattle.log_commands.specs.Told.{Told}
+use Rattle.log_commands.specs.Commands.{IsByLog, by_log}
+use Rattle.log_commands.specs.Evaluated.{with_image, where_same, pair_by, IsPairOfBytes, told_by, IsCommand, Makes}
+use Rattle.log_blocks.specs.Readings.{Reads}
+use Rattle.log_commands.specs.Inputs.{Bytes, no_bytes, bytes_of, unless_long, file_bytes, on_bytes, IsLoaded}
+use Rattle.log_commands.specs.Outside.{WithFiles}
+use Rattle.log_commands.specs.Pairs.{ByPair, pair_roles, pair_loaded, pair_same, pair_of, IsPairOf, IsPair, LoadedPair}
+use Rattle.log_commands.specs.Reading.{by_reading}
+use Rattle.log_commands.specs.declared.inputs.Inputs.{Inputs}
+use Rattle.log_commands.specs.declared.names.Role.TheVariants as role
+use Rattle.log_commands.specs.declared.pairs.JointReading.{JointReading}
+use Rattle.log_commands.specs.declared.refusal.Refusal.{Refusal}
+use Rattle.log_commands.proofs.Commanded.{Rest, file-there}
+
+-- what is read of it
+abbrev pub IsReadPair : Bytes → Result JointReading Refusal → Type 0
+IsReadPair b result = IsPairOfBytes b.log b.elf result
+
+same-image : (go : ByPair) (names : FileNames) (d : Content) (i : Result Program ElfError) → told_by (by_reading go) names (with_image d i) ≡ pair_loaded go names d i
+same-image go names d (Err e) = refl
+same-image go names d (Ok i) = refl
+
+same-digest : (go : ByPair) (names : FileNames) (elf : List ℕ) (d : Content) (same : Bool) → told_by (by_reading go) names (where_same same elf d) ≡ pair_same same go names elf d
+same-digest go names elf d true = same-image go names d (image_of elf d.head.settings)
+same-digest go names elf d false = refl
+
+same-log : (go : ByPair) (names : FileNames) (elf : List ℕ) (says : Result Content Damage) → told_by (by_reading go) names (pair_by elf says) ≡ by_log names (pair_of go names elf) says
+same-log go names elf (Err e) = refl
+same-log go names elf (Ok d) = same-digest go names elf d (bytes_eq (sha256 elf) d.head.digest)
+
+bytes-say : (go : ByPair) (files : Files) (names : FileNames) (b : Bytes) (what : Told) → Rest IsReadPair (by_reading go) files names [] b what → IsByLog names b.log (pair_of go names b.elf) what
+bytes-say go files names b what h =
+    let p : IsPairOfBytes b.log b.elf h.result = h.comes in
+    record {
+      says = p.says;
+      reads = p.reads;
+      is = h.told ∙ ap (λ (r : Result JointReading Refusal). told_by (by_reading go) names r) p.is ∙ same-log go names b.elf p.says;
+    }
+
+pub says-pair : (go : ByPair) (names : FileNames) (files : Files) (what : Told) → IsCommand pair_roles IsReadPair (by_reading go) files names what → IsPair go files names what
+says-pair go names files what h =
+    file-there IsReadPair (by_reading go) files names role.Log _ no_bytes what (λ log what. IsPairOf go files names log what)
+    (λ log. file-there IsReadPair (by_reading go) files names role.Elf [] _ what (λ elf what. IsByLog names log (pair_of go names elf) what)
+    (λ elf. bytes-say go files names (record { elf = elf; log = log; book = []; input = []; origin = [] }) what))
+    (record { result = h.result; comes = h.comes; told = h.told })
+
+-- ---- the pair that was loaded
+
+-- both files are there, within their limits
+record BothThere (log elf : Option (List ℕ)) (b : Bytes) : Type 0 where
+  pub log_there : log ≡ Some b.log
+  pub log_small : length b.log ≤ 272629760
+  pub elf_there : elf ≡ Some b.elf
+  pub elf_small : length b.elf ≤ 67108864
+
+within : (limit n : ℕ) → nat_lt limit n ≡ false → n ≤ limit
+within limit n e = grind (arith, nat_tests)
+
+abbrev both : Option (List ℕ) → Option (List ℕ) → Result Bytes Refusal
+both log elf = on_bytes (file_bytes role.Log log) (λ l. on_bytes (file_bytes role.Elf elf) (λ e. Ok (record { elf = e; log = l; book = []; input = []; origin = [] })))
+
+same-bytes : (a b : Bytes) → ◌≡◌ {A = Result Bytes Refusal} (Ok a) (Ok b) → a ≡ b
+same-bytes a b e = cc
+
+elf-by : (long : Bool) (log elf : List ℕ) (b : Bytes) → nat_lt 67108864 (length elf) ≡ long → length log ≤ 272629760
+    → ◌≡◌ {A = Result Bytes Refusal} (on_bytes (unless_long long role.Elf elf) (λ e. Ok (record { elf = e; log = log; book = []; input = []; origin = [] }))) (Ok b) → BothThere (Some log) (Some elf) b
+elf-by true log elf b f small e = absurd cc
+elf-by false log elf b f small e =
+    subst (λ (x : Bytes). BothThere (Some log) (Some elf) x) (same-bytes _ b e)
+    (record { log_there = refl; log_small = small; elf_there = refl; elf_small = within 67108864 (length elf) f })
+
+log-by : (long : Bool) (log : List ℕ) (elf : Option (List ℕ)) (b : Bytes) → nat_lt 272629760 (length log) ≡ long
+    → ◌≡◌ {A = Result Bytes Refusal} (on_bytes (unless_long long role.Log log) (λ l. on_bytes (file_bytes role.Elf elf) (λ e. Ok (record { elf = e; log = l; book = []; input = []; origin = [] })))) (Ok b) → BothThere (Some log) elf b
+log-by true log elf b f e = absurd cc
+log-by false log None b f e = absurd cc
+log-by false log (Some elf) b f e = elf-by (nat_lt 67108864 (length elf)) log elf b refl (within 272629760 (length log) f) e
+
+both-there : (log elf : Option (List ℕ)) (b : Bytes) → both log elf ≡ Ok b → BothThere log elf b
+both-there None elf b e = absurd cc
+both-there (Some log) elf b e = log-by (nat_lt 272629760 (length log)) log elf b refl e
+
+-- the log reads, and the program is its
+record ReadsSo (log elf : List ℕ) (p : JointReading) : Type 0 where
+  pub reads : Reads log (Ok p.log)
+  pub same : bytes_eq (sha256 elf) p.log.head.digest ≡ true
+  pub loaded : image_of elf p.log.head.settings ≡ Ok p.image
+
+same-reading : (p q : JointReading) → ◌≡◌ {A = Result JointReading Refusal} (Ok p) (Ok q) → p ≡ q
+same-reading p q e = cc
+
+image-so : (log elf : List ℕ) (p : JointReading) (d : Content) (image : Result Program ElfError) → Reads log (Ok d) → bytes_eq (sha256 elf) d.head.digest ≡ true → image_of elf d.head.settings ≡ image
+    → ◌≡◌ {A = Result JointReading Refusal} (Ok p) (with_image d image) → ReadsSo log elf p
+image-so log elf p d (Err e) reads same loaded is = absurd cc
+image-so log elf p d (Ok i) reads same loaded is =
+    subst (λ (q : JointReading). ReadsSo log elf q) (sym (same-reading p (record { image = i; log = d }) is)) (record { reads = reads; same = same; loaded = loaded })
+
+digest-so : (log elf : List ℕ) (p : JointReading) (d : Content) (same : Bool) → Reads log (Ok d) → bytes_eq (sha256 elf) d.head.digest ≡ same → ◌≡◌ {A = Result JointReading Refusal} (Ok p) (where_same same elf d) → ReadsSo log elf p
+digest-so log elf p d true reads same is = image-so log elf p d (image_of elf d.head.settings) reads same refl is
+digest-so log elf p d false reads same is = absurd cc
+
+reads-so : (log elf : List ℕ) (p : JointReading) (says : Result Content Damage) → Reads log says → ◌≡◌ {A = Result JointReading Refusal} (Ok p) (pair_by elf says) → ReadsSo log elf p
+reads-so log elf p (Err e) reads is = absurd cc
+reads-so log elf p (Ok d) reads is = digest-so log elf p d (bytes_eq (sha256 elf) d.head.digest) reads refl is
+
+-- what was loaded and read is a log and its program
+pub pair-there : (known : Option Files) (names : FileNames) (inputs : Inputs) (result : Result JointReading Refusal) → WithFiles known (λ files. IsLoaded names pair_roles files (Ok inputs))
+    → Makes (IsReadPair (bytes_of inputs)) result → WithFiles known (λ files. IfOk result (λ p. LoadedPair names.log names.elf files p.log p.image))
+pair-there None names inputs result h m = tt
+pair-there (Some files) names inputs (Err r) h m = tt
+pair-there (Some files) names inputs (Ok p) h m =
+    let b = bytes_of inputs in
+    let there = both-there (files names.log) (files names.elf) b h in
+    let so = reads-so b.log b.elf p m.says m.reads m.is in
+    record {
+      log_bytes = b.log;
+      elf_bytes = b.elf;
+      log_there = there.log_there;
+      log_small = there.log_small;
+      reads = so.reads;
+      elf_there = there.elf_there;
+      elf_small = there.elf_small;
+      same = so.same;
+      loaded = so.loaded;
+    }

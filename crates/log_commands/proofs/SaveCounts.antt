@@ -1,0 +1,66 @@
+-- How often a command asks its store to save.
+use Rattle.std.proofs.Common.{◌≡◌, ◌≢◌, ℕ, Bool, true, false, List, Option, Some, arith, inl, inr}
+use Rattle.bn_outside.specs.Counts.{Counts}
+use Rattle.bn_outside.specs.Files.{Files}
+use Rattle.log_commands.specs.SaveCounts.{SavedAll, SavesEach, AtMostSaves}
+use Rattle.log_commands.specs.Names.{FileNames}
+use Rattle.log_commands.specs.Outside.{ToldRefusal, Unsaved}
+use Rattle.log_commands.specs.RunEnds.{IsRecorded}
+use Rattle.log_commands.specs.Told.{Saved}
+use Rattle.log_commands.specs.declared.refusal.Refusal.{Refusal}
+use Rattle.log_commands.specs.declared.refusal.Refusal.TheVariants.{WordsRefused, OutOfRange, SameName, StoreFailed, Missing, TooLong, ElfRefused, LogRefused, ProgramDiffers, OutOfMemory, WriteFailed, ReplayStopped, ReadFailed, LineTooLong, CommandsTooLong, BookRefused, FileDiffers, NothingLeft, TooManyRaces, NoRow}
+use Rattle.log_commands.proofs.StatusesApart.{told-apart}
+
+-- neither a recording that is done, nor one whose texts a write refused
+pub none-saved : (status : ℕ) → (IsRecorded status → ⊥) → status ≢ 13 → SavedAll status → ⊥
+none-saved status done write (inl is) = done is
+none-saved status done write (inr is) = write is
+
+no-write : (status n : ℕ) → status ≡ n → n ≢ 13 → status ≢ 13
+no-write status n is other = λ e. omega (arith, e, is, other)
+
+-- the status of a refused save is none of a write's
+unsaved-write : (saved : Saved) (names : FileNames) (old new : Option Files) (before now : Counts) (r : Refusal) (status : ℕ) (err_old err_new : Option (List ℕ)) (m n : ℕ)
+    → Unsaved (Some saved) names old new before now r → ToldRefusal names r status err_old err_new m n → status ≢ 13
+unsaved-write saved names old new before now (StoreFailed role) status err_old err_new m n u (inl h) = no-write status 3 h.0 (λ e. omega (arith, e))
+unsaved-write saved names old new before now OutOfMemory status err_old err_new m n u (inl h) = no-write status 9 h.0 (λ e. omega (arith, e))
+unsaved-write saved names old new before now WordsRefused status err_old err_new m n u (inl h) = absurd u
+unsaved-write saved names old new before now (OutOfRange bad) status err_old err_new m n u (inl h) = absurd u
+unsaved-write saved names old new before now SameName status err_old err_new m n u (inl h) = absurd u
+unsaved-write saved names old new before now (Missing role) status err_old err_new m n u (inl h) = absurd u
+unsaved-write saved names old new before now (TooLong role) status err_old err_new m n u (inl h) = absurd u
+unsaved-write saved names old new before now (ElfRefused x) status err_old err_new m n u (inl h) = absurd u
+unsaved-write saved names old new before now (LogRefused x) status err_old err_new m n u (inl h) = absurd u
+unsaved-write saved names old new before now (ProgramDiffers kept found) status err_old err_new m n u (inl h) = absurd u
+unsaved-write saved names old new before now WriteFailed status err_old err_new m n u (inl h) = absurd u
+unsaved-write saved names old new before now (ReplayStopped x) status err_old err_new m n u (inl h) = absurd u
+unsaved-write saved names old new before now ReadFailed status err_old err_new m n u (inl h) = absurd u
+unsaved-write saved names old new before now LineTooLong status err_old err_new m n u (inl h) = absurd u
+unsaved-write saved names old new before now CommandsTooLong status err_old err_new m n u (inl h) = absurd u
+unsaved-write saved names old new before now (BookRefused x) status err_old err_new m n u (inl h) = absurd u
+unsaved-write saved names old new before now (FileDiffers place) status err_old err_new m n u (inl h) = absurd u
+unsaved-write saved names old new before now NothingLeft status err_old err_new m n u (inl h) = absurd u
+unsaved-write saved names old new before now (TooManyRaces most) status err_old err_new m n u (inl h) = absurd u
+unsaved-write saved names old new before now (NoRow ic) status err_old err_new m n u (inl h) = absurd u
+unsaved-write saved names old new before now r status err_old err_new m n u (inr h) = no-write status 9 h.0 (λ e. omega (arith, e))
+
+-- nor is that of want of memory
+pub memory-saves : (names : FileNames) (status : ℕ) (err_old err_new : Option (List ℕ)) (m n : ℕ) → ToldRefusal names OutOfMemory status err_old err_new m n → SavedAll status → ⊥
+memory-saves names status err_old err_new m n told =
+    none-saved status (told-apart names OutOfMemory status err_old err_new m n told) (of-memory told)
+  where
+    of-memory : ToldRefusal names OutOfMemory status err_old err_new m n → status ≢ 13
+    of-memory (inl h) = no-write status 9 h.0 (λ e. omega (arith, e))
+    of-memory (inr h) = no-write status 9 h.0 (λ e. omega (arith, e))
+
+-- a recording, one of whose saves was refused
+pub unsaved-saves : (saved : Saved) (names : FileNames) (old new : Option Files) (before now : Counts) (r : Refusal) (status : ℕ) (err_old err_new : Option (List ℕ)) (m n a b : ℕ) (lean : Bool)
+    → Unsaved (Some saved) names old new before now r → ToldRefusal names r status err_old err_new m n → AtMostSaves lean a b → SavesEach lean status a b
+unsaved-saves saved names old new before now r status err_old err_new m n a b lean u told few = record {
+  few = few;
+  all = λ is. absurd (none-saved status (told-apart names r status err_old err_new m n told) (unsaved-write saved names old new before now r status err_old err_new m n u told) is);
+}
+
+pub no-saves : (lean : Bool) (before after : ℕ) → after ≡ before → AtMostSaves lean before after
+no-saves true before after same = inl same
+no-saves false before after same = inl same

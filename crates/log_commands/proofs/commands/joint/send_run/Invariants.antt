@@ -1,0 +1,10 @@
+use Rattle.joint_replay.specs.Joining.{steps_left}
+use Rattle.log_commands.proofs.Joins.{Walks}
+use Rattle.log_commands.proofs.commands.joint.send_run.Given as goal
+
+abbrev pub invariant-steps : goal.invariant-steps
+invariant-steps g l = Walks l.fn.joint l.joint l.text (g.O.Sink.written l.fn.out) (g.O.Sink.written l.out) (g.O.Sink.faults l.fn.out) (g.O.Sink.faults l.out)
+
+-- the steps that are left
+abbrev pub decreases-steps : goal.decreases-steps
+decreases-steps g l = steps_left l.joint.lanes

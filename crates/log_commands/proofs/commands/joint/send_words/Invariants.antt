@@ -1,0 +1,11 @@
+use Rattle.std.proofs.Common.{length}
+use Rattle.joint_replay.specs.Memory.{known_from}
+use Rattle.log_commands.proofs.Joins.{Lists}
+use Rattle.log_commands.proofs.commands.joint.send_words.Given as goal
+
+abbrev pub invariant-words : goal.invariant-words
+invariant-words g l = Lists l.joint.memory l.from l.text (g.O.Sink.written l.fn.out) (g.O.Sink.written l.out) (g.O.Sink.faults l.fn.out) (g.O.Sink.faults l.out)
+
+-- the words that are left
+abbrev pub decreases-words : goal.decreases-words
+decreases-words g l = length (known_from l.from l.joint.memory)

@@ -1,0 +1,110 @@
+-- What a command answers, by its line and the files that are there. An answer is given by what it has to be: a log file is
+-- read by the grammar of its bytes, which is a relation, in the version that they name. But for a recording without a seed no command has two answers
+-- (`one_answer`).
+use Rattle.std.specs.Prelude.{◌≡◌, ℕ, nat_lt, Bool, true, false, List, [], ◌++◌, length, Option, Some, None, Result, Ok, Err}
+use Rattle.std.specs.Str.{bytes_eq}
+use Rattle.sha2.specs.Sha256.{sha256}
+use Rattle.bn_base.specs.Programs.{Program}
+use Rattle.bn_base.specs.declared.end_mark.EndMark.{EndMark}
+use Rattle.bn_outside.specs.Files.{Files}
+use Rattle.elf_loader.specs.Loaded.{image_of}
+use Rattle.elf_loader.specs.declared.error.ElfError.{ElfError}
+use Rattle.log_order.specs.Content.{Content}
+use Rattle.log_blocks.specs.Readings.{Reads}
+use Rattle.log_blocks.specs.declared.damage.Damage.{Damage}
+use Rattle.hart_replay.specs.Replay.{Outcome, Done, Refused, Replayed, Interval, interval_of, replayed}
+use Rattle.hart_replay.specs.declared.error.ReplayError.TheVariants.{NoInterval}
+use Rattle.rv_text.specs.Marks.{end_text}
+use Rattle.log_commands.specs.Names.{FileNames, name_of}
+use Rattle.log_commands.specs.Refusals.{status_of, line_of}
+use Rattle.log_commands.specs.Texts.{begin_text, rows_text, list_text, check_text}
+use Rattle.log_commands.specs.Told.{Told, refused, printed}
+use Rattle.log_commands.specs.declared.names.Role.{Role}
+use Rattle.log_commands.specs.declared.names.Role.TheVariants as role
+use Rattle.log_commands.specs.declared.refusal.Refusal.TheVariants.{Missing, TooLong, ElfRefused, LogRefused, ProgramDiffers, ReplayStopped}
+
+-- ---- files
+
+-- the first if a test holds, else the second
+abbrev pub Either : Bool → Type 0 → Type 0 → Type 0
+Either true A B = A
+Either false A B = B
+
+abbrev pub IsByFile : Option (List ℕ) → FileNames → Role → ℕ → (List ℕ → Told → Type 0) → Told → Type 0
+IsByFile None names r limit Go what = what ≡ refused names (Missing r)
+IsByFile (Some bytes) names r limit Go what = Either (nat_lt limit (length bytes)) (what ≡ refused names (TooLong r)) (Go bytes what)
+
+-- an answer that continues with the bytes of a file, if it is there and within the limit
+unfoldable pub WithFile : Files → FileNames → Role → ℕ → (List ℕ → Told → Type 0) → Told → Type 0
+WithFile files names r limit Go what = IsByFile (files (name_of names r)) names r limit Go what
+
+-- ---- logs
+
+abbrev pub by_log : FileNames → (Content → Told) → Result Content Damage → Told
+by_log names go (Ok d) = go d
+by_log names go (Err e) = refused names (LogRefused e)
+
+-- an answer by what a log says
+pub record IsByLog (names : FileNames) (bytes : List ℕ) (go : Content → Told) (what : Told) : Type 0 where
+  pub says : Result Content Damage
+  pub reads : Reads bytes says
+  pub is : what ≡ by_log names go says
+
+abbrev pub list_of : Content → Told
+list_of d = printed (list_text d.records)
+
+abbrev pub check_of : Content → Told
+check_of d = printed (check_text d)
+
+-- ---- the replay of an interval
+
+-- the end of a replay with this text so far
+unfoldable pub ended : FileNames → (hart interval : ℕ) → EndMark → List ℕ → Outcome → Told
+ended names hart interval mark text Done = printed (text ++ end_text hart interval mark)
+ended names hart interval mark text (Refused e) = record { status = status_of (ReplayStopped e); out = text; err = line_of names (ReplayStopped e); saved = None }
+
+abbrev pub interval_told : FileNames → (hart interval : ℕ) → Interval → Replayed → Told
+interval_told names hart interval v r = ended names hart interval v.mark (begin_text hart interval v.start.ic ++ rows_text r.rows) r.outcome
+
+abbrev pub replay_found : FileNames → (hart interval : ℕ) → Content → Program → Option Interval → Told
+replay_found names hart interval d i None = refused names (ReplayStopped (NoInterval hart interval))
+replay_found names hart interval d i (Some v) = interval_told names hart interval v (replayed i d.records hart interval)
+
+-- the replay of an interval of a log with a program
+abbrev pub replay_with : FileNames → (hart interval : ℕ) → Content → Program → Told
+replay_with names hart interval d i = replay_found names hart interval d i (interval_of hart interval d.records)
+
+abbrev pub replay_loaded : FileNames → (hart interval : ℕ) → Content → Result Program ElfError → Told
+replay_loaded names hart interval d (Err e) = refused names (ElfRefused e)
+replay_loaded names hart interval d (Ok i) = replay_with names hart interval d i
+
+abbrev pub replay_same : Bool → FileNames → (hart interval : ℕ) → List ℕ → Content → Told
+replay_same true names hart interval elf d = replay_loaded names hart interval d (image_of elf d.head.settings)
+replay_same false names hart interval elf d = refused names (ProgramDiffers d.head.digest (sha256 elf))
+
+-- the same with a program file: its digest is compared with the log's, and it is loaded with the log's settings
+abbrev pub replay_of : FileNames → (hart interval : ℕ) → List ℕ → Content → Told
+replay_of names hart interval elf d = replay_same (bytes_eq (sha256 elf) d.head.digest) names hart interval elf d
+
+-- ---- the commands
+
+-- what `list` has to answer, by the files that are there
+abbrev pub IsList : Files → FileNames → Told → Type 0
+IsList files names what = WithFile files names role.Log 272629760 (λ log what. IsByLog names log list_of what) what
+
+-- what `check` has to answer
+abbrev pub IsCheck : Files → FileNames → Told → Type 0
+IsCheck files names what = WithFile files names role.Log 272629760 (λ log what. IsByLog names log check_of what) what
+
+abbrev pub IsReplayOf : Files → FileNames → (hart interval : ℕ) → List ℕ → Told → Type 0
+IsReplayOf files names hart interval log what =
+    WithFile files names role.Elf 67108864 (λ elf what. IsByLog names log (replay_of names hart interval elf) what) what
+
+-- what `replay` has to answer: LOG is loaded first, then ELF
+abbrev pub IsReplay : Files → FileNames → (hart interval : ℕ) → Told → Type 0
+IsReplay files names hart interval what = WithFile files names role.Log 272629760 (λ log what. IsReplayOf files names hart interval log what) what
+
+-- a recording's input is that of a file, or empty
+abbrev pub IsByInput : Bool → Files → FileNames → (List ℕ → Told → Type 0) → Told → Type 0
+IsByInput true files names Go what = WithFile files names role.Input 16777216 Go what
+IsByInput false files names Go what = Go [] what

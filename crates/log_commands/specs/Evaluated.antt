@@ -1,0 +1,66 @@
+-- What a command comes to, by the bytes of its files.
+use Rattle.std.specs.Prelude.{◌≡◌, ◌⊎◌, ℕ, Bool, true, false, List, Result, Ok, Err}
+use Rattle.std.specs.Str.{bytes_eq}
+use Rattle.sha2.specs.Sha256.{sha256}
+use Rattle.bn_base.specs.Programs.{Program}
+use Rattle.bn_outside.specs.Files.{Files}
+use Rattle.elf_loader.specs.Loaded.{image_of}
+use Rattle.elf_loader.specs.declared.error.ElfError.{ElfError}
+use Rattle.log_order.specs.Content.{Content}
+use Rattle.log_blocks.specs.Readings.{Reads}
+use Rattle.log_blocks.specs.declared.damage.Damage.{Damage}
+use Rattle.log_commands.specs.Inputs.{Bytes, loaded}
+use Rattle.log_commands.specs.Names.{FileNames}
+use Rattle.log_commands.specs.Told.{Told, refused}
+use Rattle.log_commands.specs.declared.names.Role.{Role}
+use Rattle.log_commands.specs.declared.pairs.JointReading.{JointReading}
+use Rattle.log_commands.specs.declared.refusal.Refusal.{Refusal}
+use Rattle.log_commands.specs.declared.refusal.Refusal.TheVariants.{OutOfMemory, LogRefused, ElfRefused, ProgramDiffers}
+
+-- the same with what was made of it, where it isn't refused
+abbrev pub on_ok : {A B : Type 0} → (A → Result B Refusal) → Result A Refusal → Result B Refusal
+on_ok go (Err refusal) = Err refusal
+on_ok go (Ok made) = go made
+
+-- what was made is what it has to be, or memory ran out
+abbrev pub Makes : {A : Type 0} → (Result A Refusal → Type 0) → Result A Refusal → Type 0
+Makes Is (Ok made) = Is (Ok made)
+Makes Is (Err refusal) = (refusal ≡ OutOfMemory) ⊎ Is (Err refusal)
+
+-- ---- a log and its program
+
+abbrev pub with_image : Content → Result Program ElfError → Result JointReading Refusal
+with_image d (Err e) = Err (ElfRefused e)
+with_image d (Ok i) = Ok (record { image = i; log = d })
+
+abbrev pub where_same : Bool → List ℕ → Content → Result JointReading Refusal
+where_same true elf d = with_image d (image_of elf d.head.settings)
+where_same false elf d = Err (ProgramDiffers d.head.digest (sha256 elf))
+
+-- a program file has to have the digest that the log says, and is loaded with its settings
+abbrev pub pair_by : List ℕ → Result Content Damage → Result JointReading Refusal
+pair_by elf (Err e) = Err (LogRefused e)
+pair_by elf (Ok d) = where_same (bytes_eq (sha256 elf) d.head.digest) elf d
+
+-- a log is read first
+pub record IsPairOfBytes (log elf : List ℕ) (result : Result JointReading Refusal) : Type 0 where
+  pub says : Result Content Damage
+  pub reads : Reads log says
+  pub is : result ≡ pair_by elf says
+
+-- ---- the whole command
+
+-- what is loaded decides: a refusal, or what the bytes come to
+abbrev pub ComesTo : {A : Type 0} → (Bytes → Result A Refusal → Type 0) → Result Bytes Refusal → Result A Refusal → Type 0
+ComesTo Is (Err refusal) result = result ≡ Err refusal
+ComesTo Is (Ok bytes) result = Is bytes result
+
+abbrev pub told_by : {A : Type 0} → (A → Told) → FileNames → Result A Refusal → Told
+told_by show names (Ok made) = show made
+told_by show names (Err refusal) = refused names refusal
+
+-- a command that loads these files, in this order
+pub record IsCommand {A : Type 0} (roles : List Role) (Is : Bytes → Result A Refusal → Type 0) (show : A → Told) (files : Files) (names : FileNames) (what : Told) : Type 0 where
+  pub result : Result A Refusal
+  pub comes : ComesTo Is (loaded files names roles) result
+  pub told : what ≡ told_by show names result

@@ -1,0 +1,166 @@
+-- Which calls a command makes of its store, in which order, and what it tells if one of them or what it loaded ends it.
+use Rattle.std.specs.Prelude.{◌≡◌, ◌≢◌, ◌⊎◌, ℕ, Bool, true, false, List, [], ◌∷◌, ◌++◌, Option, Some, None, Result, Ok, Err}
+use Rattle.std.specs.Io.KnownBytes.{Appends}
+use Rattle.bn_outside.specs.Counts.{Counts}
+use Rattle.bn_outside.specs.StoreCalls.{StoreCall, LoadCall, SaveCall}
+use Rattle.log_commands.specs.Names.{FileNames, name_of}
+use Rattle.log_commands.specs.SaveCounts.{is_lean}
+use Rattle.log_commands.specs.Inputs.{limit_of}
+use Rattle.log_commands.specs.Outside.{RefusalCause, ToldRefusal}
+use Rattle.log_commands.specs.Effects.{Call}
+use Rattle.log_commands.specs.declared.answer.Answer.{Answer}
+use Rattle.log_commands.specs.declared.answer.Answer.TheVariants.{Recorded, Renewed}
+use Rattle.log_commands.specs.declared.names.Role.{Role}
+use Rattle.log_commands.specs.declared.names.Role.TheVariants as role
+use Rattle.log_commands.specs.declared.refusal.Refusal.{Refusal}
+use Rattle.log_commands.specs.declared.refusal.Refusal.TheVariants as why
+
+-- ---- the calls
+
+-- a load or a save of the file in a role
+pub data FileCall : Type 0 where
+  Loads : Role → FileCall
+  Saves : Role → FileCall
+
+-- the call that the store gets: by the file's name, and a load with the most bytes that the file may have
+abbrev pub store_call : FileNames → FileCall → StoreCall
+store_call names (Loads r) = LoadCall (name_of names r) (limit_of r)
+store_call names (Saves r) = SaveCall (name_of names r)
+
+-- how a store notes a call: the number that it had noted, the call, and the number after it
+abbrev pub Note : Type 0
+Note = ℕ → StoreCall → ℕ
+
+-- what a store that notes each call by `note` has noted after these, the first of them first
+abbrev pub noted_after : (note : Note) → FileNames → ℕ → List FileCall → ℕ
+noted_after note names noted [] = noted
+noted_after note names noted (made ∷ calls) = noted_after note names (note noted (store_call names made)) calls
+
+abbrev pub loads_of : List Role → List FileCall
+loads_of [] = []
+loads_of (r ∷ roles) = Loads r ∷ loads_of roles
+
+-- the log of a recording, and then the list of its turns, unless it is lean; a log made of another is saved alone
+abbrev pub saves_of : (lean : Bool) → List FileCall
+saves_of true = Saves role.Log ∷ []
+saves_of false = Saves role.Log ∷ Saves role.Book ∷ []
+
+-- ---- the calls of a line
+
+abbrev pub log_roles : List Role
+log_roles = role.Log ∷ []
+
+abbrev pub elf_roles : List Role
+elf_roles = role.Elf ∷ []
+
+abbrev pub origin_roles : List Role
+origin_roles = role.Origin ∷ []
+
+abbrev pub input_roles : (has_input : Bool) → List Role
+input_roles true = role.Input ∷ []
+input_roles false = []
+
+abbrev pub record_roles : (has_input : Bool) → List Role
+record_roles has_input = role.Elf ∷ input_roles has_input
+
+-- what an answer saves
+abbrev pub saves_in : Answer → List FileCall
+saves_in (Recorded r) = saves_of (is_lean r)
+saves_in (Renewed n) = saves_of true
+saves_in answer = []
+
+-- ---- where it stops
+
+-- the last of the calls that were made
+abbrev pub EndsWith : (made : List FileCall) → FileCall → Type 0
+EndsWith made last = (earlier : List FileCall) × (made ≡ earlier ++ last ∷ [])
+
+-- the store refused the last call, a load, and the refusal names its file
+abbrev pub StopsLoad : Refusal → (made : List FileCall) → Type 0
+StopsLoad refusal made =
+    (r : Role) × EndsWith made (Loads r)
+    × ((refusal ≡ why.StoreFailed r) ⊎ ((refusal ≡ why.Missing r) ⊎ (refusal ≡ why.TooLong r)))
+
+-- the same of a save
+abbrev pub StopsSave : Refusal → (made : List FileCall) → Type 0
+StopsSave refusal made = (r : Role) × EndsWith made (Saves r) × (refusal ≡ why.StoreFailed r)
+
+-- no refusal by a store, of words, of a write, or of the commands of a session
+abbrev pub IsOfContent : Refusal → Type 0
+IsOfContent refusal = (before now : Counts) → RefusalCause before now refusal
+
+-- why a command stopped, and after which calls: out of memory; by the store, at the last of them; or by what the files
+-- hold, and then all that is needed is loaded
+abbrev pub StopsAt : (needed : List FileCall) → Refusal → (made : List FileCall) → Type 0
+StopsAt needed refusal made =
+    (refusal ≡ why.OutOfMemory)
+    ⊎ (StopsLoad refusal made ⊎ (StopsSave refusal made ⊎ (IsOfContent refusal × (made ≡ needed))))
+
+-- ---- a part of a command
+
+-- its calls were made up to where it stopped
+pub record LoadsUpTo (names : FileNames) (roles needed : List Role) (note : Note) (before after : ℕ) (refusal : Refusal)
+    : Type 0 where
+  pub made : List FileCall
+  pub left : List FileCall
+  pub parts : loads_of roles ≡ made ++ left
+  pub noted : after ≡ noted_after note names before made
+  pub at : StopsAt (loads_of needed) refusal made
+
+-- all files in these roles were loaded, or it stopped
+abbrev pub CallsTo : {A : Type 0} → FileNames → (roles needed : List Role) → (note : Note) → (before after : ℕ)
+    → Result A Refusal → Type 0
+CallsTo names roles needed note before after (Ok made) = after ≡ noted_after note names before (loads_of roles)
+CallsTo names roles needed note before after (Err refusal) = LoadsUpTo names roles needed note before after refusal
+
+-- the same, if what they hold is read after all loads
+abbrev pub LoadsTo : {A : Type 0} → FileNames → (roles : List Role) → (note : Note) → (before after : ℕ)
+    → Result A Refusal → Type 0
+LoadsTo names roles note before after result = CallsTo names roles roles note before after result
+
+-- the same of a command that tests its words first
+abbrev pub CallsBy : {A : Type 0} → Option Refusal → FileNames → (roles needed : List Role) → (note : Note)
+    → (before after : ℕ) → Result A Refusal → Type 0
+CallsBy (Some refusal) names roles needed note before after result = after ≡ before
+CallsBy None names roles needed note before after result = CallsTo names roles needed note before after result
+
+-- why a load gave nothing
+abbrev pub IsOfLoad : Role → Refusal → Type 0
+IsOfLoad r refusal =
+    (refusal ≡ why.OutOfMemory)
+    ⊎ ((refusal ≡ why.StoreFailed r) ⊎ ((refusal ≡ why.Missing r) ⊎ (refusal ≡ why.TooLong r)))
+
+-- why a save was refused: out of memory, or by the store, at the last of the calls
+abbrev pub IsOfSave : Refusal → (made : List FileCall) → Type 0
+IsOfSave refusal made = (refusal ≡ why.OutOfMemory) ⊎ StopsSave refusal made
+
+-- saves were made up to where it stopped
+pub record SavesUpTo (names : FileNames) (saves : List FileCall) (note : Note) (before after : ℕ) (refusal : Refusal)
+    : Type 0 where
+  pub made : List FileCall
+  pub left : List FileCall
+  pub parts : saves ≡ made ++ left
+  pub noted : after ≡ noted_after note names before made
+  pub at : IsOfSave refusal made
+
+-- all saves were made, or it stopped
+abbrev pub SavesTo : {A : Type 0} → FileNames → (saves : List FileCall) → (note : Note) → (before after : ℕ)
+    → Result A Refusal → Type 0
+SavesTo names saves note before after (Ok made) = after ≡ noted_after note names before saves
+SavesTo names saves note before after (Err refusal) = SavesUpTo names saves note before after refusal
+
+-- a refused save is told, and nothing is printed
+pub record SaveRefused (names : FileNames) (made : List FileCall) (status : ℕ) (k : Call) : Type 0 where
+  pub refusal : Refusal
+  pub at : IsOfSave refusal made
+  pub out : Appends k.old.out k.new.out []
+  pub told : ToldRefusal names refusal status k.old.err k.new.err k.old.err_faults k.new.err_faults
+
+-- the saves of an answer: all of them, or up to one that was refused
+pub record SavesTold (names : FileNames) (saves : List FileCall) (status : ℕ) (note : Note) (before after : ℕ)
+    (k : Call) : Type 0 where
+  pub made : List FileCall
+  pub left : List FileCall
+  pub parts : saves ≡ made ++ left
+  pub noted : after ≡ noted_after note names before made
+  pub ends : ((left ≡ []) × (status ≢ 3)) ⊎ SaveRefused names made status k

@@ -1,0 +1,252 @@
+-- What the parts of a command do to the outside.
+use Rattle.std.specs.Prelude.{◌≡◌, ◌≢◌, ◌≤◌, ◌<◌, ◌⊎◌, ◌++◌, ℕ, List, [], length, Option, Some, None, Result, Ok, Err, IsSomeAnd, option_map, Bool, true, false}
+use Rattle.std.specs.Io.KnownBytes.{Appends}
+use Rattle.std.specs.Str.{bytes_eq}
+use Rattle.std.specs.declared.vec.Vec.{Vec}
+use Rattle.std.specs.declared.alloc.Global.{Global}
+use Rattle.bn_outside.specs.Counts.{Counts, Rose}
+use Rattle.bn_outside.specs.Files.{Files, SameElsewhere, WhereTold}
+use Rattle.bn_outside.specs.Streams.{AppendsPart}
+use Rattle.bn_base.specs.Programs.{Program}
+use Rattle.bn_base.specs.declared.settings.RawSettings.{RawSettings}
+use Rattle.elf_loader.specs.Loaded.{image_of}
+use Rattle.elf_loader.specs.declared.error.ElfError.{ElfError}
+use Rattle.log_order.specs.Content.{Content}
+use Rattle.log_blocks.specs.Readings.{Reads}
+use Rattle.log_blocks.specs.declared.damage.Damage.{Damage}
+use Rattle.log_commands.specs.Names.{FileNames, name_of}
+use Rattle.log_commands.specs.Refusals.{status_of, line_of}
+use Rattle.log_commands.specs.Told.{Told, Saved, refused, printed}
+use Rattle.log_commands.specs.Texts.{check_line, agree_text}
+use Rattle.log_commands.specs.RunEnds.{end_status}
+use Rattle.log_commands.specs.Commands.{list_of, replay_with}
+use Rattle.log_commands.specs.Joined.{joint_with}
+use Rattle.log_commands.specs.Racing.{halted}
+use Rattle.log_commands.specs.declared.names.Role.{Role}
+use Rattle.log_commands.specs.declared.names.Role.TheVariants as role
+use Rattle.log_commands.specs.declared.refusal.Refusal.{Refusal}
+use Rattle.log_commands.specs.declared.refusal.Refusal.TheVariants as why
+use Rattle.log_commands.specs.declared.answer.Answer.{Answer}
+use Rattle.log_commands.specs.declared.answer.IntervalToReplay.{IntervalToReplay}
+use Rattle.log_commands.specs.declared.answer.RunToTell.{RunToTell}
+use Rattle.log_commands.specs.declared.answer.NewLog.{NewLog}
+use Rattle.log_commands.specs.declared.answer.Answer.TheVariants.{Recorded, Interval, Joined, Listed, Checked, Agreed, Renewed, Shown, Halted}
+
+-- ---- what is loaded
+
+-- if a store tells its files
+abbrev pub WithFiles : Option Files → (Files → Type 0) → Type 0
+WithFiles None P = Unit {0}
+WithFiles (Some files) P = P files
+
+-- a load of a file: its bytes, or why there are none
+abbrev pub FetchTells : Role → ℕ → Option (List ℕ) → Result (Vec ℕ Global) Refusal → Type 0
+FetchTells role limit there (Ok bytes) = (there ≡ Some bytes.items) × (length bytes.items ≤ limit)
+FetchTells role limit there (Err refusal) =
+    ((refusal ≡ why.OutOfMemory) ⊎ (refusal ≡ why.StoreFailed role))
+    ⊎ (((there ≡ None) × (refusal ≡ why.Missing role)) ⊎ (IsSomeAnd there (λ bytes. limit < length bytes) × (refusal ≡ why.TooLong role)))
+
+-- a log that was read, or why it is refused
+abbrev pub LogTells : List ℕ → Result Content Refusal → Type 0
+LogTells bytes (Ok d) = Reads bytes (Ok d)
+LogTells bytes (Err refusal) = (refusal ≡ why.OutOfMemory) ⊎ ((e : Damage) × (refusal ≡ why.LogRefused e) × Reads bytes (Err e))
+
+-- a program that was loaded, or why it is refused
+abbrev pub ProgramTells : List ℕ → RawSettings → Result Program Refusal → Type 0
+ProgramTells bytes c (Ok i) = image_of bytes c ≡ Ok i
+ProgramTells bytes c (Err refusal) = (refusal ≡ why.OutOfMemory) ⊎ ((e : ElfError) × (refusal ≡ why.ElfRefused e) × (image_of bytes c ≡ Err e))
+
+-- ---- what is answered
+
+-- the list of turns that a recording has
+abbrev pub list_in : RunToTell → Option (List ℕ)
+list_in r = option_map (λ (list : Vec ℕ Global). list.items) r.book
+
+abbrev pub saved_of : RunToTell → Saved
+saved_of r = record { log = r.log.items; book = list_in r }
+
+abbrev pub told_of_recording : RunToTell → Told
+told_of_recording r = record { status = end_status r.end; out = r.out.items; err = r.err.items; saved = Some (saved_of r) }
+
+abbrev pub told_of_reading : FileNames → IntervalToReplay → Told
+told_of_reading names r = replay_with names r.hart r.interval r.log r.image
+
+-- a log file alone is saved
+abbrev pub saved_new : List ℕ → Saved
+saved_new file = record { log = file; book = None }
+
+-- and then the line of its log is told
+abbrev pub told_of_new : NewLog → Told
+told_of_new n = record { status = 0; out = check_line n.counts; err = []; saved = Some (saved_new n.file.items) }
+
+-- what an answer tells
+abbrev pub told_of : FileNames → Answer → Told
+told_of names (Recorded r) = told_of_recording r
+told_of names (Interval r) = told_of_reading names r
+told_of names (Joined r) = joint_with names r.log r.image
+told_of names (Listed d) = list_of d
+told_of names (Checked n) = printed (check_line n)
+told_of names Agreed = printed agree_text
+told_of names (Renewed n) = told_of_new n
+told_of names (Shown text) = printed text
+told_of names (Halted error) = halted names error
+
+-- an answer that saves nothing
+abbrev pub IsPrinted : Answer → Type 0
+IsPrinted (Recorded r) = ⊥
+IsPrinted (Interval r) = Unit {0}
+IsPrinted (Joined r) = Unit {0}
+IsPrinted (Listed d) = Unit {0}
+IsPrinted (Checked n) = Unit {0}
+IsPrinted Agreed = Unit {0}
+IsPrinted (Renewed n) = ⊥
+IsPrinted (Shown text) = Unit {0}
+IsPrinted (Halted error) = Unit {0}
+
+-- what was made of loaded bytes, by what it tells, is what the command has to answer, or memory ran out
+abbrev pub GivesTo : {A : Type 0} → (A → Told) → FileNames → (Told → Type 0) → Result A Refusal → Type 0
+GivesTo tells names Is (Ok made) = Is (tells made)
+GivesTo tells names Is (Err refusal) = (refusal ≡ why.OutOfMemory) ⊎ Is (refused names refusal)
+
+abbrev pub Gives : FileNames → (Told → Type 0) → Result Answer Refusal → Type 0
+Gives names Is result = GivesTo (told_of names) names Is result
+
+abbrev pub unless : Bool → Option (List ℕ) → Option (List ℕ)
+unless true there = None
+unless false there = there
+
+-- the files without the one under a name
+abbrev pub without : List ℕ → Files → Files
+without name files other = unless (bytes_eq other name) (files other)
+
+-- Memory was wanting; or the store failed at a file that the command comes to: if that one weren't there, the answer would
+-- be that it is missing
+abbrev pub IsEarly : FileNames → (Files → Told → Type 0) → Files → Refusal → Type 0
+IsEarly names Is files refusal =
+    (refusal ≡ why.OutOfMemory) ⊎ ((role : Role) × (refusal ≡ why.StoreFailed role) × Is (without (name_of names role) files) (refused names (why.Missing role)))
+
+-- what was made of the files that are there, by what it tells, is what the command has to answer by them, or it was stopped
+-- before it had an answer
+abbrev pub GivesOf : {A : Type 0} → (A → Told) → FileNames → (Files → Told → Type 0) → Files → Result A Refusal → Type 0
+GivesOf tells names Is files (Ok made) = Is files (tells made)
+GivesOf tells names Is files (Err refusal) = IsEarly names Is files refusal ⊎ Is files (refused names refusal)
+
+abbrev pub GivesBy : FileNames → (Files → Told → Type 0) → Files → Result Answer Refusal → Type 0
+GivesBy names Is files result = GivesOf (told_of names) names Is files result
+
+-- each refusal by the store has a count that rose, and none is of words, of a write, or of the commands of a session
+abbrev pub RefusalCause : Counts → Counts → Refusal → Type 0
+RefusalCause before now (why.StoreFailed role) = Rose before.faults now.faults
+RefusalCause before now (why.Missing role) = Rose before.misses now.misses
+RefusalCause before now (why.TooLong role) = Rose before.longs now.longs
+RefusalCause before now why.WordsRefused = ⊥
+RefusalCause before now (why.OutOfRange bad) = ⊥
+RefusalCause before now why.SameName = ⊥
+RefusalCause before now why.WriteFailed = ⊥
+RefusalCause before now why.ReadFailed = ⊥
+RefusalCause before now why.LineTooLong = ⊥
+RefusalCause before now why.CommandsTooLong = ⊥
+RefusalCause before now refusal = Unit {0}
+
+abbrev pub ResultCause : {A : Type 0} → Counts → Counts → Result A Refusal → Type 0
+ResultCause before now (Ok value) = Unit {0}
+ResultCause before now (Err refusal) = RefusalCause before now refusal
+
+-- the words alone decide that a command is refused, and else nothing like it comes
+abbrev pub CauseBy : {A : Type 0} → Option Refusal → Counts → Counts → Result A Refusal → Type 0
+CauseBy (Some refusal) before now result = (result ≡ Err refusal) × (status_of refusal ≡ 2)
+CauseBy None before now result = ResultCause before now result
+
+-- no refusal by a store, of words, of a write, or of the commands of a session
+abbrev pub IsOwn : {A : Type 0} → Result A Refusal → Type 0
+IsOwn result = (before now : Counts) → ResultCause before now result
+
+-- ---- what is printed
+
+-- a text was written, or a prefix of it and a write failed
+abbrev pub Wrote : Option (List ℕ) → Option (List ℕ) → ℕ → ℕ → List ℕ → Type 0
+Wrote old new before now text = Appends old new text ⊎ (AppendsPart old new text × Rose before now)
+
+-- why sending stopped: memory ran out, or a write failed
+abbrev pub SendStops : ℕ → ℕ → Refusal → Type 0
+SendStops before now why.OutOfMemory = Unit {0}
+SendStops before now why.WriteFailed = Rose before now
+SendStops before now refusal = ⊥
+
+-- a text was sent, or a prefix of it
+abbrev pub Sent : {A : Type 0} → Option (List ℕ) → Option (List ℕ) → ℕ → ℕ → List ℕ → (A → Type 0) → Result A Refusal → Type 0
+Sent old new before now text P (Ok value) = Appends old new text × P value
+Sent old new before now text P (Err refusal) = AppendsPart old new text × SendStops before now refusal
+
+-- of a text some was sent and the rest waits, or a prefix of it was sent and sending stopped
+abbrev pub Gathered : {A : Type 0} → Option (List ℕ) → Option (List ℕ) → ℕ → ℕ → List ℕ → List ℕ → Result A Refusal → Type 0
+Gathered old new before now text waiting (Ok value) = (sent : List ℕ) × Appends old new sent × (text ≡ sent ++ waiting)
+Gathered old new before now text waiting (Err refusal) = AppendsPart old new text × SendStops before now refusal
+
+-- a refusal was told, or its line found no memory
+abbrev pub ToldRefusal : FileNames → Refusal → ℕ → Option (List ℕ) → Option (List ℕ) → ℕ → ℕ → Type 0
+ToldRefusal names refusal status old new before now =
+    ((status ≡ status_of refusal) × Wrote old new before now (line_of names refusal))
+    ⊎ ((status ≡ 9) × Wrote old new before now (line_of names why.OutOfMemory))
+
+-- ---- what is saved
+
+-- all names have what they had
+abbrev pub SameFiles : Files → Files → Type 0
+SameFiles old new = (name : List ℕ) → new name ≡ old name
+
+-- all names but these two have what they had
+abbrev pub SameBut : List ℕ → List ℕ → Files → Files → Type 0
+SameBut log book old new = (name : List ℕ) → name ≢ log → name ≢ book → new name ≡ old name
+
+-- the log under its name, and the turn list under the book's
+pub record KeptBoth (bytes list : List ℕ) (log book : List ℕ) (old new : Files) : Type 0 where
+  pub log_there : log ≢ book → new log ≡ Some bytes
+  pub book_there : new book ≡ Some list
+  pub others : SameBut log book old new
+
+-- the log under its name, and all other names have what they had
+pub record KeptLog (bytes : List ℕ) (log : List ℕ) (old new : Files) : Type 0 where
+  pub there : new log ≡ Some bytes
+  pub others : SameElsewhere log old new
+
+abbrev pub KeptSaved : (bytes : List ℕ) → Option (List ℕ) → (log book : List ℕ) → Files → Files → Type 0
+KeptSaved bytes None log book old new = KeptLog bytes log old new
+KeptSaved bytes (Some list) log book old new = KeptBoth bytes list log book old new
+
+-- what was to be saved is saved, and nothing else
+abbrev pub KeptFiles : Option Saved → List ℕ → List ℕ → Files → Files → Type 0
+KeptFiles None log book old new = SameFiles old new
+KeptFiles (Some saved) log book old new = KeptSaved saved.log saved.book log book old new
+
+-- the log is under its name, and nothing is known of what the book's has
+pub record LogAlone (bytes : List ℕ) (log book : List ℕ) (old new : Files) : Type 0 where
+  pub log_there : log ≢ book → new log ≡ Some bytes
+  pub others : SameBut log book old new
+
+-- the save under one name was refused, of which nothing is known then. The log's comes first: after it was refused the book's
+-- name has what it had, and after the book's was refused the log is under its name
+abbrev pub SaveBroke : Role → Saved → (log book : List ℕ) → Files → Files → Type 0
+SaveBroke role.Elf saved log book old new = ⊥
+SaveBroke role.Log saved log book old new = SameElsewhere log old new
+SaveBroke role.Book saved log book old new = IsSomeAnd saved.book (λ list. LogAlone saved.log log book old new)
+SaveBroke role.Input saved log book old new = ⊥
+SaveBroke role.Origin saved log book old new = ⊥
+
+-- what a command may have done to the files, whatever happened: nothing if nothing was to be saved; else the save of the
+-- log may have been refused, or that of the book, if there is one, or none
+abbrev pub MayChange : Option Saved → (log book : List ℕ) → Files → Files → Type 0
+MayChange None log book old new = SameFiles old new
+MayChange (Some saved) log book old new = SameElsewhere log old new ⊎ IsSomeAnd saved.book (λ list. LogAlone saved.log log book old new)
+
+-- why saving stopped, and what it left: the store failed, or memory ran out
+abbrev pub Unsaved : Option Saved → FileNames → (old new : Option Files) → (before now : Counts) → Refusal → Type 0
+Unsaved None names old new before now refusal = ⊥
+Unsaved (Some saved) names old new before now (why.StoreFailed role) = WhereTold old new (SaveBroke role saved names.log names.book) × Rose before.faults now.faults
+Unsaved (Some saved) names old new before now why.OutOfMemory = (role : Role) × WhereTold old new (SaveBroke role saved names.log names.book)
+Unsaved (Some saved) names old new before now refusal = ⊥
+
+-- all was saved, or not
+abbrev pub SaveTells : {A : Type 0} → Saved → FileNames → (old new : Option Files) → (before now : Counts) → Result A Refusal → Type 0
+SaveTells saved names old new before now (Ok value) = WhereTold old new (KeptFiles (Some saved) names.log names.book)
+SaveTells saved names old new before now (Err refusal) = Unsaved (Some saved) names old new before now refusal

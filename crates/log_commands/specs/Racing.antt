@@ -1,0 +1,53 @@
+-- What the command `races` answers: the races of what a log keeps, or that there are more than asked for.
+use Rattle.std.specs.Prelude.{◌≡◌, ◌≤◌, ℕ, nat_lt, Bool, true, false, List, [], Option, Some, None}
+use Rattle.bn_base.specs.Programs.{Program}
+use Rattle.bn_outside.specs.Files.{Files}
+use Rattle.log_order.specs.Content.{Content}
+use Rattle.joint_replay.specs.declared.error.JointError.{JointError}
+use Rattle.joint_replay.specs.Joining.{Ran, run_all}
+use Rattle.race_report.specs.Races.{race_count, races_of}
+use Rattle.race_report.specs.Reports.{points_in}
+use Rattle.race_report.specs.Texts.{races_text}
+use Rattle.race_report.specs.declared.race.Race.{Race}
+use Rattle.log_commands.specs.Names.{FileNames}
+use Rattle.log_commands.specs.Told.{Told, refused, printed}
+use Rattle.log_commands.specs.Pairs.{IsPair, ArePair}
+use Rattle.log_commands.specs.Joined.{joint_status, joint_line, joined}
+use Rattle.log_commands.specs.declared.refusal.Refusal.TheVariants.{TooManyRaces}
+
+-- ---- what is told
+
+-- if the joint replay stopped, why it did, on err alone
+unfoldable pub halted : FileNames → JointError → Told
+halted names e = record { status = joint_status (Some e); out = []; err = joint_line names (Some e); saved = None }
+
+-- the races, unless there are too many
+abbrev pub races_listed : (too_many : Bool) → FileNames → (most : ℕ) → List Race → Told
+races_listed true names most races = refused names (TooManyRaces most)
+races_listed false names most races = printed (races_text races)
+
+-- those of a joint replay of so many harts, unless it stopped
+abbrev pub races_unless : Option JointError → FileNames → (most harts : ℕ) → Ran → Told
+races_unless (Some e) names most harts r = halted names e
+races_unless None names most harts r = races_listed (nat_lt most (race_count (points_in r))) names most (races_of harts (points_in r))
+
+abbrev pub races_in : FileNames → (most harts : ℕ) → Ran → Told
+races_in names most harts r = races_unless r.stopped names most harts r
+
+-- those of a log with a program
+abbrev pub races_with : FileNames → (most : ℕ) → Content → Program → Told
+races_with names most d i = races_in names most d.head.settings.harts (run_all (joined d i))
+
+-- ---- the command
+
+-- what `races` has to answer
+abbrev pub IsRaces : Files → FileNames → (most : ℕ) → Told → Type 0
+IsRaces files names most what = IsPair (races_with names most) files names what
+
+-- what it needs: a log and its program are there, their joint replay isn't stopped, and there are at most so many races
+pub record CanRace (log elf : List ℕ) (most : ℕ) (files : Files) : Type 0 where
+  pub content : Content
+  pub program : Program
+  pub pair : ArePair log elf files content program
+  pub goes_on : (run_all (joined content program)).stopped ≡ None
+  pub few : race_count (points_in (run_all (joined content program))) ≤ most

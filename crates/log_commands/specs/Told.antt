@@ -1,0 +1,25 @@
+-- What a command tells.
+use Rattle.std.specs.Prelude.{ℕ, List, [], Option, None}
+use Rattle.log_commands.specs.Names.{FileNames}
+use Rattle.log_commands.specs.Refusals.{status_of, line_of}
+use Rattle.log_commands.specs.declared.refusal.Refusal.{Refusal}
+
+-- a log file that is saved, and a recording's turn list if that is saved too
+pub record Saved : Type 0 where
+  pub log : List ℕ
+  pub book : Option (List ℕ)
+
+-- a status, what out and err gain, and what is saved
+pub record Told : Type 0 where
+  pub status : ℕ
+  pub out : List ℕ
+  pub err : List ℕ
+  pub saved : Option Saved
+
+-- a refusal
+unfoldable pub refused : FileNames → Refusal → Told
+refused names refusal = record { status = status_of refusal; out = []; err = line_of names refusal; saved = None }
+
+-- a text on out
+abbrev pub printed : List ℕ → Told
+printed text = record { status = 0; out = text; err = []; saved = None }

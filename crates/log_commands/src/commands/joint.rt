@@ -1,0 +1,278 @@
+//! The command `joint`: what all harts did in the intervals that a log keeps.
+ghost use Rattle.std.specs.Prelude.{◌≡◌, ◌≢◌, ◌≤◌, ◌⊎◌, ◌++◌, [], Option, Some, OnOk, IfOk};
+ghost use Rattle.bn_outside.specs.Counts.{Counts, NoneFell, Rose};
+ghost use Rattle.bn_outside.specs.Files.{Files};
+ghost use Rattle.joint_replay.specs.declared.error.JointError.TheVariants.{Stuck};
+ghost use Rattle.joint_replay.specs.Joining.{run_all};
+ghost use Rattle.joint_replay.specs.Texts.{known_text, steps_text, memory_text, joint_text};
+ghost use Rattle.log_commands.specs.FileCalls.{LoadsTo};
+ghost use Rattle.log_commands.specs.Joined.{position_text, positions_text, stuck_line, ran_told, IsJoint};
+ghost use Rattle.log_commands.specs.Joinings.{told_of_joint, stop_of, RanAs, ToldEnd};
+ghost use Rattle.log_commands.specs.Outside.{GivesBy, IsPrinted, ResultCause, WithFiles, Sent, Gathered};
+ghost use Rattle.log_commands.specs.Pairs.{pair_roles};
+ghost use Rattle.log_commands.specs.Effects.{printing, Tells};
+
+use crate::answer::Answer;
+use crate::names::Names;
+use crate::pairs::{JointReading, load_pair};
+use crate::refusal::Refusal;
+use crate::send::{refuse, send, send_block, send_short};
+use bn_base::{HartId, Ic};
+use bn_outside::{Sink, Store, send_all};
+use joint_replay::laws::{runs_end, runs_go_on};
+use joint_replay::{Joint, JointError, write_known};
+use rv_text::{RowLines, Text};
+use std::alloc::{AllocError, Global};
+
+/// Loads a log and a program, and replays all intervals of the log together.
+pub fn join_files<S: Store>(alloc: Global, names: &Names, store: &mut S) -> Result<Answer, Refusal>
+    ensures told { WithFiles (S.files store.old) (λ files. GivesBy names.now (λ files. IsJoint files names.now) files result) }
+    ensures same { S.files store.new ≡ S.files store.old }
+    ensures asks { S.saves store.new ≡ S.saves store.old }
+    ensures later { NoneFell (S.counts store.old) (S.counts store.new) }
+    ensures cause { ResultCause (S.counts store.old) (S.counts store.new) result }
+    ensures calls { LoadsTo names.now pair_roles S.note (S.noted store.old) (S.noted store.new) result }
+    ensures prints { IfOk result IsPrinted }
+{
+    match load_pair(alloc, names, store) {
+        Ok(reading) => Ok(Answer::Joined(reading)),
+        Err(refusal) => Err(refusal),
+    }
+}
+
+// Why a run stopped; want of memory is none.
+fn stop_of(error: JointError) -> Result<Option<JointError>, Refusal>
+    ensures { result ≡ stop_of error }
+{
+    match error {
+        JointError::Replay(refusal) => Ok(Some(JointError::Replay(refusal))),
+        JointError::Stuck { positions } => Ok(Some(JointError::Stuck { positions })),
+        JointError::OutOfMemory => Err(Refusal::OutOfMemory),
+    }
+}
+
+// Sends the lines of all steps, in blocks, of which none waits yet, and answers why the run stopped,
+// if not with all harts done.
+fn send_run<O: Sink>(
+    joint: &mut Joint,
+    lines: &mut RowLines,
+    text: &mut Text,
+    out: &mut O,
+) -> Result<Option<JointError>, Refusal>
+    requires { text.old ≡ [] }
+    ensures sent { let r = run_all joint.old in
+        Sent (O.written out.old) (O.written out.new) (O.faults out.old) (O.faults out.new) (steps_text r.walk.taken) (RanAs joint.old joint.new) result }
+    ensures later { O.faults out.old ≤ O.faults out.new }
+{
+    runs_go_on();
+    runs_end();
+    'steps: loop {
+        match joint.advance(lines, text) {
+            Ok(more) => {
+                if !more {
+                    match send(out, text) {
+                        Ok(()) => return Ok(None),
+                        Err(refusal) => return Err(refusal),
+                    }
+                }
+                match send_block(text, out) {
+                    Ok(()) => (),
+                    Err(refusal) => return Err(refusal),
+                }
+            }
+            Err(error) => match send(out, text) {
+                Ok(()) => return stop_of(error),
+                Err(refusal) => return Err(refusal),
+            },
+        }
+    }
+}
+
+// Sends the lines of all steps, and answers why the run stopped, if not with all harts done.
+fn send_steps<O: Sink>(
+    alloc: Global,
+    joint: &mut Joint,
+    out: &mut O,
+) -> Result<Option<JointError>, Refusal>
+    ensures sent { let r = run_all joint.old in
+        Sent (O.written out.old) (O.written out.new) (O.faults out.old) (O.faults out.new) (steps_text r.walk.taken) (RanAs joint.old joint.new) result }
+    ensures later { O.faults out.old ≤ O.faults out.new }
+{
+    let mut text = Text::new(alloc);
+    let mut lines = RowLines::new(alloc);
+    send_run(joint, &mut lines, &mut text, out)
+}
+
+// Puts the line of a known word behind what waits.
+fn gather_word<O: Sink>(text: &mut Text, addr: u32, word: u32, out: &mut O) -> Result<(), Refusal>
+    ensures sent { Gathered (O.written out.old) (O.written out.new) (O.faults out.old) (O.faults out.new) (text.old ++ known_text (addr, word)) text.new result }
+    ensures later { O.faults out.old ≤ O.faults out.new }
+{
+    match write_known(addr, word, text) {
+        Ok(()) => send_block(text, out),
+        Err(_) => send_short(text, out),
+    }
+}
+
+// Sends the lines of the known words, in blocks.
+fn send_words<O: Sink>(alloc: Global, joint: &Joint, out: &mut O) -> Result<(), Refusal>
+    ensures sent { Sent (O.written out.old) (O.written out.new) (O.faults out.old) (O.faults out.new) (memory_text joint.now.memory) (λ _. Unit {0}) result }
+    ensures later { O.faults out.old ≤ O.faults out.new }
+{
+    let mut text = Text::new(alloc);
+    let mut from: u64 = 0;
+    'words: loop {
+        match joint.known_from(from) {
+            None => return send(out, &text),
+            Some((addr, word)) => match gather_word(&mut text, addr, word, out) {
+                Ok(()) => from = u64::from(addr) + 4,
+                Err(refusal) => return Err(refusal),
+            },
+        }
+    }
+}
+
+// Sends all that a joint replay prints, and answers why it stopped, if not with all harts done.
+fn send_joint<O: Sink>(
+    alloc: Global,
+    joint: &mut Joint,
+    out: &mut O,
+) -> Result<Option<JointError>, Refusal>
+    ensures sent { let r = run_all joint.old in
+        Sent (O.written out.old) (O.written out.new) (O.faults out.old) (O.faults out.new) (joint_text r) (λ stopped. stopped ≡ r.stopped) result }
+    ensures later { O.faults out.old ≤ O.faults out.new }
+{
+    match send_steps(alloc, joint, out) {
+        Err(refusal) => Err(refusal),
+        Ok(stopped) => match stopped {
+            Some(error) => Ok(Some(error)),
+            None => match send_words(alloc, joint, out) {
+                Ok(()) => Ok(None),
+                Err(refusal) => Err(refusal),
+            },
+        },
+    }
+}
+
+// Appends a hart that isn't done, with its next count.
+#[tactic(auto, unfolding(crate::specs::Joined::position_text))]
+fn push_position(text: &mut Text, position: (HartId, Ic)) -> Result<(), AllocError>
+    ensures { OnOk result (text.new ≡ text.old ++ position_text position) }
+{
+    text.push_str(" ")?;
+    text.push_decimal(u64::from(position.0))?;
+    text.push_str(":")?;
+    text.push_decimal(position.1)
+}
+
+// Appends the harts that aren't done.
+#[tactic(auto, unfolding(crate::specs::Joined::positions_text))]
+fn push_positions(text: &mut Text, positions: &[(HartId, Ic)]) -> Result<(), AllocError>
+    ensures { OnOk result (text.new ≡ text.old ++ positions_text positions.now) }
+{
+    for position in positions {
+        push_position(text, *position)?;
+    }
+    Ok(())
+}
+
+// Appends the line where no hart is ready.
+#[tactic(auto, unfolding(crate::specs::Joined::stuck_line))]
+fn push_stuck(text: &mut Text, positions: &[(HartId, Ic)]) -> Result<(), AllocError>
+    ensures { OnOk result (text.new ≡ text.old ++ stuck_line positions.now) }
+{
+    text.push_str("bugnet: replay: Stuck")?;
+    push_positions(text, positions)?;
+    text.push_str("\n")
+}
+
+// Tells on err that no hart is ready, and answers 15; 9 where the line finds no memory.
+fn refuse_stuck<X: Sink>(
+    alloc: Global,
+    names: &Names,
+    positions: &[(HartId, Ic)],
+    err: &mut X,
+) -> u8
+    ensures told { ToldEnd names.now (Some (Stuck positions.now)) result (X.written err.old) (X.written err.new) (X.faults err.old) (X.faults err.new) }
+    ensures later { X.faults err.old ≤ X.faults err.new }
+{
+    let mut line = Text::new(alloc);
+    match push_stuck(&mut line, positions) {
+        Ok(()) => {
+            let _ = send_all(err, line.as_bytes());
+            15
+        }
+        Err(_) => refuse(alloc, names, &Refusal::OutOfMemory, err),
+    }
+}
+
+/// Tells on err why a joint replay stopped, and answers the status.
+pub fn stop<X: Sink>(alloc: Global, names: &Names, error: &JointError, err: &mut X) -> u8
+    ensures told { ToldEnd names.now (Some error.now) result (X.written err.old) (X.written err.new) (X.faults err.old) (X.faults err.new) }
+    ensures later { X.faults err.old ≤ X.faults err.new }
+{
+    match error {
+        JointError::Replay(refusal) => refuse(alloc, names, &Refusal::ReplayStopped(*refusal), err),
+        JointError::Stuck { positions } => refuse_stuck(alloc, names, positions.as_slice(), err),
+        JointError::OutOfMemory => refuse(alloc, names, &Refusal::OutOfMemory, err),
+    }
+}
+
+// Tells on err why a joint replay stopped, if it did, and answers the status.
+fn end<X: Sink>(alloc: Global, names: &Names, stopped: &Option<JointError>, err: &mut X) -> u8
+    ensures told { ToldEnd names.now stopped.now result (X.written err.old) (X.written err.new) (X.faults err.old) (X.faults err.new) }
+    ensures later { X.faults err.old ≤ X.faults err.new }
+{
+    match stopped {
+        None => 0,
+        Some(error) => stop(alloc, names, error, err),
+    }
+}
+
+// Prints a joint replay from where it stands.
+fn print_run<O: Sink, X: Sink>(
+    alloc: Global,
+    names: &Names,
+    joint: &mut Joint,
+    out: &mut O,
+    err: &mut X,
+) -> u8
+    ensures told { (files : Option Files) (had : Counts) → Tells names.now (ran_told names.now (run_all joint.old)) result (printing files had O.written O.faults X.written X.faults out.old err.old out.new err.new) }
+    ensures out_later { O.faults out.old ≤ O.faults out.new }
+    ensures err_later { X.faults err.old ≤ X.faults err.new }
+    ensures write { result ≡ 13 → Rose (O.faults out.old) (O.faults out.new) ⊎ Rose (X.faults err.old) (X.faults err.new) }
+    ensures words { result ≢ 2 }
+    ensures read { result ≢ 12 }
+    ensures failed { result ≢ 3 }
+    ensures missing { result ≢ 4 }
+    ensures long { result ≢ 5 }
+{
+    match send_joint(alloc, joint, out) {
+        Err(refusal) => refuse(alloc, names, &refusal, err),
+        Ok(stopped) => end(alloc, names, &stopped, err),
+    }
+}
+
+/// Prints the joint replay of a log: the lines of its steps, and then the known words.
+pub fn print_joint<O: Sink, X: Sink>(
+    alloc: Global,
+    names: &Names,
+    reading: &JointReading,
+    out: &mut O,
+    err: &mut X,
+) -> u8
+    ensures told { (files : Option Files) (had : Counts) → Tells names.now (told_of_joint names.now reading.now) result (printing files had O.written O.faults X.written X.faults out.old err.old out.new err.new) }
+    ensures out_later { O.faults out.old ≤ O.faults out.new }
+    ensures err_later { X.faults err.old ≤ X.faults err.new }
+    ensures write { result ≡ 13 → Rose (O.faults out.old) (O.faults out.new) ⊎ Rose (X.faults err.old) (X.faults err.new) }
+    ensures words { result ≢ 2 }
+    ensures read { result ≢ 12 }
+    ensures failed { result ≢ 3 }
+    ensures missing { result ≢ 4 }
+    ensures long { result ≢ 5 }
+{
+    match Joint::begin(alloc, &reading.image, &reading.log) {
+        Err(_) => refuse(alloc, names, &Refusal::OutOfMemory, err),
+        Ok(mut joint) => print_run(alloc, names, &mut joint, out, err),
+    }
+}

@@ -1,0 +1,121 @@
+//! The files that a command loads before it answers.
+ghost use Rattle.std.specs.Prelude.{◌≡◌, IfErr};
+ghost use Rattle.bn_outside.specs.Counts.{NoneFell};
+ghost use Rattle.bn_outside.specs.StoreCalls.{LoadCall};
+ghost use Rattle.log_commands.specs.FileCalls.{IsOfLoad, LoadsTo};
+ghost use Rattle.log_commands.specs.Inputs.{no_bytes, bytes_of, put, limit_of, IsLoaded, stored, OnlyLoads};
+ghost use Rattle.log_commands.specs.Names.{name_of};
+ghost use Rattle.log_commands.specs.Outside.{ResultCause, WithFiles, FetchTells};
+
+use crate::names::{Names, Role};
+use crate::refusal::Refusal;
+use bn_outside::{LoadError, Store};
+use std::alloc::Global;
+
+/// The most bytes of a program file.
+pub const ELF_LIMIT: usize = 67_108_864;
+
+/// The most bytes of a log file.
+pub const LOG_LIMIT: usize = 272_629_760;
+
+/// The most bytes of an input.
+pub const INPUT_LIMIT: usize = 16_777_216;
+
+/// The most bytes of a list of turns.
+pub const BOOK_LIMIT: usize = 1_073_741_824;
+
+/// Loads the bytes of a file.
+pub fn fetch<S: Store>(
+    alloc: Global,
+    names: &Names,
+    store: &mut S,
+    role: Role,
+    limit: usize,
+) -> Result<Vec<u8>, Refusal>
+    ensures told { WithFiles (S.files store.old) (λ files. FetchTells role limit (files (name_of names.now role)) result) }
+    ensures same { S.files store.new ≡ S.files store.old }
+    ensures asks { S.saves store.new ≡ S.saves store.old }
+    ensures later { NoneFell (S.counts store.old) (S.counts store.new) }
+    ensures cause { ResultCause (S.counts store.old) (S.counts store.new) result }
+    ensures called { S.noted store.new ≡ S.note (S.noted store.old) (LoadCall (name_of names.now role) limit) }
+    ensures stops { IfErr result (IsOfLoad role) }
+{
+    match store.load(alloc, names.of(role), limit) {
+        Ok(bytes) => Ok(bytes),
+        Err(LoadError::OutOfMemory) => Err(Refusal::OutOfMemory),
+        Err(LoadError::Failed) => Err(Refusal::StoreFailed(role)),
+        Err(LoadError::Missing) => Err(Refusal::Missing(role)),
+        Err(LoadError::TooLong) => Err(Refusal::TooLong(role)),
+    }
+}
+
+/// The bytes of a command's files, by their roles; empty where it has none.
+#[derive(Drop)]
+pub struct Inputs {
+    pub elf: Vec<u8>,
+    pub log: Vec<u8>,
+    pub book: Vec<u8>,
+    pub input: Vec<u8>,
+    pub origin: Vec<u8>,
+}
+
+impl Inputs {
+    // No bytes.
+    fn none(alloc: Global) -> Inputs
+        ensures { bytes_of result ≡ no_bytes }
+    {
+        Inputs {
+            elf: Vec::new(alloc),
+            log: Vec::new(alloc),
+            book: Vec::new(alloc),
+            input: Vec::new(alloc),
+            origin: Vec::new(alloc),
+        }
+    }
+
+    // The bytes of the file in a role.
+    fn put(&mut self, role: Role, bytes: Vec<u8>)
+        ensures { bytes_of self.new ≡ put (bytes_of self.old) role bytes.items }
+    {
+        match role {
+            Role::Elf => self.elf = bytes,
+            Role::Log => self.log = bytes,
+            Role::Book => self.book = bytes,
+            Role::Input => self.input = bytes,
+            Role::Origin => self.origin = bytes,
+        }
+    }
+}
+
+// The most bytes of the file in a role.
+fn limit_of(role: Role) -> usize
+    ensures { result ≡ limit_of role }
+{
+    match role {
+        Role::Elf => ELF_LIMIT,
+        Role::Log | Role::Origin => LOG_LIMIT,
+        Role::Book => BOOK_LIMIT,
+        Role::Input => INPUT_LIMIT,
+    }
+}
+
+/// Loads the files of these roles, in this order. The first file that is refused ends it.
+pub fn load_inputs<S: Store>(
+    alloc: Global,
+    names: &Names,
+    roles: &[Role],
+    store: &mut S,
+) -> Result<Inputs, Refusal>
+    ensures loads { WithFiles (S.files store.old) (λ files. IsLoaded names.now roles.now files result) }
+    ensures only { OnlyLoads (stored S.files S.saves S.counts store.old) (stored S.files S.saves S.counts store.new) result }
+    ensures calls { LoadsTo names.now roles.now S.note (S.noted store.old) (S.noted store.new) result }
+{
+    let mut inputs = Inputs::none(alloc);
+    for role in roles {
+        match fetch(alloc, names, store, *role, limit_of(*role)) {
+            Ok(bytes) => inputs.put(*role, bytes),
+            Err(refusal) => return Err(refusal),
+        }
+    }
+    Ok(inputs)
+}

@@ -1,0 +1,117 @@
+// Why a command is refused.
+ghost use Rattle.std.specs.Prelude.{◌≡◌};
+ghost use Rattle.log_commands.specs.Refusals.{status_of, replay_status, log_refusal};
+ghost use Rattle.log_commands.specs.declared.refusal.Refusal.TheVariants.{OutOfMemory};
+
+use crate::names::Role;
+use bn_base::{BadSetting, Ic};
+use elf_loader::ElfError;
+use hart_replay::ReplayError;
+use log_blocks::Damage;
+use log_file::FileError;
+use run_model::TurnError;
+use std::alloc::AllocError;
+
+/// Why a command is refused. An error held in a refusal is never its OutOfMemory.
+#[derive(Clone, Copy, Drop)]
+pub enum Refusal {
+    /// The words are no command.
+    WordsRefused,
+    /// A setting is out of range.
+    OutOfRange(BadSetting),
+    /// LOG and BOOK are one name, or LOG and NEW.
+    SameName,
+    /// The store failed at the file's name.
+    StoreFailed(Role),
+    /// The store has nothing under the file's name.
+    Missing(Role),
+    /// The name has more bytes than such a file may have.
+    TooLong(Role),
+    /// The loader refuses the program file.
+    ElfRefused(ElfError),
+    /// The bytes are no log file.
+    LogRefused(Damage),
+    /// The log was recorded of a program file with another digest.
+    ProgramDiffers { kept: [u8; 32], found: [u8; 32] },
+    /// There was no memory.
+    OutOfMemory,
+    /// Writing to out or err failed.
+    WriteFailed,
+    /// The log keeps no such interval, or its replay can't go on.
+    ReplayStopped(ReplayError),
+    /// Reading commands failed.
+    ReadFailed,
+    /// A line of commands has more than 256 bytes.
+    LineTooLong,
+    /// The commands have more than 2^24 bytes.
+    CommandsTooLong,
+    /// The list of turns isn't a whole run of the program.
+    BookRefused(TurnError),
+    /// The log isn't the file of the run: they differ first at this byte.
+    FileDiffers { at_byte: u64 },
+    /// No block of the log is left that could be salvaged.
+    NothingLeft,
+    /// There are more races than were asked for.
+    TooManyRaces { most: u64 },
+    /// The interval has no row of this count.
+    NoRow { ic: Ic },
+}
+
+impl From<AllocError> for Refusal {
+    ghost from_gives = { λ _ refusal. refusal ≡ OutOfMemory };
+
+    fn from(_: AllocError) -> Refusal {
+        Refusal::OutOfMemory
+    }
+}
+
+fn replay_status(error: &ReplayError) -> u8
+    ensures { result ≡ replay_status error.now }
+{
+    match error {
+        ReplayError::NoInterval { .. } => 14,
+        ReplayError::LoadMissing { .. } => 15,
+        ReplayError::ScMissing { .. } => 15,
+        ReplayError::RecordsLeft { .. } => 15,
+        ReplayError::EndDiffers { .. } => 15,
+        ReplayError::OutOfMemory => 15,
+    }
+}
+
+impl Refusal {
+    /// The refusal of a log file by its damage.
+    pub fn of_damage(damage: Damage) -> Refusal
+        ensures { result ≡ log_refusal damage }
+    {
+        match damage {
+            Damage::File(FileError::OutOfMemory) => Refusal::OutOfMemory,
+            _ => Refusal::LogRefused(damage),
+        }
+    }
+
+    /// The status that the program ends with.
+    pub fn status(&self) -> u8
+        ensures { result ≡ status_of self.now }
+    {
+        match self {
+            Refusal::WordsRefused | Refusal::OutOfRange(_) | Refusal::SameName => 2,
+            Refusal::StoreFailed(_) => 3,
+            Refusal::Missing(_) => 4,
+            Refusal::TooLong(_) => 5,
+            Refusal::ElfRefused(_) => 6,
+            Refusal::LogRefused(_) => 7,
+            Refusal::ProgramDiffers { .. } => 8,
+            Refusal::OutOfMemory => 9,
+            Refusal::WriteFailed => 13,
+            Refusal::ReplayStopped(error) => replay_status(error),
+            Refusal::ReadFailed => 12,
+            Refusal::LineTooLong => 18,
+            Refusal::CommandsTooLong => 18,
+            Refusal::BookRefused(_) => 17,
+            Refusal::FileDiffers { .. } => 16,
+            Refusal::NothingLeft => 19,
+            Refusal::TooManyRaces { .. } => 20,
+            Refusal::NoRow { .. } => 21,
+        }
+    }
+}

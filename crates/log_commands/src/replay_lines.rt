@@ -1,0 +1,178 @@
+//! The lines of an interval that is replayed: one at its begin, one a row, one at its end.
+ghost use Rattle.std.specs.Prelude.{◌≡◌, ◌≤◌, ◌++◌, []};
+ghost use Rattle.rv_text.specs.Rows.{row_text};
+ghost use Rattle.log_commands.specs.Texts.{rows_text, begin_text};
+ghost use Rattle.log_commands.specs.Printed.{EndsAs, outcome_of, ending_of, end_of_interval, rest_text, text_from};
+ghost use Rattle.log_commands.specs.Outside.{Sent, Gathered};
+
+use crate::refusal::Refusal;
+use crate::send::{send, send_block, send_short};
+use crate::texts::push_begin;
+use bn_base::{EndMark, Row};
+use bn_outside::Sink;
+use hart_replay::{ReplayError, Replayer};
+use rv_text::{RowLines, Text, write_end};
+use std::alloc::Global;
+
+/// How the replay of an interval ended.
+#[derive(Clone, Copy, Drop)]
+pub enum ReplayEnd {
+    /// As its log says.
+    Done,
+    /// It can't go on, or ends otherwise.
+    Stopped(ReplayError),
+}
+
+// Puts the line of a row behind what waits.
+fn gather_row<O: Sink>(
+    lines: &mut RowLines,
+    text: &mut Text,
+    row: &Row,
+    out: &mut O,
+) -> Result<(), Refusal>
+    ensures sent { Gathered (O.written out.old) (O.written out.new) (O.faults out.old) (O.faults out.new) (text.old ++ row_text row.now) text.new result }
+    ensures later { O.faults out.old ≤ O.faults out.new }
+{
+    match lines.write_row(row, text) {
+        Ok(()) => send_block(text, out),
+        Err(_) => send_short(text, out),
+    }
+}
+
+// The end that an error of a replay makes; want of memory is none.
+fn ending_of(error: ReplayError) -> Result<ReplayEnd, Refusal>
+    ensures { result ≡ ending_of error }
+{
+    match error {
+        ReplayError::OutOfMemory => Err(Refusal::OutOfMemory),
+        ReplayError::NoInterval { .. } => Ok(ReplayEnd::Stopped(error)),
+        ReplayError::LoadMissing { .. } => Ok(ReplayEnd::Stopped(error)),
+        ReplayError::ScMissing { .. } => Ok(ReplayEnd::Stopped(error)),
+        ReplayError::RecordsLeft { .. } => Ok(ReplayEnd::Stopped(error)),
+        ReplayError::EndDiffers { .. } => Ok(ReplayEnd::Stopped(error)),
+    }
+}
+
+// Sends the rows that are left of a replay, in blocks, of which none waits yet.
+fn send_left<O: Sink>(
+    replayer: &mut Replayer,
+    lines: &mut RowLines,
+    text: &mut Text,
+    out: &mut O,
+) -> Result<ReplayEnd, Refusal>
+    requires { text.old ≡ [] }
+    ensures sent { let r = replayer.old.left in
+        Sent (O.written out.old) (O.written out.new) (O.faults out.old) (O.faults out.new) (rows_text r.rows) (EndsAs r.outcome) result }
+    ensures later { O.faults out.old ≤ O.faults out.new }
+{
+    'rows: loop {
+        match replayer.step() {
+            Ok(Some(row)) => match gather_row(lines, text, &row, out) {
+                Ok(()) => (),
+                Err(refusal) => return Err(refusal),
+            },
+            Ok(None) => match send(out, text) {
+                Ok(()) => return Ok(ReplayEnd::Done),
+                Err(refusal) => return Err(refusal),
+            },
+            Err(error) => match send(out, text) {
+                Ok(()) => return ending_of(error),
+                Err(refusal) => return Err(refusal),
+            },
+        }
+    }
+}
+
+// Sends the rows that are left of a replay.
+fn send_rows<O: Sink>(
+    alloc: Global,
+    replayer: &mut Replayer,
+    out: &mut O,
+) -> Result<ReplayEnd, Refusal>
+    ensures sent { let r = replayer.old.left in
+        Sent (O.written out.old) (O.written out.new) (O.faults out.old) (O.faults out.new) (rows_text r.rows) (EndsAs r.outcome) result }
+    ensures later { O.faults out.old ≤ O.faults out.new }
+{
+    let mut text = Text::new(alloc);
+    let mut lines = RowLines::new(alloc);
+    send_left(replayer, &mut lines, &mut text, out)
+}
+
+// Sends the line before the rows.
+fn send_begin<O: Sink>(
+    alloc: Global,
+    hart: u64,
+    interval: u64,
+    ic: u64,
+    out: &mut O,
+) -> Result<(), Refusal>
+    ensures sent { Sent (O.written out.old) (O.written out.new) (O.faults out.old) (O.faults out.new) (begin_text hart interval ic) (λ _. Unit {0}) result }
+    ensures later { O.faults out.old ≤ O.faults out.new }
+{
+    let mut text = Text::new(alloc);
+    push_begin(&mut text, hart, interval, ic)?;
+    send(out, &text)
+}
+
+// Sends the line after the rows, where the end was reached.
+fn send_end<O: Sink>(
+    alloc: Global,
+    hart: u64,
+    interval: u64,
+    mark: &EndMark,
+    ending: &ReplayEnd,
+    out: &mut O,
+) -> Result<(), Refusal>
+    ensures sent { Sent (O.written out.old) (O.written out.new) (O.faults out.old) (O.faults out.new) (end_of_interval hart interval mark.now (outcome_of ending.now)) (λ _. Unit {0}) result }
+    ensures later { O.faults out.old ≤ O.faults out.new }
+{
+    match ending {
+        ReplayEnd::Done => {
+            let mut text = Text::new(alloc);
+            write_end(hart, interval, mark, &mut text)?;
+            send(out, &text)
+        }
+        ReplayEnd::Stopped(_) => Ok(()),
+    }
+}
+
+// Sends the rows that are left of a replay and the line after them.
+fn send_rest<O: Sink>(
+    alloc: Global,
+    hart: u64,
+    interval: u64,
+    mark: &EndMark,
+    replayer: &mut Replayer,
+    out: &mut O,
+) -> Result<ReplayEnd, Refusal>
+    ensures sent { let r = replayer.old.left in
+        Sent (O.written out.old) (O.written out.new) (O.faults out.old) (O.faults out.new) (rest_text hart interval mark.now r) (EndsAs r.outcome) result }
+    ensures later { O.faults out.old ≤ O.faults out.new }
+{
+    match send_rows(alloc, replayer, out) {
+        Err(refusal) => Err(refusal),
+        Ok(ending) => match send_end(alloc, hart, interval, mark, &ending, out) {
+            Ok(()) => Ok(ending),
+            Err(refusal) => Err(refusal),
+        },
+    }
+}
+
+/// Sends all that the replay of an interval prints, and answers how it ends.
+pub fn send_interval<O: Sink>(
+    alloc: Global,
+    hart: u64,
+    interval: u64,
+    mark: &EndMark,
+    replayer: &mut Replayer,
+    out: &mut O,
+) -> Result<ReplayEnd, Refusal>
+    ensures sent { let r = replayer.old.left in
+        Sent (O.written out.old) (O.written out.new) (O.faults out.old) (O.faults out.new) (text_from hart interval replayer.old.state.ic mark.now r) (EndsAs r.outcome) result }
+    ensures later { O.faults out.old ≤ O.faults out.new }
+{
+    match send_begin(alloc, hart, interval, replayer.state().ic, out) {
+        Err(refusal) => Err(refusal),
+        Ok(()) => send_rest(alloc, hart, interval, mark, replayer, out),
+    }
+}
