@@ -1,5 +1,5 @@
 -- What a whole call of the program does, from what its parts do.
-use Rattle.std.proofs.Common.{◌≡◌, ℕ, [], Option, subst, arith, inl, inr, ◌⊎◌}
+use Rattle.std.proofs.Common.{◌≡◌, ℕ, [], Option, subst, arith, inl, inr, ◌⊎◌, ap}
 use Rattle.std.specs.Prelude.{Ok, Err}
 use Rattle.std.specs.Io.KnownBytes.{Appends}
 use Rattle.bn_outside.specs.Files.{Files, WhereTold}
@@ -8,12 +8,15 @@ use Rattle.log_commands.specs.Names.{FileNames}
 use Rattle.log_commands.specs.Told.{Told, refused}
 use Rattle.bugnet.specs.Answers.{names_by, IsAnswer}
 use Rattle.log_commands.specs.Outside.{ToldRefusal, WithFiles, IsEarly, GivesBy, told_of, SameFiles, KeptFiles, MayChange}
-use Rattle.log_commands.specs.Effects.{Call, IsFree, IsUnsaved, AreKept, Tells, SomeTold}
-use Rattle.bugnet.specs.Run.{StoppedEarly, TellsAnswer, Keeps, ChangesFew}
+use Rattle.log_commands.specs.Effects.{Call, IsFree, IsUnsaved, AreKept, Tells, SomeTold, Outside, Acts, WriteRose}
+use Rattle.bugnet.specs.Run.{StoppedEarly, TellsAnswer, Keeps, ChangesFew, ByWords, Obeys}
 use Rattle.log_commands.specs.declared.names.Role.TheVariants as role
 use Rattle.log_commands.specs.declared.answer.Answer.{Answer}
 use Rattle.log_commands.specs.declared.refusal.Refusal.{Refusal}
 use Rattle.log_commands.proofs.Tells.{memory-or-store, refused-told, same-files, tells-few, tells-keeps, unsaved-free, with-files}
+use Rattle.bn_outside.specs.Counts.{Rose, NoneFell}
+use Rattle.log_commands.proofs.Prints.{rose-later}
+use Rattle.log_commands.proofs.Fetched.{fell-later}
 
 -- ---- what a call that tells has done
 
@@ -81,3 +84,25 @@ answer-answers line names known a status k n e g told =
     (λ files. SomeTold (IsAnswer line files) (λ what. Tells (names_by line) what status k) ⊎ StoppedEarly line files status k)
     (λ files is. inl (told_of names a, is, subst (λ (m : FileNames). Tells m (told_of names a) status k) n told))
     (subst (λ (x : Option Files). WithFiles x (λ files. GivesBy names (λ files. IsAnswer line files) files (Ok a))) e g)
+
+-- a command that acted on its answer, after loads that left its outputs alone
+pub acted : (line : Option Line) (status : ℕ) (k l : Call) (names : FileNames) (what : Told) → NoneFell k.old.counts l.old.counts → Acts names what status l
+    → l.new ≡ k.new → l.old.out_faults ≡ k.old.out_faults → l.old.err_faults ≡ k.old.err_faults → l.old.out ≡ k.old.out
+    → TellsAnswer line status k → ByWords line status k → Obeys line status k
+acted line status k l names what counts a new out err same told words = record {
+  told = told;
+  words = words;
+  failed = λ e. subst (λ (o : Outside). Rose k.old.counts.faults o.counts.faults) new (rose-later k.old.counts.faults l.old.counts.faults l.new.counts.faults counts.faults (a.failed e));
+  missing = λ e. absurd (a.missing e);
+  long = λ e. absurd (a.long e);
+  write = λ e. writes (a.write e);
+  later = record {
+    out = omega (arith, a.later.out, out, ap (λ (o : Outside). o.out_faults) new);
+    err = omega (arith, a.later.err, err, ap (λ (o : Outside). o.err_faults) new);
+  };
+  counts = subst (λ (o : Outside). NoneFell k.old.counts o.counts) new (fell-later k.old.counts l.old.counts l.new.counts counts a.counts);
+}
+  where
+    writes : WriteRose l → WriteRose k
+    writes (inl rose) = inl (subst (λ (n : ℕ). Rose n k.new.out_faults) out (subst (λ (o : Outside). Rose l.old.out_faults o.out_faults) new rose))
+    writes (inr rose) = inr (subst (λ (n : ℕ). Rose n k.new.err_faults) err (subst (λ (o : Outside). Rose l.old.err_faults o.err_faults) new rose))

@@ -1,10 +1,11 @@
 -- What a whole call of the program does, by its line.
-use Rattle.std.specs.Prelude.{◌⊎◌, ℕ, Option}
+use Rattle.std.specs.Prelude.{◌≡◌, ◌⊎◌, ℕ, Option}
 use Rattle.bn_outside.specs.Files.{Files, WhereTold}
 use Rattle.command_words.specs.Words.{Line}
 use Rattle.bugnet.specs.Answers.{names_by, refusal_by, IsAnswer}
 use Rattle.log_commands.specs.Outside.{WithFiles, SameFiles, KeptFiles, MayChange}
-use Rattle.log_commands.specs.Effects.{Call, IsByWords, IsUnsaved, SomeTold, StoppedBy, Tells}
+use Rattle.log_commands.specs.Effects.{Call, IsByWords, IsUnsaved, SomeTold, StoppedBy, Tells, WriteRose, NoWriteFell}
+use Rattle.bn_outside.specs.Counts.{Rose, NoneFell}
 
 -- ---- any command
 
@@ -29,3 +30,15 @@ Keeps line status old new =
 abbrev pub ChangesFew : Option Line → (old new : Option Files) → Type 0
 ChangesFew line old new =
     WithFiles old (λ files. SomeTold (IsAnswer line files) (λ what. WhereTold old new (MayChange what.saved (names_by line).log (names_by line).book)) ⊎ WhereTold old new SameFiles)
+
+-- what a command does: it tells what it has to answer, a refusal by the outside comes only where its count rose, and no count
+-- falls
+pub record Obeys (line : Option Line) (status : ℕ) (k : Call) : Type 0 where
+  pub told : TellsAnswer line status k
+  pub words : ByWords line status k
+  pub failed : status ≡ 3 → Rose k.old.counts.faults k.new.counts.faults
+  pub missing : status ≡ 4 → Rose k.old.counts.misses k.new.counts.misses
+  pub long : status ≡ 5 → Rose k.old.counts.longs k.new.counts.longs
+  pub write : status ≡ 13 → WriteRose k
+  pub later : NoWriteFell k
+  pub counts : NoneFell k.old.counts k.new.counts

@@ -16,8 +16,8 @@ ghost use Rattle.bugnet.specs.Headline.{PrintsRun};
 ghost use Rattle.bugnet.specs.Jointly.{PrintsJointly};
 ghost use Rattle.log_commands.specs.Outside.{GivesBy, CauseBy, WithFiles, IsPrinted, told_of};
 ghost use Rattle.bugnet.specs.Saves.{LeavesRun};
-ghost use Rattle.log_commands.specs.Effects.{call, Tells};
-ghost use Rattle.bugnet.specs.Run.{TellsAnswer, ByWords, Keeps, ChangesFew};
+ghost use Rattle.log_commands.specs.Effects.{call, Acts};
+ghost use Rattle.bugnet.specs.Run.{TellsAnswer, ByWords, Keeps, ChangesFew, Obeys};
 
 use crate::commands::debug::debug_files;
 use crate::commands::demo::demonstrate;
@@ -33,11 +33,11 @@ use file_laws::logs_are_contents;
 use log_blocks::laws::saved_files_keep_to_the_limit;
 use log_blocks::readings::{files_are_read, readings_are_unique};
 use log_commands::answer::Answer;
-use log_commands::commands::audit::{audit_files, print_agreement};
-use log_commands::commands::check::{check_files, print_check};
+use log_commands::commands::audit::{audit_files, send_agreement};
+use log_commands::commands::check::{check_files, send_check};
 use log_commands::commands::convert::convert_files;
 use log_commands::commands::joint::{join_files, print_joint, stop};
-use log_commands::commands::list::{list_files, print_list};
+use log_commands::commands::list::{list_files, send_list};
 use log_commands::commands::races::race_files;
 use log_commands::commands::replay::{print_interval, replay_files};
 use log_commands::commands::salvage::salvage_files;
@@ -45,7 +45,7 @@ use log_commands::commands::slice::slice_files;
 use log_commands::names::Names;
 use log_commands::new_log::keep_new;
 use log_commands::refusal::Refusal;
-use log_commands::send::{print_text, refuse};
+use log_commands::send::{end_print, refuse, send};
 use std::alloc::Global;
 use std::sync::Wait;
 use std::thread::Threads;
@@ -150,28 +150,19 @@ pub fn act<S: Store, O: Sink, X: Sink>(
     out: &mut O,
     err: &mut X,
 ) -> u8
-    ensures told { Tells names.now (told_of names.now answer.now) result (call S.files S.counts O.written O.faults X.written X.faults store.old out.old err.old store.new out.new err.new) }
+    ensures acts { Acts names.now (told_of names.now answer.now) result (call S.files S.counts O.written O.faults X.written X.faults store.old out.old err.old store.new out.new err.new) }
     ensures still { IsPrinted answer.now → S.files store.new ≡ S.files store.old }
     ensures saves { AnswerSaves answer.now result (S.saves store.old) (S.saves store.new) }
     ensures calls { SavesTold names.now (saves_in answer.now) result S.note (S.noted store.old) (S.noted store.new) (call S.files S.counts O.written O.faults X.written X.faults store.old out.old err.old store.new out.new err.new) }
-    ensures later { NoneFell (S.counts store.old) (S.counts store.new) }
-    ensures out_later { O.faults out.old ≤ O.faults out.new }
-    ensures err_later { X.faults err.old ≤ X.faults err.new }
-    ensures words { result ≢ 2 }
-    ensures read { result ≢ 12 }
-    ensures failed { result ≡ 3 → Rose (S.counts store.old).faults (S.counts store.new).faults }
-    ensures missing { result ≢ 4 }
-    ensures long { result ≢ 5 }
-    ensures write { result ≡ 13 → Rose (O.faults out.old) (O.faults out.new) ⊎ Rose (X.faults err.old) (X.faults err.new) }
 {
     match answer {
         Answer::Interval(reading) => print_interval(alloc, names, reading, out, err),
         Answer::Joined(reading) => print_joint(alloc, names, reading, out, err),
-        Answer::Listed(log) => print_list(alloc, names, log, out, err),
-        Answer::Checked(log) => print_check(alloc, names, log, out, err),
-        Answer::Agreed => print_agreement(alloc, names, out, err),
+        Answer::Listed(log) => end_print(alloc, names, send_list(alloc, log, out), err),
+        Answer::Checked(log) => end_print(alloc, names, send_check(alloc, log, out), err),
+        Answer::Agreed => end_print(alloc, names, send_agreement(alloc, out), err),
         Answer::Renewed(new) => keep_new(alloc, names, new, store, out, err),
-        Answer::Shown(text) => print_text(alloc, names, text, out, err),
+        Answer::Shown(text) => end_print(alloc, names, send(out, text), err),
         Answer::Halted(error) => stop(alloc, names, error, err),
         Answer::Recorded(recording) => keep(alloc, names, recording, store, out, err),
     }
@@ -189,19 +180,11 @@ fn reply<S: Store, O: Sink, X: Sink>(
     requires named { names.now ≡ names_in (seen command.now) }
     requires no_session { IsNoSession (Some (seen command.now)) }
     requires no_recording { IsNoRecording (Some (seen command.now)) }
-    ensures told { TellsAnswer (Some (seen command.now)) result (call S.files S.counts O.written O.faults X.written X.faults store.old out.old err.old store.new out.new err.new) }
-    ensures words { ByWords (Some (seen command.now)) result (call S.files S.counts O.written O.faults X.written X.faults store.old out.old err.old store.new out.new err.new) }
-    ensures later { NoneFell (S.counts store.old) (S.counts store.new) }
-    ensures out_later { O.faults out.old ≤ O.faults out.new }
-    ensures err_later { X.faults err.old ≤ X.faults err.new }
+    ensures obeys { Obeys (Some (seen command.now)) result (call S.files S.counts O.written O.faults X.written X.faults store.old out.old err.old store.new out.new err.new) }
     ensures still { IsReadOnly (Some (seen command.now)) → S.files store.new ≡ S.files store.old }
     ensures saves { LineSaves (Some (seen command.now)) result (S.saves store.old) (S.saves store.new) }
     ensures calls { CallsOnly (Some (seen command.now)) result S.note (S.noted store.old) (S.noted store.new) (call S.files S.counts O.written O.faults X.written X.faults store.old out.old err.old store.new out.new err.new) }
     ensures demo { TellsDemo (Some (seen command.now)) result (call S.files S.counts O.written O.faults X.written X.faults store.old out.old err.old store.new out.new err.new) }
-    ensures failed { result ≡ 3 → Rose (S.counts store.old).faults (S.counts store.new).faults }
-    ensures missing { result ≡ 4 → Rose (S.counts store.old).misses (S.counts store.new).misses }
-    ensures long { result ≡ 5 → Rose (S.counts store.old).longs (S.counts store.new).longs }
-    ensures write { result ≡ 13 → Rose (O.faults out.old) (O.faults out.new) ⊎ Rose (X.faults err.old) (X.faults err.new) }
     ensures read { result ≢ 12 }
 {
     match answer_to(alloc, command, names, store) {
@@ -221,11 +204,7 @@ pub fn perform<S: Store, I: Source, O: Sink, X: Sink>(
     err: &mut X,
 ) -> u8
     requires no_recording { IsNoRecording (Some (seen command.now)) }
-    ensures told { TellsAnswer (Some (seen command.now)) result (call S.files S.counts O.written O.faults X.written X.faults store.old out.old err.old store.new out.new err.new) }
-    ensures words { ByWords (Some (seen command.now)) result (call S.files S.counts O.written O.faults X.written X.faults store.old out.old err.old store.new out.new err.new) }
-    ensures later { NoneFell (S.counts store.old) (S.counts store.new) }
-    ensures out_later { O.faults out.old ≤ O.faults out.new }
-    ensures err_later { X.faults err.old ≤ X.faults err.new }
+    ensures obeys { Obeys (Some (seen command.now)) result (call S.files S.counts O.written O.faults X.written X.faults store.old out.old err.old store.new out.new err.new) }
     ensures still { IsReadOnly (Some (seen command.now)) → S.files store.new ≡ S.files store.old }
     ensures saves { LineSaves (Some (seen command.now)) result (S.saves store.old) (S.saves store.new) }
     ensures calls { CallsOnly (Some (seen command.now)) result S.note (S.noted store.old) (S.noted store.new) (call S.files S.counts O.written O.faults X.written X.faults store.old out.old err.old store.new out.new err.new) }
@@ -237,10 +216,6 @@ pub fn perform<S: Store, I: Source, O: Sink, X: Sink>(
     ensures unread { IsNoSession (Some (seen command.now)) → input.new ≡ input.old }
     ensures read { result ≡ 12 → Rose (I.faults input.old) (I.faults input.new) }
     ensures read_later { I.faults input.old ≤ I.faults input.new }
-    ensures failed { result ≡ 3 → Rose (S.counts store.old).faults (S.counts store.new).faults }
-    ensures missing { result ≡ 4 → Rose (S.counts store.old).misses (S.counts store.new).misses }
-    ensures long { result ≡ 5 → Rose (S.counts store.old).longs (S.counts store.new).longs }
-    ensures write { result ≡ 13 → Rose (O.faults out.old) (O.faults out.new) ⊎ Rose (X.faults err.old) (X.faults err.new) }
 {
     // Laws:
     readings_are_unique();
@@ -269,11 +244,7 @@ fn obey<S: Store, I: Source, O: Sink, X: Sink, G: Gate, R: Threads + Wait + Sync
     err: &mut X,
     gate: &G,
 ) -> u8
-    ensures told { TellsAnswer (Some (seen command.now)) result (call S.files S.counts O.written O.faults X.written X.faults store.old out.old err.old store.new out.new err.new) }
-    ensures words { ByWords (Some (seen command.now)) result (call S.files S.counts O.written O.faults X.written X.faults store.old out.old err.old store.new out.new err.new) }
-    ensures later { NoneFell (S.counts store.old) (S.counts store.new) }
-    ensures out_later { O.faults out.old ≤ O.faults out.new }
-    ensures err_later { X.faults err.old ≤ X.faults err.new }
+    ensures obeys { Obeys (Some (seen command.now)) result (call S.files S.counts O.written O.faults X.written X.faults store.old out.old err.old store.new out.new err.new) }
     ensures recorded { LeavesRun (Some (seen command.now)) result (S.files store.old) (S.files store.new) }
     ensures still { IsReadOnly (Some (seen command.now)) → S.files store.new ≡ S.files store.old }
     ensures saves { LineSaves (Some (seen command.now)) result (S.saves store.old) (S.saves store.new) }
@@ -286,10 +257,6 @@ fn obey<S: Store, I: Source, O: Sink, X: Sink, G: Gate, R: Threads + Wait + Sync
     ensures unread { IsNoSession (Some (seen command.now)) → input.new ≡ input.old }
     ensures read { result ≡ 12 → Rose (I.faults input.old) (I.faults input.new) }
     ensures read_later { I.faults input.old ≤ I.faults input.new }
-    ensures failed { result ≡ 3 → Rose (S.counts store.old).faults (S.counts store.new).faults }
-    ensures missing { result ≡ 4 → Rose (S.counts store.old).misses (S.counts store.new).misses }
-    ensures long { result ≡ 5 → Rose (S.counts store.old).longs (S.counts store.new).longs }
-    ensures write { result ≡ 13 → Rose (O.faults out.old) (O.faults out.new) ⊎ Rose (X.faults err.old) (X.faults err.new) }
 {
     // Laws:
     seeds_are_whole();

@@ -1,7 +1,7 @@
 -- What a whole call of the program does.
 use Rattle.std.specs.Prelude.{◌≡◌, ◌≢◌, ◌≤◌, ◌⊎◌, ℕ, List, [], Option, Some, None}
 use Rattle.std.specs.Io.KnownBytes.{Appends}
-use Rattle.bn_outside.specs.Counts.{Counts, Rose}
+use Rattle.bn_outside.specs.Counts.{Counts, Rose, NoneFell}
 use Rattle.bn_outside.specs.Files.{Files, WhereTold}
 use Rattle.bn_outside.specs.Streams.{AppendsPart, AppendsShort}
 use Rattle.log_commands.specs.Names.{FileNames}
@@ -129,3 +129,45 @@ SomeTold Is Also = (what : Told) × Is what × Also what
 abbrev pub IsByWords : Option Refusal → FileNames → ℕ → Call → Type 0
 IsByWords None names status k = status ≢ 2
 IsByWords (Some refusal) names status k = Appends k.old.out k.new.out [] × ToldRefusal names refusal status k.old.err k.new.err k.old.err_faults k.new.err_faults
+
+-- ---- a command that has its answer, and how it ends
+
+-- outputs whose counts of failed writes don't fall
+pub record NoWriteFell (k : Call) : Type 0 where
+  pub out : k.old.out_faults ≤ k.new.out_faults
+  pub err : k.old.err_faults ≤ k.new.err_faults
+
+-- a write failed in this call
+abbrev pub WriteRose : Call → Type 0
+WriteRose k = Rose k.old.out_faults k.new.out_faults ⊎ Rose k.old.err_faults k.new.err_faults
+
+-- a text is printed, or it was stopped: not by words, the store or what it reads, and by a write only if one failed
+pub record Prints (names : FileNames) (what : Told) (status : ℕ) (k : Call) : Type 0 where
+  pub told : Tells names what status k
+  pub words : status ≢ 2
+  pub failed : status ≢ 3
+  pub missing : status ≢ 4
+  pub long : status ≢ 5
+  pub read : status ≢ 12
+  pub write : status ≡ 13 → WriteRose k
+  pub later : NoWriteFell k
+
+-- the same of an answer that may have to be saved: the store fails only if its count rose
+pub record Acts (names : FileNames) (what : Told) (status : ℕ) (k : Call) : Type 0 where
+  pub told : Tells names what status k
+  pub words : status ≢ 2
+  pub failed : status ≡ 3 → Rose k.old.counts.faults k.new.counts.faults
+  pub missing : status ≢ 4
+  pub long : status ≢ 5
+  pub read : status ≢ 12
+  pub write : status ≡ 13 → WriteRose k
+  pub later : NoWriteFell k
+  pub counts : NoneFell k.old.counts k.new.counts
+
+-- a call that leaves a store alone, by what the outputs tell
+abbrev pub printing_to : Option Files → Counts → (out_old out_new : Option (List ℕ)) → (before now : ℕ)
+    → (err_old err_new : Option (List ℕ)) → (err_before err_now : ℕ) → Call
+printing_to files counts out_old out_new before now err_old err_new err_before err_now = record {
+  old = record { files = files; counts = counts; out = out_old; out_faults = before; err = err_old; err_faults = err_before };
+  new = record { files = files; counts = counts; out = out_new; out_faults = now; err = err_new; err_faults = err_now };
+}

@@ -1,10 +1,10 @@
 //! Texts sent to an output, whole or in blocks, and a refusal told on err.
-ghost use Rattle.std.specs.Prelude.{◌≡◌, ◌≢◌, ◌≤◌, ◌⊎◌, Option, IfErr, OnErr};
+ghost use Rattle.std.specs.Prelude.{◌≡◌, ◌≤◌, ℕ, List, Option, IfErr, OnErr};
 ghost use Rattle.bn_outside.specs.Counts.{Counts, Rose};
 ghost use Rattle.bn_outside.specs.Files.{Files};
 ghost use Rattle.bn_outside.specs.Streams.{AppendsShort};
 ghost use Rattle.log_commands.specs.Outside.{Sent, Gathered, ToldRefusal};
-ghost use Rattle.log_commands.specs.Effects.{printing, Tells};
+ghost use Rattle.log_commands.specs.Effects.{Prints, printing_to};
 ghost use Rattle.log_commands.specs.Told.{printed};
 ghost use Rattle.log_commands.specs.declared.refusal.Refusal.TheVariants.{WriteFailed};
 
@@ -56,25 +56,19 @@ pub fn refuse<X: Sink>(alloc: Global, names: &Names, refusal: &Refusal, err: &mu
     }
 }
 
-/// Prints a text that is made already.
-pub fn print_text<O: Sink, X: Sink>(
+/// Ends a command whose text was sent: with 0, or with the refusal that stopped it, which is told on err.
+pub fn end_print<X: Sink>(
     alloc: Global,
     names: &Names,
-    text: &Text,
-    out: &mut O,
+    sent: Result<(), Refusal>,
     err: &mut X,
 ) -> u8
-    ensures told { (files : Option Files) (had : Counts) → Tells names.now (printed text.now) result (printing files had O.written O.faults X.written X.faults out.old err.old out.new err.new) }
-    ensures out_later { O.faults out.old ≤ O.faults out.new }
-    ensures err_later { X.faults err.old ≤ X.faults err.new }
-    ensures write { result ≡ 13 → Rose (O.faults out.old) (O.faults out.new) ⊎ Rose (X.faults err.old) (X.faults err.new) }
-    ensures words { result ≢ 2 }
-    ensures read { result ≢ 12 }
-    ensures failed { result ≢ 3 }
-    ensures missing { result ≢ 4 }
-    ensures long { result ≢ 5 }
+    ensures { (files : Option Files) (had : Counts) (text : List ℕ) (out_old out_new : Option (List ℕ)) (before now : ℕ)
+        → before ≤ now → Sent out_old out_new before now text (λ _. Unit {0}) sent
+        → Prints names.now (printed text) result (printing_to files had out_old out_new before now
+        (X.written err.old) (X.written err.new) (X.faults err.old) (X.faults err.new)) }
 {
-    match send(out, text) {
+    match sent {
         Ok(()) => 0,
         Err(refusal) => refuse(alloc, names, &refusal, err),
     }

@@ -103,36 +103,13 @@ pub fn audit_files<S: Store>(
     }
 }
 
-// Sends the line of a log that agrees.
+/// Sends the line of a log that agrees.
 #[tactic(auto, unfolding(crate::specs::Texts::agree_text))]
-fn send_agreement<O: Sink>(alloc: Global, out: &mut O) -> Result<(), Refusal>
+pub fn send_agreement<O: Sink>(alloc: Global, out: &mut O) -> Result<(), Refusal>
     ensures sent { Sent (O.written out.old) (O.written out.new) (O.faults out.old) (O.faults out.new) agree_text (λ _. Unit {0}) result }
     ensures later { O.faults out.old ≤ O.faults out.new }
 {
     let mut text = Text::new(alloc);
     text.push_str("agree\n")?;
     send(out, &text)
-}
-
-/// Prints that a log agrees.
-pub fn print_agreement<O: Sink, X: Sink>(
-    alloc: Global,
-    names: &Names,
-    out: &mut O,
-    err: &mut X,
-) -> u8
-    ensures told { (files : Option Files) (had : Counts) → Tells names.now (printed agree_text) result (printing files had O.written O.faults X.written X.faults out.old err.old out.new err.new) }
-    ensures out_later { O.faults out.old ≤ O.faults out.new }
-    ensures err_later { X.faults err.old ≤ X.faults err.new }
-    ensures write { result ≡ 13 → Rose (O.faults out.old) (O.faults out.new) ⊎ Rose (X.faults err.old) (X.faults err.new) }
-    ensures words { result ≢ 2 }
-    ensures read { result ≢ 12 }
-    ensures failed { result ≢ 3 }
-    ensures missing { result ≢ 4 }
-    ensures long { result ≢ 5 }
-{
-    match send_agreement(alloc, out) {
-        Ok(()) => 0,
-        Err(refusal) => refuse(alloc, names, &refusal, err),
-    }
 }

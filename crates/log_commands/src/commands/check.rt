@@ -59,27 +59,3 @@ pub fn send_check<O: Sink>(alloc: Global, log: &LogCounts, out: &mut O) -> Resul
     push_check(&mut text, log)?;
     send(out, &text)
 }
-
-// Prints the counts of a log.
-pub fn print_check<O: Sink, X: Sink>(
-    alloc: Global,
-    names: &Names,
-    log: &LogCounts,
-    out: &mut O,
-    err: &mut X,
-) -> u8
-    ensures told { (files : Option Files) (had : Counts) → Tells names.now (printed (check_line log.now)) result (printing files had O.written O.faults X.written X.faults out.old err.old out.new err.new) }
-    ensures out_later { O.faults out.old ≤ O.faults out.new }
-    ensures err_later { X.faults err.old ≤ X.faults err.new }
-    ensures write { result ≡ 13 → Rose (O.faults out.old) (O.faults out.new) ⊎ Rose (X.faults err.old) (X.faults err.new) }
-    ensures words { result ≢ 2 }
-    ensures read { result ≢ 12 }
-    ensures failed { result ≢ 3 }
-    ensures missing { result ≢ 4 }
-    ensures long { result ≢ 5 }
-{
-    match send_check(alloc, log, out) {
-        Ok(()) => 0,
-        Err(refusal) => refuse(alloc, names, &refusal, err),
-    }
-}

@@ -10,7 +10,7 @@ ghost use Rattle.log_commands.specs.Joined.{position_text, positions_text, stuck
 ghost use Rattle.log_commands.specs.Joinings.{told_of_joint, stop_of, RanAs, ToldEnd};
 ghost use Rattle.log_commands.specs.Outside.{GivesBy, IsPrinted, ResultCause, WithFiles, Sent, Gathered};
 ghost use Rattle.log_commands.specs.Pairs.{pair_roles};
-ghost use Rattle.log_commands.specs.Effects.{printing, Tells};
+ghost use Rattle.log_commands.specs.Effects.{printing, Prints};
 
 use crate::answer::Answer;
 use crate::names::Names;
@@ -237,15 +237,7 @@ fn print_run<O: Sink, X: Sink>(
     out: &mut O,
     err: &mut X,
 ) -> u8
-    ensures told { (files : Option Files) (had : Counts) → Tells names.now (ran_told names.now (run_all joint.old)) result (printing files had O.written O.faults X.written X.faults out.old err.old out.new err.new) }
-    ensures out_later { O.faults out.old ≤ O.faults out.new }
-    ensures err_later { X.faults err.old ≤ X.faults err.new }
-    ensures write { result ≡ 13 → Rose (O.faults out.old) (O.faults out.new) ⊎ Rose (X.faults err.old) (X.faults err.new) }
-    ensures words { result ≢ 2 }
-    ensures read { result ≢ 12 }
-    ensures failed { result ≢ 3 }
-    ensures missing { result ≢ 4 }
-    ensures long { result ≢ 5 }
+    ensures { (files : Option Files) (had : Counts) → Prints names.now (ran_told names.now (run_all joint.old)) result (printing files had O.written O.faults X.written X.faults out.old err.old out.new err.new) }
 {
     match send_joint(alloc, joint, out) {
         Err(refusal) => refuse(alloc, names, &refusal, err),
@@ -261,15 +253,7 @@ pub fn print_joint<O: Sink, X: Sink>(
     out: &mut O,
     err: &mut X,
 ) -> u8
-    ensures told { (files : Option Files) (had : Counts) → Tells names.now (told_of_joint names.now reading.now) result (printing files had O.written O.faults X.written X.faults out.old err.old out.new err.new) }
-    ensures out_later { O.faults out.old ≤ O.faults out.new }
-    ensures err_later { X.faults err.old ≤ X.faults err.new }
-    ensures write { result ≡ 13 → Rose (O.faults out.old) (O.faults out.new) ⊎ Rose (X.faults err.old) (X.faults err.new) }
-    ensures words { result ≢ 2 }
-    ensures read { result ≢ 12 }
-    ensures failed { result ≢ 3 }
-    ensures missing { result ≢ 4 }
-    ensures long { result ≢ 5 }
+    ensures { (files : Option Files) (had : Counts) → Prints names.now (told_of_joint names.now reading.now) result (printing files had O.written O.faults X.written X.faults out.old err.old out.new err.new) }
 {
     match Joint::begin(alloc, &reading.image, &reading.log) {
         Err(_) => refuse(alloc, names, &Refusal::OutOfMemory, err),

@@ -7,7 +7,7 @@ ghost use Rattle.log_commands.specs.Outside.{GivesBy, ResultCause, WithFiles, Is
 ghost use Rattle.bn_outside.specs.Files.{Files};
 ghost use Rattle.log_commands.specs.Logs.{IsBegun, IsAbsent};
 ghost use Rattle.log_commands.specs.Pairs.{pair_roles};
-ghost use Rattle.log_commands.specs.Effects.{printing, Tells};
+ghost use Rattle.log_commands.specs.Effects.{printing, Prints};
 ghost use Rattle.log_commands.specs.declared.refusal.Refusal.TheVariants.{OutOfMemory};
 
 use crate::answer::{Answer, IntervalToReplay, digest_of, load_program, read_log};
@@ -147,15 +147,7 @@ fn print_begun<O: Sink, X: Sink>(
     err: &mut X,
 ) -> u8
     requires { IsBegun reading.now replayer.old mark.now }
-    ensures told { (files : Option Files) (had : Counts) → Tells names.now (told_of_reading names.now reading.now) result (printing files had O.written O.faults X.written X.faults out.old err.old out.new err.new) }
-    ensures out_later { O.faults out.old ≤ O.faults out.new }
-    ensures err_later { X.faults err.old ≤ X.faults err.new }
-    ensures write { result ≡ 13 → Rose (O.faults out.old) (O.faults out.new) ⊎ Rose (X.faults err.old) (X.faults err.new) }
-    ensures words { result ≢ 2 }
-    ensures read { result ≢ 12 }
-    ensures failed { result ≢ 3 }
-    ensures missing { result ≢ 4 }
-    ensures long { result ≢ 5 }
+    ensures { (files : Option Files) (had : Counts) → Prints names.now (told_of_reading names.now reading.now) result (printing files had O.written O.faults X.written X.faults out.old err.old out.new err.new) }
 {
     match send_interval(alloc, reading.hart, reading.interval, mark, replayer, out) {
         Ok(ReplayEnd::Done) => 0,
@@ -172,15 +164,7 @@ pub fn print_interval<O: Sink, X: Sink>(
     out: &mut O,
     err: &mut X,
 ) -> u8
-    ensures told { (files : Option Files) (had : Counts) → Tells names.now (told_of_reading names.now reading.now) result (printing files had O.written O.faults X.written X.faults out.old err.old out.new err.new) }
-    ensures out_later { O.faults out.old ≤ O.faults out.new }
-    ensures err_later { X.faults err.old ≤ X.faults err.new }
-    ensures write { result ≡ 13 → Rose (O.faults out.old) (O.faults out.new) ⊎ Rose (X.faults err.old) (X.faults err.new) }
-    ensures words { result ≢ 2 }
-    ensures read { result ≢ 12 }
-    ensures failed { result ≢ 3 }
-    ensures missing { result ≢ 4 }
-    ensures long { result ≢ 5 }
+    ensures { (files : Option Files) (had : Counts) → Prints names.now (told_of_reading names.now reading.now) result (printing files had O.written O.faults X.written X.faults out.old err.old out.new err.new) }
 {
     match begin(alloc, reading) {
         Err(refusal) => refuse(alloc, names, &refusal, err),

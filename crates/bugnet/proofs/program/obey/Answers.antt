@@ -1,4 +1,4 @@
-use Rattle.std.proofs.Common.{◌≡◌, Some, subst, refl}
+use Rattle.std.proofs.Common.{◌≡◌, Some, subst, refl, arith}
 use Rattle.std.specs.Prelude.{Ok, Err}
 use Rattle.command_words.specs.Words.{RecordLine, seen, seen_recording}
 use Rattle.log_commands.specs.Names.{FileNames}
@@ -9,7 +9,7 @@ use Rattle.log_commands.proofs.SaveCounts.{none-saved}
 use Rattle.bugnet.proofs.Asks.{line-none, line-acts}
 use Rattle.log_commands.proofs.Prints.{appends-nothing}
 use Rattle.bugnet.proofs.RecordLoads.{record-answers, record-cause, record-lean, record-bytes}
-use Rattle.bugnet.proofs.LineTells.{refusal-answers, answer-answers}
+use Rattle.bugnet.proofs.LineTells.{refusal-answers, answer-answers, acted}
 use Rattle.log_commands.proofs.Tells.{tells-from}
 use Rattle.log_commands.proofs.Causes.{refusal-causes, refusal-words, answer-words}
 use Rattle.bugnet.proofs.Leaves.{leaves-none, call-leaves}
@@ -18,53 +18,43 @@ use Rattle.log_commands.specs.declared.answer.Answer.{Answer}
 use Rattle.bugnet.proofs.LineCalls.{record-calls, refusal-calls, answer-calls}
 use Rattle.bugnet.proofs.program.obey.Goals as goal
 
-pub returns-in-Err-clause-told : goal.returns-in-Err-clause-told
-returns-in-Err-clause-told g c =
+pub returns-in-Err-clause-obeys : goal.returns-in-Err-clause-obeys
+returns-in-Err-clause-obeys g c =
     let k = call (g.S.Store.files) (g.S.Store.counts) (g.O.Sink.written) (g.O.Sink.faults) (g.X.Sink.written) (g.X.Sink.faults) c.args.store.now c.args.out.now c.args.err.now c.record_files.new.store c.args.out.now c.refuse.new.err in
     let r = c.in-Record.recording in
     let names = c.names_of-names.result in
     let own : names ≡ names_in (RecordLine (seen_recording r)) = rw c.in-Record.is at c.names_of-names.ensures in
-    rw c.in-Record.is
-    (refusal-answers (Some (RecordLine (seen_recording r))) names c.in-Err.refusal c.refuse.result k own (appends-nothing (g.O.Sink.written c.args.out.now)) c.in-Err.ensures.same
-    (record-answers (g.S.Store.files c.args.store.now) names r c.manner_of-how.result c.is_some-has_input.result (Err c.in-Err.refusal) own c.manner_of-how.ensures c.is_some-has_input.ensures c.in-Err.ensures.told) c.refuse.ensures.told)
+    let cause = record-cause names r c.manner_of-how.result _ _ (Err c.in-Err.refusal) own c.manner_of-how.ensures c.in-Err.ensures.cause in
+    let causes = refusal-causes _ (refusal_in (RecordLine (seen_recording r))) _ _ names c.in-Err.refusal c.refuse.result _ _ _ _ cause c.refuse.ensures.told in
+    rw c.in-Record.is (record {
+      told = refusal-answers (Some (RecordLine (seen_recording r))) names c.in-Err.refusal c.refuse.result k own (appends-nothing (g.O.Sink.written c.args.out.now)) c.in-Err.ensures.same
+          (record-answers (g.S.Store.files c.args.store.now) names r c.manner_of-how.result c.is_some-has_input.result (Err c.in-Err.refusal) own c.manner_of-how.ensures c.is_some-has_input.ensures c.in-Err.ensures.told) c.refuse.ensures.told;
+      words = subst (λ (n : FileNames). IsByWords (refusal_in (RecordLine (seen_recording r))) n c.refuse.result k) own
+          (refusal-words _ (refusal_in (RecordLine (seen_recording r))) _ _ names c.in-Err.refusal c.refuse.result k cause (appends-nothing (g.O.Sink.written c.args.out.now)) c.refuse.ensures.told);
+      failed = causes.three;
+      missing = causes.four;
+      long = causes.five;
+      write = λ e. absurd (causes.write e);
+      later = record { out = omega arith; err = c.refuse.ensures.later };
+      counts = c.in-Err.ensures.later;
+    })
 
-pub returns-in-Err-clause-words : goal.returns-in-Err-clause-words
-returns-in-Err-clause-words g c =
-    let k = call (g.S.Store.files) (g.S.Store.counts) (g.O.Sink.written) (g.O.Sink.faults) (g.X.Sink.written) (g.X.Sink.faults) c.args.store.now c.args.out.now c.args.err.now c.record_files.new.store c.args.out.now c.refuse.new.err in
+pub returns-in-Ok-clause-obeys : goal.returns-in-Ok-clause-obeys
+returns-in-Ok-clause-obeys g c =
+    let k = call (g.S.Store.files) (g.S.Store.counts) (g.O.Sink.written) (g.O.Sink.faults) (g.X.Sink.written) (g.X.Sink.faults) c.args.store.now c.args.out.now c.args.err.now c.act.new.store c.act.new.out c.act.new.err in
+    let l = call (g.S.Store.files) (g.S.Store.counts) (g.O.Sink.written) (g.O.Sink.faults) (g.X.Sink.written) (g.X.Sink.faults) c.record_files.new.store c.args.out.now c.args.err.now c.act.new.store c.act.new.out c.act.new.err in
     let r = c.in-Record.recording in
     let names = c.names_of-names.result in
     let own : names ≡ names_in (RecordLine (seen_recording r)) = rw c.in-Record.is at c.names_of-names.ensures in
     rw c.in-Record.is
-    (subst (λ (n : FileNames). IsByWords (refusal_in (RecordLine (seen_recording r))) n c.refuse.result k) own
-    (refusal-words _ (refusal_in (RecordLine (seen_recording r))) _ _ names c.in-Err.refusal c.refuse.result k (record-cause names r c.manner_of-how.result _ _ (Err c.in-Err.refusal) own c.manner_of-how.ensures c.in-Err.ensures.cause) (appends-nothing (g.O.Sink.written c.args.out.now)) c.refuse.ensures.told))
+    (acted (Some (RecordLine (seen_recording r))) c.act.result k l names (told_of names c.in-Ok.answer) c.in-Ok.ensures.later c.act.ensures.acts refl refl refl refl
+    (answer-answers (Some (RecordLine (seen_recording r))) names (g.S.Store.files c.args.store.now) c.in-Ok.answer c.act.result k own refl
+    (record-answers (g.S.Store.files c.args.store.now) names r c.manner_of-how.result c.is_some-has_input.result (Ok c.in-Ok.answer) own c.manner_of-how.ensures c.is_some-has_input.ensures c.in-Ok.ensures.told)
+    (tells-from names (told_of names c.in-Ok.answer) c.act.result (g.S.Store.files c.args.store.now) (g.S.Store.counts c.args.store.now) l c.in-Ok.ensures.same c.in-Ok.ensures.later c.act.ensures.acts.told))
+    (answer-words _ c.in-Ok.answer (refusal_in (RecordLine (seen_recording r))) _ _ _ c.act.result k (record-cause names r c.manner_of-how.result _ _ (Ok c.in-Ok.answer) own c.manner_of-how.ensures c.in-Ok.ensures.cause) c.act.ensures.acts.words))
 
-pub returns-in-Err-clause-failed : goal.returns-in-Err-clause-failed
-returns-in-Err-clause-failed g c =
-    let r = c.in-Record.recording in
-    let names = c.names_of-names.result in
-    let own : names ≡ names_in (RecordLine (seen_recording r)) = rw c.in-Record.is at c.names_of-names.ensures in
-    (refusal-causes _ (refusal_in (RecordLine (seen_recording r))) _ _ names c.in-Err.refusal c.refuse.result _ _ _ _ (record-cause names r c.manner_of-how.result _ _ (Err c.in-Err.refusal) own c.manner_of-how.ensures c.in-Err.ensures.cause) c.refuse.ensures.told).three
-
-pub returns-in-Err-clause-missing : goal.returns-in-Err-clause-missing
-returns-in-Err-clause-missing g c =
-    let r = c.in-Record.recording in
-    let names = c.names_of-names.result in
-    let own : names ≡ names_in (RecordLine (seen_recording r)) = rw c.in-Record.is at c.names_of-names.ensures in
-    (refusal-causes _ (refusal_in (RecordLine (seen_recording r))) _ _ names c.in-Err.refusal c.refuse.result _ _ _ _ (record-cause names r c.manner_of-how.result _ _ (Err c.in-Err.refusal) own c.manner_of-how.ensures c.in-Err.ensures.cause) c.refuse.ensures.told).four
-
-pub returns-in-Err-clause-long : goal.returns-in-Err-clause-long
-returns-in-Err-clause-long g c =
-    let r = c.in-Record.recording in
-    let names = c.names_of-names.result in
-    let own : names ≡ names_in (RecordLine (seen_recording r)) = rw c.in-Record.is at c.names_of-names.ensures in
-    (refusal-causes _ (refusal_in (RecordLine (seen_recording r))) _ _ names c.in-Err.refusal c.refuse.result _ _ _ _ (record-cause names r c.manner_of-how.result _ _ (Err c.in-Err.refusal) own c.manner_of-how.ensures c.in-Err.ensures.cause) c.refuse.ensures.told).five
-
-pub returns-in-Err-clause-write : goal.returns-in-Err-clause-write
-returns-in-Err-clause-write g c =
-    let r = c.in-Record.recording in
-    let names = c.names_of-names.result in
-    let own : names ≡ names_in (RecordLine (seen_recording r)) = rw c.in-Record.is at c.names_of-names.ensures in
-    λ e. absurd ((refusal-causes _ (refusal_in (RecordLine (seen_recording r))) _ _ names c.in-Err.refusal c.refuse.result _ _ _ _ (record-cause names r c.manner_of-how.result _ _ (Err c.in-Err.refusal) own c.manner_of-how.ensures c.in-Err.ensures.cause) c.refuse.ensures.told).write e)
+pub returns-in-Ok-clause-read : goal.returns-in-Ok-clause-read
+returns-in-Ok-clause-read g c = λ e. absurd (c.act.ensures.acts.read e)
 
 pub returns-in-Err-clause-read : goal.returns-in-Err-clause-read
 returns-in-Err-clause-read g c =
@@ -89,26 +79,6 @@ returns-in-Err-clause-saves g c =
     line-none (Some (seen c.args.command.now)) c.refuse.result (g.S.Store.saves c.args.store.now) (g.S.Store.saves c.record_files.new.store)
     (none-saved c.refuse.result (told-apart names c.in-Err.refusal c.refuse.result (g.X.Sink.written c.args.err.now) (g.X.Sink.written c.refuse.new.err) (g.X.Sink.faults c.args.err.now) (g.X.Sink.faults c.refuse.new.err) c.refuse.ensures.told) (refusal-causes _ (refusal_in (RecordLine (seen_recording r))) _ _ names c.in-Err.refusal c.refuse.result _ _ _ _ (record-cause names r c.manner_of-how.result _ _ (Err c.in-Err.refusal) own c.manner_of-how.ensures c.in-Err.ensures.cause) c.refuse.ensures.told).write) c.in-Err.ensures.asks
 
-pub returns-in-Ok-clause-told : goal.returns-in-Ok-clause-told
-returns-in-Ok-clause-told g c =
-    let k = call (g.S.Store.files) (g.S.Store.counts) (g.O.Sink.written) (g.O.Sink.faults) (g.X.Sink.written) (g.X.Sink.faults) c.args.store.now c.args.out.now c.args.err.now c.act.new.store c.act.new.out c.act.new.err in
-    let r = c.in-Record.recording in
-    let names = c.names_of-names.result in
-    let own : names ≡ names_in (RecordLine (seen_recording r)) = rw c.in-Record.is at c.names_of-names.ensures in
-    rw c.in-Record.is
-    (answer-answers (Some (RecordLine (seen_recording r))) names (g.S.Store.files c.args.store.now) c.in-Ok.answer c.act.result k own refl
-    (record-answers (g.S.Store.files c.args.store.now) names r c.manner_of-how.result c.is_some-has_input.result (Ok c.in-Ok.answer) own c.manner_of-how.ensures c.is_some-has_input.ensures c.in-Ok.ensures.told)
-    (tells-from names (told_of names c.in-Ok.answer) c.act.result (g.S.Store.files c.args.store.now) (g.S.Store.counts c.args.store.now) (call (g.S.Store.files) (g.S.Store.counts) (g.O.Sink.written) (g.O.Sink.faults) (g.X.Sink.written) (g.X.Sink.faults) c.record_files.new.store c.args.out.now c.args.err.now c.act.new.store c.act.new.out c.act.new.err) c.in-Ok.ensures.same c.in-Ok.ensures.later c.act.ensures.told))
-
-pub returns-in-Ok-clause-words : goal.returns-in-Ok-clause-words
-returns-in-Ok-clause-words g c =
-    let k = call (g.S.Store.files) (g.S.Store.counts) (g.O.Sink.written) (g.O.Sink.faults) (g.X.Sink.written) (g.X.Sink.faults) c.args.store.now c.args.out.now c.args.err.now c.act.new.store c.act.new.out c.act.new.err in
-    let r = c.in-Record.recording in
-    let names = c.names_of-names.result in
-    let own : names ≡ names_in (RecordLine (seen_recording r)) = rw c.in-Record.is at c.names_of-names.ensures in
-    rw c.in-Record.is
-    (answer-words _ c.in-Ok.answer (refusal_in (RecordLine (seen_recording r))) _ _ _ c.act.result k (record-cause names r c.manner_of-how.result _ _ (Ok c.in-Ok.answer) own c.manner_of-how.ensures c.in-Ok.ensures.cause) c.act.ensures.words)
-
 pub returns-in-Ok-clause-recorded : goal.returns-in-Ok-clause-recorded
 returns-in-Ok-clause-recorded g c =
     let k = call (g.S.Store.files) (g.S.Store.counts) (g.O.Sink.written) (g.O.Sink.faults) (g.X.Sink.written) (g.X.Sink.faults) c.args.store.now c.args.out.now c.args.err.now c.act.new.store c.act.new.out c.act.new.err in
@@ -120,7 +90,7 @@ returns-in-Ok-clause-recorded g c =
     (record-bytes (g.S.Store.files c.args.store.now) names r own c.in-Ok.ensures.bytes)
     (answer-answers (Some (RecordLine (seen_recording r))) names (g.S.Store.files c.args.store.now) c.in-Ok.answer c.act.result k own refl
     (record-answers (g.S.Store.files c.args.store.now) names r c.manner_of-how.result c.is_some-has_input.result (Ok c.in-Ok.answer) own c.manner_of-how.ensures c.is_some-has_input.ensures c.in-Ok.ensures.told)
-    (tells-from names (told_of names c.in-Ok.answer) c.act.result (g.S.Store.files c.args.store.now) (g.S.Store.counts c.args.store.now) (call (g.S.Store.files) (g.S.Store.counts) (g.O.Sink.written) (g.O.Sink.faults) (g.X.Sink.written) (g.X.Sink.faults) c.record_files.new.store c.args.out.now c.args.err.now c.act.new.store c.act.new.out c.act.new.err) c.in-Ok.ensures.same c.in-Ok.ensures.later c.act.ensures.told)))
+    (tells-from names (told_of names c.in-Ok.answer) c.act.result (g.S.Store.files c.args.store.now) (g.S.Store.counts c.args.store.now) (call (g.S.Store.files) (g.S.Store.counts) (g.O.Sink.written) (g.O.Sink.faults) (g.X.Sink.written) (g.X.Sink.faults) c.record_files.new.store c.args.out.now c.args.err.now c.act.new.store c.act.new.out c.act.new.err) c.in-Ok.ensures.same c.in-Ok.ensures.later c.act.ensures.acts.told)))
 
 pub returns-in-Ok-clause-saves : goal.returns-in-Ok-clause-saves
 returns-in-Ok-clause-saves g c =
@@ -152,7 +122,7 @@ returns-in-Ok-clause-calls g c =
     (answer-calls g.S.Store.note (RecordLine (seen_recording r)) names c.in-Ok.answer c.act.result (g.S.Store.noted c.args.store.now) (g.S.Store.noted c.record_files.new.store) (g.S.Store.noted c.act.new.store) _ _ (g.S.Store.files c.args.store.now) (g.S.Store.counts c.args.store.now) (call (g.S.Store.files) (g.S.Store.counts) (g.O.Sink.written) (g.O.Sink.faults) (g.X.Sink.written) (g.X.Sink.faults) c.record_files.new.store c.args.out.now c.args.err.now c.act.new.store c.act.new.out c.act.new.err) own
     (record-calls Answer g.S.Store.note names r c.manner_of-how.result c.is_some-has_input.result (g.S.Store.noted c.args.store.now) (g.S.Store.noted c.record_files.new.store) (Ok c.in-Ok.answer) own c.manner_of-how.ensures c.is_some-has_input.ensures c.in-Ok.ensures.calls)
     (record-cause names r c.manner_of-how.result _ _ (Ok c.in-Ok.answer) own c.manner_of-how.ensures c.in-Ok.ensures.cause)
-    (record-lean r c.manner_of-how.result c.in-Ok.answer c.manner_of-how.ensures c.in-Ok.ensures.recorded) (λ no. absurd no) c.act.ensures.calls c.act.ensures.told)
+    (record-lean r c.manner_of-how.result c.in-Ok.answer c.manner_of-how.ensures c.in-Ok.ensures.recorded) (λ no. absurd no) c.act.ensures.calls c.act.ensures.acts.told)
 
 pub returns-in-Err-clause-demo : goal.returns-in-Err-clause-demo
 returns-in-Err-clause-demo g c = rw c.in-Record.is tt

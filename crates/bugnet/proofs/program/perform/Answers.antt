@@ -8,11 +8,20 @@ use Rattle.bugnet.proofs.Suffices.{FileLaws}
 use Rattle.bugnet.proofs.LineCalls.{session-calls}
 use Rattle.bugnet.proofs.program.perform.Goals as goal
 
-pub returns-in-Debug-clause-told : goal.returns-in-Debug-clause-told
-returns-in-Debug-clause-told g c =
+pub returns-in-Debug-clause-obeys : goal.returns-in-Debug-clause-obeys
+returns-in-Debug-clause-obeys g c =
     let k = call (g.S.Store.files) (g.S.Store.counts) (g.O.Sink.written) (g.O.Sink.faults) (g.X.Sink.written) (g.X.Sink.faults) c.args.store.now c.args.out.now c.args.err.now c.debug_files.new.store c.debug_files.new.out c.debug_files.new.err in
-    answers-any (seen c.args.command.now) c.names_of-names.result c.debug_files.result (g.I.Source.left c.args.input.now) (g.I.Source.left c.debug_files.new.input) (g.I.Source.faults c.args.input.now) (g.I.Source.faults c.debug_files.new.input) (g.I.Source.reads c.args.input.now) (g.I.Source.reads c.debug_files.new.input) k
-    (λ n. rw c.in-Debug.is at n) c.names_of-names.ensures c.debug_files.ensures.told
+    record {
+      told = answers-any (seen c.args.command.now) c.names_of-names.result c.debug_files.result (g.I.Source.left c.args.input.now) (g.I.Source.left c.debug_files.new.input) (g.I.Source.faults c.args.input.now) (g.I.Source.faults c.debug_files.new.input) (g.I.Source.reads c.args.input.now) (g.I.Source.reads c.debug_files.new.input) k
+          (λ n. rw c.in-Debug.is at n) c.names_of-names.ensures c.debug_files.ensures.told;
+      words = rw c.in-Debug.is c.debug_files.ensures.words;
+      failed = c.debug_files.ensures.failed;
+      missing = c.debug_files.ensures.missing;
+      long = c.debug_files.ensures.long;
+      write = c.debug_files.ensures.write;
+      later = record { out = c.debug_files.ensures.out_later; err = c.debug_files.ensures.err_later };
+      counts = c.debug_files.ensures.later;
+    }
 
 pub returns-in-Debug-clause-session : goal.returns-in-Debug-clause-session
 returns-in-Debug-clause-session g c =

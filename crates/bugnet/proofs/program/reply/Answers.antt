@@ -1,4 +1,4 @@
-use Rattle.std.proofs.Common.{Some, subst, refl}
+use Rattle.std.proofs.Common.{Some, subst, refl, arith}
 use Rattle.command_words.specs.Words.{seen}
 use Rattle.log_commands.specs.Names.{FileNames}
 use Rattle.bugnet.specs.Answers.{refusal_in}
@@ -7,7 +7,7 @@ use Rattle.log_commands.specs.Effects.{call, IsByWords}
 use Rattle.log_commands.proofs.SaveCounts.{none-saved}
 use Rattle.bugnet.proofs.Asks.{line-none, line-acts}
 use Rattle.log_commands.proofs.Prints.{appends-nothing}
-use Rattle.bugnet.proofs.LineTells.{refusal-answers, answer-answers}
+use Rattle.bugnet.proofs.LineTells.{refusal-answers, answer-answers, acted}
 use Rattle.log_commands.proofs.Tells.{tells-from}
 use Rattle.log_commands.proofs.Causes.{refusal-causes, refusal-words, answer-words}
 use Rattle.log_commands.proofs.StatusesApart.{told-apart}
@@ -15,44 +15,35 @@ use Rattle.bugnet.proofs.LineCalls.{refusal-calls, answer-calls, demo-refused, d
 use Rattle.log_commands.specs.declared.answer.Answer.{Answer}
 use Rattle.bugnet.proofs.program.reply.Goals as goal
 
-pub returns-in-Err-clause-told : goal.returns-in-Err-clause-told
-returns-in-Err-clause-told g c =
+pub returns-in-Err-clause-obeys : goal.returns-in-Err-clause-obeys
+returns-in-Err-clause-obeys g c =
     let k = call (g.S.Store.files) (g.S.Store.counts) (g.O.Sink.written) (g.O.Sink.faults) (g.X.Sink.written) (g.X.Sink.faults) c.args.store.now c.args.out.now c.args.err.now c.answer_to.new.store c.args.out.now c.refuse.new.err in
-    refusal-answers (Some (seen c.args.command.now)) c.args.names.now c.in-Err.refusal c.refuse.result k c.requires.named
-    (appends-nothing (g.O.Sink.written c.args.out.now)) c.in-Err.ensures.same c.in-Err.ensures.told c.refuse.ensures.told
+    let causes = refusal-causes _ (refusal_in (seen c.args.command.now)) _ _ c.args.names.now c.in-Err.refusal c.refuse.result _ _ _ _ c.in-Err.ensures.cause c.refuse.ensures.told in
+    record {
+      told = refusal-answers (Some (seen c.args.command.now)) c.args.names.now c.in-Err.refusal c.refuse.result k c.requires.named
+          (appends-nothing (g.O.Sink.written c.args.out.now)) c.in-Err.ensures.same c.in-Err.ensures.told c.refuse.ensures.told;
+      words = subst (λ (n : FileNames). IsByWords (refusal_in (seen c.args.command.now)) n c.refuse.result k) c.requires.named
+          (refusal-words _ (refusal_in (seen c.args.command.now)) _ _ c.args.names.now c.in-Err.refusal c.refuse.result k c.in-Err.ensures.cause (appends-nothing (g.O.Sink.written c.args.out.now)) c.refuse.ensures.told);
+      failed = causes.three;
+      missing = causes.four;
+      long = causes.five;
+      write = λ e. absurd (causes.write e);
+      later = record { out = omega arith; err = c.refuse.ensures.later };
+      counts = c.in-Err.ensures.later;
+    }
 
-pub returns-in-Err-clause-words : goal.returns-in-Err-clause-words
-returns-in-Err-clause-words g c =
-    let k = call (g.S.Store.files) (g.S.Store.counts) (g.O.Sink.written) (g.O.Sink.faults) (g.X.Sink.written) (g.X.Sink.faults) c.args.store.now c.args.out.now c.args.err.now c.answer_to.new.store c.args.out.now c.refuse.new.err in
-    subst (λ (n : FileNames). IsByWords (refusal_in (seen c.args.command.now)) n c.refuse.result k) c.requires.named
-    (refusal-words _ (refusal_in (seen c.args.command.now)) _ _ c.args.names.now c.in-Err.refusal c.refuse.result k c.in-Err.ensures.cause (appends-nothing (g.O.Sink.written c.args.out.now)) c.refuse.ensures.told)
-
-pub returns-in-Err-clause-failed : goal.returns-in-Err-clause-failed
-returns-in-Err-clause-failed g c =
-    (refusal-causes _ (refusal_in (seen c.args.command.now)) _ _ c.args.names.now c.in-Err.refusal c.refuse.result _ _ _ _ c.in-Err.ensures.cause c.refuse.ensures.told).three
-
-pub returns-in-Err-clause-missing : goal.returns-in-Err-clause-missing
-returns-in-Err-clause-missing g c =
-    (refusal-causes _ (refusal_in (seen c.args.command.now)) _ _ c.args.names.now c.in-Err.refusal c.refuse.result _ _ _ _ c.in-Err.ensures.cause c.refuse.ensures.told).four
-
-pub returns-in-Err-clause-long : goal.returns-in-Err-clause-long
-returns-in-Err-clause-long g c =
-    (refusal-causes _ (refusal_in (seen c.args.command.now)) _ _ c.args.names.now c.in-Err.refusal c.refuse.result _ _ _ _ c.in-Err.ensures.cause c.refuse.ensures.told).five
-
-pub returns-in-Err-clause-write : goal.returns-in-Err-clause-write
-returns-in-Err-clause-write g c =
-    λ e. absurd ((refusal-causes _ (refusal_in (seen c.args.command.now)) _ _ c.args.names.now c.in-Err.refusal c.refuse.result _ _ _ _ c.in-Err.ensures.cause c.refuse.ensures.told).write e)
-
-pub returns-in-Ok-clause-told : goal.returns-in-Ok-clause-told
-returns-in-Ok-clause-told g c =
+pub returns-in-Ok-clause-obeys : goal.returns-in-Ok-clause-obeys
+returns-in-Ok-clause-obeys g c =
     let k = call (g.S.Store.files) (g.S.Store.counts) (g.O.Sink.written) (g.O.Sink.faults) (g.X.Sink.written) (g.X.Sink.faults) c.args.store.now c.args.out.now c.args.err.now c.act.new.store c.act.new.out c.act.new.err in
-    answer-answers (Some (seen c.args.command.now)) c.args.names.now (g.S.Store.files c.args.store.now) c.in-Ok.answer c.act.result k c.requires.named refl
-    c.in-Ok.ensures.told (tells-from c.args.names.now (told_of c.args.names.now c.in-Ok.answer) c.act.result (g.S.Store.files c.args.store.now) (g.S.Store.counts c.args.store.now) (call (g.S.Store.files) (g.S.Store.counts) (g.O.Sink.written) (g.O.Sink.faults) (g.X.Sink.written) (g.X.Sink.faults) c.answer_to.new.store c.args.out.now c.args.err.now c.act.new.store c.act.new.out c.act.new.err) c.in-Ok.ensures.same c.in-Ok.ensures.later c.act.ensures.told)
+    acted (Some (seen c.args.command.now)) c.act.result k
+    (call (g.S.Store.files) (g.S.Store.counts) (g.O.Sink.written) (g.O.Sink.faults) (g.X.Sink.written) (g.X.Sink.faults) c.answer_to.new.store c.args.out.now c.args.err.now c.act.new.store c.act.new.out c.act.new.err)
+    c.args.names.now (told_of c.args.names.now c.in-Ok.answer) c.in-Ok.ensures.later c.act.ensures.acts refl refl refl refl
+    (answer-answers (Some (seen c.args.command.now)) c.args.names.now (g.S.Store.files c.args.store.now) c.in-Ok.answer c.act.result k c.requires.named refl
+    c.in-Ok.ensures.told (tells-from c.args.names.now (told_of c.args.names.now c.in-Ok.answer) c.act.result (g.S.Store.files c.args.store.now) (g.S.Store.counts c.args.store.now) (call (g.S.Store.files) (g.S.Store.counts) (g.O.Sink.written) (g.O.Sink.faults) (g.X.Sink.written) (g.X.Sink.faults) c.answer_to.new.store c.args.out.now c.args.err.now c.act.new.store c.act.new.out c.act.new.err) c.in-Ok.ensures.same c.in-Ok.ensures.later c.act.ensures.acts.told))
+    (answer-words _ c.in-Ok.answer (refusal_in (seen c.args.command.now)) _ _ _ c.act.result k c.in-Ok.ensures.cause c.act.ensures.acts.words)
 
-pub returns-in-Ok-clause-words : goal.returns-in-Ok-clause-words
-returns-in-Ok-clause-words g c =
-    let k = call (g.S.Store.files) (g.S.Store.counts) (g.O.Sink.written) (g.O.Sink.faults) (g.X.Sink.written) (g.X.Sink.faults) c.args.store.now c.args.out.now c.args.err.now c.act.new.store c.act.new.out c.act.new.err in
-    answer-words _ c.in-Ok.answer (refusal_in (seen c.args.command.now)) _ _ _ c.act.result k c.in-Ok.ensures.cause c.act.ensures.words
+pub returns-in-Ok-clause-read : goal.returns-in-Ok-clause-read
+returns-in-Ok-clause-read g c = c.act.ensures.acts.read
 
 pub returns-in-Err-clause-saves : goal.returns-in-Err-clause-saves
 returns-in-Err-clause-saves g c =
@@ -79,7 +70,7 @@ returns-in-Err-clause-calls g c =
 pub returns-in-Ok-clause-calls : goal.returns-in-Ok-clause-calls
 returns-in-Ok-clause-calls g c =
     answer-calls g.S.Store.note (seen c.args.command.now) c.args.names.now c.in-Ok.answer c.act.result (g.S.Store.noted c.args.store.now) (g.S.Store.noted c.answer_to.new.store) (g.S.Store.noted c.act.new.store) _ _ (g.S.Store.files c.args.store.now) (g.S.Store.counts c.args.store.now) (call (g.S.Store.files) (g.S.Store.counts) (g.O.Sink.written) (g.O.Sink.faults) (g.X.Sink.written) (g.X.Sink.faults) c.answer_to.new.store c.args.out.now c.args.err.now c.act.new.store c.act.new.out c.act.new.err) c.requires.named
-    c.in-Ok.ensures.calls c.in-Ok.ensures.cause c.in-Ok.ensures.records c.in-Ok.ensures.prints c.act.ensures.calls c.act.ensures.told
+    c.in-Ok.ensures.calls c.in-Ok.ensures.cause c.in-Ok.ensures.records c.in-Ok.ensures.prints c.act.ensures.calls c.act.ensures.acts.told
 
 pub returns-in-Err-clause-demo : goal.returns-in-Err-clause-demo
 returns-in-Err-clause-demo g c =
@@ -89,4 +80,4 @@ returns-in-Err-clause-demo g c =
 pub returns-in-Ok-clause-demo : goal.returns-in-Ok-clause-demo
 returns-in-Ok-clause-demo g c =
     demo-answers (seen c.args.command.now) c.args.names.now c.in-Ok.answer c.act.result (call (g.S.Store.files) (g.S.Store.counts) (g.O.Sink.written) (g.O.Sink.faults) (g.X.Sink.written) (g.X.Sink.faults) c.args.store.now c.args.out.now c.args.err.now c.act.new.store c.act.new.out c.act.new.err) c.requires.named c.in-Ok.ensures.demo
-    (tells-from c.args.names.now (told_of c.args.names.now c.in-Ok.answer) c.act.result (g.S.Store.files c.args.store.now) (g.S.Store.counts c.args.store.now) (call (g.S.Store.files) (g.S.Store.counts) (g.O.Sink.written) (g.O.Sink.faults) (g.X.Sink.written) (g.X.Sink.faults) c.answer_to.new.store c.args.out.now c.args.err.now c.act.new.store c.act.new.out c.act.new.err) c.in-Ok.ensures.same c.in-Ok.ensures.later c.act.ensures.told)
+    (tells-from c.args.names.now (told_of c.args.names.now c.in-Ok.answer) c.act.result (g.S.Store.files c.args.store.now) (g.S.Store.counts c.args.store.now) (call (g.S.Store.files) (g.S.Store.counts) (g.O.Sink.written) (g.O.Sink.faults) (g.X.Sink.written) (g.X.Sink.faults) c.answer_to.new.store c.args.out.now c.args.err.now c.act.new.store c.act.new.out c.act.new.err) c.in-Ok.ensures.same c.in-Ok.ensures.later c.act.ensures.acts.told)

@@ -102,12 +102,12 @@ returns-in-Err-OutOfMemory-clause-others g c =
 pub returns-in-Ok-clause-told : goal.returns-in-Ok-clause-told
 returns-in-Ok-clause-told g c =
     let k = call (g.S.Store.files) (g.S.Store.counts) (g.O.Sink.written) (g.O.Sink.faults) (g.X.Sink.written) (g.X.Sink.faults) c.args.store.now c.args.out.now c.args.err.now c.obey.new.store c.obey.new.out c.obey.new.err in
-    subst (λ (l : Option Line). TellsAnswer l c.obey.result k) (sym c.in-Ok.ensures.taken) c.obey.ensures.told
+    subst (λ (l : Option Line). TellsAnswer l c.obey.result k) (sym c.in-Ok.ensures.taken) c.obey.ensures.obeys.told
 
 pub returns-in-Ok-clause-words : goal.returns-in-Ok-clause-words
 returns-in-Ok-clause-words g c =
     let k = call (g.S.Store.files) (g.S.Store.counts) (g.O.Sink.written) (g.O.Sink.faults) (g.X.Sink.written) (g.X.Sink.faults) c.args.store.now c.args.out.now c.args.err.now c.obey.new.store c.obey.new.out c.obey.new.err in
-    subst (λ (l : Option Line). ByWords l c.obey.result k) (sym c.in-Ok.ensures.taken) c.obey.ensures.words
+    subst (λ (l : Option Line). ByWords l c.obey.result k) (sym c.in-Ok.ensures.taken) c.obey.ensures.obeys.words
 
 pub returns-in-Ok-clause-headline : goal.returns-in-Ok-clause-headline
 returns-in-Ok-clause-headline g c =
@@ -293,3 +293,24 @@ returns-in-Err-OutOfMemory-clause-demo g c =
 pub returns-in-Ok-clause-demo : goal.returns-in-Ok-clause-demo
 returns-in-Ok-clause-demo g c =
     subst (λ (l : Option Line). TellsDemo l c.obey.result (call (g.S.Store.files) (g.S.Store.counts) (g.O.Sink.written) (g.O.Sink.faults) (g.X.Sink.written) (g.X.Sink.faults) c.args.store.now c.args.out.now c.args.err.now c.obey.new.store c.obey.new.out c.obey.new.err)) (sym c.in-Ok.ensures.taken) c.obey.ensures.demo
+
+pub returns-in-Ok-clause-failed : goal.returns-in-Ok-clause-failed
+returns-in-Ok-clause-failed g c = c.obey.ensures.obeys.failed
+
+pub returns-in-Ok-clause-missing : goal.returns-in-Ok-clause-missing
+returns-in-Ok-clause-missing g c = c.obey.ensures.obeys.missing
+
+pub returns-in-Ok-clause-long : goal.returns-in-Ok-clause-long
+returns-in-Ok-clause-long g c = c.obey.ensures.obeys.long
+
+pub returns-in-Ok-clause-write : goal.returns-in-Ok-clause-write
+returns-in-Ok-clause-write g c = c.obey.ensures.obeys.write
+
+pub returns-in-Ok-clause-later : goal.returns-in-Ok-clause-later
+returns-in-Ok-clause-later g c = c.obey.ensures.obeys.counts
+
+pub returns-in-Ok-clause-out_later : goal.returns-in-Ok-clause-out_later
+returns-in-Ok-clause-out_later g c = c.obey.ensures.obeys.later.out
+
+pub returns-in-Ok-clause-err_later : goal.returns-in-Ok-clause-err_later
+returns-in-Ok-clause-err_later g c = c.obey.ensures.obeys.later.err
