@@ -32,8 +32,8 @@ use Rattle.hart_replay.specs.Scans.{mark_in}
 use Rattle.log_commands.specs.Texts.{interval_text, record_text, list_text}
 use Rattle.log_commands.specs.Told.{Told}
 use Rattle.log_commands.specs.declared.names.Role.TheVariants as role
-use Rattle.bugnet.proofs.Closing.{Closes, closes}
-use Rattle.bugnet.proofs.Faulting.{is-crash}
+use Rattle.bugnet.proofs.LastEnds.{Closes, closes}
+use Rattle.bugnet.proofs.FaultTurns.{is-crash}
 use Rattle.bugnet.proofs.Single.{Grammar}
 use Rattle.bugnet.proofs.Suffices.{FileLaws, by-file, by-content}
 

@@ -32,7 +32,7 @@ use Rattle.log_commands.specs.Commands.{Either}
 use Rattle.log_commands.specs.Joined.{joint_status, joined}
 use Rattle.log_commands.specs.Pairs.{LoadedPair, HasPair}
 use Rattle.bugnet.specs.Answers.{names_in, names_by, IsAnswer}
-use Rattle.bugnet.specs.Debugging.{ShowsRun, SessionsShowTheRun, session_of, DoneSession, ShowsSession, RecordingsCanBeDebugged, PrefixesCanBeDebugged, CanBegin, SessionIs, DebugsFiles, Debugs as DebugsLine}
+use Rattle.bugnet.specs.DebugSessions.{ShowsRun, SessionsShowTheRun, session_of, DoneSession, ShowsSession, RecordingsCanBeDebugged, PrefixesCanBeDebugged, CanBegin, SessionIs, DebugsFiles, Debugs as DebugsLine}
 use Rattle.bugnet.specs.Laws.{IsNoSession}
 use Rattle.log_commands.specs.Outside.{WithFiles, SendStops, ToldRefusal, Wrote, SameFiles, IsEarly, GivesOf, RefusalCause}
 use Rattle.log_commands.specs.Effects.{Call, printing, IsFree, AreKept, SomeTold, Tells, StoppedBy}

@@ -30,7 +30,7 @@ use Rattle.log_commands.specs.Joined.{joint_status, joint_line, ran_told, joint_
 use Rattle.log_commands.specs.Pairs.{ByPair, pair_loaded, pair_same, pair_of, IsPairOf, IsPair, HoldsLog, ArePair}
 use Rattle.bugnet.specs.Answers.{names_in, names_by, IsAnswer}
 use Rattle.bugnet.specs.Jointly.{HasRun, JoinsRun, TellsRun, IsJoined, JointHeadline, RecordingsCanBeJoined, recording_of, RecordingsAreJoined, DoneJointly, PrintsJointly}
-use Rattle.bugnet.specs.Debugging.{ConvertedHaveTheirLimit}
+use Rattle.bugnet.specs.DebugSessions.{ConvertedHaveTheirLimit}
 use Rattle.log_commands.specs.Outside.{WithFiles}
 use Rattle.log_commands.specs.Effects.{Call, IsFree, SomeTold, Tells}
 use Rattle.bugnet.specs.Run.{StoppedEarly, TellsAnswer}

@@ -14,10 +14,10 @@ mod SessionReads
 mod Sessions
 mod Whole
 mod Debugs
-mod Closing
-mod Faulting
+mod LastEnds
+mod FaultTurns
 mod Crashes
-mod Salvaging
+mod SalvagedLogs
 mod Begins
 mod LineCalls
 mod LineTells

@@ -36,7 +36,7 @@ use Rattle.log_commands.specs.Joined.{joint_status, ran_told, joined}
 use Rattle.bugnet.specs.Laws.{IsReadOnly, IsNoSession}
 use Rattle.log_commands.specs.Outside.{CauseBy, IsPrinted, ToldRefusal, told_of}
 use Rattle.log_commands.specs.Pairs.{pair_roles}
-use Rattle.log_commands.specs.Racing.{halted}
+use Rattle.log_commands.specs.RaceAnswers.{halted}
 use Rattle.log_commands.specs.RunEnds.{end_status}
 use Rattle.log_commands.specs.Effects.{Call, IsFree, Tells}
 use Rattle.bugnet.specs.Sessions.{is_begun}

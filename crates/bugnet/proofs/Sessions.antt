@@ -29,7 +29,7 @@ use Rattle.step_debugger.specs.declared.command.DebugCommand.{DebugCommand}
 use Rattle.step_debugger.specs.declared.command.DebugCommand.TheVariants as to
 use Rattle.step_debugger.specs.declared.session.Ending.{Ending}
 use Rattle.step_debugger.specs.declared.session.Ending.TheVariants as ending
-use Rattle.bugnet.specs.Debugging.{session_after, SessionsShowTheRun}
+use Rattle.bugnet.specs.DebugSessions.{session_after, SessionsShowTheRun}
 use Rattle.bugnet.specs.Sessions.{NoQuit}
 
 -- ---- the lowest ready hart is ready

@@ -24,8 +24,8 @@ use Rattle.log_commands.specs.declared.refusal.Refusal.TheVariants.{TooLong}
 use Rattle.command_words.specs.Words.{RacesLine, SliceLine}
 use Rattle.bugnet.specs.Answers.{names_in}
 use Rattle.bugnet.specs.Jointly.{joint_run}
-use Rattle.log_commands.specs.Racing.{races_listed, races_unless, races_in, races_with}
-use Rattle.log_commands.specs.Slicing.{slice_told, slice_with}
+use Rattle.log_commands.specs.RaceAnswers.{races_listed, races_unless, races_in, races_with}
+use Rattle.log_commands.specs.SliceAnswers.{slice_told, slice_with}
 use Rattle.bugnet.specs.Traced.{races_kept, RacesAreTold, ListsRaces, PrintedRacesSayTheRun, slice_kept, SlicesAreTold}
 use Rattle.bugnet.proofs.Jointly.{Limits, is-log, pair-so}
 use Rattle.bugnet.proofs.Single.{Grammar}

@@ -12,11 +12,11 @@ use Rattle.bugnet.specs.Command.Record.{is_clash, IsRecord}
 use Rattle.log_commands.specs.Commands.{IsReplay, IsList, IsCheck}
 use Rattle.bugnet.specs.declared.manner.Manner.{Manner}
 use Rattle.log_commands.specs.Joined.{IsJoint}
-use Rattle.log_commands.specs.Racing.{IsRaces}
-use Rattle.log_commands.specs.Slicing.{IsSlice}
+use Rattle.log_commands.specs.RaceAnswers.{IsRaces}
+use Rattle.log_commands.specs.SliceAnswers.{IsSlice}
 use Rattle.bugnet.specs.Sessions.{IsDebug}
 use Rattle.log_commands.specs.Audits.{IsAudit}
-use Rattle.log_commands.specs.Renewing.{IsConvert, IsSalvage}
+use Rattle.log_commands.specs.NewLogs.{IsConvert, IsSalvage}
 use Rattle.log_commands.specs.declared.refusal.Refusal.{Refusal}
 use Rattle.log_commands.specs.declared.refusal.Refusal.TheVariants.{WordsRefused, OutOfRange}
 use Rattle.log_commands.specs.Refusals.{name_refusal}

@@ -15,8 +15,8 @@ use Rattle.le_numbers.specs.Numbers.{AreBytes}
 use Rattle.log_commands.specs.Audits.{Agrees}
 use Rattle.log_commands.specs.Pairs.{HoldsLog}
 use Rattle.log_commands.specs.Joined.{CanJoin}
-use Rattle.log_commands.specs.Racing.{CanRace}
-use Rattle.log_commands.specs.Slicing.{CanSlice}
+use Rattle.log_commands.specs.RaceAnswers.{CanRace}
+use Rattle.log_commands.specs.SliceAnswers.{CanSlice}
 use Rattle.bugnet.specs.Answers.{IsAnswer}
 use Rattle.bugnet.specs.Headline.{Part, ReplaysRun}
 use Rattle.log_commands.specs.Effects.{IsFree}

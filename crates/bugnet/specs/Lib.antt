@@ -1,6 +1,6 @@
 pub mod Recordings
 pub mod Sessions
-pub mod Keeping
+pub mod ClosedRuns
 pub mod Answers
 pub mod Run
 pub mod Saves
@@ -8,9 +8,9 @@ pub mod Laws
 pub mod Headline
 pub mod Jointly
 pub mod Crashes
-pub mod Salvaging
+pub mod SalvagedLogs
 pub mod Steps
-pub mod Debugging
+pub mod DebugSessions
 pub mod Traced
 pub mod Complete
 pub mod Asks

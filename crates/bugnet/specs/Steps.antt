@@ -8,7 +8,7 @@ use Rattle.step_debugger.specs.declared.error.DebugError.{DebugError}
 use Rattle.log_commands.specs.Names.{FileNames}
 use Rattle.log_commands.specs.Refusals.{line_of}
 use Rattle.log_commands.specs.Outside.{WithFiles, Wrote}
-use Rattle.bugnet.specs.Debugging.{SessionIs}
+use Rattle.bugnet.specs.DebugSessions.{SessionIs}
 use Rattle.bugnet.specs.Sessions.{Commands, AreRead, IsUnread, SessionOver, input_in, stop_status, stop_line, session_told, IsSession, IsDebug}
 use Rattle.log_commands.specs.Effects.{Call, printing, SomeTold, Tells, StoppedBy}
 use Rattle.log_commands.specs.declared.refusal.Refusal.TheVariants as why

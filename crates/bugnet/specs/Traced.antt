@@ -16,8 +16,8 @@ use Rattle.slice_back.specs.Texts.{text_of}
 use Rattle.log_commands.specs.Names.{FileNames}
 use Rattle.log_commands.specs.Told.{Told, refused, printed}
 use Rattle.log_commands.specs.Commands.{Either}
-use Rattle.log_commands.specs.Racing.{races_listed}
-use Rattle.log_commands.specs.Slicing.{slice_told}
+use Rattle.log_commands.specs.RaceAnswers.{races_listed}
+use Rattle.log_commands.specs.SliceAnswers.{slice_told}
 use Rattle.bugnet.specs.Answers.{names_in, IsAnswer}
 use Rattle.bugnet.specs.Jointly.{joint_run, HasRun}
 use Rattle.log_commands.specs.declared.names.Role.TheVariants as role

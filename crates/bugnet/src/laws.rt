@@ -1,12 +1,12 @@
 // What holds of answers.
-ghost use Rattle.bugnet.specs.Debugging.{ConvertedHaveTheirLimit, SessionsShowTheRun, RecordingsCanBeDebugged, PrefixesCanBeDebugged};
+ghost use Rattle.bugnet.specs.DebugSessions.{ConvertedHaveTheirLimit, SessionsShowTheRun, RecordingsCanBeDebugged, PrefixesCanBeDebugged};
 ghost use Rattle.bugnet.specs.Laws.{OneAnswer, OneSession, SeedsAreWhole, FilesKeepToTheirSize};
 ghost use Rattle.bugnet.specs.Agreements.{AuditsAgree};
 ghost use Rattle.bugnet.specs.Complete.{EachHasAnAnswer, EachCanBeDone};
 ghost use Rattle.bugnet.specs.Crashes.{CrashesAreShown};
 ghost use Rattle.bugnet.specs.Headline.{Headline, RecordingsAreReplayed, RecordingsSayEnds};
 ghost use Rattle.bugnet.specs.Jointly.{JointHeadline, RecordingsCanBeJoined, RecordingsAreJoined};
-ghost use Rattle.bugnet.specs.Salvaging.{SalvagedSayEnds, SalvagedAreReplayed};
+ghost use Rattle.bugnet.specs.SalvagedLogs.{SalvagedSayEnds, SalvagedAreReplayed};
 ghost use Rattle.bugnet.specs.Traced.{PrintedRacesSayTheRun, RacesAreTold, SlicesAreTold};
 
 use file_laws::{logs_are_contents, salvaged_files_suffice};

@@ -9,7 +9,7 @@ ghost use Rattle.bugnet.specs.LineCalls.{line_roles, needed_roles, CallsOnly, Ha
 ghost use Rattle.log_commands.specs.FileCalls.{saves_in, CallsBy, SavesTold};
 ghost use Rattle.bugnet.specs.Laws.{IsReadOnly, IsNoSession, IsNoRecording};
 ghost use Rattle.bugnet.specs.Sessions.{is_begun};
-ghost use Rattle.bugnet.specs.Debugging.{CanBegin, Debugs};
+ghost use Rattle.bugnet.specs.DebugSessions.{CanBegin, Debugs};
 ghost use Rattle.bugnet.specs.Agreements.{AuditsRun};
 ghost use Rattle.bugnet.specs.Complete.{IsDone};
 ghost use Rattle.bugnet.specs.Headline.{PrintsRun};

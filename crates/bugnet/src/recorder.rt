@@ -6,7 +6,7 @@ ghost use Rattle.hart_worker.specs.Closed.{IsClosed};
 ghost use Rattle.bugnet.specs.Recordings.{count_of, instructions_of, is_fault, is_limit, end_by};
 ghost use Rattle.log_commands.specs.RunEnds.{end_word};
 ghost use Rattle.log_commands.specs.Texts.{summary_text};
-ghost use Rattle.bugnet.specs.Keeping.{IsRecordingOf, IsRecordingBy};
+ghost use Rattle.bugnet.specs.ClosedRuns.{IsRecordingOf, IsRecordingBy};
 
 use crate::manner::Manner;
 use bn_base::EndMark;

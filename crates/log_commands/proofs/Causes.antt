@@ -11,7 +11,7 @@ use Rattle.joint_replay.specs.declared.error.JointError.TheVariants as joint
 use Rattle.log_commands.specs.Names.{FileNames}
 use Rattle.log_commands.specs.Refusals.{status_of, replay_status}
 use Rattle.log_commands.specs.Outside.{SendStops, ToldRefusal, RefusalCause, CauseBy}
-use Rattle.log_commands.specs.Joinings.{ToldEnd}
+use Rattle.log_commands.specs.JointEnds.{ToldEnd}
 use Rattle.log_commands.specs.Effects.{Call, IsByWords}
 use Rattle.log_commands.specs.declared.refusal.Refusal.{Refusal}
 use Rattle.log_commands.specs.declared.refusal.Refusal.TheVariants.{WordsRefused, OutOfRange, SameName, StoreFailed, Missing, TooLong, ElfRefused, LogRefused, ProgramDiffers, OutOfMemory, WriteFailed, ReplayStopped, ReadFailed, LineTooLong, CommandsTooLong, BookRefused, FileDiffers, NothingLeft, TooManyRaces, NoRow}

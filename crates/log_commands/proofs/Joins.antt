@@ -13,7 +13,7 @@ use Rattle.joint_replay.specs.Texts.{item_text, known_text, steps_text, memory_t
 use Rattle.joint_replay.specs.Runs.{one_step, Advanced, Advances, IsFirstTaken, RunsGoOn, RunsEnd}
 use Rattle.log_commands.specs.Names.{FileNames}
 use Rattle.log_commands.specs.Joined.{joint_status, joint_line, ran_told, joined}
-use Rattle.log_commands.specs.Joinings.{told_of_joint, stop_of, RanAs, ToldEnd}
+use Rattle.log_commands.specs.JointEnds.{told_of_joint, stop_of, RanAs, ToldEnd}
 use Rattle.log_commands.specs.Outside.{Sent, SendStops, ToldRefusal, Wrote, SameFiles}
 use Rattle.log_commands.specs.Effects.{Call, AreKept, Tells}
 use Rattle.log_commands.specs.declared.pairs.JointReading.{JointReading}

@@ -5,7 +5,7 @@ pub mod Rows
 pub mod Loads
 pub mod Tells
 pub mod Causes
-pub mod Acting
+pub mod Acts
 pub mod Shows
 pub mod Races
 pub mod Slices

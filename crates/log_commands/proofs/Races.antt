@@ -14,8 +14,8 @@ use Rattle.race_report.specs.declared.error.RaceError.TheVariants.{Joint, TooMan
 use Rattle.log_commands.specs.Names.{FileNames}
 use Rattle.log_commands.specs.Told.{Told, refused, printed}
 use Rattle.log_commands.specs.Pairs.{ByPair, IsPair}
-use Rattle.log_commands.specs.Racing.{halted, races_listed, races_unless, races_in}
-use Rattle.log_commands.specs.Joinings.{ToldEnd}
+use Rattle.log_commands.specs.RaceAnswers.{halted, races_listed, races_unless, races_in}
+use Rattle.log_commands.specs.JointEnds.{ToldEnd}
 use Rattle.log_commands.specs.Outside.{WithFiles, Gives, GivesBy, SameFiles}
 use Rattle.log_commands.specs.Effects.{Call, Tells}
 use Rattle.log_commands.specs.declared.answer.Answer.{Answer}

@@ -13,7 +13,7 @@ use Rattle.log_blocks.specs.declared.salvaging.NewFile.{NewFile}
 use Rattle.log_commands.specs.Names.{FileNames}
 use Rattle.log_commands.specs.Texts.{check_line}
 use Rattle.log_commands.specs.Told.{Told, refused}
-use Rattle.log_commands.specs.Renewing.{renewed, salvage_refusal, IsBySalvage}
+use Rattle.log_commands.specs.NewLogs.{renewed, salvage_refusal, IsBySalvage}
 use Rattle.log_commands.specs.Outside.{saved_new, told_of_new}
 use Rattle.log_commands.specs.declared.answer.NewLog.{NewLog}
 

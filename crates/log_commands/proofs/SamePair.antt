@@ -18,7 +18,7 @@ use Rattle.log_blocks.specs.Readings.{Reads}
 use Rattle.log_commands.specs.Inputs.{Bytes, no_bytes, bytes_of, unless_long, file_bytes, on_bytes, IsLoaded}
 use Rattle.log_commands.specs.Outside.{WithFiles}
 use Rattle.log_commands.specs.Pairs.{ByPair, pair_roles, pair_loaded, pair_same, pair_of, IsPairOf, IsPair, LoadedPair}
-use Rattle.log_commands.specs.Reading.{by_reading}
+use Rattle.log_commands.specs.PairAnswers.{by_reading}
 use Rattle.log_commands.specs.declared.inputs.Inputs.{Inputs}
 use Rattle.log_commands.specs.declared.names.Role.TheVariants as role
 use Rattle.log_commands.specs.declared.pairs.JointReading.{JointReading}

@@ -9,7 +9,7 @@ use Rattle.slice_back.specs.declared.error.SliceError.{SliceError}
 use Rattle.slice_back.specs.declared.error.SliceError.TheVariants as back
 use Rattle.log_commands.specs.Names.{FileNames}
 use Rattle.log_commands.specs.Told.{refused, printed}
-use Rattle.log_commands.specs.Slicing.{slice_told, slice_with}
+use Rattle.log_commands.specs.SliceAnswers.{slice_told, slice_with}
 use Rattle.log_commands.specs.declared.refusal.Refusal.TheVariants.{ReplayStopped, NoRow}
 
 -- it is printed

@@ -21,7 +21,7 @@ use Rattle.log_commands.specs.Texts.{check_line, agree_text}
 use Rattle.log_commands.specs.RunEnds.{end_status}
 use Rattle.log_commands.specs.Commands.{list_of, replay_with}
 use Rattle.log_commands.specs.Joined.{joint_with}
-use Rattle.log_commands.specs.Racing.{halted}
+use Rattle.log_commands.specs.RaceAnswers.{halted}
 use Rattle.log_commands.specs.declared.names.Role.{Role}
 use Rattle.log_commands.specs.declared.names.Role.TheVariants as role
 use Rattle.log_commands.specs.declared.refusal.Refusal.{Refusal}

@@ -7,7 +7,7 @@ ghost use Rattle.log_commands.specs.FileCalls.{LoadsTo};
 ghost use Rattle.log_commands.specs.Evaluated.{Makes, IsPairOfBytes, where_same};
 ghost use Rattle.log_commands.specs.Outside.{GivesOf, IsOwn, ResultCause, WithFiles};
 ghost use Rattle.log_commands.specs.Pairs.{ByPair, pair_roles, IsPair, LoadedPair};
-ghost use Rattle.log_commands.specs.Reading.{by_reading};
+ghost use Rattle.log_commands.specs.PairAnswers.{by_reading};
 
 use crate::answer::{digest_of, load_program, read_log};
 use crate::inputs::load_inputs;

@@ -7,7 +7,7 @@ ghost use Rattle.log_commands.specs.SaveCounts.{IsRenewed};
 ghost use Rattle.log_commands.specs.FileCalls.{origin_roles, LoadsTo, CallsBy};
 ghost use Rattle.log_commands.specs.Commands.{IsByLog};
 ghost use Rattle.log_commands.specs.Outside.{Gives, GivesBy, IsOwn, CauseBy, ResultCause, WithFiles};
-ghost use Rattle.log_commands.specs.Renewing.{renewed, IsByOrigin, IsConvert};
+ghost use Rattle.log_commands.specs.NewLogs.{renewed, IsByOrigin, IsConvert};
 
 use crate::answer::{Answer, NewLog, read_log};
 use crate::inputs::{LOG_LIMIT, fetch};

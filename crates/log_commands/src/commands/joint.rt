@@ -7,7 +7,7 @@ ghost use Rattle.joint_replay.specs.Joining.{run_all};
 ghost use Rattle.joint_replay.specs.Texts.{known_text, steps_text, memory_text, joint_text};
 ghost use Rattle.log_commands.specs.FileCalls.{LoadsTo};
 ghost use Rattle.log_commands.specs.Joined.{position_text, positions_text, stuck_line, ran_told, IsJoint};
-ghost use Rattle.log_commands.specs.Joinings.{told_of_joint, stop_of, RanAs, ToldEnd};
+ghost use Rattle.log_commands.specs.JointEnds.{told_of_joint, stop_of, RanAs, ToldEnd};
 ghost use Rattle.log_commands.specs.Outside.{GivesBy, IsPrinted, ResultCause, WithFiles, Sent, Gathered};
 ghost use Rattle.log_commands.specs.Pairs.{pair_roles};
 ghost use Rattle.log_commands.specs.Effects.{printing, Prints};

@@ -4,7 +4,7 @@ ghost use Rattle.bn_outside.specs.Counts.{NoneFell};
 ghost use Rattle.log_commands.specs.FileCalls.{LoadsTo};
 ghost use Rattle.log_commands.specs.Outside.{Gives, GivesBy, IsOwn, IsPrinted, ResultCause, WithFiles};
 ghost use Rattle.log_commands.specs.Pairs.{pair_roles};
-ghost use Rattle.log_commands.specs.Racing.{races_with, IsRaces};
+ghost use Rattle.log_commands.specs.RaceAnswers.{races_with, IsRaces};
 
 use crate::answer::Answer;
 use crate::names::Names;

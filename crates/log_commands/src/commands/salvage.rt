@@ -6,7 +6,7 @@ ghost use Rattle.log_commands.specs.Refusals.{name_refusal};
 ghost use Rattle.log_commands.specs.SaveCounts.{IsRenewed};
 ghost use Rattle.log_commands.specs.FileCalls.{origin_roles, LoadsTo, CallsBy};
 ghost use Rattle.log_commands.specs.Outside.{Gives, GivesBy, IsOwn, CauseBy, ResultCause, WithFiles};
-ghost use Rattle.log_commands.specs.Renewing.{IsBySalvage, IsByOrigin, IsSalvage};
+ghost use Rattle.log_commands.specs.NewLogs.{IsBySalvage, IsByOrigin, IsSalvage};
 
 use crate::answer::{Answer, NewLog};
 use crate::inputs::{LOG_LIMIT, fetch};

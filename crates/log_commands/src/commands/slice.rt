@@ -5,7 +5,7 @@ ghost use Rattle.log_commands.specs.SaveCounts.{IsMade};
 ghost use Rattle.log_commands.specs.FileCalls.{LoadsTo};
 ghost use Rattle.log_commands.specs.Outside.{Gives, GivesBy, IsOwn, ResultCause, WithFiles};
 ghost use Rattle.log_commands.specs.Pairs.{pair_roles};
-ghost use Rattle.log_commands.specs.Slicing.{slice_with, IsSlice};
+ghost use Rattle.log_commands.specs.SliceAnswers.{slice_with, IsSlice};
 
 use crate::answer::Answer;
 use crate::names::Names;

@@ -1,4 +1,4 @@
-use Rattle.bugnet.proofs.Salvaging.{salvaged-replayed}
+use Rattle.bugnet.proofs.SalvagedLogs.{salvaged-replayed}
 use Rattle.bugnet.proofs.laws.salvaged_logs_are_replayed.Goals as goal
 
 pub returns : goal.returns

@@ -1,4 +1,4 @@
-use Rattle.bugnet.proofs.Salvaging.{say-ends}
+use Rattle.bugnet.proofs.SalvagedLogs.{say-ends}
 use Rattle.bugnet.proofs.laws.salvaged_logs_say_ends.Goals as goal
 
 pub returns : goal.returns

@@ -1,5 +1,5 @@
 use Rattle.std.proofs.Common.{Some, refl, arith, []}
-use Rattle.log_commands.proofs.Acting.{prints-so, acts-so, none-fell}
+use Rattle.log_commands.proofs.Acts.{prints-so, acts-so, none-fell}
 use Rattle.log_commands.proofs.Causes.{sends-end}
 use Rattle.log_commands.proofs.Prints.{appends-nothing}
 use Rattle.log_commands.proofs.Tells.{untouched}

@@ -3,9 +3,9 @@ use Rattle.demo_run.specs.Demonstration.{demo_text}
 use Rattle.log_commands.specs.Told.{Told, printed}
 use Rattle.log_commands.specs.Commands.{IsReplay, IsList, IsCheck}
 use Rattle.log_commands.specs.Joined.{IsJoint}
-use Rattle.log_commands.specs.Racing.{IsRaces}
-use Rattle.log_commands.specs.Slicing.{IsSlice}
-use Rattle.log_commands.specs.Renewing.{IsConvert, IsSalvage}
+use Rattle.log_commands.specs.RaceAnswers.{IsRaces}
+use Rattle.log_commands.specs.SliceAnswers.{IsSlice}
+use Rattle.log_commands.specs.NewLogs.{IsConvert, IsSalvage}
 use Rattle.log_commands.proofs.Loads.{gives-any, by-names, ok-any}
 use Rattle.bugnet.proofs.RecordLoads.{by-origin}
 use Rattle.bugnet.proofs.LineCalls.{origin-calls, made-printed, audit-calls, mapped}

@@ -10,7 +10,7 @@ use Rattle.log_commands.specs.Effects.{call}
 use Rattle.bugnet.specs.Run.{TellsAnswer, ByWords}
 use Rattle.log_commands.specs.declared.refusal.Refusal.TheVariants.{WordsRefused, OutOfMemory}
 use Rattle.bugnet.specs.Asks.{LineSaves}
-use Rattle.bugnet.specs.Debugging.{CanBegin, Debugs}
+use Rattle.bugnet.specs.DebugSessions.{CanBegin, Debugs}
 use Rattle.bugnet.specs.Laws.{IsNoSession}
 use Rattle.bugnet.proofs.Debugs.{debugs-early, not-read}
 use Rattle.bugnet.proofs.Asks.{line-none}

@@ -4,7 +4,7 @@ use Rattle.log_commands.specs.Evaluated.{IsCommand}
 use Rattle.log_commands.specs.Inputs.{IsLoaded}
 use Rattle.log_commands.specs.Outside.{WithFiles}
 use Rattle.log_commands.specs.Pairs.{pair_roles, IsPair}
-use Rattle.log_commands.specs.Reading.{by_reading}
+use Rattle.log_commands.specs.PairAnswers.{by_reading}
 use Rattle.log_commands.specs.declared.names.Role.{Role}
 use Rattle.log_commands.proofs.Commanded.{load-refused, loaded-made, with-also}
 use Rattle.log_commands.proofs.SamePair.{IsReadPair, says-pair, pair-there}

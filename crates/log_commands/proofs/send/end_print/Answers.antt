@@ -1,7 +1,7 @@
 use Rattle.std.proofs.Common.{arith}
 use Rattle.log_commands.specs.Told.{printed}
 use Rattle.log_commands.specs.Effects.{printing_to}
-use Rattle.log_commands.proofs.Acting.{sends-done, prints-so}
+use Rattle.log_commands.proofs.Acts.{sends-done, prints-so}
 use Rattle.log_commands.proofs.Causes.{sends-told}
 use Rattle.log_commands.proofs.Prints.{appends-nothing}
 use Rattle.log_commands.proofs.Tells.{untouched, printed-told, stopped-told}

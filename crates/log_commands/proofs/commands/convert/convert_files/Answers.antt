@@ -2,7 +2,7 @@ use Rattle.std.proofs.Common.{◌≡◌, Bool, false, sym, ◌∙◌, subst}
 use Rattle.std.specs.Str.{bytes_eq}
 use Rattle.log_commands.specs.Commands.{IsByLog}
 use Rattle.log_commands.specs.Outside.{WithFiles, GivesBy}
-use Rattle.log_commands.specs.Renewing.{renewed, IsByOrigin}
+use Rattle.log_commands.specs.NewLogs.{renewed, IsByOrigin}
 use Rattle.log_commands.proofs.commands.convert.convert_files.Goals as goal
 
 pub returns-else-is_same_name-clause-told : goal.returns-else-is_same_name-clause-told

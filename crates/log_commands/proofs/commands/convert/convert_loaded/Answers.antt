@@ -1,5 +1,5 @@
 use Rattle.log_commands.specs.Commands.{IsByLog}
-use Rattle.log_commands.specs.Renewing.{renewed}
+use Rattle.log_commands.specs.NewLogs.{renewed}
 use Rattle.log_commands.specs.declared.names.Role.TheVariants.{Origin}
 use Rattle.log_commands.proofs.Loads.{gives-stopped, gives-loaded, gives-any}
 use Rattle.log_commands.specs.FileCalls.{origin_roles}

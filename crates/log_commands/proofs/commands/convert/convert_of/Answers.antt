@@ -1,4 +1,4 @@
-use Rattle.log_commands.specs.Renewing.{renewed}
+use Rattle.log_commands.specs.NewLogs.{renewed}
 use Rattle.log_commands.proofs.Loads.{log-read, log-refused}
 use Rattle.log_commands.proofs.commands.convert.convert_of.Goals as goal
 

@@ -1,7 +1,7 @@
 use Rattle.std.proofs.Common.{refl, arith}
 use Rattle.log_commands.specs.declared.refusal.Refusal.TheVariants.{OutOfMemory}
-use Rattle.log_commands.specs.Joinings.{told_of_joint}
-use Rattle.log_commands.proofs.Acting.{prints-so}
+use Rattle.log_commands.specs.JointEnds.{told_of_joint}
+use Rattle.log_commands.proofs.Acts.{prints-so}
 use Rattle.log_commands.proofs.Causes.{sends-told}
 use Rattle.log_commands.proofs.Tells.{untouched}
 use Rattle.log_commands.proofs.Joins.{joint-unbegun, joint-told}

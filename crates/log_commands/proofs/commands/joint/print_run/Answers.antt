@@ -1,6 +1,6 @@
 use Rattle.joint_replay.specs.Joining.{run_all}
 use Rattle.log_commands.specs.Joined.{ran_told}
-use Rattle.log_commands.proofs.Acting.{prints-so}
+use Rattle.log_commands.proofs.Acts.{prints-so}
 use Rattle.log_commands.proofs.Causes.{sends-told, sends-end}
 use Rattle.log_commands.proofs.Tells.{untouched}
 use Rattle.log_commands.proofs.Joins.{ran-stopped, run-ended}

@@ -4,7 +4,7 @@ use Rattle.joint_replay.specs.declared.error.JointError.{JointError}
 use Rattle.joint_replay.specs.Joining.{run_all}
 use Rattle.joint_replay.specs.Texts.{steps_text}
 use Rattle.joint_replay.specs.Runs.{Advances}
-use Rattle.log_commands.specs.Joinings.{RanAs}
+use Rattle.log_commands.specs.JointEnds.{RanAs}
 use Rattle.log_commands.specs.Outside.{Sent}
 use Rattle.log_commands.specs.declared.refusal.Refusal.{Refusal}
 use Rattle.log_commands.proofs.Joins.{Walks, walks-none, walks-done, walks-more, walks-stopped, walks-short, walks-ended}

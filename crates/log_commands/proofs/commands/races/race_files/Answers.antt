@@ -1,4 +1,4 @@
-use Rattle.log_commands.specs.Racing.{races_with}
+use Rattle.log_commands.specs.RaceAnswers.{races_with}
 use Rattle.log_commands.proofs.Races.{pair-gives}
 use Rattle.log_commands.specs.Pairs.{pair_roles}
 use Rattle.log_commands.proofs.FileCalls.{own-loads}

@@ -1,6 +1,6 @@
 use Rattle.std.proofs.Common.{arith}
 use Rattle.log_commands.specs.Outside.{told_of_reading}
-use Rattle.log_commands.proofs.Acting.{prints-so}
+use Rattle.log_commands.proofs.Acts.{prints-so}
 use Rattle.log_commands.proofs.Causes.{sends-absent}
 use Rattle.log_commands.proofs.Prints.{appends-nothing}
 use Rattle.log_commands.proofs.Tells.{untouched}

@@ -1,4 +1,4 @@
-use Rattle.log_commands.specs.Renewing.{IsBySalvage}
+use Rattle.log_commands.specs.NewLogs.{IsBySalvage}
 use Rattle.log_commands.specs.declared.names.Role.TheVariants.{Origin}
 use Rattle.log_commands.proofs.Loads.{gives-stopped, gives-loaded, gives-any}
 use Rattle.log_commands.specs.FileCalls.{origin_roles}

@@ -12,7 +12,7 @@ use Rattle.run_model.specs.Files.{IsEndOf}
 use Rattle.run_model.specs.Runs.{run_of}
 use Rattle.file_laws.specs.Laws.{SalvagedFilesSuffice}
 use Rattle.bugnet.specs.Headline.{Part, SaysEnd, Headline}
-use Rattle.bugnet.specs.Salvaging.{SalvagesRun, SalvagedSayEnds, SalvagedAreReplayed}
+use Rattle.bugnet.specs.SalvagedLogs.{SalvagesRun, SalvagedSayEnds, SalvagedAreReplayed}
 use Rattle.log_commands.proofs.Loads.{fits, of_false}
 
 -- the laws of salvaged logs and their files
