@@ -129,6 +129,26 @@ MUTANTS = [
         case("program_cases", "four harts of a generated program in threads take the turns of a list"),
     ),
     ("Each list waits without end, which only a recording may.", edit("bugnet", "each_list_waits_without_end")),
+    # What is asked of the outside.
+    ("A failed load is made again.", edit("log_commands", "a_failed_load_is_made_again")),
+    ("A log is loaded once more than the command needs.", edit("log_commands", "a_log_is_loaded_twice")),
+    (
+        "A failed save is made again, and the other file's name is told.",
+        edit("bugnet", "a_failed_save_is_made_again"),
+    ),
+    ("The list of turns is saved under the log's name.", edit("bugnet", "the_list_is_saved_under_the_logs_name")),
+    (
+        "A session reads before its files are loaded.",
+        edit("bugnet", "a_byte_is_read_before_the_files_are_loaded"),
+    ),
+    (
+        "A lean hart isn't told that its ask was guarded.",
+        edit("hart_worker", "a_lean_hart_is_not_told_of_its_guard"),
+    ),
+    (
+        "A refused step of the joint replay is told as out of memory.",
+        edit("joint_replay", "a_refusal_is_told_as_out_of_memory"),
+    ),
     # Races and slices.
     ("A race report lists every conflict.", edit("race_report", "every_conflict_is_a_race")),
     ("A race report takes a plain store for a synchronisation.", edit("race_report", "a_plain_access_synchronises")),
