@@ -17,6 +17,7 @@ use joint_replay::{Joint, Readiness, Stepped};
 use log_file::read_file;
 use log_order::KeptLog;
 use log_record::Record;
+use run_files::saved_file;
 use run_model::Start;
 use std::alloc::Global;
 use step_debugger::debug;
@@ -51,7 +52,7 @@ fn beginning(alloc: Global, harts: HartId, count: u64) -> anyhow::Result<Start>
 // The log of the run that a number chooses.
 fn recorded(alloc: Global, start: &Start) -> anyhow::Result<KeptLog> {
     let closed = run_seeded(alloc, start, LeanBook, 7)?;
-    let bytes = start.log_file(alloc, &closed.ring)?;
+    let bytes = saved_file(alloc, start, &closed.ring)?;
     Ok(read_file(alloc, &bytes)?)
 }
 

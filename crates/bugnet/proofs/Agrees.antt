@@ -12,12 +12,12 @@ use Rattle.elf_loader.specs.declared.error.ElfError.{ElfError}
 use Rattle.log_order.specs.Content.{Content, IsContent}
 use Rattle.log_blocks.specs.Readings.{Reads}
 use Rattle.log_blocks.specs.declared.damage.Damage.{Damage}
-use Rattle.run_model.specs.Files.{file_of}
+use Rattle.run_files.specs.Files.{file_of}
 use Rattle.run_model.specs.Lists.{list_error}
-use Rattle.run_model.specs.Audits.{is_version2, version2_of, audited_file, IsVerdict, verdict_of, VerdictsAreUnique}
+use Rattle.run_files.specs.Audits.{is_version2, version2_of, audited_file, IsVerdict, verdict_of, VerdictsAreUnique}
 use Rattle.run_model.specs.declared.error.TurnError.{TurnError}
-use Rattle.run_model.specs.declared.verdict.Verdict.{Verdict}
-use Rattle.run_model.specs.declared.verdict.Verdict.TheVariants.{Agree, Differ}
+use Rattle.run_files.specs.declared.verdict.Verdict.{Verdict}
+use Rattle.run_files.specs.declared.verdict.Verdict.TheVariants.{Agree, Differ}
 use Rattle.bus_core.specs.Bus.{Began}
 use Rattle.hart_worker.specs.Laws.{WholeRunsHaveNoError}
 use Rattle.command_words.specs.Words.{Line, RecordLine, ReplayLine, JointLine, DebugLine, ListLine, CheckLine, AuditLine, RacesLine, SliceLine, ConvertLine, SalvageLine, DemoLine}

@@ -14,7 +14,7 @@ use Rattle.log_order.specs.Content.{Content, IsContent}
 use Rattle.log_file.specs.Layout.{saved_bytes}
 use Rattle.log_record.specs.declared.record.Record.{Record}
 use Rattle.log_record.specs.declared.record.Record.TheVariants.{Header}
-use Rattle.run_model.specs.Files.{kept_of, dropped_of, content_of}
+use Rattle.run_model.specs.KeptRecords.{kept_of, dropped_of, content_of}
 use Rattle.run_model.specs.Runs.{start, run_of, run_from, is_live, legal_from}
 use Rattle.run_model.specs.Turn.{Run, turn, mark}
 use Rattle.run_laws.specs.Laws.{OwnAsksAreOrderly}

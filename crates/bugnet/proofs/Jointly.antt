@@ -20,7 +20,7 @@ use Rattle.log_blocks.specs.Readings.{Reads}
 use Rattle.joint_replay.specs.declared.error.JointError.{JointError}
 use Rattle.joint_replay.specs.Joining.{Ran, fresh, run_all}
 use Rattle.joint_replay.specs.Texts.{joint_text}
-use Rattle.run_model.specs.Files.{file_of}
+use Rattle.run_files.specs.Files.{file_of}
 use Rattle.joint_laws.specs.Recordings.{Recording, IsRecorded, IsLogOf, begin}
 use Rattle.joint_laws.specs.Laws.{SaysTheRun, JointReplaysSayTheRun}
 use Rattle.log_commands.specs.Names.{FileNames}

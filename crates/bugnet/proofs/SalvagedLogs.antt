@@ -8,7 +8,7 @@ use Rattle.log_blocks.specs.Pieces.{Piece}
 use Rattle.log_blocks.specs.Readings.{FilesAreRead}
 use Rattle.log_file.specs.Layout.{file_bytes2}
 use Rattle.log_order.specs.Content.{Content}
-use Rattle.run_model.specs.Files.{IsEndOf}
+use Rattle.run_model.specs.KeptRecords.{IsEndOf}
 use Rattle.run_model.specs.Runs.{run_of}
 use Rattle.file_laws.specs.Laws.{SalvagedFilesSuffice}
 use Rattle.bugnet.specs.Headline.{Part, SaysEnd, Headline}

@@ -22,7 +22,8 @@ use Rattle.log_blocks.specs.Laws as of_second
 use Rattle.log_blocks.specs.Readings.{Reads, FilesAreRead}
 use Rattle.log_blocks.specs.declared.damage.Damage.{Damage}
 use Rattle.hart_replay.specs.Replay.{Done, Replayed, Interval, replayed}
-use Rattle.run_model.specs.Files.{content_of, file_of}
+use Rattle.run_files.specs.Files.{file_of}
+use Rattle.run_model.specs.KeptRecords.{content_of}
 use Rattle.run_model.specs.Rows.{rows_in}
 use Rattle.run_model.specs.Runs.{start, run_of}
 use Rattle.run_laws.specs.Laws.{KeptIsAnEnd}

@@ -8,7 +8,7 @@ use Rattle.bn_base.specs.declared.settings.RawSettings.{RawSettings}
 use Rattle.bn_outside.specs.Files.{Files}
 use Rattle.command_words.specs.Words.{RecordingLine, ListLine, ReplayLine}
 use Rattle.hart_replay.specs.Replay.{Interval, interval_of}
-use Rattle.run_model.specs.Files.{kept_of}
+use Rattle.run_model.specs.KeptRecords.{kept_of}
 use Rattle.run_model.specs.Runs.{run_of}
 use Rattle.run_model.specs.Turn.{ask_at, mark}
 use Rattle.rv_meaning.specs.declared.asks.Want.TheVariants.{Faulted}

@@ -11,7 +11,8 @@ use Rattle.log_order.specs.Content.{Content}
 use Rattle.log_file.specs.Layout.{file_bytes2}
 use Rattle.log_blocks.specs.Readings.{Reads}
 use Rattle.hart_replay.specs.Replay.{Interval, interval_of}
-use Rattle.run_model.specs.Files.{kept_of, content_of, file_of, IsEndOf}
+use Rattle.run_files.specs.Files.{file_of}
+use Rattle.run_model.specs.KeptRecords.{kept_of, content_of, IsEndOf}
 use Rattle.run_model.specs.Rows.{rows_of}
 use Rattle.replay_laws.specs.Law.{end_of}
 use Rattle.run_model.specs.Runs.{start, run_of}

@@ -6,7 +6,7 @@ use Rattle.bn_base.specs.Ranges.{first_bad}
 use Rattle.bn_base.specs.declared.settings.RawSettings.{RawSettings}
 use Rattle.bn_outside.specs.Files.{Files}
 use Rattle.command_words.specs.Words.{Line, RecordLine, ReplayLine, JointLine, DebugLine, ListLine, CheckLine, AuditLine, RacesLine, SliceLine, ConvertLine, SalvageLine, DemoLine}
-use Rattle.run_model.specs.Files.{content_of}
+use Rattle.run_model.specs.KeptRecords.{content_of}
 use Rattle.run_model.specs.Runs.{run_of, seeded}
 use Rattle.replay_laws.specs.Law.{IsWhole}
 use Rattle.file_laws.specs.Given.{IsRecording}

@@ -10,7 +10,7 @@ use Rattle.log_blocks.specs.Laws.{pieces_of}
 use Rattle.log_file.specs.Blocks.{Block, blocks_of}
 use Rattle.log_file.specs.Layout.{file_bytes2}
 use Rattle.log_order.specs.Content.{Content}
-use Rattle.run_model.specs.Files.{kept_of, dropped_of}
+use Rattle.run_model.specs.KeptRecords.{kept_of, dropped_of}
 use Rattle.run_model.specs.Runs.{run_of}
 use Rattle.file_laws.specs.Given.{IsRecording}
 use Rattle.bugnet.specs.Answers.{IsAnswer}

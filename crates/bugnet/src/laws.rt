@@ -22,8 +22,8 @@ use log_blocks::readings::{
 };
 use replay_laws::{ends_suffice, the_rows_of_an_interval_stand_together};
 use report_laws::races_say_the_run;
+use run_files::{files_number_their_version, verdicts_are_unique};
 use run_laws::{faults_are_kept, kept_records_are_an_end, own_asks_are_orderly};
-use run_model::{files_number_their_version, verdicts_are_unique};
 use step_debugger::laws::refusals_stay;
 
 /// No words have two answers, whatever the files are; but a recording without a seed has one for each

@@ -16,6 +16,7 @@ use bus_core::Closed;
 use hart_worker::{Listed, run_listed, run_seeded, run_threads_lean, run_threads_listed};
 use log_commands::answer::{RunEnd, RunToTell};
 use log_commands::texts::{RunCounts, push_summary};
+use run_files::saved_file;
 use run_model::Start;
 use rv_text::Text;
 use std::alloc::{AllocError, Global};
@@ -118,7 +119,7 @@ fn recording_of<B: Book>(
         dropped: closed.ring.dropped(),
         kept: closed.ring.len() as u64,
     };
-    let log = start.log_file(alloc, &closed.ring)?;
+    let log = saved_file(alloc, start, &closed.ring)?;
     let err = err_of(alloc, closed.err, &counts, &end)?;
     Ok(RunToTell {
         end,

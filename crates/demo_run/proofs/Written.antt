@@ -9,7 +9,7 @@ use Rattle.log_file.specs.Layout.{file_bytes, file_bytes2, saved_bytes}
 use Rattle.log_order.specs.Content.{content}
 use Rattle.log_record.specs.declared.record.Record.{Record}
 use Rattle.log_ring.specs.Kept.{kept}
-use Rattle.run_model.specs.Files.{kept_of, dropped_of}
+use Rattle.run_model.specs.KeptRecords.{kept_of, dropped_of}
 use Rattle.run_model.specs.Turn.{Run}
 use Rattle.run_model.specs.Runs.{run_of, seeded}
 use Rattle.run_model.specs.declared.start.Start.{Start}

@@ -14,7 +14,7 @@ use Rattle.log_file.specs.Counts.{header_count}
 use Rattle.hart_replay.specs.Replay.{replayed}
 use Rattle.joint_replay.specs.Joining.{run_all}
 use Rattle.log_order.specs.Content.{Content}
-use Rattle.run_model.specs.Files.{dropped_of, content_of}
+use Rattle.run_model.specs.KeptRecords.{dropped_of, content_of}
 use Rattle.run_model.specs.Runs.{seeded}
 use Rattle.bus_core.specs.Bus.{marks}
 use Rattle.joint_laws.specs.Recordings.{Recording, recorded, kept, begin}

@@ -6,6 +6,7 @@ ghost use Rattle.demo_run.specs.Starts.{IsStart, IsRecordedRun};
 use bn_base::EndMark;
 use bn_outside::LeanBook;
 use hart_worker::run_seeded;
+use run_files::saved_file;
 use run_model::Start;
 use std::alloc::{AllocError, Global};
 
@@ -48,6 +49,6 @@ pub fn record(alloc: Global, start: &Start, seed: u64) -> Result<DemoRecording, 
     Ok(DemoRecording {
         turns: closed.turns,
         instructions: counts_in(&closed.ends),
-        file: start.log_file(alloc, &closed.ring)?,
+        file: saved_file(alloc, start, &closed.ring)?,
     })
 }

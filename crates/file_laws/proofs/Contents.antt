@@ -27,7 +27,7 @@ use Rattle.run_model.specs.Machine.{Answered, answer, call_of}
 use Rattle.run_model.specs.Turn.{Run, Served, turn, ask_at, is_guarded, begun_anew, guarded_run, guard_records, after_ask, span_of, next_of, loading, warmth, word_before, budget, point_of, edge_records, load_record, sc_record, next_records, run_over_records, harts_after, is_orderly}
 use Rattle.run_model.specs.Runs.{start, start_state, first_headers, run_from, legal_from, is_live, most_turns}
 use Rattle.run_model.specs.Counts.{IsFit, MovesOn}
-use Rattle.run_model.specs.Files.{kept_of, dropped_of, content_of}
+use Rattle.run_model.specs.KeptRecords.{kept_of, dropped_of, content_of}
 use Rattle.file_laws.specs.Recorded.{counts_of}
 use Rattle.file_laws.proofs.Asks.{StepsKeepWords, asks_well}
 use Rattle.file_laws.proofs.Machines.{HoldsMachine, IsWordState, EndIsWord, answer_well, state_after, end_word, code_words, first_words, heap_word}

@@ -35,7 +35,7 @@ use Rattle.run_model.specs.Represents.Logs.{is_marked_next}
 use Rattle.run_model.specs.Turn.{Run, Served, serve, after_ask, span_of, next_of, loading, warmth, word_before, point_of, edges_from, edge_records, load_record, sc_record, next_records, stopped_records, run_over_records, harts_after, is_orderly, mark, is_guarded, by_guard, begun_anew, guarded_run, guard_records}
 use Rattle.run_model.specs.Runs.{start, start_hart, start_state, first_headers, most_turns}
 use Rattle.run_model.specs.Counts.{MovesOn, turns_left, IsRested}
-use Rattle.run_model.specs.Files.{kept_of, dropped_of}
+use Rattle.run_model.specs.KeptRecords.{kept_of, dropped_of}
 use Rattle.run_laws.specs.History.{after_rows, are_orderly, IsLawful}
 use Rattle.file_laws.specs.Recorded.{counts_of, HoldsLogOfRows, ring_content}
 use Rattle.file_laws.proofs.Nexts.{EndsAs, next_ends}

@@ -3,7 +3,7 @@ use Rattle.std.proofs.Common.{◌≡◌, ℕ, ◌==◌, Bool, true, false, ◌&&
 use Rattle.log_record.specs.declared.record.Record.{Record}
 use Rattle.log_record.specs.declared.record.Record.TheVariants.{Header, FirstLoad, ScOk, ScFailed, Edge, End}
 use Rattle.hart_replay.specs.Replay.{Interval, interval_of, interval_from, puts, nothing}
-use Rattle.run_model.specs.Files.{kept_of}
+use Rattle.run_model.specs.KeptRecords.{kept_of}
 use Rattle.run_model.specs.Runs.{run_of}
 use Rattle.run_laws.specs.Retained.{HasHeader, FaultsAreKept}
 use Rattle.replay_laws.specs.Law.{LogSuffices}

@@ -22,7 +22,7 @@ use Rattle.run_model.specs.declared.hart.Hart.{Hart}
 use Rattle.run_model.specs.Turn.{Run, Served, serve, serve_disorderly, served_if, is_orderly}
 use Rattle.run_model.specs.Runs.{is_live, any_live}
 use Rattle.run_model.specs.Runs as runs
-use Rattle.run_model.specs.Files.{kept_of, dropped_of}
+use Rattle.run_model.specs.KeptRecords.{kept_of, dropped_of}
 use Rattle.run_laws.specs.History.{after_rows, are_orderly, IsLawful}
 use Rattle.file_laws.specs.Recorded.{counts_of, KeepsRules}
 use Rattle.file_laws.proofs.Views.{Views}

@@ -8,7 +8,7 @@ use Rattle.log_blocks.specs.Cuts.{records_in}
 use Rattle.log_blocks.specs.Laws.{SalvagedAreAnEnd}
 use Rattle.run_model.specs.Turn.{Run}
 use Rattle.run_model.specs.Runs.{run_of}
-use Rattle.run_model.specs.Files.{kept_of, content_of, IsEndOf}
+use Rattle.run_model.specs.KeptRecords.{kept_of, content_of, IsEndOf}
 use Rattle.run_laws.specs.Laws.{KeptIsAnEnd}
 use Rattle.replay_laws.specs.Law.{EndsSuffice}
 use Rattle.file_laws.specs.Laws.{LogsAreContents, SalvagedFilesSuffice}

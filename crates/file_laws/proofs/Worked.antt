@@ -12,7 +12,7 @@ use Rattle.log_order.specs.Rules.{after_header}
 use Rattle.log_ring.specs.Kept.{kept}
 use Rattle.run_laws.specs.History.{are_orderly, IsLawful}
 use Rattle.run_model.specs.Examples.{an_exit, program_of}
-use Rattle.run_model.specs.Files.{kept_of, dropped_of}
+use Rattle.run_model.specs.KeptRecords.{kept_of, dropped_of}
 use Rattle.run_model.specs.Runs.{is_over}
 use Rattle.run_model.specs.Turn.{serve}
 use Rattle.file_laws.specs.Given.{IsRecording}

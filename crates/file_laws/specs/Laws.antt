@@ -18,7 +18,8 @@ use Rattle.hart_replay.specs.Replay.{Interval, interval_of, replayed}
 use Rattle.hart_replay.specs.Replay.{Done}
 use Rattle.run_model.specs.Rows.{rows_in}
 use Rattle.run_model.specs.Runs.{start, run_of, is_over}
-use Rattle.run_model.specs.Files.{kept_of, dropped_of, content_of, file_of, IsEndOf}
+use Rattle.run_files.specs.Files.{file_of}
+use Rattle.run_model.specs.KeptRecords.{kept_of, dropped_of, content_of, IsEndOf}
 use Rattle.run_laws.specs.History.{after_rows, are_orderly, IsLawful}
 use Rattle.file_laws.specs.Given.{IsRecording}
 use Rattle.file_laws.specs.Recorded.{counts_of, KeepsRules, HoldsLogOfRows, ring_content}

@@ -6,7 +6,7 @@ use Rattle.bn_base.specs.declared.settings.RawSettings.{RawSettings}
 use Rattle.rv_meaning.specs.declared.asks.Want.TheVariants.{Faulted}
 use Rattle.hart_replay.specs.Replay.{replayed}
 use Rattle.hart_replay.specs.Replay.{Done}
-use Rattle.run_model.specs.Files.{kept_of}
+use Rattle.run_model.specs.KeptRecords.{kept_of}
 use Rattle.run_model.specs.Rows.{rows_in}
 use Rattle.run_model.specs.Runs.{start, run_of}
 use Rattle.run_model.specs.Turn.{ask_at}

@@ -2,7 +2,7 @@
 use Rattle.std.proofs.Common.{◌≡◌, sym, subst}
 use Rattle.sha2.specs.Sha256.{sha256}
 use Rattle.log_order.specs.Content.{Content}
-use Rattle.run_model.specs.Files.{content_of}
+use Rattle.run_model.specs.KeptRecords.{content_of}
 use Rattle.file_laws.specs.Laws.{FilesSayTheRun}
 use Rattle.joint_replay.specs.Joining.{run_all, fresh}
 use Rattle.joint_laws.specs.Recordings.{OfWholeOrders, OfBeginnings, begin, kept, recorded}

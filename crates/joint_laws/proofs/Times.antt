@@ -8,7 +8,7 @@ use Rattle.hart_replay.specs.declared.error.ReplayError.{ReplayError}
 use Rattle.race_log.specs.Points.{Point}
 use Rattle.race_log.specs.ByCount.{IsInOrder}
 use Rattle.race_log.specs.Tests.{name_of}
-use Rattle.run_model.specs.Files.{IsEndOf}
+use Rattle.run_model.specs.KeptRecords.{IsEndOf}
 use Rattle.race_laws.specs.Runs.{OfLists}
 use Rattle.race_laws.specs.Laws.{HasOrder, KeepsEdgesAlone}
 use Rattle.race_laws.specs.Edges.{edge_record}

@@ -10,7 +10,7 @@ use Rattle.log_order.specs.Content.{Content, IsContent}
 use Rattle.log_blocks.specs.File.{IsSpelled}
 use Rattle.race_log.specs.Netzer.{AtPlaces}
 use Rattle.race_log.specs.Points.{Point, MeetAt, Touches, Writes}
-use Rattle.run_model.specs.Files.{file_of}
+use Rattle.run_files.specs.Files.{file_of}
 use Rattle.row_laws.specs.States.{IsRowOfTurn, state_after}
 use Rattle.joint_replay.specs.declared.kinds.Readiness.TheVariants.{Ready}
 use Rattle.joint_replay.specs.declared.kinds.Next.TheVariants.{NoneReady}

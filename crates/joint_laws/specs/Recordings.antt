@@ -7,7 +7,7 @@ use Rattle.bn_base.specs.declared.settings.RawSettings.{RawSettings}
 use Rattle.bn_base.specs.declared.state.HartState.{HartState}
 use Rattle.log_record.specs.declared.record.Record.{Record}
 use Rattle.race_log.specs.Points.{Point}
-use Rattle.run_model.specs.Files.{IsEndOf, kept_of}
+use Rattle.run_model.specs.KeptRecords.{IsEndOf, kept_of}
 use Rattle.run_model.specs.Rows.{rows_of, rows_in}
 use Rattle.run_model.specs.Runs.{start, run_of}
 use Rattle.run_model.specs.Turn.{Run}

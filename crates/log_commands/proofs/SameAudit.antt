@@ -9,11 +9,11 @@ use Rattle.elf_loader.specs.Loaded.{image_of}
 use Rattle.elf_loader.specs.declared.error.ElfError.{ElfError}
 use Rattle.log_order.specs.Content.{Content}
 use Rattle.log_blocks.specs.declared.damage.Damage.{Damage}
-use Rattle.run_model.specs.Audits.{is_version2, audited_file, verdict_of}
+use Rattle.run_files.specs.Audits.{is_version2, audited_file, verdict_of}
 use Rattle.run_model.specs.Lists.{list_error}
 use Rattle.run_model.specs.declared.error.TurnError.{TurnError}
-use Rattle.run_model.specs.declared.verdict.Verdict.{Verdict}
-use Rattle.run_model.specs.declared.verdict.Verdict.TheVariants.{Agree, Differ}
+use Rattle.run_files.specs.declared.verdict.Verdict.{Verdict}
+use Rattle.run_files.specs.declared.verdict.Verdict.TheVariants.{Agree, Differ}
 use Rattle.log_commands.specs.Names.{FileNames}
 use Rattle.log_commands.specs.Told.{Told}
 use Rattle.log_commands.specs.Audits.{turns_told, audited, IsAuditOf, IsAuditWith, IsAuditBy, IsAuditIn, IsAudit}

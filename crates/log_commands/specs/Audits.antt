@@ -7,12 +7,12 @@ use Rattle.bn_base.specs.Ranges.{IsSetting}
 use Rattle.bn_outside.specs.Files.{Files}
 use Rattle.elf_loader.specs.Loaded.{image_of}
 use Rattle.log_order.specs.Content.{Content}
-use Rattle.run_model.specs.Files.{file_of}
+use Rattle.run_files.specs.Files.{file_of}
 use Rattle.run_model.specs.Lists.{list_error}
-use Rattle.run_model.specs.Audits.{is_version2, version2_of, audited_file, verdict_of}
+use Rattle.run_files.specs.Audits.{is_version2, version2_of, audited_file, verdict_of}
 use Rattle.run_model.specs.declared.error.TurnError.{TurnError}
-use Rattle.run_model.specs.declared.verdict.Verdict.{Verdict}
-use Rattle.run_model.specs.declared.verdict.Verdict.TheVariants.{Agree, Differ}
+use Rattle.run_files.specs.declared.verdict.Verdict.{Verdict}
+use Rattle.run_files.specs.declared.verdict.Verdict.TheVariants.{Agree, Differ}
 use Rattle.replay_laws.specs.Law.{IsWhole}
 use Rattle.log_commands.specs.Names.{FileNames}
 use Rattle.log_commands.specs.Texts.{agree_text}

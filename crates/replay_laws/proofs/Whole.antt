@@ -19,7 +19,7 @@ use Rattle.run_model.specs.declared.hart.Hart.{Hart}
 use Rattle.run_model.specs.declared.turn_end.TurnEnd.{TurnEnd}
 use Rattle.run_model.specs.declared.turn_end.TurnEnd.TheVariants.{GoesOn, NewInterval, HartOver, RunOver}
 use Rattle.run_model.specs.Turn.{Run, other_after, turn, by_guard}
-use Rattle.run_model.specs.Files.{kept_of, IsEndOf}
+use Rattle.run_model.specs.KeptRecords.{kept_of, IsEndOf}
 use Rattle.run_model.specs.Runs.{start, run_of, run_from, legal_from, any_live}
 use Rattle.run_model.specs.Rows.{rows_in, rows_of, quiet_part, turn_rows}
 use Rattle.replay_laws.specs.Law.{LogSuffices, EndsSuffice, RowsStandTogether, IntervalsBegin, RowsAreCounted, IsWhole, IsBeforeTurn, IsAtGuard, end_of}

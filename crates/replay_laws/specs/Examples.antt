@@ -2,7 +2,7 @@
 use Rattle.std.specs.Prelude.{ℕ}
 use Rattle.hart_replay.specs.Replay.{Replayed, replayed}
 use Rattle.run_model.specs.Examples.{Recording, program_of, recorded, a_call_at_full_length}
-use Rattle.run_model.specs.Files.{kept_of}
+use Rattle.run_model.specs.KeptRecords.{kept_of}
 
 -- the replay of interval n of hart h from what is kept of a recording
 abbrev pub replay_of : Recording → (h n : ℕ) → Replayed

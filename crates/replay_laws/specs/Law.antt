@@ -7,7 +7,7 @@ use Rattle.bn_base.specs.declared.row.Row.{Row}
 use Rattle.bn_base.specs.declared.settings.RawSettings.{RawSettings}
 use Rattle.bn_base.specs.declared.state.HartState.{HartState}
 use Rattle.log_record.specs.declared.record.Record.{Record}
-use Rattle.run_model.specs.Files.{kept_of, IsEndOf}
+use Rattle.run_model.specs.KeptRecords.{kept_of, IsEndOf}
 use Rattle.run_model.specs.Rows.{rows_of, rows_in, quiet_part}
 use Rattle.run_model.specs.Runs.{start, run_of, legal_from, is_over}
 use Rattle.run_model.specs.Turn.{Run, ask_at, is_guarded}

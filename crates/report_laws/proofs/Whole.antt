@@ -11,7 +11,7 @@ use Rattle.race_log.specs.Kept.{In}
 use Rattle.race_laws.specs.Laws.{HasOrder}
 use Rattle.race_laws.specs.Runs.{OfLists}
 use Rattle.row_laws.specs.Laws.{TurnRowsAreRows, RowsTellRuns}
-use Rattle.run_model.specs.Files.{content_of}
+use Rattle.run_model.specs.KeptRecords.{content_of}
 use Rattle.joint_replay.specs.Joining.{run_all}
 use Rattle.race_report.specs.declared.race.Race.{Race}
 use Rattle.race_report.specs.Laws.{AreCounted, HaveOwnRows, IsRaceOf, PointsAreCounted, RacesAreListed, RacesAscend, RacesGoByConflicts}

@@ -12,7 +12,7 @@ use Rattle.race_log.specs.Points.{Point, Writes}
 use Rattle.race_log.specs.declared.mode.Mode.TheVariants.{Read, Write}
 use Rattle.hart_replay.specs.Coming.{after_row}
 use Rattle.hart_replay.specs.Replay.{Interval, interval_of}
-use Rattle.run_model.specs.Files.{IsEndOf}
+use Rattle.run_model.specs.KeptRecords.{IsEndOf}
 use Rattle.run_model.specs.Rows.{rows_of, rows_in, turn_rows}
 use Rattle.run_model.specs.Runs.{start, run_of, legal_from}
 use Rattle.run_model.specs.Turn.{Run, turn}

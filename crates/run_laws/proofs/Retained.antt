@@ -29,7 +29,7 @@ use Rattle.run_model.specs.declared.hart.Hart.{Hart}
 use Rattle.run_model.specs.declared.turn_end.TurnEnd.{TurnEnd}
 use Rattle.run_model.specs.declared.turn_end.TurnEnd.TheVariants.{GoesOn, NewInterval, HartOver, RunOver}
 use Rattle.run_model.specs.Counts.{IsFit, anew}
-use Rattle.run_model.specs.Files.{kept_of}
+use Rattle.run_model.specs.KeptRecords.{kept_of}
 use Rattle.run_model.specs.Machine.{Machine, answer, call_of}
 use Rattle.run_model.specs.Runs.{start, run_of, run_from, legal_from}
 use Rattle.run_model.specs.Turn.{Run, turn, ask_at, is_orderly, is_guarded, guarded_run, guard_records, bytes_since, budget, counted, next_of, mark, hart_after, other_after, next_records, stopped_records, run_over_records, edges_from, edge_records, load_record, sc_record, loading, warmth, skipped_after, word_before, point_of, span_of}

@@ -14,7 +14,7 @@ use Rattle.race_log.specs.Points.{Point}
 use Rattle.race_log.specs.Kept.{after}
 use Rattle.race_log.specs.Tests.{sources_into}
 use Rattle.log_record.specs.declared.record.Record.{Record}
-use Rattle.run_model.specs.Files.{kept_of, IsEndOf}
+use Rattle.run_model.specs.KeptRecords.{kept_of, IsEndOf}
 use Rattle.run_model.specs.Runs.{start, start_hart, start_state, run_from, run_of, legal_from, most_turns}
 use Rattle.run_laws.specs.History.{after_rows, are_orderly, IsLawful, IsOwn, Place, place_of, place_after, ask_from, rows_from, rows_by}
 use Rattle.run_laws.specs.Ends.{last_end}

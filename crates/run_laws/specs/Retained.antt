@@ -8,7 +8,7 @@ use Rattle.bn_base.specs.declared.settings.RawSettings.{RawSettings}
 use Rattle.rv_meaning.specs.declared.asks.Want.TheVariants.{Faulted}
 use Rattle.log_record.specs.declared.record.Record.{Record}
 use Rattle.log_record.specs.declared.record.Record.TheVariants.{Header}
-use Rattle.run_model.specs.Files.{kept_of}
+use Rattle.run_model.specs.KeptRecords.{kept_of}
 use Rattle.run_model.specs.Runs.{start, run_of, legal_from}
 use Rattle.run_model.specs.Turn.{ask_at, mark}
 use Rattle.run_laws.specs.Ends.{last_end}

@@ -5,11 +5,8 @@ use Rattle.bn_base.specs.declared.row.Row.{Row}
 use Rattle.rv_meaning.specs.declared.asks.Ask.{Ask}
 use Rattle.rv_meaning.specs.declared.asks.Want.{Want}
 use Rattle.bn_base.specs.declared.settings.RawSettings.{RawSettings}
-use Rattle.log_file.specs.Layout.{file_bytes, file_bytes2}
-use Rattle.run_model.specs.Files.{content_of, FormatOneIsVersionOne}
 use Rattle.run_model.specs.Guards.{FormatOneIsUnguarded}
 use Rattle.run_model.specs.Turn.{Run, serve, served_if, is_orderly, is_guarded, ask_at}
-use Rattle.run_model.specs.Runs.{run_of}
 use Rattle.run_model.specs.Rows.{rows_if, quiet_part, ask_part, turn_rows, turn_rows_in}
 
 pub unguarded : (c : RawSettings) (run : Run) (k : ℕ) (want : Want) → c.format ≡ 1 → is_guarded c run k want ≡ false
@@ -34,8 +31,3 @@ rows_unguarded c i run k n e =
 
 pub format_one : FormatOneIsUnguarded
 format_one = record { asks = unguarded; serves = serve_unguarded; rows = rows_unguarded }
-
-pub version_one : FormatOneIsVersionOne
-version_one c i digest input b e =
-    let kept = content_of c digest (run_of c i input b) in
-    ap (λ (format : ℕ). elim (format == 2) as (λ t. List ℕ) [ true ↦ file_bytes2 kept | false ↦ file_bytes kept ]) e

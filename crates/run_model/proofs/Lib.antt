@@ -23,10 +23,5 @@ pub mod FormatOne
 pub mod Bytes
 pub mod Alike
 pub mod LiveSets
-pub mod Followed
-pub mod LogFile
-pub mod AuditsWorked
-pub mod Verdicts
 pub mod Dropping
 pub mod InPlace
-pub mod LogVersions

@@ -10,7 +10,7 @@ use Rattle.log_record.specs.declared.record.Record.TheVariants.{Header, FirstLoa
 use Rattle.run_model.specs.Turn.{Run, turn, header, mark}
 use Rattle.run_model.specs.Runs.{start, start_state, run_of, legal_from, is_over}
 use Rattle.run_model.specs.Rows.{rows_of, rows_in}
-use Rattle.run_model.specs.Files.{kept_of}
+use Rattle.run_model.specs.KeptRecords.{kept_of}
 use Rattle.race_log.specs.Points.{Point}
 use Rattle.race_log.specs.Kept.{access_point}
 use Rattle.race_log.specs.declared.mode.Mode.TheVariants.{Write}

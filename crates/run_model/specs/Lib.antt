@@ -3,9 +3,8 @@ pub mod Turn
 pub mod Runs
 pub mod Lists
 pub mod Rows
-pub mod Files
+pub mod KeptRecords
 pub mod Counts
 pub mod Guards
 pub mod Represents
 pub mod Examples
-pub mod Audits

@@ -1,7 +1,5 @@
 // Laws of turns.
 ghost use Rattle.run_model.specs.Counts.{EachTurnMovesOn, EachTurnFits, OthersStayFit, GuardedAsksFit};
-ghost use Rattle.run_model.specs.Audits.{FilesNumberTheirVersion, VerdictsAreUnique};
-ghost use Rattle.run_model.specs.Files.{FormatOneIsVersionOne};
 ghost use Rattle.run_model.specs.Guards.{FormatOneIsUnguarded, RecordsDecideNothing};
 
 use system_calls::exits_alone_end;
@@ -37,26 +35,8 @@ pub fn format_1_is_unguarded()
     ensures { FormatOneIsUnguarded }
 {}
 
-/// With format 1 the log file of a run is of version 1.
-#[tactic(auto, using(crate::proofs::FormatOne::version_one))]
-pub fn format_1_is_version_1()
-    ensures { FormatOneIsVersionOne }
-{}
-
 /// The records themselves decide nothing: the machine, harts, caches, points, turns and number of bytes
 /// do.
 pub fn records_decide_nothing()
     ensures { RecordsDecideNothing }
-{}
-
-/// A log file of version 2 has the number 2 in its bytes 8 to 11, and one of version 1 hasn't.
-pub fn files_number_their_version()
-    ensures { FilesNumberTheirVersion }
-{}
-
-/// Bytes have one verdict, which is also told as a function: they agree exactly where they are those of
-/// the file, and else differ first at one place.
-#[tactic(auto, using(crate::proofs::Verdicts::verdicts))]
-pub fn verdicts_are_unique()
-    ensures { VerdictsAreUnique }
 {}

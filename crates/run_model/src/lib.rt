@@ -1,8 +1,6 @@
-//! What a recording is: its runs, rows, intervals, log and file, in definitions that compute.
+//! What a recording is: its runs, rows, intervals and log, in definitions that compute.
 #![tactic(auto)]
 
-mod audit_examples;
-mod auditing;
 mod caches;
 mod error;
 mod examples;
@@ -24,13 +22,7 @@ mod taking;
 mod trace;
 mod turn_end;
 mod turning;
-mod verdict;
 
-pub use audit_examples::{
-    a_hart_that_is_not_there_has_no_turn, a_list_can_be_too_long_or_too_short,
-    files_differ_at_a_byte_or_an_end, the_lowest_live_hart_is_named,
-};
-pub use auditing::audit;
 pub use caches::{Caches, loading_accesses_touch_their_words};
 pub use error::TurnError;
 pub use examples::{
@@ -48,9 +40,8 @@ pub use guarded_examples::{
 };
 pub use hart::{Hart, skipped_after};
 pub use laws::{
-    each_turn_fits, each_turn_moves_on, files_number_their_version, format_1_is_unguarded,
-    format_1_is_version_1, guarded_asks_fit, others_stay_fit, records_decide_nothing,
-    verdicts_are_unique,
+    each_turn_fits, each_turn_moves_on, format_1_is_unguarded, guarded_asks_fit, others_stay_fit,
+    records_decide_nothing,
 };
 pub use log::Log;
 pub use machine::{Machine, Streams};
@@ -60,4 +51,3 @@ pub use start::Start;
 pub use trace::Trace;
 pub use turn_end::TurnEnd;
 pub use turning::Recorded;
-pub use verdict::Verdict;

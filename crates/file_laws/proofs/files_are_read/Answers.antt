@@ -1,5 +1,5 @@
 use Rattle.sha2.specs.Sha256.{sha256}
-use Rattle.run_model.specs.Files.{content_of}
+use Rattle.run_model.specs.KeptRecords.{content_of}
 use Rattle.run_model.specs.Runs.{run_of}
 use Rattle.file_laws.proofs.files_are_read.Goals as goal
 

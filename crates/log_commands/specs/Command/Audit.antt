@@ -2,11 +2,11 @@
 use Rattle.std.specs.Prelude.{◌≡◌, ℕ, Bool, true, false, List, [], ◌∷◌, Option, Some, None, Result, Ok, Err}
 use Rattle.bn_base.specs.Programs.{Program}
 use Rattle.bn_base.specs.declared.settings.RawSettings.{RawSettings}
-use Rattle.run_model.specs.Audits.{is_version2, audited_file, verdict_of}
+use Rattle.run_files.specs.Audits.{is_version2, audited_file, verdict_of}
 use Rattle.run_model.specs.Lists.{list_error}
 use Rattle.run_model.specs.declared.error.TurnError.{TurnError}
-use Rattle.run_model.specs.declared.verdict.Verdict.{Verdict}
-use Rattle.run_model.specs.declared.verdict.Verdict.TheVariants.{Agree, Differ}
+use Rattle.run_files.specs.declared.verdict.Verdict.{Verdict}
+use Rattle.run_files.specs.declared.verdict.Verdict.TheVariants.{Agree, Differ}
 use Rattle.bn_outside.specs.Files.{Files}
 use Rattle.log_commands.specs.Evaluated.{on_ok, IsPairOfBytes, IsCommand}
 use Rattle.log_commands.specs.Inputs.{Bytes}

@@ -20,7 +20,8 @@ use crate::pairs::{JointReading, read_pair};
 use crate::refusal::Refusal;
 use crate::send::{refuse, send};
 use bn_outside::{Sink, Store};
-use run_model::{Start, TurnError, Verdict, audit, verdicts_are_unique};
+use run_files::{Verdict, audit, verdicts_are_unique};
+use run_model::{Start, TurnError};
 use rv_text::Text;
 use std::alloc::Global;
 

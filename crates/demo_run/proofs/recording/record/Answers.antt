@@ -12,5 +12,5 @@ returns c =
     record {
       turns = turns-so _ seed start closed _ c.requires c.in_ok-closed.ensures.run;
       instructions = c.counts_in.ensures ∙ ap (λ (ms : List (Option EndMark)). counts_in ms) c.deref.ensures.value ∙ instructions-so _ seed start closed _ c.requires c.in_ok-closed.ensures.run;
-      file = c.in_ok-log_file.ensures ∙ file-so _ seed start closed _ c.requires c.in_ok-closed.ensures.run;
+      file = c.in_ok-saved_file.ensures ∙ file-so _ seed start closed _ c.requires c.in_ok-closed.ensures.run;
     }

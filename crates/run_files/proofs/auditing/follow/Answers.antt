@@ -5,8 +5,8 @@ use Rattle.run_model.specs.Runs.{run_from, is_live, live_harts}
 use Rattle.run_model.specs.Lists.{unfinished, error_from}
 use Rattle.run_model.specs.Represents.Plain.{IsRun}
 use Rattle.run_model.specs.Represents.Turning.{parts}
-use Rattle.run_model.proofs.Followed.{run_more, wrong_here, wrong_later, all_taken, wrong_at_end}
-use Rattle.run_model.proofs.auditing.follow.Goals as goal
+use Rattle.run_files.proofs.Followed.{run_more, wrong_here, wrong_later, all_taken, wrong_at_end}
+use Rattle.run_files.proofs.auditing.follow.Goals as goal
 
 pub returns-then-not-live-clause-illegal : goal.returns-then-not-live-clause-illegal
 returns-then-not-live-clause-illegal c =

@@ -1,7 +1,7 @@
 use Rattle.std.proofs.Common.{◌<◌, ◌≤◌, ◌∙◌, sym, ap, arith}
 use Rattle.run_model.specs.declared.start.Start.{Start}
-use Rattle.run_model.proofs.Followed.{lowest_here, lowest_later, lowest_none}
-use Rattle.run_model.proofs.auditing.unfinished.Goals as goal
+use Rattle.run_files.proofs.Followed.{lowest_here, lowest_later, lowest_none}
+use Rattle.run_files.proofs.auditing.unfinished.Goals as goal
 
 pub returns-then-live : goal.returns-then-live
 returns-then-live c = λ run is.

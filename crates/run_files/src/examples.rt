@@ -2,10 +2,10 @@
 ghost use Rattle.std.specs.Prelude.{◌≡◌, ◌∷◌, [], Some, None};
 ghost use Rattle.run_model.specs.declared.error.TurnError.TheVariants.{IllegalTurn, NotFinished};
 ghost use Rattle.run_model.specs.Examples.{an_exit, a_line_lost};
-ghost use Rattle.run_model.specs.Audits.{DifferFirst, error_in};
+ghost use Rattle.run_files.specs.Audits.{DifferFirst, error_in};
 
 /// An exit is one turn. With a second the hart isn't live at turn 1; with none it is live after the last.
-#[tactic(auto, unfolding(crate::specs::Turn::serve))]
+#[tactic(auto, unfolding(run_model::specs::Turn::serve))]
 pub fn a_list_can_be_too_long_or_too_short()
     ensures whole { error_in an_exit (0 ∷ []) ≡ None }
     ensures long { error_in an_exit (0 ∷ 0 ∷ []) ≡ Some (IllegalTurn 1 0) }
@@ -13,13 +13,13 @@ pub fn a_list_can_be_too_long_or_too_short()
 {}
 
 /// A hart that isn't there has no turn.
-#[tactic(auto, unfolding(crate::specs::Turn::serve))]
+#[tactic(auto, unfolding(run_model::specs::Turn::serve))]
 pub fn a_hart_that_is_not_there_has_no_turn()
     ensures { error_in an_exit (1 ∷ 0 ∷ []) ≡ Some (IllegalTurn 0 1) }
 {}
 
 /// Of several harts that are live after the last turn the lowest is named.
-#[tactic(auto, unfolding(crate::specs::Turn::serve), using(crate::proofs::AuditsWorked::the_lowest_live_hart_is_named_both, crate::proofs::AuditsWorked::the_lowest_live_hart_is_named_second))]
+#[tactic(auto, unfolding(run_model::specs::Turn::serve), using(crate::proofs::AuditsWorked::the_lowest_live_hart_is_named_both, crate::proofs::AuditsWorked::the_lowest_live_hart_is_named_second))]
 pub fn the_lowest_live_hart_is_named()
     ensures both { error_in a_line_lost (0 ∷ 1 ∷ []) ≡ Some (NotFinished 0) }
     ensures second { error_in a_line_lost (0 ∷ 1 ∷ 0 ∷ 0 ∷ []) ≡ Some (NotFinished 1) }

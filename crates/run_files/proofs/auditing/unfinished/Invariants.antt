@@ -4,7 +4,7 @@ use Rattle.run_model.specs.Runs.{live_harts}
 use Rattle.run_model.specs.Lists.{unfinished}
 use Rattle.run_model.specs.Represents.Plain.{IsRun}
 use Rattle.run_model.specs.Represents.Turning.{parts}
-use Rattle.run_model.proofs.auditing.unfinished.Given as goal
+use Rattle.run_files.proofs.auditing.unfinished.Given as goal
 
 abbrev pub invariant-loop-live : goal.invariant-loop-live
 invariant-loop-live l = record {

@@ -3,9 +3,9 @@ use Rattle.bn_base.specs.declared.settings.RawSettings.{RawSettings}
 use Rattle.log_order.specs.Content.{Content}
 use Rattle.log_ring.specs.Kept.{Held, HoldsLog}
 use Rattle.run_model.specs.Runs.{run_of}
-use Rattle.run_model.specs.Audits.{bytes_in}
-use Rattle.run_model.proofs.LogFile.{content_is}
-use Rattle.run_model.proofs.auditing.audited_file.Goals as goal
+use Rattle.run_files.specs.Audits.{bytes_in}
+use Rattle.run_files.proofs.LogFile.{content_is}
+use Rattle.run_files.proofs.auditing.audited_file.Goals as goal
 
 pub returns-clause-file : goal.returns-clause-file
 returns-clause-file c =
@@ -14,4 +14,4 @@ returns-clause-file c =
     let recorded = c.into_recorded-recorded in
     let holds = subst (λ (r : Held). HoldsLog r run.stream) (sym recorded.ensures.ring) c.in-Ok.ensures.run.trace.log.holds in
     let size = recorded.ensures.size ∙ ap (λ (s : RawSettings). s.log_size) c.in-Ok.ensures.settings in
-    c.in-Ok-log_file_in.ensures ∙ ap (λ (d : Content). bytes_in c.args.second d) (content_is from.settings from.digest recorded.result.ring run holds size)
+    c.in-Ok-saved_file_in.ensures ∙ ap (λ (d : Content). bytes_in c.args.second d) (content_is from.settings from.digest recorded.result.ring run holds size)

@@ -4,25 +4,24 @@ ghost use Rattle.run_model.specs.declared.error.TurnError.TheVariants.{OutOfMemo
 ghost use Rattle.run_model.specs.Turn.{Run};
 ghost use Rattle.run_model.specs.Runs.{start, run_from, run_of, live_harts};
 ghost use Rattle.run_model.specs.Lists.{unfinished, error_from, list_error};
-ghost use Rattle.run_model.specs.Audits.{is_version2, audited_file, IsVerdict};
+ghost use Rattle.run_files.specs.Audits.{is_version2, audited_file, IsVerdict};
 ghost use Rattle.run_model.specs.Represents.Plain.{IsRun};
 ghost use Rattle.run_model.specs.Represents.Turning.{parts};
 
-use crate::error::TurnError;
-use crate::plain::Plain;
-use crate::start::Start;
+use crate::saved::saved_file_in;
 use crate::verdict::Verdict;
+use run_model::{Plain, Start, TurnError};
 use rv_meaning::DecodedImage;
 use std::alloc::{AllocError, Global};
 
 // The turns of a list, up to the first whose hart isn't live then.
 fn follow(code: &DecodedImage, plain: &mut Plain, list: &[u8]) -> Result<(), TurnError>
-    requires code { code.now ≡ plain.old.start.image }
-    ensures run { OnOk result ((run : Run) → IsRun (parts plain.old) run → IsRun (parts plain.new) (run_from plain.old.start.settings plain.old.start.image run list.now)) }
-    ensures legal { OnOk result ((run : Run) → IsRun (parts plain.old) run → let c = plain.old.start.settings in let i = plain.old.start.image in
+    requires code { code.now ≡ (parts plain.old).start.image }
+    ensures run { OnOk result ((run : Run) → IsRun (parts plain.old) run → IsRun (parts plain.new) (run_from (parts plain.old).start.settings (parts plain.old).start.image run list.now)) }
+    ensures legal { OnOk result ((run : Run) → IsRun (parts plain.old) run → let c = (parts plain.old).start.settings in let i = (parts plain.old).start.image in
         error_from c i run 0 list.now ≡ unfinished (live_harts 0 c.harts (run_from c i run list.now).harts)) }
-    ensures illegal { IfErr result (λ e. (e ≡ OutOfMemory) ⊎ ((run : Run) → IsRun (parts plain.old) run → error_from plain.old.start.settings plain.old.start.image run 0 list.now ≡ Some e)) }
-    ensures start { plain.new.start ≡ plain.old.start }
+    ensures illegal { IfErr result (λ e. (e ≡ OutOfMemory) ⊎ ((run : Run) → IsRun (parts plain.old) run → error_from (parts plain.old).start.settings (parts plain.old).start.image run 0 list.now ≡ Some e)) }
+    ensures start { (parts plain.new).start ≡ (parts plain.old).start }
 {
     for at in 0..list.len() {
         let hart = list[at];
@@ -39,7 +38,7 @@ fn follow(code: &DecodedImage, plain: &mut Plain, list: &[u8]) -> Result<(), Tur
 
 // What is wrong where some hart is live: the lowest such hart.
 fn unfinished(plain: &Plain) -> Option<TurnError>
-    ensures { (run : Run) → IsRun (parts plain.now) run → result ≡ unfinished (live_harts 0 plain.now.start.settings.harts run.harts) }
+    ensures { (run : Run) → IsRun (parts plain.now) run → result ≡ unfinished (live_harts 0 (parts plain.now).start.settings.harts run.harts) }
 {
     for live in 0..plain.start().settings.harts() {
         if plain.live(live) {
@@ -57,12 +56,12 @@ fn follow_whole(
     list: &[u8],
 ) -> Result<(), TurnError>
     requires run { IsRun (parts plain.old) (start from.now.settings from.now.image from.now.input.items) }
-    requires image { plain.old.start.image ≡ from.now.image }
-    requires settings { plain.old.start.settings ≡ from.now.settings }
+    requires image { (parts plain.old).start.image ≡ from.now.image }
+    requires settings { (parts plain.old).start.settings ≡ from.now.settings }
     ensures run { OnOk result (IsRun (parts plain.new) (run_of from.now.settings from.now.image from.now.input.items list.now)) }
     ensures whole { OnOk result (list_error from.now.settings from.now.image from.now.input.items list.now ≡ None) }
     ensures refused { IfErr result (λ e. (e ≡ OutOfMemory) ⊎ (list_error from.now.settings from.now.image from.now.input.items list.now ≡ Some e)) }
-    ensures settings { plain.new.start.settings ≡ from.now.settings }
+    ensures settings { (parts plain.new).start.settings ≡ from.now.settings }
 {
     let code = DecodedImage::new(alloc, &from.image)?;
     follow(&code, plain, list)?;
@@ -77,7 +76,7 @@ fn whole_run(alloc: Global, from: &Start, list: &[u8]) -> Result<Plain, TurnErro
     ensures run { IfOk result (λ p. IsRun (parts p) (run_of from.now.settings from.now.image from.now.input.items list.now)) }
     ensures whole { OnOk result (list_error from.now.settings from.now.image from.now.input.items list.now ≡ None) }
     ensures refused { IfErr result (λ e. (e ≡ OutOfMemory) ⊎ (list_error from.now.settings from.now.image from.now.input.items list.now ≡ Some e)) }
-    ensures settings { IfOk result (λ p. p.start.settings ≡ from.now.settings) }
+    ensures settings { IfOk result (λ p. (parts p).start.settings ≡ from.now.settings) }
 {
     let mut plain = Plain::new(alloc, from)?;
     follow_whole(alloc, from, &mut plain, list)?;
@@ -109,7 +108,7 @@ fn audited_file(
         Err(error) => Err(error),
         Ok(plain) => {
             let recorded = plain.into_recorded();
-            match from.log_file_in(alloc, second, &recorded.ring) {
+            match saved_file_in(alloc, from, second, &recorded.ring) {
                 Err(_) => Err(TurnError::OutOfMemory),
                 Ok(file) => Ok(file),
             }

@@ -4,7 +4,7 @@ use Rattle.run_model.specs.Runs.{run_from}
 use Rattle.run_model.specs.Lists.{error_from}
 use Rattle.run_model.specs.Represents.Plain.{IsRun}
 use Rattle.run_model.specs.Represents.Turning.{parts}
-use Rattle.run_model.proofs.auditing.follow.Given as goal
+use Rattle.run_files.proofs.auditing.follow.Given as goal
 
 abbrev pub invariant-loop-at : goal.invariant-loop-at
 invariant-loop-at l = record {

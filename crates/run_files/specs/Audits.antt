@@ -6,9 +6,9 @@ use Rattle.bn_base.specs.declared.settings.RawSettings.{RawSettings}
 use Rattle.log_order.specs.Content.{Content}
 use Rattle.log_file.specs.Layout.{file_bytes, file_bytes2, saved_bytes}
 use Rattle.run_model.specs.declared.error.TurnError.{TurnError}
-use Rattle.run_model.specs.declared.verdict.Verdict.{Verdict}
-use Rattle.run_model.specs.declared.verdict.Verdict.TheVariants.{Agree, Differ}
-use Rattle.run_model.specs.Files.{content_of}
+use Rattle.run_files.specs.declared.verdict.Verdict.{Verdict}
+use Rattle.run_files.specs.declared.verdict.Verdict.TheVariants.{Agree, Differ}
+use Rattle.run_model.specs.KeptRecords.{content_of}
 use Rattle.run_model.specs.Lists.{list_error}
 use Rattle.run_model.specs.Runs.{run_of}
 use Rattle.run_model.specs.Examples.{Recording, program_of}

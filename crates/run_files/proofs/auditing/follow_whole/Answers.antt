@@ -4,8 +4,8 @@ use Rattle.run_model.specs.Turn.{Run}
 use Rattle.run_model.specs.Runs.{start}
 use Rattle.run_model.specs.Represents.Plain.{IsRun}
 use Rattle.run_model.specs.Represents.Turning.{parts}
-use Rattle.run_model.proofs.Followed.{kept_run, kept_error}
-use Rattle.run_model.proofs.auditing.follow_whole.Goals as goal
+use Rattle.run_files.proofs.Followed.{kept_run, kept_error}
+use Rattle.run_files.proofs.auditing.follow_whole.Goals as goal
 
 pub returns-clause-run : goal.returns-clause-run
 returns-clause-run c =

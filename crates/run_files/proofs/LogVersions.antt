@@ -4,7 +4,7 @@ use Rattle.bn_base.specs.declared.settings.RawSettings.{RawSettings}
 use Rattle.le_numbers.specs.Numbers.{number_bytes}
 use Rattle.log_order.specs.Content.{Content}
 use Rattle.log_file.specs.Layout.{magic, settings_bytes, signed_bytes, head_bytes2, file_bytes, file_bytes2}
-use Rattle.run_model.specs.Audits.{is_version2, FilesNumberTheirVersion}
+use Rattle.run_files.specs.Audits.{is_version2, FilesNumberTheirVersion}
 
 -- the bytes begin with those of each log file, and the number of a version
 record Begins (version : ℕ) (bytes : List ℕ) : Type 0 where

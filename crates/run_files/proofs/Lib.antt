@@ -1,0 +1,6 @@
+mod AuditsWorked
+mod Followed
+mod FormatOne
+mod LogFile
+mod LogVersions
+mod Verdicts

@@ -1,5 +1,0 @@
-use Rattle.run_model.proofs.LogVersions.{numbered}
-use Rattle.run_model.proofs.laws.files_number_their_version.Goals as goal
-
-pub returns : goal.returns
-returns c = numbered
