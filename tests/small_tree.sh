@@ -13,69 +13,70 @@ export RT_CALLS=$calls TMPDIR=$work/temporary
 
 # What the script may need of the system, and nothing else: so no other rt is found.
 mkdir -p "$work/system" "$work/kit/bin" "$TMPDIR" "$tree"
-for name in awk bash basename cat chmod cut dirname env find flock grep install ln mkdir nproc od readlink renice rm \
-    sed sh sha256sum sleep sort stat tail touch tr wc xargs; do
+for name in awk bash basename cat chmod cp cut dirname env find flock grep install ln mkdir nice nproc od readlink rm \
+    sed setsid sh sha256sum sleep sort stat tail touch tr wc xargs; do
     ln -s "$(type -P "$name")" "$work/system/$name"
 done
 without=$work/system
 path=$work/kit/bin:$without
 
-# It knows by content what it built, as the real one does, and leaves what hasn't changed untouched.
+# Where the compiler isn't as it is known, rt builds all.
 cat >"$work/kit/bin/rt" <<'END'
 #!/usr/bin/env bash
 echo "$*" >>"$RT_CALLS"
-below="../low ../side ../mid ../bugnet ."
 case $1 in
 version) cat "$(dirname "$0")/../named" ;;
-all)
-    echo "process $$" >>"$RT_CALLS"
-    failed=
-    for folder in $below; do
-        name=$(cd $folder && basename "$PWD")
-        sleep "${RT_SLEEP:-0}"
-        echo "== $name"
-        echo "fn $name::quiet: proved"
-        if grep -q wrong $folder/src/*; then
-            echo "fn $name::loud: not proved" && failed="$failed $name"
-        else
-            echo "logic=proved functions=1"
-        fi
-    done
-    echo "== summary"
-    echo ended >>"$RT_CALLS"
-    for name in $failed; do echo "$name: failed (1)"; done
-    [ -z "$failed" ]
-    ;;
-lib)
-    sleep "${RT_SLEEP:-0}"
-    grep -q wrong src/* && echo "fn $(basename "$PWD")::loud: not proved" && exit 1
-    echo "logic=proved functions=1"
-    ;;
-run)
-    cpu=
-    [[ $4 != --cpu=* ]] || { cpu=" for ${4#--cpu=}" && set -- "${@:1:3}" "${@:5}"; }
-    text=$(cat ../low/src/* ../mid/src/* ../bugnet/src/* src/*)$cpu
-    mkdir -p out
-    if [ "$(cat out/built 2>/dev/null)" = "$text" ]; then
-        echo "rt: nothing has changed since the last proved build"
-    else
-        rm -f out/bugnet_main
-        cat >out/bugnet_main <<'PROGRAM'
+run) mkdir -p out && cp "$(dirname "$0")/../program" out/bugnet_main && out/bugnet_main check data/example.log ;;
+esac
+END
+
+# A library is its text, and is there only if those are that it stands on.
+cat >"$work/kit/bin/rattle" <<'END'
+#!/usr/bin/env bash
+text() { find "${1-.}/src" -type f -exec cat {} +; } # [FOLDER]
+cpu= libraries=()
+while [ $# -gt 0 ]; do
+    case $1 in
+    --help) echo "--statements" && exit ;;
+    --crate-name) crate=$2 ;;
+    --jobs) jobs=$2 ;;
+    --cpu=*) cpu=" for ${1#--cpu=}" ;;
+    --extern) libraries+=("$2") ;;
+    -o) to=$2 ;;
+    esac
+    shift
+done
+echo "process $$" >>"$RT_CALLS"
+echo "proves $crate$cpu, $jobs jobs" >>"$RT_CALLS"
+for it in "${libraries[@]}"; do
+    [[ $it != *=*/a\ tree/* || $(cat "${it#*=}/format") == "$(text "../${it%%=*}")" ]] || { echo "error: ${it%%=*} isn't built" && exit 1; }
+done
+sleep "${RT_SLEEP:-0}"
+echo "fn $crate::quiet: proved"
+text | grep -q wrong && echo "fn $crate::loud: not proved" && exit 1
+if [ "$crate" = bugnet_main ]; then
+    { cat "$(dirname "$0")/../program" && echo "# $(text ../low; text ../mid; text ../bugnet; text)$cpu" | tr '\n' ' '; } >"$to"
+else
+    mkdir "$to" && text >"$to/format"
+fi
+END
+
+cat >"$work/kit/bin/rattle-link" <<'END'
+#!/usr/bin/env bash
+while [ "$1" != -o ]; do shift; done
+cp "$3" "$2" && chmod +x "$2"
+END
+
+cat >"$work/kit/program" <<'END'
 #!/usr/bin/env bash
 [ "$1" = check ] && exit 0
 echo "words: $*"
 exit 5
-PROGRAM
-        echo "# $text" | tr '\n' ' ' >>out/bugnet_main
-        chmod +x out/bugnet_main
-        echo "$text" >out/built
-    fi
-    [ "$2 $4 $5 $6" = "--jobs -- check data/example.log" ] && out/bugnet_main check data/example.log
-    ;;
-esac
 END
-chmod +x "$work/kit/bin/rt"
+chmod +x "$work/kit/program" "$work/kit/bin/"*
 echo "rattle-kit-13f logic 0" >"$work/kit/named"
+mkdir -p "$work/kit/"{rlibs,logic_built,toolchain,c,rattle/logic}
+touch "$work/kit/c/"lib{os,libc}_c.a "$work/kit/rattle/logic/antt-project.json"
 
 mkdir "$tree/tests"
 cp -r "$top/zelkuma" "$top/tools" "$top/man" "$top/completion" "$tree"
@@ -97,8 +98,8 @@ cd "$work" || exit 1
 
 has() { grep -q -- "$2" "$work/$1" || fails "no '$2' in $1"; }
 hasnt() { ! grep -q -- "$2" "$work/$1" || fails "'$2' in $1"; }
-builds() { grep -q ^run "$calls" || fails "nothing was built"; }
-builds_nothing() { ! grep -qv ^version "$calls" || fails "it called rt: $(cat "$calls")"; }
+builds() { grep -q "^proves bugnet_main" "$calls" || fails "nothing was built"; }
+builds_nothing() { ! grep -qv ^version "$calls" || fails "it called the toolchain: $(cat "$calls")"; }
 answers() { [ "$(cat "$work/out")" = "words: $*" ] || fails "out isn't that of the program"; }
 zelkuma=$tree/zelkuma
 source=$tree/crates/mid/src/lib.rt

@@ -34,9 +34,10 @@ hasnt err note
 [ "$(grep -c " of 5, " "$work/err")" -eq 5 ] || fails "not one line a crate"
 
 what="the crates that nothing can be proved beside"
-[ "$(grep -c ^all "$calls")" -eq 1 ] || fails "not one call for those that stand side by side"
-hasnt calls ended
-[ "$(grep ^lib "$calls")" = "lib --jobs $(grep '^run' "$calls" | cut -d ' ' -f 3)" ] || fails "the library under the program has one job"
+jobs=$(sed -n 's/^proves bugnet_main, \(.*\) jobs/\1/p' "$calls")
+[ "$(grep -c ^proves "$calls")" -eq 5 ] || fails "not one call a crate"
+has calls "^proves bugnet, $jobs jobs$"
+has calls "^proves side, $((jobs > 1 ? jobs / 2 : 1)) jobs$"
 
 what="the second call"
 runs 5 "$zelkuma" list LOG
@@ -62,6 +63,8 @@ what="a change"
 echo changed >"$source"
 runs 5 "$zelkuma" list LOG
 builds
+hasnt calls "^proves low"
+has err "1 of 5, low"
 grep -q changed "$tree/crates/bugnet_main/out/bugnet_main" || fails "the old program is there"
 
 what="the change taken back, and what the toolchain knows is as it was"
@@ -70,8 +73,9 @@ runs 5 "$zelkuma" list LOG
 builds
 touch "$source" "$tree/crates.txt"
 rm "$tree/crates/bugnet_main/out/zelkuma.stamp"
-runs 5 "$zelkuma" list LOG # here the toolchain leaves an older program, and says that all is well
+runs 5 "$zelkuma" list LOG
 answers list LOG
+[ "$(grep -c ^proves "$calls")" -eq 1 ] || fails "a library is proved again"
 runs 5 "$zelkuma" list LOG
 builds_nothing
 
@@ -94,17 +98,27 @@ has err "fn mid::loud: not proved"
 has err "not built; not proved: mid"
 hasnt err quiet
 runs 1 "$zelkuma" list LOG
-grep -q ^all "$calls" || fails "it wasn't tried again"
+has calls "^proves mid"
+hasnt calls "^proves bugnet"
 echo "mid as it was" >"$source"
 
-what="a toolchain that stops at once"
-mv "$work/kit/bin/rt" "$work/kit/bin/kept"
-printf '#!/bin/sh\necho "rt: it stops"\n[ "$1" = version ]\n' >"$work/kit/bin/rt"
-chmod +x "$work/kit/bin/rt"
+what="a compiler that stops at once"
+mv "$work/kit/bin/rattle" "$work/kit/bin/kept"
+printf '#!/bin/sh\necho "--statements: it stops"\n[ "$2" = --help ]\n' >"$work/kit/bin/rattle"
+chmod +x "$work/kit/bin/rattle"
 runs 1 "$zelkuma" list LOG
-has err "rt: it stops"
-has err "the program was not built$"
-mv "$work/kit/bin/kept" "$work/kit/bin/rt"
+has err "it stops"
+has err "the program was not built; not proved: mid$"
+mv "$work/kit/bin/kept" "$work/kit/bin/rattle"
+
+what="a toolchain of another layout"
+mv "$work/kit/toolchain" "$work/kit/other"
+runs 5 "$zelkuma" list LOG
+answers list LOG
+has err "note: this kit isn't laid out as is known here"
+has calls "^run --jobs [0-9]* -- check data/example.log$"
+hasnt calls ^proves
+mv "$work/kit/other" "$work/kit/toolchain"
 
 what="another kit"
 runs 5 "$zelkuma" list LOG
@@ -145,7 +159,8 @@ what="a program for newer processors"
 runs 0 "$zelkuma" build --cpu x86-64-v3
 [ "$(cat "$work/out")" = "$tree/crates/bugnet_main/out/bugnet_main" ] || fails "it says another place"
 has err "it was built for x86-64-v3, and isn't the shipped program"
-has calls "^run --jobs [0-9]* --cpu=x86-64-v3 -- check data/example.log"
+has calls "^proves bugnet_main for x86-64-v3"
+[ "$(grep -c ^proves "$calls")" -eq 1 ] || fails "a library is proved again"
 grep -q "for x86-64-v3" "$tree/crates/bugnet_main/out/bugnet_main" || fails "another program is there"
 runs 0 "$zelkuma" build --cpu x86-64-v3
 builds_nothing
@@ -153,12 +168,12 @@ runs 1 "$tree/tools/release.sh"
 [ ! -e "$tree/release" ] || fails "it is shipped"
 runs 5 "$zelkuma" list LOG
 builds
-hasnt calls --cpu
+hasnt calls "for x86-64-v3"
 hasnt err x86-64-v3
 ! grep -q "for x86-64-v3" "$tree/crates/bugnet_main/out/bugnet_main" || fails "another call runs it"
 
 # (no fixed times here, since the machine may be busy: what is waited for is that the toolchain begins)
-begins='until grep -q ^all "$RT_CALLS"; do sleep 0.05; done'
+begins='until grep -q ^proves "$RT_CALLS"; do sleep 0.05; done'
 
 what="two calls at once"
 echo "changed again" >"$source"
@@ -172,7 +187,7 @@ wait "$one"
 answers list two
 has err "waiting for another call"
 [ "$(cat "$work/one")" = "words: list one" ] || fails "the first has no answer"
-[ "$(grep -c ^all "$calls")" -eq 1 ] || fails "both built"
+[ "$(grep -c "^proves mid" "$calls")" -eq 1 ] || fails "both built"
 
 what="a call that is stopped"
 export RT_SLEEP=3
@@ -182,7 +197,9 @@ for signal in TERM HUP INT; do
     runs 130 bash -c "set -m; \"\$0\" list LOG & $begins; kill -s $signal \$!; wait \$!" "$zelkuma"
     has err "stopped"
     [ ! -e "$tree/crates/bugnet_main/out/zelkuma.stamp" ] || fails "it says what was built"
-    ! grep -q '^State:.[^Z]' "/proc/$(sed -n 's/^process //p' "$calls")/status" 2>/dev/null || fails "the toolchain went on"
+    for process in $(sed -n 's/^process //p' "$calls"); do
+        ! grep -q '^State:.[^Z]' "/proc/$process/status" 2>/dev/null || fails "the toolchain went on"
+    done
 done
 export RT_SLEEP=0.2
 runs 137 bash -c "\"\$0\" list LOG & $begins; kill -s KILL \$!; wait \$!" "$zelkuma"

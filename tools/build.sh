@@ -1,15 +1,17 @@
 # Proves and builds the program. The script zelkuma reads this file where that is needed, and has
 # the names that are used here and not told.
+#
+# It calls the compiler itself, and not `rt lib`, since that locks the folders of the crates below: in one tree two of its
+# calls would wait for each other. It also has each library keep its statements alone, which those above it read faster.
 
 # the kits by which it was proved and built
 kits='rattle-kit-13f rattle-kit-13b'
 
-# How many crates to check side by side. A check takes up to some 3 GB. Some lanes only wait for the
-# crates below theirs, and others give way (below), so that there may be twice as many as there are
-# processors.
+# How many crates to prove side by side. A proof takes up to some 3 GB. Some more than there are processors, since those
+# that are not on the longest chain give way to the others.
 lanes() {
     {
-        echo $(($(nproc) * 2))
+        echo $((processors + (processors + 1) / 2))
         awk '/^MemAvailable:/ { print int($2 / 3000000) }' /proc/meminfo
         # a container's limit, which is a number or `max`
         awk '$1 > 0 { print int($1 / 3000000000) }' /sys/fs/cgroup/memory.max 2>/dev/null
@@ -29,32 +31,8 @@ measure_chains() {
     done
 }
 
-# The checks that are under way here: the chain of the crate, its name, and the process, a line each.
-under_way() {
-    local process name
-    for process in /proc/[0-9]*; do
-        [[ $(readlink "$process/exe") == */rattle ]] || continue
-        name=$(readlink "$process/cwd")
-        [[ $name == "$top/crates/"* ]] || continue
-        name=${name##*/}
-        echo "${chain[$name]-0} $name ${process##*/}"
-    done 2>/dev/null
-}
-
-# Of the crates that are checked those with the longest chains keep the processors; the others get what
-# these leave, from then on.
-prefer_chains() {
-    local process
-    while sleep 2 && kill -0 $$; do # (as long as the script is there)
-        under_way | sort -k 1,1rn -k 2 |
-            awk -v most="$(nproc)" '!($2 in seen) { seen[$2]; n++ } n > most { print $3 }' |
-            while read -r process; do
-                renice -n 10 -p "$process"
-            done
-    done
-}
-
-# The crates that have not ended, but all that they stand on has: they are being proved, or are next.
+# The crates that have not ended, but all that they stand on has, those with the longest chains first: they are being
+# proved, or are next.
 coming() {
     local name it
     for name in "${!below[@]}"; do
@@ -62,113 +40,189 @@ coming() {
         for it in ${below[$name]}; do
             [[ -v below[$it] && ! -v ended[$it] ]] && continue 2
         done
-        echo "$name"
-    done | sort | tr '\n' ' '
+        echo "${chain[$name]} $name"
+    done | sort -k 1,1rn -k 2 | cut -d ' ' -f 2
 }
 
-# Whether one crate alone is to come, which wasn't yet among those that were.
-comes_alone() { # BEFORE
-    local next
-    next=$(coming)
-    [[ -n $next && $next != *" "*" "* && " $1" != *" $next"* ]]
-}
-
-# Says that a crate has ended, once.
+# Says that a crate has ended.
 ends() { # CRATE
     local next
-    [[ ! -v ended[$1] ]] || return 0
     ended[$1]=1
-    next=$(coming)
+    next=$(coming | sort | tr '\n' ' ')
     say "${#ended[@]} of ${#below[@]}, $1${next:+; now or next: ${next% }}"
 }
 
-# Runs rt in a crate's folder. It says on err which crates have ended, and what went wrong where rt fails.
-#
-# `rt all` proves the crates that changed side by side, each on one processor, once those below it are
-# done; calls of `rt lib` would wait for each other, since each locks the crates below its own. Where the
-# crate that just ended lets only one begin, `rt all` is stopped: that crate has all processors then.
-rt_does() { # CRATE WORD..
-    local at=$1 line before next failed=()
-    local -A said open
-    [ "$2" != all ] || at=start
-    exec 8< <(cd "$top/crates/$1" && exec rt "${@:2}" 2>&1 </dev/null)
-    child=$!
-    while IFS= read -r line <&8; do
-        case $line in
-        "== summary") at=summary ;;
-        "== "*)
-            at=${line#== }
-            before=$(coming)
-            ends "$at"
-            continue
-            ;;
-        "rt: waiting"*) say "$line" ;;
-        *": failed ("*) [[ $at != summary ]] || failed+=("${line%%:*}") ;;
-        esac
-        said[$at]+=$line$'\n'
-        # a crate that needed no proof says nothing, and one that was proved says this at its end
-        if [[ $line != "logic=proved "* ]]; then
-            open[$at]=1
-            continue
-        fi
-        unset "open[$at]"
-        if [[ $2 == all && ${#open[@]} -eq 0 ]] && comes_alone "$before"; then
-            kill "$child" 2>/dev/null
-            exec 8<&-
-            wait "$child"
-            return 0
-        fi
+# The crates that a crate stands on, by whatever way.
+all_below() { # CRATE
+    local place it
+    local -A needed=([$1]=1)
+    for ((place = ${#order[@]} - 1; place >= 0; place--)); do
+        [[ -v needed[${order[place]}] ]] || continue
+        [ "${order[place]}" = "$1" ] || echo "${order[place]}"
+        for it in ${below[${order[place]}]}; do needed[$it]=1; done
     done
-    exec 8<&-
-    wait "$child" && return
-    [ "$2" != lib ] || failed=("$1")
-    for at in "${failed[@]:-$at}"; do
-        printf '%s' "${said[$at]-}" | grep -vE ': proved|modules loaded=' | tail -n 40 >&2
-    done
-    stop 1 "the program was not built${failed:+; not proved: ${failed[*]}}"
 }
 
-# Proves the libraries that the program stands on: as many as there are lanes side by side, and one that
-# nothing can be proved beside with a job for each processor.
-prove() { # JOBS
-    local next
-    while next=$(coming) && [[ -n $next && $next != "bugnet_main " ]]; do
-        if [[ $next == *" "*" "* ]]; then
-            prefer_chains </dev/null >/dev/null 2>&1 9<&- &
-            preferring=$!
-            rt_does bugnet_main all check --jobs "$ZELKUMA_LANES"
-            kill "$preferring" 2>/dev/null
-            preferring=
+# The folder of a crate's library, of its digest, and of what the compiler said of it.
+library() { echo "$top/crates/$1/out/library"; } # CRATE
+
+# A digest of all that a crate's library is made from: the toolchain, its files, and the libraries that it stands on, of
+# which `format` has a digest. So a change that leaves a library as it was, as one of a proof does, ends with its crate.
+digest_of() { # CRATE
+    local it
+    {
+        echo "${kit% for *}: ${below[$1]}"
+        for it in $(all_below "$1"); do
+            cat "$(library "$it")/$it.rlib/format"
+        done
+        cd "$top/crates/$1" && find src specs proofs -type f -print0 2>/dev/null | LC_ALL=C sort -z | xargs -0 sha256sum
+    } | sha256sum | cut -d ' ' -f 1
+}
+
+# Starts the compiler, or what else makes something of a crate, in the crate's folder. A signal to its group ends it, and
+# the processes that it made.
+start() { # CRATE COMMAND..
+    local folder
+    folder=$(library "$1")
+    mkdir -p "$folder" || stop 3 "$1 can't be proved: there can be no folder $folder"
+    (cd "$top/crates/$1" && exec setsid "${@:2}" </dev/null >"$folder/said" 2>&1) &
+    proving[$!]=$1
+}
+
+# Starts the compiler on a crate, with the words by which it finds the libraries that the crate stands on.
+compile() { # CRATE NICENESS WORD..
+    local words it
+    words=(--crate-name "$1" --links "$1=" --extern "std=$kit_top/rlibs/std.rlib" -L "dependency=$kit_top/rlibs"
+        --antt-project "$kit_top/rattle/logic/antt-project.json" --logic-built "$kit_top/logic_built")
+    for it in ${below[$1]}; do
+        if [[ -v below[$it] ]]; then
+            words+=(--extern "$it=$(library "$it")/$it.rlib")
         else
-            rt_does "${next% }" lib --jobs "$1"
-            ends "${next% }"
+            words+=(--extern "$it=$kit_top/rlibs/$it.rlib")
         fi
     done
+    for it in $(all_below "$1"); do
+        words+=(-L "dependency=$(library "$it")")
+    done
+    start "$1" nice -n "$2" "$kit_top/bin/rattle" build "${@:3}" "${words[@]}"
+}
+
+# Waits until one of what was started ends, and sets `crate`. The status is 0 if all is well. The last lines of a failure
+# are shown, but not those of what was proved.
+await() {
+    local process status
+    wait -n -p process "${!proving[@]}"
+    status=$?
+    if [ -z "${process-}" ]; then
+        # (bash 5.2 doesn't tell here of one that had ended before)
+        for process in "${!proving[@]}"; do
+            kill -0 "$process" 2>/dev/null || break
+        done
+        wait "$process"
+        status=$?
+    fi
+    crate=${proving[$process]}
+    unset "proving[$process]"
+    [ "$status" -eq 0 ] && return
+    grep -vE ': proved|modules loaded=' "$(library "$crate")/said" | tail -n 40 >&2
+    failed+=("$crate")
+    return 1
+}
+
+# Takes the libraries that are there and need no proof. The status is 0 if there is one.
+take_kept() { # CRATE..
+    local it kept=1
+    for it in "$@"; do
+        [[ $it != bugnet_main && " ${proving[*]} " != *" $it "* && ! -v digest[$it] ]] || continue
+        digest[$it]=$(digest_of "$it")
+        [ "$(cat "$(library "$it")/digest" 2>/dev/null)" = "${digest[$it]}" ] || continue
+        ends "$it"
+        kept=0
+    done
+    return $kept
+}
+
+# Proves the libraries that the program stands on, as many side by side as there are lanes. Those with the longest chains
+# come first, and the others give way to them. Where fewer can be proved than there are processors, they share these.
+# Where one fails, those that were begun still end.
+prove() {
+    local next place it jobs crate
+    while :; do
+        mapfile -t next < <(coming)
+        ! take_kept "${next[@]}" || continue
+        for place in "${!next[@]}"; do
+            it=${next[place]}
+            [[ $it != bugnet_main && " ${proving[*]} " != *" $it "* ]] || continue
+            [[ ${#failed[@]} -eq 0 && ${#proving[@]} -lt $ZELKUMA_LANES ]] || break
+            jobs=$((processors / ${#next[@]} + (place < processors % ${#next[@]})))
+            rm -rf "$(library "$it")"
+            compile "$it" $((place < processors ? 0 : 10)) src/lib.rt --jobs $((jobs > 0 ? jobs : 1)) --statements -o "$(library "$it")/$it.rlib"
+        done
+        [ ${#proving[@]} -gt 0 ] || break
+        await || continue
+        # (not if a file changed meanwhile: nothing tells which text was proved)
+        [ "$(digest_of "$crate")" != "${digest[$crate]}" ] || echo "${digest[$crate]}" >"$(library "$crate")/digest"
+        ends "$crate"
+    done
+}
+
+# Builds the program over its libraries. That it checks an example's log tells that it was built.
+build_program() {
+    local crate
+    compile bugnet_main 0 src/main.rt --jobs "$processors" ${cpu:+"--cpu=$cpu"} --toolchain "$kit_top/toolchain" --backend llvm -o "$built.o" &&
+        await &&
+        start bugnet_main "$kit_top/bin/rattle-link" --target x86_64-unknown-linux-gnu --toolchain "$kit_top/toolchain" -o "$built" "$built.o" \
+            "$kit_top/c/libos_c.a" "$kit_top/c/liblibc_c.a" &&
+        await &&
+        start bugnet_main "$built" check data/example.log &&
+        await &&
+        ends bugnet_main
+}
+
+# Has `rt` prove and build all, crate after crate, where the toolchain isn't laid out as is known here.
+build_by_rt() {
+    local crate
+    start bugnet_main rt run --jobs "$processors" ${cpu:+"--cpu=$cpu"} -- check data/example.log
+    await
+}
+
+# Whether the toolchain has all that is called here.
+is_known() {
+    local name
+    for name in bin/rattle bin/rattle-link rlibs logic_built rattle/logic/antt-project.json toolchain c/libos_c.a c/liblibc_c.a; do
+        [ -e "$kit_top/$name" ] || return
+    done
+    "$kit_top/bin/rattle" build --help | grep -q -e --statements
 }
 
 build() {
-    local kit sources name on jobs child= preferring= order=()
-    local -A below ended chain
+    local kit kit_top sources name on processors order=() proving=() failed=()
+    local -A below ended chain digest
     kit=$(kit) || stop 1 "there is no command rt of a Rattle kit here, which proves and builds the program: put the folder bin of ${kits/ / or } on PATH, or bring the program from where it is built ('zelkuma install')"
     # another kit is reported and tried, not refused
     [[ " $kits " == *" ${kit%% *} "* ]] ||
         say "note: rt is of ${kit%% *}; if a proof fails, put the folder bin of ${kits/ / or } first on PATH"
-    top=$(cd -P "$top" && pwd) # as the system names the folder of a process
+    kit_top=$(dirname "$(dirname "$(readlink -f "$(type -P rt)")")")
     while IFS=: read -r name on _; do
         below[$name]=$on
         order+=("$name")
     done < <(crates)
     measure_chains
+    processors=$(nproc)
     # from here on what is there is of no known sources, until all is built
     rm -f "$stamp"
     sources=$(sources)
-    trap 'kill $child $preferring 2>/dev/null; wait $child; stop 130 "stopped; the crates that are done stay proved"' INT TERM HUP
+    trap 'for name in "${!proving[@]}"; do kill -- "-$name"; done 2>/dev/null; wait; name=; stop 130 "stopped; the crates that are done stay proved"' INT TERM HUP
     say "proving and building the program, ${#below[@]} crates, up to ${ZELKUMA_LANES:=$(lanes)} at a time; README says how long that takes from nothing"
-    jobs=$(($(nproc) < ZELKUMA_LANES ? $(nproc) : ZELKUMA_LANES))
-    prove "$jobs"
-    # That the program checks an example's log tells that it was built: rt ends with its status.
-    rt_does bugnet_main run --jobs "$jobs" ${cpu:+"--cpu=$cpu"} -- check data/example.log
-    ends bugnet_main
+    if is_known; then
+        prove
+        [ ${#failed[@]} -gt 0 ] || build_program
+    else
+        say "note: this kit isn't laid out as is known here, so its rt proves crate after crate"
+        build_by_rt
+    fi
+    [ ${#failed[@]} -eq 0 ] || stop 1 "the program was not built; not proved: ${failed[*]}"
+    [ "$(sources)" = "$sources" ] || stop 1 "the sources changed while they were proved: call it again"
     trap - INT TERM HUP
     made "$sources" "$kit" "$built" >"$stamp"
 }
