@@ -12,7 +12,6 @@ use bn_outside::{LeanBook, MemorySink, MemorySource};
 use elf_loader::load;
 use guest_gen::{Kind, guest};
 use hart_replay::Replayer;
-use hart_worker::run_seeded;
 use joint_replay::{Joint, Readiness, Stepped};
 use log_file::read_file;
 use log_order::KeptLog;
@@ -21,6 +20,7 @@ use run_files::saved_file;
 use run_model::Start;
 use std::alloc::Global;
 use step_debugger::debug;
+use whole_runs::run_seeded;
 
 // So many rows in so many microseconds.
 #[derive(Clone, Copy, Drop)]

@@ -19,7 +19,7 @@ use Rattle.run_model.specs.declared.error.TurnError.{TurnError}
 use Rattle.run_files.specs.declared.verdict.Verdict.{Verdict}
 use Rattle.run_files.specs.declared.verdict.Verdict.TheVariants.{Agree, Differ}
 use Rattle.bus_core.specs.Bus.{Began}
-use Rattle.hart_worker.specs.Laws.{WholeRunsHaveNoError}
+use Rattle.whole_runs.specs.Laws.{WholeRunsHaveNoError}
 use Rattle.command_words.specs.Words.{Line, RecordLine, ReplayLine, JointLine, DebugLine, ListLine, CheckLine, AuditLine, RacesLine, SliceLine, ConvertLine, SalvageLine, DemoLine}
 use Rattle.log_commands.specs.Names.{FileNames}
 use Rattle.log_commands.specs.Told.{Told}

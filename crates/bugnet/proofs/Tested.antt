@@ -5,7 +5,7 @@ use Rattle.std.proofs.lemmas.Bool.Decides.{nat_tests}
 use Rattle.bn_base.specs.declared.settings.RawSettings.{RawSettings}
 use Rattle.bn_base.specs.declared.settings.BadSetting.{BadSetting}
 use Rattle.bn_base.specs.Ranges.{is_between, is_small_power, is_memory_size, is_second_sets, is_second_ways, most_harts, bad_or, first_bad, IsSetting}
-use Rattle.hart_worker.specs.Laws.{SeededListsEnd}
+use Rattle.whole_runs.specs.Laws.{SeededListsEnd}
 use Rattle.bugnet.specs.Laws.{SeedsAreWhole}
 
 -- a test that wasn't failed, and those after it

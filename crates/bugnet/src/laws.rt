@@ -10,7 +10,6 @@ ghost use Rattle.bugnet.specs.SalvagedLogs.{SalvagedSayEnds, SalvagedAreReplayed
 ghost use Rattle.bugnet.specs.Traced.{PrintedRacesSayTheRun, RacesAreTold, SlicesAreTold};
 
 use file_laws::{logs_are_contents, salvaged_files_suffice};
-use hart_worker::{seeded_lists_end, whole_runs_have_no_error};
 use joint_laws::{
     beginnings_go_on, joint_replays_say_the_run, reached_joint_replays_say_the_run,
     steps_are_not_refused,
@@ -25,6 +24,7 @@ use report_laws::races_say_the_run;
 use run_files::{files_number_their_version, verdicts_are_unique};
 use run_laws::{faults_are_kept, kept_records_are_an_end, own_asks_are_orderly};
 use step_debugger::laws::refusals_stay;
+use whole_runs::{seeded_lists_end, whole_runs_have_no_error};
 
 /// No words have two answers, whatever the files are; but a recording without a seed has one for each
 /// list of turns, and of a lean one without a seed, which saves no list, nothing is said.

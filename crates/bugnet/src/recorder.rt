@@ -2,7 +2,7 @@
 ghost use Rattle.std.specs.Prelude.{◌≡◌, ◌++◌, [], ℕ, List, IfOk, Some, None, true, false, option_map};
 ghost use Rattle.std.specs.List.{list_any};
 ghost use Rattle.bus_core.specs.Bus.{began_of};
-ghost use Rattle.hart_worker.specs.Closed.{IsClosed};
+ghost use Rattle.whole_runs.specs.Closed.{IsClosed};
 ghost use Rattle.bugnet.specs.Recordings.{count_of, instructions_of, is_fault, is_limit, end_by};
 ghost use Rattle.log_commands.specs.RunEnds.{end_word};
 ghost use Rattle.log_commands.specs.Texts.{summary_text};
@@ -13,7 +13,6 @@ use bn_base::EndMark;
 use bn_base::end_mark::{FAULT, LIMIT};
 use bn_outside::{Book, Gate, LeanBook};
 use bus_core::Closed;
-use hart_worker::{Listed, run_listed, run_seeded, run_threads_lean, run_threads_listed};
 use log_commands::answer::{RunEnd, RunToTell};
 use log_commands::texts::{RunCounts, push_summary};
 use run_files::saved_file;
@@ -22,6 +21,7 @@ use rv_text::Text;
 use std::alloc::{AllocError, Global};
 use std::sync::Wait;
 use std::thread::Threads;
+use whole_runs::{Listed, run_listed, run_seeded, run_threads_lean, run_threads_listed};
 
 // The count of a mark.
 fn count_of(mark: &Option<EndMark>) -> u64

@@ -14,7 +14,7 @@ use Rattle.guest_gen.specs.declared.kind.Kind.{Kind}
 use Rattle.guest_gen.specs.declared.kind.Kind.TheVariants.{Loop}
 use Rattle.guest_gen.specs.Code.{code}
 use Rattle.guest_gen.specs.File.{identification, file_header, headers, code_bytes, guest_bytes}
-use Rattle.hart_worker.specs.Laws.{SeededListsEnd}
+use Rattle.whole_runs.specs.Laws.{SeededListsEnd}
 use Rattle.demo_run.specs.Demonstration.{demo_settings, demo_program, demo_turns}
 use Rattle.demo_run.specs.Laws.{GuestsAreLoaded, DemonstrationsAreRecordings}
 

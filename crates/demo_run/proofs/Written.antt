@@ -15,8 +15,8 @@ use Rattle.run_model.specs.Runs.{run_of, seeded}
 use Rattle.run_model.specs.declared.start.Start.{Start}
 use Rattle.bus_core.specs.Bus.{began_of, marks}
 use Rattle.bus_core.specs.declared.closed.Closed.{Closed}
-use Rattle.hart_worker.specs.Closed.{IsClosed}
-use Rattle.hart_worker.specs.Lists.{list_run}
+use Rattle.whole_runs.specs.Closed.{IsClosed}
+use Rattle.whole_runs.specs.Lists.{list_run}
 use Rattle.joint_laws.specs.Recordings.{recorded}
 use Rattle.demo_run.specs.Demonstration.{counts_in, demo, demo_settings, demo_program, demo_turns, demo_log, instructions_of}
 use Rattle.demo_run.specs.Starts.{IsStart}

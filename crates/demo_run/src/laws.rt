@@ -2,7 +2,7 @@
 ghost use Rattle.demo_run.specs.Laws.{GuestsAreLoaded, DemonstrationsAreRecordings};
 
 use guest_gen::laws::files_have_one_size;
-use hart_worker::seeded_lists_end;
+use whole_runs::seeded_lists_end;
 
 /// Each generated program file is loaded with the settings of demonstrations.
 pub fn guests_are_loaded()

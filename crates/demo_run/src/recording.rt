@@ -5,10 +5,10 @@ ghost use Rattle.demo_run.specs.Starts.{IsStart, IsRecordedRun};
 
 use bn_base::EndMark;
 use bn_outside::LeanBook;
-use hart_worker::run_seeded;
 use run_files::saved_file;
 use run_model::Start;
 use std::alloc::{AllocError, Global};
+use whole_runs::run_seeded;
 
 /// A recorded run: its turns, the instructions that all harts did, and its log file.
 #[derive(Drop)]

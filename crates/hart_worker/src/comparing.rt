@@ -5,7 +5,7 @@ ghost use Rattle.bn_outside.specs.declared.turn_row.TurnRow.{TurnRow};
 ghost use Rattle.run_laws.specs.History.{rows_by};
 ghost use Rattle.run_laws.specs.Laws.{harts_of};
 ghost use Rattle.bus_core.specs.Bus.{began_of};
-ghost use Rattle.hart_worker.specs.Lists.{HasTaken};
+ghost use Rattle.whole_runs.specs.Lists.{HasTaken};
 ghost use Rattle.hart_worker.specs.Threads.{IsHartsOwn, AreAllOwn, AreWorked, DoAgree, rows_with};
 
 use crate::worker::Worked;

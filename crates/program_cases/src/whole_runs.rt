@@ -2,9 +2,9 @@
 use crate::telling::{print_closed, print_numbers};
 use bn_base::HartId;
 use bn_outside::{Book, FullBook, LeanBook};
-use hart_worker::{run_listed, run_seeded, run_turns};
 use run_model::Start;
 use std::alloc::Global;
+use whole_runs::{run_listed, run_seeded, run_turns};
 
 /// Prints what a run by a list of turns hands over, and gives its records; none where the list is
 /// refused.

@@ -3,11 +3,11 @@ ghost use Rattle.std.specs.Prelude.{◌≡◌, ◌≤◌, []};
 
 use bn_base::{Image, Segment, Settings};
 use bn_outside::OpenGate;
-use hart_worker::{HartPlace, MemoryPort, drive};
 use rv_meaning::{DecodedImage, Want};
 use std::alloc::{AllocError, Global};
 use std::sync::Wait;
 use std::test::*;
+use whole_runs::{HartPlace, MemoryPort, drive};
 
 // The program that loads the word at 00020000 twice and stays where it is then.
 fn program(alloc: Global, settings: &Settings) -> Result<Image, AllocError>

@@ -1,6 +1,6 @@
 use Rattle.std.proofs.Common.{subst}
 use Rattle.bus_core.specs.Bus.{Began, began_of}
-use Rattle.hart_worker.specs.Closed.{IsClosed, IsOfRows}
+use Rattle.whole_runs.specs.Closed.{IsClosed, IsOfRows}
 use Rattle.hart_worker.proofs.OwnRuns.{threads_of}
 use Rattle.hart_worker.proofs.settling.close_own.Goals as goal
 

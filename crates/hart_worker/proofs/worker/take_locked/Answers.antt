@@ -1,5 +1,5 @@
 use Rattle.std.proofs.Common.{◌∙◌, sym}
-use Rattle.hart_worker.proofs.Answered.{answers_ask}
+use Rattle.whole_runs.proofs.Answered.{answers_ask}
 use Rattle.hart_worker.proofs.worker.take_locked.Goals as goal
 
 pub returns-in-Ok-clause-answered : goal.returns-in-Ok-clause-answered

@@ -1,4 +1,4 @@
-use Rattle.hart_worker.proofs.Own.{taken_as}
+use Rattle.whole_runs.proofs.Own.{taken_as}
 use Rattle.hart_worker.proofs.worker.LockedBusTurnPort.turn.Goals as goal
 
 pub returns-clause-taken : goal.returns-clause-taken

@@ -1,0 +1,10 @@
+pub mod Rows
+pub mod Live
+pub mod Counted
+pub mod Seeds
+pub mod Taken
+pub mod Errors
+pub mod Whole
+pub mod Own
+pub mod OwnTurns
+pub mod Answered

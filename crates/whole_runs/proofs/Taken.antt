@@ -1,0 +1,122 @@
+-- A bus that takes the turns of a list.
+use Rattle.std.proofs.Common.{◌≡◌, ℕ, suc, ◌-◌, ◌<◌, Bool, true, false, ◌&&◌, nat_lt, List, [], ◌∷◌, ◌++◌, length, length-append, refl, sym, ◌∙◌, ap, subst, arith}
+use Rattle.std.specs.Prelude.{Option, Some, None, slice_get}
+use Rattle.std.proofs.lemmas.Option.{slice_get_within}
+use Rattle.std.proofs.lemmas.List.{append_assoc, append-nil}
+use Rattle.bn_outside.specs.declared.turn_row.TurnRow.{TurnRow}
+use Rattle.run_model.specs.declared.hart.Hart.{Hart}
+use Rattle.run_model.specs.Represents.Harts.{is_live_hart}
+use Rattle.run_model.specs.Turn.{Run, turn}
+use Rattle.run_model.specs.Runs.{any_live, draw, chosen, seeded_from, most_turns}
+use Rattle.run_model.specs.Runs as runs
+use Rattle.bus_core.specs.Bus.{Began, Seen, IsState, first_run, turned_run, turn_row, is_live}
+use Rattle.whole_runs.specs.Lists.{HasTaken, list_run, list_rows, is_legal, live_harts_of, seeded_after}
+use Rattle.whole_runs.proofs.Rows.{run_snoc, rows_snoc, legal_snoc, turns_count}
+use Rattle.whole_runs.proofs.Seeds.{seeded_first, seeded_none}
+
+-- ---- a hart that is live in the bus
+
+live_some : (hs : List Hart) (k : ℕ) (o : Option Hart) → slice_get hs k ≡ o → is_live_hart o ≡ true → (h : Hart) × (slice_get hs k ≡ Some h) × (h.live ≡ true)
+live_some hs k None e live = cc
+live_some hs k (Some h) e live = (h, e, live)
+
+some_same : (h j : Hart) → Some h ≡ Some j → h ≡ j
+some_same h j e = cc
+
+both : (a b : Bool) → a ≡ true → b ≡ true → (a && b) ≡ true
+both true b e h = h
+both false b e h = e
+
+below : (a b : ℕ) → a < b → nat_lt a b ≡ true
+below a b h = grind arith
+
+pub live_is : (s : Seen) (run : Run) (k : ℕ) → IsState s run → k < s.began.settings.harts → is_live s k ≡ true → runs.is_live s.began.settings run k ≡ true
+live_is s run k is within live =
+    let some = live_some s.harts k (slice_get s.harts k) refl live in
+    let there = is.harts k (slice_get_within s.harts k some.0 some.1) in
+    let same = some_same some.0 (run.harts k) (sym some.1 ∙ there) in
+    both (nat_lt k s.began.settings.harts) (run.harts k).live (below k s.began.settings.harts within) (ap (λ (h : Hart). h.live) (sym same) ∙ some.2)
+
+-- ---- one turn more
+
+-- what a turn of hart k did to a bus that had taken the turns of a list
+pub record IsTurned (tells : Bool) (old new : Seen) (run : Run) (k : ℕ) : Type 0 where
+  pub began : new.began ≡ old.began
+  pub state : IsState new (turned_run old.began run k)
+  pub told : tells ≡ true → new.rows ≡ old.rows ++ turn_row old.began run k ∷ []
+  pub disordered : new.disordered ≡ old.disordered
+  pub halted : new.halted ≡ old.halted
+
+pub taken_more : (tells : Bool) (old new : Seen) (list : List ℕ) (k : ℕ) → HasTaken tells old list → runs.is_live old.began.settings (list_run old.began list) k ≡ true → IsTurned tells old new (list_run old.began list) k → HasTaken tells new (list ++ k ∷ [])
+taken_more tells old new list k h live s =
+    let b = old.began in
+    let run = list_run b list in
+    record {
+      legal = subst (λ (x : Began). is_legal x (list ++ k ∷ []) ≡ true) (sym s.began) (legal_snoc b.settings b.image (first_run b) list k h.legal live);
+      state = subst (λ (r : Run). IsState new r) (sym (run_snoc b.settings b.image (first_run b) list k) ∙ ap (λ (x : Began). list_run x (list ++ k ∷ [])) (sym s.began)) s.state;
+      rows = λ t.
+          s.told t
+          ∙ ap (λ (xs : List TurnRow). xs ++ turn_row b run k ∷ []) (h.rows t)
+          ∙ sym (rows_snoc b.settings b.image (first_run b) list k)
+          ∙ ap (λ (x : Began). list_rows x (list ++ k ∷ [])) (sym s.began);
+      orderly = s.disordered ∙ h.orderly;
+      running = s.halted ∙ h.running;
+    }
+
+-- the turn of a live hart
+pub taken_turn : (tells : Bool) (old new : Seen) (k : ℕ) → is_live old k ≡ true → k < old.began.settings.harts → ((run : Run) → IsState old run → IsState new (turned_run old.began run k)) → (tells ≡ true → (run : Run) → IsState old run → new.rows ≡ old.rows ++ turn_row old.began run k ∷ [])
+    → new.began ≡ old.began → new.disordered ≡ old.disordered → new.halted ≡ old.halted → (list : List ℕ) → HasTaken tells old list → HasTaken tells new (list ++ k ∷ [])
+taken_turn tells old new k live within state told began disordered halted list h =
+    let run = list_run old.began list in
+    taken_more tells old new list k h (live_is old run k h.state within live) (record {
+      began = began;
+      state = state run h.state;
+      told = λ t. told t run h.state;
+      disordered = disordered;
+      halted = halted;
+    })
+
+-- ---- how many turns
+
+pub turns_are : (tells : Bool) (s : Seen) (list : List ℕ) → HasTaken tells s list → s.turns ≡ length list
+turns_are tells s list h = omega (arith, h.state.turns, turns_count s.began.settings s.began.image (first_run s.began) list)
+
+-- ---- turns that a number chooses
+
+pub drawn_more : (b : Began) (list : List ℕ) (s k : ℕ) → length list < most_turns b.settings → any_live b.settings.harts (list_run b list).harts ≡ true → k ≡ chosen (draw s) (live_harts_of b (list_run b list)) → seeded_after b list s ≡ k ∷ seeded_after b (list ++ k ∷ []) (draw s)
+drawn_more b list s k few any is =
+    let run = list_run b list in
+    let less : most_turns b.settings - length list ≡ suc (most_turns b.settings - length (list ++ k ∷ [])) = omega (arith, few, length-append list (k ∷ [])) in
+    ap (λ (m : ℕ). seeded_from b.settings b.image run s m) less
+    ∙ seeded_first b.settings b.image run s (most_turns b.settings - length (list ++ k ∷ [])) any
+    ∙ ap (λ (j : ℕ). j ∷ seeded_from b.settings b.image (turn b.settings b.image run j) (draw s) (most_turns b.settings - length (list ++ k ∷ []))) (sym is)
+    ∙ ap (λ (r : Run). k ∷ seeded_from b.settings b.image r (draw s) (most_turns b.settings - length (list ++ k ∷ []))) (sym (run_snoc b.settings b.image (first_run b) list k))
+
+-- after the turns of a list the bus took some that a number chose, and those to come are the ones that are left
+pub record IsDrawn (tells : Bool) (b : Began) (list : List ℕ) (seed : ℕ) (new : Seen) (now : ℕ) (rest : List ℕ) : Type 0 where
+  pub taken : HasTaken tells new (list ++ rest)
+  pub left : seeded_after b list seed ≡ rest ++ seeded_after b (list ++ rest) now
+
+pub drawn_first : (tells : Bool) (s : Seen) (list : List ℕ) (seed : ℕ) → HasTaken tells s list → IsDrawn tells s.began list seed s seed []
+drawn_first tells s list seed h = record { taken = subst (λ (xs : List ℕ). HasTaken tells s xs) (sym (append-nil list)) h; left = ap (λ (xs : List ℕ). seeded_after s.began xs seed) (sym (append-nil list)) }
+
+pub drawn_next : (tells : Bool) (b : Began) (list : List ℕ) (seed : ℕ) (old new : Seen) (now k : ℕ) (rest : List ℕ) → IsDrawn tells b list seed old now rest → old.began ≡ b → old.turns < most_turns b.settings
+    → any_live b.settings.harts (list_run b (list ++ rest)).harts ≡ true → k ≡ chosen (draw now) (live_harts_of b (list_run b (list ++ rest))) → HasTaken tells new ((list ++ rest) ++ k ∷ []) → IsDrawn tells b list seed new (draw now) (rest ++ k ∷ [])
+drawn_next tells b list seed old new now k rest h eb few any is taken =
+    let short : length (list ++ rest) < most_turns b.settings = omega (arith, few, turns_are tells old (list ++ rest) h.taken) in
+    let joined = append_assoc list rest (k ∷ []) in
+    record {
+      taken = subst (λ (xs : List ℕ). HasTaken tells new xs) joined taken;
+      left =
+          h.left
+          ∙ ap (λ (xs : List ℕ). rest ++ xs) (drawn_more b (list ++ rest) now k short any is)
+          ∙ sym (append_assoc rest (k ∷ []) (seeded_after b ((list ++ rest) ++ k ∷ []) (draw now)))
+          ∙ ap (λ (xs : List ℕ). (rest ++ k ∷ []) ++ seeded_after b xs (draw now)) joined;
+    }
+
+-- where no hart is live, all turns were taken
+pub drawn_all : (tells : Bool) (b : Began) (list : List ℕ) (seed : ℕ) (new : Seen) (now : ℕ) (rest : List ℕ) → IsDrawn tells b list seed new now rest → any_live b.settings.harts (list_run b (list ++ rest)).harts ≡ false → rest ≡ seeded_after b list seed
+drawn_all tells b list seed new now rest h none =
+    sym (h.left
+    ∙ ap (λ (xs : List ℕ). rest ++ xs) (seeded_none b.settings b.image (list_run b (list ++ rest)) now (most_turns b.settings - length (list ++ rest)) none)
+    ∙ append-nil rest)

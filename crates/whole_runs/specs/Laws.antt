@@ -1,0 +1,24 @@
+-- What holds of lists of turns.
+use Rattle.std.specs.Prelude.{◌≡◌, ◌↔◌, ℕ, true, List, map, None}
+use Rattle.bn_base.specs.Programs.{Program}
+use Rattle.bn_base.specs.Ranges.{IsSetting}
+use Rattle.bn_base.specs.declared.settings.RawSettings.{RawSettings}
+use Rattle.bn_outside.specs.declared.turn_row.TurnRow.{TurnRow}
+use Rattle.run_model.specs.Turn.{Run}
+use Rattle.run_model.specs.Runs.{start, run_of, legal_from, is_over, seeded}
+use Rattle.run_laws.specs.History.{rows_from}
+use Rattle.bus_core.specs.Bus.{Began}
+use Rattle.whole_runs.specs.Lists.{is_legal, is_finished, error_of}
+
+-- the list that a number gives is legal and finished
+abbrev pub SeededListsEnd : Type 0
+SeededListsEnd = (c : RawSettings) (i : Program) (input : List ℕ) (seed : ℕ) → IsSetting c
+    → let b = seeded c i input seed in (legal_from c i (start c i input) b ≡ true) × (is_over c (run_of c i input b) ≡ true)
+
+-- the harts of the rows of a list are the list
+abbrev pub RowsNameTheirHarts : Type 0
+RowsNameTheirHarts = (c : RawSettings) (i : Program) (run : Run) (b : List ℕ) → map (λ (r : TurnRow). r.hart) (rows_from c i run b) ≡ b
+
+-- nothing is wrong with a list exactly if it is legal and finished
+abbrev pub WholeRunsHaveNoError : Type 0
+WholeRunsHaveNoError = (b : Began) (list : List ℕ) → (error_of b list ≡ None) ↔ ((is_legal b list ≡ true) × (is_finished b list ≡ true))

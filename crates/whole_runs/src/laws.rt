@@ -1,0 +1,25 @@
+//! Laws of lists of turns. These functions do nothing: their contracts are theorems.
+ghost use Rattle.whole_runs.specs.Laws.{SeededListsEnd, RowsNameTheirHarts, WholeRunsHaveNoError};
+
+use run_laws::runs_end;
+
+/// The list that a number gives names a live hart at each turn, and leaves no hart live: the draws go
+/// on for as long as a run can.
+pub fn seeded_lists_end()
+    ensures { SeededListsEnd }
+{
+    runs_end();
+}
+
+/// The harts of the rows of a list of turns are that list.
+#[tactic(auto, using(crate::proofs::Rows::rows_name))]
+pub fn rows_name_their_harts()
+    ensures { RowsNameTheirHarts }
+{}
+
+/// Nothing is wrong with a list of turns exactly where each of its harts is live at its turn and none is
+/// after the last.
+#[tactic(auto, using(crate::proofs::Errors::no_error))]
+pub fn whole_runs_have_no_error()
+    ensures { WholeRunsHaveNoError }
+{}

@@ -1,0 +1,25 @@
+//! Whole runs: on the caller's thread, by a list of turns or by a number that chooses them; or each hart in
+//! a thread of its own.
+#![tactic(auto)]
+
+mod choosing;
+mod hart_place;
+mod laws;
+mod listed;
+mod listed_bus;
+mod listed_end;
+mod listed_threads;
+mod listed_worker;
+mod runs;
+mod turn_port;
+mod turns;
+
+pub use hart_place::HartPlace;
+pub use laws::{rows_name_their_harts, seeded_lists_end, whole_runs_have_no_error};
+pub use listed::Listed;
+pub use listed_bus::{Beginning, ListedBus};
+pub use listed_threads::{run_threads_lean, run_threads_listed};
+pub use listed_worker::{ListedPort, work_listed};
+pub use runs::{run_listed, run_seeded, run_turns};
+pub use turn_port::{MemoryPort, TurnPort, drive};
+pub use turns::{close, finish_unlisted};

@@ -1,0 +1,62 @@
+//! The end of a run whose harts ran in threads on a listed bus, once all threads have ended.
+ghost use Rattle.std.specs.Prelude.{◌≡◌, ◌++◌, ◌⊎◌, true, false, List, IfOk};
+ghost use Rattle.bn_outside.specs.declared.turn_row.TurnRow.{TurnRow};
+ghost use Rattle.run_model.specs.Runs.{seeded};
+ghost use Rattle.bus_core.specs.Bus.{began_of};
+ghost use Rattle.whole_runs.specs.Closed.{IsOfRows};
+ghost use Rattle.whole_runs.specs.Lists.{seeded_after};
+ghost use Rattle.whole_runs.specs.Taking.{kept_with, IsClosedBy};
+
+use crate::listed::Listed;
+use crate::listed_bus::{Beginning, ListedBus};
+use crate::runs::run_listed;
+use crate::turns::{close, finish};
+use bn_outside::Book;
+use run_model::Start;
+use rv_meaning::DecodedImage;
+use std::alloc::{AllocError, Global};
+
+// A list that is kept, and more turns.
+fn joined(list: Vec<u8>, keeps: bool, more: &[u8]) -> Result<Vec<u8>, AllocError>
+    ensures { IfOk result (λ all. all.items ≡ kept_with keeps list.items more.now) }
+{
+    let mut list = list;
+    if keeps {
+        list.extend_from_slice(more)?;
+    }
+    Ok(list)
+}
+
+/// Finishes the run of a bus by the turns of seed 0, where harts are still live; where it was halted, the
+/// run is made again by the turns of seed 0. Nothing is compared: the type of the bus says that a list led
+/// to it.
+///
+/// The only error is want of memory.
+pub fn finish_listed<J: Beginning, B: Book>(
+    alloc: Global,
+    code: &DecodedImage,
+    from: &Start,
+    own: ListedBus<J, B>,
+) -> Result<Listed<B>, AllocError>
+    requires began { began_of from.now ≡ J.began }
+    requires code { code.now ≡ from.now.image }
+    ensures run { IfOk result (λ run. IsClosedBy B.tells (began_of from.now) J.keeps run.closed run.list.items (B.told run.closed.book)) }
+    ensures of_rows { IfOk result (λ run. (rows : List TurnRow) × IsOfRows (began_of from.now) run.closed rows) }
+    ensures by_seed { J.keeps ≡ true → IfOk result (λ run. (run.list.items ≡ seeded from.now.settings from.now.image from.now.input.items 0) ⊎ (run.list.items ≡ own.list ++ seeded_after (began_of from.now) own.list 0)) }
+    ensures keeps { own.bus.halted ≡ false → J.keeps ≡ true → IfOk result (λ run. run.list.items ≡ own.list ++ seeded_after (began_of from.now) own.list 0) }
+{
+    let ListedBus {
+        bus,
+        list,
+        keeps,
+        of: _,
+    } = own;
+    let mut bus = bus;
+    let more = finish(alloc, code, &mut bus, 0)?;
+    let list = joined(list, keeps, &more)?;
+    let closed = close(bus);
+    if closed.finished {
+        return Ok(Listed { closed, list });
+    }
+    run_listed(alloc, from, closed.book, 0)
+}

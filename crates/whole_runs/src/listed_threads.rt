@@ -1,0 +1,133 @@
+//! Runs whose harts are in threads of their own, on a bus that knows its list of turns.
+ghost use Rattle.std.specs.Prelude.{◌≡◌, ◌<◌, ℕ, List, IfOk};
+ghost use Rattle.bn_outside.specs.declared.turn_row.TurnRow.{TurnRow};
+ghost use Rattle.bus_core.specs.Bus.{began_of};
+ghost use Rattle.whole_runs.specs.Closed.{IsClosed, IsOfRows};
+ghost use Rattle.whole_runs.specs.Taking.{IsClosedBy};
+
+use crate::hart_place::HartPlace;
+use crate::listed::Listed;
+use crate::listed_bus::{Beginning, ListedBus};
+use crate::listed_end::finish_listed;
+use crate::listed_worker::work_listed;
+use bn_base::HartId;
+use bn_outside::{Book, Gate};
+use bus_core::{Bus, Closed};
+use run_model::Start;
+use rv_meaning::DecodedImage;
+use std::alloc::{AllocError, Global};
+use std::marker::Brand;
+use std::sync::{Mutex, Wait};
+use std::thread;
+use std::thread::Threads;
+
+// The turns of one hart, from where it begins.
+fn run_one<J: Beginning, B: Book, G: Gate, R: Wait>(
+    rt: &R,
+    bus: &Mutex<ListedBus<J, B>>,
+    hart: HartId,
+    code: &DecodedImage,
+    from: &Start,
+    gate: &G,
+) -> Result<(), AllocError>
+    requires began { began_of from.now ≡ J.began }
+    requires code { code.now ≡ from.now.image }
+{
+    let first = HartPlace::first(&from.settings, &from.image, hart);
+    work_listed(rt, bus, hart, code, &from.settings, first, gate)
+}
+
+// The turns of each hart, in a thread of its own; whether it found the memory.
+fn run_workers<J: Beginning + Send, B: Book + Send, G: Gate, R: Threads + Wait + Sync>(
+    rt: &R,
+    alloc: Global,
+    bus: &Mutex<ListedBus<J, B>>,
+    code: &DecodedImage,
+    from: &Start,
+    gate: &G,
+) -> Result<Vec<Result<(), AllocError>>, AllocError>
+    requires began { began_of from.now ≡ J.began }
+    requires code { code.now ≡ from.now.image }
+{
+    let one = |hart: usize| -> Result<(), AllocError>
+        requires number { hart < 256 }
+        requires began { began_of from.now ≡ J.began }
+        requires code { code.now ≡ from.now.image }
+    { run_one(rt, bus, hart as HartId, code, from, gate) };
+    thread::map_indices(rt, alloc, usize::from(from.settings.harts()), &one)
+}
+
+// The turns of all harts; an error where one found no memory.
+fn run_all<J: Beginning + Send, B: Book + Send, G: Gate, R: Threads + Wait + Sync>(
+    rt: &R,
+    alloc: Global,
+    bus: &Mutex<ListedBus<J, B>>,
+    code: &DecodedImage,
+    from: &Start,
+    gate: &G,
+) -> Result<(), AllocError>
+    requires began { began_of from.now ≡ J.began }
+    requires code { code.now ≡ from.now.image }
+{
+    let worked = run_workers(rt, alloc, bus, code, from, gate)?;
+    if worked.iter().any(|one| one.is_err()) {
+        return Err(AllocError);
+    }
+    Ok(())
+}
+
+// The run, each hart in a thread of its own.
+fn run_named<J: Beginning + Send, B: Book + Send, G: Gate, R: Threads + Wait + Sync>(
+    rt: &R,
+    alloc: Global,
+    from: &Start,
+    book: B,
+    gate: &G,
+    keeps: bool,
+) -> Result<Listed<B>, AllocError>
+    requires began { began_of from.now ≡ J.began }
+    requires keeps { keeps ≡ J.keeps }
+    ensures run { IfOk result (λ run. IsClosedBy B.tells (began_of from.now) keeps run.closed run.list.items (B.told run.closed.book)) }
+    ensures of_rows { IfOk result (λ run. (rows : List TurnRow) × IsOfRows (began_of from.now) run.closed rows) }
+{
+    let code = DecodedImage::new(alloc, &from.image)?;
+    let bus = Bus::new(alloc, from, book)?;
+    let own = Mutex::new(ListedBus::<J, B>::new(alloc, bus, keeps));
+    run_all(rt, alloc, &own, &code, from, gate)?;
+    finish_listed(alloc, &code, from, own.into_inner())
+}
+
+/// Runs each hart in a thread of its own, on one bus under its lock, and gives the list of the turns. What is
+/// given is a whole run, the one of that list. Which list comes isn't told. The list takes one byte a turn.
+///
+/// The only error is want of memory, also that of a hart.
+pub fn run_threads_listed<B: Book + Send, G: Gate, R: Threads + Wait + Sync>(
+    rt: &R,
+    alloc: Global,
+    from: &Start,
+    book: B,
+    gate: &G,
+) -> Result<Listed<B>, AllocError>
+    ensures run { IfOk result (λ run. IsClosed B.tells (began_of from.now) run.list.items run.closed (B.told run.closed.book)) }
+    ensures of_rows { IfOk result (λ run. (rows : List TurnRow) × IsOfRows (began_of from.now) run.closed rows) }
+{
+    run_named::<Brand, B, G, R>(rt, alloc, from, book, gate, true)
+}
+
+/// Runs each hart in a thread of its own, on one bus under its lock, and keeps nothing of a turn but what the
+/// book keeps. What is given is a whole run, that of some legal and finished list of turns. Which list that
+/// is isn't told.
+///
+/// The only error is want of memory, also that of a hart.
+pub fn run_threads_lean<B: Book + Send, G: Gate, R: Threads + Wait + Sync>(
+    rt: &R,
+    alloc: Global,
+    from: &Start,
+    book: B,
+    gate: &G,
+) -> Result<Closed<B>, AllocError>
+    ensures run { IfOk result (λ closed. (list : List ℕ) × IsClosed B.tells (began_of from.now) list closed (B.told closed.book)) }
+    ensures of_rows { IfOk result (λ closed. (rows : List TurnRow) × IsOfRows (began_of from.now) closed rows) }
+{
+    Ok(run_named::<Brand, B, G, R>(rt, alloc, from, book, gate, false)?.closed)
+}
