@@ -6,7 +6,7 @@ use Rattle.race_log.specs.Kept.{In}
 use Rattle.race_report.specs.declared.meeting.Meeting.{Meeting}
 use Rattle.race_report.specs.declared.race.Race.{Race}
 use Rattle.race_report.specs.Points.{Accessing}
-use Rattle.race_report.specs.Races.{race_at, meeting_at, meetings_below, meetings_of, row_if, row_of, race_by, race_if, races_with, races_by_second, is_at, races_by_place, races_by_first, races_of}
+use Rattle.race_report.specs.Races.{race_at, meeting_at, meetings_below, meetings_of, row_if, row_of, race_by, race_if, races_with, races_by_second, is_at, races_by_place, races_by_first}
 use Rattle.race_report.specs.Laws.{AreCounted, HaveOwnRows, IsRowBefore, IsRaceBefore, Ascend, RacesAscend}
 use Rattle.race_report.proofs.Listed.{same_number, in_cases, in_meetings, in_with}
 

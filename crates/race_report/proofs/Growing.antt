@@ -1,24 +1,21 @@
 -- The races, with those of one point more.
-use Rattle.std.proofs.Common.{◌≡◌, ◌≢◌, ℕ, zero, suc, ◌+◌, ◌<◌, ◌≤◌, ◌%◌, ◌==◌, nat_lt, Bool, true, false, not, cond, ◌&&◌, ◌||◌, refl, sym, ap, ◌∙◌, subst, arith, List, [], ◌∷◌, ◌++◌, length, map, filter, slice_get, Option, Some, None}
+use Rattle.std.proofs.Common.{◌≡◌, ◌≢◌, ℕ, zero, suc, ◌+◌, ◌<◌, ◌≤◌, ◌%◌, ◌==◌, nat_lt, Bool, true, false, not, cond, ◌&&◌, refl, sym, ap, ◌∙◌, arith, List, [], ◌∷◌, ◌++◌, length, filter, slice_get, Option, Some, None}
 use Rattle.std.proofs.lemmas.List.{append-nil}
 use Rattle.std.specs.List.{list_any}
 use Rattle.bn_base.specs.declared.row.Row.{Row}
-use Rattle.race_log.specs.Points.{Point, Access}
 use Rattle.race_log.specs.Tests.{clashes, before}
 use Rattle.race_log.specs.ByCount.{IsInOrder, IsTimesOf}
-use Rattle.race_log.specs.Kept.{after}
 use Rattle.race_report.specs.declared.meeting.Meeting.{Meeting}
 use Rattle.race_report.specs.declared.touch.Touch.{Touch}
 use Rattle.race_report.specs.declared.track.Track.{Track}
 use Rattle.race_report.specs.Points.{Accessing, accesses_of, words_from}
-use Rattle.race_report.specs.Races.{sync_point, syncs_from, shared, least_from, race_at, race_word, is_apart, meeting_at, meetings_below, meetings_of}
+use Rattle.race_report.specs.Races.{sync_point, syncs_from, shared, least_from, race_at, race_word, meeting_at, meetings_below, meetings_of}
 use Rattle.race_report.specs.Found.{last_meets, met_words}
-use Rattle.race_report.specs.Kept.{IsTracked}
-use Rattle.race_report.specs.Gathering.{sync_of, point_by, meets, passes, AreFalling, ArePlaces, Follows}
+use Rattle.race_report.specs.Gathering.{sync_of, point_by, meets, passes, Follows}
 use Rattle.race_report.proofs.Lists.{is_in}
-use Rattle.race_report.proofs.Rounds.{AllAligned, found_at, met_words_length}
+use Rattle.race_report.proofs.Rounds.{found_at}
 use Rattle.race_report.proofs.Ordered.{TestsDecide, PlacesStandForCounts, ordered_is, shared_is}
-use Rattle.race_report.proofs.Prefixes.{get_front, get_last, syncs_at, syncs_more, meetings_more, meetings_none, length_more}
+use Rattle.race_report.proofs.Prefixes.{get_front, get_last, syncs_at, meetings_more, meetings_none, length_more}
 use Rattle.race_report.proofs.Following.{all_aligned}
 
 same_number : (a b : ℕ) → (a == b) ≡ true → a ≡ b

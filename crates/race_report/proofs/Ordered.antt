@@ -1,5 +1,5 @@
 -- Counts tell which points are ordered before a point, and the words that two points share.
-use Rattle.std.proofs.Common.{◌≡◌, ◌≢◌, ◌↔◌, ◌⊎◌, inl, inr, ℕ, zero, suc, ◌+◌, ◌<◌, ◌==◌, nat_lt, Bool, true, false, IsTrue, not, cond, ◌&&◌, refl, sym, ap, ◌∙◌, subst, arith, List, [], ◌∷◌, ◌++◌, length, map, filter, slice_get, Option, Some, None}
+use Rattle.std.proofs.Common.{◌≡◌, ◌≢◌, ◌↔◌, inl, inr, ℕ, ◌<◌, nat_lt, Bool, true, false, IsTrue, cond, refl, sym, ap, arith, List, [], ◌∷◌, map, filter, slice_get, Some}
 use Rattle.std.specs.List.{list_any}
 use Rattle.race_log.specs.Points.{Point, Access}
 use Rattle.race_log.specs.Netzer.{Before}

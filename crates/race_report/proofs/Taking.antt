@@ -1,11 +1,11 @@
 -- One point more is taken in.
-use Rattle.std.proofs.Common.{◌≡◌, ◌≢◌, ℕ, zero, suc, ◌+◌, ◌<◌, ◌≤◌, ◌%◌, ◌==◌, nat_lt, Bool, true, false, IsTrue, not, cond, ◌&&◌, ◌||◌, if◌then◌else◌, refl, sym, ap, ◌∙◌, subst, arith, All, List, [], ◌∷◌, ◌++◌, length, map, slice_get, Option, Some, None}
+use Rattle.std.proofs.Common.{◌≡◌, ℕ, zero, suc, ◌+◌, ◌<◌, ◌≤◌, ◌%◌, ◌==◌, Bool, true, false, IsTrue, ◌||◌, if◌then◌else◌, refl, sym, ap, ◌∙◌, subst, arith, All, List, [], ◌∷◌, ◌++◌, length, map, slice_get, Some}
 use Rattle.std.proofs.lemmas.List.Elements.{All-head, All-tail}
 use Rattle.bn_base.specs.declared.row.Row.{Row}
 use Rattle.race_log.specs.Points.{Point}
-use Rattle.race_log.specs.ByCount.{IsInOrder, IsTimesOf}
+use Rattle.race_log.specs.ByCount.{IsTimesOf}
 use Rattle.race_log.specs.Kept.{after}
-use Rattle.race_log.specs.Represents.{RepresentsAccesses, harts_of, next_turn, next_count, lasts, lasting_of}
+use Rattle.race_log.specs.Represents.{RepresentsAccesses, harts_of, next_turn, next_count, lasting_of}
 use Rattle.race_log.specs.Sweep.{has_bit}
 use Rattle.race_report.specs.declared.meeting.Meeting.{Meeting}
 use Rattle.race_report.specs.declared.touch.Touch.{Touch}
@@ -18,7 +18,7 @@ use Rattle.race_report.specs.Kept.{IsTracked, lists_of}
 use Rattle.race_report.specs.Gathering.{everyone, sync_of, point_by, Follows, IsGathered}
 use Rattle.race_report.proofs.Rounds.{met_words_length}
 use Rattle.race_report.proofs.Ordered.{TestsDecide, PlacesStandForCounts}
-use Rattle.race_report.proofs.Prefixes.{syncs_at, syncs_more, syncs_length, length_more}
+use Rattle.race_report.proofs.Prefixes.{syncs_at, syncs_more, length_more}
 use Rattle.race_report.proofs.Following.{follows_more, follows_same, below_weaker}
 use Rattle.race_report.proofs.Growing.{found_known, lists_more}
 

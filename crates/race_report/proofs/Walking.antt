@@ -1,5 +1,5 @@
 -- A walk back over a hart's accesses of a word, and over words one after another.
-use Rattle.std.proofs.Common.{◌≡◌, ◌≢◌, ℕ, zero, suc, ◌+◌, ◌-◌, ◌<◌, ◌≤◌, ◌%◌, ◌^◌, ◌==◌, nat_lt, Bool, true, false, cond, refl, sym, ap, ◌∙◌, subst, arith, List, [], ◌∷◌, length, slice_get, Option, Some, None}
+use Rattle.std.proofs.Common.{◌≡◌, ℕ, suc, ◌+◌, ◌-◌, ◌<◌, ◌≤◌, ◌%◌, ◌^◌, nat_lt, Bool, true, false, cond, refl, sym, ap, ◌∙◌, subst, arith, List, [], ◌∷◌, slice_get, Option, Some, None}
 use Rattle.race_report.specs.declared.meeting.Meeting.{Meeting}
 use Rattle.race_report.specs.declared.track.TrackEntry.{TrackEntry}
 use Rattle.race_report.specs.Points.{words_from}

@@ -1,5 +1,5 @@
 -- The races that were found so far.
-use Rattle.std.specs.Prelude.{ℕ, zero, suc, ◌+◌, ◌==◌, nat_lt, Bool, true, false, cond, List, [], ◌∷◌, length, map, min, Vec, Option, Some, None}
+use Rattle.std.specs.Prelude.{ℕ, zero, suc, ◌+◌, ◌==◌, nat_lt, true, false, cond, List, [], ◌∷◌, length, min, Vec, Option, Some, None}
 use Rattle.std.specs.Global.{Global}
 use Rattle.race_report.specs.declared.meeting.Meeting.{Meeting}
 

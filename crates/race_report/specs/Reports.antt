@@ -1,5 +1,5 @@
 -- What a race report answers.
-use Rattle.std.specs.Prelude.{◌≡◌, ◌≢◌, ◌≤◌, ◌<◌, ℕ, List, [], ◌++◌, length, Option, Some, None, Result, Ok, Err}
+use Rattle.std.specs.Prelude.{◌≡◌, ◌≢◌, ◌≤◌, ◌<◌, ℕ, List, ◌++◌, length, Option, Some, None, Result, Ok, Err}
 use Rattle.bn_base.specs.Programs.{Program}
 use Rattle.bn_base.specs.declared.row.Row.{Row}
 use Rattle.bn_base.specs.declared.state.HartState.{HartState}

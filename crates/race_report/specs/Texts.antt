@@ -1,5 +1,5 @@
 -- The text of a race report.
-use Rattle.std.specs.Prelude.{◌≡◌, ◌≤◌, ℕ, List, [], ◌∷◌, ◌++◌, codes, decimal, length, None, Result, Ok, Err}
+use Rattle.std.specs.Prelude.{◌≡◌, ◌≤◌, ℕ, List, ◌++◌, codes, decimal, length, None, Result, Ok, Err}
 use Rattle.std.specs.List.{flat_map}
 use Rattle.bn_base.specs.declared.row.Row.{Row}
 use Rattle.rv_text.specs.Instructions.{hex8}

@@ -1,4 +1,3 @@
-use Rattle.bn_base.specs.Programs.{Program}
 use Rattle.race_report.proofs.laws.reports_ascend.Goals as goal
 
 pub returns : goal.returns

@@ -1,4 +1,4 @@
-use Rattle.std.proofs.Common.{◌≡◌, ◌<◌, ℕ, suc, List, length, Option, Some, None, IfSome}
+use Rattle.std.proofs.Common.{◌≡◌, ◌<◌, ℕ, List, length, IfSome}
 use Rattle.vector_time.specs.Times.{count_of}
 use Rattle.race_report.specs.Found.{met_all, uncovered}
 use Rattle.race_report.specs.Kept.{IsTracked, lists_of}

@@ -1,4 +1,4 @@
-use Rattle.std.proofs.Common.{◌≡◌, ◌∙◌, sym, length, ◌==◌, Bool, false}
+use Rattle.std.proofs.Common.{◌∙◌, sym}
 use Rattle.race_report.proofs.Lists.{last_with, last_without, some_there}
 use Rattle.race_report.proofs.race_lists.last_with.Goals as goal
 

@@ -1,6 +1,5 @@
-use Rattle.std.proofs.Common.{◌≡◌, ◌∙◌, ℕ, ◌+◌, ◌-◌, suc, sym, ap, subst, arith, length, min, slice_set, List, Option, Some, None}
-use Rattle.race_report.specs.declared.meeting.Meeting.{Meeting}
-use Rattle.race_report.specs.Found.{meeting, met, last_meets}
+use Rattle.std.proofs.Common.{◌≡◌, ◌∙◌, ℕ, ◌-◌, sym, ap, arith, slice_set, Some}
+use Rattle.race_report.specs.Found.{meeting, last_meets}
 use Rattle.race_report.proofs.Lists.{meet_none, meet_some, last_some}
 use Rattle.race_report.proofs.race_lists.meet_in.Goals as goal
 

@@ -1,7 +1,7 @@
-use Rattle.std.proofs.Common.{◌≡◌, ℕ, ◌∙◌, sym, ap, subst, refl, List, ◌<◌}
+use Rattle.std.proofs.Common.{subst, refl}
 use Rattle.race_log.specs.Points.{Point}
-use Rattle.race_log.specs.ByCount.{IsTimesOf, IsUpTo}
-use Rattle.race_log.specs.Kept.{after, access_point}
+use Rattle.race_log.specs.ByCount.{IsTimesOf}
+use Rattle.race_log.specs.Kept.{after}
 use Rattle.race_log.specs.Represents.{RepresentsAccesses, times_of}
 use Rattle.race_report.specs.Gathering.{everyone, sync_of}
 use Rattle.race_report.proofs.Points.{point_is, times_by}

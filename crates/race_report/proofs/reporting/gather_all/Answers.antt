@@ -1,4 +1,4 @@
-use Rattle.std.proofs.Common.{◌≡◌, ◌∙◌, sym}
+use Rattle.std.proofs.Common.{◌∙◌, sym}
 use Rattle.race_report.proofs.Stepping.{way_has, way_next, way_fewer, way_done, way_stopped}
 use Rattle.race_report.proofs.reporting.gather_all.Goals as goal
 

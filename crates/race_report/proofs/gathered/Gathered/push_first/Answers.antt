@@ -1,8 +1,8 @@
-use Rattle.std.proofs.Common.{◌≡◌, ◌∙◌, ◌++◌, ℕ, ap, sym, subst, refl, arith, List, [], cond, Bool, length}
+use Rattle.std.proofs.Common.{◌≡◌, ◌∙◌, ◌++◌, ℕ, ap, sym, arith, List}
 use Rattle.std.proofs.lemmas.List.{append-nil}
 use Rattle.race_report.specs.declared.race.Race.{Race}
-use Rattle.race_report.specs.Races.{races_with, races_by_second, races_by_place, races_by_first, meetings_of}
-use Rattle.race_report.proofs.Orders.{second_next, place_next, first_next, no_at, yes_at, then_more}
+use Rattle.race_report.specs.Races.{races_with, races_by_second, meetings_of}
+use Rattle.race_report.proofs.Orders.{second_next, then_more}
 use Rattle.race_report.proofs.gathered.Gathered.push_first.Goals as goal
 
 pub loop-hart-init : goal.loop-hart-init

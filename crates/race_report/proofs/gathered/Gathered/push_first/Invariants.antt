@@ -1,6 +1,6 @@
-use Rattle.std.proofs.Common.{◌≡◌, ◌++◌, ℕ, List, length}
+use Rattle.std.proofs.Common.{◌≡◌, ◌++◌, ℕ, List}
 use Rattle.race_report.specs.Points.{Accessing}
-use Rattle.race_report.specs.Races.{races_by_second, races_by_place, races_by_first}
+use Rattle.race_report.specs.Races.{races_by_second}
 use Rattle.race_report.specs.Gathering.{IsGathered}
 use Rattle.race_report.proofs.gathered.Gathered.push_first.Given as goal
 

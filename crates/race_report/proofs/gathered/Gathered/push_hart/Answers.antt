@@ -1,8 +1,8 @@
-use Rattle.std.proofs.Common.{◌≡◌, ◌∙◌, ◌++◌, ℕ, ap, sym, subst, refl, arith, List, [], cond, Bool, length}
+use Rattle.std.proofs.Common.{◌≡◌, ◌∙◌, ◌++◌, ℕ, ap, sym, arith, List, [], cond, length}
 use Rattle.std.proofs.lemmas.List.{append-nil}
 use Rattle.race_report.specs.declared.race.Race.{Race}
-use Rattle.race_report.specs.Races.{races_with, races_by_second, races_by_place, races_by_first, meetings_of}
-use Rattle.race_report.proofs.Orders.{second_next, place_next, first_next, no_at, yes_at, then_more}
+use Rattle.race_report.specs.Races.{races_by_second, races_by_place}
+use Rattle.race_report.proofs.Orders.{place_next, then_more}
 use Rattle.race_report.specs.Races.{is_at}
 use Rattle.race_report.proofs.gathered.Gathered.push_hart.Goals as goal
 

@@ -1,8 +1,7 @@
-use Rattle.std.proofs.Common.{◌≡◌, ◌∙◌, ◌++◌, ℕ, ap, sym, subst, refl, List, [], cond, Bool, length}
+use Rattle.std.proofs.Common.{◌∙◌, ◌++◌, ap, sym, [], cond, Bool}
 use Rattle.std.proofs.lemmas.List.{append-nil}
-use Rattle.race_report.specs.declared.race.Race.{Race}
-use Rattle.race_report.specs.Races.{races_with, races_by_second, races_by_place, races_by_first, meetings_of}
-use Rattle.race_report.proofs.Orders.{second_next, place_next, first_next, no_at, yes_at, then_more}
+use Rattle.race_report.specs.Races.{races_by_second}
+use Rattle.race_report.proofs.Orders.{no_at, yes_at}
 use Rattle.race_report.proofs.Tracking.{then_ok}
 use Rattle.race_report.proofs.gathered.Gathered.push_if.Goals as goal
 

@@ -1,4 +1,4 @@
-use Rattle.std.proofs.Common.{◌≡◌, ◌∙◌, ℕ, ap, sym, slice_get, Option, Some, None}
+use Rattle.std.proofs.Common.{◌∙◌, ap, sym, slice_get, Option}
 use Rattle.bn_base.specs.declared.row.Row.{Row}
 use Rattle.race_report.specs.Races.{race_by, row_of}
 use Rattle.race_report.proofs.Orders.{race_none, race_some, race_nothing}

@@ -1,6 +1,5 @@
-use Rattle.std.proofs.Common.{◌≡◌, ◌∙◌, ◌<◌, ℕ, ap, subst, sym, refl, arith, List, [], ◌∷◌, ◌++◌, length, map}
+use Rattle.std.proofs.Common.{◌≡◌, ◌∙◌, ℕ, ap, subst, refl, length}
 use Rattle.vector_time.specs.Times.{count_of}
-use Rattle.bn_base.specs.declared.row.Row.{Row}
 use Rattle.race_report.specs.declared.gathered.Gathered.{Gathered}
 use Rattle.race_report.specs.Points.{Accessing}
 use Rattle.race_report.specs.Kept.{lists_of}

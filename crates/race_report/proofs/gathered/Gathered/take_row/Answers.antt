@@ -1,7 +1,7 @@
-use Rattle.std.proofs.Common.{◌≡◌, ◌∙◌, ◌<◌, ℕ, ap, subst, sym, arith, Some, None}
+use Rattle.std.proofs.Common.{◌∙◌, ◌<◌, ℕ, subst, sym, arith}
 use Rattle.race_report.specs.Points.{touch_of}
 use Rattle.race_report.proofs.Tracking.{then_ok}
-use Rattle.race_report.proofs.Counting.{state_over, state_same, state_more}
+use Rattle.race_report.proofs.Counting.{state_over, state_more}
 use Rattle.race_report.proofs.gathered.Gathered.take_row.Goals as goal
 
 pub returns-then-count-most : goal.returns-then-count-most

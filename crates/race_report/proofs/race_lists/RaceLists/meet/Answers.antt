@@ -1,6 +1,4 @@
-use Rattle.std.proofs.Common.{◌≡◌, ◌∙◌, ap, sym, subst, arith, ◌+◌, length, List, Some}
-use Rattle.race_report.specs.declared.meeting.Meeting.{Meeting}
-use Rattle.race_report.specs.Found.{lists_in, total}
+use Rattle.std.proofs.Common.{◌≡◌, ap, arith, length}
 use Rattle.race_report.proofs.Lists.{lists_length, list_at, lists_set, total_set, set_length, grown_by, not_grown}
 use Rattle.race_report.proofs.race_lists.RaceLists.meet.Goals as goal
 

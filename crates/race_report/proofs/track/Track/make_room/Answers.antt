@@ -1,5 +1,3 @@
-use Rattle.std.proofs.Common.{◌≡◌, ◌<◌, ◌≤◌, ℕ}
-use Rattle.race_report.specs.Tracks.{head_at, room_at}
 use Rattle.race_report.proofs.Tracking.{known_is, heads_same, linked_same, room_here, then_ok}
 use Rattle.race_report.proofs.track.Track.make_room.Goals as goal
 

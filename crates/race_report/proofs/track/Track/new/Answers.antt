@@ -1,4 +1,4 @@
-use Rattle.std.proofs.Common.{◌∙◌, ap, subst, length, arith, List, ◌≡◌, ℕ, None, ◌+◌, ◌++◌, ◌∷◌, [], sym}
+use Rattle.std.proofs.Common.{◌∙◌, ap, length, arith, List}
 use Rattle.hart_replay.specs.Pages.{Known}
 use Rattle.race_report.specs.Tracks.{head_at}
 use Rattle.race_report.proofs.Prefixes.{length_more}

@@ -1,4 +1,4 @@
-use Rattle.std.proofs.Common.{◌≡◌, ◌∙◌, ℕ, ap, List, [], ◌∷◌, ◌++◌, cond, ◌&&◌, ◌==◌, ◌/◌, Some, Option, Vec, length}
+use Rattle.std.proofs.Common.{◌∙◌, ℕ, ap, [], ◌∷◌, ◌++◌, cond, ◌&&◌, ◌==◌, ◌/◌, Some, Option, Vec, length}
 use Rattle.std.specs.Global.{Global}
 use Rattle.race_report.specs.declared.track.TrackEntry.{TrackEntry}
 use Rattle.race_report.specs.Tracks.{head_at}

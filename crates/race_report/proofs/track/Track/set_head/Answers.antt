@@ -1,6 +1,3 @@
-use Rattle.std.proofs.Common.{◌≡◌, ◌<◌, ℕ, ◌/◌, ◌==◌, if◌then◌else◌, Some, sym, subst, Result, Err}
-use Rattle.race_report.specs.Tracks.{head_at, room_at}
-use Rattle.hart_replay.specs.Pages.{word_at}
 use Rattle.race_report.proofs.Tracking.{known_is, heads_set, linked_set, room_is, on_ok}
 use Rattle.race_report.proofs.track.Track.set_head.Goals as goal
 
