@@ -60,7 +60,7 @@ impl<J: Beginning, B: Book, R: Wait> TurnPort for ListedPort<'_, J, B, R> {
 /// of the lock, the gate's `pass`, one served ask under the lock, and the gate's `served` after it. What it
 /// asks is what it asks next from where it is: the lock takes no other ask.
 ///
-/// The only error is want of memory; then no hart of the bus is live any more.
+/// The only error is want of memory. The bus is halted then, which no clause can say of what is under a lock.
 pub fn work_listed<J: Beginning, B: Book, G: Gate, R: Wait>(
     rt: &R,
     bus: &Mutex<ListedBus<J, B>>,
