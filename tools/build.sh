@@ -212,8 +212,9 @@ build() {
     # from here on what is there is of no known sources, until all is built
     rm -f "$stamp"
     sources=$(sources)
-    trap 'for name in "${!proving[@]}"; do kill -- "-$name"; done 2>/dev/null; wait; name=; stop 130 "stopped; the crates that are done stay proved"' INT TERM HUP
+    trap 'for name in "${!proving[@]}"; do kill -- "-$name" "$name"; done 2>/dev/null; wait; name=; stop 130 "stopped; the crates that are done stay proved"' INT TERM HUP
     say "proving and building the program, ${#below[@]} crates, up to ${ZELKUMA_LANES:=$(lanes)} at a time; README says how long that takes from nothing"
+    processors=$((processors < ZELKUMA_LANES ? processors : ZELKUMA_LANES)) # (few lanes may be there for want of memory)
     if is_known; then
         prove
         [ ${#failed[@]} -gt 0 ] || build_program
