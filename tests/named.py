@@ -190,6 +190,7 @@ MUTANTS = [
         edit("step_debugger", "each_answer_is_told_as_unwritten"),
     ),
     ("No interval is found in a log (14).", edit("hart_replay", "no_interval_is_found")),
+    ("A replay that stops after its rows ends with 14.", edit("bugnet", "a_stopped_replay_answers_14")),
     ("Each replay ends with records left (15).", edit("hart_replay", "records_are_left_of_each_interval")),
     ("Each log is taken for another than the list's (16).", edit("run_files", "each_log_differs")),
     (

@@ -69,31 +69,32 @@ joint-is (Replay replay.OutOfMemory) = inr (inr refl)
 joint-is (Stuck positions) = inr (inr refl)
 joint-is joint.OutOfMemory = inl refl
 
--- such a status is one of a session that was begun, and none of a read or a write that failed, or of one that is done
+-- such a status is one of a session that was begun, or that an interval isn't there, and none of a read or a write that failed,
+-- or of one that is done
 record Ends (status : ℕ) : Type 0 where
-  pub begun : is_begun status ≡ true
+  pub begun : (is_begun status ≡ true) ⊎ (status ≡ 14)
   pub read : status ≢ 12
   pub write : status ≢ 13
   pub zero : status ≢ 0
 
-ends-at : (status n : ℕ) → status ≡ n → is_begun n ≡ true → n ≢ 12 → n ≢ 13 → n ≢ 0 → Ends status
+ends-at : (status n : ℕ) → status ≡ n → (is_begun n ≡ true) ⊎ (n ≡ 14) → n ≢ 12 → n ≢ 13 → n ≢ 0 → Ends status
 ends-at status n e b r w z = record {
-  begun = subst (λ (m : ℕ). is_begun m ≡ true) (sym e) b;
+  begun = subst (λ (m : ℕ). (is_begun m ≡ true) ⊎ (m ≡ 14)) (sym e) b;
   read = λ f. r (sym e ∙ f);
   write = λ f. w (sym e ∙ f);
   zero = λ f. z (sym e ∙ f);
 }
 
 at-9 : (status : ℕ) → status ≡ 9 → Ends status
-at-9 status e = ends-at status 9 e refl (λ f. omega (arith, f)) (λ f. omega (arith, f)) (λ f. omega (arith, f))
+at-9 status e = ends-at status 9 e (inl refl) (λ f. omega (arith, f)) (λ f. omega (arith, f)) (λ f. omega (arith, f))
 
 at-18 : (status : ℕ) → status ≡ 18 → Ends status
-at-18 status e = ends-at status 18 e refl (λ f. omega (arith, f)) (λ f. omega (arith, f)) (λ f. omega (arith, f))
+at-18 status e = ends-at status 18 e (inl refl) (λ f. omega (arith, f)) (λ f. omega (arith, f)) (λ f. omega (arith, f))
 
 at-joint : (status n : ℕ) → status ≡ n → (n ≡ 9) ⊎ ((n ≡ 14) ⊎ (n ≡ 15)) → Ends status
 at-joint status n e (inl h) = at-9 status (e ∙ h)
-at-joint status n e (inr (inl h)) = ends-at status 14 (e ∙ h) refl (λ f. omega (arith, f)) (λ f. omega (arith, f)) (λ f. omega (arith, f))
-at-joint status n e (inr (inr h)) = ends-at status 15 (e ∙ h) refl (λ f. omega (arith, f)) (λ f. omega (arith, f)) (λ f. omega (arith, f))
+at-joint status n e (inr (inl h)) = ends-at status 14 (e ∙ h) (inr refl) (λ f. omega (arith, f)) (λ f. omega (arith, f)) (λ f. omega (arith, f))
+at-joint status n e (inr (inr h)) = ends-at status 15 (e ∙ h) (inl refl) (λ f. omega (arith, f)) (λ f. omega (arith, f)) (λ f. omega (arith, f))
 
 -- the status of an end, or of a line for it that found no memory
 abbrev StatusOf : DebugError → ℕ → Type 0
@@ -121,14 +122,14 @@ other-ends (stop.TooMuch n) status o (inr h) = at-9 status h
 other-ends (stop.Joint e) status o (inr h) = at-9 status h
 other-ends stop.OutOfMemory status o (inr h) = at-9 status h
 
-pub stop-begun : (names : FileNames) (e : DebugError) (status : ℕ) (old new : Option (List ℕ)) (before now : ℕ) → ToldStop names e status old new before now → is_begun status ≡ true
+pub stop-begun : (names : FileNames) (e : DebugError) (status : ℕ) (old new : Option (List ℕ)) (before now : ℕ) → ToldStop names e status old new before now → (is_begun status ≡ true) ⊎ (status ≡ 14)
 stop-begun names e status old new before now told = by e (status-of names e status old new before now told)
   where
-    by : (e : DebugError) → StatusOf e status → is_begun status ≡ true
-    by stop.ReadFault (inl h) = subst (λ (m : ℕ). is_begun m ≡ true) (sym h) refl
-    by stop.ReadFault (inr h) = subst (λ (m : ℕ). is_begun m ≡ true) (sym h) refl
-    by stop.WriteFault (inl h) = subst (λ (m : ℕ). is_begun m ≡ true) (sym h) refl
-    by stop.WriteFault (inr h) = subst (λ (m : ℕ). is_begun m ≡ true) (sym h) refl
+    by : (e : DebugError) → StatusOf e status → (is_begun status ≡ true) ⊎ (status ≡ 14)
+    by stop.ReadFault (inl h) = inl (subst (λ (m : ℕ). is_begun m ≡ true) (sym h) refl)
+    by stop.ReadFault (inr h) = inl (subst (λ (m : ℕ). is_begun m ≡ true) (sym h) refl)
+    by stop.WriteFault (inl h) = inl (subst (λ (m : ℕ). is_begun m ≡ true) (sym h) refl)
+    by stop.WriteFault (inr h) = inl (subst (λ (m : ℕ). is_begun m ≡ true) (sym h) refl)
     by (stop.LineTooLong n) h = (other-ends (stop.LineTooLong n) status tt h).begun
     by (stop.TooMuch n) h = (other-ends (stop.TooMuch n) status tt h).begun
     by (stop.Joint e) h = (other-ends (stop.Joint e) status tt h).begun
@@ -263,7 +264,7 @@ memory-status names status old new before now (inl h) = h.0
 memory-status names status old new before now (inr h) = h.0
 
 pub memory-begun : (status : ℕ) → status ≡ 9 → is_begun status ≡ true
-memory-begun status e = (at-9 status e).begun
+memory-begun status e = subst (λ (m : ℕ). is_begun m ≡ true) (sym e) refl
 
 -- a write is refused only where a count rose
 pub stop-writes : (j : Trace) (names : FileNames) (e : DebugError) (status : ℕ) (gone : List ℕ) (left now_left : Option (List ℕ)) (before now : ℕ) (written now_written : Option (List ℕ)) (b n : ℕ) (old new : Option (List ℕ)) (eb en : ℕ)
@@ -395,7 +396,7 @@ fed : (b : Bool) (x y : Input) (e : JointError) → x.refused ≢ Some (stop.Joi
 fed true x y e p q = p
 fed false x y e p q = q
 
-own-refusal : (count : ℕ) (line bytes : List ℕ) (e : JointError) → (input_from count line bytes).refused ≢ Some (stop.Joint e)
+pub own-refusal : (count : ℕ) (line bytes : List ℕ) (e : JointError) → (input_from count line bytes).refused ≢ Some (stop.Joint e)
 own-refusal count line [] e f = absurd cc
 own-refusal count line (byte ∷ bytes) e f =
     let next : Input = with_line line (input_from (count + 1) [] bytes) in
@@ -406,12 +407,12 @@ own-refusal count line (byte ∷ bytes) e f =
     (fed (nat_lt count input_limit) read (ends_in line (Some (stop.TooMuch (count + 1)))) e
     (fed (is_line_feed byte) next more e (own-refusal (count + 1) [] bytes e) (own-refusal (count + 1) (line ++ byte ∷ []) bytes e)) (λ g. absurd cc)) f
 
-cut-refusal : (failed : Bool) (i : Input) (e : JointError) → i.refused ≢ Some (stop.Joint e) → (cut failed i).refused ≢ Some (stop.Joint e)
+pub cut-refusal : (failed : Bool) (i : Input) (e : JointError) → i.refused ≢ Some (stop.Joint e) → (cut failed i).refused ≢ Some (stop.Joint e)
 cut-refusal true i e h f = absurd cc
 cut-refusal false i e h f = h f
 
 -- so no session over a recording's log ends as one
-by-end : (x : Ending) (o : Option DebugError) (e : JointError) → x ≢ ending.Refused e → o ≢ Some (stop.Joint e) → result_by x o ≢ Err (stop.Joint e)
+pub by-end : (x : Ending) (o : Option DebugError) (e : JointError) → x ≢ ending.Refused e → o ≢ Some (stop.Joint e) → result_by x o ≢ Err (stop.Joint e)
 by-end ending.GoesOn None e a b f = absurd cc
 by-end ending.GoesOn (Some y) e a b f = b (ap (λ (z : DebugError). Some z) (same y f))
   where

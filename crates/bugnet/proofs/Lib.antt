@@ -19,6 +19,8 @@ mod FaultTurns
 mod Crashes
 mod SalvagedLogs
 mod Begins
+mod BegunReplays
+mod BegunSessions
 mod LineCalls
 mod LineTells
 mod RecordLoads

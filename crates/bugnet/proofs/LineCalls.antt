@@ -11,7 +11,7 @@ use Rattle.bn_outside.specs.StoreCalls.{StoreCall}
 use Rattle.command_words.specs.Words.{Line, RecordLine, ReplayLine, JointLine, DebugLine, ListLine, CheckLine, AuditLine, RacesLine, SliceLine, ConvertLine, SalvageLine, DemoLine, seen_recording}
 use Rattle.command_words.specs.declared.commands.RecordOptions.{RecordOptions}
 use Rattle.demo_run.specs.Demonstration.{demo_text}
-use Rattle.hart_replay.specs.Replay.{Outcome, Done, Refused, interval_of, replayed}
+use Rattle.hart_replay.specs.Replay.{Outcome, Refused, interval_of, replayed}
 use Rattle.hart_replay.specs.Replay as rows
 use Rattle.hart_replay.specs.declared.error.ReplayError.{ReplayError}
 use Rattle.hart_replay.specs.declared.error.ReplayError.TheVariants as replay
@@ -28,17 +28,17 @@ use Rattle.log_commands.specs.Refusals.{name_refusal, replay_status}
 use Rattle.log_commands.specs.SaveCounts.{IsRenewed, IsRecordedRun, IsMade}
 use Rattle.bugnet.specs.Asks.{FitsLine}
 use Rattle.log_commands.specs.FileCalls.{FileCall, Saves, store_call, noted_after, loads_of, saves_of, input_roles, record_roles, elf_roles, origin_roles, saves_in, IsOfContent, StopsAt, LoadsUpTo, CallsTo, LoadsTo, CallsBy, IsOfSave, SavesUpTo, SavesTo, SaveRefused, SavesTold}
-use Rattle.bugnet.specs.LineCalls.{line_roles, needed_roles, line_saves, calls_of, needed_of, is_printed, is_recorded, line_past, past_of, RefusedAfter, CallsSo, CallsOnly, TellsRefusal, HasShape, AnswersDemo, TellsDemo}
+use Rattle.bugnet.specs.LineCalls.{line_roles, needed_roles, line_saves, calls_of, needed_of, is_printed, is_replayed, is_recorded, line_past, past_of, RefusedAfter, CallsSo, CallsOnly, TellsRefusal, HasShape, AnswersDemo, TellsDemo}
 use Rattle.log_commands.specs.Command.Audit.{roles_of}
 use Rattle.bugnet.specs.Command.Record.{is_clash}
 use Rattle.log_commands.specs.Commands.{replay_found, ended}
-use Rattle.log_commands.specs.Joined.{joint_status, ran_told, joined}
+use Rattle.log_commands.specs.Joined.{joint_status, ran_told, joined, joint_with}
 use Rattle.bugnet.specs.Laws.{IsReadOnly, IsNoSession}
 use Rattle.log_commands.specs.Outside.{CauseBy, IsPrinted, ToldRefusal, told_of}
 use Rattle.log_commands.specs.Pairs.{pair_roles}
 use Rattle.log_commands.specs.RaceAnswers.{halted}
 use Rattle.log_commands.specs.RunEnds.{end_status}
-use Rattle.log_commands.specs.Effects.{Call, IsFree, Tells}
+use Rattle.log_commands.specs.Effects.{Call, IsFree, Tells, Done}
 use Rattle.bugnet.specs.Sessions.{is_begun}
 use Rattle.log_commands.specs.Told.{Told, refused, printed}
 use Rattle.log_commands.specs.declared.answer.Answer.{Answer}
@@ -49,7 +49,8 @@ use Rattle.bugnet.specs.declared.manner.Manner.{Manner}
 use Rattle.log_commands.specs.declared.names.Role.{Role}
 use Rattle.log_commands.specs.declared.names.Role.TheVariants as role
 use Rattle.log_commands.specs.declared.refusal.Refusal.{Refusal}
-use Rattle.log_commands.specs.declared.refusal.Refusal.TheVariants.{OutOfMemory, StoreFailed, WordsRefused}
+use Rattle.log_commands.specs.declared.refusal.Refusal.TheVariants.{OutOfMemory, ReplayStopped, StoreFailed, WordsRefused}
+use Rattle.bugnet.proofs.BegunReplays.{is_found, is_begun_end, StopsBegun, replays_begin, joint_replays_begin}
 use Rattle.log_commands.proofs.Prints.{part-longer, part-whole}
 use Rattle.log_commands.proofs.Tells.{from, stopped-free, memory-names, wanting, same-files}
 use Rattle.log_commands.proofs.FileCalls.{CalledSoFar, ends-behind, noted-append, one-save-stops}
@@ -252,41 +253,72 @@ end-past run_end.Done = refl
 end-past run_end.Fault = refl
 end-past run_end.Limit = refl
 
-replay-past : (e : ReplayError) → is_begun (replay_status e) ≡ true
-replay-past (replay.NoInterval hart interval) = refl
-replay-past (replay.LoadMissing hart ic addr) = refl
-replay-past (replay.ScMissing hart ic) = refl
-replay-past (replay.RecordsLeft hart left) = refl
-replay-past (replay.EndDiffers hart said found) = refl
-replay-past replay.OutOfMemory = refl
+-- it is refused by what its files hold, before it prints
+record Unbegun (names : FileNames) (status : ℕ) (k : Call) : Type 0 where
+  refusal : Refusal
+  own : IsOfContent refusal
+  out : Appends k.old.out k.new.out []
+  told : ToldRefusal names refusal status k.old.err k.new.err k.old.err_faults k.new.err_faults
 
-joint-past : (o : Option JointError) → is_begun (joint_status o) ≡ true
-joint-past None = refl
-joint-past (Some (Replay e)) = replay-past e
-joint-past (Some (Stuck positions)) = refl
-joint-past (Some joint.OutOfMemory) = refl
+-- a replay ends so, or before it begins
+abbrev Replays : FileNames → (status : ℕ) → Call → Type 0
+Replays names status k = (is_replayed status ≡ true) ⊎ Unbegun names status k
 
-outcome-past : (names : FileNames) (hart interval : ℕ) (mark : EndMark) (text : List ℕ) (o : Outcome) → is_begun (ended names hart interval mark text o).status ≡ true
+replay-past : (e : ReplayError) → is_found e ≡ true → is_replayed (replay_status e) ≡ true
+replay-past (replay.NoInterval hart interval) begun = absurd (cc begun)
+replay-past (replay.LoadMissing hart ic addr) begun = refl
+replay-past (replay.ScMissing hart ic) begun = refl
+replay-past (replay.RecordsLeft hart left) begun = refl
+replay-past (replay.EndDiffers hart said found) begun = refl
+replay-past replay.OutOfMemory begun = refl
+
+joint-past : (o : Option JointError) → StopsBegun o → is_replayed (joint_status o) ≡ true
+joint-past None begun = refl
+joint-past (Some (Replay e)) begun = replay-past e begun
+joint-past (Some (Stuck positions)) begun = refl
+joint-past (Some joint.OutOfMemory) begun = refl
+
+outcome-past : (names : FileNames) (hart interval : ℕ) (mark : EndMark) (text : List ℕ) (o : Outcome) → is_begun_end o ≡ true → is_replayed (ended names hart interval mark text o).status ≡ true
 unfolding ended
-outcome-past names hart interval mark text Done = refl
-outcome-past names hart interval mark text (Refused e) = replay-past e
+outcome-past names hart interval mark text rows.Done begun = refl
+outcome-past names hart interval mark text (Refused e) begun = replay-past e begun
 
-found-past : (names : FileNames) (hart interval : ℕ) (d : Content) (i : Program) (o : Option rows.Interval) → is_begun (replay_found names hart interval d i o).status ≡ true
+found-past : (names : FileNames) (hart interval : ℕ) (d : Content) (i : Program) (o : Option rows.Interval) (status : ℕ) (k : Call) → interval_of hart interval d.records ≡ o
+    → Done names (replay_found names hart interval d i o) status k → Replays names status k
 unfolding refused
-found-past names hart interval d i None = refl
-found-past names hart interval d i (Some v) = outcome-past names hart interval v.mark _ (replayed i d.records hart interval).outcome
+found-past names hart interval d i None status k e done =
+    inr (record { refusal = ReplayStopped (replay.NoInterval hart interval); own = λ before now. tt; out = done.out; told = inl (done.status_is, done.err) })
+found-past names hart interval d i (Some v) status k e done =
+    inl (past-at is_replayed status _ done.status_is (outcome-past names hart interval v.mark _ (replayed i d.records hart interval).outcome (replays_begin i d.records hart interval v e)))
 
-printed-past : (names : FileNames) (answer : Answer) → IsPrinted answer → is_begun (told_of names answer).status ≡ true
-unfolding ran_told halted
-printed-past names (Recorded r) p = absurd p
-printed-past names (Interval r) p = found-past names r.hart r.interval r.log r.image (interval_of r.hart r.interval r.log.records)
-printed-past names (Joined r) p = joint-past (run_all (joined r.log r.image)).stopped
-printed-past names (Listed d) p = refl
-printed-past names (Checked n) p = refl
-printed-past names Agreed p = refl
-printed-past names (Renewed n) p = absurd p
-printed-past names (Shown text) p = refl
-printed-past names (Halted error) p = joint-past (Some error)
+-- the joint replay of `races` stopped, which prints nothing
+halted-past : (names : FileNames) (error : JointError) (status : ℕ) (k : Call) → Done names (halted names error) status k → Replays names status k
+unfolding halted
+halted-past names (Replay (replay.NoInterval hart interval)) status k done =
+    inr (record { refusal = ReplayStopped (replay.NoInterval hart interval); own = λ before now. tt; out = done.out; told = inl (done.status_is, done.err) })
+halted-past names (Replay (replay.LoadMissing hart ic addr)) status k done = inl (past-at is_replayed status 15 done.status_is refl)
+halted-past names (Replay (replay.ScMissing hart ic)) status k done = inl (past-at is_replayed status 15 done.status_is refl)
+halted-past names (Replay (replay.RecordsLeft hart left)) status k done = inl (past-at is_replayed status 15 done.status_is refl)
+halted-past names (Replay (replay.EndDiffers hart said found)) status k done = inl (past-at is_replayed status 15 done.status_is refl)
+halted-past names (Replay replay.OutOfMemory) status k done = inl (past-at is_replayed status 15 done.status_is refl)
+halted-past names (Stuck positions) status k done = inl (past-at is_replayed status 15 done.status_is refl)
+halted-past names joint.OutOfMemory status k done = inl (past-at is_replayed status 9 done.status_is refl)
+
+joined-past : (names : FileNames) (d : Content) (i : Program) (status : ℕ) (k : Call) → Done names (joint_with names d i) status k → Replays names status k
+unfolding ran_told
+joined-past names d i status k done =
+    inl (past-at is_replayed status _ done.status_is (joint-past (run_all (joined d i)).stopped (joint_replays_begin i d.head.settings.harts d.records)))
+
+printed-past : (names : FileNames) (answer : Answer) (status : ℕ) (k : Call) → IsPrinted answer → Done names (told_of names answer) status k → Replays names status k
+printed-past names (Recorded r) status k p done = absurd p
+printed-past names (Interval r) status k p done = found-past names r.hart r.interval r.log r.image (interval_of r.hart r.interval r.log.records) status k refl done
+printed-past names (Joined r) status k p done = joined-past names r.log r.image status k done
+printed-past names (Listed d) status k p done = inl (past-at is_replayed status 0 done.status_is refl)
+printed-past names (Checked n) status k p done = inl (past-at is_replayed status 0 done.status_is refl)
+printed-past names Agreed status k p done = inl (past-at is_replayed status 0 done.status_is refl)
+printed-past names (Renewed n) status k p done = absurd p
+printed-past names (Shown text) status k p done = inl (past-at is_replayed status 0 done.status_is refl)
+printed-past names (Halted error) status k p done = halted-past names error status k done
 
 made-past : (names : FileNames) (answer : Answer) → IsMade answer → is_printed (told_of names answer).status ≡ true
 made-past names (Recorded r) p = absurd p
@@ -321,19 +353,34 @@ recorded-past lean names (Renewed n) p = absurd p
 recorded-past lean names (Shown text) p = absurd p
 recorded-past lean names (Halted error) p = absurd p
 
-line-past : (line : Line) (names : FileNames) (answer : Answer) → FitsLine line answer → (IsReadOnly (Some line) → IsPrinted answer) → line_past line (told_of names answer).status ≡ true
-line-past (RecordLine r) names answer fits prints = recorded-past r.lean names answer fits
-line-past (ReplayLine log elf hart interval) names answer fits prints = printed-past names answer (prints tt)
-line-past (JointLine log elf) names answer fits prints = printed-past names answer (prints tt)
-line-past (DebugLine log elf) names answer fits prints = printed-past names answer (prints tt)
-line-past (ListLine log) names answer fits prints = made-past names answer fits
-line-past (CheckLine log) names answer fits prints = made-past names answer fits
-line-past (AuditLine log elf book input) names answer fits prints = made-past names answer fits
-line-past (RacesLine log elf most) names answer fits prints = printed-past names answer (prints tt)
-line-past (SliceLine log elf hart interval ic) names answer fits prints = made-past names answer fits
-line-past (ConvertLine log copy) names answer fits prints = renewed-past names answer fits
-line-past (SalvageLine log copy) names answer fits prints = renewed-past names answer fits
-line-past (DemoLine seed) names answer fits prints = made-past names answer fits
+-- once all its calls are made a line ends so, or it is refused before it prints, and then these are the calls that it needs
+abbrev Ends : (past : ℕ → Bool) → (calls needed : List FileCall) → FileNames → (status : ℕ) → Call → Type 0
+Ends past calls needed names status k = (past status ≡ true) ⊎ ((calls ≡ needed) × Unbegun names status k)
+
+abbrev LineEnds : Line → FileNames → (status : ℕ) → Call → Type 0
+LineEnds line names status k = Ends (line_past line) (calls_of (Some line)) (needed_of (Some line)) names status k
+
+replay-ends : (names : FileNames) (status : ℕ) (k : Call) → Replays names status k → Ends is_replayed (loads_of pair_roles) (loads_of pair_roles) names status k
+replay-ends names status k (inl past) = inl past
+replay-ends names status k (inr refused) = inr (refl, refused)
+
+answer-past : (past : ℕ → Bool) (names : FileNames) (answer : Answer) (status : ℕ) (k : Call) → Done names (told_of names answer) status k → past (told_of names answer).status ≡ true → past status ≡ true
+answer-past past names answer status k done e = past-at past status (told_of names answer).status done.status_is e
+
+line-ends : (line : Line) (names : FileNames) (answer : Answer) (status : ℕ) (k : Call) → FitsLine line answer → (IsReadOnly (Some line) → IsPrinted answer) → IsNoSession (Some line)
+    → Done names (told_of names answer) status k → LineEnds line names status k
+line-ends (RecordLine r) names answer status k fits prints other done = inl (answer-past is_recorded names answer status k done (recorded-past r.lean names answer fits))
+line-ends (ReplayLine log elf hart interval) names answer status k fits prints other done = replay-ends names status k (printed-past names answer status k (prints tt) done)
+line-ends (JointLine log elf) names answer status k fits prints other done = replay-ends names status k (printed-past names answer status k (prints tt) done)
+line-ends (DebugLine log elf) names answer status k fits prints other done = absurd other
+line-ends (ListLine log) names answer status k fits prints other done = inl (answer-past is_printed names answer status k done (made-past names answer fits))
+line-ends (CheckLine log) names answer status k fits prints other done = inl (answer-past is_printed names answer status k done (made-past names answer fits))
+line-ends (AuditLine log elf book input) names answer status k fits prints other done = inl (answer-past is_printed names answer status k done (made-past names answer fits))
+line-ends (RacesLine log elf most) names answer status k fits prints other done = replay-ends names status k (printed-past names answer status k (prints tt) done)
+line-ends (SliceLine log elf hart interval ic) names answer status k fits prints other done = inl (answer-past is_printed names answer status k done (made-past names answer fits))
+line-ends (ConvertLine log copy) names answer status k fits prints other done = inl (answer-past is_printed names answer status k done (renewed-past names answer fits))
+line-ends (SalvageLine log copy) names answer status k fits prints other done = inl (answer-past is_printed names answer status k done (renewed-past names answer fits))
+line-ends (DemoLine seed) names answer status k fits prints other done = inl (answer-past is_printed names answer status k done (made-past names answer fits))
 
 memory-past : (line : Line) → line_past line 9 ≡ true
 memory-past (RecordLine r) = refl
@@ -368,10 +415,10 @@ free-past line status (inl e) other = absurd (other e)
 free-past line status (inr (inl e)) other = past-at (line_past line) status 9 e (memory-past line)
 free-past line status (inr (inr e)) other = past-at (line_past line) status 13 e (write-past line)
 
-tells-past : (line : Line) (names : FileNames) (answer : Answer) (status : ℕ) (k : Call) → FitsLine line answer → (IsReadOnly (Some line) → IsPrinted answer)
-    → Tells names (told_of names answer) status k → status ≢ 3 → line_past line status ≡ true
-tells-past line names answer status k fits prints (inl done) other = past-at (line_past line) status (told_of names answer).status done.status_is (line-past line names answer fits prints)
-tells-past line names answer status k fits prints (inr s) other = free-past line status (stopped-free names (told_of names answer) status k s) other
+tells-past : (line : Line) (names : FileNames) (answer : Answer) (status : ℕ) (k : Call) → FitsLine line answer → (IsReadOnly (Some line) → IsPrinted answer) → IsNoSession (Some line)
+    → Tells names (told_of names answer) status k → status ≢ 3 → LineEnds line names status k
+tells-past line names answer status k fits prints none (inl done) other = line-ends line names answer status k fits prints none done
+tells-past line names answer status k fits prints none (inr s) other = inl (free-past line status (stopped-free names (told_of names answer) status k s) other)
 
 -- ---- a command
 
@@ -409,7 +456,7 @@ refusal-calls A note line names r status before after first last k e h c out tol
 
 -- it has its answer, of which all is saved, or not
 answer-so : (A : Type 0) (a : A) (note : ℕ → StoreCall → ℕ) (names : FileNames) (o : Option Refusal) (roles needed : List Role) (saves : List FileCall) (past : ℕ → Bool) (status : ℕ) (before mid after : ℕ) (first last : Counts) (files : Option Files) (counts : Counts) (k : Call)
-    → CallsBy o names roles needed note before mid (Ok a) → CauseBy o first last (Ok a) → SavesTold names saves status note mid after k → (status ≢ 3 → past status ≡ true)
+    → CallsBy o names roles needed note before mid (Ok a) → CauseBy o first last (Ok a) → SavesTold names saves status note mid after k → (status ≢ 3 → Ends past (loads_of roles ++ saves) (loads_of needed) names status k)
     → CallsSo names (loads_of roles ++ saves) (loads_of needed) o past status note before after (from files counts k)
 answer-so A a note names (Some x) roles needed saves past status before mid after first last files counts k h c s goes = absurd (no-answer A a x c.0)
 answer-so A a note names None roles needed saves past status before mid after first last files counts k h c s goes = record {
@@ -420,19 +467,27 @@ answer-so A a note names None roles needed saves past status before mid after fi
   ends = by s.ends;
 }
   where
+    all_made : s.left ≡ [] → loads_of roles ++ s.made ≡ loads_of roles ++ saves
+    all_made all = ap (λ (calls : List FileCall). loads_of roles ++ calls) (sym (s.parts ∙ ap (λ (calls : List FileCall). s.made ++ calls) all ∙ append-nil s.made))
+
+    at_end : s.left ≡ [] → Ends past (loads_of roles ++ saves) (loads_of needed) names status k
+        → ((s.left ≡ []) × (past status ≡ true)) ⊎ RefusedAfter names (loads_of needed) None (loads_of roles ++ s.made) status (from files counts k)
+    at_end all (inl goes) = inl (all, goes)
+    at_end all (inr (same, u)) = inr (record { refusal = u.refusal; at = inr (inr (inr (inr (u.own, all_made all ∙ same)))); out = u.out; told = u.told })
+
     by : ((s.left ≡ []) × (status ≢ 3)) ⊎ SaveRefused names s.made status k
         → ((s.left ≡ []) × (past status ≡ true)) ⊎ RefusedAfter names (loads_of needed) None (loads_of roles ++ s.made) status (from files counts k)
-    by (inl (all, other)) = inl (all, goes other)
+    by (inl (all, other)) = at_end all (goes other)
     by (inr t) = inr (record { refusal = t.refusal; at = inr (stops-save (loads_of needed) t.refusal (loads_of roles) s.made t.at); out = t.out; told = t.told })
 
 pub answer-calls : (note : ℕ → StoreCall → ℕ) (line : Line) (names : FileNames) (answer : Answer) (status : ℕ) (before mid after : ℕ) (first last : Counts) (files : Option Files) (counts : Counts) (k : Call) → names ≡ names_in line
     → CallsBy (refusal_in line) names (line_roles line) (needed_roles line) note before mid (Ok answer) → CauseBy (refusal_in line) first last (Ok answer)
-    → FitsLine line answer → (IsReadOnly (Some line) → IsPrinted answer) → SavesTold names (saves_in answer) status note mid after k → Tells names (told_of names answer) status k
+    → FitsLine line answer → (IsReadOnly (Some line) → IsPrinted answer) → IsNoSession (Some line) → SavesTold names (saves_in answer) status note mid after k → Tells names (told_of names answer) status k
     → CallsOnly (Some line) status note before after (from files counts k)
-answer-calls note line names answer status before mid after first last files counts k e h c fits prints s told =
+answer-calls note line names answer status before mid after first last files counts k e h c fits prints none s told =
     subst (λ (n : FileNames). CallsSo n (calls_of (Some line)) (needed_of (Some line)) (refusal_in line) (line_past line) status note before after (from files counts k)) e
     (answer-so Answer answer note names (refusal_in line) (line_roles line) (needed_roles line) (line_saves line) (line_past line) status before mid after first last files counts k h c
-    (subst (λ (saves : List FileCall). SavesTold names saves status note mid after k) (answer-saves line answer fits prints) s) (λ other. tells-past line names answer status k fits prints told other))
+    (subst (λ (saves : List FileCall). SavesTold names saves status note mid after k) (answer-saves line answer fits prints) s) (λ other. tells-past line names answer status k fits prints none told other))
 
 -- ---- a session
 

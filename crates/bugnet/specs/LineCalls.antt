@@ -80,21 +80,25 @@ needed_of (Some line) = loads_of (needed_roles line)
 abbrev pub is_printed : ℕ → Bool
 is_printed status = (status == 0) || (status == 9) || (status == 13)
 
+-- the same of a replay, which may also stop once it is begun
+abbrev pub is_replayed : ℕ → Bool
+is_replayed status = is_printed status || (status == 15)
+
 -- the same of a recording, which is also done if its run ended in a fault, or by the limit
 abbrev pub is_recorded : ℕ → Bool
 is_recorded status = is_printed status || (status == 10) || (status == 11)
 
--- what a command may end with once all its calls are made: a replay that it prints as it comes may stop too, and the reading
--- of commands
+-- what a command may end with once all its calls are made, if it isn't refused by what the files hold: a replay may stop too,
+-- and the reading of commands
 abbrev pub line_past : Line → ℕ → Bool
 line_past (RecordLine r) = is_recorded
-line_past (ReplayLine log elf hart interval) = is_begun
-line_past (JointLine log elf) = is_begun
+line_past (ReplayLine log elf hart interval) = is_replayed
+line_past (JointLine log elf) = is_replayed
 line_past (DebugLine log elf) = is_begun
 line_past (ListLine log) = is_printed
 line_past (CheckLine log) = is_printed
 line_past (AuditLine log elf book input) = is_printed
-line_past (RacesLine log elf most) = is_begun
+line_past (RacesLine log elf most) = is_replayed
 line_past (SliceLine log elf hart interval ic) = is_printed
 line_past (ConvertLine log copy) = is_printed
 line_past (SalvageLine log copy) = is_printed
@@ -139,7 +143,8 @@ pub record TellsRefusal (names : FileNames) (status : ℕ) (k : Call) : Type 0 w
   pub out : Appends k.old.out k.new.out []
   pub err : Wrote k.old.err k.new.err k.old.err_faults k.new.err_faults (line_of names refusal)
 
--- so it is unless the command is done, or memory ran out, a write failed, or a replay or a reading of commands stopped
+-- so it is unless the command is done, or memory ran out, a write failed, or a replay that was begun or a reading of commands
+-- stopped
 abbrev pub HasShape : Option Line → (status : ℕ) → Call → Type 0
 HasShape line status k = past_of line status ≡ false → TellsRefusal (names_by line) status k
 

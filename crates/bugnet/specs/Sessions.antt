@@ -180,7 +180,7 @@ IsDebug files names what = (c : Commands) × IsSession c files names what
 
 -- the statuses of a session that was begun; before it nothing is read
 abbrev pub is_begun : ℕ → Bool
-is_begun status = (status == 0) || (status == 9) || (status == 12) || (status == 13) || (status == 14) || (status == 15) || (status == 18)
+is_begun status = (status == 0) || (status == 9) || (status == 12) || (status == 13) || (status == 15) || (status == 18)
 
 -- what it needs: a log and its program are there, and the session isn't stopped
 pub record CanDebug (c : Commands) (log elf : List ℕ) (files : Files) : Type 0 where

@@ -373,7 +373,8 @@ pub fn run<S: Store, I: Source, O: Sink, X: Sink, G: Gate, R: Threads + Wait + S
 
     // Whatever the store tells: a command that isn't done is refused, unless memory ran out or a write failed.
     // Then nothing is printed, and err has the line of a refusal of this status. But what `replay`, `joint`,
-    // `debug` and `races` tell may end where a replay stops, or the reading of commands. `demo` tells its text.
+    // `debug` and `races` tell may end where a replay stops that was begun, with 15, and that of `debug` where
+    // the reading of commands stops. `demo` tells its text.
     ensures shape { HasShape (command_in words.now) result (call S.files S.counts O.written O.faults X.written X.faults store.old out.old err.old store.new out.new err.new) }
     ensures demo { TellsDemo (command_in words.now) result (call S.files S.counts O.written O.faults X.written X.faults store.old out.old err.old store.new out.new err.new) }
 
@@ -386,7 +387,7 @@ pub fn run<S: Store, I: Source, O: Sink, X: Sink, G: Gate, R: Threads + Wait + S
     // Only `debug` reads commands, and only once its files are loaded and tested. What they make it tell
     // is told: the text of its session, up to a read that failed, a line or commands that are too long, or
     // a refusal of the replay. However it ends, each byte was read once, and none after the first `quit`, at
-    // 18 none after the first byte too many, at 14 and 15 none after the line that was refused. One more
+    // 18 none after the first byte too many, at 15 none after the line that was refused. One more
     // read finds the end of the input, or fails. A session that isn't stopped by its whole input is stopped
     // at no prefix of it. Where the log is a recording's, all that it shows is the run's, and no replay is
     // refused.

@@ -51,7 +51,7 @@ fn debug_trail<I: Source, O: Sink, X: Sink>(
 ) -> u8
     ensures told { (first : Joining) → trail.old.trace ≡ at_start first → DebugsPair names.now first result (I.left input.old) (I.left input.new) (I.faults input.old) (I.faults input.new) (I.reads input.old) (I.reads input.new)
         O.written O.faults X.written X.faults out.old err.old out.new err.new }
-    ensures begun { is_begun result ≡ true }
+    ensures begun { (is_begun result ≡ true) ⊎ (result ≡ 14) }
     ensures write { result ≡ 13 → Rose (O.faults out.old) (O.faults out.new) ⊎ Rose (X.faults err.old) (X.faults err.new) }
     ensures read_later { I.faults input.old ≤ I.faults input.new }
     ensures out_later { O.faults out.old ≤ O.faults out.new }

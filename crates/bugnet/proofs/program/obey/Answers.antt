@@ -122,7 +122,7 @@ returns-in-Ok-clause-calls g c =
     (answer-calls g.S.Store.note (RecordLine (seen_recording r)) names c.in-Ok.answer c.act.result (g.S.Store.noted c.args.store.now) (g.S.Store.noted c.record_files.new.store) (g.S.Store.noted c.act.new.store) _ _ (g.S.Store.files c.args.store.now) (g.S.Store.counts c.args.store.now) (call (g.S.Store.files) (g.S.Store.counts) (g.O.Sink.written) (g.O.Sink.faults) (g.X.Sink.written) (g.X.Sink.faults) c.record_files.new.store c.args.out.now c.args.err.now c.act.new.store c.act.new.out c.act.new.err) own
     (record-calls Answer g.S.Store.note names r c.manner_of-how.result c.is_some-has_input.result (g.S.Store.noted c.args.store.now) (g.S.Store.noted c.record_files.new.store) (Ok c.in-Ok.answer) own c.manner_of-how.ensures c.is_some-has_input.ensures c.in-Ok.ensures.calls)
     (record-cause names r c.manner_of-how.result _ _ (Ok c.in-Ok.answer) own c.manner_of-how.ensures c.in-Ok.ensures.cause)
-    (record-lean r c.manner_of-how.result c.in-Ok.answer c.manner_of-how.ensures c.in-Ok.ensures.recorded) (λ no. absurd no) c.act.ensures.calls c.act.ensures.acts.told)
+    (record-lean r c.manner_of-how.result c.in-Ok.answer c.manner_of-how.ensures c.in-Ok.ensures.recorded) (λ no. absurd no) tt c.act.ensures.calls c.act.ensures.acts.told)
 
 pub returns-in-Err-clause-demo : goal.returns-in-Err-clause-demo
 returns-in-Err-clause-demo g c = rw c.in-Record.is tt

@@ -70,7 +70,7 @@ returns-in-Err-clause-calls g c =
 pub returns-in-Ok-clause-calls : goal.returns-in-Ok-clause-calls
 returns-in-Ok-clause-calls g c =
     answer-calls g.S.Store.note (seen c.args.command.now) c.args.names.now c.in-Ok.answer c.act.result (g.S.Store.noted c.args.store.now) (g.S.Store.noted c.answer_to.new.store) (g.S.Store.noted c.act.new.store) _ _ (g.S.Store.files c.args.store.now) (g.S.Store.counts c.args.store.now) (call (g.S.Store.files) (g.S.Store.counts) (g.O.Sink.written) (g.O.Sink.faults) (g.X.Sink.written) (g.X.Sink.faults) c.answer_to.new.store c.args.out.now c.args.err.now c.act.new.store c.act.new.out c.act.new.err) c.requires.named
-    c.in-Ok.ensures.calls c.in-Ok.ensures.cause c.in-Ok.ensures.records c.in-Ok.ensures.prints c.act.ensures.calls c.act.ensures.acts.told
+    c.in-Ok.ensures.calls c.in-Ok.ensures.cause c.in-Ok.ensures.records c.in-Ok.ensures.prints c.requires.no_session c.act.ensures.calls c.act.ensures.acts.told
 
 pub returns-in-Err-clause-demo : goal.returns-in-Err-clause-demo
 returns-in-Err-clause-demo g c =
