@@ -67,6 +67,15 @@ hasnt calls "^proves low"
 has err "1 of 5, low"
 grep -q changed "$tree/crates/bugnet_main/out/bugnet_main" || fails "the old program is there"
 
+what="a change that leaves the library as it was"
+mkdir "$tree/crates/mid/proofs"
+echo "a proof" >"$tree/crates/mid/proofs/Lib.antt"
+runs 5 "$zelkuma" list LOG
+has calls "^proves mid"
+hasnt calls "^proves bugnet,"
+builds
+rm -r "$tree/crates/mid/proofs"
+
 what="the change taken back, and what the toolchain knows is as it was"
 echo "mid as it was" >"$source"
 runs 5 "$zelkuma" list LOG
