@@ -13,7 +13,7 @@ export RT_CALLS=$calls TMPDIR=$work/temporary
 
 # What the script may need of the system, and nothing else: so no other rt is found.
 mkdir -p "$work/system" "$work/kit/bin" "$TMPDIR" "$tree"
-for name in awk bash basename cat chmod cp cut dirname env find flock grep install ln mkdir nice nproc od readlink rm \
+for name in awk bash basename cat chmod cp cut dirname env find flock grep install ln mkdir nproc od readlink rm \
     sed setsid sh sha256sum sleep sort stat tail touch tr wc xargs; do
     ln -s "$(type -P "$name")" "$work/system/$name"
 done

@@ -7,11 +7,10 @@
 # the kits by which it was proved and built
 kits='rattle-kit-13f rattle-kit-13b'
 
-# How many crates to prove side by side. A proof takes up to some 3 GB. Some more than there are processors, since those
-# that are not on the longest chain give way to the others.
+# How many crates to prove side by side: one a processor. A proof takes up to some 3 GB.
 lanes() {
     {
-        echo $((processors + (processors + 1) / 2))
+        nproc
         awk '/^MemAvailable:/ { print int($2 / 3000000) }' /proc/meminfo
         # a container's limit, which is a number or `max`
         awk '$1 > 0 { print int($1 / 3000000000) }' /sys/fs/cgroup/memory.max 2>/dev/null
@@ -90,7 +89,7 @@ start() { # CRATE COMMAND..
 }
 
 # Starts the compiler on a crate, with the words by which it finds the libraries that the crate stands on.
-compile() { # CRATE NICENESS WORD..
+compile() { # CRATE WORD..
     local words it
     words=(--crate-name "$1" --links "$1=" --extern "std=$kit_top/rlibs/std.rlib" -L "dependency=$kit_top/rlibs"
         --antt-project "$kit_top/rattle/logic/antt-project.json" --logic-built "$kit_top/logic_built")
@@ -104,7 +103,7 @@ compile() { # CRATE NICENESS WORD..
     for it in $(all_below "$1"); do
         words+=(-L "dependency=$(library "$it")")
     done
-    start "$1" nice -n "$2" "$kit_top/bin/rattle" build "${@:3}" "${words[@]}"
+    start "$1" "$kit_top/bin/rattle" build "${@:2}" "${words[@]}"
 }
 
 # Waits until one of what was started ends, and sets `crate`. The status is 0 if all is well. The last lines of a failure
@@ -143,8 +142,8 @@ take_kept() { # CRATE..
 }
 
 # Proves the libraries that the program stands on, as many side by side as there are lanes. Those with the longest chains
-# come first, and the others give way to them. Where fewer can be proved than there are processors, they share these.
-# Where one fails, those that were begun still end.
+# come first. Where fewer can be proved than there are lanes, they share these. Where one fails, those that were begun
+# still end.
 prove() {
     local next place it jobs crate
     while :; do
@@ -154,9 +153,9 @@ prove() {
             it=${next[place]}
             [[ $it != bugnet_main && " ${proving[*]} " != *" $it "* ]] || continue
             [[ ${#failed[@]} -eq 0 && ${#proving[@]} -lt $ZELKUMA_LANES ]] || break
-            jobs=$((processors / ${#next[@]} + (place < processors % ${#next[@]})))
+            jobs=$((ZELKUMA_LANES / ${#next[@]} + (place < ZELKUMA_LANES % ${#next[@]})))
             rm -rf "$(library "$it")"
-            compile "$it" $((place < processors ? 0 : 10)) src/lib.rt --jobs $((jobs > 0 ? jobs : 1)) --statements -o "$(library "$it")/$it.rlib"
+            compile "$it" src/lib.rt --jobs $((jobs > 0 ? jobs : 1)) --statements -o "$(library "$it")/$it.rlib"
         done
         [ ${#proving[@]} -gt 0 ] || break
         await || continue
@@ -169,7 +168,7 @@ prove() {
 # Builds the program over its libraries. That it checks an example's log tells that it was built.
 build_program() {
     local crate
-    compile bugnet_main 0 src/main.rt --jobs "$processors" ${cpu:+"--cpu=$cpu"} --toolchain "$kit_top/toolchain" --backend llvm -o "$built.o" &&
+    compile bugnet_main src/main.rt --jobs "$ZELKUMA_LANES" ${cpu:+"--cpu=$cpu"} --toolchain "$kit_top/toolchain" --backend llvm -o "$built.o" &&
         await &&
         start bugnet_main "$kit_top/bin/rattle-link" --target x86_64-unknown-linux-gnu --toolchain "$kit_top/toolchain" -o "$built" "$built.o" \
             "$kit_top/c/libos_c.a" "$kit_top/c/liblibc_c.a" &&
@@ -182,7 +181,7 @@ build_program() {
 # Has `rt` prove and build all, crate after crate, where the toolchain isn't laid out as is known here.
 build_by_rt() {
     local crate
-    start bugnet_main rt run --jobs "$processors" ${cpu:+"--cpu=$cpu"} -- check data/example.log
+    start bugnet_main rt run --jobs "$ZELKUMA_LANES" ${cpu:+"--cpu=$cpu"} -- check data/example.log
     await
 }
 
@@ -196,7 +195,7 @@ is_known() {
 }
 
 build() {
-    local kit kit_top sources name on processors order=() proving=() failed=()
+    local kit kit_top sources name on order=() proving=() failed=()
     local -A below ended chain digest
     kit=$(kit) || stop 1 "there is no command rt of a Rattle kit here, which proves and builds the program: put the folder bin of ${kits/ / or } on PATH, or bring the program from where it is built ('zelkuma install')"
     # another kit is reported and tried, not refused
@@ -208,13 +207,11 @@ build() {
         order+=("$name")
     done < <(crates)
     measure_chains
-    processors=$(nproc)
     # from here on what is there is of no known sources, until all is built
     rm -f "$stamp"
     sources=$(sources)
     trap 'for name in "${!proving[@]}"; do kill -- "-$name" "$name"; done 2>/dev/null; wait; name=; stop 130 "stopped; the crates that are done stay proved"' INT TERM HUP
     say "proving and building the program, ${#below[@]} crates, up to ${ZELKUMA_LANES:=$(lanes)} at a time; README says how long that takes from nothing"
-    processors=$((processors < ZELKUMA_LANES ? processors : ZELKUMA_LANES)) # (few lanes may be there for want of memory)
     if is_known; then
         prove
         [ ${#failed[@]} -gt 0 ] || build_program

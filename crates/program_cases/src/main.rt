@@ -40,6 +40,7 @@
 //! each stand the harts that are live.
 #![tactic(auto)]
 
+mod closed_runs;
 mod files;
 mod hex;
 mod machine;
@@ -48,7 +49,6 @@ mod runs;
 mod script;
 mod serving;
 mod telling;
-mod whole_runs;
 mod words;
 
 use script::Case;

@@ -1,9 +1,9 @@
 // The lines of a script that are about runs below the top call.
 ghost use Rattle.std.specs.Prelude.{◌≤◌};
 
+use crate::closed_runs::{by_number, by_turns, with_list};
 use crate::hex;
 use crate::serving::{run_plain, run_steps};
-use crate::whole_runs::{by_number, by_turns, with_list};
 use crate::words::{code, harts, number};
 use bn_base::{HartId, Image, RawSettings, Segment, Settings};
 use bn_outside::{FullBook, LeanBook};
