@@ -7,7 +7,7 @@ use joint_replay::Stepped;
 
 /// A step that was taken: its hart, the hart's count there, and the pc of its row, if it gave one.
 // All that a search for a breakpoint needs: so `rgo` of the debugger takes steps only once it has found one.
-#[derive(Clone, Copy, Debug, PartialEq, Eq, Drop)]
+#[derive(Clone, Copy, PartialEq, Eq, Drop)]
 pub struct Entry {
     pub hart: HartId,
     pub ic: Ic,

@@ -6,7 +6,7 @@ use crate::register::Register;
 use std::marker::Model;
 
 /// The contents of the 32 integer registers; x0 always holds 0 (RISC-V unprivileged ISA, 2.1).
-#[derive(Clone, Copy, Debug, PartialEq, Eq, Drop)]
+#[derive(Clone, Copy, PartialEq, Eq, Drop)]
 pub struct Registers {
     contents: [u32; 32],
 }

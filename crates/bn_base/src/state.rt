@@ -4,7 +4,7 @@ use crate::registers::Registers;
 
 /// A hart between two instructions: the address of the next one, the registers,
 /// and the number of instructions done so far.
-#[derive(Clone, Copy, Debug, PartialEq, Eq, Drop)]
+#[derive(Clone, Copy, PartialEq, Eq, Drop)]
 pub struct HartState {
     pub pc: u32,
     pub x: Registers,

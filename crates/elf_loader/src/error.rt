@@ -7,7 +7,7 @@ use std::alloc::AllocError;
 use thiserror::Error;
 
 /// Why a file is refused. Segments are named by their place in the program header table.
-#[derive(Clone, Copy, Debug, PartialEq, Eq, Drop, Error)]
+#[derive(Clone, Copy, Debug, Drop, Error)]
 pub enum ElfError {
     /// The file doesn't begin with the magic number.
     #[error("not an ELF file")]

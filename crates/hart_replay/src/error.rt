@@ -3,7 +3,7 @@ use bn_base::{Addr, EndMark, HartId, Ic};
 use thiserror::Error;
 
 /// Why the replay of an interval can't be done, or doesn't end as its log says.
-#[derive(Clone, Copy, Debug, PartialEq, Eq, Drop, Error)]
+#[derive(Clone, Copy, Debug, Drop, Error)]
 pub enum ReplayError {
     /// No kept Header has this hart and interval.
     #[error("no interval {interval} of hart {hart}")]

@@ -6,7 +6,7 @@ use bn_base::{EndMark, HartId, Ic, Registers};
 use le_numbers::laws::numbers_have_their_width;
 
 /// One record of a log. Each belongs to a hart.
-#[derive(Clone, Copy, Debug, PartialEq, Eq, Drop)]
+#[derive(Clone, Copy, PartialEq, Eq, Drop)]
 pub enum Record {
     /// A checkpoint interval begins: its number, the instructions that its hart has done before,
     /// and the hart's pc and registers (BugNet, ISCA 2005, "checkpoint").
