@@ -17,6 +17,7 @@ use Rattle.step_debugger.specs.Lines.{Reading, Input, input_from, input_of, with
 use Rattle.step_debugger.specs.Answers.{Session, Answer, says, answer, begin_at}
 use Rattle.step_debugger.specs.Transcript.{behind, goes_on_by, answers, lines_in, Told, result_by, transcript_from, EndsThere, EndsAll, Debugs, WritesUpTo, StopsAtLine, StopsAtEnd, StopsInLine, ReadsUpTo, Debugged, IsReadOnce, CountedSession}
 use Rattle.step_debugger.specs.Goings.{Stops, SendsPart}
+use Rattle.step_debugger.specs.Turns.{TakesLine}
 use Rattle.step_debugger.proofs.ReadCounts.{joined_reads, joined_one, not_read_once, read_once}
 use Rattle.step_debugger.proofs.Sent.{part_longer, part_behind, part_whole, part_of_cut, rose_later}
 
@@ -383,3 +384,30 @@ ends_counted j s old new left now_left next_left written now_written next_writte
     joined_one t.stands.gone c.line.gone reads mid now t.read c.count,
   );
 }
+
+-- ---- one line of a session
+
+module _ (j : Trace) (s next : Session) (old new : Reading) (left now_left next_left written now_written next_written : Option (List ℕ)) (start before after write_start write_before write_after reads mid now : ℕ)
+    (t : CountedStands j s old.count left now_left written now_written reads mid) where
+  -- the session goes on behind it
+  pub line_more : TakesLine s next old new now_left next_left before after mid now now_written next_written write_before write_after (Ok true) → CountedStands j next new.count left next_left written next_written reads now
+  line_more a = subst (λ (x : Session). CountedStands j x new.count left next_left written next_written reads now) (sym a.session)
+      (counted_more j s old new left now_left next_left written now_written before after next_written reads mid now t a.read a.ends a.sent)
+
+  -- the session ends with it
+  pub line_last : TakesLine s next old new now_left next_left before after mid now now_written next_written write_before write_after (Ok false) → CountedSession j left next_left start after reads now written next_written write_start write_after (Ok (tt {0}))
+  line_last (inl a) = ends_counted j s old new left now_left next_left written now_written next_written start before after write_start write_after reads mid now t a.read a.ends a.sent
+  line_last (inr (whole, a)) =
+      quits_counted j s old new left now_left next_left written now_written next_written start before after write_start write_before write_after whole t.stands a.read.line reads mid now t.read a.read.count a.ends a.sent
+
+  -- an error stops it
+  pub line_fails : (e : DebugError) → start ≤ before → write_start ≤ write_before → TakesLine s next old new now_left next_left before after mid now now_written next_written write_before write_after (Err e)
+      → CountedSession j left next_left start after reads now written next_written write_start write_after (Err e)
+  line_fails e fell wrote (inl m) =
+      subst (λ (x : Option (List ℕ)). CountedSession j left next_left start after reads now written x write_start write_after (Err e)) (sym m.same)
+      (not_read_counted j s old new left now_left next_left written now_written start before after write_start write_after t.stands fell reads mid now e t.read m.read)
+  line_fails e fell wrote (inr (inl (whole, c))) =
+      not_sent_counted j s old new left now_left next_left written now_written next_written start before after write_start write_before write_after whole t.stands c.read.line reads mid now t.read c.read.count e wrote (c.sent, c.stops)
+  line_fails e fell wrote (inr (inr (whole, f, is, a))) =
+      subst (λ (x : DebugError). CountedSession j left next_left start after reads now written next_written write_start write_after (Err x)) (sym is)
+      (refused_counted j s old new left now_left next_left written now_written next_written start before after write_start write_before write_after whole t.stands a.read.line reads mid now t.read a.read.count f a.ends a.sent)

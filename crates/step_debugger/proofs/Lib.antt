@@ -3,6 +3,7 @@ pub mod Bytes
 pub mod Stepping
 pub mod Sent
 pub mod Saying
+pub mod Taken
 pub mod Lasting
 pub mod Worked
 pub mod WaysBack

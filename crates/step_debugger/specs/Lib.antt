@@ -4,4 +4,5 @@ pub mod Lines
 pub mod Answers
 pub mod Transcript
 pub mod Goings
+pub mod Turns
 pub mod Examples

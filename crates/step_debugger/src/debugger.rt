@@ -1,6 +1,7 @@
 //! The debugger.
 ghost use Rattle.std.specs.Prelude.{◌≤◌};
-ghost use Rattle.step_debugger.specs.Goings.{StopsApart};
+ghost use Rattle.step_debugger.specs.Goings.{session_of, StopsApart};
+ghost use Rattle.step_debugger.specs.Turns.{TakesLine, LineApart};
 ghost use Rattle.step_debugger.specs.Transcript.{Debugged, CountedSession};
 
 use crate::error::DebugError;
@@ -11,6 +12,35 @@ use back_step::Trail;
 use bn_outside::{Sink, Source};
 use rv_text::Text;
 use std::alloc::Global;
+
+// Reads the next line and does its command: whether the session goes on behind it.
+fn answer_next<I: Source, O: Sink>(
+    trail: &mut Trail,
+    focus: &mut Focus,
+    reader: &mut LineReader,
+    text: &mut Text,
+    input: &mut I,
+    out: &mut O,
+) -> Result<bool, DebugError>
+    ensures taken { TakesLine (session_of trail.old.trace focus.old) (session_of trail.new.trace focus.new) reader.old reader.new (I.left input.old) (I.left input.new)
+        (I.faults input.old) (I.faults input.new) (I.reads input.old) (I.reads input.new) (O.written out.old) (O.written out.new) (O.faults out.old) (O.faults out.new) result }
+    ensures apart { LineApart trail.old.trace result trail.new.trace }
+    ensures read { I.faults input.old ≤ I.faults input.new }
+    ensures later { O.faults out.old ≤ O.faults out.new }
+{
+    let whole = match reader.next(input) {
+        Err(failed) => return Err(failed),
+        Ok(whole) => whole,
+    };
+    match answer(trail, focus, reader.line(), text, out) {
+        Err(error) => Err(error),
+        Ok(ending) => match ending {
+            Ending::GoesOn => Ok(whole),
+            Ending::Quits => Ok(false),
+            Ending::Refused(error) => Err(DebugError::Joint(error)),
+        },
+    }
+}
 
 /// Reads commands from `input`, a line each, does them on a joint replay with its trail, and writes their answers
 /// to `out`, each as soon as its command is done.
@@ -42,20 +72,11 @@ pub fn debug<I: Source, O: Sink>(
     };
     let mut text = Text::new(alloc);
     'lines: loop {
-        match reader.next(input) {
+        match answer_next(trail, &mut focus, &mut reader, &mut text, input, out) {
             Err(error) => return Err(error),
-            Ok(whole) => {
-                match answer(trail, &mut focus, reader.line(), &mut text, out) {
-                    Err(error) => return Err(error),
-                    Ok(ending) => match ending {
-                        Ending::GoesOn => {
-                            if !whole {
-                                return Ok(());
-                            }
-                        }
-                        Ending::Quits => return Ok(()),
-                        Ending::Refused(error) => return Err(DebugError::Joint(error)),
-                    },
+            Ok(goes_on) => {
+                if !goes_on {
+                    return Ok(());
                 }
             }
         }
