@@ -1,6 +1,8 @@
 -- A turn of a plain machine is a turn of its run.
-use Rattle.std.proofs.Common.{◌≡◌, ℕ, zero, suc, ◌+◌, ◌<◌, ◌≤◌, ◌^◌, Bool, true, List, [], ◌∷◌, length, sym, ◌∙◌, ap, subst, arith}
-use Rattle.std.specs.Prelude.{Option, IsTrue, slice_get}
+use Rattle.std.proofs.Common.{◌≡◌, ℕ, zero, suc, ◌+◌, ◌<◌, ◌≤◌, ◌^◌, Bool, true, false, List, [], ◌∷◌, length, get_or, sym, ◌∙◌, ap, subst, arith, refl, inl, inr}
+use Rattle.std.specs.Prelude.{Option, IsTrue, slice_get, ◌&&◌, nat_lt}
+use Rattle.std.proofs.lemmas.Option.{slice_get-get_or}
+use Rattle.std.proofs.lemmas.Bool.Decides.{leb_tells}
 use Rattle.bn_base.specs.Programs.{Program}
 use Rattle.bn_base.specs.declared.settings.RawSettings.{RawSettings}
 use Rattle.bn_base.specs.declared.state.HartState.{HartState}
@@ -12,7 +14,9 @@ use Rattle.run_model.specs.declared.hart.Hart.{Hart}
 use Rattle.run_model.specs.Machine.{call_of}
 use Rattle.run_model.specs.Turn.{Run, serve, serve_call, serve_orderly, served_if, turn, ask_at, is_orderly, is_guarded, budget}
 use Rattle.run_model.specs.Counts.{IsFit}
-use Rattle.run_model.specs.Represents.Harts.{is_live_hart, hart_in}
+use Rattle.run_model.specs.Runs.{is_live}
+use Rattle.run_model.specs.Represents.Harts.{AreHarts, is_live_hart, hart_in}
+use Rattle.run_model.proofs.Fits.{lt_is}
 use Rattle.run_model.proofs.MoveOn.{budget_limit, both}
 
 pub live_within : (hs : List Hart) (k : ℕ) → is_live_hart (slice_get hs k) ≡ true → (k < length hs) × ((hart_in hs k).live ≡ true)
@@ -20,6 +24,30 @@ live_within [] zero e = cc
 live_within [] (suc k) e = cc
 live_within (h ∷ hs) zero e = (omega arith, e)
 live_within (h ∷ hs) (suc k) e = let rest = live_within hs k e in (omega (arith, rest.0), rest.1)
+
+-- the list says of a hart that is there whether it is live
+pub live_there : (hs xs : List Hart) (k i : ℕ) (x : Hart) → xs ≡ hs → i ≡ k → i < length xs → x ≡ get_or xs i x → x.live ≡ is_live_hart (slice_get hs k)
+live_there hs xs k i x same at below e =
+    ap (λ (h : Hart). h.live) e
+    ∙ sym (ap is_live_hart (slice_get-get_or xs i x below))
+    ∙ ap (λ (ys : List Hart). is_live_hart (slice_get ys i)) same
+    ∙ ap (λ (n : ℕ). is_live_hart (slice_get hs n)) at
+
+-- past the list's end none is live
+pub none_live : (hs : List Hart) (k : ℕ) → length hs ≤ k → false ≡ is_live_hart (slice_get hs k)
+none_live [] k past = refl
+none_live (h ∷ hs) zero past = absurd (omega (arith, past))
+none_live (h ∷ hs) (suc k) past = none_live hs k (omega (arith, past))
+
+past_all : (k n : ℕ) → n ≤ k → nat_lt k n ≡ false
+past_all k n e = grind arith
+
+-- and so it is in the run that the list stands for
+pub live_in_run : (c : RawSettings) (run : Run) (hs : List Hart) (k : ℕ) → AreHarts hs run.harts → length hs ≡ c.harts → is_live_hart (slice_get hs k) ≡ is_live c run k
+live_in_run c run hs k are len = elim (leb_tells c.harts k) [
+  | inl p ↦ sym (none_live hs k (omega (arith, p.1, len))) ∙ sym (ap (λ (b : Bool). b && (run.harts k).live) (past_all k c.harts p.1))
+  | inr p ↦ ap is_live_hart (are k (omega (arith, p.1, len))) ∙ sym (ap (λ (b : Bool). b && (run.harts k).live) (lt_is k c.harts p.1))
+]
 
 -- what a hart asks next is orderly
 pub asked_orderly : ((i : Program) (n : ℕ) (s : HartState) → s.ic + n < 2 ^ 64 → IsTrue (orderly i s.ic n (ask_of i n s))) → (c : RawSettings) (i : Program) (h : Hart) (ask : Ask) → c.limit ≤ 2 ^ 40 → IsFit c h → ask ≡ ask_at c i h → IsTrue (is_orderly c i h ask)

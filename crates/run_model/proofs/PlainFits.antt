@@ -16,7 +16,8 @@ use Rattle.system_calls.specs.declared.effect.Plan.{Plan}
 use Rattle.first_load_bits.specs.declared.warm.Warm.{Warm}
 use Rattle.first_load_bits.specs.declared.warm.Warm.TheVariants as answers
 use Rattle.race_log.specs.Sweep.{has_bit}
-use Rattle.race_log.specs.Represents.{harts_of, lasting_of, next_turn, next_count}
+use Rattle.race_log.specs.Points.{Point}
+use Rattle.race_log.specs.Represents.{RepresentsAccesses, KnowsSame, harts_of, lasting_of, next_turn, next_count}
 use Rattle.run_model.specs.declared.hart.Hart.{Hart}
 use Rattle.run_model.specs.declared.turn_end.TurnEnd.{TurnEnd}
 use Rattle.run_model.specs.declared.turn_end.TurnEnd.TheVariants.{GoesOn, NewInterval, HartOver, RunOver}
@@ -28,7 +29,7 @@ use Rattle.run_model.specs.Counts.{IsRested, MovesOn, AskMovesOn, EachTurnMovesO
 use Rattle.run_model.specs.Represents.EachCache.{AreCaches, steps_in, touched_word, touches}
 use Rattle.run_model.specs.Represents.Harts.{AreHarts, hart_in, all_left}
 use Rattle.run_model.specs.Represents.Logs.{taken, IsLog, is_marked_next}
-use Rattle.run_model.specs.Represents.Plain.{IsTrace, IsTraceFit, IsHartFit, IsSwept, count_after, clears}
+use Rattle.run_model.specs.Represents.Plain.{IsTrace, IsTraceFit, IsHartFit, IsSwept, everyone, count_after, clears}
 use Rattle.run_model.proofs.Fits.{fit_by, fewer_left, fit_other, no_more_left}
 use Rattle.run_model.proofs.Asked.{IsOwnFit, IsAsked, all_less, if_true, if_false, eqb_same}
 
@@ -256,4 +257,14 @@ swept_trace c old new run is swept harts caches log = record {
   shadow = swept.stands run.points is.shadow;
   log = subst (λ (l : Log). IsLog l run.stream) (sym log) is.log;
   bytes = ap (λ (l : Log). l.bytes) log ∙ is.bytes;
+}
+
+-- a race log that finds memory gives up nothing
+pub found_room : (old new : Trace) → ((points : List Point) → RepresentsAccesses points everyone old.shadow → RepresentsAccesses points everyone new.shadow) → KnowsSame old.shadow new.shadow → IsSwept old.shadow new.shadow old.harts.items
+found_room old new stands same = record {
+  stands = stands;
+  harts = same.harts;
+  turn = same.turn;
+  counts = λ k. same.times k k;
+  lasting = λ k below live was. ap (λ (set : ℕ). has_bit set k) same.lasting ∙ was;
 }

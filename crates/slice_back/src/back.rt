@@ -1,5 +1,10 @@
 //! The backward slice of a row.
-ghost use Rattle.std.specs.Prelude.{◌≡◌};
+ghost use Rattle.std.specs.Prelude.{◌≡◌, ℕ, List};
+ghost use Rattle.bn_base.specs.Programs.{Program};
+ghost use Rattle.log_record.specs.declared.record.Record.{Record};
+ghost use Rattle.hart_replay.specs.Coming.{Begins};
+ghost use Rattle.hart_replay.specs.Replay.{interval_of};
+ghost use Rattle.slice_back.specs.FirstLoads.{AreLoadsOf};
 ghost use Rattle.slice_back.specs.Answers.{IsAnswer};
 
 use crate::error::SliceError;
@@ -10,6 +15,7 @@ use crate::slicing::slice_of;
 use bn_base::{Ic, Image, Registers};
 use hart_replay::Replayer;
 use log_order::KeptLog;
+use log_record::RecordList;
 use std::alloc::Global;
 
 /// The backward slice of the row of a count in an interval of a hart, by data alone: the rows that it
@@ -30,16 +36,41 @@ pub fn slice(
 ) -> Result<Slice, SliceError>
     ensures { IsAnswer image.now log.now.records hart interval ic result }
 {
-    let mut replayer = match Replayer::begin(alloc, image, log, hart, interval) {
-        Ok(replayer) => replayer,
-        Err(error) => return Err(SliceError::Replay(error)),
-    };
+    match Replayer::begin(alloc, image, log, hart, interval) {
+        Ok(mut replayer) => { slice_begun(alloc, &mut replayer, log.records(), hart, interval, ic) }
+        Err(error) => Err(SliceError::Replay(error)),
+    }
+}
+
+// The slice of the interval that a replayer begins.
+fn slice_begun(
+    alloc: Global,
+    replayer: &mut Replayer,
+    records: &RecordList,
+    hart: u64,
+    interval: u64,
+    ic: Ic,
+) -> Result<Slice, SliceError>
+    ensures { (image : Program) → Begins image hart interval records.now replayer.old → IsAnswer image records.now hart interval ic result }
+{
+    match first_loads(alloc, hart, interval, records) {
+        Ok(loads) => slice_by(alloc, replayer, &loads, ic),
+        Err(_) => Err(SliceError::OutOfMemory),
+    }
+}
+
+// The same, by the interval's first loads.
+fn slice_by(
+    alloc: Global,
+    replayer: &mut Replayer,
+    loads: &[(u32, u32)],
+    ic: Ic,
+) -> Result<Slice, SliceError>
+    ensures { (image : Program) (records : List Record) (hart interval : ℕ) → Begins image hart interval records replayer.old →
+        AreLoadsOf (interval_of hart interval records) loads.now → IsAnswer image records hart interval ic result }
+{
     let start = replayer.state().x;
-    let loads = match first_loads(alloc, hart, interval, log.records()) {
-        Ok(loads) => loads,
-        Err(_) => return Err(SliceError::OutOfMemory),
-    };
-    match rows_up_to(alloc, &mut replayer, &loads, ic) {
+    match rows_up_to(alloc, replayer, loads, ic) {
         Err(error) => Err(error),
         Ok(None) => Err(SliceError::NoRow { ic }),
         Ok(Some(noted)) => match slice_of(alloc, &start, &noted) {

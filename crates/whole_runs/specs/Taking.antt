@@ -6,7 +6,7 @@ use Rattle.rv_meaning.specs.declared.asks.Reply.{Reply}
 use Rattle.bus_core.specs.Bus.{Began, Seen, turn_row}
 use Rattle.bus_core.specs.declared.closed.Closed.{Closed}
 use Rattle.whole_runs.specs.Closed.{IsClosed}
-use Rattle.whole_runs.specs.Lists.{HasTaken, list_run, is_legal}
+use Rattle.whole_runs.specs.Lists.{HasTaken, list_run, is_legal, is_finished, seeded_after}
 use Rattle.whole_runs.specs.HartTurns.{IsServed, row_of}
 
 -- what is seen of it: the bus, whether the list is kept, and what is kept of it
@@ -56,6 +56,14 @@ pub record IsOwnTurn (b : Began) (old new : Taking) (h : ℕ) (ask : Ask) (answe
 abbrev pub kept_with : Bool → List ℕ → List ℕ → List ℕ
 kept_with true list more = list ++ more
 kept_with false list more = list
+
+-- the turns of seed 0 finish the run of a bus; they are kept behind a list
+pub record Finishes (tells : Bool) (old new : Seen) (keeps : Bool) (before after : List ℕ) : Type 0 where
+  pub more : List ℕ
+  pub kept : after ≡ kept_with keeps before more
+  pub chosen : (list : List ℕ) → HasTaken tells old list → more ≡ seeded_after old.began list 0
+  pub taken : (list : List ℕ) → HasTaken tells old list → HasTaken tells new (list ++ more)
+  pub finished : (list : List ℕ) → HasTaken tells old list → is_finished new.began (list ++ more) ≡ true
 
 -- a closed bus after the turns of a legal and finished list, which is the one that is kept, if one is
 pub record IsClosedBy {B : _} (tells : Bool) (b : Began) (keeps : Bool) (closed : Closed B) (kept : List ℕ) (rows : List TurnRow) : Type 0 where

@@ -5,13 +5,14 @@ ghost use Rattle.run_model.specs.Runs.{seeded};
 ghost use Rattle.bus_core.specs.Bus.{began_of};
 ghost use Rattle.whole_runs.specs.Closed.{IsOfRows};
 ghost use Rattle.whole_runs.specs.Lists.{seeded_after};
-ghost use Rattle.whole_runs.specs.Taking.{kept_with, IsClosedBy};
+ghost use Rattle.whole_runs.specs.Taking.{kept_with, Finishes, IsClosedBy};
 
 use crate::listed::Listed;
 use crate::listed_bus::{Beginning, ListedBus};
 use crate::runs::run_listed;
 use crate::turns::{close, finish};
 use bn_outside::Book;
+use bus_core::Bus;
 use run_model::Start;
 use rv_meaning::DecodedImage;
 use std::alloc::{AllocError, Global};
@@ -25,6 +26,23 @@ fn joined(list: Vec<u8>, keeps: bool, more: &[u8]) -> Result<Vec<u8>, AllocError
         list.extend_from_slice(more)?;
     }
     Ok(list)
+}
+
+// Finishes the run of a bus by the turns of seed 0, and keeps them behind a list.
+fn finish_kept<B: Book>(
+    alloc: Global,
+    code: &DecodedImage,
+    bus: &mut Bus<B>,
+    list: Vec<u8>,
+    keeps: bool,
+) -> Result<Vec<u8>, AllocError>
+    requires { code.now ≡ bus.old.began.image }
+    ensures finished { IfOk result (λ all. Finishes B.tells bus.old bus.new keeps list.items all.items) }
+    ensures began { bus.new.began ≡ bus.old.began }
+    ensures halted { bus.new.halted ≡ bus.old.halted }
+{
+    let more = finish(alloc, code, bus, 0)?;
+    joined(list, keeps, &more)
 }
 
 /// Finishes the run of a bus by the turns of seed 0, where harts are still live; where it was halted, the
@@ -52,8 +70,7 @@ pub fn finish_listed<J: Beginning, B: Book>(
         of: _,
     } = own;
     let mut bus = bus;
-    let more = finish(alloc, code, &mut bus, 0)?;
-    let list = joined(list, keeps, &more)?;
+    let list = finish_kept(alloc, code, &mut bus, list, keeps)?;
     let closed = close(bus);
     if closed.finished {
         return Ok(Listed { closed, list });

@@ -17,6 +17,7 @@ use Rattle.run_model.proofs.PlainRuns.{traced, race_ready}
 use Rattle.run_model.proofs.Asked.{asked_fit, asked_counts, few_steps, few_steps_more, low_number, few_skipped, some_room, eqb_same, if_true}
 use Rattle.run_model.proofs.PlainFits.{fit_traced, swept_fit, swept_trace, next_marked, two_ifs}
 use Rattle.run_model.proofs.Meant.{meant, is_meant}
+use Rattle.run_model.proofs.OneTurn.{passes_of}
 use Rattle.run_model.proofs.plain.Plain.apply.Goals as goal
 
 pub returns-clause-run : goal.returns-clause-run
@@ -201,3 +202,19 @@ forget-requires-clause-shadow c =
     let q = asked_fit c.guarded_asks_fit.ensures p.start.settings p.start.image p.trace c.guard.new.self p.turns c.args.hart c.args.ask.now c.is_guarded-guarded.result p.fits c.requires.hart c.requires.live c.requires.orderly
     c.is_guarded-guarded.ensures.uncut c.guard.ensures.anew c.guard.ensures.same in
     ap harts_of c.finish-next.ensures.finished.shadow ∙ c.access-load.ensures.noted.harts ∙ q.shadow ∙ sym (c.finish-next.ensures.finished.len ∙ ap (λ (v : Vec Hart Global). length v.items) c.access-load.ensures.harts ∙ q.harts)
+
+-- ---- the machine's part
+
+pub word_before-word-requires-clause-size : goal.word_before-word-requires-clause-size
+word_before-word-requires-clause-size c = c.args.self.now.memory
+
+pub word_before-word-requires-clause-passes : goal.word_before-word-requires-clause-passes
+word_before-word-requires-clause-passes c =
+    let p = c.args.self.now in
+    passes_of p.start.settings p.start.image (hart_in p.trace.harts.items c.args.hart) c.args.ask.now c.requires.orderly
+
+pub answer-reply-requires-clause-hart : goal.answer-reply-requires-clause-hart
+answer-reply-requires-clause-hart c = let p = c.args.self.now in omega (arith, c.requires.hart, p.fits.few)
+
+pub access-load-requires-clause-addresses : goal.access-load-requires-clause-addresses
+access-load-requires-clause-addresses c = c.requires.addresses c.answer-reply.result

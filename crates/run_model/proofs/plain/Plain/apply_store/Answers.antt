@@ -27,9 +27,10 @@ use Rattle.run_model.specs.Represents.InPlace.{ask_here}
 use Rattle.run_model.specs.Turn.{span, serve_call, next_of, hart_after, harts_after, skipped_after, points_after, point_of, edge_records, load_record, sc_record, warmth, events_after, next_records, run_over_records}
 use Rattle.run_model.specs.Represents.Plain.{IsTrace, everyone, count_after, clears}
 use Rattle.run_model.specs.Counts.{is_loading}
+use Rattle.run_model.proofs.OneTurn.{passes_of}
 use Rattle.run_model.proofs.Owns.{hart_at, hart_of_run}
 use Rattle.run_model.proofs.PlainRuns.{traced}
-use Rattle.run_model.proofs.Asked.{as_it_is, IsAsked, few_steps_more, low_number, few_skipped, some_room, eqb_same, if_true}
+use Rattle.run_model.proofs.Asked.{as_it_is, IsAsked, few_steps, few_steps_more, asked_counts, low_number, few_skipped, some_room, eqb_same, if_true}
 use Rattle.run_model.proofs.PlainFits.{next_marked}
 use Rattle.run_model.proofs.PlainFits.{fit_traced, swept_fit, swept_trace, two_ifs}
 use Rattle.run_model.proofs.Meant.{meant, is_meant}
@@ -154,3 +155,60 @@ finish_here-next-requires c =
           (next_marked c.each_turn_moves_on.ensures settings p.start.image m t p.turns k ask None reply q refl c.store-reply.ensures.reply);
       room = some_room settings p.turns _ (taken a.new.self.log.ring) 18 q.few q.settings.limit_high q.left (omega (arith, q.log, a.ensures.accessed.took)) (omega arith);
     }
+
+pub word_before-word-requires-clause-size : goal.word_before-word-requires-clause-size
+word_before-word-requires-clause-size c = c.args.self.now.memory
+
+pub word_before-word-requires-clause-passes : goal.word_before-word-requires-clause-passes
+word_before-word-requires-clause-passes c =
+    let p = c.args.self.now in
+    let settings = p.start.settings in
+    let k = c.args.hart in
+    let t = p.trace in
+    let h : Hart = hart_in t.harts.items k in
+    let ask : Ask = ask_here h (Store c.args.addr c.args.width c.args.value) in
+    passes_of settings p.start.image h ask c.requires.orderly
+
+pub index-requires : goal.index-requires
+index-requires c = let p = c.args.self.now in omega (arith, c.requires.hart, p.fits.harts)
+
+pub access_store-load-requires : goal.access_store-load-requires
+access_store-load-requires c =
+    let p = c.args.self.now in
+    let settings = p.start.settings in
+    let k = c.args.hart in
+    let t = p.trace in
+    let h : Hart = hart_in t.harts.items k in
+    let ask : Ask = ask_here h (Store c.args.addr c.args.width c.args.value) in
+    let q : IsAsked settings p.start.image t p.turns k ask = as_it_is settings p.start.image t p.turns k ask p.fits c.requires.hart c.requires.live c.requires.orderly in
+    let counts = asked_counts c.each_turn_moves_on.ensures settings p.start.image t p.turns k ask q in
+    let x = c.index.result.now in
+    let within : k < length t.harts.items = omega (arith, c.requires.hart, p.fits.harts) in
+    let ic : x.state.ic ≡ h.state.ic = ap (λ (y : Hart). y.state.ic) (hart_at t.harts.items k x within c.index.ensures) in
+    record {
+      hart = within;
+      caches = omega (arith, q.within, q.caches);
+      steps = few_steps settings h (steps_in t.caches k) q.own.fit q.settings.limit_high q.own.steps;
+      note = record {
+        shadow = omega (arith, q.within, q.shadow);
+        few = omega (arith, q.shadow, q.few);
+        ic = omega (arith, ic, counts.limit, q.settings.limit_high);
+        ready = c.requires.race;
+        turns = q.turn;
+        counts = omega (arith, ic, counts.from, q.own.count);
+        lasting = q.own.lasting q.live;
+      };
+      room = some_room settings p.turns _ (taken t.log.ring) 17 q.few q.settings.limit_high q.left (omega (arith, q.log)) (omega arith);
+    }
+
+pub forget-requires-clause-few : goal.forget-requires-clause-few
+forget-requires-clause-few c =
+    let p = c.args.self.now in
+    omega (arith, p.fits.few, p.fits.harts, ap (λ (v : Vec Hart Global). length v.items) c.access_store-load.ensures.accessed.harts, c.finish_here-next.ensures.finished.len)
+
+pub forget-requires-clause-shadow : goal.forget-requires-clause-shadow
+forget-requires-clause-shadow c =
+    let p = c.args.self.now in
+    let a = c.access_store-load.ensures.accessed in
+    let f = c.finish_here-next.ensures.finished in
+    ap harts_of f.shadow ∙ a.noted.harts ∙ p.fits.shadow ∙ sym (f.len ∙ ap (λ (v : Vec Hart Global). length v.items) a.harts ∙ p.fits.harts)

@@ -366,3 +366,92 @@ returns-clause-refused c =
     ] in
     let like : IsLike p.trace c.put_back.new.self = back p.trace on c.match-want.self.1.1.1.0 c.put_back.new.self k s c.state-before.result.now live.0 c.state-before.ensures moved aside.like c.put_back.ensures.moved in
     on_err_weaker c.take_in_parts.result (λ each run is. each run (stands_on (parts p) _ run aside.start_is aside.machine_is aside.turns_is is.machine (like_trace p.start.settings p.trace c.put_back.new.self run is.trace like) is.turns)) c.take_in_parts.ensures.refused
+
+pub state-before-requires : goal.state-before-requires
+state-before-requires c =
+    let p = c.args.self.now in
+    let live = live_within p.trace.harts.items c.args.hart c.requires.live in
+    omega (arith, live.0, p.fits.harts)
+
+pub move_on-want-requires : goal.move_on-want-requires
+move_on-want-requires c = (live_within c.args.self.now.trace.harts.items c.args.hart c.requires.live).0
+
+pub ready_load-requires-clause-hart : goal.ready_load-requires-clause-hart
+ready_load-requires-clause-hart c =
+    let p = c.args.self.now in
+    let live = live_within p.trace.harts.items c.args.hart c.requires.live in
+    omega (arith, live.0, p.fits.harts)
+
+pub ready_load-requires-clause-loads : goal.ready_load-requires-clause-loads
+ready_load-requires-clause-loads c =
+    let p = c.args.self.now in let k = c.args.hart in let h : Hart = hart_in p.trace.harts.items k in
+    let live = live_within p.trace.harts.items k c.requires.live in
+    let within : k < p.start.settings.harts = omega (arith, live.0, p.fits.harts) in
+    let fit = (p.fits.each k within).fit in
+    let ask : Ask = ask_at p.start.settings p.start.image h in
+    let s : HartState = ask.state in
+    let o = asked_orderly c.each_ask_is_orderly.ensures.orderly p.start.settings p.start.image h ask p.fits.settings.limit_high fit.fit refl in
+    let want : Want = Load c.in-Load.addr c.in-Load.width c.in-Load.signed c.in-Load.rd in
+    let is_want : ask.want ≡ want = ap (λ (i : Program). (ask_at p.start.settings i h).want) (sym c.requires.code) ∙ sym c.move_on-want.ensures.want ∙ c.in-Load.is in
+    let own : IsTrue (is_orderly p.start.settings p.start.image h (record { state = s; want = want })) = subst (λ (w : Want). IsTrue (is_orderly p.start.settings p.start.image h (record { state = s; want = w }))) is_want o in
+    (both (is_aligned c.in-Load.addr c.in-Load.width) _ (passes_of p.start.settings p.start.image h (record { state = s; want = want }) own)).1
+
+pub apply_load-requires-clause-hart : goal.apply_load-requires-clause-hart
+apply_load-requires-clause-hart c =
+    let p = c.args.self.now in
+    let live = live_within p.trace.harts.items c.args.hart c.requires.live in
+    let within : c.args.hart < p.start.settings.harts = omega (arith, live.0, p.fits.harts) in
+    subst (λ (x : Start). c.args.hart < x.settings.harts) (sym c.ready_load.ensures.swept.start) within
+
+pub apply_load-requires-clause-live : goal.apply_load-requires-clause-live
+apply_load-requires-clause-live c =
+    let p = c.args.self.now in let k = c.args.hart in let h : Hart = hart_in p.trace.harts.items k in
+    let live = live_within p.trace.harts.items k c.requires.live in
+    let s : HartState = (ask_at p.start.settings p.start.image h).state in
+    let moved : IsMoved k s p.trace c.move_on-want.new.self = subst (λ (i : Program). IsMoved k (ask_at p.start.settings i h).state p.trace c.move_on-want.new.self) c.requires.code c.move_on-want.ensures.moved in
+    ap (λ (v : Vec Hart Global). (hart_in v.items k).live) c.ready_load.ensures.swept.harts ∙ ap (λ (y : Hart). y.live) (own_moved p.trace c.move_on-want.new.self k s moved live.0) ∙ live.1
+
+pub apply_load-requires-clause-race : goal.apply_load-requires-clause-race
+apply_load-requires-clause-race c = c.if-ready_load.ensures.ready refl
+
+pub returns-then-ready_load-clause-start : goal.returns-then-ready_load-clause-start
+returns-then-ready_load-clause-start c = c.apply_load.ensures.start ∙ c.ready_load.ensures.swept.start
+
+pub ready_store-requires-clause-hart : goal.ready_store-requires-clause-hart
+ready_store-requires-clause-hart c =
+    let p = c.args.self.now in
+    let live = live_within p.trace.harts.items c.args.hart c.requires.live in
+    omega (arith, live.0, p.fits.harts)
+
+pub apply_store-requires-clause-hart : goal.apply_store-requires-clause-hart
+apply_store-requires-clause-hart c =
+    let p = c.args.self.now in
+    let live = live_within p.trace.harts.items c.args.hart c.requires.live in
+    let within : c.args.hart < p.start.settings.harts = omega (arith, live.0, p.fits.harts) in
+    subst (λ (x : Start). c.args.hart < x.settings.harts) (sym c.ready_store.ensures.swept.start) within
+
+pub apply_store-requires-clause-live : goal.apply_store-requires-clause-live
+apply_store-requires-clause-live c =
+    let p = c.args.self.now in let k = c.args.hart in let h : Hart = hart_in p.trace.harts.items k in
+    let live = live_within p.trace.harts.items k c.requires.live in
+    let s : HartState = (ask_at p.start.settings p.start.image h).state in
+    let moved : IsMoved k s p.trace c.move_on-want.new.self = subst (λ (i : Program). IsMoved k (ask_at p.start.settings i h).state p.trace c.move_on-want.new.self) c.requires.code c.move_on-want.ensures.moved in
+    ap (λ (v : Vec Hart Global). (hart_in v.items k).live) c.ready_store.ensures.swept.harts ∙ ap (λ (y : Hart). y.live) (own_moved p.trace c.move_on-want.new.self k s moved live.0) ∙ live.1
+
+pub apply_store-requires-clause-race : goal.apply_store-requires-clause-race
+apply_store-requires-clause-race c = c.if-ready_store.ensures.ready refl
+
+pub apply_store-requires-clause-page : goal.apply_store-requires-clause-page
+apply_store-requires-clause-page c = c.if-ready_store.ensures.page refl
+
+pub returns-then-ready_store-clause-start : goal.returns-then-ready_store-clause-start
+returns-then-ready_store-clause-start c = c.apply_store.ensures.start ∙ c.ready_store.ensures.swept.start
+
+pub returns-clause-start : goal.returns-clause-start
+returns-clause-start c =
+    c.take_in_parts.ensures.start
+    ∙ elim c.match-want.branch [
+      | in-Load+else-ready_load w ↦ rw (w.self-is) w.ready_load.ensures.swept.start
+      | in-Store+else-ready_store w ↦ rw (w.self-is) w.ready_store.ensures.swept.start
+      | in_default w ↦ rw (w.self-is) refl
+    ]
