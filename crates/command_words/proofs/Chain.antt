@@ -1,7 +1,8 @@
-use Rattle.std.proofs.Common.{◌∙◌, ◌||◌, ap, ap₂}
-use Rattle.clap.specs.Words.{App, Rule, with_rule, with_subcommand}
+use Rattle.std.proofs.Common.{◌≡◌, ◌∙◌, ◌||◌, Option, Some, ap, ap₂}
+use Rattle.clap.specs.Words.{App, Rule, rule_of, with_rule, with_subcommand}
 use Rattle.clap.specs.Built.{AddsArg, AddsSubcommand}
 use Rattle.clap.specs.declared.builder.arg.Arg.{Arg}
+use Rattle.clap.specs.declared.builder.value_parser.ValueParser.{ValueParser}
 use Rattle.clap.specs.declared.builder.command.Command.{Command}
 use Rattle.command_words.specs.App.{IsRule, IsSeenAs}
 
@@ -12,3 +13,10 @@ more x r h is before = (h.shape is.1 ∙ ap₂ with_rule before.0 is.0, h.global
 -- one more subcommand
 pub more_sub : {old sub new : Command} (x y : App) → AddsSubcommand old sub new → IsSeenAs y sub → IsSeenAs x old → IsSeenAs (with_subcommand x y.top) new
 more_sub x y h is before = (h.shape is.1 ∙ ap₂ with_subcommand before.0 (ap (λ (a : App). a.top) is.0), h.globals ∙ ap₂ (λ p q. p || q) before.1 is.1)
+
+-- an argument whose values are read in another way
+pub parsed : (old new : Arg) (r : Rule) (p : ValueParser) → new ≡ record old { value_parser = new.value_parser } → new.value_parser ≡ Some p → IsRule r old → IsRule (record r { parser = Some p }) new
+parsed old new r p others given is = (
+  ap rule_of others ∙ ap (λ (v : Option ValueParser). record (rule_of old) { parser = v }) given ∙ ap (λ (x : Rule). record x { parser = Some p }) is.0,
+  ap (λ (a : Arg). a.global) others ∙ is.1,
+)

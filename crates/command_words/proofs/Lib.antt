@@ -1,3 +1,4 @@
+mod Steps
 mod Chain
 mod Numbers
 mod Whole

@@ -1,0 +1,7 @@
+-- What is found for several arguments, one after the other.
+use Rattle.std.proofs.Common.{◌≡◌, ap, Option, Some}
+use Rattle.command_words.specs.Words.{and_then}
+
+-- the next of them
+pub found : {X Y : Type 0} (o : Option X) (x : X) (f : X → Option Y) → Some x ≡ o → f x ≡ and_then o f
+found o x f e = ap (λ u. and_then u f) e

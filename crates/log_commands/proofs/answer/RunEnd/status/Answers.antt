@@ -1,0 +1,9 @@
+use Rattle.std.proofs.Common.{ap, sym}
+use Rattle.log_commands.specs.RunEnds.{end_status}
+use Rattle.log_commands.proofs.answer.RunEnd.status.Goals as goal
+
+pub returns-in-Fault : goal.returns-in-Fault
+returns-in-Fault c = sym (ap end_status c.in-Fault.is)
+
+pub returns-in-Limit : goal.returns-in-Limit
+returns-in-Limit c = sym (ap end_status c.in-Limit.is)
