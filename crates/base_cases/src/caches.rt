@@ -14,16 +14,13 @@ pub enum Event {
     Clear,
 }
 
-/// The event that a line says; none where it says none.
-pub fn event_of(verb: &str, words: &[&str]) -> Option<Event> {
-    if verb == "touch" {
-        Some(Event::Touch(low(words, 1)))
-    } else if verb == "drop" {
-        Some(Event::Drop(low(words, 1)))
-    } else if verb == "clear" {
-        Some(Event::Clear)
-    } else {
-        None
+/// The event that a line says.
+pub fn event_of(verb: &str, words: &[&str]) -> Event {
+    let addr = low(words, 1);
+    match verb {
+        "touch" => Event::Touch(addr),
+        "drop" => Event::Drop(addr),
+        _ => Event::Clear,
     }
 }
 

@@ -11,6 +11,14 @@ fn words_in(alloc: Global, text: &str) -> Result<Vec<String>, AllocError> {
     Ok(words)
 }
 
+// The words of a command line that a line says; `words` alone has none.
+fn words_of(alloc: Global, line: &str) -> Result<Vec<String>, AllocError> {
+    match line.strip_prefix("words ") {
+        Some(text) => words_in(alloc, text),
+        None => Ok(Vec::new(alloc)),
+    }
+}
+
 // Prints what words ask for.
 fn print_read<R: Print>(rt: &R, alloc: Global, words: &[String]) -> anyhow::Result<()> {
     match read_words(alloc, words) {
@@ -20,18 +28,8 @@ fn print_read<R: Print>(rt: &R, alloc: Global, words: &[String]) -> anyhow::Resu
     Ok(())
 }
 
-/// Prints what the words of a line ask for; false where it has none.
-pub fn told<R: Print>(rt: &R, alloc: Global, line: &str) -> anyhow::Result<bool> {
-    if line == "words" {
-        print_read(rt, alloc, &[])?;
-        return Ok(true);
-    }
-    match line.strip_prefix("words ") {
-        Some(text) => {
-            let words = words_in(alloc, text)?;
-            print_read(rt, alloc, &words)?;
-            Ok(true)
-        }
-        None => Ok(false),
-    }
+/// Prints what the words of a line ask for.
+pub fn tell<R: Print>(rt: &R, alloc: Global, line: &str) -> anyhow::Result<()> {
+    let words = words_of(alloc, line)?;
+    print_read(rt, alloc, &words)
 }

@@ -46,10 +46,15 @@ mod words;
 
 use script::Case;
 
-fn main(rt: HostRuntime) -> anyhow::Result<()> {
-    let mut case = Case::new(rt.alloc());
+// Does what each line of standard input says.
+fn run(rt: &HostRuntime, case: &mut Case) -> anyhow::Result<()> {
     for line in rt.lines(rt.alloc()) {
-        case.step(&rt, &line?)?;
+        case.take(rt, line)?;
     }
     Ok(())
+}
+
+fn main(rt: HostRuntime) -> anyhow::Result<()> {
+    let mut case = Case::new(rt.alloc());
+    run(&rt, &mut case)
 }

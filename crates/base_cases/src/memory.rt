@@ -15,14 +15,12 @@ pub enum Step {
     Put(u32, u32),
 }
 
-/// The step that a line says; none where it says none.
-pub fn step_of(verb: &str, words: &[&str]) -> Option<Step> {
-    if verb == "room" {
-        Some(Step::Room(low(words, 1), low(words, 2)))
-    } else if verb == "put" {
-        Some(Step::Put(low(words, 1), low(words, 2)))
-    } else {
-        None
+/// The step that a line says.
+pub fn step_of(verb: &str, words: &[&str]) -> Step {
+    let (addr, number) = (low(words, 1), low(words, 2));
+    match verb {
+        "room" => Step::Room(addr, number),
+        _ => Step::Put(addr, number),
     }
 }
 
@@ -54,25 +52,35 @@ fn after(alloc: Global, image: &Image, steps: &[Step]) -> Result<Memory, AllocEr
     Ok(memory)
 }
 
-/// Prints what a line wants to know of the memory after steps; false where it wants nothing.
-pub fn told<R: Print>(
+// Prints whether the page of an address is made.
+fn print_page<R: Print>(rt: &R, memory: &Memory, addr: u32) -> anyhow::Result<()> {
+    println!(rt; "page {}", memory.has_page(addr))?;
+    Ok(())
+}
+
+// Prints the word at an address of a memory of this size.
+fn print_word<R: Print>(rt: &R, memory: &Memory, size: u32, addr: u32) -> anyhow::Result<()>
+    requires { 4 * length memory.now.words ≡ size }
+{
+    if addr % 4 != 0 || addr >= size {
+        anyhow::bail!("no word of memory");
+    }
+    println!(rt; "word {:08x}", memory.word(addr))?;
+    Ok(())
+}
+
+/// Prints what a line wants to know of the memory after steps.
+pub fn tell<R: Print>(
     rt: &R,
     alloc: Global,
     image: &Image,
     steps: &[Step],
     verb: &str,
     words: &[&str],
-) -> anyhow::Result<bool> {
-    let addr = low(words, 1);
-    if verb == "page" {
-        let memory = after(alloc, image, steps)?;
-        println!(rt; "page {}", memory.has_page(addr))?;
-        Ok(true)
-    } else if verb == "word" && addr % 4 == 0 && addr < image.memory() {
-        let memory = after(alloc, image, steps)?;
-        println!(rt; "word {:08x}", memory.word(addr))?;
-        Ok(true)
-    } else {
-        Ok(false)
+) -> anyhow::Result<()> {
+    let memory = after(alloc, image, steps)?;
+    match verb {
+        "page" => print_page(rt, &memory, low(words, 1)),
+        _ => print_word(rt, &memory, image.memory(), low(words, 1)),
     }
 }

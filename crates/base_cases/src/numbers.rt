@@ -6,8 +6,8 @@ use std::alloc::{AllocError, Global};
 // Prints the numbers at a place, where they are there.
 fn print_read<R: Print>(rt: &R, bytes: &[u8], at: usize) -> anyhow::Result<()> {
     if at < bytes.len() && bytes.len() - at >= 8 {
-        print!(rt; "{:x} {:x}", read_u16(bytes, at), read_u32(bytes, at))?;
-        println!(rt; " {:x}", read_u64(bytes, at))?;
+        let (narrow, middle) = (read_u16(bytes, at), read_u32(bytes, at));
+        println!(rt; "{narrow:x} {middle:x} {:x}", read_u64(bytes, at))?;
     }
     Ok(())
 }
@@ -38,19 +38,16 @@ fn pushed(alloc: Global, first: u32, second: u64) -> Result<Vec<u8>, AllocError>
     Ok(bytes)
 }
 
-// The bytes that a line makes; none where it makes none.
-fn made(alloc: Global, verb: &str, words: &[&str]) -> anyhow::Result<Option<Vec<u8>>> {
-    let at = low(words, 1) as usize;
-    if verb == "write4" {
-        let bytes = hex::decode(alloc, word(words, 3))?;
-        Ok(Some(written4(bytes, at, low(words, 2))))
-    } else if verb == "write8" {
-        let bytes = hex::decode(alloc, word(words, 3))?;
-        Ok(Some(written8(bytes, at, wide(words, 2))))
-    } else if verb == "push" {
-        Ok(Some(pushed(alloc, low(words, 1), wide(words, 2))?))
-    } else {
-        Ok(None)
+// The bytes that a line makes.
+fn made(alloc: Global, verb: &str, words: &[&str]) -> anyhow::Result<Vec<u8>> {
+    if verb == "push" {
+        return Ok(pushed(alloc, low(words, 1), wide(words, 2))?);
+    }
+    let (at, number) = (low(words, 1) as usize, wide(words, 2));
+    let bytes = hex::decode(alloc, word(words, 3))?;
+    match verb {
+        "write4" => Ok(written4(bytes, at, low(words, 2))),
+        _ => Ok(written8(bytes, at, number)),
     }
 }
 
@@ -63,18 +60,16 @@ fn print_bytes<R: Print>(rt: &R, bytes: &[u8]) -> anyhow::Result<()> {
     Ok(())
 }
 
-/// Prints what a line wants to know of numbers; false where it wants nothing.
-pub fn told<R: Print>(rt: &R, alloc: Global, verb: &str, words: &[&str]) -> anyhow::Result<bool> {
-    if verb == "read" {
-        let bytes = hex::decode(alloc, word(words, 2))?;
-        print_read(rt, &bytes, low(words, 1) as usize)?;
-        return Ok(true);
-    }
-    match made(alloc, verb, words)? {
-        Some(bytes) => {
-            print_bytes(rt, &bytes)?;
-            Ok(true)
-        }
-        None => Ok(false),
+// Prints the numbers at the place of a line's bytes that it says.
+fn print_reading<R: Print>(rt: &R, alloc: Global, words: &[&str]) -> anyhow::Result<()> {
+    let bytes = hex::decode(alloc, word(words, 2))?;
+    print_read(rt, &bytes, low(words, 1) as usize)
+}
+
+/// Prints what a line wants to know of numbers.
+pub fn tell<R: Print>(rt: &R, alloc: Global, verb: &str, words: &[&str]) -> anyhow::Result<()> {
+    match verb {
+        "read" => print_reading(rt, alloc, words),
+        _ => print_bytes(rt, &made(alloc, verb, words)?),
     }
 }

@@ -3,24 +3,22 @@ use crate::settings::checked;
 use crate::words::{low, wide, word};
 use bn_base::Image;
 use elf_loader::load;
-use std::alloc::Global;
+use std::alloc::{AllocError, Global};
 use system_calls::{Kernel, plan};
 
-/// The file that a line makes of another; none where it makes none.
-pub fn made(
-    alloc: Global,
-    file: &[u8],
-    verb: &str,
-    words: &[&str],
-) -> anyhow::Result<Option<Vec<u8>>> {
-    if verb == "file" {
-        Ok(Some(hex::decode(alloc, word(words, 1))?))
-    } else if verb == "more" {
-        let mut bytes = file.to_vec(alloc)?;
-        bytes.extend_from_slice(&hex::decode(alloc, word(words, 1))?)?;
-        Ok(Some(bytes))
-    } else {
-        Ok(None)
+// The bytes of a file, and others behind them.
+fn joined(alloc: Global, file: &[u8], others: &[u8]) -> Result<Vec<u8>, AllocError> {
+    let mut bytes = file.to_vec(alloc)?;
+    bytes.extend_from_slice(others)?;
+    Ok(bytes)
+}
+
+/// The file that a line makes of another: its own bytes, or these behind those of the other.
+pub fn made(alloc: Global, file: &[u8], verb: &str, words: &[&str]) -> anyhow::Result<Vec<u8>> {
+    let others = hex::decode(alloc, word(words, 1))?;
+    match verb {
+        "file" => Ok(others),
+        _ => Ok(joined(alloc, file, &others)?),
     }
 }
 
@@ -33,12 +31,11 @@ pub fn loaded(alloc: Global, file: &[u8], words: &[&str]) -> anyhow::Result<Imag
 
 // Prints what stands at an address.
 fn print_at<R: Print>(rt: &R, image: &Image, addr: u32) -> anyhow::Result<()> {
-    print!(rt; "{:08x}", image.first(addr))?;
+    let (first, store) = (image.first(addr), image.may_store(addr));
     match image.code(addr) {
-        Some(word) => print!(rt; " code {word:08x}")?,
-        None => print!(rt; " no code")?,
+        Some(word) => println!(rt; "{first:08x} code {word:08x} store {store}")?,
+        None => println!(rt; "{first:08x} no code store {store}")?,
     }
-    println!(rt; " store {}", image.may_store(addr))?;
     Ok(())
 }
 
@@ -46,12 +43,15 @@ fn print_at<R: Print>(rt: &R, image: &Image, addr: u32) -> anyhow::Result<()> {
 fn print_bounds<R: Print>(rt: &R, image: &Image) -> anyhow::Result<()> {
     let (start, limit) = (image.heap_start(), image.heap_limit());
     print!(rt; "entry {:08x} heap {start:08x} {limit:08x}", image.entry())?;
+    let (memory, harts) = (image.memory(), image.harts());
     let segments = image.segments().len();
-    println!(rt;
-        " memory {:08x} harts {} segments {segments}",
-        image.memory(),
-        image.harts()
-    )?;
+    println!(rt; " memory {memory:08x} harts {harts} segments {segments}")?;
+    Ok(())
+}
+
+// Prints whether an address is mapped.
+fn print_mapped<R: Print>(rt: &R, image: &Image, addr: u32) -> anyhow::Result<()> {
+    println!(rt; "mapped {}", image.may_load(addr))?;
     Ok(())
 }
 
@@ -68,18 +68,12 @@ fn print_call<R: Print>(rt: &R, image: &Image, words: &[&str]) -> anyhow::Result
     Ok(())
 }
 
-/// Prints what a line wants to know of a program; false where it wants nothing.
-pub fn told<R: Print>(rt: &R, image: &Image, verb: &str, words: &[&str]) -> anyhow::Result<bool> {
-    if verb == "at" {
-        print_at(rt, image, low(words, 1))?;
-    } else if verb == "bounds" {
-        print_bounds(rt, image)?;
-    } else if verb == "mapped" {
-        println!(rt; "mapped {}", image.may_load(low(words, 1)))?;
-    } else if verb == "call" {
-        print_call(rt, image, words)?;
-    } else {
-        return Ok(false);
+/// Prints what a line wants to know of a program.
+pub fn tell<R: Print>(rt: &R, image: &Image, verb: &str, words: &[&str]) -> anyhow::Result<()> {
+    match verb {
+        "at" => print_at(rt, image, low(words, 1)),
+        "bounds" => print_bounds(rt, image),
+        "mapped" => print_mapped(rt, image, low(words, 1)),
+        _ => print_call(rt, image, words),
     }
-    Ok(true)
 }

@@ -2,6 +2,7 @@
 use crate::words::{decimal, low};
 use bn_base::{BadSetting, EndMark, Fault, List, RawSettings, Settings};
 use std::alloc::{AllocError, Global};
+use std::io;
 
 // The settings but for one.
 fn with(mut raw: RawSettings, field: u64, value: u64) -> RawSettings {
@@ -68,31 +69,43 @@ fn bytes(alloc: Global, words: &[&str]) -> Result<Vec<u8>, AllocError> {
     Ok(bytes)
 }
 
+// Prints a list's items, with a space behind each.
+fn print_items<R: Print>(rt: &R, items: &[u8]) -> io::Result<()> {
+    for item in items {
+        print!(rt; "{item:x} ")?;
+    }
+    Ok(())
+}
+
 // Prints a list's items, and how many it gives back.
 fn print_list<R: Print>(rt: &R, items: Vec<u8>) -> anyhow::Result<()> {
     let list = List::from_vec(items);
-    for item in list.as_slice() {
-        print!(rt; "{item:x} ")?;
-    }
+    print_items(rt, list.as_slice())?;
     println!(rt; "of {}", list.into_vec().len())?;
     Ok(())
 }
 
-/// Prints what a line wants to know of settings, marks and lists; false where it wants nothing.
-pub fn told<R: Print>(rt: &R, alloc: Global, verb: &str, words: &[&str]) -> anyhow::Result<bool> {
-    if verb == "settings" {
-        print_checked(rt, words)?;
-    } else if verb == "mark" {
-        println!(rt; "{}", mark(words).word())?;
-    } else if verb == "fault-mark" {
-        match fault_mark(words) {
-            Some(mark) => println!(rt; "{mark:?} {}", mark.word())?,
-            None => println!(rt; "no fault")?,
-        }
-    } else if verb == "list" {
-        print_list(rt, bytes(alloc, words)?)?;
-    } else {
-        return Ok(false);
+// Prints the word of the mark that a line says.
+fn print_mark<R: Print>(rt: &R, words: &[&str]) -> anyhow::Result<()> {
+    println!(rt; "{}", mark(words).word())?;
+    Ok(())
+}
+
+// Prints the mark of the fault that a line says, and its word.
+fn print_fault_mark<R: Print>(rt: &R, words: &[&str]) -> anyhow::Result<()> {
+    match fault_mark(words) {
+        Some(mark) => println!(rt; "{mark:?} {}", mark.word())?,
+        None => println!(rt; "no fault")?,
     }
-    Ok(true)
+    Ok(())
+}
+
+/// Prints what a line wants to know of settings, marks and lists.
+pub fn tell<R: Print>(rt: &R, alloc: Global, verb: &str, words: &[&str]) -> anyhow::Result<()> {
+    match verb {
+        "settings" => print_checked(rt, words),
+        "mark" => print_mark(rt, words),
+        "fault-mark" => print_fault_mark(rt, words),
+        _ => print_list(rt, bytes(alloc, words)?),
+    }
 }

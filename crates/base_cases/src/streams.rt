@@ -17,6 +17,18 @@ fn failing(alloc: Global, text: &str) -> Result<Vec<u64>, AllocError> {
     Ok(calls)
 }
 
+// Prints a text behind what it is.
+fn print_text<R: Print>(rt: &R, what: &str, bytes: &[u8]) -> anyhow::Result<()> {
+    println!(rt; "{what} {}", from_utf8(bytes)?)?;
+    Ok(())
+}
+
+// Prints the text that a store has under a name, behind how it was found.
+fn print_file<R: Print>(rt: &R, how: &str, name: &str, bytes: &[u8]) -> anyhow::Result<()> {
+    println!(rt; "{how} {name} {}", from_utf8(bytes)?)?;
+    Ok(())
+}
+
 // Prints what a load gives.
 fn print_load<R: Print, S: Store>(
     rt: &R,
@@ -26,10 +38,9 @@ fn print_load<R: Print, S: Store>(
     limit: usize,
 ) -> anyhow::Result<()> {
     match store.load(alloc, name, limit) {
-        Ok(bytes) => println!(rt; "load {name} {}", from_utf8(&bytes)?)?,
-        Err(error) => println!(rt; "load {name} {error:?}")?,
+        Ok(bytes) => print_file(rt, "load", name, &bytes),
+        Err(error) => Ok(println!(rt; "load {name} {error:?}")?),
     }
-    Ok(())
 }
 
 // Prints what comes of a save.
@@ -46,10 +57,9 @@ fn print_save<R: Print, S: Store>(
 // Prints what a store has under a name, without a call of it.
 fn print_held<R: Print>(rt: &R, store: &MemoryStore, name: &str) -> anyhow::Result<()> {
     match store.bytes(name) {
-        Some(bytes) => println!(rt; "held {name} {}", from_utf8(bytes)?)?,
-        None => println!(rt; "held {name} nothing")?,
+        Some(bytes) => print_file(rt, "held", name, bytes),
+        None => Ok(println!(rt; "held {name} nothing")?),
     }
-    Ok(())
 }
 
 // Does what three words of a line say with a store, the first two words of it left aside.
@@ -71,13 +81,23 @@ fn act<R: Print>(
     }
 }
 
-// Does what a line says with a new store.
-fn print_store<R: Print>(rt: &R, alloc: Global, words: &[&str]) -> anyhow::Result<()> {
-    let mut store = MemoryStore::new(alloc, failing(alloc, word(words, 1))?);
+// Does what the words of a line say with a store, three words at a time.
+fn act_all<R: Print>(
+    rt: &R,
+    alloc: Global,
+    store: &mut MemoryStore,
+    words: &[&str],
+) -> anyhow::Result<()> {
     for call in 0..words.len() / 3 {
-        act(rt, alloc, &mut store, words, call.saturating_mul(3))?;
+        act(rt, alloc, store, words, call.saturating_mul(3))?;
     }
     Ok(())
+}
+
+// Does what a line says with a new store.
+fn print_store<R: Print>(rt: &R, alloc: Global, words: &[&str]) -> anyhow::Result<()> {
+    let failing = failing(alloc, word(words, 1))?;
+    act_all(rt, alloc, &mut MemoryStore::new(alloc, failing), words)
 }
 
 // A sink that takes at most so many bytes a write, or with 0 as many as it is given.
@@ -95,18 +115,19 @@ fn print_sent<R: Print, K: Sink>(rt: &R, sink: &mut K, text: &str) -> anyhow::Re
     Ok(())
 }
 
-// Sends the texts of a line, and prints what was written.
-fn print_sink<R: Print>(rt: &R, alloc: Global, words: &[&str]) -> anyhow::Result<()> {
-    let mut sink = sink_of(
-        alloc,
-        wide(words, 1) as usize,
-        failing(alloc, word(words, 2))?,
-    );
-    for text in words.iter().skip(3) {
-        print_sent(rt, &mut sink, text)?;
+// Sends texts, and prints what was written.
+fn send_texts<R: Print>(rt: &R, sink: &mut MemorySink, texts: &[&str]) -> anyhow::Result<()> {
+    for text in texts {
+        print_sent(rt, sink, text)?;
     }
-    println!(rt; "written {}", from_utf8(sink.written())?)?;
-    Ok(())
+    print_text(rt, "written", sink.written())
+}
+
+// Sends the texts of a line to a new sink, and prints what was written.
+fn print_sink<R: Print>(rt: &R, alloc: Global, words: &[&str]) -> anyhow::Result<()> {
+    let failing = failing(alloc, word(words, 2))?;
+    let mut sink = sink_of(alloc, wide(words, 1) as usize, failing);
+    send_texts(rt, &mut sink, words.get(3..).unwrap_or(&[]))
 }
 
 // A source of a text that gives at most so many bytes a read, or with 0 as many as there is room for.
@@ -130,36 +151,59 @@ fn print_byte<R: Print, I: Source>(rt: &R, source: &mut I) -> anyhow::Result<()>
     Ok(())
 }
 
+// A source of a text, of whose reads those of these numbers fail.
+fn failing_source(
+    alloc: Global,
+    most: usize,
+    calls: &str,
+    text: &str,
+) -> Result<MemorySource, AllocError> {
+    source_of(alloc, most, failing(alloc, calls)?, text)
+}
+
+// Reads so many single bytes of a source, and prints what is left.
+fn read_bytes<R: Print>(rt: &R, source: &mut MemorySource, count: u64) -> anyhow::Result<()> {
+    for _ in 0..count {
+        print_byte(rt, source)?;
+    }
+    print_text(rt, "left", source.left())
+}
+
 // Reads so many single bytes of a line's source, and prints what is left.
 fn print_reads<R: Print>(rt: &R, alloc: Global, words: &[&str]) -> anyhow::Result<()> {
-    let mut source = source_of(alloc, 0, failing(alloc, word(words, 1))?, word(words, 2))?;
-    for _ in 0..wide(words, 3) {
-        print_byte(rt, &mut source)?;
+    let mut source = failing_source(alloc, 0, word(words, 1), word(words, 2))?;
+    read_bytes(rt, &mut source, wide(words, 3))
+}
+
+// Reads a source to its end or the limit, and prints what it gives.
+fn read_all<R: Print>(
+    rt: &R,
+    alloc: Global,
+    source: &mut MemorySource,
+    expected: usize,
+    limit: usize,
+) -> anyhow::Result<()> {
+    match read_to_end(alloc, source, expected, limit) {
+        Ok(bytes) => print_text(rt, "all", &bytes),
+        Err(error) => Ok(println!(rt; "all {error:?}")?),
     }
-    println!(rt; "left {}", from_utf8(source.left())?)?;
-    Ok(())
 }
 
 // Reads a line's source to its end or the limit.
 fn print_source<R: Print>(rt: &R, alloc: Global, words: &[&str]) -> anyhow::Result<()> {
     let most = wide(words, 1) as usize;
-    let mut source = source_of(alloc, most, failing(alloc, word(words, 2))?, word(words, 3))?;
-    let expected = wide(words, 4) as usize;
-    match read_to_end(alloc, &mut source, expected, wide(words, 5) as usize) {
-        Ok(bytes) => println!(rt; "all {}", from_utf8(&bytes)?)?,
-        Err(error) => println!(rt; "all {error:?}")?,
-    }
-    Ok(())
+    let (expected, limit) = (wide(words, 4) as usize, wide(words, 5) as usize);
+    let mut source = failing_source(alloc, most, word(words, 2), word(words, 3))?;
+    read_all(rt, alloc, &mut source, expected, limit)
 }
 
-/// Prints what a line wants to know of stores and streams; false where it wants nothing.
-pub fn told<R: Print>(rt: &R, alloc: Global, verb: &str, words: &[&str]) -> anyhow::Result<bool> {
+/// Prints what a line wants to know of stores and streams.
+pub fn tell<R: Print>(rt: &R, alloc: Global, verb: &str, words: &[&str]) -> anyhow::Result<()> {
     match verb {
-        "store" => print_store(rt, alloc, words)?,
-        "sink" => print_sink(rt, alloc, words)?,
-        "reads" => print_reads(rt, alloc, words)?,
-        "source" => print_source(rt, alloc, words)?,
-        _ => return Ok(false),
+        "store" => print_store(rt, alloc, words),
+        "sink" => print_sink(rt, alloc, words),
+        "reads" => print_reads(rt, alloc, words),
+        "source" => print_source(rt, alloc, words),
+        _ => Err(anyhow::anyhow!("no line of cases: {verb}")),
     }
-    Ok(true)
 }

@@ -3,11 +3,7 @@ use std::alloc::{AllocError, Global};
 
 /// The words of a line.
 pub fn words_of<'a>(alloc: Global, line: &'a str) -> Result<Vec<&'a str>, AllocError> {
-    let mut words = Vec::new(alloc);
-    for word in line.split_whitespace() {
-        words.push(word)?;
-    }
-    Ok(words)
+    line.split_whitespace().collect(alloc)
 }
 
 /// A word by its place; none is empty.

@@ -28,58 +28,55 @@ mod touch_timing;
 
 use std::env;
 
-// Times a layer by so much of it, or tells the words.
-fn time_layer(rt: &HostRuntime, layer: &str, count: u64) -> anyhow::Result<()> {
-    if layer == "decode" && count > 0 {
-        return decode_timing::decoding(rt, count);
-    }
-    if layer == "meaning" && count > 0 {
-        return meaning_timing::meaning(rt, count);
-    }
-    if layer == "races" && count > 0 && count < 1 << 40 {
-        return race_timing::races(rt, count);
-    }
-    if layer == "ring" && count > 0 && count < 1 << 40 {
-        return ring_timing::records(rt, count);
-    }
-    if layer == "cache" && count > 0 && count < 1 << 40 {
-        return touch_timing::touches(rt, count);
-    }
-    if layer == "file" && count > 0 {
-        return file_timing::files(rt, count);
-    }
-    time_run(rt, layer, count)
-}
-
-// The same of the layers that run a program or replay one.
-fn time_run(rt: &HostRuntime, layer: &str, count: u64) -> anyhow::Result<()> {
-    if layer == "joint" && count > 0 {
-        return joint_timing::joint_replays(rt, count);
-    }
-    if layer == "replay" && count > 0 && count <= 10_000_000 {
-        return replay_timing::replay(rt, count);
-    }
-    if layer == "again" && count > 0 {
-        return again_check::asks(rt, count);
-    }
-    if layer == "serve" && count > 0 {
-        return serve_timing::asks(rt, count);
-    }
+// Tells the words.
+fn tell_words(rt: &HostRuntime) -> anyhow::Result<()> {
     println!(rt;
         "bench LAYER COUNT, where LAYER is decode, meaning, races, ring, cache, file, serve, again, joint or replay"
     )?;
     Ok(())
 }
 
-fn main(rt: HostRuntime) -> anyhow::Result<()> {
-    let words: Vec<String> = env::args(&rt)?.collect(rt.alloc())?;
-    let layer = match words.get(1) {
+// Times a layer that runs a program or replays one, by so much of it, or tells the words.
+fn time_run(rt: &HostRuntime, layer: &str, count: u64) -> anyhow::Result<()> {
+    match layer {
+        "joint" => joint_timing::joint_replays(rt, count),
+        "replay" if count <= 10_000_000 => replay_timing::replay(rt, count),
+        "again" => again_check::asks(rt, count),
+        "serve" => serve_timing::asks(rt, count),
+        _ => tell_words(rt),
+    }
+}
+
+// The same of all layers.
+fn time_layer(rt: &HostRuntime, layer: &str, count: u64) -> anyhow::Result<()> {
+    match layer {
+        "decode" => decode_timing::decoding(rt, count),
+        "meaning" => meaning_timing::meaning(rt, count),
+        "races" if count < 1 << 40 => race_timing::races(rt, count),
+        "ring" if count < 1 << 40 => ring_timing::records(rt, count),
+        "cache" if count < 1 << 40 => touch_timing::touches(rt, count),
+        "file" => file_timing::files(rt, count),
+        _ => time_run(rt, layer, count),
+    }
+}
+
+// A word by its place; none is empty.
+fn word(words: &[String], place: usize) -> &str {
+    match words.get(place) {
         Some(word) => word.as_str(),
         None => "",
-    };
-    let count = match words.get(2) {
-        Some(word) => word.as_str().parse::<u64>().unwrap_or(0),
-        None => 0,
-    };
-    time_layer(&rt, layer, count)
+    }
+}
+
+// Times what the words say, if that is more than nothing, or tells the words.
+fn time(rt: &HostRuntime, words: &[String]) -> anyhow::Result<()> {
+    match word(words, 2).parse::<u64>().unwrap_or(0) {
+        0 => tell_words(rt),
+        count => time_layer(rt, word(words, 1), count),
+    }
+}
+
+fn main(rt: HostRuntime) -> anyhow::Result<()> {
+    let words: Vec<String> = env::args(&rt)?.collect(rt.alloc())?;
+    time(&rt, &words)
 }

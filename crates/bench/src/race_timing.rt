@@ -81,6 +81,35 @@ fn resident(rt: &HostRuntime) -> u64 {
     }
 }
 
+// Times so many accesses of the harts in turn, and prints how they went. The process had `before` bytes of
+// memory in use before the log was made.
+fn time_accesses(
+    rt: &HostRuntime,
+    shadow: &mut Shadow,
+    harts: u8,
+    accesses: u64,
+    words: u32,
+    before: u64,
+) -> anyhow::Result<()>
+    requires harts { harts_of shadow.old ≡ harts }
+    requires some { 0 < harts }
+    requires turn { next_turn shadow.old ≡ 0 }
+    requires counts { (h : ℕ) → next_count shadow.old h ≡ 0 }
+    requires lasting { (h : ℕ) → h < harts → IsTrue (lasts shadow.old h) }
+    requires small { accesses < 2 ^ 40 }
+    requires words { words < 2 ^ 28 }
+    requires any { 0 < words }
+{
+    let clock = Instant::now(rt)?;
+    let edges = many(shadow, harts, accesses, words, 4)?;
+    let rate = rate_since(rt, clock, accesses)?;
+    let used = resident(rt).saturating_sub(before) / words as u64;
+    println!(rt;
+        "harts {harts} words {words}: {rate} accesses a second, {edges} edges, {used} bytes a word"
+    )?;
+    Ok(())
+}
+
 fn timed(rt: &HostRuntime, harts: u64, accesses: u64, words: u32) -> anyhow::Result<()>
     requires small { accesses < 2 ^ 40 }
     requires words { words < 2 ^ 28 }
@@ -95,14 +124,7 @@ fn timed(rt: &HostRuntime, harts: u64, accesses: u64, words: u32) -> anyhow::Res
     };
     let before = resident(rt);
     let mut shadow = Shadow::new(rt.alloc(), &settings)?;
-    let clock = Instant::now(rt)?;
-    let edges = many(&mut shadow, settings.harts(), accesses, words, 4)?;
-    let rate = rate_since(rt, clock, accesses)?;
-    let used = resident(rt).saturating_sub(before) / words as u64;
-    println!(rt;
-        "harts {harts} words {words}: {rate} accesses a second, {edges} edges, {used} bytes a word"
-    )?;
-    Ok(())
+    time_accesses(rt, &mut shadow, settings.harts(), accesses, words, before)
 }
 
 /// Times accesses of single words, to few words and to many, by one hart and by eight.

@@ -6,6 +6,7 @@ use bn_base::{HartState, Image, Register, Registers};
 use rv_meaning::{Ask, DecodedImage, quiet_run};
 use rv_text::register_name;
 use std::alloc::{AllocError, Global};
+use std::io;
 
 /// The hart of the words from a place on: a1, a2, a7, the pc and the count.
 pub fn hart_of(words: &[&str], place: usize) -> HartState
@@ -22,17 +23,28 @@ pub fn hart_of(words: &[&str], place: usize) -> HartState
     }
 }
 
-/// Prints a state: the pc, the count, and the registers that aren't 0.
-pub fn print_state<R: Print>(rt: &R, state: &HartState) -> anyhow::Result<()> {
-    print!(rt; "{:08x} {}", state.pc, state.ic)?;
-    for number in 1..32u8 {
-        let value = state.x.get(Register::new(number));
-        if value != 0 {
-            print!(rt; " {}={value:08x}", register_name(number))?;
-        }
+// Prints a register that isn't 0.
+fn print_register<R: Print>(rt: &R, number: u8, value: u32) -> io::Result<()>
+    requires { number < 32 }
+{
+    if value == 0 {
+        return Ok(());
     }
-    println!(rt; "")?;
-    Ok(())
+    print!(rt; " {}={value:08x}", register_name(number))
+}
+
+// Prints the registers that aren't 0, and ends the line.
+fn print_registers<R: Print>(rt: &R, x: &Registers) -> io::Result<()> {
+    for number in 1..32u8 {
+        print_register(rt, number, x.get(Register::new(number)))?;
+    }
+    println!(rt; "")
+}
+
+/// Prints a state: the pc, the count, and the registers that aren't 0.
+pub fn print_state<R: Print>(rt: &R, state: &HartState) -> io::Result<()> {
+    print!(rt; "{:08x} {}", state.pc, state.ic)?;
+    print_registers(rt, &state.x)
 }
 
 // What may be shared among threads.
@@ -55,27 +67,19 @@ fn ahead(
     Ok(Ask { state, want })
 }
 
-/// What the hart of a line asks; none where it has no hart run.
-pub fn asked(
-    alloc: Global,
-    image: &Image,
-    verb: &str,
-    words: &[&str],
-) -> Result<Option<Ask>, AllocError> {
+/// What the hart of a line asks.
+pub fn asked(alloc: Global, image: &Image, verb: &str, words: &[&str]) -> Result<Ask, AllocError> {
     if verb == "run" {
-        let ask = quiet_run(image, hart_of(words, 2), number_or(words, 1, 0));
-        Ok(Some(ask))
-    } else if verb == "ahead" {
-        let limit = u32::from_str_radix(word(words, 1), 16).ok();
-        let budget = number_or(words, 2, 0);
-        Ok(Some(ahead(alloc, image, limit, budget, hart_of(words, 3))?))
-    } else {
-        Ok(None)
+        let budget = number_or(words, 1, 0);
+        return Ok(quiet_run(image, hart_of(words, 2), budget));
     }
+    let limit = u32::from_str_radix(word(words, 1), 16).ok();
+    let budget = number_or(words, 2, 0);
+    ahead(alloc, image, limit, budget, hart_of(words, 3))
 }
 
 /// Prints what a hart asks, and its state.
-pub fn print_ask<R: Print>(rt: &R, ask: &Ask) -> anyhow::Result<()> {
+pub fn print_ask<R: Print>(rt: &R, ask: &Ask) -> io::Result<()> {
     print!(rt; "{:?} ", ask.want)?;
     print_state(rt, &ask.state)
 }

@@ -1,4 +1,5 @@
 // Programs, and what stands in them.
+use crate::rows;
 use crate::words::{low, number_or, word};
 use bn_base::{Fault, HartState, Image, Registers, Segment, Settings};
 use rv_meaning::{Ask, Want};
@@ -9,7 +10,8 @@ pub fn program(alloc: Global, mut words: Vec<u32>) -> Result<Image, AllocError> 
     words.truncate(64);
     let count = words.len() as u32;
     let segment = Segment::new(0x10000, words, count, true, false);
-    let segments = Vec::from_array(alloc, [segment])?;
+    let mut segments = Vec::new(alloc);
+    segments.push(segment)?;
     Ok(Image::new(segments, 0x10000, &Settings::default()))
 }
 
@@ -25,37 +27,42 @@ pub fn two_segments(
     let first = Segment::new(0x10000, words, count, true, false);
     let count = others.len() as u32;
     let second = Segment::new(0x11000, others, count, true, false);
-    let segments = Vec::from_array(alloc, [first, second])?;
+    let mut segments = Vec::new(alloc);
+    segments.push(first)?;
+    segments.push(second)?;
     Ok(Image::new(segments, 0x10000, &Settings::default()))
 }
 
 // Prints what stands at an address.
 fn print_at<R: Print>(rt: &R, image: &Image, addr: u32) -> anyhow::Result<()> {
-    print!(rt; "{:08x}", image.first(addr))?;
+    let (first, store) = (image.first(addr), image.may_store(addr));
     match image.code(addr) {
-        Some(word) => print!(rt; " code {word:08x}")?,
-        None => print!(rt; " no code")?,
+        Some(word) => println!(rt; "{first:08x} code {word:08x} store {store}")?,
+        None => println!(rt; "{first:08x} no code store {store}")?,
     }
-    println!(rt; " store {}", image.may_store(addr))?;
+    Ok(())
+}
+
+// Prints where a program and its heap begin.
+fn print_begins<R: Print>(rt: &R, image: &Image) -> anyhow::Result<()> {
+    let (entry, heap) = (image.entry(), image.heap_start());
+    println!(rt; "entry {entry:08x} heap {heap:08x}")?;
     Ok(())
 }
 
 // What a line has an ask want.
 fn want_of(words: &[&str]) -> Want {
-    let name = word(words, 3);
-    if name == "breakpoint" {
-        Want::Faulted {
+    match word(words, 3) {
+        "breakpoint" => Want::Faulted {
             kind: Fault::Breakpoint,
             value: low(words, 4),
-        }
-    } else if name == "store" {
-        Want::Store {
+        },
+        "store" => Want::Store {
             addr: low(words, 4),
             width: (low(words, 5) % 256) as u8,
             value: 0,
-        }
-    } else {
-        Want::Cut
+        },
+        _ => Want::Cut,
     }
 }
 
@@ -71,17 +78,24 @@ fn is_orderly(image: &Image, words: &[&str]) -> bool {
     ask.is_orderly(image, number_or(words, 1, 0), number_or(words, 2, 0))
 }
 
-/// Prints what a line wants to know of a program; false where it wants nothing.
-pub fn told<R: Print>(rt: &R, image: &Image, verb: &str, words: &[&str]) -> anyhow::Result<bool> {
-    if verb == "at" {
-        print_at(rt, image, low(words, 1))?;
-    } else if verb == "begins" {
-        let (entry, heap) = (image.entry(), image.heap_start());
-        println!(rt; "entry {entry:08x} heap {heap:08x}")?;
-    } else if verb == "orderly" {
-        println!(rt; "orderly {}", is_orderly(image, words))?;
-    } else {
-        return Ok(false);
+// Prints whether an ask that a line says is orderly.
+fn print_orderly<R: Print>(rt: &R, image: &Image, words: &[&str]) -> anyhow::Result<()> {
+    println!(rt; "orderly {}", is_orderly(image, words))?;
+    Ok(())
+}
+
+/// Prints what a line wants to know of a program.
+pub fn tell<R: Print>(
+    rt: &R,
+    alloc: Global,
+    image: &Image,
+    verb: &str,
+    words: &[&str],
+) -> anyhow::Result<()> {
+    match verb {
+        "at" => print_at(rt, image, low(words, 1)),
+        "begins" => print_begins(rt, image),
+        "orderly" => print_orderly(rt, image, words),
+        _ => rows::print_fetched(rt, alloc, image, verb, words),
     }
-    Ok(true)
 }

@@ -40,18 +40,13 @@ fn answered(ask: &Ask, value: u32) -> Option<HartState> {
 
 // The state after the reply that a line says.
 fn after(ask: &Ask, verb: &str, value: u32) -> Option<HartState> {
-    if verb == "word" {
-        loaded(ask, value)
-    } else if verb == "answer" {
-        answered(ask, value)
-    } else if verb == "sc-ok" {
-        concluded(ask, true)
-    } else if verb == "sc-failed" {
-        concluded(ask, false)
-    } else if verb == "over" {
-        Some(absorb(ask, Reply::Over))
-    } else {
-        None
+    match verb {
+        "word" => loaded(ask, value),
+        "answer" => answered(ask, value),
+        "sc-ok" => concluded(ask, true),
+        "sc-failed" => concluded(ask, false),
+        "over" => Some(absorb(ask, Reply::Over)),
+        _ => None,
     }
 }
 
@@ -67,21 +62,23 @@ fn left(ask: &Ask, word: u32) -> Option<u32> {
     }
 }
 
-/// Prints what comes of the last ask as a line says; false where it says nothing of it.
-pub fn told<R: Print>(rt: &R, ask: &Ask, verb: &str, words: &[&str]) -> anyhow::Result<bool> {
+// Prints the word that an ask leaves in place of one.
+fn print_left<R: Print>(rt: &R, ask: &Ask, word: u32) -> anyhow::Result<()> {
+    match left(ask, word) {
+        Some(word) => println!(rt; "leaves {word:08x}")?,
+        None => println!(rt; "leaves it")?,
+    }
+    Ok(())
+}
+
+/// Prints the word that the last ask leaves, or the state after the reply that a line says.
+pub fn tell<R: Print>(rt: &R, ask: &Ask, verb: &str, words: &[&str]) -> anyhow::Result<()> {
     let value = low(words, 1);
     if verb == "leaves" {
-        match left(ask, value) {
-            Some(word) => println!(rt; "leaves {word:08x}")?,
-            None => println!(rt; "leaves it")?,
-        }
-        return Ok(true);
+        return print_left(rt, ask, value);
     }
     match after(ask, verb, value) {
-        Some(state) => {
-            print_state(rt, &state)?;
-            Ok(true)
-        }
-        None => Ok(false),
+        Some(state) => Ok(print_state(rt, &state)?),
+        None => Err(anyhow::anyhow!("no line of cases: {verb}")),
     }
 }

@@ -8,14 +8,11 @@ use std::alloc::Global;
 
 // A row with one more part.
 fn with_part(mut row: Row, name: &str, first: u32, second: u32) -> Row {
-    if name == "reg" {
-        row.reg = Some((Register::new((first % 32) as u8), second));
-    } else if name == "load" {
-        row.load = Some((first, second));
-    } else if name == "store" {
-        row.store = Some((first, second));
-    } else if let Some(kind) = Fault::from_number((first % 256) as u8) {
-        row.fault = Some((kind, second));
+    match name {
+        "reg" => row.reg = Some((Register::new((first % 32) as u8), second)),
+        "load" => row.load = Some((first, second)),
+        "store" => row.store = Some((first, second)),
+        _ => row.fault = Fault::from_number((first % 256) as u8).map(|kind| (kind, second)),
     }
     row
 }
@@ -80,32 +77,28 @@ fn fetched_row(image: &Image, verb: &str, pc: u32, parts: &Row) -> Option<Row> {
     let x = registers();
     let state = HartState { pc, x, ic: 7 };
     let fetched = Fetched::at(3, image, &state);
-    if verb == "done" {
-        Some(fetched.row(&x, parts.load, parts.store))
-    } else if verb == "called" {
-        Some(fetched.call_row(parts.reg))
-    } else if verb == "faulted" {
-        let (kind, value) = parts.fault?;
-        Some(fetched.fault_row(kind, value))
-    } else {
-        None
+    match verb {
+        "done" => Some(fetched.row(&x, parts.load, parts.store)),
+        "called" => Some(fetched.call_row(parts.reg)),
+        "faulted" => {
+            let (kind, value) = parts.fault?;
+            Some(fetched.fault_row(kind, value))
+        }
+        _ => None,
     }
 }
 
-/// Prints the row that a line wants; false where it wants none.
-pub fn fetched<R: Print>(
+/// Prints the row that a line wants.
+pub fn print_fetched<R: Print>(
     rt: &R,
     alloc: Global,
     image: &Image,
     verb: &str,
     words: &[&str],
-) -> anyhow::Result<bool> {
+) -> anyhow::Result<()> {
     let parts = with_parts(plain(0, 0, 0, None), words, 2);
     match fetched_row(image, verb, low(words, 1), &parts) {
-        Some(row) => {
-            print_row(rt, alloc, &row)?;
-            Ok(true)
-        }
-        None => Ok(false),
+        Some(row) => print_row(rt, alloc, &row),
+        None => Err(anyhow::anyhow!("no line of cases: {verb}")),
     }
 }

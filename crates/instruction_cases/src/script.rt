@@ -2,12 +2,63 @@
 use crate::files::{loaded, made};
 use crate::harts::{asked, hart_of, print_ask};
 use crate::programs::{program, two_segments};
-use crate::words::{code, word, words_of};
-use crate::{programs, replies, rows, texts};
+use crate::rows::{part_row, print_row};
+use crate::texts::{change, print_decoded, print_instr};
+use crate::words::{code, low, word, words_of};
+use crate::{programs, replies};
 use bn_base::Image;
 use rv_meaning::{Ask, Want};
 use rv_text::Text;
-use std::alloc::{AllocError, Global};
+use std::alloc::Global;
+use std::io;
+
+// What a line is about.
+#[derive(Clone, Copy, Drop)]
+enum Topic {
+    Code,
+    Segment,
+    File,
+    Loading,
+    Hart,
+    Reply,
+    Program,
+    Text,
+}
+
+// What lines that begin with these words are about; all others are about texts.
+const TOPICS: [(&str, Topic); 21] = [
+    ("code", Topic::Code),
+    ("second", Topic::Segment),
+    ("file", Topic::File),
+    ("more", Topic::File),
+    ("guest", Topic::File),
+    ("load", Topic::Loading),
+    ("load-first", Topic::Loading),
+    ("run", Topic::Hart),
+    ("ahead", Topic::Hart),
+    ("leaves", Topic::Reply),
+    ("word", Topic::Reply),
+    ("answer", Topic::Reply),
+    ("sc-ok", Topic::Reply),
+    ("sc-failed", Topic::Reply),
+    ("over", Topic::Reply),
+    ("at", Topic::Program),
+    ("begins", Topic::Program),
+    ("orderly", Topic::Program),
+    ("done", Topic::Program),
+    ("called", Topic::Program),
+    ("faulted", Topic::Program),
+];
+
+// What a line that begins with this word is about.
+fn topic_of(verb: &str) -> Topic {
+    for (name, topic) in &TOPICS {
+        if *name == verb {
+            return *topic;
+        }
+    }
+    Topic::Text
+}
 
 /// What the lines so far have made.
 #[derive(Drop)]
@@ -36,111 +87,106 @@ impl Case {
         }
     }
 
-    // Makes the program that a line says; else false.
-    fn build(&mut self, verb: &str, words: &[&str]) -> Result<bool, AllocError> {
-        if verb == "code" {
-            self.code = code(self.alloc, words)?;
-            self.image = Some(program(self.alloc, self.code.clone()?)?);
-            Ok(true)
-        } else if verb == "second" {
-            let others = code(self.alloc, words)?;
-            self.image = Some(two_segments(self.alloc, self.code.clone()?, others)?);
-            Ok(true)
-        } else {
-            Ok(false)
-        }
+    // Makes the program of a line's words.
+    fn make_program(&mut self, words: &[&str]) -> anyhow::Result<()> {
+        self.code = code(self.alloc, words)?;
+        self.image = Some(program(self.alloc, self.code.clone()?)?);
+        Ok(())
     }
 
-    // Has a hart run, where a line says so; else false.
-    fn run<R: Print>(&mut self, rt: &R, verb: &str, words: &[&str]) -> anyhow::Result<bool> {
-        let Some(image) = &self.image else {
-            return Ok(false);
-        };
-        match asked(self.alloc, image, verb, words)? {
-            Some(ask) => {
-                self.ask = ask;
-                print_ask(rt, &ask)?;
-                Ok(true)
-            }
-            None => replies::told(rt, &self.ask, verb, words),
-        }
+    // Gives the program a second segment of a line's words.
+    fn add_segment(&mut self, words: &[&str]) -> anyhow::Result<()> {
+        let others = code(self.alloc, words)?;
+        self.image = Some(two_segments(self.alloc, self.code.clone()?, others)?);
+        Ok(())
     }
 
-    // Prints what a line wants to know of the program; else false.
-    fn tell<R: Print>(&self, rt: &R, verb: &str, words: &[&str]) -> anyhow::Result<bool> {
-        let Some(image) = &self.image else {
-            return Ok(false);
-        };
-        Ok(
-            programs::told(rt, image, verb, words)?
-                || rows::fetched(rt, self.alloc, image, verb, words)?,
-        )
-    }
-
-    // Loads the file, where a line says so; else false.
-    fn load<R: Print>(&mut self, rt: &R, verb: &str, words: &[&str]) -> anyhow::Result<bool> {
+    // Loads the file as a line says.
+    fn load<R: Print>(&mut self, rt: &R, verb: &str, words: &[&str]) -> anyhow::Result<()> {
         match loaded(self.alloc, &self.file, verb, words)? {
-            Some(Ok(image)) => {
+            Ok(image) => {
                 self.image = Some(image);
                 println!(rt; "loaded")?;
             }
-            Some(Err(error)) => println!(rt; "{error:?}: {error}")?,
-            None => return Ok(false),
+            Err(error) => println!(rt; "{error:?}: {error}")?,
         }
-        Ok(true)
+        Ok(())
     }
 
-    // Makes the file that a line says; else false.
-    fn make<R: Print>(&mut self, rt: &R, verb: &str, words: &[&str]) -> anyhow::Result<bool> {
-        match made(self.alloc, &self.file, verb, words)? {
-            Some(file) => {
-                self.file = file;
-                println!(rt; "length {}", self.file.len())?;
-                Ok(true)
-            }
-            None => Ok(false),
+    // Makes the file that a line says.
+    fn make<R: Print>(&mut self, rt: &R, verb: &str, words: &[&str]) -> anyhow::Result<()> {
+        self.file = made(self.alloc, &self.file, verb, words)?;
+        println!(rt; "length {}", self.file.len())?;
+        Ok(())
+    }
+
+    // Has a hart run the program, and prints what it asks.
+    fn run<R: Print>(&mut self, rt: &R, verb: &str, words: &[&str]) -> anyhow::Result<()> {
+        match &self.image {
+            Some(image) => self.ask = asked(self.alloc, image, verb, words)?,
+            None => anyhow::bail!("no program"),
+        }
+        Ok(print_ask(rt, &self.ask)?)
+    }
+
+    // Prints what a line wants to know of the program.
+    fn tell<R: Print>(&self, rt: &R, verb: &str, words: &[&str]) -> anyhow::Result<()> {
+        match &self.image {
+            Some(image) => programs::tell(rt, self.alloc, image, verb, words),
+            None => Err(anyhow::anyhow!("no program")),
         }
     }
 
-    // Does what a line says of files, of the program or of harts; else false.
-    fn act<R: Print>(&mut self, rt: &R, verb: &str, words: &[&str]) -> anyhow::Result<bool> {
-        Ok(
-            self.build(verb, words)?
-                || self.run(rt, verb, words)?
-                || self.tell(rt, verb, words)?
-                || self.load(rt, verb, words)?
-                || self.make(rt, verb, words)?,
-        )
-    }
-
-    // Does what a line says of texts; else false.
-    fn write<R: Print>(&mut self, rt: &R, verb: &str, words: &[&str]) -> anyhow::Result<bool> {
-        Ok(
-            texts::told(rt, self.alloc, verb, words)?
-                || texts::changed(rt, &mut self.text, verb, words)?,
-        )
-    }
-
-    // Does what a line says.
-    fn obey<R: Print>(&mut self, rt: &R, verb: &str, words: &[&str]) -> anyhow::Result<()> {
-        if self.write(rt, verb, words)? || self.act(rt, verb, words)? {
-            return Ok(());
+    // Prints what a line wants to know of instructions, or does what it says of the text.
+    fn write<R: Print>(&mut self, rt: &R, verb: &str, words: &[&str]) -> anyhow::Result<()> {
+        let (first, second) = (low(words, 1), low(words, 2));
+        match verb {
+            "decode" => print_decoded(rt, first),
+            "text" => print_instr(rt, self.alloc, first, second),
+            "row" => print_row(rt, self.alloc, &part_row(words)),
+            _ => change(rt, &mut self.text, verb, words),
         }
-        Err(anyhow::anyhow!("no line of cases: {verb}"))
     }
 
-    /// Does what a line of the script says.
-    pub fn step<R: Print>(&mut self, rt: &R, line: &str) -> anyhow::Result<()> {
+    // Does what a line says of files, of the program, of harts or of texts.
+    fn act<R: Print>(&mut self, rt: &R, verb: &str, words: &[&str]) -> anyhow::Result<()> {
+        match topic_of(verb) {
+            Topic::Code => self.make_program(words),
+            Topic::Segment => self.add_segment(words),
+            Topic::File => self.make(rt, verb, words),
+            Topic::Loading => self.load(rt, verb, words),
+            Topic::Hart => self.run(rt, verb, words),
+            Topic::Reply => replies::tell(rt, &self.ask, verb, words),
+            Topic::Program => self.tell(rt, verb, words),
+            Topic::Text => self.write(rt, verb, words),
+        }
+    }
+
+    // Begins a case, and prints its line.
+    fn begin<R: Print>(&mut self, rt: &R, line: &str) -> anyhow::Result<()> {
+        self.text.clear();
+        println!(rt; "{line}")?;
+        Ok(())
+    }
+
+    // Does what the words of a line say.
+    fn obey<R: Print>(&mut self, rt: &R, line: &str, words: &[&str]) -> anyhow::Result<()> {
+        match word(words, 0) {
+            "" | "note" => Ok(()),
+            "#" => self.begin(rt, line),
+            verb => self.act(rt, verb, words),
+        }
+    }
+
+    // Does what a line of the script says.
+    fn step<R: Print>(&mut self, rt: &R, line: &str) -> anyhow::Result<()> {
         let words = words_of(self.alloc, line)?;
-        let verb = word(&words, 0);
-        if verb == "#" {
-            self.text.clear();
-            println!(rt; "{line}")?;
-            Ok(())
-        } else if verb == "" || verb == "note" {
-            Ok(())
-        } else {
-            self.obey(rt, verb, &words)
-        }
+        self.obey(rt, line, &words)
+    }
+
+    /// Does what a line that was read says.
+    pub fn take<R: Print>(&mut self, rt: &R, line: io::Result<String>) -> anyhow::Result<()> {
+        let line = line?;
+        self.step(rt, &line)
     }
 }

@@ -1,13 +1,9 @@
 // The words of a line.
-use std::alloc::Global;
+use std::alloc::{AllocError, Global};
 
 /// The words of a line.
-pub fn words_of<'a>(alloc: Global, line: &'a str) -> anyhow::Result<Vec<&'a str>> {
-    let mut words = Vec::new(alloc);
-    for word in line.split_whitespace() {
-        words.push(word)?;
-    }
-    Ok(words)
+pub fn words_of<'a>(alloc: Global, line: &'a str) -> Result<Vec<&'a str>, AllocError> {
+    line.split_whitespace().collect(alloc)
 }
 
 /// A word by its place; none is empty.

@@ -12,17 +12,26 @@ const HEADERS: [u8; 84] = [
     0x00, 0x10, 0x00, 0x00,
 ];
 
-/// The program file of fewer than 64 code words.
-pub fn program(alloc: Global, words: &[u32]) -> Result<Vec<u8>, AllocError> {
-    let mut bytes = Vec::from_slice(alloc, &HEADERS)?;
+// Puts code words behind the headers.
+fn push_words(bytes: &mut Vec<u8>, words: &[u32]) -> Result<(), AllocError> {
     for word in words {
         bytes.extend_from_slice(word.to_le_bytes().as_slice())?;
     }
-    let size = (words.len() % 64) as u8 * 4;
-    for place in [68, 72] {
-        if place < bytes.len() {
-            bytes[place] = size;
-        }
+    Ok(())
+}
+
+// Gives both sizes in the headers this value.
+fn set_sizes(bytes: &mut [u8], size: u8) {
+    if bytes.len() > 72 {
+        bytes[68] = size;
+        bytes[72] = size;
     }
+}
+
+/// The program file of fewer than 64 code words.
+pub fn program(alloc: Global, words: &[u32]) -> Result<Vec<u8>, AllocError> {
+    let mut bytes = Vec::from_slice(alloc, &HEADERS)?;
+    push_words(&mut bytes, words)?;
+    set_sizes(&mut bytes, (words.len() % 64) as u8 * 4);
     Ok(bytes)
 }

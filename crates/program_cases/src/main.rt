@@ -42,7 +42,6 @@
 
 mod closed_runs;
 mod files;
-mod hex;
 mod machine;
 mod prefixes;
 mod runs;
@@ -52,11 +51,24 @@ mod telling;
 mod words;
 
 use script::Case;
+use std::alloc::Global;
+use std::io::Input;
+use std::sync::Wait;
+use std::thread::Threads;
+
+// Does what each line of standard input says.
+fn run<R: Input + Print + Threads + Wait + Sync>(
+    rt: &R,
+    alloc: Global,
+    case: &mut Case,
+) -> anyhow::Result<()> {
+    for line in rt.lines(alloc) {
+        case.take(rt, line)?;
+    }
+    Ok(())
+}
 
 fn main(rt: HostRuntime) -> anyhow::Result<()> {
     let mut case = Case::new(rt.alloc());
-    for line in rt.lines(rt.alloc()) {
-        case.step(&rt, &line?)?;
-    }
-    Ok(())
+    run(&rt, rt.alloc(), &mut case)
 }

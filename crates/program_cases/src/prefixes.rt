@@ -1,6 +1,6 @@
 //! The loop of the script: the program on each prefix of a file.
 use crate::machine::Surroundings;
-use crate::words::number;
+use crate::words::{number, rest, word};
 use bn_outside::OpenGate;
 use std::alloc::Global;
 use std::sync::Wait;
@@ -14,8 +14,21 @@ fn copy_file(alloc: Global, machine: &Surroundings, name: &str) -> anyhow::Resul
     }
 }
 
-// Runs the program on a prefix of a file. Prints in one line how long the prefix is, the status, how many
-// bytes the program wrote to out and to err, and the text of err.
+// Prints how long a prefix is, the status, how many bytes the program wrote to out and to err, and the
+// text of err.
+fn print_prefix<R: Print>(
+    rt: &R,
+    length: usize,
+    status: u8,
+    machine: &Surroundings,
+) -> anyhow::Result<()> {
+    let (out, err) = (machine.out.written().len(), machine.err.written());
+    print!(rt; "{length} status {status} out {out} err {}", err.len())?;
+    println!(rt; " {}", std::str::from_utf8(err)?.trim_end())?;
+    Ok(())
+}
+
+// Runs the program on a prefix of a file, and prints a line of what comes of it.
 fn run_prefix<R: Print + Threads + Wait + Sync>(
     rt: &R,
     machine: &mut Surroundings,
@@ -25,14 +38,7 @@ fn run_prefix<R: Print + Threads + Wait + Sync>(
 ) -> anyhow::Result<()> {
     machine.store.put(name, prefix)?;
     let status = machine.run(rt, words, &OpenGate)?;
-    let (out, err) = (machine.out.written().len(), machine.err.written());
-    print!(rt;
-        "{} status {status} out {out} err {}",
-        prefix.len(),
-        err.len()
-    )?;
-    println!(rt; " {}", std::str::from_utf8(err)?.trim_end())?;
-    Ok(())
+    print_prefix(rt, prefix.len(), status, machine)
 }
 
 // Runs the program on each prefix of these bytes, from the first length to the last.
@@ -56,6 +62,22 @@ fn run_each<R: Print + Threads + Wait + Sync>(
     Ok(())
 }
 
+// Runs the program on prefixes of a file of these bytes as a line says, and leaves the file whole.
+fn run_on<R: Print + Threads + Wait + Sync>(
+    rt: &R,
+    machine: &mut Surroundings,
+    line: &str,
+    words: &[&str],
+    bytes: &[u8],
+) -> anyhow::Result<()> {
+    let (name, call) = (word(words, 1), rest(words, 4));
+    let first = number(words.get(2))?;
+    let last = number(words.get(3))?;
+    println!(rt; "{line}")?;
+    run_each(rt, machine, name, bytes, first, last, call)?;
+    Ok(machine.store.put(name, bytes)?)
+}
+
 /// Runs the program on prefixes of a file as a line says, and leaves the file whole.
 pub fn run_prefixes<R: Print + Threads + Wait + Sync>(
     rt: &R,
@@ -64,13 +86,6 @@ pub fn run_prefixes<R: Print + Threads + Wait + Sync>(
     line: &str,
     words: &[&str],
 ) -> anyhow::Result<()> {
-    let name = words.get(1).copied().unwrap_or("");
-    let first = number(words.get(2))?;
-    let last = number(words.get(3))?;
-    let call = words.get(4..).unwrap_or(&[]);
-    let bytes = copy_file(alloc, machine, name)?;
-    println!(rt; "{line}")?;
-    run_each(rt, machine, name, &bytes, first, last, call)?;
-    machine.store.put(name, &bytes)?;
-    Ok(())
+    let bytes = copy_file(alloc, machine, word(words, 1))?;
+    run_on(rt, machine, line, words, &bytes)
 }

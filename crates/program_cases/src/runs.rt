@@ -2,9 +2,9 @@
 ghost use Rattle.std.specs.Prelude.{◌≤◌};
 
 use crate::closed_runs::{by_number, by_turns, with_list};
-use crate::hex;
 use crate::serving::{run_plain, run_steps};
-use crate::words::{code, harts, number};
+use crate::telling::print_bytes;
+use crate::words::{code, harts, number, word};
 use bn_base::{HartId, Image, RawSettings, Segment, Settings};
 use bn_outside::{FullBook, LeanBook};
 use run_model::Start;
@@ -20,10 +20,25 @@ fn run_seed<R: Print>(
     words: &[&str],
 ) -> anyhow::Result<Vec<u8>> {
     let seed = number(words.first())? as u64;
-    if verb == "seed" {
-        return by_number(rt, alloc, start, seed);
+    match verb {
+        "seed" => by_number(rt, alloc, start, seed),
+        _ => with_list(rt, alloc, start, seed),
     }
-    with_list(rt, alloc, start, seed)
+}
+
+// The records of a run whose turns are listed.
+fn run_list<R: Print>(
+    rt: &R,
+    alloc: Global,
+    start: &Start,
+    verb: &str,
+    list: &[HartId],
+) -> anyhow::Result<Vec<u8>> {
+    match verb {
+        "plain" => run_plain(rt, alloc, start, list),
+        "turns" => by_turns(rt, alloc, start, FullBook::new(alloc), list),
+        _ => by_turns(rt, alloc, start, LeanBook, list),
+    }
 }
 
 // The records of a run whose turns the words of a line list.
@@ -38,47 +53,20 @@ fn run_words<R: Print>(
     run_list(rt, alloc, start, verb, &list)
 }
 
-// Records that are there.
-fn some(records: anyhow::Result<Vec<u8>>) -> anyhow::Result<Option<Vec<u8>>> {
-    Ok(Some(records?))
-}
-
-// The records of the run that a line says; none where it says no run.
+// The records of the run that a line says.
 fn run<R: Print>(
     rt: &R,
     alloc: Global,
     start: &Start,
     verb: &str,
     words: &[&str],
-) -> anyhow::Result<Option<Vec<u8>>> {
-    if verb == "serve" {
-        some(run_steps(rt, alloc, start, FullBook::new(alloc), words))
-    } else if verb == "serve-lean" {
-        some(run_steps(rt, alloc, start, LeanBook, words))
-    } else if verb == "seed" || verb == "seed-listed" {
-        some(run_seed(rt, alloc, start, verb, words))
-    } else if verb == "plain" || verb == "turns" || verb == "turns-lean" {
-        some(run_words(rt, alloc, start, verb, words))
-    } else {
-        Ok(None)
-    }
-}
-
-// The records of a run whose turns are listed.
-fn run_list<R: Print>(
-    rt: &R,
-    alloc: Global,
-    start: &Start,
-    verb: &str,
-    list: &[HartId],
 ) -> anyhow::Result<Vec<u8>> {
-    if verb == "plain" {
-        return run_plain(rt, alloc, start, list);
+    match verb {
+        "serve" => run_steps(rt, alloc, start, FullBook::new(alloc), words),
+        "serve-lean" => run_steps(rt, alloc, start, LeanBook, words),
+        "seed" | "seed-listed" => run_seed(rt, alloc, start, verb, words),
+        _ => run_words(rt, alloc, start, verb, words),
     }
-    if verb == "turns" {
-        return by_turns(rt, alloc, start, FullBook::new(alloc), list);
-    }
-    by_turns(rt, alloc, start, LeanBook, list)
 }
 
 /// What the runs of a case begin with, and the records of the last two.
@@ -113,7 +101,8 @@ impl Runs {
         words.truncate(64);
         let count = words.len() as u32;
         let segment = Segment::new(0x10054, words, count, true, false);
-        let segments = Vec::from_array(self.alloc, [segment])?;
+        let mut segments = Vec::new(self.alloc);
+        segments.push(segment)?;
         Ok(Image::new(segments, 0x10054, settings))
     }
 
@@ -130,66 +119,68 @@ impl Runs {
         })
     }
 
-    // Changes a setting.
-    fn set(&mut self, name: &str, value: u64) -> anyhow::Result<()> {
-        if name == "harts" {
-            self.raw.harts = value;
-        } else if name == "interval" {
-            self.raw.interval = value;
-        } else if name == "line" {
-            self.raw.line = value;
-        } else {
-            anyhow::bail!("no setting of cases");
+    // Changes a setting as a line says.
+    fn set(&mut self, words: &[&str]) -> anyhow::Result<()> {
+        let value = number(words.get(1))? as u64;
+        match word(words, 0) {
+            "harts" => self.raw.harts = value,
+            "interval" => self.raw.interval = value,
+            "line" => self.raw.line = value,
+            _ => anyhow::bail!("no setting of cases"),
         }
         Ok(())
     }
 
+    // Takes the code of a line.
+    fn take_code(&mut self, words: &[&str]) -> anyhow::Result<()> {
+        self.code = code(self.alloc, words)?;
+        Ok(())
+    }
+
+    // Takes the input of a line.
+    fn take_input(&mut self, text: &str) -> anyhow::Result<()> {
+        self.input = hex::decode(self.alloc, text)?;
+        Ok(())
+    }
+
     // Prints bytes of the last run's records, from a place up to another.
-    fn show<R: Print>(&self, rt: &R, first: usize, end: usize) -> anyhow::Result<()> {
+    fn show<R: Print>(&self, rt: &R, words: &[&str]) -> anyhow::Result<()> {
+        let first = number(words.first())?;
+        let end = number(words.get(1))?;
         match self.last.get(first..end) {
-            Some(bytes) => hex::print(rt, bytes),
+            Some(bytes) => print_bytes(rt, bytes),
             None => Err(anyhow::anyhow!("no such records")),
         }
     }
 
-    /// Does what a line says that is about runs; false where it isn't.
-    pub fn step<R: Print>(&mut self, rt: &R, verb: &str, words: &[&str]) -> anyhow::Result<bool> {
-        let word = words.first().copied().unwrap_or("");
-        if verb == "code" {
-            self.code = code(self.alloc, words)?;
-        } else if verb == "input" {
-            self.input = hex::bytes(self.alloc, word)?;
-        } else if verb == "set" {
-            self.set(word, number(words.get(1))? as u64)?;
-        } else if verb == "records" {
-            self.show(rt, number(words.first())?, number(words.get(1))?)?;
-        } else if verb == "same" {
-            println!(rt; "same {}", self.last == self.before)?;
-        } else {
-            return self.begin(rt, verb, words);
-        }
-        Ok(true)
+    // Prints whether the last two runs have the same records.
+    fn compare<R: Print>(&self, rt: &R) -> anyhow::Result<()> {
+        println!(rt; "same {}", self.last == self.before)?;
+        Ok(())
     }
 
-    // The records of the run that a line says; none where it says none.
-    fn records<R: Print>(
-        &self,
-        rt: &R,
-        verb: &str,
-        words: &[&str],
-    ) -> anyhow::Result<Option<Vec<u8>>> {
+    /// Does what a line says that is about runs.
+    pub fn step<R: Print>(&mut self, rt: &R, verb: &str, words: &[&str]) -> anyhow::Result<()> {
+        match verb {
+            "code" => self.take_code(words),
+            "input" => self.take_input(word(words, 0)),
+            "set" => self.set(words),
+            "records" => self.show(rt, words),
+            "same" => self.compare(rt),
+            _ => self.begin(rt, verb, words),
+        }
+    }
+
+    // The records of the run that a line says.
+    fn records<R: Print>(&self, rt: &R, verb: &str, words: &[&str]) -> anyhow::Result<Vec<u8>> {
         let start = self.start()?;
         run(rt, self.alloc, &start, verb, words)
     }
 
-    // Does the run that a line says; false where it says none.
-    fn begin<R: Print>(&mut self, rt: &R, verb: &str, words: &[&str]) -> anyhow::Result<bool> {
-        match self.records(rt, verb, words)? {
-            Some(records) => {
-                self.before = replace(&mut self.last, records);
-                Ok(true)
-            }
-            None => Ok(false),
-        }
+    // Does the run that a line says.
+    fn begin<R: Print>(&mut self, rt: &R, verb: &str, words: &[&str]) -> anyhow::Result<()> {
+        let records = self.records(rt, verb, words)?;
+        self.before = replace(&mut self.last, records);
+        Ok(())
     }
 }

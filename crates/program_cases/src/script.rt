@@ -1,12 +1,14 @@
 // The lines of a script of cases.
+use crate::files;
 use crate::machine::Surroundings;
 use crate::prefixes::run_prefixes;
 use crate::runs::Runs;
-use crate::words::{code, number, numbers, words_of};
-use crate::{files, hex};
+use crate::telling::print_bytes;
+use crate::words::{code, number, numbers, rest, word, words_of};
 use bn_outside::{Gate, ListGate, MeetGate, OpenGate};
 use guest_gen::{Kind, guest};
 use std::alloc::{AllocError, Global};
+use std::io;
 use std::sync::Wait;
 use std::thread::Threads;
 
@@ -24,9 +26,8 @@ fn guest_of(alloc: Global, rest: &[&str]) -> anyhow::Result<Vec<u8>> {
 
 // Adds the bytes of a text to a file.
 fn add_bytes(alloc: Global, file: &mut Vec<u8>, text: &str) -> anyhow::Result<()> {
-    let bytes = hex::bytes(alloc, text)?;
-    file.extend_from_slice(&bytes)?;
-    Ok(())
+    let bytes = hex::decode(alloc, text)?;
+    Ok(file.extend_from_slice(&bytes)?)
 }
 
 // Puts bytes in place of a file's own from a place on.
@@ -39,56 +40,73 @@ fn patch(file: &mut Vec<u8>, place: usize, bytes: &[u8]) {
 // Puts the bytes of a text in place of a file's own from the place that a line says on.
 fn put_bytes(alloc: Global, file: &mut Vec<u8>, rest: &[&str], text: &str) -> anyhow::Result<()> {
     let place = number(rest.first())?;
-    let bytes = hex::bytes(alloc, text)?;
+    let bytes = hex::decode(alloc, text)?;
     patch(file, place, &bytes);
     Ok(())
 }
 
-// Cuts a file, or makes it one of so many bytes 0.
-fn set_length(file: &mut Vec<u8>, verb: &str, length: usize) -> Result<(), AllocError> {
-    if verb == "cut" {
-        file.truncate(length);
-        return Ok(());
-    }
+// Leaves so many first bytes of a file alone.
+fn cut(file: &mut Vec<u8>, rest: &[&str]) -> anyhow::Result<()> {
+    file.truncate(number(rest.first())?);
+    Ok(())
+}
+
+// Makes a file one of so many bytes 0.
+fn fill(file: &mut Vec<u8>, rest: &[&str]) -> anyhow::Result<()> {
     file.clear();
-    file.resize(length, 0)
+    Ok(file.resize(number(rest.first())?, 0)?)
 }
 
 // Changes a file as a line says.
 fn change(alloc: Global, file: &mut Vec<u8>, verb: &str, rest: &[&str]) -> anyhow::Result<()> {
     let text = rest.last().copied().unwrap_or("");
-    if verb == "bytes" {
-        return add_bytes(alloc, file, text);
+    match verb {
+        "bytes" => add_bytes(alloc, file, text),
+        "put" => put_bytes(alloc, file, rest, text),
+        "cut" => cut(file, rest),
+        _ => fill(file, rest),
     }
-    if verb == "put" {
-        return put_bytes(alloc, file, rest, text);
-    }
-    let length = number(rest.first())?;
-    set_length(file, verb, length)?;
-    Ok(())
 }
 
-// The new bytes of a file.
-fn changed(alloc: Global, old: &[u8], verb: &str, rest: &[&str]) -> anyhow::Result<Vec<u8>> {
-    if verb == "program" {
-        return program_of(alloc, rest);
-    }
-    if verb == "guest" {
-        return guest_of(alloc, rest);
-    }
+// A file with the change that a line says.
+fn with_change(alloc: Global, old: &[u8], verb: &str, rest: &[&str]) -> anyhow::Result<Vec<u8>> {
     let mut file = old.to_vec(alloc)?;
     change(alloc, &mut file, verb, rest)?;
     Ok(file)
 }
 
-// Prints a text and how long it is.
+// The new bytes of a file.
+fn changed(alloc: Global, old: &[u8], verb: &str, rest: &[&str]) -> anyhow::Result<Vec<u8>> {
+    match verb {
+        "program" => program_of(alloc, rest),
+        "guest" => guest_of(alloc, rest),
+        _ => with_change(alloc, old, verb, rest),
+    }
+}
+
+// Prints how long a text is, and the text, or the bytes that are none.
 fn print_text<R: Print>(rt: &R, what: &str, text: &[u8]) -> anyhow::Result<()> {
     println!(rt; "{what} {}", text.len())?;
     match std::str::from_utf8(text) {
-        Ok(text) => print!(rt; "{text}")?,
-        Err(_) => hex::print(rt, text)?,
+        Ok(text) => Ok(print!(rt; "{text}")?),
+        Err(_) => print_bytes(rt, text),
     }
+}
+
+// Prints a line of the script and the status that came of it.
+fn print_status<R: Print>(rt: &R, line: &str, status: u8) -> anyhow::Result<()> {
+    println!(rt; "{line}\nstatus {status}")?;
     Ok(())
+}
+
+// Prints what the program wrote, and what is left of its input.
+fn print_outcome<R: Print>(rt: &R, machine: &Surroundings) -> anyhow::Result<()> {
+    print_text(rt, "out", machine.out.written())?;
+    print_text(rt, "err", machine.err.written())?;
+    match machine.left {
+        Some(left) => Ok(println!(rt; "left {left}")?),
+        None => Ok(()),
+    }
 }
 
 // Runs the program, and prints what came of it.
@@ -100,14 +118,8 @@ fn run<G: Gate, R: Print + Threads + Wait + Sync>(
     gate: &G,
 ) -> anyhow::Result<()> {
     let status = machine.run(rt, words, gate)?;
-    println!(rt; "{line}")?;
-    println!(rt; "status {status}")?;
-    print_text(rt, "out", machine.out.written())?;
-    print_text(rt, "err", machine.err.written())?;
-    if let Some(left) = machine.left {
-        println!(rt; "left {left}")?;
-    }
-    Ok(())
+    print_status(rt, line, status)?;
+    print_outcome(rt, machine)
 }
 
 // Runs the program with a gate at which harts meet, and prints how many met.
@@ -133,8 +145,7 @@ fn run_meet_status<R: Print + Threads + Wait + Sync>(
     gate: &MeetGate,
 ) -> anyhow::Result<()> {
     let status = machine.run(rt, words, gate)?;
-    println!(rt; "{line}")?;
-    println!(rt; "status {status}")?;
+    print_status(rt, line, status)?;
     println!(rt; "met {}", gate.met())?;
     Ok(())
 }
@@ -153,63 +164,74 @@ fn run_listed<R: Print + Threads + Wait + Sync>(
     Ok(())
 }
 
+// Runs the program with a gate at which as many harts meet as a line says.
+fn run_meeting<R: Print + Threads + Wait + Sync>(
+    rt: &R,
+    machine: &mut Surroundings,
+    line: &str,
+    words: &[&str],
+) -> anyhow::Result<()> {
+    let gate = MeetGate::new(word(words, 1).parse::<u8>()?);
+    match word(words, 0) {
+        "run-meet" => run_meet(rt, machine, line, rest(words, 2), &gate),
+        _ => run_meet_status(rt, machine, line, rest(words, 2), &gate),
+    }
+}
+
 // The gate that gives the order of a text.
 fn list_gate(alloc: Global, text: &str) -> anyhow::Result<ListGate> {
-    let order = hex::bytes(alloc, text)?;
+    let order = hex::decode(alloc, text)?;
     Ok(ListGate::new(alloc, &order)?)
 }
 
-// Whether a line runs the program once, with some gate, and prints what comes of it.
-fn is_gated(verb: &str) -> bool {
-    verb == "run" || verb == "run-meet" || verb == "run-meet-status" || verb == "run-listed"
-}
-
-// Runs the program as a line says: with a gate at which harts meet, or one that gives the order of their
-// turns, or with an open one.
-fn run_gated<R: Print + Threads + Wait + Sync>(
+// Runs the program with a gate that gives the order of the harts' turns that a line says.
+fn run_in_order<R: Print + Threads + Wait + Sync>(
     rt: &R,
     alloc: Global,
     machine: &mut Surroundings,
     line: &str,
     words: &[&str],
 ) -> anyhow::Result<()> {
-    let verb = words.first().copied().unwrap_or("");
-    let word = words.get(1).copied().unwrap_or("");
-    let rest = words.get(2..).unwrap_or(&[]);
-    if verb == "run-meet" {
-        let harts = word.parse::<u8>()?;
-        run_meet(rt, machine, line, rest, &MeetGate::new(harts))
-    } else if verb == "run-meet-status" {
-        let harts = word.parse::<u8>()?;
-        run_meet_status(rt, machine, line, rest, &MeetGate::new(harts))
-    } else if verb == "run-listed" {
-        let gate = list_gate(alloc, word)?;
-        run_listed(rt, machine, line, rest, &gate)
-    } else {
-        run(rt, machine, line, words.get(1..).unwrap_or(&[]), &OpenGate)
+    let gate = list_gate(alloc, word(words, 1))?;
+    run_listed(rt, machine, line, rest(words, 2), &gate)
+}
+
+// Runs the program as a line says.
+fn call<R: Print + Threads + Wait + Sync>(
+    rt: &R,
+    alloc: Global,
+    machine: &mut Surroundings,
+    line: &str,
+    words: &[&str],
+) -> anyhow::Result<()> {
+    match word(words, 0) {
+        "run" => run(rt, machine, line, rest(words, 1), &OpenGate),
+        "run-listed" => run_in_order(rt, alloc, machine, line, words),
+        "run-prefixes" => run_prefixes(rt, alloc, machine, line, words),
+        "run-last" => run_last(rt, machine, line, words),
+        _ => run_meeting(rt, machine, line, words),
     }
 }
 
-// Bytes of which a line says the first alone and how often, where it says that.
-fn repeat(keys: &mut Vec<u8>, words: &[&str]) -> anyhow::Result<()> {
-    if words.len() > 2 {
-        let byte = keys.first().copied().unwrap_or(0);
-        let count = number(words.get(2))?;
-        keys.clear();
-        keys.resize(count, byte)?;
-    }
-    Ok(())
-}
-
-// The bytes of a line, or a byte so many times.
-fn keys_of(alloc: Global, words: &[&str]) -> anyhow::Result<Vec<u8>> {
-    let mut keys = hex::bytes(alloc, words.get(1).copied().unwrap_or(""))?;
-    repeat(&mut keys, words)?;
+// A byte so many times.
+fn repeated(alloc: Global, byte: u8, count: usize) -> Result<Vec<u8>, AllocError> {
+    let mut keys = Vec::new(alloc);
+    keys.resize(count, byte)?;
     Ok(keys)
 }
 
+// The bytes of a line, or where it says how often, the first of them so many times.
+fn keys_of(alloc: Global, words: &[&str]) -> anyhow::Result<Vec<u8>> {
+    let keys = hex::decode(alloc, word(words, 1))?;
+    if words.len() <= 2 {
+        return Ok(keys);
+    }
+    let byte = keys.first().copied().unwrap_or(0);
+    Ok(repeated(alloc, byte, number(words.get(2))?)?)
+}
+
 // The line of text that a line of the script says.
-fn text_of(alloc: Global, line: &str) -> Result<Vec<u8>, AllocError> {
+fn text_of(alloc: Global, line: &str) -> anyhow::Result<Vec<u8>> {
     let mut keys = Vec::from_slice(alloc, line.strip_prefix("type ").unwrap_or("").as_bytes())?;
     keys.push(b'\n')?;
     Ok(keys)
@@ -217,10 +239,20 @@ fn text_of(alloc: Global, line: &str) -> Result<Vec<u8>, AllocError> {
 
 // What a line adds to what the next call reads: a line of text, bytes, or a byte so many times.
 fn typed(alloc: Global, line: &str, words: &[&str]) -> anyhow::Result<Vec<u8>> {
-    if words.first().copied().unwrap_or("") == "keys" {
-        return keys_of(alloc, words);
+    match word(words, 0) {
+        "keys" => keys_of(alloc, words),
+        _ => text_of(alloc, line),
     }
-    Ok(text_of(alloc, line)?)
+}
+
+// Prints so many last lines of what the program wrote to out.
+fn print_last<R: Print>(rt: &R, machine: &Surroundings, count: usize) -> anyhow::Result<()> {
+    let text = std::str::from_utf8(machine.out.written())?;
+    let lines = text.lines().count();
+    for last in text.lines().skip(lines.saturating_sub(count)) {
+        println!(rt; "{last}")?;
+    }
+    Ok(())
 }
 
 // Runs the program, and prints its status, and of what it wrote to out the last lines alone.
@@ -231,15 +263,9 @@ fn run_last<R: Print + Threads + Wait + Sync>(
     words: &[&str],
 ) -> anyhow::Result<()> {
     let count = number(words.get(1))?;
-    let status = machine.run(rt, words.get(2..).unwrap_or(&[]), &OpenGate)?;
-    println!(rt; "{line}")?;
-    println!(rt; "status {status}")?;
-    let text = std::str::from_utf8(machine.out.written())?;
-    let lines = text.lines().count();
-    for last in text.lines().skip(lines.saturating_sub(count)) {
-        println!(rt; "{last}")?;
-    }
-    Ok(())
+    let status = machine.run(rt, rest(words, 2), &OpenGate)?;
+    print_status(rt, line, status)?;
+    print_last(rt, machine, count)
 }
 
 // Prints whether two files have the same bytes.
@@ -254,18 +280,81 @@ fn compare<R: Print>(
     Ok(())
 }
 
-// Prints how long a file is, and its bytes where they are to be seen.
-fn show<R: Print>(rt: &R, machine: &Surroundings, name: &str, whole: bool) -> anyhow::Result<()> {
+// Prints how long a file is.
+fn print_size<R: Print>(rt: &R, machine: &Surroundings, name: &str) -> anyhow::Result<()> {
     match machine.store.bytes(name) {
-        Some(bytes) => {
-            println!(rt; "{name} {}", bytes.len())?;
-            if whole {
-                hex::print(rt, bytes)?;
-            }
-        }
+        Some(bytes) => println!(rt; "{name} {}", bytes.len())?,
         None => println!(rt; "{name} is not there")?,
     }
     Ok(())
+}
+
+// Prints how long a file is, and its bytes.
+fn show<R: Print>(rt: &R, machine: &Surroundings, name: &str) -> anyhow::Result<()> {
+    print_size(rt, machine, name)?;
+    print_bytes(rt, machine.bytes(name))
+}
+
+// Prints what a line wants to see of files.
+fn look<R: Print>(rt: &R, machine: &Surroundings, words: &[&str]) -> anyhow::Result<()> {
+    let name = word(words, 1);
+    match word(words, 0) {
+        "size" => print_size(rt, machine, name),
+        "show" => show(rt, machine, name),
+        _ => compare(rt, machine, name, word(words, 2)),
+    }
+}
+
+// What a line is about.
+#[derive(Clone, Copy, Drop)]
+enum Topic {
+    Failing,
+    Typing,
+    Call,
+    Look,
+    Run,
+    File,
+}
+
+// What lines that begin with these words are about; all others change files.
+const TOPICS: [(&str, Topic); 27] = [
+    ("failing-store", Topic::Failing),
+    ("failing-out", Topic::Failing),
+    ("failing-err", Topic::Failing),
+    ("failing-keys", Topic::Failing),
+    ("type", Topic::Typing),
+    ("keys", Topic::Typing),
+    ("run", Topic::Call),
+    ("run-meet", Topic::Call),
+    ("run-meet-status", Topic::Call),
+    ("run-listed", Topic::Call),
+    ("run-prefixes", Topic::Call),
+    ("run-last", Topic::Call),
+    ("size", Topic::Look),
+    ("show", Topic::Look),
+    ("alike", Topic::Look),
+    ("code", Topic::Run),
+    ("input", Topic::Run),
+    ("set", Topic::Run),
+    ("plain", Topic::Run),
+    ("serve", Topic::Run),
+    ("serve-lean", Topic::Run),
+    ("turns", Topic::Run),
+    ("turns-lean", Topic::Run),
+    ("seed", Topic::Run),
+    ("seed-listed", Topic::Run),
+    ("records", Topic::Run),
+    ("same", Topic::Run),
+];
+
+// What a line that begins with this word is about.
+fn topic_of(verb: &str) -> Topic {
+    for (name, topic) in &TOPICS {
+        if *name == verb {
+            return *topic;
+        }
+    }
+    Topic::File
 }
 
 /// What a case has made so far.
@@ -286,21 +375,16 @@ impl Case {
         }
     }
 
-    // Does what a line says of calls that fail; false where it says nothing of them.
-    fn failing_step(&mut self, verb: &str, words: &[&str]) -> anyhow::Result<bool> {
-        let calls = words.get(1..).unwrap_or(&[]);
-        if verb == "failing-store" {
-            self.machine = Surroundings::new(self.alloc, numbers(self.alloc, calls)?);
-        } else if verb == "failing-out" {
-            self.machine.failing = numbers(self.alloc, calls)?;
-        } else if verb == "failing-err" {
-            self.machine.failing_err = numbers(self.alloc, calls)?;
-        } else if verb == "failing-keys" {
-            self.machine.failing_keys = numbers(self.alloc, calls)?;
-        } else {
-            return Ok(false);
+    // Does what a line says of calls that fail.
+    fn fail(&mut self, verb: &str, calls: &[&str]) -> anyhow::Result<()> {
+        let numbers = numbers(self.alloc, calls)?;
+        match verb {
+            "failing-store" => self.machine = Surroundings::new(self.alloc, numbers),
+            "failing-out" => self.machine.failing = numbers,
+            "failing-err" => self.machine.failing_err = numbers,
+            _ => self.machine.failing_keys = numbers,
         }
-        Ok(true)
+        Ok(())
     }
 
     // Adds what a line types to what the next call can read.
@@ -313,35 +397,7 @@ impl Case {
     // Makes or changes a file as a line says.
     fn put_file(&mut self, verb: &str, name: &str, rest: &[&str]) -> anyhow::Result<()> {
         let file = changed(self.alloc, self.machine.bytes(name), verb, rest)?;
-        self.machine.store.put(name, &file)?;
-        Ok(())
-    }
-
-    // Does what a line about files and calls of the program says.
-    fn call_step<R: Print + Threads + Wait + Sync>(
-        &mut self,
-        rt: &R,
-        line: &str,
-        words: &[&str],
-    ) -> anyhow::Result<()> {
-        let verb = words.first().copied().unwrap_or("");
-        let name = words.get(1).copied().unwrap_or("");
-        let rest = words.get(2..).unwrap_or(&[]);
-        if verb == "type" || verb == "keys" {
-            self.type_keys(line, words)
-        } else if is_gated(verb) {
-            run_gated(rt, self.alloc, &mut self.machine, line, words)
-        } else if verb == "run-prefixes" {
-            run_prefixes(rt, self.alloc, &mut self.machine, line, words)
-        } else if verb == "run-last" {
-            run_last(rt, &mut self.machine, line, words)
-        } else if verb == "alike" {
-            compare(rt, &self.machine, name, rest.first().copied().unwrap_or(""))
-        } else if verb == "size" || verb == "show" {
-            show(rt, &self.machine, name, verb == "show")
-        } else {
-            self.put_file(verb, name, rest)
-        }
+        Ok(self.machine.store.put(name, &file)?)
     }
 
     // Begins a case, and prints its line.
@@ -351,33 +407,51 @@ impl Case {
         Ok(())
     }
 
-    // Does what a line says in these words.
+    // Does what a line says, by what it is about.
+    fn act<R: Print + Threads + Wait + Sync>(
+        &mut self,
+        rt: &R,
+        line: &str,
+        verb: &str,
+        words: &[&str],
+    ) -> anyhow::Result<()> {
+        match topic_of(verb) {
+            Topic::Failing => self.fail(verb, rest(words, 1)),
+            Topic::Typing => self.type_keys(line, words),
+            Topic::Call => call(rt, self.alloc, &mut self.machine, line, words),
+            Topic::Look => look(rt, &self.machine, words),
+            Topic::Run => self.runs.step(rt, verb, rest(words, 1)),
+            Topic::File => self.put_file(verb, word(words, 1), rest(words, 2)),
+        }
+    }
+
+    // Does what the words of a line say.
     fn obey<R: Print + Threads + Wait + Sync>(
         &mut self,
         rt: &R,
         line: &str,
         words: &[&str],
     ) -> anyhow::Result<()> {
-        let verb = words.first().copied().unwrap_or("");
-        if verb == "#" {
-            self.begin(rt, line)
-        } else if verb == ""
-            || self.runs.step(rt, verb, words.get(1..).unwrap_or(&[]))?
-            || self.failing_step(verb, words)?
-        {
-            Ok(())
-        } else {
-            self.call_step(rt, line, words)
+        match word(words, 0) {
+            "" => Ok(()),
+            "#" => self.begin(rt, line),
+            verb => self.act(rt, line, verb, words),
         }
     }
 
-    /// Does what a line of the script says.
-    pub fn step<R: Print + Threads + Wait + Sync>(
-        &mut self,
-        rt: &R,
-        line: &str,
-    ) -> anyhow::Result<()> {
+    // Does what a line of the script says.
+    fn step<R: Print + Threads + Wait + Sync>(&mut self, rt: &R, line: &str) -> anyhow::Result<()> {
         let words = words_of(self.alloc, line)?;
         self.obey(rt, line, &words)
+    }
+
+    /// Does what a line that was read says.
+    pub fn take<R: Print + Threads + Wait + Sync>(
+        &mut self,
+        rt: &R,
+        line: io::Result<String>,
+    ) -> anyhow::Result<()> {
+        let line = line?;
+        self.step(rt, &line)
     }
 }

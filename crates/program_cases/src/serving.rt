@@ -2,9 +2,9 @@
 use crate::telling::{print_closed, print_end, print_records, print_rows};
 use bn_base::{HARTS, HartId, Image};
 use bn_outside::Book;
-use bus_core::Bus;
+use bus_core::{Bus, Closed};
 use run_model::{Plain, Start};
-use rv_meaning::{Want, quiet_run};
+use rv_meaning::{Ask, Want, quiet_run};
 use std::alloc::Global;
 
 // Prints the harts that are live.
@@ -16,6 +16,41 @@ fn print_live<R: Print, B: Book>(rt: &R, bus: &Bus<B>) -> anyhow::Result<()> {
         }
     }
     println!(rt; "")?;
+    Ok(())
+}
+
+// The ask of a hart that did its quiet instructions, or what it asks in a step that strays.
+fn asked(name: &str, mut ask: Ask) -> Ask {
+    if name == "stray" {
+        ask.want = Want::Store {
+            addr: 0x10054,
+            width: 4,
+            value: 7,
+        };
+    }
+    ask
+}
+
+// Has a hart do its quiet instructions, and prints how many it did or what a bus replies then.
+fn turn<R: Print, B: Book>(
+    rt: &R,
+    bus: &mut Bus<B>,
+    image: &Image,
+    word: &str,
+    name: &str,
+    hart: HartId,
+) -> anyhow::Result<()> {
+    if !bus.live(hart) {
+        anyhow::bail!("the hart is over");
+    }
+    let quiet = quiet_run(image, *bus.state(hart), bus.budget(hart));
+    match name {
+        "ahead" => println!(rt; "{word} {}", quiet.state.ic)?,
+        _ => {
+            let (reply, _guarded) = bus.serve(hart, &asked(name, quiet))?;
+            println!(rt; "{word} {reply:?}")?;
+        }
+    }
     Ok(())
 }
 
@@ -31,25 +66,7 @@ fn step<R: Print, B: Book>(
         return Ok(());
     }
     let (name, number) = word.split_once('-').unwrap_or(("turn", word));
-    let hart = number.parse::<HartId>()?;
-    if !bus.live(hart) {
-        anyhow::bail!("the hart is over");
-    }
-    let mut ask = quiet_run(image, *bus.state(hart), bus.budget(hart));
-    if name == "ahead" {
-        println!(rt; "{word} {}", ask.state.ic)?;
-        return Ok(());
-    }
-    if name == "stray" {
-        ask.want = Want::Store {
-            addr: 0x10054,
-            width: 4,
-            value: 7,
-        };
-    }
-    let (reply, _guarded) = bus.serve(hart, &ask)?;
-    println!(rt; "{word} {reply:?}")?;
-    Ok(())
+    turn(rt, bus, image, word, name, number.parse::<HartId>()?)
 }
 
 // Does steps on a bus, and prints what comes of each.
@@ -67,6 +84,19 @@ fn do_steps<R: Print, B: Book>(
     print_rows(rt, bus.rows())
 }
 
+// Does steps on a bus, prints what comes of each, and closes it.
+fn served<R: Print, B: Book>(
+    rt: &R,
+    mut bus: Bus<B>,
+    image: &Image,
+    words: &[&str],
+) -> anyhow::Result<Closed<B>> {
+    match do_steps(rt, &mut bus, image, words) {
+        Ok(()) => Ok(bus.close()),
+        Err(error) => Err(error),
+    }
+}
+
 /// Does steps on a bus, prints what comes of each and what is handed over then, and gives the
 /// records.
 pub fn run_steps<R: Print, B: Book>(
@@ -76,9 +106,9 @@ pub fn run_steps<R: Print, B: Book>(
     book: B,
     words: &[&str],
 ) -> anyhow::Result<Vec<u8>> {
-    let mut bus = Bus::new(alloc, start, book)?;
-    do_steps(rt, &mut bus, &start.image, words)?;
-    print_closed(rt, alloc, &bus.close())
+    let bus = Bus::new(alloc, start, book)?;
+    let closed = served(rt, bus, &start.image, words)?;
+    print_closed(rt, alloc, &closed)
 }
 
 // Takes turns on a plain machine, and prints after each whether its hart is live.
@@ -104,6 +134,17 @@ fn print_plain<R: Print>(rt: &R, alloc: Global, plain: &Plain) -> anyhow::Result
     Ok(records)
 }
 
+// Takes turns on a plain machine that has begun, prints what it has then, and gives the records.
+fn play<R: Print>(
+    rt: &R,
+    alloc: Global,
+    plain: &mut Plain,
+    harts: &[HartId],
+) -> anyhow::Result<Vec<u8>> {
+    take_turns(rt, plain, harts)?;
+    print_plain(rt, alloc, plain)
+}
+
 /// Takes turns on a plain machine, prints what it has then, and gives the records.
 pub fn run_plain<R: Print>(
     rt: &R,
@@ -112,6 +153,5 @@ pub fn run_plain<R: Print>(
     harts: &[HartId],
 ) -> anyhow::Result<Vec<u8>> {
     let mut plain = Plain::new(alloc, start)?;
-    take_turns(rt, &mut plain, harts)?;
-    print_plain(rt, alloc, &plain)
+    play(rt, alloc, &mut plain, harts)
 }

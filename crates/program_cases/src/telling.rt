@@ -4,6 +4,23 @@ use bn_outside::{Book, TurnRow};
 use bus_core::Closed;
 use log_record::size;
 use std::alloc::Global;
+use std::io;
+
+// Prints bytes in a line.
+fn print_line<R: Print>(rt: &R, bytes: &[u8]) -> io::Result<()> {
+    for byte in bytes {
+        print!(rt; "{byte:02x}")?;
+    }
+    println!(rt; "")
+}
+
+/// Prints bytes in hexadecimal, 32 a line.
+pub fn print_bytes<R: Print>(rt: &R, bytes: &[u8]) -> anyhow::Result<()> {
+    for line in bytes.chunks(32) {
+        print_line(rt, line)?;
+    }
+    Ok(())
+}
 
 /// Prints a line of a name and numbers.
 pub fn print_numbers<R: Print>(rt: &R, name: &str, numbers: &[HartId]) -> anyhow::Result<()> {
@@ -60,10 +77,7 @@ pub fn print_rows<R: Print>(rt: &R, rows: Option<&[TurnRow]>) -> anyhow::Result<
 // Prints a text and how long it is.
 fn print_stream<R: Print>(rt: &R, name: &str, text: &[u8]) -> anyhow::Result<()> {
     println!(rt; "{name} {}", text.len())?;
-    if text.is_empty() {
-        return Ok(());
-    }
-    crate::hex::print(rt, text)
+    print_bytes(rt, text)
 }
 
 // Prints the last marks of harts, by their numbers.
@@ -78,8 +92,7 @@ fn print_ends<R: Print>(rt: &R, marks: &[Option<EndMark>]) -> anyhow::Result<()>
 
 // Prints how many turns were taken, and whether they ended the run.
 fn print_turns<R: Print>(rt: &R, turns: u64, finished: bool) -> anyhow::Result<()> {
-    println!(rt; "turns {turns}")?;
-    println!(rt; "finished {finished}")?;
+    println!(rt; "turns {turns}\nfinished {finished}")?;
     Ok(())
 }
 

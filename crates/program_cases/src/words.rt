@@ -1,14 +1,20 @@
 // The words of a line.
 use bn_base::HartId;
-use std::alloc::Global;
+use std::alloc::{AllocError, Global};
 
 /// The words of a line.
-pub fn words_of<'a>(alloc: Global, line: &'a str) -> anyhow::Result<Vec<&'a str>> {
-    let mut words = Vec::new(alloc);
-    for word in line.split_whitespace() {
-        words.push(word)?;
-    }
-    Ok(words)
+pub fn words_of<'a>(alloc: Global, line: &'a str) -> Result<Vec<&'a str>, AllocError> {
+    line.split_whitespace().collect(alloc)
+}
+
+/// A word by its place; none is empty.
+pub fn word<'a>(words: &[&'a str], place: usize) -> &'a str {
+    words.get(place).copied().unwrap_or("")
+}
+
+/// The words from a place on.
+pub fn rest<'a>(words: &'a [&'a str], place: usize) -> &'a [&'a str] {
+    words.get(place..).unwrap_or(&[])
 }
 
 /// A word as a number.
