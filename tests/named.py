@@ -219,6 +219,8 @@ def edit_fault(crate, name):
     text = read(f"{crate}/must-fail/{name}.edit")
     if text is None:
         return "is gone"
+    if "-and-" in name:
+        return "has another mutant beside it, whose refusal would hide that this one is not refused"
     changed = None
     pairs = 0
     for line in text.splitlines():
