@@ -1,5 +1,5 @@
 -- The three rows of the table that need more than the operation and one field: by rewriting the operation.
-use Rattle.std.proofs.Common.{◌≡◌, ℕ, subst, sym}
+use Rattle.std.proofs.Common.{◌≡◌, ℕ, subst, sym, rules}
 use Rattle.rv_decode.specs.Table.{table}
 use Rattle.rv_decode.specs.Fields.{row_by, kind_by}
 use Rattle.rv_decode.proofs.kinds.field_kind.Goals as goal
@@ -30,3 +30,6 @@ returns-in-15 c = rw c.in-15.is c.fence_name.ensures
 
 pub returns-in-115 : goal.returns-in-115
 returns-in-115 c = rw c.in-115.is c.system_name.ensures
+
+pub returns-in_default : goal.returns-in_default
+returns-in_default c = search rules

@@ -1,0 +1,12 @@
+use Rattle.std.proofs.Common.{rules, arith}
+use Rattle.std.proofs.lemmas.Grind.{common_steps}
+use Rattle.log_file.specs.Layout.{settings_bytes}
+use Rattle.log_file.proofs.writing.push_settings.Goals as goal
+
+pub returns-in_err-push_first : goal.returns-in_err-push_first
+unfolding settings_bytes
+returns-in_err-push_first c = search rules
+
+pub returns : goal.returns
+unfolding settings_bytes
+returns c = grind (arith, common_steps)
