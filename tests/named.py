@@ -220,7 +220,7 @@ def edit_fault(crate, name):
     if text is None:
         return "is gone"
     if "-and-" in name:
-        return "has another mutant beside it, whose refusal would hide that this one is not refused"
+        return "has other changes beside it, whose refusal could hide that this one is not refused"
     changed = None
     pairs = 0
     for line in text.splitlines():
