@@ -1,4 +1,5 @@
-use Rattle.std.proofs.Common.{rules}
+use Rattle.std.proofs.Common.{rules, arith}
+use Rattle.std.proofs.lemmas.Grind.{common_steps}
 use Rattle.demo_run.specs.Texts.{records_line}
 use Rattle.demo_run.proofs.figures.push_records.Goals as goal
 
@@ -8,4 +9,4 @@ returns-in_err-push_counted c = search rules
 
 pub returns : goal.returns
 unfolding records_line
-returns c = search rules
+returns c = grind (arith, common_steps)
