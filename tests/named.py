@@ -7,6 +7,7 @@ A mutant is a wrong body of one function. A must-fail edit writes it, and the pr
 no contract can see the fault, a test has to. This list has the mutants whose refusal shows most of what
 is promised. It fails if an edit is gone or no longer fits its file, or if a test is gone.
 
+Each of them is tried alone: its edit has no `# NAME` before a change, as edits with several have (tools/mutants.py).
 The edits themselves are tried by the merge gate, which also runs the tests.
 """
 import os
@@ -219,8 +220,8 @@ def edit_fault(crate, name):
     text = read(f"{crate}/must-fail/{name}.edit")
     if text is None:
         return "is gone"
-    if "-and-" in name:
-        return "has other changes beside it, whose refusal could hide that this one is not refused"
+    if re.search(r"^# [a-z0-9_]+$", text, re.M):
+        return "has several changes: the refusal of one could hide that another is not refused"
     changed = None
     pairs = 0
     for line in text.splitlines():
