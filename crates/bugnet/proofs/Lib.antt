@@ -24,3 +24,5 @@ mod BegunSessions
 mod LineCalls
 mod LineTells
 mod RecordLoads
+pub mod LineAnswers
+mod Replied

@@ -111,30 +111,9 @@ pub words-pass : (A : Type 0) (note : ℕ → StoreCall → ℕ) (names : FileNa
     → CallsTo names roles needed note before after result → CallsBy o names roles needed note before after result
 words-pass A note names o roles needed before after result e h = subst (λ (p : Option Refusal). CallsBy p names roles needed note before after result) (sym e) h
 
--- the test of LOG and NEW
-pub origin-first : (A : Type 0) (note : ℕ → StoreCall → ℕ) (names : FileNames) (same : Bool) (roles : List Role) (n : ℕ) (result : Result A Refusal) → same ≡ true → CallsBy (name_refusal same) names roles roles note n n result
-origin-first A note names true roles n result e = refl
-origin-first A note names false roles n result e = grind arith
-
-pub origin-pass : (A : Type 0) (note : ℕ → StoreCall → ℕ) (names : FileNames) (same : Bool) (roles : List Role) (before after : ℕ) (result : Result A Refusal) → same ≡ false
-    → LoadsTo names roles note before after result → CallsBy (name_refusal same) names roles roles note before after result
-origin-pass A note names false roles before after result e h = h
-origin-pass A note names true roles before after result e h = grind arith
-
--- by the names that a line says
-pub origin-calls : (A : Type 0) (note : ℕ → StoreCall → ℕ) (names own : FileNames) (before after : ℕ) (result : Result A Refusal) → names ≡ own
-    → CallsBy (name_refusal (bytes_eq names.origin names.log)) names origin_roles origin_roles note before after result
-    → CallsBy (name_refusal (bytes_eq own.origin own.log)) names origin_roles origin_roles note before after result
-origin-calls A note names own before after result e h = subst (λ (n : FileNames). CallsBy (name_refusal (bytes_eq n.origin n.log)) names origin_roles origin_roles note before after result) e h
-
 pub mapped : (A : Type 0) (B : Type 0) (f : A → B) (o : Option A) → is_some (option_map f o) ≡ is_some o
 mapped A B f None = refl
 mapped A B f (Some a) = refl
-
--- an audit's input
-pub audit-calls : (A : Type 0) (note : ℕ → StoreCall → ℕ) (names : FileNames) (has there : Bool) (before after : ℕ) (result : Result A Refusal) → has ≡ there
-    → LoadsTo names (roles_of has) note before after result → LoadsTo names (roles_of there) note before after result
-audit-calls A note names has there before after result e h = subst (λ (b : Bool). LoadsTo names (roles_of b) note before after result) e h
 
 -- and by what a recording's line asks for
 pub record-calls : (A : Type 0) (note : ℕ → StoreCall → ℕ) (names : FileNames) (r : RecordOptions) (how : Manner) (has : Bool) (before after : ℕ) (result : Result A Refusal) → names ≡ names_in (RecordLine (seen_recording r))

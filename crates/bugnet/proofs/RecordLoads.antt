@@ -79,7 +79,3 @@ record-lean r how answer m h = subst (λ (x : Manner). IsRecordedRun x.lean answ
 pub record-bytes : (known : Option Files) (names : FileNames) (r : RecordOptions) → names ≡ names_in (RecordLine (seen_recording r))
     → WithFiles known (λ files. HoldsBytes (files names.elf)) → HasElf (RecordLine (seen_recording r)) known
 record-bytes known names r e h = subst (λ (n : FileNames). WithFiles known (λ files. HoldsBytes (files n.elf))) e h
-
-pub by-origin : (names own : FileNames) (before now : Counts) (result : Result Answer Refusal) → names ≡ own
-    → CauseBy (name_refusal (bytes_eq names.origin names.log)) before now result → CauseBy (name_refusal (bytes_eq own.origin own.log)) before now result
-by-origin names own before now result e h = subst (λ (n : FileNames). CauseBy (name_refusal (bytes_eq n.origin n.log)) before now result) e h

@@ -9,14 +9,19 @@ use Rattle.log_commands.specs.Names.{FileNames, no_names}
 use Rattle.demo_run.specs.Demonstration.{demo_text}
 use Rattle.log_commands.specs.Told.{Told, refused, printed}
 use Rattle.bugnet.specs.Command.Record.{is_clash, IsRecord}
-use Rattle.log_commands.specs.Commands.{IsReplay, IsList, IsCheck}
+use Rattle.log_commands.specs.Commands.{IsByLog, list_of, check_of, replay_with, IsReplay, IsList, IsCheck}
 use Rattle.bugnet.specs.declared.manner.Manner.{Manner}
-use Rattle.log_commands.specs.Joined.{IsJoint}
-use Rattle.log_commands.specs.RaceAnswers.{IsRaces}
-use Rattle.log_commands.specs.SliceAnswers.{IsSlice}
+use Rattle.log_commands.specs.Joined.{joint_with, IsJoint}
+use Rattle.log_commands.specs.RaceAnswers.{races_with, IsRaces}
+use Rattle.log_commands.specs.SliceAnswers.{slice_with, IsSlice}
 use Rattle.bugnet.specs.Sessions.{IsDebug}
-use Rattle.log_commands.specs.Audits.{IsAudit}
-use Rattle.log_commands.specs.NewLogs.{IsConvert, IsSalvage}
+use Rattle.log_commands.specs.Audits.{IsAuditOf, IsAudit}
+use Rattle.log_commands.specs.Inputs.{Bytes}
+use Rattle.log_commands.specs.Outside.{IsPrinted}
+use Rattle.log_commands.specs.Pairs.{pair_of}
+use Rattle.log_commands.specs.SaveCounts.{IsMade, IsRenewed}
+use Rattle.log_commands.specs.declared.answer.Answer.{Answer}
+use Rattle.log_commands.specs.NewLogs.{renewed, IsBySalvage, IsConvert, IsSalvage}
 use Rattle.log_commands.specs.declared.refusal.Refusal.{Refusal}
 use Rattle.log_commands.specs.declared.refusal.Refusal.TheVariants.{WordsRefused, OutOfRange}
 use Rattle.log_commands.specs.Refusals.{name_refusal}
@@ -82,3 +87,34 @@ IsAnswer (Some (SliceLine log elf hart interval ic)) files what = IsSlice files 
 IsAnswer (Some (ConvertLine log copy)) files what = IsConvert files (names_in (ConvertLine log copy)) what
 IsAnswer (Some (SalvageLine log copy)) files what = IsSalvage files (names_in (SalvageLine log copy)) what
 IsAnswer (Some (DemoLine seed)) files what = what ≡ printed (demo_text seed)
+
+-- ---- what a line has to answer by the bytes that are loaded for it
+
+abbrev pub IsOn : Line → FileNames → Bytes → Told → Type 0
+IsOn (RecordLine r) names b what = ⊥
+IsOn (ReplayLine log elf hart interval) names b what = IsByLog names b.log (pair_of (replay_with names hart interval) names b.elf) what
+IsOn (JointLine log elf) names b what = IsByLog names b.log (pair_of (joint_with names) names b.elf) what
+IsOn (DebugLine log elf) names b what = ⊥
+IsOn (ListLine log) names b what = IsByLog names b.log list_of what
+IsOn (CheckLine log) names b what = IsByLog names b.log check_of what
+IsOn (AuditLine log elf book input) names b what = IsAuditOf names b.log b.elf b.book b.input what
+IsOn (RacesLine log elf most) names b what = IsByLog names b.log (pair_of (races_with names most) names b.elf) what
+IsOn (SliceLine log elf hart interval ic) names b what = IsByLog names b.log (pair_of (slice_with names hart interval ic) names b.elf) what
+IsOn (ConvertLine log copy) names b what = IsByLog names b.origin renewed what
+IsOn (SalvageLine log copy) names b what = IsBySalvage names b.origin what
+IsOn (DemoLine seed) names b what = what ≡ printed (demo_text seed)
+
+-- what kind of answer that is
+abbrev pub KindOf : Line → Answer → Type 0
+KindOf (RecordLine r) answer = ⊥
+KindOf (ReplayLine log elf hart interval) answer = IsPrinted answer
+KindOf (JointLine log elf) answer = IsPrinted answer
+KindOf (DebugLine log elf) answer = ⊥
+KindOf (ListLine log) answer = IsMade answer
+KindOf (CheckLine log) answer = IsMade answer
+KindOf (AuditLine log elf book input) answer = IsMade answer
+KindOf (RacesLine log elf most) answer = IsPrinted answer
+KindOf (SliceLine log elf hart interval ic) answer = IsMade answer
+KindOf (ConvertLine log copy) answer = IsRenewed answer
+KindOf (SalvageLine log copy) answer = IsRenewed answer
+KindOf (DemoLine seed) answer = IsMade answer

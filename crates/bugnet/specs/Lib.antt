@@ -18,3 +18,5 @@ pub mod Agreements
 pub mod Command
 pub mod Starts
 pub mod LineCalls
+pub mod LineAnswers
+pub mod Replies

@@ -1,12 +1,17 @@
 //! The program: it reads its words, loads, answers, saves and prints.
-ghost use Rattle.std.specs.Prelude.{◌≡◌, ◌≢◌, ◌≤◌, ◌⊎◌, true, Some, IfOk};
+ghost use Rattle.std.specs.Prelude.{◌≡◌, ◌≤◌, ◌⊎◌, true, Some, None};
 ghost use Rattle.bn_outside.specs.Counts.{Rose, NoneFell};
 ghost use Rattle.command_words.specs.Words.{command_in, seen, seen_recording};
-ghost use Rattle.bugnet.specs.Answers.{names_in, manner_of, refusal_in, IsAnswer};
-ghost use Rattle.bugnet.specs.Asks.{LineSaves, FitsLine};
-ghost use Rattle.log_commands.specs.SaveCounts.{AnswerSaves};
-ghost use Rattle.bugnet.specs.LineCalls.{line_roles, needed_roles, CallsOnly, HasShape, AnswersDemo, TellsDemo};
-ghost use Rattle.log_commands.specs.FileCalls.{saves_in, CallsBy, SavesTold};
+ghost use Rattle.std.specs.Str.{bytes_eq};
+ghost use Rattle.bugnet.specs.Answers.{names_in, manner_of, refusal_in, IsOn, KindOf};
+ghost use Rattle.bugnet.specs.LineAnswers.{AnswersLine};
+ghost use Rattle.bugnet.specs.Replies.{ActsOn, ClosesTo, Replies, Does, reading};
+ghost use Rattle.log_commands.specs.Answering.{Answers};
+ghost use Rattle.log_commands.specs.Inputs.{bytes_of};
+ghost use Rattle.log_commands.specs.Names.{FileNames};
+ghost use Rattle.log_commands.specs.Refusals.{name_refusal};
+ghost use Rattle.bugnet.specs.Asks.{LineSaves};
+ghost use Rattle.bugnet.specs.LineCalls.{line_roles, CallsOnly, HasShape, AnswersDemo, TellsDemo};
 ghost use Rattle.bugnet.specs.Laws.{IsReadOnly, IsNoSession, IsNoRecording};
 ghost use Rattle.bugnet.specs.Sessions.{is_begun};
 ghost use Rattle.bugnet.specs.DebugSessions.{CanBegin, Debugs};
@@ -14,13 +19,13 @@ ghost use Rattle.bugnet.specs.Agreements.{AuditsRun};
 ghost use Rattle.bugnet.specs.Complete.{IsDone};
 ghost use Rattle.bugnet.specs.Headline.{PrintsRun};
 ghost use Rattle.bugnet.specs.Jointly.{PrintsJointly};
-ghost use Rattle.log_commands.specs.Outside.{GivesBy, CauseBy, WithFiles, IsPrinted, told_of};
+ghost use Rattle.log_commands.specs.Outside.{WithFiles};
 ghost use Rattle.bugnet.specs.Saves.{LeavesRun};
-ghost use Rattle.log_commands.specs.Effects.{call, Acts};
-ghost use Rattle.bugnet.specs.Run.{TellsAnswer, ByWords, Keeps, ChangesFew, Obeys};
+ghost use Rattle.log_commands.specs.Effects.{call};
+ghost use Rattle.bugnet.specs.Run.{TellsAnswer, ByWords, Keeps, ChangesFew};
 
 use crate::commands::debug::debug_files;
-use crate::commands::demo::demonstrate;
+use crate::commands::demo;
 use crate::commands::record::{keep, record_files};
 use crate::laws::{
     audits_agree, converted_files_keep_to_the_limit, each_can_be_done, files_keep_to_their_size,
@@ -33,19 +38,15 @@ use file_laws::logs_are_contents;
 use log_blocks::laws::saved_files_keep_to_the_limit;
 use log_blocks::readings::{files_are_read, readings_are_unique};
 use log_commands::answer::Answer;
-use log_commands::commands::audit::{audit_files, send_agreement};
-use log_commands::commands::check::{check_files, send_check};
-use log_commands::commands::convert::convert_files;
-use log_commands::commands::joint::{join_files, print_joint, stop};
-use log_commands::commands::list::{list_files, send_list};
-use log_commands::commands::races::race_files;
-use log_commands::commands::replay::{print_interval, replay_files};
-use log_commands::commands::salvage::salvage_files;
-use log_commands::commands::slice::slice_files;
-use log_commands::names::Names;
+use log_commands::commands::{
+    audit, check, convert, joint, list, races, replay, salvage, slice,
+};
+use log_commands::inputs::{Inputs, load_inputs};
+use log_commands::names::{Names, Role};
 use log_commands::new_log::keep_new;
+use log_commands::outside::StoreExt;
 use log_commands::refusal::Refusal;
-use log_commands::send::{end_print, refuse, send};
+use log_commands::send::{close, refuse, send};
 use std::alloc::Global;
 use std::sync::Wait;
 use std::thread::Threads;
@@ -98,8 +99,102 @@ fn manner_of(recording: &RecordOptions) -> Manner
     }
 }
 
-// What a command answers, where it records nothing and reads no commands. Nothing is saved or printed yet.
-fn answer_to<S: Store>(
+// What a log that is made of another is refused for by its name.
+fn name_refusal(log: &str, new: &str) -> Option<Refusal>
+    ensures { result ≡ name_refusal (bytes_eq log.now new.now) }
+{
+    if log == new {
+        Some(Refusal::SameName)
+    } else {
+        None
+    }
+}
+
+// What the words alone refuse, of a command that records nothing.
+fn refusal_of(command: &Command) -> Option<Refusal>
+    requires { IsNoRecording (Some (seen command.now)) }
+    ensures { result ≡ refusal_in (seen command.now) }
+{
+    match command {
+        Command::Record(_) => unreachable!(),
+        Command::Convert { log, new } => name_refusal(log, new),
+        Command::Salvage { log, new } => name_refusal(log, new),
+        Command::Replay { .. } => None,
+        Command::Joint { .. } => None,
+        Command::Debug { .. } => None,
+        Command::List { .. } => None,
+        Command::Check { .. } => None,
+        Command::Audit { .. } => None,
+        Command::Races { .. } => None,
+        Command::Slice { .. } => None,
+        Command::Demo { .. } => None,
+    }
+}
+
+const NOTHING: &[Role] = &[];
+
+const LOG: &[Role] = &[Role::Log];
+
+const PAIR: &[Role] = &[Role::Log, Role::Elf];
+
+const ORIGIN: &[Role] = &[Role::Origin];
+
+// What a command that records nothing loads, in this order.
+fn roles_of(command: &Command) -> &'static [Role]
+    requires { IsNoRecording (Some (seen command.now)) }
+    ensures { result.now ≡ line_roles (seen command.now) }
+{
+    match command {
+        Command::Record(_) => unreachable!(),
+        Command::Replay { .. } => PAIR,
+        Command::Joint { .. } => PAIR,
+        Command::Debug { .. } => PAIR,
+        Command::List { .. } => LOG,
+        Command::Check { .. } => LOG,
+        Command::Audit { input, .. } => audit::roles_of(input.is_some()),
+        Command::Races { .. } => PAIR,
+        Command::Slice { .. } => PAIR,
+        Command::Convert { .. } => ORIGIN,
+        Command::Salvage { .. } => ORIGIN,
+        Command::Demo { .. } => NOTHING,
+    }
+}
+
+// What a command answers by the bytes that were loaded for it, where it records nothing and reads no commands.
+fn evaluate(alloc: Global, command: &Command, inputs: Inputs) -> Result<Answer, Refusal>
+    requires no_session { IsNoSession (Some (seen command.now)) }
+    requires no_recording { IsNoRecording (Some (seen command.now)) }
+    ensures answers { Answers (KindOf (seen command.now)) (λ names. IsOn (seen command.now) names (bytes_of inputs)) result }
+    ensures demo { (names : FileNames) → AnswersDemo (seen command.now) names result }
+{
+    match command {
+        Command::Record(_) => unreachable!(),
+        Command::Debug { .. } => unreachable!(),
+        Command::Replay { hart, interval, .. } => {
+            replay::evaluate(alloc, &inputs.log, &inputs.elf, *hart, *interval)
+        }
+        Command::Joint { .. } => joint::evaluate(alloc, &inputs.log, &inputs.elf),
+        Command::List { .. } => list::evaluate(alloc, &inputs.log),
+        Command::Check { .. } => check::evaluate(alloc, &inputs.log),
+        Command::Audit { .. } => {
+            let input = inputs.input;
+            audit::evaluate(alloc, &inputs.log, &inputs.elf, &inputs.book, input)
+        }
+        Command::Races { max, .. } => races::evaluate(alloc, &inputs.log, &inputs.elf, *max),
+        Command::Slice {
+            hart,
+            interval,
+            ic,
+            ..
+        } => slice::evaluate(alloc, &inputs.log, &inputs.elf, *hart, *interval, *ic),
+        Command::Convert { .. } => convert::evaluate(alloc, &inputs.origin),
+        Command::Salvage { .. } => salvage::evaluate(alloc, &inputs.origin),
+        Command::Demo { seed } => demo::evaluate(alloc, *seed),
+    }
+}
+
+// What a command answers by the files that it loads, where its words are tested.
+fn answer_loaded<S: StoreExt>(
     alloc: Global,
     command: &Command,
     names: &Names,
@@ -108,36 +203,28 @@ fn answer_to<S: Store>(
     requires named { names.now ≡ names_in (seen command.now) }
     requires no_session { IsNoSession (Some (seen command.now)) }
     requires no_recording { IsNoRecording (Some (seen command.now)) }
-    ensures told { WithFiles (S.files store.old) (λ files. GivesBy names.now (IsAnswer (Some (seen command.now))) files result) }
-    ensures same { S.files store.new ≡ S.files store.old }
-    ensures later { NoneFell (S.counts store.old) (S.counts store.new) }
-    ensures cause { CauseBy (refusal_in (seen command.now)) (S.counts store.old) (S.counts store.new) result }
-    ensures calls { CallsBy (refusal_in (seen command.now)) names.now (line_roles (seen command.now)) (needed_roles (seen command.now)) S.note (S.noted store.old) (S.noted store.new) result }
-    ensures prints { IsReadOnly (Some (seen command.now)) → IfOk result IsPrinted }
-    ensures records { IfOk result (FitsLine (seen command.now)) }
-    ensures demo { AnswersDemo (seen command.now) names.now result }
-    ensures asks { S.saves store.new ≡ S.saves store.old }
+    requires passes { refusal_in (seen command.now) ≡ None }
+    ensures { AnswersLine (seen command.now) names.now S.note (S.stored store.old) (S.stored store.new) result }
 {
-    match command {
-        Command::Record(_) => unreachable!(),
-        Command::Replay { hart, interval, .. } => replay_files(
-            alloc, names, store, *hart, *interval,
-        ),
-        Command::Joint { .. } => join_files(alloc, names, store),
-        Command::Debug { .. } => unreachable!(),
-        Command::List { .. } => list_files(alloc, names, store),
-        Command::Check { .. } => check_files(alloc, names, store),
-        Command::Audit { input, .. } => audit_files(alloc, names, input.is_some(), store),
-        Command::Races { max, .. } => race_files(alloc, names, store, *max),
-        Command::Slice {
-            hart,
-            interval,
-            ic,
-            ..
-        } => slice_files(alloc, names, store, *hart, *interval, *ic),
-        Command::Convert { .. } => convert_files(alloc, names, store),
-        Command::Salvage { .. } => salvage_files(alloc, names, store),
-        Command::Demo { seed } => demonstrate(alloc, names, *seed),
+    let inputs = load_inputs(alloc, names, roles_of(command), store)?;
+    evaluate(alloc, command, inputs)
+}
+
+// What a command answers, where it records nothing and reads no commands. Nothing is saved or printed yet.
+fn answer_to<S: StoreExt>(
+    alloc: Global,
+    command: &Command,
+    names: &Names,
+    store: &mut S,
+) -> Result<Answer, Refusal>
+    requires named { names.now ≡ names_in (seen command.now) }
+    requires no_session { IsNoSession (Some (seen command.now)) }
+    requires no_recording { IsNoRecording (Some (seen command.now)) }
+    ensures { AnswersLine (seen command.now) names.now S.note (S.stored store.old) (S.stored store.new) result }
+{
+    match refusal_of(command) {
+        Some(refusal) => Err(refusal),
+        None => answer_loaded(alloc, command, names, store),
     }
 }
 
@@ -150,25 +237,43 @@ pub fn act<S: Store, O: Sink, X: Sink>(
     out: &mut O,
     err: &mut X,
 ) -> u8
-    ensures acts { Acts names.now (told_of names.now answer.now) result (call S.files S.counts O.written O.faults X.written X.faults store.old out.old err.old store.new out.new err.new) }
-    ensures still { IsPrinted answer.now → S.files store.new ≡ S.files store.old }
-    ensures saves { AnswerSaves answer.now result (S.saves store.old) (S.saves store.new) }
-    ensures calls { SavesTold names.now (saves_in answer.now) result S.note (S.noted store.old) (S.noted store.new) (call S.files S.counts O.written O.faults X.written X.faults store.old out.old err.old store.new out.new err.new) }
+    ensures { ActsOn names.now answer.now result S.note (S.saves store.old) (S.saves store.new) (S.noted store.old) (S.noted store.new)
+        (call S.files S.counts O.written O.faults X.written X.faults store.old out.old err.old store.new out.new err.new) }
 {
     match answer {
-        Answer::Interval(reading) => print_interval(alloc, names, reading, out, err),
-        Answer::Joined(reading) => print_joint(alloc, names, reading, out, err),
-        Answer::Listed(log) => end_print(alloc, names, send_list(alloc, log, out), err),
-        Answer::Checked(log) => end_print(alloc, names, send_check(alloc, log, out), err),
-        Answer::Agreed => end_print(alloc, names, send_agreement(alloc, out), err),
-        Answer::Renewed(new) => keep_new(alloc, names, new, store, out, err),
-        Answer::Shown(text) => end_print(alloc, names, send(out, text), err),
-        Answer::Halted(error) => stop(alloc, names, error, err),
+        Answer::Interval(reading) => close(alloc, names, replay::print_interval(alloc, reading, out), err),
+        Answer::Joined(reading) => joint::print_joint(alloc, names, reading, out, err),
+        Answer::Listed(log) => close(alloc, names, list::send_list(alloc, log, out), err),
+        Answer::Checked(log) => close(alloc, names, check::send_check(alloc, log, out), err),
+        Answer::Agreed => close(alloc, names, audit::send_agreement(alloc, out), err),
+        Answer::Renewed(new) => close(alloc, names, keep_new(alloc, names, new, store, out), err),
+        Answer::Shown(text) => close(alloc, names, send(out, text), err),
+        Answer::Halted(error) => joint::stop(alloc, names, error, err),
         Answer::Recorded(recording) => keep(alloc, names, recording, store, out, err),
     }
 }
 
-// Does what a command asks for, where it records nothing and reads no commands.
+// Does what a command asks for, where it records nothing and reads no commands. A refusal is given up, and not
+// told yet.
+fn attempt<S: Store, O: Sink, X: Sink>(
+    alloc: Global,
+    command: &Command,
+    names: &Names,
+    store: &mut S,
+    out: &mut O,
+    err: &mut X,
+) -> Result<u8, Refusal>
+    requires named { names.now ≡ names_in (seen command.now) }
+    requires no_session { IsNoSession (Some (seen command.now)) }
+    requires no_recording { IsNoRecording (Some (seen command.now)) }
+    ensures { ClosesTo names.now result (call S.files S.counts O.written O.faults X.written X.faults store.old out.old err.old store.new out.new err.new)
+        (λ status k. Replies (seen command.now) status S.note (S.saves store.old) (S.saves store.new) (S.noted store.old) (S.noted store.new) k) }
+{
+    let answer = answer_to(alloc, command, names, store)?;
+    Ok(act(alloc, names, &answer, store, out, err))
+}
+
+// The same, with its refusal told.
 fn reply<S: Store, O: Sink, X: Sink>(
     alloc: Global,
     command: &Command,
@@ -180,20 +285,15 @@ fn reply<S: Store, O: Sink, X: Sink>(
     requires named { names.now ≡ names_in (seen command.now) }
     requires no_session { IsNoSession (Some (seen command.now)) }
     requires no_recording { IsNoRecording (Some (seen command.now)) }
-    ensures obeys { Obeys (Some (seen command.now)) result (call S.files S.counts O.written O.faults X.written X.faults store.old out.old err.old store.new out.new err.new) }
-    ensures still { IsReadOnly (Some (seen command.now)) → S.files store.new ≡ S.files store.old }
-    ensures saves { LineSaves (Some (seen command.now)) result (S.saves store.old) (S.saves store.new) }
-    ensures calls { CallsOnly (Some (seen command.now)) result S.note (S.noted store.old) (S.noted store.new) (call S.files S.counts O.written O.faults X.written X.faults store.old out.old err.old store.new out.new err.new) }
-    ensures demo { TellsDemo (Some (seen command.now)) result (call S.files S.counts O.written O.faults X.written X.faults store.old out.old err.old store.new out.new err.new) }
-    ensures read { result ≢ 12 }
+    ensures { Replies (seen command.now) result S.note (S.saves store.old) (S.saves store.new) (S.noted store.old) (S.noted store.new) (call S.files S.counts O.written O.faults X.written X.faults store.old out.old err.old store.new out.new err.new) }
 {
-    match answer_to(alloc, command, names, store) {
+    match attempt(alloc, command, names, store, out, err) {
+        Ok(status) => status,
         Err(refusal) => refuse(alloc, names, &refusal, err),
-        Ok(answer) => act(alloc, names, &answer, store, out, err),
     }
 }
 
-/// Does what a command other than `record` asks for. Its clauses are those of `run`. It may neither wait nor
+/// Does what a command other than `record` asks for. It may neither wait nor
 /// start threads, and so it owes its return: each of these commands ends.
 pub fn perform<S: Store, I: Source, O: Sink, X: Sink>(
     alloc: Global,
@@ -204,18 +304,8 @@ pub fn perform<S: Store, I: Source, O: Sink, X: Sink>(
     err: &mut X,
 ) -> u8
     requires no_recording { IsNoRecording (Some (seen command.now)) }
-    ensures obeys { Obeys (Some (seen command.now)) result (call S.files S.counts O.written O.faults X.written X.faults store.old out.old err.old store.new out.new err.new) }
-    ensures still { IsReadOnly (Some (seen command.now)) → S.files store.new ≡ S.files store.old }
-    ensures saves { LineSaves (Some (seen command.now)) result (S.saves store.old) (S.saves store.new) }
-    ensures calls { CallsOnly (Some (seen command.now)) result S.note (S.noted store.old) (S.noted store.new) (call S.files S.counts O.written O.faults X.written X.faults store.old out.old err.old store.new out.new err.new) }
-    ensures demo { TellsDemo (Some (seen command.now)) result (call S.files S.counts O.written O.faults X.written X.faults store.old out.old err.old store.new out.new err.new) }
-    ensures session { Debugs (Some (seen command.now)) result (I.left input.old) (I.left input.new) (I.faults input.old) (I.faults input.new) (I.reads input.old) (I.reads input.new)
+    ensures { Does (seen command.now) result S.note (S.saves store.old) (S.saves store.new) (S.noted store.old) (S.noted store.new) (reading I.left I.faults I.reads input.old input.new)
         (call S.files S.counts O.written O.faults X.written X.faults store.old out.old err.old store.new out.new err.new) }
-    ensures first { (is_begun result ≡ true) ⊎ (input.new ≡ input.old) }
-    ensures begins { (input.new ≡ input.old) ⊎ WithFiles (S.files store.old) (λ files. CanBegin (Some (seen command.now)) files) }
-    ensures unread { IsNoSession (Some (seen command.now)) → input.new ≡ input.old }
-    ensures read { result ≡ 12 → Rose (I.faults input.old) (I.faults input.new) }
-    ensures read_later { I.faults input.old ≤ I.faults input.new }
 {
     // Laws:
     readings_are_unique();
@@ -244,19 +334,9 @@ fn obey<S: Store, I: Source, O: Sink, X: Sink, G: Gate, R: Threads + Wait + Sync
     err: &mut X,
     gate: &G,
 ) -> u8
-    ensures obeys { Obeys (Some (seen command.now)) result (call S.files S.counts O.written O.faults X.written X.faults store.old out.old err.old store.new out.new err.new) }
-    ensures recorded { LeavesRun (Some (seen command.now)) result (S.files store.old) (S.files store.new) }
-    ensures still { IsReadOnly (Some (seen command.now)) → S.files store.new ≡ S.files store.old }
-    ensures saves { LineSaves (Some (seen command.now)) result (S.saves store.old) (S.saves store.new) }
-    ensures calls { CallsOnly (Some (seen command.now)) result S.note (S.noted store.old) (S.noted store.new) (call S.files S.counts O.written O.faults X.written X.faults store.old out.old err.old store.new out.new err.new) }
-    ensures demo { TellsDemo (Some (seen command.now)) result (call S.files S.counts O.written O.faults X.written X.faults store.old out.old err.old store.new out.new err.new) }
-    ensures session { Debugs (Some (seen command.now)) result (I.left input.old) (I.left input.new) (I.faults input.old) (I.faults input.new) (I.reads input.old) (I.reads input.new)
+    ensures does { Does (seen command.now) result S.note (S.saves store.old) (S.saves store.new) (S.noted store.old) (S.noted store.new) (reading I.left I.faults I.reads input.old input.new)
         (call S.files S.counts O.written O.faults X.written X.faults store.old out.old err.old store.new out.new err.new) }
-    ensures first { (is_begun result ≡ true) ⊎ (input.new ≡ input.old) }
-    ensures begins { (input.new ≡ input.old) ⊎ WithFiles (S.files store.old) (λ files. CanBegin (Some (seen command.now)) files) }
-    ensures unread { IsNoSession (Some (seen command.now)) → input.new ≡ input.old }
-    ensures read { result ≡ 12 → Rose (I.faults input.old) (I.faults input.new) }
-    ensures read_later { I.faults input.old ≤ I.faults input.new }
+    ensures recorded { LeavesRun (Some (seen command.now)) result (S.files store.old) (S.files store.new) }
 {
     // Laws:
     seeds_are_whole();

@@ -48,7 +48,7 @@ pub record IsOf (i : Program) (s : Span) (c : Cursor) : Type 0 where
   pub mark : c.mark ≡ s.mark
   pub rows : RowsFrom i c.mark.ic c.left.outcome c.state c.left.rows
 
-abbrev AreOf : Program → List Span → List Cursor → Type 0
+abbrev pub AreOf : Program → List Span → List Cursor → Type 0
 AreOf i [] [] = Unit {0}
 AreOf i [] (c ∷ cs) = ⊥
 AreOf i (s ∷ ss) [] = ⊥
@@ -109,14 +109,14 @@ module _ (i : Program) (records : List Record) (h limit : ℕ) (fits : limit < 2
       chain s (r ∷ rs) c (d ∷ ds) a o =
           (low_of s c a.0 o.0, o.1.0.begin ∙ a.1.1 ∙ sym (ap (λ (e : EndMark). e.ic) o.0.mark), chain r rs d ds (a.1.2, a.1.4) o.1)
 
-  last_same : (s : Span) (ss : List Span) (c : Cursor) (cs : List Cursor) → IsOf i s c → AreOf i ss cs → last_count c cs ≡ last_of s.mark ss
+  pub last_same : (s : Span) (ss : List Span) (c : Cursor) (cs : List Cursor) → IsOf i s c → AreOf i ss cs → last_count c cs ≡ last_of s.mark ss
   last_same s [] c [] o a = ap (λ (e : EndMark). e.ic) o.mark
   last_same s [] c (d ∷ ds) o a = absurd a
   last_same s (r ∷ rs) c [] o a = absurd a
   last_same s (r ∷ rs) c (d ∷ ds) o a = last_same r rs d ds a.0 a.1
 
 -- the first span begins at the first Header's count
-first_begin : (h : ℕ) (rs : List Record) → (s : Span) (ss : List Span) → spans h rs ≡ s ∷ ss → first_count h rs ≡ Some s.begin
+pub first_begin : (h : ℕ) (rs : List Record) → (s : Span) (ss : List Span) → spans h rs ≡ s ∷ ss → first_count h rs ≡ Some s.begin
 first_begin h [] s ss e = cc
 first_begin h (FirstLoad k skip value ∷ rs) s ss e = first_begin h rs s ss e
 first_begin h (ScOk k ∷ rs) s ss e = first_begin h rs s ss e
@@ -133,7 +133,7 @@ first_begin h (Header k n ic pc x ∷ rs) s ss e = by (k == h) e (first_begin h 
         head a b xs ys e = cc
     by false e rest = rest e
 
-no_begin : (h : ℕ) (rs : List Record) → spans h rs ≡ [] → first_count h rs ≡ None
+pub no_begin : (h : ℕ) (rs : List Record) → spans h rs ≡ [] → first_count h rs ≡ None
 no_begin h [] e = refl
 no_begin h (FirstLoad k skip value ∷ rs) e = no_begin h rs e
 no_begin h (ScOk k ∷ rs) e = no_begin h rs e
@@ -149,7 +149,7 @@ no_begin h (Header k n ic pc x ∷ rs) e = by (k == h) e (no_begin h rs)
 
 -- ---- the harts of the walk
 
-lane_at : (i : Program) (records : List Record) (v : HartView) (n k h : ℕ) (lane : Lane) → slice_get (lanes_from i records k n) h ≡ Some lane
+pub lane_at : (i : Program) (records : List Record) (v : HartView) (n k h : ℕ) (lane : Lane) → slice_get (lanes_from i records k n) h ≡ Some lane
     → (lane_of i records (k + h) ≡ lane) × (slice_get (replicate n v) h ≡ Some v)
 lane_at i records v zero k h lane e = cc
 lane_at i records v (suc n) k zero lane e = (let same : k + 0 ≡ k = omega arith in ap (lane_of i records) same ∙ some_is (lane_of i records k) lane (Some (lane_of i records k)) refl e, refl)
@@ -158,7 +158,7 @@ lane_at i records v (suc n) k (suc h) lane e =
     let same : k + suc h ≡ k + 1 + h = omega arith in
     (ap (lane_of i records) same ∙ rest.0, rest.1)
 
-lane_for : (i : Program) (records : List Record) (v w : HartView) (n k h : ℕ) → slice_get (replicate n v) h ≡ Some w → (lane : Lane) × (slice_get (lanes_from i records k n) h ≡ Some lane)
+pub lane_for : (i : Program) (records : List Record) (v w : HartView) (n k h : ℕ) → slice_get (replicate n v) h ≡ Some w → (lane : Lane) × (slice_get (lanes_from i records k n) h ≡ Some lane)
 lane_for i records v w zero k h e = cc
 lane_for i records v w (suc n) k zero e = (lane_of i records k, refl)
 lane_for i records v w (suc n) k (suc h) e = lane_for i records v w n (k + 1) h e
@@ -231,7 +231,7 @@ module _ (i : Program) (records : List Record) (h limit : ℕ) (fits : limit < 2
       by [] f = (None, 0, tt)
       by (s ∷ ss) f = (None, s.begin, f)
 
-  cursors_of_spans : (all : Bool) → Fits limit (fresh_view all).phase (mark_of h records) (spans h records) → AreOf i (spans h records) (cursors_of i records h (intervals_in h records)) × AreCursors i (cursors_of i records h (intervals_in h records))
+  pub cursors_of_spans : (all : Bool) → Fits limit (fresh_view all).phase (mark_of h records) (spans h records) → AreOf i (spans h records) (cursors_of i records h (intervals_in h records)) × AreCursors i (cursors_of i records h (intervals_in h records))
   cursors_of_spans all f =
       let a = spans_are all f in
       let are = are_of i records h limit fits goes records a.0 0 a.1 (λ n e. omega arith) (λ n low. refl) a.2 in
@@ -281,7 +281,7 @@ module _ (i : Program) (records : List Record) (h limit : ℕ) (fits : limit < 2
   ]
 
 -- what is still to be passed isn't passed
-unpassed : (i : Program) (points : List ℕ) (cursors : List Cursor) (k : ℕ) → ArePoints points cursors → AreCursors i cursors → is_passed (Some (record { points = points; cursors = cursors })) k ≡ true → Has points k → ⊥
+pub unpassed : (i : Program) (points : List ℕ) (cursors : List Cursor) (k : ℕ) → ArePoints points cursors → AreCursors i cursors → is_passed (Some (record { points = points; cursors = cursors })) k ≡ true → Has points k → ⊥
 unpassed i [] cursors k a c e h = absurd h
 unpassed i (p ∷ ps) cursors k a c e (inl same) = below p k same e
   where

@@ -28,7 +28,7 @@ same_number : (a b : ℕ) → (a == b) ≡ true → a ≡ b
 same_number a b h = grind arith
 
 -- the first that isn't passed is the source of an Edge, and isn't passed
-abbrev Waited : List Record → List Lane → ℕ → ℕ → Option (ℕ × ℕ) → Type 0
+abbrev pub Waited : List Record → List Lane → ℕ → ℕ → Option (ℕ × ℕ) → Type 0
 Waited records lanes h ic None = Unit {0}
 Waited records lanes h ic (Some p) = HasEdge records h ic p.0 p.1 × (is_passed (slice_get lanes p.0) p.1 ≡ false)
 
@@ -44,7 +44,7 @@ waited_more : (r : Record) (rs : List Record) (lanes : List Lane) (h ic : ℕ) (
 waited_more r rs lanes h ic None w = tt
 waited_more r rs lanes h ic (Some p) w = (more_edges r rs h ic p.0 p.1 w.0, w.1)
 
-waited : (rs : List Record) (lanes : List Lane) (h ic : ℕ) → Waited rs lanes h ic (first_waited lanes (sources_into rs h ic))
+pub waited : (rs : List Record) (lanes : List Lane) (h ic : ℕ) → Waited rs lanes h ic (first_waited lanes (sources_into rs h ic))
 waited [] lanes h ic = tt
 waited (Header k n c pc x ∷ rs) lanes h ic = waited_more (Header k n c pc x) rs lanes h ic (first_waited lanes (sources_into rs h ic)) (waited rs lanes h ic)
 waited (FirstLoad k skip value ∷ rs) lanes h ic = waited_more (FirstLoad k skip value) rs lanes h ic (first_waited lanes (sources_into rs h ic)) (waited rs lanes h ic)
@@ -65,7 +65,7 @@ waited (Edge k n a b ∷ rs) lanes h ic = by (k == h && (n == ic)) refl (waited_
 
 -- ---- a hart that isn't ready
 
-abbrev is_ready : Readiness → Bool
+abbrev pub is_ready : Readiness → Bool
 is_ready is.Ready = true
 is_ready (is.Waits s ic) = false
 is_ready is.Done = false
@@ -134,7 +134,7 @@ module _ (records : List Record) (lanes : List Lane) (time : ℕ → ℕ → ℕ
 
 -- ---- the choice
 
-abbrev is_none : Next → Bool
+abbrev pub is_none : Next → Bool
 is_none NoneReady = true
 is_none AllDone = false
 is_none (Hart h) = false
@@ -144,10 +144,10 @@ no_lane [] e k lane f = cc
 no_lane (l ∷ ls) e k lane f = cc
 
 module _ (records : List Record) (lanes : List Lane) where
-  abbrev NotReady : ℕ → List Lane → Type 0
+  abbrev pub NotReady : ℕ → List Lane → Type 0
   NotReady h ls = (k n : ℕ) (lane : Lane) → n ≡ h + k → slice_get ls k ≡ Some lane → is_ready (readiness_of records lanes n lane) ≡ false
 
-  abbrev Comes : List Lane → Type 0
+  abbrev pub Comes : List Lane → Type 0
   Comes ls = (k : ℕ) × (lane : Lane) × (c : Coming) × (slice_get ls k ≡ Some lane) × (coming_of lane ≡ Some c)
 
   first_too : (h : ℕ) (l : Lane) (ls : List Lane) → is_ready (readiness_of records lanes h l) ≡ false → NotReady (h + 1) ls → NotReady h (l ∷ ls)
@@ -170,7 +170,7 @@ module _ (records : List Record) (lanes : List Lane) where
       by (Some c) i f = (0, l, c, refl, i)
 
   -- where none is chosen, no hart is ready, and some has something to come
-  all_wait : (h : ℕ) (ls : List Lane) (waiting : Bool) → is_none (choice_from records lanes h ls waiting) ≡ true → NotReady h ls × ((waiting ≡ true) ⊎ Comes ls)
+  pub all_wait : (h : ℕ) (ls : List Lane) (waiting : Bool) → is_none (choice_from records lanes h ls waiting) ≡ true → NotReady h ls × ((waiting ≡ true) ⊎ Comes ls)
   all_wait h [] true e = (λ k n lane f g. absurd (no_lane [] refl k lane g), inl refl)
   all_wait h [] false e = absurd cc
   all_wait h (l ∷ ls) waiting e = by (readiness_of records lanes h l) refl e (all_wait (h + 1) ls)

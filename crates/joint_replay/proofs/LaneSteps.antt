@@ -28,7 +28,7 @@ or_left : (a b : Bool) → (a || b) ≡ false → a ≡ false
 or_left true b e = e
 or_left false b e = refl
 
-less_or : (m n : ℕ) → (m < n) ⊎ (n ≤ m)
+pub less_or : (m n : ℕ) → (m < n) ⊎ (n ≤ m)
 less_or m n = grind arith
 
 -- ---- what is passed, by the count that comes next
@@ -78,7 +78,7 @@ module _ (i : Program) where
       under p (r ∷ rs) b = let more = under r rs b.1 in omega (arith, b.0, more)
 
   -- with the first point, all below it and itself is passed
-  passed_with : (p : ℕ) (ps : List ℕ) (cs : List Cursor) (k : ℕ) → ArePoints (p ∷ ps) cs → AreCursors i cs → k ≤ p → is_passed (Some (record { points = ps; cursors = cs })) k ≡ true
+  pub passed_with : (p : ℕ) (ps : List ℕ) (cs : List Cursor) (k : ℕ) → ArePoints (p ∷ ps) cs → AreCursors i cs → k ≤ p → is_passed (Some (record { points = ps; cursors = cs })) k ≡ true
   passed_with p [] [] k a s low = refl
   passed_with p [] (c ∷ cs) k a s low = cursor_passed c cs k (first_goes c cs s).0 ∙ lt_true k c.state.ic (omega (arith, low, a))
   passed_with p (q ∷ qs) cs k a s low = lt_true k q (omega (arith, low, a.0))
@@ -105,7 +105,7 @@ module _ (i : Program) where
 
   -- ---- a row
 
-  abbrev next_cursor : Cursor → Row → List Row → Cursor
+  abbrev pub next_cursor : Cursor → Row → List Row → Cursor
   next_cursor c r rs = record { number = c.number; mark = c.mark; state = after_row i c.state r; left = record { rows = rs; outcome = c.left.outcome }; faulted = is_some r.fault }
 
   -- the counts of a row: below the End's it goes one on, and at it, it stays
@@ -116,7 +116,7 @@ module _ (i : Program) where
     | inr past ↦ inr (ap (λ (s : HartState). s.ic) (g.2 past).1)
   ]
 
-  next_goes : (c : Cursor) (r : Row) (rs : List Row) → c.state.ic ≤ c.mark.ic → RowsFrom i c.mark.ic c.left.outcome c.state (r ∷ rs) → GoesOn i (next_cursor c r rs)
+  pub next_goes : (c : Cursor) (r : Row) (rs : List Row) → c.state.ic ≤ c.mark.ic → RowsFrom i c.mark.ic c.left.outcome c.state (r ∷ rs) → GoesOn i (next_cursor c r rs)
   next_goes c r rs low g = (elim (row_counts c r rs low g) [ inl x ↦ (let a = x.0 in let b = x.1 in omega (arith, a, b)) | inr e ↦ omega (arith, e, low) ], g.3)
 
   replace : (c d : Cursor) (cs : List Cursor) → d.mark ≡ c.mark → GoesOn i d → AreFrom i c cs → AreFrom i d cs

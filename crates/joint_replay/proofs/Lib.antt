@@ -27,3 +27,7 @@ pub mod Onward
 pub mod Positions
 pub mod Telling
 pub mod Firsts
+pub mod Items
+pub mod SourcesThere
+pub mod Merging
+pub mod Merged

@@ -3,10 +3,11 @@ use Rattle.std.proofs.Common.{◌≡◌, ℕ, ◌<◌, Bool, true, false, ◌&&�
 use Rattle.log_record.specs.declared.record.Record.{Record}
 use Rattle.log_record.specs.declared.record.Record.TheVariants.{Header, FirstLoad, ScOk, ScFailed, Edge, End}
 use Rattle.joint_replay.specs.Lanes.{Cursor}
-use Rattle.joint_replay.specs.Points.{is_below, insert, insert_if, points_below}
+use Rattle.joint_replay.specs.Points.{first_count, is_below, insert, insert_if, points_below}
 use Rattle.joint_replay.specs.Ways.{ArePoints, IsBelow, Has}
 use Rattle.joint_replay.specs.Sound.{HasEdge}
 use Rattle.joint_replay.specs.Laws.{PointsAscend}
+use Rattle.joint_replay.specs.Merges.{IsNamed, PointsAreNamed}
 
 true_lt : (m n : ℕ) → nat_lt m n ≡ true → m < n
 true_lt m n h = grind arith
@@ -117,6 +118,77 @@ targets first h ic s j (Edge k n a b ∷ rs) (inl e) low =
 targets first h ic s j (Edge k n a b ∷ rs) (inr e) low =
     if_old (k == h && is_below first n) n ic (insert_if (a == h && is_below first b) b (points_below first h rs))
     (if_old (a == h && is_below first b) b ic (points_below first h rs) (targets first h ic s j rs e low))
+
+-- and so is each source of an Edge there
+pub sources : (first : Option ℕ) (k ic h j : ℕ) (rs : List Record) → HasEdge rs k ic h j → is_below first j ≡ true → Has (points_below first h rs) j
+sources first k ic h j [] e low = absurd e
+sources first k ic h j (Header m n c pc x ∷ rs) e low = sources first k ic h j rs e low
+sources first k ic h j (FirstLoad m skip value ∷ rs) e low = sources first k ic h j rs e low
+sources first k ic h j (ScOk m ∷ rs) e low = sources first k ic h j rs e low
+sources first k ic h j (ScFailed m ∷ rs) e low = sources first k ic h j rs e low
+sources first k ic h j (End m mark ∷ rs) e low = sources first k ic h j rs e low
+sources first k ic h j (Edge m n a b ∷ rs) (inl e) low =
+    let own : (a == h) ≡ true = ap (λ t. t == h) e.2 ∙ eqb_same h in
+    let here : (a == h && is_below first b) ≡ true = ap (λ t. t && is_below first b) own ∙ (ap (is_below first) e.3 ∙ low) in
+    if_old (m == h && is_below first n) n j (insert_if (a == h && is_below first b) b (points_below first h rs))
+    (subst (Has (insert_if (a == h && is_below first b) b (points_below first h rs))) e.3 (if_new (a == h && is_below first b) b (points_below first h rs) here))
+sources first k ic h j (Edge m n a b ∷ rs) (inr e) low =
+    if_old (m == h && is_below first n) n j (insert_if (a == h && is_below first b) b (points_below first h rs))
+    (if_old (a == h && is_below first b) b j (points_below first h rs) (sources first k ic h j rs e low))
+
+-- ---- each point is named by an Edge
+
+inserted : (n k : ℕ) (xs : List ℕ) → Has (insert n xs) k → (n ≡ k) ⊎ Has xs k
+inserted n k [] h = h
+inserted n k (x ∷ xs) h = by (n == x) (nat_lt n x) h (inserted n k xs)
+  where
+    by : (b c : Bool) → Has (elim b as (λ y. List ℕ) [ true ↦ x ∷ xs | false ↦ elim c as (λ y. List ℕ) [ true ↦ n ∷ x ∷ xs | false ↦ x ∷ insert n xs ] ]) k
+        → (Has (insert n xs) k → (n ≡ k) ⊎ Has xs k) → (n ≡ k) ⊎ ((x ≡ k) ⊎ Has xs k)
+    by true c h rest = inr h
+    by false true h rest = h
+    by false false (inl e) rest = inr (inl e)
+    by false false (inr h) rest = elim (rest h) [ inl e ↦ inl e | inr i ↦ inr (inr i) ]
+
+if_inserted : (b : Bool) (n k : ℕ) (xs : List ℕ) → Has (insert_if b n xs) k → ((b ≡ true) × (n ≡ k)) ⊎ Has xs k
+if_inserted true n k xs h = elim (inserted n k xs h) [ inl e ↦ inl (refl, e) | inr i ↦ inr i ]
+if_inserted false n k xs h = inr h
+
+named : (first : Option ℕ) (h k : ℕ) (rs : List Record) → Has (points_below first h rs) k → IsNamed rs h k × (is_below first k ≡ true)
+named first h k [] i = absurd i
+named first h k (Header m n c pc x ∷ rs) i = named first h k rs i
+named first h k (FirstLoad m skip value ∷ rs) i = named first h k rs i
+named first h k (ScOk m ∷ rs) i = named first h k rs i
+named first h k (ScFailed m ∷ rs) i = named first h k rs i
+named first h k (End m mark ∷ rs) i = named first h k rs i
+named first h k (Edge m n a b ∷ rs) i = elim (if_inserted (m == h && is_below first n) n k (insert_if (a == h && is_below first b) b (points_below first h rs)) i) [
+  | inl target ↦ (
+      let parts = both (m == h) (is_below first n) target.0 in
+      (inl (a, b, inl (same_number m h parts.0, target.1, refl, refl)), subst (λ t. is_below first t ≡ true) target.1 parts.1)
+      )
+  | inr more ↦ elim (if_inserted (a == h && is_below first b) b k (points_below first h rs) more) [
+    | inl source ↦ (
+        let parts = both (a == h) (is_below first b) source.0 in
+        (inr (m, n, inl (refl, refl, same_number a h parts.0, source.1)), subst (λ t. is_below first t ≡ true) source.1 parts.1)
+        )
+    | inr later ↦ (
+        let l = named first h k rs later in
+        (elim l.0 [ inl t ↦ inl (t.0, t.1, inr t.2) | inr s ↦ inr (s.0, s.1, inr s.2) ], l.1)
+        )
+  ]
+]
+
+no_cursors : (first : Option ℕ) (n : ℕ) → is_below first n ≡ true → IsBelow n []
+no_cursors first n e = tt
+
+pub points_are_named : PointsAreNamed
+points_are_named records h = record {
+  ascend = ascend (first_count h records) h records [] (no_cursors (first_count h records));
+  named = λ k i. named (first_count h records) h k records i;
+  all = λ k i low. elim i [
+    | inl t ↦ targets (first_count h records) h k t.0 t.1 records t.2 low
+    | inr s ↦ sources (first_count h records) s.0 s.1 h k records s.2 low
+  ];
+}
 
 pub points_ascend : PointsAscend
 points_ascend = record { ascend = ascend; targets = targets }

@@ -116,6 +116,7 @@ pub record Ended (t : OrderLimits) (v u : HartView) (m : EndMark) : Type 0 where
   pub phase : u.phase ≡ phase_after v.phase m
   pub seen : v.seen ≡ u.seen
   pub met : u.met ≡ true
+  pub last : u.last ≡ Some m.ic
 
 pub ended : (t : OrderLimits) (v u : HartView) (m : EndMark) → after_end t v m ≡ Ok u → Ended t v u m
 unfolding after_end
@@ -135,6 +136,7 @@ ended t v u m e =
       phase = sym (ap (λ (x : HartView). x.phase) is);
       seen = ap (λ (x : HartView). x.seen) is;
       met = sym (ap (λ (x : HartView). x.met) is);
+      last = sym (ap (λ (x : HartView). x.last) is);
     }
 
 -- ---- what one record does to what is known of the later ones

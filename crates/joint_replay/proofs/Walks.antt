@@ -24,7 +24,7 @@ lower : (c : Option Coming) (n k : ℕ) → k ≤ n → elim c as (λ x. Bool) [
 lower None n k low e = refl
 lower (Some d) n k low e = let up = true_lt n (count_of d) e in lt_true k (count_of d) (omega (arith, up, low))
 
-passed_lower : (o : Option Lane) (n k : ℕ) → k ≤ n → is_passed o n ≡ true → is_passed o k ≡ true
+pub passed_lower : (o : Option Lane) (n k : ℕ) → k ≤ n → is_passed o n ≡ true → is_passed o k ≡ true
 passed_lower None n k low e = refl
 passed_lower (Some lane) n k low e = lower (coming_of lane) n k low e
 

@@ -16,6 +16,7 @@ pub mod Counts
 pub mod Sources
 pub mod Ways
 pub mod Sound
+pub mod Merges
 pub mod Chains
 pub mod Shape
 pub mod Inside

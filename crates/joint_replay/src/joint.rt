@@ -8,6 +8,7 @@ ghost use Rattle.joint_replay.specs.Memory.{word_in, known_from};
 ghost use Rattle.joint_replay.specs.Calls.{Steps, state_at, IsHalted, IsReached};
 ghost use Rattle.joint_replay.specs.Together.{ArePassed, AreBegun};
 ghost use Rattle.joint_replay.specs.Sources.{edges_into};
+ghost use Rattle.joint_replay.specs.Merges.{IsAtMerge};
 ghost use Rattle.joint_replay.specs.Sound.{IsSound};
 ghost use Rattle.joint_replay.specs.Lanes.{lane_of};
 
@@ -15,7 +16,7 @@ use crate::error::JointError;
 use crate::incoming_edges::IncomingEdge;
 use crate::kinds::{Coming, Next, Readiness, Stepped};
 use crate::lane::{Lane, Moved};
-use crate::laws::starts_are_sound;
+use crate::laws::{ready_harts_are_admitted, starts_are_sound, walks_are_merges};
 use crate::replay_memory::ReplayMemory;
 use bn_base::{Addr, HartId, HartState, Ic, Image, List};
 use hart_replay::ReplayError;
@@ -184,6 +185,17 @@ impl<'a> Joint<'a> {
         ensures { IsReached (length self.now.lanes) self.now }
     {
         let _harts = self.harts;
+    }
+
+    /// The steps that led here are the beginning of a merge of the harts' lists in which each point
+    /// stands after the sources of the kept Edges into it; a hart is ready where the order with its next item is
+    /// such a beginning again. This does nothing.
+    pub fn merged(&self)
+        ensures { IsAtMerge (length self.now.lanes) self.now }
+    {
+        walks_are_merges();
+        ready_harts_are_admitted();
+        let _head = self.log.head();
     }
 
     /// How many harts there are.

@@ -3,6 +3,7 @@ ghost use Rattle.joint_replay.specs.Laws.{RowsGoOn, StepsPass, OrderedLogsHaveSh
 ghost use Rattle.joint_replay.specs.Laws.{StartsAreSound, SoundnessStays, ChainsAreKept, NeverStuck};
 ghost use Rattle.joint_replay.specs.Runs.{RunsGoOn, RunsEnd};
 ghost use Rattle.joint_replay.specs.Firsts.{RunsByStep};
+ghost use Rattle.joint_replay.specs.Merges.{PointsAreNamed, SourcesAreThere, WalksAreMerges, ReadyIsAdmitted, PassedIsStanding};
 
 use rv_meaning::each_instruction_is_counted_or_asks;
 
@@ -89,3 +90,45 @@ pub fn starts_are_sound()
 pub fn runs_go_by_steps()
     ensures { RunsByStep }
 {}
+
+/// Ordering points are just those that kept Edges name below the first Header's count.
+pub fn ordering_points_are_named()
+    ensures { PointsAreNamed }
+{}
+
+/// Each source of a kept Edge is an ordering point, or an instruction of a retained interval.
+pub fn sources_are_there()
+    ensures { SourcesAreThere }
+{
+    each_instruction_is_counted_or_asks();
+    the_rows_go_on();
+    ordered_logs_have_shape();
+    ordering_points_ascend();
+}
+
+/// Walks are the merges of the harts' lists in which each point stands after the sources of the Edges into it.
+pub fn walks_are_merges()
+    ensures { WalksAreMerges }
+{
+    steps_pass_their_points();
+    starts_are_sound();
+    sources_are_there();
+}
+
+/// The harts that are ready are those whose next item such a merge admits.
+pub fn ready_harts_are_admitted()
+    ensures { ReadyIsAdmitted }
+{
+    steps_pass_their_points();
+    starts_are_sound();
+    sources_are_there();
+}
+
+/// In such a merge the source of a kept Edge stands where it is passed.
+pub fn passed_sources_stand()
+    ensures { PassedIsStanding }
+{
+    steps_pass_their_points();
+    starts_are_sound();
+    sources_are_there();
+}

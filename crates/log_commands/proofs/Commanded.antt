@@ -19,7 +19,7 @@ use Rattle.log_commands.specs.declared.refusal.Refusal.{Refusal}
 use Rattle.log_commands.specs.declared.refusal.Refusal.TheVariants.{Missing, TooLong}
 
 -- the line that a file is missing says its name alone
-missing-named : (names : FileNames) (a b : Role) → name_of names a ≡ name_of names b → refused names (Missing a) ≡ refused names (Missing b)
+pub missing-named : (names : FileNames) (a b : Role) → name_of names a ≡ name_of names b → refused names (Missing a) ≡ refused names (Missing b)
 unfolding refused line_of said_of
 missing-named names a b e = ap (λ (name : List ℕ). told_missing name) e
   where

@@ -152,7 +152,7 @@ only-own a b x after o own = record { same = o.same; asks = o.asks; later = o.la
 -- ---- a loop
 
 -- as far as a loop over the roles has come
-pub record LoadedSoFar (known : Option Files) (names : FileNames) (roles rest : List Role) (inputs : Inputs) (old new : Stored) (note : ℕ → StoreCall → ℕ) (before now : ℕ) : Type 0 where
-  pub reached : WithFiles known (λ files. Reached files names roles rest (bytes_of inputs))
-  pub only : OnlyLoads {A = Inputs} old new (Ok inputs)
-  pub called : CalledSoFar note names roles rest before now
+pub record LoadedSoFar (names : FileNames) (roles rest : List Role) (inputs : Inputs) (note : ℕ → StoreCall → ℕ) (old now : Stored) : Type 0 where
+  pub reached : WithFiles old.files (λ files. Reached files names roles rest (bytes_of inputs))
+  pub only : OnlyLoads {A = Inputs} old now (Ok inputs)
+  pub called : CalledSoFar note names roles rest old.noted now.noted

@@ -100,6 +100,14 @@ called-more note names roles left rest role limit before now after l e so_far h 
   noted = one-more note names role so_far.made before now after so_far.noted (load-noted note names role limit now after l h);
 }
 
+pub some-left : (roles left rest : List Role) (role : Role) (made : List FileCall) → roles ≡ [] → left ≡ role ∷ rest → loads_of roles ≡ made ++ loads_of left → ⊥
+some-left roles left rest role made none at parts =
+    nothing made (sym (ap loads_of none) ∙ parts ∙ ap (λ (rs : List Role). made ++ loads_of rs) at)
+  where
+    nothing : (made : List FileCall) → [] ≡ made ++ Loads role ∷ loads_of rest → ⊥
+    nothing [] e = absurd cc
+    nothing (m ∷ ms) e = absurd cc
+
 pub called-stops : (note : ℕ → StoreCall → ℕ) (names : FileNames) (roles left rest : List Role) (role : Role) (limit before now after : ℕ) (r : Refusal) → limit ≡ limit_of role → left ≡ role ∷ rest
     → CalledSoFar note names roles left before now → after ≡ note now (LoadCall (name_of names role) limit) → IsOfLoad role r → LoadsUpTo names roles roles note before after r
 called-stops note names roles left rest role limit before now after r l e so_far h is = record {

@@ -16,5 +16,8 @@ pub mod Commanded
 pub mod SameAudit
 pub mod SamePair
 pub mod FileCalls
+pub mod Answering
+pub mod Answered
+pub mod KeptNew
 pub mod SaveCounts
 pub mod StatusesApart

@@ -92,11 +92,6 @@ pub made-stopped : (A : Type 0) (tells : A → Told) (known : Option Files) (nam
 made-stopped A tells None names role limit r Go h = tt
 made-stopped A tells (Some files) names role limit r Go h = stopped A tells files names role limit r Go h
 
-pub gives-stopped : (known : Option Files) (names : FileNames) (role : Role) (limit : ℕ) (r : Refusal) (Go : Files → List ℕ → Told → Type 0)
-    → WithFiles known (λ files. FetchTells role limit (files (name_of names role)) (Err r))
-    → WithFiles known (λ files. GivesBy names (λ f. WithFile f names role limit (Go f)) files (Err r))
-gives-stopped known names role limit r Go h = made-stopped Answer (told_of names) known names role limit r Go h
-
 -- a load that gave bytes goes on with them
 apart : (b : Bool) (names : FileNames) (here role : Role) (there : Option (List ℕ)) (bytes : List ℕ) (limit : ℕ) (Go : List ℕ → Told → Type 0)
     → (b ≡ true → name_of names here ≡ name_of names role) → there ≡ Some bytes → length bytes ≤ limit → Go bytes (refused names (Missing role))
@@ -121,12 +116,6 @@ pub made-loaded : (A : Type 0) (tells : A → Told) (known : Option Files) (name
 made-loaded A tells None names role limit bytes result Go h rest = tt
 made-loaded A tells (Some files) names role limit bytes result Go h rest = loaded A tells files names role limit bytes result Go h rest
 
-pub gives-loaded : (known : Option Files) (names : FileNames) (role : Role) (limit : ℕ) (bytes : Vec ℕ Global) (result : Result Answer Refusal) (Go : Files → List ℕ → Told → Type 0)
-    → WithFiles known (λ files. FetchTells role limit (files (name_of names role)) (Ok bytes))
-    → WithFiles known (λ files. GivesBy names (λ f. Go f bytes.items) files result)
-    → WithFiles known (λ files. GivesBy names (λ f. WithFile f names role limit (Go f)) files result)
-gives-loaded known names role limit bytes result Go h rest = made-loaded Answer (told_of names) known names role limit bytes result Go h rest
-
 -- an answer whatever the files are
 own : (A : Type 0) (tells : A → Told) (files : Files) (names : FileNames) (Is : Told → Type 0) (result : Result A Refusal) → GivesTo tells names Is result → GivesOf tells names (λ f. Is) files result
 own A tells files names Is (Ok answer) h = h
@@ -137,10 +126,6 @@ pub made-any : (A : Type 0) (tells : A → Told) (known : Option Files) (names :
     → GivesTo tells names Is result → WithFiles known (λ files. GivesOf tells names (λ f. Is) files result)
 made-any A tells None names Is result h = tt
 made-any A tells (Some files) names Is result h = own A tells files names Is result h
-
-pub gives-any : (known : Option Files) (names : FileNames) (Is : Told → Type 0) (result : Result Answer Refusal)
-    → Gives names Is result → WithFiles known (λ files. GivesBy names (λ f. Is) files result)
-gives-any known names Is result h = made-any Answer (told_of names) known names Is result h
 
 -- ---- logs
 
@@ -198,8 +183,3 @@ log-read names bytes d go result h e = made-read Answer (told_of names) names by
 pub by-names : (known : Option Files) (names own : FileNames) (Is : FileNames → Files → Told → Type 0) (result : Result Answer Refusal) → names ≡ own
     → WithFiles known (λ files. GivesBy names (Is names) files result) → WithFiles known (λ files. GivesBy names (Is own) files result)
 by-names known names own Is result e h = subst (λ (n : FileNames). WithFiles known (λ files. GivesBy names (Is n) files result)) e h
-
--- nothing is said of what was made
-pub ok-any : {A E : Type 0} (result : Result A E) → IfOk result (λ (a : A). Unit {0})
-ok-any (Ok a) = tt
-ok-any (Err e) = tt

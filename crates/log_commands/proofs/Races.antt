@@ -27,14 +27,6 @@ use Rattle.log_commands.proofs.Tells.{stopped-told}
 
 -- ---- a log and its program
 
--- what is made of them is the answer
-pub pair-gives : (go : ByPair) (known : Option Files) (names : FileNames) (d : Content) (i : Program) (result : Result Answer Refusal) → WithFiles known (λ files. IsPair go files names (go d i))
-    → Gives names (λ what. what ≡ go d i) result → WithFiles known (λ files. GivesBy names (λ f. IsPair go f names) files result)
-pair-gives go None names d i result is g = tt
-pair-gives go (Some files) names d i (Ok answer) is e = subst (λ (t : Told). IsPair go files names t) (sym e) is
-pair-gives go (Some files) names d i (Err r) is (inl memory) = inl (inl memory)
-pair-gives go (Some files) names d i (Err r) is (inr e) = inr (subst (λ (t : Told). IsPair go files names t) (sym e) is)
-
 -- ---- races
 
 -- they are listed

@@ -37,7 +37,7 @@ same-digest : (go : ByPair) (names : FileNames) (elf : List ℕ) (d : Content) (
 same-digest go names elf d true = same-image go names d (image_of elf d.head.settings)
 same-digest go names elf d false = refl
 
-same-log : (go : ByPair) (names : FileNames) (elf : List ℕ) (says : Result Content Damage) → told_by (by_reading go) names (pair_by elf says) ≡ by_log names (pair_of go names elf) says
+pub same-log : (go : ByPair) (names : FileNames) (elf : List ℕ) (says : Result Content Damage) → told_by (by_reading go) names (pair_by elf says) ≡ by_log names (pair_of go names elf) says
 same-log go names elf (Err e) = refl
 same-log go names elf (Ok d) = same-digest go names elf d (bytes_eq (sha256 elf) d.head.digest)
 

@@ -1,12 +1,12 @@
 -- What a whole call of the program does.
-use Rattle.std.specs.Prelude.{◌≡◌, ◌≢◌, ◌≤◌, ◌⊎◌, ℕ, List, [], Option, Some, None}
+use Rattle.std.specs.Prelude.{◌≡◌, ◌≢◌, ◌≤◌, ◌⊎◌, ℕ, List, [], Option, Some, None, Result, Ok, Err}
 use Rattle.std.specs.Io.KnownBytes.{Appends}
 use Rattle.bn_outside.specs.Counts.{Counts, Rose, NoneFell}
 use Rattle.bn_outside.specs.Files.{Files, WhereTold}
 use Rattle.bn_outside.specs.Streams.{AppendsPart, AppendsShort}
 use Rattle.log_commands.specs.Names.{FileNames}
 use Rattle.log_commands.specs.Told.{Told, Saved}
-use Rattle.log_commands.specs.Outside.{Wrote, SendStops, ToldRefusal, IsEarly, KeptFiles, Unsaved}
+use Rattle.log_commands.specs.Outside.{Stream, Refuses, Wrote, SendStops, ToldRefusal, IsEarly, KeptFiles, Unsaved}
 use Rattle.log_commands.specs.declared.refusal.Refusal.{Refusal}
 use Rattle.log_commands.specs.declared.refusal.Refusal.TheVariants as why
 
@@ -171,3 +171,19 @@ printing_to files counts out_old out_new before now err_old err_new err_before e
   old = record { files = files; counts = counts; out = out_old; out_faults = before; err = err_old; err_faults = err_before };
   new = record { files = files; counts = counts; out = out_new; out_faults = now; err = err_new; err_faults = err_now };
 }
+
+-- ---- before a refusal is told
+
+-- a refusal, if there is one, is told on err, and gives the status; else that is 0, and err stays
+abbrev pub IsClosed : {A : Type 0} → FileNames → Result A Refusal → (status : ℕ) → (err end : Stream) → Type 0
+IsClosed names (Ok value) status err end = (status ≡ 0) × (end ≡ err)
+IsClosed names (Err refusal) status err end = Refuses names refusal status err end
+
+-- a call that leaves a store alone
+abbrev pub printing_on : Option Files → Counts → (out printed err end : Stream) → Call
+printing_on files had out printed err end = printing_to files had out.text printed.text out.faults printed.faults err.text end.text err.faults end.faults
+
+-- once the refusal is told, if there is one, this is printed, or it was stopped
+abbrev pub PrintsTo : {A : Type 0} → (FileNames → Told) → (old new : Stream) → Result A Refusal → Type 0
+PrintsTo what old new result = (names : FileNames) (files : Option Files) (had : Counts) (status : ℕ) (err end : Stream)
+    → IsClosed names result status err end → Prints names (what names) status (printing_on files had old new err end)

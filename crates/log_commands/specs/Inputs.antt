@@ -80,14 +80,12 @@ IsLoaded names roles files (Err refusal) = StopsLoading names roles files refusa
 
 -- ---- the store
 
--- what a store tells
+-- what a store tells: its files, how often it was asked to save, its failed calls, and what it noted of all
 pub record Stored : Type 0 where
   pub files : Option Files
   pub saves : ℕ
   pub counts : Counts
-
-abbrev pub stored : {S : Type 0} → (S → Option Files) → (S → ℕ) → (S → Counts) → S → Stored
-stored files saves counts s = record { files = files s; saves = saves s; counts = counts s }
+  pub noted : ℕ
 
 -- a store was read only: its files stay, no save was asked for, no count fell, and a refusal by it comes where its count rose
 pub record OnlyLoads {A : Type 0} (old new : Stored) (result : Result A Refusal) : Type 0 where

@@ -18,6 +18,8 @@ pub mod NewLogs
 pub mod Inputs
 pub mod Evaluated
 pub mod Command
+pub mod Answering
+pub mod KeptNew
 pub mod Effects
 pub mod FileCalls
 pub mod RunEnds

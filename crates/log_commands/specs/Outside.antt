@@ -250,3 +250,28 @@ Unsaved (Some saved) names old new before now refusal = ⊥
 abbrev pub SaveTells : {A : Type 0} → Saved → FileNames → (old new : Option Files) → (before now : Counts) → Result A Refusal → Type 0
 SaveTells saved names old new before now (Ok value) = WhereTold old new (KeptFiles (Some saved) names.log names.book)
 SaveTells saved names old new before now (Err refusal) = Unsaved (Some saved) names old new before now refusal
+
+-- ---- an output
+
+-- what it was given, if it tells that, and how often a write failed
+pub record Stream : Type 0 where
+  pub text : Option (List ℕ)
+  pub faults : ℕ
+
+-- nothing is asked of a value
+abbrev pub Always : {A : Type 0} → A → Type 0
+Always value = Unit {0}
+
+-- a text was sent, and this holds of the value, or a prefix of it was sent; the count of failed writes didn't fall
+pub record Sends {A : Type 0} (text : List ℕ) (P : A → Type 0) (old new : Stream) (result : Result A Refusal) : Type 0 where
+  pub sent : Sent old.text new.text old.faults new.faults text P result
+  pub later : old.faults ≤ new.faults
+
+-- of a text some was sent and the rest waits, or a prefix of it was sent
+pub record Gathers {A : Type 0} (text waiting : List ℕ) (old new : Stream) (result : Result A Refusal) : Type 0 where
+  pub sent : Gathered old.text new.text old.faults new.faults text waiting result
+  pub later : old.faults ≤ new.faults
+
+-- a refusal was told
+abbrev pub Refuses : FileNames → Refusal → (status : ℕ) → (old new : Stream) → Type 0
+Refuses names refusal status old new = ToldRefusal names refusal status old.text new.text old.faults new.faults × (old.faults ≤ new.faults)

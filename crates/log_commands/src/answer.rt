@@ -6,6 +6,7 @@ ghost use Rattle.log_commands.specs.Outside.{IsOwn, LogTells, ProgramTells};
 
 use crate::pairs::JointReading;
 use crate::refusal::Refusal;
+use crate::statuses;
 use bn_base::{Image, Settings};
 use elf_loader::{ElfError, load};
 use joint_replay::JointError;
@@ -33,9 +34,9 @@ impl RunEnd {
         ensures { result ≡ end_status self.now }
     {
         match self {
-            RunEnd::Done => 0,
-            RunEnd::Fault => 10,
-            RunEnd::Limit => 11,
+            RunEnd::Done => statuses::DONE,
+            RunEnd::Fault => statuses::FAULT,
+            RunEnd::Limit => statuses::LIMIT,
         }
     }
 

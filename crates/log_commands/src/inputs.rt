@@ -2,12 +2,14 @@
 ghost use Rattle.std.specs.Prelude.{◌≡◌, IfErr};
 ghost use Rattle.bn_outside.specs.Counts.{NoneFell};
 ghost use Rattle.bn_outside.specs.StoreCalls.{LoadCall};
-ghost use Rattle.log_commands.specs.FileCalls.{IsOfLoad, LoadsTo};
-ghost use Rattle.log_commands.specs.Inputs.{no_bytes, bytes_of, put, limit_of, IsLoaded, stored, OnlyLoads};
+ghost use Rattle.log_commands.specs.Answering.{LoadsAll};
+ghost use Rattle.log_commands.specs.FileCalls.{IsOfLoad};
+ghost use Rattle.log_commands.specs.Inputs.{no_bytes, bytes_of, put, limit_of};
 ghost use Rattle.log_commands.specs.Names.{name_of};
 ghost use Rattle.log_commands.specs.Outside.{ResultCause, WithFiles, FetchTells};
 
 use crate::names::{Names, Role};
+use crate::outside::StoreExt;
 use crate::refusal::Refusal;
 use bn_outside::{LoadError, Store};
 use std::alloc::Global;
@@ -87,8 +89,8 @@ impl Inputs {
     }
 }
 
-// The most bytes of the file in a role.
-fn limit_of(role: Role) -> usize
+/// The most bytes of the file in a role.
+pub fn limit_of(role: Role) -> usize
     ensures { result ≡ limit_of role }
 {
     match role {
@@ -100,19 +102,17 @@ fn limit_of(role: Role) -> usize
 }
 
 /// Loads the files of these roles, in this order. The first file that is refused ends it.
-pub fn load_inputs<S: Store>(
+pub fn load_inputs<S: StoreExt>(
     alloc: Global,
     names: &Names,
     roles: &[Role],
     store: &mut S,
 ) -> Result<Inputs, Refusal>
-    ensures loads { WithFiles (S.files store.old) (λ files. IsLoaded names.now roles.now files result) }
-    ensures only { OnlyLoads (stored S.files S.saves S.counts store.old) (stored S.files S.saves S.counts store.new) result }
-    ensures calls { LoadsTo names.now roles.now S.note (S.noted store.old) (S.noted store.new) result }
+    ensures { LoadsAll names.now roles.now S.note (S.stored store.old) (S.stored store.new) result }
 {
     let mut inputs = Inputs::none(alloc);
     for role in roles {
-        match fetch(alloc, names, store, *role, limit_of(*role)) {
+        match store.fetch(alloc, names, *role) {
             Ok(bytes) => inputs.put(*role, bytes),
             Err(refusal) => return Err(refusal),
         }

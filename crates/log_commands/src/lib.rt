@@ -9,10 +9,12 @@ pub mod inputs;
 mod lines;
 pub mod names;
 pub mod new_log;
+pub mod outside;
 pub mod pairs;
 pub mod refusal;
 pub mod replay_lines;
 pub mod send;
+pub mod statuses;
 pub mod texts;
 
 pub use answer::{Answer, IntervalToReplay, NewLog, RunEnd, RunToTell};

@@ -1,29 +1,21 @@
 //! A log file that is made of another: its name tested, the file saved, and what its log has printed.
-ghost use Rattle.std.specs.Prelude.{◌≡◌, ◌≢◌, ◌≤◌, ◌⊎◌, true, OnOk};
-ghost use Rattle.std.specs.Str.{bytes_eq};
-ghost use Rattle.bn_outside.specs.Counts.{Rose, NoneFell};
-ghost use Rattle.log_commands.specs.SaveCounts.{saves_after, AtMostSaves, SavesEach};
-ghost use Rattle.log_commands.specs.FileCalls.{saves_of, SavesTo, SavesTold};
-ghost use Rattle.log_commands.specs.Outside.{SaveTells, saved_new, told_of_new};
-ghost use Rattle.log_commands.specs.Effects.{call, Tells};
+ghost use Rattle.std.specs.Prelude.{◌≡◌, true, OnOk};
+ghost use Rattle.bn_outside.specs.Counts.{NoneFell};
+ghost use Rattle.log_commands.specs.SaveCounts.{saves_after, AtMostSaves};
+ghost use Rattle.log_commands.specs.FileCalls.{saves_of, SavesTo};
+ghost use Rattle.log_commands.specs.Outside.{SaveTells, saved_new};
+ghost use Rattle.log_commands.specs.KeptNew.{KeepsTo};
 
 use crate::answer::NewLog;
 use crate::commands::check::send_check;
 use crate::names::{Names, Role};
+use crate::outside::{SinkExt, StoreExt};
 use crate::refusal::Refusal;
-use crate::send::refuse;
-use bn_outside::{SaveError, Sink, Store};
+use bn_outside::{SaveError, Store};
 use std::alloc::Global;
 
-// Whether the log that is read and the one that is saved have one name.
-pub fn is_same_name(names: &Names) -> bool
-    ensures { result ≡ bytes_eq names.now.origin names.now.log }
-{
-    names.origin == names.log
-}
-
-// Saves a log file.
-fn save_new<S: Store>(store: &mut S, names: &Names, file: &[u8]) -> Result<(), Refusal>
+/// Saves a log file.
+pub fn save_new<S: Store>(store: &mut S, names: &Names, file: &[u8]) -> Result<(), Refusal>
     ensures told { SaveTells (saved_new file.now) names.now (S.files store.old) (S.files store.new) (S.counts store.old) (S.counts store.new) result }
     ensures later { NoneFell (S.counts store.old) (S.counts store.new) }
     ensures few { AtMostSaves true (S.saves store.old) (S.saves store.new) }
@@ -38,32 +30,15 @@ fn save_new<S: Store>(store: &mut S, names: &Names, file: &[u8]) -> Result<(), R
 }
 
 /// Saves a log file, and then prints what its log has.
-pub fn keep_new<S: Store, O: Sink, X: Sink>(
+pub fn keep_new<S: StoreExt, O: SinkExt>(
     alloc: Global,
     names: &Names,
     new: &NewLog,
     store: &mut S,
     out: &mut O,
-    err: &mut X,
-) -> u8
-    ensures told { Tells names.now (told_of_new new.now) result (call S.files S.counts O.written O.faults X.written X.faults store.old out.old err.old store.new out.new err.new) }
-    ensures saves { SavesEach true result (S.saves store.old) (S.saves store.new) }
-    ensures calls { SavesTold names.now (saves_of true) result S.note (S.noted store.old) (S.noted store.new) (call S.files S.counts O.written O.faults X.written X.faults store.old out.old err.old store.new out.new err.new) }
-    ensures later { NoneFell (S.counts store.old) (S.counts store.new) }
-    ensures out_later { O.faults out.old ≤ O.faults out.new }
-    ensures err_later { X.faults err.old ≤ X.faults err.new }
-    ensures words { result ≢ 2 }
-    ensures read { result ≢ 12 }
-    ensures failed { result ≡ 3 → Rose (S.counts store.old).faults (S.counts store.new).faults }
-    ensures missing { result ≢ 4 }
-    ensures long { result ≢ 5 }
-    ensures write { result ≡ 13 → Rose (O.faults out.old) (O.faults out.new) ⊎ Rose (X.faults err.old) (X.faults err.new) }
+) -> Result<(), Refusal>
+    ensures { KeepsTo names.now new.now S.note (S.stored store.old) (S.stored store.new) (O.stream out.old) (O.stream out.new) result }
 {
-    match save_new(store, names, &new.file) {
-        Err(refusal) => refuse(alloc, names, &refusal, err),
-        Ok(()) => match send_check(alloc, &new.counts, out) {
-            Err(refusal) => refuse(alloc, names, &refusal, err),
-            Ok(()) => 0,
-        },
-    }
+    store.save_new(names, &new.file)?;
+    send_check(alloc, &new.counts, out)
 }

@@ -4,6 +4,7 @@ ghost use Rattle.log_commands.specs.Refusals.{status_of, replay_status, log_refu
 ghost use Rattle.log_commands.specs.declared.refusal.Refusal.TheVariants.{OutOfMemory};
 
 use crate::names::Role;
+use crate::statuses;
 use bn_base::{BadSetting, Ic};
 use elf_loader::ElfError;
 use hart_replay::ReplayError;
@@ -69,12 +70,12 @@ fn replay_status(error: &ReplayError) -> u8
     ensures { result ≡ replay_status error.now }
 {
     match error {
-        ReplayError::NoInterval { .. } => 14,
-        ReplayError::LoadMissing { .. } => 15,
-        ReplayError::ScMissing { .. } => 15,
-        ReplayError::RecordsLeft { .. } => 15,
-        ReplayError::EndDiffers { .. } => 15,
-        ReplayError::OutOfMemory => 15,
+        ReplayError::NoInterval { .. } => statuses::NO_INTERVAL,
+        ReplayError::LoadMissing { .. } => statuses::REPLAY_STOPPED,
+        ReplayError::ScMissing { .. } => statuses::REPLAY_STOPPED,
+        ReplayError::RecordsLeft { .. } => statuses::REPLAY_STOPPED,
+        ReplayError::EndDiffers { .. } => statuses::REPLAY_STOPPED,
+        ReplayError::OutOfMemory => statuses::REPLAY_STOPPED,
     }
 }
 
@@ -94,24 +95,24 @@ impl Refusal {
         ensures { result ≡ status_of self.now }
     {
         match self {
-            Refusal::WordsRefused | Refusal::OutOfRange(_) | Refusal::SameName => 2,
-            Refusal::StoreFailed(_) => 3,
-            Refusal::Missing(_) => 4,
-            Refusal::TooLong(_) => 5,
-            Refusal::ElfRefused(_) => 6,
-            Refusal::LogRefused(_) => 7,
-            Refusal::ProgramDiffers { .. } => 8,
-            Refusal::OutOfMemory => 9,
-            Refusal::WriteFailed => 13,
+            Refusal::WordsRefused | Refusal::OutOfRange(_) | Refusal::SameName => statuses::WORDS_REFUSED,
+            Refusal::StoreFailed(_) => statuses::STORE_FAILED,
+            Refusal::Missing(_) => statuses::MISSING,
+            Refusal::TooLong(_) => statuses::TOO_LONG,
+            Refusal::ElfRefused(_) => statuses::ELF_REFUSED,
+            Refusal::LogRefused(_) => statuses::LOG_REFUSED,
+            Refusal::ProgramDiffers { .. } => statuses::PROGRAM_DIFFERS,
+            Refusal::OutOfMemory => statuses::OUT_OF_MEMORY,
+            Refusal::WriteFailed => statuses::WRITE_FAILED,
             Refusal::ReplayStopped(error) => replay_status(error),
-            Refusal::ReadFailed => 12,
-            Refusal::LineTooLong => 18,
-            Refusal::CommandsTooLong => 18,
-            Refusal::BookRefused(_) => 17,
-            Refusal::FileDiffers { .. } => 16,
-            Refusal::NothingLeft => 19,
-            Refusal::TooManyRaces { .. } => 20,
-            Refusal::NoRow { .. } => 21,
+            Refusal::ReadFailed => statuses::READ_FAILED,
+            Refusal::LineTooLong => statuses::COMMANDS_TOO_LONG,
+            Refusal::CommandsTooLong => statuses::COMMANDS_TOO_LONG,
+            Refusal::BookRefused(_) => statuses::BOOK_REFUSED,
+            Refusal::FileDiffers { .. } => statuses::FILE_DIFFERS,
+            Refusal::NothingLeft => statuses::NOTHING_LEFT,
+            Refusal::TooManyRaces { .. } => statuses::TOO_MANY_RACES,
+            Refusal::NoRow { .. } => statuses::NO_ROW,
         }
     }
 }

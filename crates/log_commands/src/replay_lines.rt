@@ -1,15 +1,15 @@
 //! The lines of an interval that is replayed: one at its begin, one a row, one at its end.
-ghost use Rattle.std.specs.Prelude.{◌≡◌, ◌≤◌, ◌++◌, []};
+ghost use Rattle.std.specs.Prelude.{◌≡◌, ◌++◌, []};
 ghost use Rattle.rv_text.specs.Rows.{row_text};
 ghost use Rattle.log_commands.specs.Texts.{rows_text, begin_text};
 ghost use Rattle.log_commands.specs.Printed.{EndsAs, outcome_of, ending_of, end_of_interval, rest_text, text_from};
-ghost use Rattle.log_commands.specs.Outside.{Sent, Gathered};
+ghost use Rattle.log_commands.specs.Outside.{Sends, Gathers, Always};
 
 use crate::refusal::Refusal;
 use crate::send::{send, send_block, send_short};
 use crate::texts::push_begin;
+use crate::outside::SinkExt;
 use bn_base::{EndMark, Row};
-use bn_outside::Sink;
 use hart_replay::{ReplayError, Replayer};
 use rv_text::{RowLines, Text, write_end};
 use std::alloc::Global;
@@ -24,14 +24,13 @@ pub enum ReplayEnd {
 }
 
 // Puts the line of a row behind what waits.
-fn gather_row<O: Sink>(
+fn gather_row<O: SinkExt>(
     lines: &mut RowLines,
     text: &mut Text,
     row: &Row,
     out: &mut O,
 ) -> Result<(), Refusal>
-    ensures sent { Gathered (O.written out.old) (O.written out.new) (O.faults out.old) (O.faults out.new) (text.old ++ row_text row.now) text.new result }
-    ensures later { O.faults out.old ≤ O.faults out.new }
+    ensures { Gathers (text.old ++ row_text row.now) text.new (O.stream out.old) (O.stream out.new) result }
 {
     match lines.write_row(row, text) {
         Ok(()) => send_block(text, out),
@@ -54,16 +53,14 @@ fn ending_of(error: ReplayError) -> Result<ReplayEnd, Refusal>
 }
 
 // Sends the rows that are left of a replay, in blocks, of which none waits yet.
-fn send_left<O: Sink>(
+fn send_left<O: SinkExt>(
     replayer: &mut Replayer,
     lines: &mut RowLines,
     text: &mut Text,
     out: &mut O,
 ) -> Result<ReplayEnd, Refusal>
     requires { text.old ≡ [] }
-    ensures sent { let r = replayer.old.left in
-        Sent (O.written out.old) (O.written out.new) (O.faults out.old) (O.faults out.new) (rows_text r.rows) (EndsAs r.outcome) result }
-    ensures later { O.faults out.old ≤ O.faults out.new }
+    ensures { let r = replayer.old.left in Sends (rows_text r.rows) (EndsAs r.outcome) (O.stream out.old) (O.stream out.new) result }
 {
     'rows: loop {
         match replayer.step() {
@@ -84,14 +81,12 @@ fn send_left<O: Sink>(
 }
 
 // Sends the rows that are left of a replay.
-fn send_rows<O: Sink>(
+fn send_rows<O: SinkExt>(
     alloc: Global,
     replayer: &mut Replayer,
     out: &mut O,
 ) -> Result<ReplayEnd, Refusal>
-    ensures sent { let r = replayer.old.left in
-        Sent (O.written out.old) (O.written out.new) (O.faults out.old) (O.faults out.new) (rows_text r.rows) (EndsAs r.outcome) result }
-    ensures later { O.faults out.old ≤ O.faults out.new }
+    ensures { let r = replayer.old.left in Sends (rows_text r.rows) (EndsAs r.outcome) (O.stream out.old) (O.stream out.new) result }
 {
     let mut text = Text::new(alloc);
     let mut lines = RowLines::new(alloc);
@@ -99,15 +94,14 @@ fn send_rows<O: Sink>(
 }
 
 // Sends the line before the rows.
-fn send_begin<O: Sink>(
+fn send_begin<O: SinkExt>(
     alloc: Global,
     hart: u64,
     interval: u64,
     ic: u64,
     out: &mut O,
 ) -> Result<(), Refusal>
-    ensures sent { Sent (O.written out.old) (O.written out.new) (O.faults out.old) (O.faults out.new) (begin_text hart interval ic) (λ _. Unit {0}) result }
-    ensures later { O.faults out.old ≤ O.faults out.new }
+    ensures { Sends (begin_text hart interval ic) Always (O.stream out.old) (O.stream out.new) result }
 {
     let mut text = Text::new(alloc);
     push_begin(&mut text, hart, interval, ic)?;
@@ -115,7 +109,7 @@ fn send_begin<O: Sink>(
 }
 
 // Sends the line after the rows, where the end was reached.
-fn send_end<O: Sink>(
+fn send_end<O: SinkExt>(
     alloc: Global,
     hart: u64,
     interval: u64,
@@ -123,8 +117,7 @@ fn send_end<O: Sink>(
     ending: &ReplayEnd,
     out: &mut O,
 ) -> Result<(), Refusal>
-    ensures sent { Sent (O.written out.old) (O.written out.new) (O.faults out.old) (O.faults out.new) (end_of_interval hart interval mark.now (outcome_of ending.now)) (λ _. Unit {0}) result }
-    ensures later { O.faults out.old ≤ O.faults out.new }
+    ensures { Sends (end_of_interval hart interval mark.now (outcome_of ending.now)) Always (O.stream out.old) (O.stream out.new) result }
 {
     match ending {
         ReplayEnd::Done => {
@@ -137,7 +130,7 @@ fn send_end<O: Sink>(
 }
 
 // Sends the rows that are left of a replay and the line after them.
-fn send_rest<O: Sink>(
+fn send_rest<O: SinkExt>(
     alloc: Global,
     hart: u64,
     interval: u64,
@@ -145,21 +138,15 @@ fn send_rest<O: Sink>(
     replayer: &mut Replayer,
     out: &mut O,
 ) -> Result<ReplayEnd, Refusal>
-    ensures sent { let r = replayer.old.left in
-        Sent (O.written out.old) (O.written out.new) (O.faults out.old) (O.faults out.new) (rest_text hart interval mark.now r) (EndsAs r.outcome) result }
-    ensures later { O.faults out.old ≤ O.faults out.new }
+    ensures { let r = replayer.old.left in Sends (rest_text hart interval mark.now r) (EndsAs r.outcome) (O.stream out.old) (O.stream out.new) result }
 {
-    match send_rows(alloc, replayer, out) {
-        Err(refusal) => Err(refusal),
-        Ok(ending) => match send_end(alloc, hart, interval, mark, &ending, out) {
-            Ok(()) => Ok(ending),
-            Err(refusal) => Err(refusal),
-        },
-    }
+    let ending = send_rows(alloc, replayer, out)?;
+    send_end(alloc, hart, interval, mark, &ending, out)?;
+    Ok(ending)
 }
 
 /// Sends all that the replay of an interval prints, and answers how it ends.
-pub fn send_interval<O: Sink>(
+pub fn send_interval<O: SinkExt>(
     alloc: Global,
     hart: u64,
     interval: u64,
@@ -167,12 +154,8 @@ pub fn send_interval<O: Sink>(
     replayer: &mut Replayer,
     out: &mut O,
 ) -> Result<ReplayEnd, Refusal>
-    ensures sent { let r = replayer.old.left in
-        Sent (O.written out.old) (O.written out.new) (O.faults out.old) (O.faults out.new) (text_from hart interval replayer.old.state.ic mark.now r) (EndsAs r.outcome) result }
-    ensures later { O.faults out.old ≤ O.faults out.new }
+    ensures { let r = replayer.old.left in Sends (text_from hart interval replayer.old.state.ic mark.now r) (EndsAs r.outcome) (O.stream out.old) (O.stream out.new) result }
 {
-    match send_begin(alloc, hart, interval, replayer.state().ic, out) {
-        Err(refusal) => Err(refusal),
-        Ok(()) => send_rest(alloc, hart, interval, mark, replayer, out),
-    }
+    send_begin(alloc, hart, interval, replayer.state().ic, out)?;
+    send_rest(alloc, hart, interval, mark, replayer, out)
 }

@@ -1,15 +1,15 @@
 //! Texts sent to an output, whole or in blocks, and a refusal told on err.
-ghost use Rattle.std.specs.Prelude.{◌≡◌, ◌≤◌, ℕ, List, Option, IfErr, OnErr};
-ghost use Rattle.bn_outside.specs.Counts.{Counts, Rose};
-ghost use Rattle.bn_outside.specs.Files.{Files};
+ghost use Rattle.std.specs.Prelude.{◌≡◌, ◌≤◌, IfErr, OnErr};
+ghost use Rattle.bn_outside.specs.Counts.{Rose};
 ghost use Rattle.bn_outside.specs.Streams.{AppendsShort};
-ghost use Rattle.log_commands.specs.Outside.{Sent, Gathered, ToldRefusal};
-ghost use Rattle.log_commands.specs.Effects.{Prints, printing_to};
-ghost use Rattle.log_commands.specs.Told.{printed};
+ghost use Rattle.log_commands.specs.Effects.{IsClosed};
+ghost use Rattle.log_commands.specs.Outside.{Sent, Sends, Gathers, Always, ToldRefusal};
 ghost use Rattle.log_commands.specs.declared.refusal.Refusal.TheVariants.{WriteFailed};
 
 use crate::names::Names;
+use crate::outside::SinkExt;
 use crate::refusal::Refusal;
+use crate::statuses;
 use bn_outside::{Sink, send_all};
 use rv_text::Text;
 use std::alloc::Global;
@@ -31,11 +31,10 @@ pub fn send_bytes<K: Sink>(sink: &mut K, bytes: &[u8]) -> Result<(), Refusal>
 }
 
 /// Sends a text.
-pub fn send<K: Sink>(sink: &mut K, text: &Text) -> Result<(), Refusal>
-    ensures sent { Sent (K.written sink.old) (K.written sink.new) (K.faults sink.old) (K.faults sink.new) text.now (λ _. Unit {0}) result }
-    ensures later { K.faults sink.old ≤ K.faults sink.new }
+pub fn send<K: SinkExt>(sink: &mut K, text: &Text) -> Result<(), Refusal>
+    ensures { Sends text.now Always (K.stream sink.old) (K.stream sink.new) result }
 {
-    send_bytes(sink, text.as_bytes())
+    sink.send_bytes(text.as_bytes())
 }
 
 /// Tells a refusal on err, and answers its status; 9 where its line finds no memory.
@@ -51,33 +50,29 @@ pub fn refuse<X: Sink>(alloc: Global, names: &Names, refusal: &Refusal, err: &mu
         }
         Err(_) => {
             let _ = send_all(err, b"bugnet: out of memory\n");
-            9
+            statuses::OUT_OF_MEMORY
         }
     }
 }
 
-/// Ends a command whose text was sent: with 0, or with the refusal that stopped it, which is told on err.
-pub fn end_print<X: Sink>(
+/// Ends a command: a refusal, if there is one, is told on err, and gives the status.
+pub fn close<X: SinkExt>(
     alloc: Global,
     names: &Names,
-    sent: Result<(), Refusal>,
+    done: Result<(), Refusal>,
     err: &mut X,
 ) -> u8
-    ensures { (files : Option Files) (had : Counts) (text : List ℕ) (out_old out_new : Option (List ℕ)) (before now : ℕ)
-        → before ≤ now → Sent out_old out_new before now text (λ _. Unit {0}) sent
-        → Prints names.now (printed text) result (printing_to files had out_old out_new before now
-        (X.written err.old) (X.written err.new) (X.faults err.old) (X.faults err.new)) }
+    ensures { IsClosed names.now done result (X.stream err.old) (X.stream err.new) }
 {
-    match sent {
-        Ok(()) => 0,
-        Err(refusal) => refuse(alloc, names, &refusal, err),
+    match done {
+        Ok(()) => statuses::DONE,
+        Err(refusal) => err.refuse(alloc, names, &refusal),
     }
 }
 
 /// Sends what waits, where it is a block or more.
-pub fn send_block<O: Sink>(text: &mut Text, out: &mut O) -> Result<(), Refusal>
-    ensures sent { Gathered (O.written out.old) (O.written out.new) (O.faults out.old) (O.faults out.new) text.old text.new result }
-    ensures later { O.faults out.old ≤ O.faults out.new }
+pub fn send_block<O: SinkExt>(text: &mut Text, out: &mut O) -> Result<(), Refusal>
+    ensures { Gathers text.old text.new (O.stream out.old) (O.stream out.new) result }
 {
     if text.len() < BLOCK {
         return Ok(());
@@ -92,9 +87,8 @@ pub fn send_block<O: Sink>(text: &mut Text, out: &mut O) -> Result<(), Refusal>
 }
 
 /// Sends what waits, since memory is wanting for more of it.
-pub fn send_short<O: Sink>(text: &Text, out: &mut O) -> Result<(), Refusal>
-    ensures sent { Sent (O.written out.old) (O.written out.new) (O.faults out.old) (O.faults out.new) text.now (λ _. ⊥) result }
-    ensures later { O.faults out.old ≤ O.faults out.new }
+pub fn send_short<O: SinkExt>(text: &Text, out: &mut O) -> Result<(), Refusal>
+    ensures { Sends text.now (λ _. ⊥) (O.stream out.old) (O.stream out.new) result }
 {
     match send(out, text) {
         Ok(()) => Err(Refusal::OutOfMemory),

@@ -18,8 +18,10 @@ pub mod Picks
 pub mod KeptLemmas
 pub mod SlotLemmas
 pub mod EpochLemmas
+pub mod BoundLemmas
 pub mod PageLemmas
 pub mod PagesLemmas
+pub mod SizeLemmas
 pub mod Steps
 pub mod NewLemmas
 pub mod AccessLemmas

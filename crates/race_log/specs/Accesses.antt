@@ -9,7 +9,7 @@ use Rattle.race_log.specs.Laws.{AreSources}
 use Rattle.race_log.specs.Kept.{after}
 use Rattle.race_log.specs.Sweep.{one_more}
 use Rattle.race_log.specs.Represents.{RepresentsAccesses, harts_of, lasting_of, lasts, next_turn, next_count}
-use Rattle.race_log.specs.Represents.{times_of, reserved_range, edges_of, unswept_of}
+use Rattle.race_log.specs.Represents.{times_of, reserved_range, edges_of, unswept_of, HasSameSize}
 
 -- the shadow may take in the hart's access of n words from the first, at this count and in this turn: the words are
 -- reserved, turn and count are past those so far, and the hart's bit was clear at no sweep
@@ -47,3 +47,4 @@ pub record AwaitsNext (hart ic turn : ℕ) (old new : Shadow) : Type 0 where
   pub counts : (h : ℕ) → next_count new h ≡ (if h == hart then ic + 1 else next_count old h)
   pub reserved : reserved_range new ≡ None
   pub unswept : unswept_of new ≡ one_more (unswept_of old)
+  pub size : HasSameSize old new

@@ -8,8 +8,10 @@ use Rattle.race_log.specs.ByCount.{IsInOrder}
 use Rattle.race_log.specs.Holds.{OwnUpTo, CountsOf}
 use Rattle.race_log.specs.Kept.{Kept, Suffices, is_write}
 use Rattle.race_log.specs.Search.{sources, counts_after, gathered}
+use Rattle.race_log.specs.Bound.{most_epochs}
+use Rattle.race_log.specs.Slots.{slots_in}
 use Rattle.race_log.specs.Sweep.{has_bit, all_below, held_below, one_more}
-use Rattle.race_log.specs.Words.{kept_in, counts_at, KeepsAccess}
+use Rattle.race_log.specs.Words.{kept_in, counts_at, KeepsAccess, IsAsLarge, MakesPages, size_of}
 
 -- a number past the turn, if there is one
 abbrev pub past_turn : Option ℕ → ℕ
@@ -64,9 +66,37 @@ is_known s set hart count = all_below (λ g. not (has_bit set g) || nat_lt count
 abbrev pub words_of : Shadow → ℕ
 words_of s = 64 * length s.words.pages.items
 
+-- how many epochs there are, each with a vector clock
+abbrev pub epochs_of : Shadow → ℕ
+epochs_of s = length s.words.epochs.table.items
+
+-- how many pages there are, of which some may have no slots
+abbrev pub pages_held : Shadow → ℕ
+pages_held s = length s.words.pages.items
+
+-- how many slots all pages have together
+abbrev pub slots_held : Shadow → ℕ
+slots_held s = slots_in s.words.pages.items
+
+-- room was made for so many words from the first: the pages that have some of them were made, and no others
+abbrev pub MakesRoom : (first n : ℕ) → (old new : Shadow) → Type 0
+MakesRoom first n old new = MakesPages first n old.words new.words
+
+-- the second has as many pages, slots and epochs as the first
+abbrev pub HasSameSize : (old new : Shadow) → Type 0
+HasSameSize old new = IsAsLarge old.words new.words
+
 -- how many accesses are kept of all words
 abbrev pub held_of : Shadow → ℕ
 held_of s = held_below (kept_of s) (words_of s)
+
+-- at any time there are few epochs, by the slots and pages that there are
+abbrev pub EpochsStayFew : Type 0
+EpochsStayFew = (s : Shadow) → epochs_of s ≤ most_epochs (slots_held s) (pages_held s)
+
+-- at any time a page has few slots: one for a write and one for a read of each hart, for each of 64 words
+abbrev pub PagesStaySmall : Type 0
+PagesStaySmall = (s : Shadow) (page : ℕ) → size_of s.words page ≤ 64 * (harts_of s + 1)
 
 -- how many accesses were taken in since the last sweep, or since the shadow was new
 abbrev pub unswept_of : Shadow → ℕ
@@ -108,3 +138,4 @@ pub record TakesIn (hart count turn first n : ℕ) (mode : Mode) (old new : Shad
   pub turns : next_turn new ≡ turn + 1
   pub reserved : reserved_range new ≡ None
   pub unswept : unswept_of new ≡ one_more (unswept_of old)
+  pub size : HasSameSize old new

@@ -1,6 +1,6 @@
 -- How the kept accesses of a word stand in slots.
 use Rattle.std.specs.Prelude.{◌≡◌, ℕ, zero, suc, ◌+◌, ◌-◌, ◌*◌, ◌<◌, ◌==◌, nat_lt, Bool, false, ◌||◌, cond, IsTrue, if◌then◌else◌}
-use Rattle.std.specs.Prelude.{List, [], ◌∷◌, ◌++◌, length, slice_get, slice_index, Option, Some, None, Vec}
+use Rattle.std.specs.Prelude.{List, [], ◌∷◌, ◌++◌, length, filter, slice_get, slice_index, Option, Some, None, Vec}
 use Rattle.std.specs.Global.{Global}
 use Rattle.vector_time.specs.Times.{count_of}
 use Rattle.race_log.specs.declared.mode.Mode.{Mode}
@@ -9,6 +9,7 @@ use Rattle.race_log.specs.declared.slot.Slot.{Slot}
 use Rattle.race_log.specs.declared.slot.FoundAccess.{FoundAccess}
 use Rattle.race_log.specs.declared.epochs.Epoch.{Epoch}
 use Rattle.race_log.specs.Kept.{Kept, Replaces}
+use Rattle.race_log.specs.Sweep.{sum_below}
 
 -- the counts of a epoch's other harts, 0 where there is no epoch
 abbrev pub counts_of : Option Epoch → ℕ → ℕ
@@ -61,6 +62,10 @@ abbrev pub is_marked : Option Epoch → Bool
 is_marked None = false
 is_marked (Some s) = s.used
 
+-- how many epochs are marked as used
+abbrev pub marks_in : List Epoch → ℕ
+marks_in table = length (filter (λ (e : Epoch). e.used) table)
+
 -- whether the next epoch that begins can't take this one's place
 abbrev pub is_settled : List Epoch → (next epoch : ℕ) → Bool
 is_settled table next epoch = nat_lt epoch next || is_marked (slice_get table epoch)
@@ -83,6 +88,10 @@ KeepsIn harts old new at mode s = (counts : ℕ → ℕ → ℕ)
 abbrev pub slots_of : Option (Vec Slot Global) → List Slot
 slots_of None = []
 slots_of (Some v) = v.items
+
+-- how many slots the pages have together
+abbrev pub slots_in : List (Vec Slot Global) → ℕ
+slots_in pages = sum_below (λ n. length (slots_of (slice_get pages n))) (length pages)
 
 -- all pages' slots name settled epochs
 abbrev pub AreSettled : List Epoch → ℕ → List (Vec Slot Global) → Type 0

@@ -1,5 +1,5 @@
 -- Kept accesses by word.
-use Rattle.std.specs.Prelude.{◌≡◌, ◌≢◌, ℕ, ◌+◌, ◌*◌, ◌/◌, ◌%◌, ◌<◌, ◌==◌, Bool, not, ◌&&◌, List, [], cond, length, nat_lt, slice_get, slice_index, Option, Some, None, IsTrue}
+use Rattle.std.specs.Prelude.{◌≡◌, ◌≢◌, ℕ, ◌+◌, ◌*◌, ◌/◌, ◌%◌, ◌<◌, ◌≤◌, ◌⊎◌, ◌==◌, max, Bool, not, ◌&&◌, List, [], cond, length, nat_lt, slice_get, slice_index, Option, Some, None, IsTrue}
 use Rattle.vector_time.specs.declared.times.Times.{Times}
 use Rattle.vector_time.specs.Times.{count_of}
 use Rattle.race_log.specs.declared.mode.Mode.{Mode}
@@ -8,6 +8,7 @@ use Rattle.race_log.specs.declared.epochs.Epochs.{Epochs}
 use Rattle.race_log.specs.declared.words.KeptWords.{KeptWords}
 use Rattle.race_log.specs.Kept.{Kept, Replaces}
 use Rattle.race_log.specs.Slots.{counts_in, kept_by, word_in, is_marked, slots_of}
+use Rattle.race_log.specs.Bound.{pages_to}
 
 -- the counts of the times, if there are any
 abbrev pub counts_at : Option Times → ℕ → ℕ
@@ -34,6 +35,10 @@ ArePresent s harts times = (g h : ℕ) → g < harts → h ≢ g → present_cou
 abbrev pub has_epoch : Epochs → Bool
 has_epoch s = nat_lt s.next (length s.table.items) && not (is_marked (slice_get s.table.items s.next))
 
+-- no epoch can begin in the place of another: all from the next on are marked as used
+abbrev pub AreAllUsed : Epochs → Type 0
+AreAllUsed s = (i : ℕ) → s.next ≤ i → i < length s.table.items → IsTrue (is_marked (slice_get s.table.items i))
+
 -- the place where the slots of an address's word begin in their page
 abbrev pub place_of : (harts word : ℕ) → ℕ
 place_of harts word = word / 4 % 64 * (harts + 1)
@@ -49,6 +54,22 @@ kept_in words word = cond (word % 4 == 0) (word_in (epoch_counts words.epochs) w
 -- whether the page of an address is made
 abbrev pub has_room : KeptWords → ℕ → Bool
 has_room words word = length (page_of words word) == 64 * (words.harts + 1)
+
+-- how many slots a page has
+abbrev pub size_of : KeptWords → ℕ → ℕ
+size_of words page = length (slots_of (slice_get words.pages.items page))
+
+-- the second has as many pages, slots and epochs as the first
+pub record IsAsLarge (old new : KeptWords) : Type 0 where
+  pub pages : length new.pages.items ≡ length old.pages.items
+  pub slots : (page : ℕ) → size_of new page ≡ size_of old page
+  pub epochs : length new.epochs.table.items ≡ length old.epochs.table.items
+
+-- pages of so many words from the first were made, and no others: there are no more than go up to the last of these, and
+-- only these got slots
+pub record MakesPages (first n : ℕ) (old new : KeptWords) : Type 0 where
+  pub pages : length new.pages.items ≤ max (length old.pages.items) (pages_to first n)
+  pub others : (page : ℕ) → (page < first / 256) ⊎ (pages_to first n ≤ page) → size_of new page ≡ size_of old page
 
 -- the pages of so many words from the first are made
 abbrev pub HasPages : KeptWords → ℕ → ℕ → Type 0

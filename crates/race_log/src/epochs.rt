@@ -1,7 +1,6 @@
-ghost use Rattle.std.specs.Prelude.{◌≡◌, ◌≢◌, ◌<◌, ◌≤◌, ◌^◌, ℕ, max, length, filter, IfOk, OnOk, IsOk, IsTrue, slice_get, true, false};
+ghost use Rattle.std.specs.Prelude.{◌≡◌, ◌≢◌, ◌+◌, ◌⊎◌, ◌<◌, ◌≤◌, ◌^◌, ℕ, max, length, IfOk, OnOk, IsOk, IsTrue, slice_get, true, false};
 ghost use Rattle.bn_base.specs.declared.settings.TheConstants.{HARTS};
 ghost use Rattle.race_log.specs.Slots.{is_settled, AreSettledNow};
-ghost use Rattle.race_log.specs.declared.epochs.Epoch.{Epoch};
 
 use bn_base::{HARTS, HartId, Ic};
 use std::alloc::{AllocError, Global};
@@ -35,12 +34,13 @@ pub struct Epochs {
 
 impl Epochs {
     ghost use Rattle.vector_time.specs.Times.{count_of};
-    ghost use Rattle.race_log.specs.Slots.{counts_past, is_marked};
-    ghost use Rattle.race_log.specs.Words.{epoch_counts, epoch_of, present_counts, has_epoch};
+    ghost use Rattle.race_log.specs.Slots.{counts_past, is_marked, marks_in};
+    ghost use Rattle.race_log.specs.Words.{epoch_counts, epoch_of, present_counts, has_epoch, AreAllUsed};
 
     /// One epoch, in which each hart is and knows of no point.
     pub fn new(alloc: Global) -> Result<Epochs, AllocError>
         ensures counts { IfOk result (λ s. (epoch h : ℕ) → epoch_counts s epoch h ≡ 0) }
+        ensures one { IfOk result (λ s. length s.table.items ≡ 1) }
     {
         let mut table = Vec::new(alloc);
         table.push(Epoch {
@@ -61,6 +61,7 @@ impl Epochs {
         ensures settled { (i : ℕ) → IsTrue (is_settled self.old.table.items self.old.next i) → IsTrue (is_settled self.new.table.items self.new.next i) }
         ensures room { OnOk result (IsTrue (has_epoch self.new)) }
         ensures ready { IsTrue (has_epoch self.old) → IsOk result }
+        ensures grows { (length self.new.table.items ≡ length self.old.table.items) ⊎ (AreAllUsed self.old × (length self.new.table.items ≡ length self.old.table.items + 1)) }
     {
         self.pass_used();
         if (self.next as usize) < self.table.len() {
@@ -87,6 +88,7 @@ impl Epochs {
         ensures settled { (i : ℕ) → IsTrue (is_settled self.old.table.items self.old.next i) → IsTrue (is_settled self.new.table.items self.new.next i) }
         ensures room { self.new.next < length self.new.table.items → IsTrue (has_epoch self.new) }
         ensures ready { IsTrue (has_epoch self.old) → self.new.next ≡ self.old.next }
+        ensures passed { (i : ℕ) → self.old.next ≤ i → i < self.new.next → IsTrue (is_marked (slice_get self.old.table.items i)) }
     {
         for place in self.next as usize..self.table.len() {
             if !self.table[place].used {
@@ -103,6 +105,7 @@ impl Epochs {
         ensures present { self.new.present ≡ self.old.present }
         ensures settled { (i : ℕ) → IsTrue (is_settled self.old.table.items self.old.next i) → IsTrue (is_settled self.new.table.items self.new.next i) }
         ensures room { OnOk result (IsTrue (has_epoch self.new)) }
+        ensures grows { (length self.new.table.items ≡ length self.old.table.items) ⊎ (length self.new.table.items ≡ length self.old.table.items + 1) }
     {
         if self.table.len() >= u32::MAX as usize {
             return Err(AllocError);
@@ -123,7 +126,7 @@ impl Epochs {
 
     /// How many of them are marked as used.
     pub fn used(&self) -> usize
-        ensures value { result ≡ length (filter (λ (e : Epoch). e.used) self.now.table.items) }
+        ensures value { result ≡ marks_in self.now.table.items }
         ensures most { result ≤ length self.now.table.items }
     {
         self.table.iter().filter(|epoch| epoch.used).count()
@@ -134,8 +137,9 @@ impl Epochs {
         ensures counts { (epoch h : ℕ) → epoch_counts self.new epoch h ≡ epoch_counts self.old epoch h }
         ensures present { self.new.present ≡ self.old.present }
         ensures settled { (i : ℕ) → IsTrue (is_settled self.old.table.items self.old.next i) → IsTrue (is_settled self.new.table.items self.new.next i) }
+        ensures table { self.new.table ≡ self.old.table }
         ensures full { result ≡ true → self.new.next ≡ length self.new.table.items }
-        ensures left { result ≡ false → self.new.next < length self.new.table.items }
+        ensures left { result ≡ false → IsTrue (has_epoch self.new) }
         ensures room { IsTrue (has_epoch self.old) → IsTrue (has_epoch self.new) × (result ≡ false) }
     {
         self.pass_used();
@@ -148,6 +152,7 @@ impl Epochs {
         ensures counts { (epoch h : ℕ) → epoch_counts self.new epoch h ≡ epoch_counts self.old epoch h }
         ensures present { self.new.present ≡ self.old.present }
         ensures full { (self.new.next ≡ self.old.next) × (length self.new.table.items ≡ length self.old.table.items) }
+        ensures none { marks_in self.new.table.items ≡ 0 }
     {
         for place in 0..self.table.len() {
             self.table[place].used = false;
@@ -162,6 +167,7 @@ impl Epochs {
         ensures full { (self.new.next ≡ self.old.next) × (length self.new.table.items ≡ length self.old.table.items) }
         ensures marks { (i : ℕ) → IsTrue (is_marked (slice_get self.old.table.items i)) → IsTrue (is_marked (slice_get self.new.table.items i)) }
         ensures marked { epoch < length self.old.table.items → IsTrue (is_marked (slice_get self.new.table.items epoch)) }
+        ensures few { marks_in self.new.table.items ≤ marks_in self.old.table.items + 1 }
     {
         if (epoch as usize) < self.table.len() {
             self.table[epoch as usize].used = true;
@@ -176,6 +182,7 @@ impl Epochs {
         ensures full { (self.new.next ≡ self.old.next) × (length self.new.table.items ≡ length self.old.table.items) }
         ensures marked { (hart : ℕ) → IsTrue (is_marked (slice_get self.new.table.items (epoch_of self.new hart))) }
         ensures first { IsTrue (is_marked (slice_get self.new.table.items 0)) }
+        ensures few { marks_in self.new.table.items ≤ HARTS + 1 }
     {
         self.unmark();
         self.mark(0);
@@ -205,6 +212,7 @@ impl Epochs {
         ensures settled { (i : ℕ) → IsTrue (is_settled self.old.table.items self.old.next i) → IsTrue (is_settled self.new.table.items self.new.next i) }
         ensures present { (h : ℕ) → present_counts self.new hart h ≡ count_of times.now h }
         ensures others { (g : ℕ) → g ≢ hart → epoch_of self.new g ≡ epoch_of self.old g }
+        ensures size { length self.new.table.items ≡ length self.old.table.items }
     {
         self.table[self.next as usize].times = *times;
         self.present[hart as usize] = self.next;

@@ -3,6 +3,7 @@ ghost use Rattle.race_log.specs.Points.{Point, Writes, IsConflict};
 ghost use Rattle.race_log.specs.Netzer.{ProgramOrder, Conflict, Before, IsEdge};
 ghost use Rattle.race_log.specs.ByCount.{StandByCounts};
 ghost use Rattle.race_log.specs.Noted.{NotesDecide};
+ghost use Rattle.race_log.specs.Represents.{EpochsStayFew, PagesStaySmall};
 ghost use Rattle.race_log.specs.Tests.{writes_word, is_conflict, program_order, conflict, before, edge, edges_into};
 ghost use Rattle.race_log.specs.Laws.{NoEdgeFollows, EdgesAreNeeded, EdgesOrderConflicts, LateEdgesOrderConflicts, MergesKeepConflicts, MergesKeepWords};
 ghost use Rattle.race_log.specs.Laws.{LateEdgesKeepConflicts, LateEdgesKeepWords, SomeHartGoesOn, NextPointsRespect, KnownAccessesMayGo};
@@ -93,4 +94,11 @@ pub fn known_accesses_may_go()
 /// What a shadow notes decides for which runs it stands.
 pub fn notes_decide()
     ensures { NotesDecide }
+{}
+
+/// How much a shadow holds at any time: of epochs, each with a vector clock, at most 1024, 2 for each slot and 8 for each
+/// page; and of slots at most those of 64 words in a page. [`Shadow::reserve`] says which pages are made.
+pub fn memory_stays_small()
+    ensures epochs { EpochsStayFew }
+    ensures pages { PagesStaySmall }
 {}

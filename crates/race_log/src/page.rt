@@ -1,6 +1,6 @@
 // The slots of a page: for each of its words one for a write, and after it one for a read of each hart.
 ghost use Rattle.std.specs.Prelude.{◌≡◌, ◌+◌, ◌<◌, ◌≤◌, ℕ, Some, IsOk, OnOk, IsTrue, length, slice_get, vec_len};
-ghost use Rattle.race_log.specs.Slots.{word_in, is_marked, KeepsIn, StaysSettled};
+ghost use Rattle.race_log.specs.Slots.{word_in, is_marked, marks_in, KeepsIn, StaysSettled};
 ghost use Rattle.race_log.specs.Words.{epoch_counts};
 ghost use Rattle.race_log.specs.declared.slot.Slot.{Slot};
 
@@ -65,6 +65,7 @@ pub fn mark_page(epochs: &mut Epochs, page: &[Slot])
     ensures full { (epochs.new.next ≡ epochs.old.next) × (length epochs.new.table.items ≡ length epochs.old.table.items) }
     ensures marks { (i : ℕ) → IsTrue (is_marked (slice_get epochs.old.table.items i)) → IsTrue (is_marked (slice_get epochs.new.table.items i)) }
     ensures marked { (at : ℕ) (s : Slot) → slice_get page.now at ≡ Some s → s.epoch < length epochs.old.table.items → IsTrue (is_marked (slice_get epochs.new.table.items s.epoch)) }
+    ensures few { marks_in epochs.new.table.items ≤ marks_in epochs.old.table.items + length page.now }
 {
     for slot in page {
         epochs.mark(slot.epoch);

@@ -42,7 +42,7 @@ impl Shadow {
     ghost use Rattle.race_log.specs.Kept.{access_point};
     ghost use Rattle.race_log.specs.Sweep.{has_bit, is_covered, accessed_below};
     ghost use Rattle.race_log.specs.Accesses.{MayAccess, HasEdges, TakesPoint, AwaitsNext};
-    ghost use Rattle.race_log.specs.Represents.{RepresentsAccesses, KnowsSame, harts_of, lasting_of, lasts, next_turn, next_count, times_of, kept_of, words_of, held_of, is_known, reserved_range, edges_of, unswept_of, TakesIn};
+    ghost use Rattle.race_log.specs.Represents.{RepresentsAccesses, KnowsSame, harts_of, lasting_of, lasts, next_turn, next_count, times_of, kept_of, words_of, held_of, is_known, reserved_range, edges_of, unswept_of, MakesRoom, HasSameSize, TakesIn};
 
     /// Knows of no point and keeps nothing.
     pub fn new(alloc: Global, settings: &Settings) -> Result<Shadow, AllocError>
@@ -52,6 +52,7 @@ impl Shadow {
         ensures reserved { IfOk result (λ s. reserved_range s ≡ None) }
         ensures edges { IfOk result (λ s. edges_of s ≡ []) }
         ensures unswept { IfOk result (λ s. unswept_of s ≡ 0) }
+        ensures words { IfOk result (λ s. words_of s ≡ 0) }
         ensures lasting { IfOk result (λ s. (h : ℕ) → h < harts_of s → IsTrue (lasts s h)) }
         ensures stands { IfOk result (λ s. (live : ℕ → Bool) → RepresentsAccesses [] live s) }
     {
@@ -87,6 +88,7 @@ impl Shadow {
         ensures ready { reserved_range self.old ≡ Some (first, count) → IsOk result }
         ensures edges { edges_of self.new ≡ edges_of self.old }
         ensures unswept { unswept_of self.new ≡ unswept_of self.old }
+        ensures room { MakesRoom first count self.old self.new }
     {
         self.words.make_room(first, count)?;
         self.reserved = Some((first, count));
@@ -213,6 +215,7 @@ impl Shadow {
         ensures reserved { reserved_range self.new ≡ reserved_range self.old }
         ensures edges { edges_of self.new ≡ edges_of self.old }
         ensures unswept { unswept_of self.new ≡ 0 }
+        ensures size { HasSameSize self.old self.new }
     {
         let known = self.known_to_all(live);
         self.lasting &= live;

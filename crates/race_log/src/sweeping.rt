@@ -1,7 +1,7 @@
 // Sweeps of all that is kept.
 ghost use Rattle.std.specs.Prelude.{◌≡◌, ◌≢◌, ◌+◌, ◌*◌, ◌/◌, ◌<◌, ◌≤◌, ℕ, length, vec_len};
 ghost use Rattle.bn_base.specs.declared.settings.TheConstants.{HARTS};
-ghost use Rattle.race_log.specs.Words.{kept_in, has_room};
+ghost use Rattle.race_log.specs.Words.{kept_in, has_room, IsAsLarge};
 ghost use Rattle.race_log.specs.Sweep.{uncovered, sum_below, held_below};
 
 use crate::sweep::{give_up_page, held_page};
@@ -18,6 +18,7 @@ impl KeptWords {
         ensures kept { (w : ℕ) → kept_in self.new w ≡ uncovered known.now (kept_in self.old w) }
         ensures gone { result + held_below (kept_in self.new) (64 * length self.new.pages.items) ≡ held_below (kept_in self.old) (64 * length self.old.pages.items) }
         ensures room { (w : ℕ) → has_room self.new w ≡ has_room self.old w }
+        ensures size { IsAsLarge self.old self.new }
     {
         let mut gone = 0u64;
         for number in 0..self.pages.len() {
@@ -37,6 +38,7 @@ impl KeptWords {
         ensures gone { result + sum_below (λ i. length (kept_in self.new (4 * (64 * number + i)))) 64 ≡ sum_below (λ i. length (kept_in self.old (4 * (64 * number + i)))) 64 }
         ensures few { result ≤ 64 * (HARTS + 1) }
         ensures room { (w : ℕ) → has_room self.new w ≡ has_room self.old w }
+        ensures size { IsAsLarge self.old self.new }
     {
         let harts = self.harts;
         give_up_page(&mut self.pages[number], harts, known)

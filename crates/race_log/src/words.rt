@@ -1,6 +1,7 @@
-ghost use Rattle.std.specs.Prelude.{◌≡◌, ◌+◌, ◌*◌, ◌/◌, ◌%◌, ◌<◌, ◌≤◌, ◌^◌, ℕ, [], IsTrue, IsOk, OnOk, OnErr, IfOk, ◌≢◌, true, false, length, slice_get, vec_len, ◌⊎◌};
+ghost use Rattle.std.specs.Prelude.{◌≡◌, ◌+◌, ◌*◌, ◌/◌, ◌%◌, ◌<◌, ◌≤◌, ◌^◌, ℕ, [], IsTrue, IsOk, OnOk, OnErr, IfOk, ◌≢◌, max, true, false, length, slice_get, vec_len};
 ghost use Rattle.bn_base.specs.declared.settings.TheConstants.{HARTS};
-ghost use Rattle.race_log.specs.Slots.{AreFull, AreSettled};
+ghost use Rattle.race_log.specs.Slots.{AreFull, AreSettled, slots_in};
+ghost use Rattle.race_log.specs.Bound.{most_epochs};
 
 use crate::epochs::Epochs;
 use crate::mode::Mode;
@@ -32,11 +33,13 @@ pub struct KeptWords {
     ghost few_pages: { vec_len pages ≤ 2 ^ 24 },
     ghost full: { AreFull harts pages.items },
     ghost settled: { AreSettled epochs.table.items epochs.next pages.items },
+    ghost few_epochs: { length epochs.table.items ≤ most_epochs (slots_in pages.items) (length pages.items) },
+    ghost low_limit: { limit ≤ most_epochs (slots_in pages.items) (length pages.items) },
 }
 
 impl KeptWords {
     ghost use Rattle.vector_time.specs.Times.{count_of};
-    ghost use Rattle.race_log.specs.Words.{page_of, place_of, kept_in, kept_now, kept_of_slot, epoch_counts, present_counts, has_epoch, has_room, HasPages, HasRoom, KeepsAccess};
+    ghost use Rattle.race_log.specs.Words.{page_of, place_of, kept_in, kept_now, kept_of_slot, epoch_counts, present_counts, has_epoch, has_room, HasPages, HasRoom, KeepsAccess, AreAllUsed, IsAsLarge, MakesPages, size_of};
     ghost use Rattle.race_log.specs.Kept.{Replaces};
     ghost use Rattle.race_log.specs.Slots.{slots_of, is_settled};
 
@@ -46,6 +49,7 @@ impl KeptWords {
         ensures harts { IfOk result (λ k. k.harts ≡ harts) }
         ensures none { IfOk result (λ k. (w : ℕ) → kept_in k w ≡ []) }
         ensures counts { IfOk result (λ k. (epoch h : ℕ) → epoch_counts k.epochs epoch h ≡ 0) }
+        ensures pages { IfOk result (λ k. k.pages.items ≡ []) }
     {
         let epochs = Epochs::new(alloc)?;
         Ok(KeptWords {
@@ -84,6 +88,7 @@ impl KeptWords {
         ensures room { OnOk result (HasRoom self.new first count) }
         ensures stays { (f n : ℕ) → HasRoom self.old f n → HasRoom self.new f n }
         ensures ready { HasRoom self.old first count → IsOk result }
+        ensures pages { MakesPages first count self.old self.new }
     {
         if self.harts < 2 || self.is_ready(first, count) {
             return Ok(());
@@ -114,6 +119,7 @@ impl KeptWords {
         ensures room { OnOk result (HasRoom self.new first count) }
         ensures stays { (f n : ℕ) → HasRoom self.old f n → HasRoom self.new f n }
         ensures ready { HasRoom self.old first count → IsOk result }
+        ensures pages { MakesPages first count self.old self.new }
     {
         self.make_pages(first, count)?;
         self.look_through();
@@ -127,9 +133,8 @@ impl KeptWords {
         ensures counts { (epoch h : ℕ) → epoch_counts self.new.epochs epoch h ≡ epoch_counts self.old.epochs epoch h }
         ensures present { self.new.epochs.present ≡ self.old.epochs.present }
         ensures room { IsTrue (has_epoch self.old.epochs) → IsTrue (has_epoch self.new.epochs) }
-        // Past its limit the table doesn't grow before it is gone through again.
-        ensures start { (self.new.epochs.next ≡ 0) ⊎ (self.new.epochs.next < length self.new.epochs.table.items)
-            ⊎ (length self.new.epochs.table.items < self.new.limit) }
+        // Where an epoch can begin only by growth, the table is below its limit.
+        ensures growth { AreAllUsed self.new.epochs → length self.new.epochs.table.items < self.new.limit }
     {
         if self.epochs.is_full() && self.epochs.len() >= self.limit {
             self.free_epochs();
@@ -146,6 +151,7 @@ impl KeptWords {
         ensures present { self.new.epochs.present ≡ self.old.epochs.present }
         ensures start { self.new.epochs.next ≡ 0 }
         ensures limit { self.new.limit ≤ 2 * length self.new.epochs.table.items + 8 * length self.new.pages.items }
+        ensures growth { AreAllUsed self.new.epochs → length self.new.epochs.table.items < self.new.limit }
     {
         self.epochs.begin_marks();
         for number in 0..self.pages.len() {
@@ -168,6 +174,7 @@ impl KeptWords {
         ensures stays { (w : ℕ) → IsTrue (has_room self.old w) → IsTrue (has_room self.new w) }
         ensures room { OnOk result (HasPages self.new first count) }
         ensures ready { HasPages self.old first count → IsOk result }
+        ensures pages { MakesPages first count self.old self.new }
     {
         if count == 0 {
             return Ok(());
@@ -188,6 +195,7 @@ impl KeptWords {
         ensures same { (n : ℕ) → slots_of (slice_get self.new.pages.items n) ≡ slots_of (slice_get self.old.pages.items n) }
         ensures count { OnOk result (count ≤ vec_len self.new.pages) }
         ensures ready { count ≤ vec_len self.old.pages → IsOk result }
+        ensures most { length self.new.pages.items ≤ max (length self.old.pages.items) count }
     {
         let alloc = *self.pages.allocator();
         for _ in self.pages.len()..count {
@@ -206,6 +214,7 @@ impl KeptWords {
         ensures stays { (w : ℕ) → IsTrue (has_room self.old w) → IsTrue (has_room self.new w) }
         ensures room { OnOk result ((w : ℕ) → w / 256 ≡ number → IsTrue (has_room self.new w)) }
         ensures ready { ((w : ℕ) → w / 256 ≡ number → IsTrue (has_room self.old w)) → IsOk result }
+        ensures others { (page : ℕ) → page ≢ number → size_of self.new page ≡ size_of self.old page }
     {
         let slots = 64 * (self.harts as usize + 1);
         make_slots(&mut self.pages[number], slots)
@@ -222,6 +231,7 @@ impl KeptWords {
         ensures kept { (w : ℕ) → kept_in self.new w ≡ kept_in self.old w }
         ensures own { (h : ℕ) → h ≢ hart → present_counts self.new.epochs hart h ≡ count_of times.now h }
         ensures others { (g : ℕ) → g ≢ hart → (h : ℕ) → present_counts self.new.epochs g h ≡ present_counts self.old.epochs g h }
+        ensures size { IsAsLarge self.old self.new }
     {
         if learns {
             self.epochs.begin(hart, times);
@@ -240,6 +250,7 @@ impl KeptWords {
         ensures epochs { self.new.epochs ≡ self.old.epochs }
         ensures many { 1 < self.old.harts → KeepsAccess (kept_now self.old.epochs mode hart turn after) first count (kept_in self.old) (kept_in self.new) }
         ensures alone { self.old.harts ≤ 1 → (w : ℕ) → kept_in self.new w ≡ kept_in self.old w }
+        ensures size { IsAsLarge self.old self.new }
     {
         let slot = Slot {
             turn,
@@ -263,6 +274,7 @@ impl KeptWords {
         ensures harts { self.new.harts ≡ self.old.harts }
         ensures epochs { self.new.epochs ≡ self.old.epochs }
         ensures kept { KeepsAccess (kept_of_slot self.old.epochs mode slot.now) first count (kept_in self.old) (kept_in self.new) }
+        ensures size { IsAsLarge self.old self.new }
     {
         for i in 0..count {
             self.keep_at(first + 4 * i, mode, slot);
@@ -281,6 +293,7 @@ impl KeptWords {
         ensures kept { Replaces (kept_of_slot self.old.epochs mode slot.now) (kept_in self.old word) (kept_in self.new word) }
         ensures others { (w : ℕ) → w ≢ word → kept_in self.new w ≡ kept_in self.old w }
         ensures room { (w : ℕ) → has_room self.new w ≡ has_room self.old w }
+        ensures size { IsAsLarge self.old self.new }
     {
         let at = self.place(word);
         let harts = self.harts;

@@ -1,10 +1,10 @@
 -- Sets of harts, one bit for each.
-use Rattle.std.proofs.Common.{◌≡◌, ◌≢◌, ℕ, suc, ◌+◌, ◌*◌, ◌^◌, ◌%◌, ◌<◌, ◌==◌, Bool, true, false, ◌&&◌, bit_or, ap, arith, pow-suc, shl_exact}
+use Rattle.std.proofs.Common.{◌≡◌, ◌≢◌, ℕ, zero, suc, refl, ap₂, ◌+◌, ◌*◌, ◌^◌, ◌%◌, ◌<◌, ◌==◌, Bool, true, false, ◌&&◌, bit_or, ap, arith, pow-suc, shl_exact}
 use Rattle.std.specs.Int.{bit_at}
 use Rattle.std.proofs.lemmas.Bool.{eq-eqb}
 use Rattle.std.proofs.lemmas.Nat.{or_lt}
 use Rattle.std.proofs.lemmas.Nat.Bits.{bit_at_or, bit_at-pow_same, bit_at-pow_other, bit_at-lt, bit_at_above}
-use Rattle.race_log.specs.Sweep.{has_bit}
+use Rattle.race_log.specs.Sweep.{has_bit, all_below}
 
 -- a set of harts below n hasn't hart n
 pub has_none : (set n : ℕ) → set < 2 ^ n → has_bit set n ≡ false
@@ -31,3 +31,9 @@ bit_of n low = let e = shl_exact {a = 1} 1 n 16 (omega arith) (omega (arith, low
 pub and_true : (a b : Bool) → a ≡ true → b ≡ true → (a && b) ≡ true
 and_true true b h k = k
 and_true false b h k = h
+
+-- tests that agree below n pass there alike
+pub same_below : (f g : ℕ → Bool) (n : ℕ) → ((k : ℕ) → k < n → f k ≡ g k) → all_below f n ≡ all_below g n
+unfolding all_below
+same_below f g zero same = refl
+same_below f g (suc n) same = ap₂ (λ a b. a && b) (same_below f g n (λ k low. same k (omega (arith, low)))) (same n (omega arith))

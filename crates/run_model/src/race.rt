@@ -7,7 +7,7 @@ ghost use Rattle.race_log.specs.Represents.{RepresentsAccesses, harts_of, lastin
 ghost use Rattle.run_model.specs.Turn.{point_of, points_after, edge_records};
 ghost use Rattle.run_model.specs.Represents.Logs.{taken, IsLog};
 ghost use Rattle.run_model.specs.Represents.Accessed.{CanNote, IsNoted};
-ghost use Rattle.run_model.specs.Represents.Plain.{everyone, IsRaceReady, IsSwept, count_after};
+ghost use Rattle.run_model.specs.Represents.Plain.{everyone, IsRaceReady, IsSwept, GivesUpKnown, is_walk_due, count_after};
 
 use crate::hart::Hart;
 use crate::live::live_set;
@@ -46,7 +46,8 @@ pub fn record_access(
 pub fn sweep_known(shadow: &mut Shadow, harts: &[Hart])
     requires few { length harts.now ≤ HARTS }
     requires harts { harts_of shadow.old ≡ length harts.now }
-    ensures { IsSwept shadow.old shadow.new harts.now }
+    ensures swept { IsSwept shadow.old shadow.new harts.now }
+    ensures due { GivesUpKnown (is_walk_due shadow.old) shadow.old shadow.new harts.now }
 {
     if shadow.is_sweep_due() {
         shadow.sweep(live_set(harts));

@@ -1,5 +1,5 @@
 //! What is traced of a run: its harts, their caches, the race log and the log.
-ghost use Rattle.std.specs.Prelude.{◌≡◌, ◌≤◌, ◌<◌, ◌+◌, ◌-◌, ◌*◌, ◌^◌, ◌++◌, ◌==◌, ◌≢◌, ℕ, List, length, IsTrue, true, false, is_some, Option, OnOk, if◌then◌else◌};
+ghost use Rattle.std.specs.Prelude.{◌≡◌, ◌≤◌, ◌<◌, ◌+◌, ◌-◌, ◌*◌, ◌^◌, ◌++◌, ◌==◌, ◌&&◌, ◌≢◌, ℕ, List, length, IsTrue, true, false, is_some, Option, OnOk, if◌then◌else◌};
 ghost use Rattle.bn_base.specs.Programs.{Program};
 ghost use Rattle.bn_base.specs.declared.settings.RawSettings.{RawSettings};
 ghost use Rattle.rv_meaning.specs.Execute.{absorbed};
@@ -21,7 +21,7 @@ ghost use Rattle.run_model.specs.Represents.Accessed.{CanNote, IsNoted, CanFinis
 ghost use Rattle.run_model.specs.Represents.EachCache.{AreCaches, steps_in, where_loading, touched_word, touches};
 ghost use Rattle.run_model.specs.Counts.{is_loading};
 ghost use Rattle.run_model.specs.Represents.Parts.{AreAddresses};
-ghost use Rattle.run_model.specs.Represents.Plain.{IsTrace, everyone, IsRaceReady, IsSwept, count_after, clears};
+ghost use Rattle.run_model.specs.Represents.Plain.{IsTrace, everyone, IsRaceReady, IsSwept, GivesUpKnown, is_walk_due, is_end, count_after, clears};
 
 use crate::caches::Caches;
 use crate::hart::{Hart, skipped_after};
@@ -250,6 +250,7 @@ impl Trace {
         requires few { length self.old.harts.items ≤ HARTS }
         requires shadow { harts_of self.old.shadow ≡ length self.old.harts.items }
         ensures shadow { IsSwept self.old.shadow self.new.shadow self.old.harts.items }
+        ensures due { GivesUpKnown (is_end next && is_walk_due self.old.shadow) self.old.shadow self.new.shadow self.old.harts.items }
         ensures harts { self.new.harts ≡ self.old.harts }
         ensures caches { self.new.caches ≡ self.old.caches }
         ensures log { self.new.log ≡ self.old.log }

@@ -1,43 +1,40 @@
 //! The command `joint`: what all harts did in the intervals that a log keeps.
-ghost use Rattle.std.specs.Prelude.{◌≡◌, ◌≢◌, ◌≤◌, ◌⊎◌, ◌++◌, [], Option, Some, OnOk, IfOk};
-ghost use Rattle.bn_outside.specs.Counts.{Counts, NoneFell, Rose};
+ghost use Rattle.std.specs.Prelude.{◌≡◌, ◌≤◌, ◌++◌, [], Option, Some, OnOk};
+ghost use Rattle.bn_outside.specs.Counts.{Counts};
 ghost use Rattle.bn_outside.specs.Files.{Files};
 ghost use Rattle.joint_replay.specs.declared.error.JointError.TheVariants.{Stuck};
 ghost use Rattle.joint_replay.specs.Joining.{run_all};
 ghost use Rattle.joint_replay.specs.Texts.{known_text, steps_text, memory_text, joint_text};
-ghost use Rattle.log_commands.specs.FileCalls.{LoadsTo};
-ghost use Rattle.log_commands.specs.Joined.{position_text, positions_text, stuck_line, ran_told, IsJoint};
+ghost use Rattle.log_commands.specs.Joined.{position_text, positions_text, stuck_line, ran_told};
 ghost use Rattle.log_commands.specs.JointEnds.{told_of_joint, stop_of, RanAs, ToldEnd};
-ghost use Rattle.log_commands.specs.Outside.{GivesBy, IsPrinted, ResultCause, WithFiles, Sent, Gathered};
-ghost use Rattle.log_commands.specs.Pairs.{pair_roles};
+ghost use Rattle.log_commands.specs.Outside.{IsPrinted, Sends, Gathers, Always};
 ghost use Rattle.log_commands.specs.Effects.{printing, Prints};
+ghost use Rattle.log_commands.specs.Answering.{Answers};
+ghost use Rattle.log_commands.specs.Commands.{IsByLog};
+ghost use Rattle.log_commands.specs.Joined.{joint_with};
+ghost use Rattle.log_commands.specs.Pairs.{pair_of};
 
 use crate::answer::Answer;
 use crate::names::Names;
-use crate::pairs::{JointReading, load_pair};
+use crate::pairs::JointReading;
 use crate::refusal::Refusal;
+use crate::statuses;
 use crate::send::{refuse, send, send_block, send_short};
+use crate::outside::SinkExt;
+use crate::pairs::read_pair;
 use bn_base::{HartId, Ic};
-use bn_outside::{Sink, Store, send_all};
+use bn_outside::{Sink, send_all};
 use joint_replay::laws::{runs_end, runs_go_on};
 use joint_replay::{Joint, JointError, write_known};
 use rv_text::{RowLines, Text};
 use std::alloc::{AllocError, Global};
 
-/// Loads a log and a program, and replays all intervals of the log together.
-pub fn join_files<S: Store>(alloc: Global, names: &Names, store: &mut S) -> Result<Answer, Refusal>
-    ensures told { WithFiles (S.files store.old) (λ files. GivesBy names.now (λ files. IsJoint files names.now) files result) }
-    ensures same { S.files store.new ≡ S.files store.old }
-    ensures asks { S.saves store.new ≡ S.saves store.old }
-    ensures later { NoneFell (S.counts store.old) (S.counts store.new) }
-    ensures cause { ResultCause (S.counts store.old) (S.counts store.new) result }
-    ensures calls { LoadsTo names.now pair_roles S.note (S.noted store.old) (S.noted store.new) result }
-    ensures prints { IfOk result IsPrinted }
+/// The joint replay of a log file with its program file, not begun yet.
+pub fn evaluate(alloc: Global, log: &[u8], elf: &[u8]) -> Result<Answer, Refusal>
+    ensures { Answers IsPrinted (λ names. IsByLog names log.now (pair_of (joint_with names) names elf.now)) result }
 {
-    match load_pair(alloc, names, store) {
-        Ok(reading) => Ok(Answer::Joined(reading)),
-        Err(refusal) => Err(refusal),
-    }
+    let pair = read_pair(alloc, log, elf)?;
+    Ok(Answer::Joined(pair))
 }
 
 // Why a run stopped; want of memory is none.
@@ -53,16 +50,14 @@ fn stop_of(error: JointError) -> Result<Option<JointError>, Refusal>
 
 // Sends the lines of all steps, in blocks, of which none waits yet, and answers why the run stopped,
 // if not with all harts done.
-fn send_run<O: Sink>(
+fn send_run<O: SinkExt>(
     joint: &mut Joint,
     lines: &mut RowLines,
     text: &mut Text,
     out: &mut O,
 ) -> Result<Option<JointError>, Refusal>
     requires { text.old ≡ [] }
-    ensures sent { let r = run_all joint.old in
-        Sent (O.written out.old) (O.written out.new) (O.faults out.old) (O.faults out.new) (steps_text r.walk.taken) (RanAs joint.old joint.new) result }
-    ensures later { O.faults out.old ≤ O.faults out.new }
+    ensures { let r = run_all joint.old in Sends (steps_text r.walk.taken) (RanAs joint.old joint.new) (O.stream out.old) (O.stream out.new) result }
 {
     runs_go_on();
     runs_end();
@@ -89,14 +84,12 @@ fn send_run<O: Sink>(
 }
 
 // Sends the lines of all steps, and answers why the run stopped, if not with all harts done.
-fn send_steps<O: Sink>(
+fn send_steps<O: SinkExt>(
     alloc: Global,
     joint: &mut Joint,
     out: &mut O,
 ) -> Result<Option<JointError>, Refusal>
-    ensures sent { let r = run_all joint.old in
-        Sent (O.written out.old) (O.written out.new) (O.faults out.old) (O.faults out.new) (steps_text r.walk.taken) (RanAs joint.old joint.new) result }
-    ensures later { O.faults out.old ≤ O.faults out.new }
+    ensures { let r = run_all joint.old in Sends (steps_text r.walk.taken) (RanAs joint.old joint.new) (O.stream out.old) (O.stream out.new) result }
 {
     let mut text = Text::new(alloc);
     let mut lines = RowLines::new(alloc);
@@ -104,9 +97,8 @@ fn send_steps<O: Sink>(
 }
 
 // Puts the line of a known word behind what waits.
-fn gather_word<O: Sink>(text: &mut Text, addr: u32, word: u32, out: &mut O) -> Result<(), Refusal>
-    ensures sent { Gathered (O.written out.old) (O.written out.new) (O.faults out.old) (O.faults out.new) (text.old ++ known_text (addr, word)) text.new result }
-    ensures later { O.faults out.old ≤ O.faults out.new }
+fn gather_word<O: SinkExt>(text: &mut Text, addr: u32, word: u32, out: &mut O) -> Result<(), Refusal>
+    ensures { Gathers (text.old ++ known_text (addr, word)) text.new (O.stream out.old) (O.stream out.new) result }
 {
     match write_known(addr, word, text) {
         Ok(()) => send_block(text, out),
@@ -115,9 +107,8 @@ fn gather_word<O: Sink>(text: &mut Text, addr: u32, word: u32, out: &mut O) -> R
 }
 
 // Sends the lines of the known words, in blocks.
-fn send_words<O: Sink>(alloc: Global, joint: &Joint, out: &mut O) -> Result<(), Refusal>
-    ensures sent { Sent (O.written out.old) (O.written out.new) (O.faults out.old) (O.faults out.new) (memory_text joint.now.memory) (λ _. Unit {0}) result }
-    ensures later { O.faults out.old ≤ O.faults out.new }
+fn send_words<O: SinkExt>(alloc: Global, joint: &Joint, out: &mut O) -> Result<(), Refusal>
+    ensures { Sends (memory_text joint.now.memory) Always (O.stream out.old) (O.stream out.new) result }
 {
     let mut text = Text::new(alloc);
     let mut from: u64 = 0;
@@ -133,14 +124,12 @@ fn send_words<O: Sink>(alloc: Global, joint: &Joint, out: &mut O) -> Result<(), 
 }
 
 // Sends all that a joint replay prints, and answers why it stopped, if not with all harts done.
-fn send_joint<O: Sink>(
+fn send_joint<O: SinkExt>(
     alloc: Global,
     joint: &mut Joint,
     out: &mut O,
 ) -> Result<Option<JointError>, Refusal>
-    ensures sent { let r = run_all joint.old in
-        Sent (O.written out.old) (O.written out.new) (O.faults out.old) (O.faults out.new) (joint_text r) (λ stopped. stopped ≡ r.stopped) result }
-    ensures later { O.faults out.old ≤ O.faults out.new }
+    ensures { let r = run_all joint.old in Sends (joint_text r) (λ stopped. stopped ≡ r.stopped) (O.stream out.old) (O.stream out.new) result }
 {
     match send_steps(alloc, joint, out) {
         Err(refusal) => Err(refusal),
@@ -200,7 +189,7 @@ fn refuse_stuck<X: Sink>(
     match push_stuck(&mut line, positions) {
         Ok(()) => {
             let _ = send_all(err, line.as_bytes());
-            15
+            statuses::REPLAY_STOPPED
         }
         Err(_) => refuse(alloc, names, &Refusal::OutOfMemory, err),
     }
@@ -224,7 +213,7 @@ fn end<X: Sink>(alloc: Global, names: &Names, stopped: &Option<JointError>, err:
     ensures later { X.faults err.old ≤ X.faults err.new }
 {
     match stopped {
-        None => 0,
+        None => statuses::DONE,
         Some(error) => stop(alloc, names, error, err),
     }
 }

@@ -1,11 +1,12 @@
 -- What a plain machine keeps, and the runs that it represents.
-use Rattle.std.specs.Prelude.{◌≡◌, ◌≤◌, ◌<◌, ◌^◌, ◌%◌, ℕ, ◌+◌, ◌*◌, ⊤, Bool, true, List, length, Option, Some, None}
+use Rattle.std.specs.Prelude.{◌≡◌, ◌≤◌, ◌<◌, ◌^◌, ◌%◌, ℕ, ◌+◌, ◌*◌, ◌||◌, ⊤, Bool, true, false, not, nat_le, nat_lt, IsTrue, List, length, filter, Option, Some, None}
 use Rattle.bn_base.specs.Ranges.{IsSetting}
 use Rattle.bn_base.specs.declared.settings.RawSettings.{RawSettings}
 use Rattle.bn_base.specs.declared.settings.TheConstants.{HARTS}
 use Rattle.race_log.specs.declared.shadow.Shadow.{Shadow}
 use Rattle.race_log.specs.Points.{Point}
-use Rattle.race_log.specs.Represents.{RepresentsAccesses, harts_of, lasts, next_turn, next_count, reserved_range}
+use Rattle.race_log.specs.Represents.{RepresentsAccesses, harts_of, lasts, next_turn, next_count, reserved_range, times_of, kept_of, words_of, unswept_of}
+use Rattle.race_log.specs.Sweep.{all_below}
 use Rattle.run_model.specs.declared.hart.Hart.{Hart}
 use Rattle.run_model.specs.declared.turn_end.TurnEnd.{TurnEnd}
 use Rattle.run_model.specs.declared.turn_end.TurnEnd.TheVariants.{GoesOn, NewInterval, HartOver, RunOver}
@@ -38,6 +39,22 @@ pub record IsSwept (old new : Shadow) (hs : List Hart) : Type 0 where
   pub counts : (k : ℕ) → next_count new k ≡ next_count old k
   pub lasting : (k : ℕ) → k < length hs → (hart_in hs k).live ≡ true → lasts old k ≡ true → lasts new k ≡ true
 
+-- whether all live harts know of the hart's point at the count
+abbrev pub is_known_to_live : Shadow → List Hart → (hart count : ℕ) → Bool
+is_known_to_live s hs hart count = all_below (λ g. not (hart_in hs g).live || nat_lt count (times_of s g hart)) (harts_of s)
+
+-- whether a walk over the kept accesses is due: at least as many were taken in since the last one as there are words that
+-- have room
+abbrev pub is_walk_due : Shadow → Bool
+is_walk_due s = nat_le (words_of s) (unswept_of s)
+
+-- with a walk exactly the kept accesses that all live harts know of are given up, and none was taken in since; without
+-- one the race log stays as it is
+pub record GivesUpKnown (walks : Bool) (old new : Shadow) (hs : List Hart) : Type 0 where
+  pub kept : IsTrue walks → (word : ℕ) → kept_of new word ≡ filter (λ k. not (is_known_to_live old hs k.hart k.ic)) (kept_of old word)
+  pub unswept : IsTrue walks → unswept_of new ≡ 0
+  pub stays : walks ≡ false → new ≡ old
+
 -- the lowest count that the hart's next access may have, once instruction ic accessed these words, if it did
 abbrev pub count_after : Option Span → (ic before : ℕ) → ℕ
 count_after None ic before = before
@@ -49,6 +66,13 @@ clears GoesOn = 0
 clears (NewInterval reason value) = 1
 clears (HartOver reason value) = 0
 clears (RunOver reason value) = 0
+
+-- whether an interval ended
+abbrev pub is_end : TurnEnd → Bool
+is_end GoesOn = false
+is_end (NewInterval reason value) = true
+is_end (HartOver reason value) = true
+is_end (RunOver reason value) = true
 
 -- ---- a plain machine
 

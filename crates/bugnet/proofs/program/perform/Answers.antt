@@ -1,4 +1,4 @@
-use Rattle.std.proofs.Common.{inl, inr}
+use Rattle.std.proofs.Common.{inl, inr, refl, rules, arith}
 use Rattle.command_words.specs.Words.{seen}
 use Rattle.log_commands.specs.Effects.{call}
 use Rattle.bugnet.proofs.Debugs.{debugs-any, answers-any, begins-any}
@@ -8,8 +8,9 @@ use Rattle.bugnet.proofs.Suffices.{FileLaws}
 use Rattle.bugnet.proofs.LineCalls.{session-calls}
 use Rattle.bugnet.proofs.program.perform.Goals as goal
 
-pub returns-in-Debug-clause-obeys : goal.returns-in-Debug-clause-obeys
-returns-in-Debug-clause-obeys g c =
+pub returns-in-Debug : goal.returns-in-Debug
+returns-in-Debug g c = record {
+  obeys =
     let k = call (g.S.Store.files) (g.S.Store.counts) (g.O.Sink.written) (g.O.Sink.faults) (g.X.Sink.written) (g.X.Sink.faults) c.args.store.now c.args.out.now c.args.err.now c.debug_files.new.store c.debug_files.new.out c.debug_files.new.err in
     record {
       told = answers-any (seen c.args.command.now) c.names_of-names.result c.debug_files.result (g.I.Source.left c.args.input.now) (g.I.Source.left c.debug_files.new.input) (g.I.Source.faults c.args.input.now) (g.I.Source.faults c.debug_files.new.input) (g.I.Source.reads c.args.input.now) (g.I.Source.reads c.debug_files.new.input) k
@@ -21,28 +22,49 @@ returns-in-Debug-clause-obeys g c =
       write = c.debug_files.ensures.write;
       later = record { out = c.debug_files.ensures.out_later; err = c.debug_files.ensures.err_later };
       counts = c.debug_files.ensures.later;
-    }
-
-pub returns-in-Debug-clause-session : goal.returns-in-Debug-clause-session
-returns-in-Debug-clause-session g c =
+    };
+  still =
+    search rules;
+  saves =
+    search rules;
+  calls =
+    let k = (call (g.S.Store.files) (g.S.Store.counts) (g.O.Sink.written) (g.O.Sink.faults) (g.X.Sink.written) (g.X.Sink.faults) c.args.store.now c.args.out.now c.args.err.now c.debug_files.new.store c.debug_files.new.out c.debug_files.new.err) in
+    session-calls (seen c.args.command.now) g.S.Store.note c.names_of-names.result c.debug_files.result (g.S.Store.noted c.args.store.now) (g.S.Store.noted c.debug_files.new.store) k (λ n. rw c.in-Debug.is at n) c.names_of-names.ensures c.debug_files.ensures.calls;
+  demo =
+    rw c.in-Debug.is tt;
+  session =
     let k = call (g.S.Store.files) (g.S.Store.counts) (g.O.Sink.written) (g.O.Sink.faults) (g.X.Sink.written) (g.X.Sink.faults) c.args.store.now c.args.out.now c.args.err.now c.debug_files.new.store c.debug_files.new.out c.debug_files.new.err in
     let grammar : Grammar = record { one_reading = c.readings_are_unique.ensures } in
     let laws : FileLaws = record { contents = c.logs_are_contents.ensures; limit = c.saved_files_keep_to_the_limit.ensures; read = c.files_are_read.ensures } in
     let limits : Limits = record { saved = c.saved_files_keep_to_the_limit.ensures; converted = c.converted_files_keep_to_the_limit.ensures } in
     debugs-any grammar laws limits c.sessions_show_the_run.ensures c.refusals_stay.ensures (seen c.args.command.now) c.names_of-names.result c.debug_files.result (g.I.Source.left c.args.input.now) (g.I.Source.left c.debug_files.new.input) (g.I.Source.faults c.args.input.now) (g.I.Source.faults c.debug_files.new.input) (g.I.Source.reads c.args.input.now) (g.I.Source.reads c.debug_files.new.input) k
-    (λ n. rw c.in-Debug.is at n) c.names_of-names.ensures c.debug_files.ensures.told
-
-pub returns-in-Debug-clause-begins : goal.returns-in-Debug-clause-begins
-returns-in-Debug-clause-begins g c =
+    (λ n. rw c.in-Debug.is at n) c.names_of-names.ensures c.debug_files.ensures.told;
+  first =
+    search rules;
+  begins =
     elim c.debug_files.ensures.begins [
       | inl same ↦ inl same
       | inr has ↦ inr (begins-any (seen c.args.command.now) c.names_of-names.result (g.S.Store.files c.args.store.now) (λ n. rw c.in-Debug.is at n) c.names_of-names.ensures has)
-    ]
+    ];
+  unread =
+    search rules;
+  read =
+    search rules;
+  read_later =
+    search rules;
+}
 
-pub returns-in-Debug-clause-calls : goal.returns-in-Debug-clause-calls
-returns-in-Debug-clause-calls g c =
-    let k = (call (g.S.Store.files) (g.S.Store.counts) (g.O.Sink.written) (g.O.Sink.faults) (g.X.Sink.written) (g.X.Sink.faults) c.args.store.now c.args.out.now c.args.err.now c.debug_files.new.store c.debug_files.new.out c.debug_files.new.err) in
-    session-calls (seen c.args.command.now) g.S.Store.note c.names_of-names.result c.debug_files.result (g.S.Store.noted c.args.store.now) (g.S.Store.noted c.debug_files.new.store) k (λ n. rw c.in-Debug.is at n) c.names_of-names.ensures c.debug_files.ensures.calls
-
-pub returns-in-Debug-clause-demo : goal.returns-in-Debug-clause-demo
-returns-in-Debug-clause-demo g c = rw c.in-Debug.is tt
+pub returns-in_default : goal.returns-in_default
+returns-in_default g c = record {
+  obeys = c.reply.ensures.obeys;
+  still = c.reply.ensures.still;
+  saves = c.reply.ensures.saves;
+  calls = c.reply.ensures.calls;
+  demo = c.reply.ensures.demo;
+  session = search rules;
+  first = inr refl;
+  begins = inl refl;
+  unread = λ n. refl;
+  read = λ e. absurd (c.reply.ensures.read e);
+  read_later = omega arith;
+}

@@ -1,27 +1,29 @@
-use Rattle.std.proofs.Common.{◌≡◌, ◌+◌, ◌∷◌, get_or, drop, add-one, drop-cons}
-use Rattle.log_commands.specs.Inputs.{bytes_of, stored}
+use Rattle.std.proofs.Common.{◌≡◌, ◌+◌, ◌∷◌, get_or, drop, add-one, drop-cons, refl}
+use Rattle.log_commands.specs.Inputs.{bytes_of, limit_of}
 use Rattle.log_commands.specs.declared.names.Role.TheVariants.{Elf}
-use Rattle.log_commands.proofs.FileCalls.{called-more, called-stops}
+use Rattle.log_commands.proofs.FileCalls.{called-more, called-stops, some-left}
 use Rattle.log_commands.proofs.Fetched.{so_far-more, so_far-stopped, only-then}
 use Rattle.log_commands.proofs.inputs.load_inputs.Goals as goal
 
-pub returns-in-Err-clause-loads : goal.returns-in-Err-clause-loads
-returns-in-Err-clause-loads g c =
+pub returns-in-Err : goal.returns-in-Err
+returns-in-Err g c =
     let roles = c.args.roles.now in
     let k = c.loop-role.role-index in
     let r = get_or roles k Elf in
     let at : drop k roles ≡ r ∷ drop (k + 1) roles = rw add-one (drop-cons roles k Elf c.loop-role-test.true) in
-    so_far-stopped (g.S.Store.files c.args.store.now) (g.S.Store.files c.loop-role.store) c.args.names.now roles r c.limit_of.result (drop k roles) (drop (k + 1) roles) (bytes_of c.loop-role.inputs) c.in-Err.refusal
-    c.loop-role.invariant.only.same c.limit_of.ensures at c.loop-role.invariant.reached c.in-Err.ensures.told
-
-pub returns-in-Err-clause-calls : goal.returns-in-Err-clause-calls
-returns-in-Err-clause-calls g c =
-    let roles = c.args.roles.now in
-    let k = c.loop-role.role-index in
-    let r = get_or roles k Elf in
-    let at : drop k roles ≡ r ∷ drop (k + 1) roles = rw add-one (drop-cons roles k Elf c.loop-role-test.true) in
-    called-stops g.S.Store.note c.args.names.now roles (drop k roles) (drop (k + 1) roles) r c.limit_of.result (g.S.Store.noted c.args.store.now) (g.S.Store.noted c.loop-role.store) (g.S.Store.noted c.fetch.new.store) c.in-Err.refusal
-    c.limit_of.ensures at c.loop-role.invariant.called c.in-Err.ensures.called c.in-Err.ensures.stops
+    let old = g.S.StoreExt.stored c.args.store.now in
+    let mid = g.S.StoreExt.stored c.loop-role.store in
+    let new = g.S.StoreExt.stored c.fetch.new.self in
+    let so_far = c.loop-role.invariant in
+    let f = c.in-Err.ensures in
+    record {
+      loads = so_far-stopped old.files mid.files c.args.names.now roles r (limit_of r) (drop k roles) (drop (k + 1) roles) (bytes_of c.loop-role.inputs) c.in-Err.refusal
+          so_far.only.same refl at so_far.reached f.told;
+      only = only-then old mid new c.loop-role.inputs _ so_far.only f.same f.asks f.later f.cause;
+      calls = called-stops g.S.StoreExt.note c.args.names.now roles (drop k roles) (drop (k + 1) roles) r (limit_of r) old.noted mid.noted new.noted c.in-Err.refusal
+          refl at so_far.called f.called f.stops;
+      none = λ empty. some-left roles (drop k roles) (drop (k + 1) roles) r so_far.called.made empty at so_far.called.parts;
+    }
 
 pub loop-role-preserved : goal.loop-role-preserved
 loop-role-preserved g c =
@@ -29,12 +31,15 @@ loop-role-preserved g c =
     let k = c.loop-role.role-index in
     let r = get_or roles k Elf in
     let at : drop k roles ≡ r ∷ drop (k + 1) roles = rw add-one (drop-cons roles k Elf c.loop-role-test.true) in
+    let old = g.S.StoreExt.stored c.args.store.now in
+    let mid = g.S.StoreExt.stored c.loop-role.store in
+    let new = g.S.StoreExt.stored c.fetch.new.self in
+    let so_far = c.loop-role.invariant in
     let f = c.in-Ok.ensures in
     record {
-      reached = so_far-more (g.S.Store.files c.args.store.now) (g.S.Store.files c.loop-role.store) c.args.names.now roles r c.limit_of.result (drop k roles) (drop (k + 1) roles) (bytes_of c.loop-role.inputs) (bytes_of c.put.new.self) c.in-Ok.bytes
-          c.loop-role.invariant.only.same c.limit_of.ensures at c.put.ensures c.loop-role.invariant.reached f.told;
-      only = only-then (stored g.S.Store.files g.S.Store.saves g.S.Store.counts c.args.store.now) (stored g.S.Store.files g.S.Store.saves g.S.Store.counts c.loop-role.store) (stored g.S.Store.files g.S.Store.saves g.S.Store.counts c.fetch.new.store)
-          c.loop-role.inputs _ c.loop-role.invariant.only f.same f.asks f.later tt;
-      called = called-more g.S.Store.note c.args.names.now roles (drop k roles) (drop (k + 1) roles) r c.limit_of.result (g.S.Store.noted c.args.store.now) (g.S.Store.noted c.loop-role.store) (g.S.Store.noted c.fetch.new.store)
-          c.limit_of.ensures at c.loop-role.invariant.called f.called;
+      reached = so_far-more old.files mid.files c.args.names.now roles r (limit_of r) (drop k roles) (drop (k + 1) roles) (bytes_of c.loop-role.inputs) (bytes_of c.put.new.self) c.in-Ok.bytes
+          so_far.only.same refl at c.put.ensures so_far.reached f.told;
+      only = only-then old mid new c.loop-role.inputs _ so_far.only f.same f.asks f.later tt;
+      called = called-more g.S.StoreExt.note c.args.names.now roles (drop k roles) (drop (k + 1) roles) r (limit_of r) old.noted mid.noted new.noted
+          refl at so_far.called f.called;
     }

@@ -1,16 +1,30 @@
-use Rattle.std.proofs.Common.{◌≡◌}
-use Rattle.log_commands.specs.Printed.{outcome_of, rest_text}
+use Rattle.std.proofs.Common.{◌≡◌, arith}
+use Rattle.log_commands.specs.Outside.{Sends}
+use Rattle.log_commands.specs.Printed.{EndsAs, outcome_of, rest_text, text_from}
 use Rattle.log_commands.specs.Texts.{begin_text}
+use Rattle.log_commands.proofs.Answering.{passed-on}
 use Rattle.log_commands.proofs.Prints.{sent-both, sent-stopped}
 use Rattle.log_commands.proofs.replay_lines.send_interval.Goals as goal
 
-pub returns-in-Err-clause-sent : goal.returns-in-Err-clause-sent
-returns-in-Err-clause-sent g c =
+pub returns-in_err-send_begin : goal.returns-in_err-send_begin
+returns-in_err-send_begin g c =
     let r = c.args.replayer.now in
-    sent-stopped (g.O.Sink.written c.args.out.now) (g.O.Sink.written c.send_begin.new.out) (g.O.Sink.faults c.args.out.now) (g.O.Sink.faults c.send_begin.new.out) (begin_text c.args.hart c.args.interval r.state.ic) (rest_text c.args.hart c.args.interval c.args.mark.now r.left) c.in-Err.refusal (rw c.state.ensures at c.in-Err.ensures.sent)
+    let old = g.O.SinkExt.stream c.args.out.now in
+    let mid = g.O.SinkExt.stream c.send_begin.new.out in
+    passed-on (Sends (text_from c.args.hart c.args.interval r.state.ic c.args.mark.now r.left) (EndsAs r.left.outcome) old mid) _ c.from_residual.result c.from_residual.ensures.1
+    (record {
+      sent = sent-stopped old.text mid.text old.faults mid.faults (begin_text c.args.hart c.args.interval r.state.ic) (rest_text c.args.hart c.args.interval c.args.mark.now r.left) _ (rw c.state.ensures at c.in_err-send_begin.ensures.sent);
+      later = c.send_begin.ensures.later;
+    })
 
-pub returns-in-Ok-clause-sent : goal.returns-in-Ok-clause-sent
-returns-in-Ok-clause-sent g c =
+pub returns : goal.returns
+returns g c =
     let r = c.args.replayer.now in
-    sent-both {A = Unit {0}} (g.O.Sink.written c.args.out.now) (g.O.Sink.written c.send_begin.new.out) (g.O.Sink.written c.send_rest.new.out) (g.O.Sink.faults c.args.out.now) (g.O.Sink.faults c.send_begin.new.out) (g.O.Sink.faults c.send_rest.new.out)
-    (begin_text c.args.hart c.args.interval r.state.ic) (rest_text c.args.hart c.args.interval c.args.mark.now r.left) (λ ending. outcome_of ending ≡ r.left.outcome) tt c.send_rest.result (rw c.state.ensures at c.in-Ok.ensures.sent.0) c.in-Ok.ensures.later c.send_rest.ensures.sent
+    let old = g.O.SinkExt.stream c.args.out.now in
+    let mid = g.O.SinkExt.stream c.send_begin.new.out in
+    let new = g.O.SinkExt.stream c.send_rest.new.out in
+    record {
+      sent = sent-both {A = Unit {0}} old.text mid.text new.text old.faults mid.faults new.faults
+          (begin_text c.args.hart c.args.interval r.state.ic) (rest_text c.args.hart c.args.interval c.args.mark.now r.left) (λ ending. outcome_of ending ≡ r.left.outcome) tt c.send_rest.result (rw c.state.ensures at c.in_ok-send_begin.ensures.sent.0) c.send_begin.ensures.later c.send_rest.ensures.sent;
+      later = omega (arith, c.send_begin.ensures.later, c.send_rest.ensures.later);
+    }

@@ -1,16 +1,49 @@
-use Rattle.log_commands.specs.Printed.{outcome_of, end_of_interval}
+use Rattle.std.proofs.Common.{◌≡◌, List, ℕ, subst, arith}
+use Rattle.std.specs.Prelude.{Ok}
+use Rattle.std.specs.Io.KnownBytes.{Appends}
+use Rattle.hart_replay.specs.Replay.{Outcome}
+use Rattle.log_commands.specs.Outside.{Sends}
+use Rattle.log_commands.specs.Printed.{EndsAs, outcome_of, end_of_interval, rest_text}
 use Rattle.log_commands.specs.Texts.{rows_text}
-use Rattle.log_commands.proofs.Prints.{sent-stopped}
+use Rattle.log_commands.proofs.Answering.{passed-on}
+use Rattle.log_commands.proofs.Prints.{sent-both, sent-stopped}
 use Rattle.log_commands.proofs.Rows.{sent-last}
 use Rattle.log_commands.proofs.replay_lines.send_rest.Goals as goal
 
-pub returns-in-Err-clause-sent : goal.returns-in-Err-clause-sent
-returns-in-Err-clause-sent g c =
+pub returns-in_err-ending : goal.returns-in_err-ending
+returns-in_err-ending g c =
     let r = c.args.replayer.now.left in
-    sent-stopped (g.O.Sink.written c.args.out.now) (g.O.Sink.written c.send_rows.new.out) (g.O.Sink.faults c.args.out.now) (g.O.Sink.faults c.send_rows.new.out) (rows_text r.rows) (end_of_interval c.args.hart c.args.interval c.args.mark.now r.outcome) c.in-Err.refusal c.in-Err.ensures.sent
+    let old = g.O.SinkExt.stream c.args.out.now in
+    let mid = g.O.SinkExt.stream c.send_rows.new.out in
+    passed-on (Sends (rest_text c.args.hart c.args.interval c.args.mark.now r) (EndsAs r.outcome) old mid) _ c.from_residual.result c.from_residual.ensures.1
+    (record {
+      sent = sent-stopped old.text mid.text old.faults mid.faults (rows_text r.rows) (end_of_interval c.args.hart c.args.interval c.args.mark.now r.outcome) _ c.in_err-ending.ensures.sent;
+      later = c.send_rows.ensures.later;
+    })
 
-pub returns-in-Err-send_end-clause-sent : goal.returns-in-Err-send_end-clause-sent
-returns-in-Err-send_end-clause-sent g c =
+pub returns-in_err-send_end : goal.returns-in_err-send_end
+returns-in_err-send_end g c =
     let r = c.args.replayer.now.left in
-    sent-last (g.O.Sink.written c.args.out.now) (g.O.Sink.written c.send_rows.new.out) (g.O.Sink.written c.send_end.new.out) (g.O.Sink.faults c.args.out.now) (g.O.Sink.faults c.send_rows.new.out) (g.O.Sink.faults c.send_end.new.out)
-    (rows_text r.rows) c.args.hart c.args.interval c.args.mark.now r.outcome (outcome_of c.in-Ok.ending) c.in-Err-send_end.refusal c.in-Ok.ensures.sent.0 c.in-Ok.ensures.sent.1 c.in-Ok.ensures.later c.in-Err-send_end.ensures.sent
+    let old = g.O.SinkExt.stream c.args.out.now in
+    let mid = g.O.SinkExt.stream c.send_rows.new.out in
+    let new = g.O.SinkExt.stream c.send_end.new.out in
+    passed-on (Sends (rest_text c.args.hart c.args.interval c.args.mark.now r) (EndsAs r.outcome) old new) _ c.from_residual-in_err-send_end.result c.from_residual-in_err-send_end.ensures.1
+    (record {
+      sent = sent-last old.text mid.text new.text old.faults mid.faults new.faults
+          (rows_text r.rows) c.args.hart c.args.interval c.args.mark.now r.outcome (outcome_of c.in_ok-ending.ending) _ c.in_ok-ending.ensures.sent.0 c.in_ok-ending.ensures.sent.1 c.send_rows.ensures.later c.in_err-send_end.ensures.sent;
+      later = omega (arith, c.send_rows.ensures.later, c.send_end.ensures.later);
+    })
+
+pub returns : goal.returns
+returns g c =
+    let r = c.args.replayer.now.left in
+    let old = g.O.SinkExt.stream c.args.out.now in
+    let mid = g.O.SinkExt.stream c.send_rows.new.out in
+    let new = g.O.SinkExt.stream c.send_end.new.out in
+    let last : Appends mid.text new.text (end_of_interval c.args.hart c.args.interval c.args.mark.now r.outcome) =
+    subst (λ (o : Outcome). Appends mid.text new.text (end_of_interval c.args.hart c.args.interval c.args.mark.now o)) c.in_ok-ending.ensures.sent.1 c.in_ok-send_end.ensures.sent.0 in
+    record {
+      sent = sent-both {A = Unit {0}} old.text mid.text new.text old.faults mid.faults new.faults
+          (rows_text r.rows) (end_of_interval c.args.hart c.args.interval c.args.mark.now r.outcome) (λ ending. outcome_of ending ≡ r.outcome) tt (Ok c.in_ok-ending.ending) c.in_ok-ending.ensures.sent.0 c.send_rows.ensures.later (last, c.in_ok-ending.ensures.sent.1);
+      later = omega (arith, c.send_rows.ensures.later, c.send_end.ensures.later);
+    }

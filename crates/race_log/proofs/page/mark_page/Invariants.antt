@@ -1,6 +1,6 @@
-use Rattle.std.proofs.Common.{◌≡◌, ◌<◌, ℕ, length, IsTrue, Some, slice_get}
+use Rattle.std.proofs.Common.{◌≡◌, ◌<◌, ◌≤◌, ◌+◌, ℕ, length, IsTrue, Some, slice_get}
 use Rattle.race_log.specs.declared.slot.Slot.{Slot}
-use Rattle.race_log.specs.Slots.{is_marked}
+use Rattle.race_log.specs.Slots.{is_marked, marks_in}
 use Rattle.race_log.specs.Words.{epoch_counts}
 use Rattle.race_log.proofs.page.mark_page.Given as goal
 
@@ -10,6 +10,7 @@ invariant-loop-slot l = record {
   present : l.epochs.present ≡ l.fn.epochs.present;
   next : l.epochs.next ≡ l.fn.epochs.next;
   size : length l.epochs.table.items ≡ length l.fn.epochs.table.items;
+  few : marks_in l.epochs.table.items ≤ marks_in l.fn.epochs.table.items + l.slot-index;
   marks : (i : ℕ) → IsTrue (is_marked (slice_get l.fn.epochs.table.items i)) → IsTrue (is_marked (slice_get l.epochs.table.items i));
   marked : (at : ℕ) (s : Slot) → at < l.slot-index → slice_get l.page at ≡ Some s → s.epoch < length l.fn.epochs.table.items
       → IsTrue (is_marked (slice_get l.epochs.table.items s.epoch));

@@ -1,13 +1,20 @@
-use Rattle.std.proofs.Common.{sym, ◌∙◌}
+use Rattle.std.proofs.Common.{sym, ◌∙◌, arith}
 use Rattle.joint_replay.specs.Joining.{run_all}
 use Rattle.log_commands.proofs.Joins.{steps-part, words-short}
 use Rattle.log_commands.proofs.commands.joint.send_joint.Goals as goal
 
-pub returns-in-Err-clause-sent : goal.returns-in-Err-clause-sent
-returns-in-Err-clause-sent g c = (steps-part (run_all c.args.joint.now) (g.O.Sink.written c.args.out.now) (g.O.Sink.written c.send_steps.new.out) c.in-Err.ensures.sent.0, c.in-Err.ensures.sent.1)
+pub returns-in-Err : goal.returns-in-Err
+returns-in-Err g c = record {
+  sent =
+    (steps-part (run_all c.args.joint.now) (g.O.SinkExt.stream c.args.out.now).text (g.O.SinkExt.stream c.send_steps.new.out).text c.in-Err.ensures.sent.0, c.in-Err.ensures.sent.1);
+  later = c.send_steps.ensures.later;
+}
 
-pub returns-in-Err-send_words-clause-sent : goal.returns-in-Err-send_words-clause-sent
-returns-in-Err-send_words-clause-sent g c =
-    words-short (run_all c.args.joint.now) c.send_steps.new.joint (g.O.Sink.written c.args.out.now) (g.O.Sink.written c.send_steps.new.out) (g.O.Sink.written c.send_words.new.out)
-    (g.O.Sink.faults c.args.out.now) (g.O.Sink.faults c.send_steps.new.out) (g.O.Sink.faults c.send_words.new.out) c.in-Err-send_words.refusal
-    (sym c.in-None.is ∙ c.in-Ok.ensures.sent.1.0) c.in-Ok.ensures.sent.1.1 c.in-Ok.ensures.sent.0 c.in-Ok.ensures.later c.in-Err-send_words.ensures.sent
+pub returns-in-Err-send_words : goal.returns-in-Err-send_words
+returns-in-Err-send_words g c = record {
+  sent =
+    words-short (run_all c.args.joint.now) c.send_steps.new.joint (g.O.SinkExt.stream c.args.out.now).text (g.O.SinkExt.stream c.send_steps.new.out).text (g.O.SinkExt.stream c.send_words.new.out).text
+    (g.O.SinkExt.stream c.args.out.now).faults (g.O.SinkExt.stream c.send_steps.new.out).faults (g.O.SinkExt.stream c.send_words.new.out).faults c.in-Err-send_words.refusal
+    (sym c.in-None.is ∙ c.in-Ok.ensures.sent.1.0) c.in-Ok.ensures.sent.1.1 c.in-Ok.ensures.sent.0 c.in-Ok.ensures.later c.in-Err-send_words.ensures.sent;
+  later = omega (arith, c.send_steps.ensures.later, c.send_words.ensures.later);
+}

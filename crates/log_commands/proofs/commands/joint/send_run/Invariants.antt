@@ -3,7 +3,7 @@ use Rattle.log_commands.proofs.Joins.{Walks}
 use Rattle.log_commands.proofs.commands.joint.send_run.Given as goal
 
 abbrev pub invariant-steps : goal.invariant-steps
-invariant-steps g l = Walks l.fn.joint l.joint l.text (g.O.Sink.written l.fn.out) (g.O.Sink.written l.out) (g.O.Sink.faults l.fn.out) (g.O.Sink.faults l.out)
+invariant-steps g l = Walks l.fn.joint l.joint l.text (g.O.SinkExt.stream l.fn.out).text (g.O.SinkExt.stream l.out).text (g.O.SinkExt.stream l.fn.out).faults (g.O.SinkExt.stream l.out).faults
 
 -- the steps that are left
 abbrev pub decreases-steps : goal.decreases-steps

@@ -1,4 +1,4 @@
-use Rattle.std.proofs.Common.{ℕ, ◌+◌, ◌∷◌, List, ap, sym, ◌∙◌, subst}
+use Rattle.std.proofs.Common.{ℕ, ◌+◌, ◌∷◌, List, ap, sym, ◌∙◌, subst, arith}
 use Rattle.joint_replay.specs.Memory.{known_from}
 use Rattle.joint_replay.specs.Texts.{memory_text}
 use Rattle.log_commands.proofs.Prints.{so_far-last}
@@ -7,23 +7,29 @@ use Rattle.log_commands.proofs.commands.joint.send_words.Goals as goal
 
 pub words-init : goal.words-init
 words-init g c =
-    subst (λ (t : List ℕ). Lists c.args.joint.now.memory 0 t (g.O.Sink.written c.args.out.now) (g.O.Sink.written c.args.out.now) (g.O.Sink.faults c.args.out.now) (g.O.Sink.faults c.args.out.now)) (sym c.new-text.ensures)
-    (lists-none c.args.joint.now.memory (g.O.Sink.written c.args.out.now) (g.O.Sink.faults c.args.out.now))
+    subst (λ (t : List ℕ). Lists c.args.joint.now.memory 0 t (g.O.SinkExt.stream c.args.out.now).text (g.O.SinkExt.stream c.args.out.now).text (g.O.SinkExt.stream c.args.out.now).faults (g.O.SinkExt.stream c.args.out.now).faults) (sym c.new-text.ensures)
+    (lists-none c.args.joint.now.memory (g.O.SinkExt.stream c.args.out.now).text (g.O.SinkExt.stream c.args.out.now).faults)
 
-pub returns-in-None-clause-sent : goal.returns-in-None-clause-sent
-returns-in-None-clause-sent g c =
+pub returns-in-None : goal.returns-in-None
+returns-in-None g c = record {
+  sent =
     so_far-last (memory_text c.args.joint.now.memory) c.words.text (memory_text (known_from c.words.from c.args.joint.now.memory))
-    (g.O.Sink.written c.args.out.now) (g.O.Sink.written c.words.out) (g.O.Sink.written c.send.new.sink) (g.O.Sink.faults c.args.out.now) (g.O.Sink.faults c.words.out) (g.O.Sink.faults c.send.new.sink) c.send.result
-    c.words.invariant (ap memory_text c.in-None.ensures) c.send.ensures.sent
+    (g.O.SinkExt.stream c.args.out.now).text (g.O.SinkExt.stream c.words.out).text (g.O.SinkExt.stream c.send.new.sink).text (g.O.SinkExt.stream c.args.out.now).faults (g.O.SinkExt.stream c.words.out).faults (g.O.SinkExt.stream c.send.new.sink).faults c.send.result
+    c.words.invariant (ap memory_text c.in-None.ensures) c.send.ensures.sent;
+  later = omega (arith, c.words.invariant.later, c.send.ensures.later);
+}
 
 pub words-preserved : goal.words-preserved
 words-preserved g c =
     lists-more c.args.joint.now.memory c.words.from (c.from-from.result + 4) (c.in-Some.addr, c.in-Some.word) c.words.text c.gather_word.new.text
-    (g.O.Sink.written c.args.out.now) (g.O.Sink.written c.words.out) (g.O.Sink.written c.gather_word.new.out) (g.O.Sink.faults c.args.out.now) (g.O.Sink.faults c.words.out) (g.O.Sink.faults c.gather_word.new.out)
+    (g.O.SinkExt.stream c.args.out.now).text (g.O.SinkExt.stream c.words.out).text (g.O.SinkExt.stream c.gather_word.new.out).text (g.O.SinkExt.stream c.args.out.now).faults (g.O.SinkExt.stream c.words.out).faults (g.O.SinkExt.stream c.gather_word.new.out).faults
     (c.in-Some.ensures ∙ ap (λ a. (c.in-Some.addr, c.in-Some.word) ∷ known_from (a + 4) c.args.joint.now.memory) (sym c.from-from.ensures)) c.words.invariant c.in-Ok.ensures.sent c.gather_word.ensures.later
 
-pub returns-in-Err-clause-sent : goal.returns-in-Err-clause-sent
-returns-in-Err-clause-sent g c =
+pub returns-in-Err : goal.returns-in-Err
+returns-in-Err g c = record {
+  sent =
     lists-stopped c.args.joint.now.memory c.words.from (c.in-Some.addr + 4) (c.in-Some.addr, c.in-Some.word) c.words.text
-    (g.O.Sink.written c.args.out.now) (g.O.Sink.written c.words.out) (g.O.Sink.written c.gather_word.new.out) (g.O.Sink.faults c.args.out.now) (g.O.Sink.faults c.words.out) (g.O.Sink.faults c.gather_word.new.out) c.in-Err.refusal
-    c.in-Some.ensures c.words.invariant c.in-Err.ensures.sent
+    (g.O.SinkExt.stream c.args.out.now).text (g.O.SinkExt.stream c.words.out).text (g.O.SinkExt.stream c.gather_word.new.out).text (g.O.SinkExt.stream c.args.out.now).faults (g.O.SinkExt.stream c.words.out).faults (g.O.SinkExt.stream c.gather_word.new.out).faults c.in-Err.refusal
+    c.in-Some.ensures c.words.invariant c.in-Err.ensures.sent;
+  later = omega (arith, c.words.invariant.later, c.gather_word.ensures.later);
+}

@@ -4,7 +4,7 @@ use Rattle.log_commands.proofs.Joins.{Lists}
 use Rattle.log_commands.proofs.commands.joint.send_words.Given as goal
 
 abbrev pub invariant-words : goal.invariant-words
-invariant-words g l = Lists l.joint.memory l.from l.text (g.O.Sink.written l.fn.out) (g.O.Sink.written l.out) (g.O.Sink.faults l.fn.out) (g.O.Sink.faults l.out)
+invariant-words g l = Lists l.joint.memory l.from l.text (g.O.SinkExt.stream l.fn.out).text (g.O.SinkExt.stream l.out).text (g.O.SinkExt.stream l.fn.out).faults (g.O.SinkExt.stream l.out).faults
 
 -- the words that are left
 abbrev pub decreases-words : goal.decreases-words

@@ -4,4 +4,4 @@ use Rattle.log_commands.proofs.Prints.{SoFar}
 use Rattle.log_commands.proofs.commands.list.send_list.Given as goal
 
 abbrev pub invariant-loop-place : goal.invariant-loop-place
-invariant-loop-place g l = SoFar (list_text l.records) (l.text ++ list_text (drop l.place l.records)) (g.O.Sink.written l.fn.out) (g.O.Sink.written l.out) (g.O.Sink.faults l.fn.out) (g.O.Sink.faults l.out)
+invariant-loop-place g l = SoFar (list_text l.records) (l.text ++ list_text (drop l.place l.records)) (g.O.SinkExt.stream l.fn.out).text (g.O.SinkExt.stream l.out).text (g.O.SinkExt.stream l.fn.out).faults (g.O.SinkExt.stream l.out).faults

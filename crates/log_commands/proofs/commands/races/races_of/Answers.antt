@@ -1,20 +1,35 @@
-use Rattle.std.proofs.Common.{inr}
+use Rattle.std.proofs.Common.{inl, inr, refl}
 use Rattle.joint_replay.specs.Joining.{run_all}
 use Rattle.log_commands.specs.Joined.{joined}
 use Rattle.log_commands.proofs.Races.{races-listed, races-refused, races-halted}
 use Rattle.log_commands.proofs.commands.races.races_of.Goals as goal
 
-pub returns-in-Ok-clause-gives : goal.returns-in-Ok-clause-gives
-returns-in-Ok-clause-gives c =
+pub returns-in-Ok : goal.returns-in-Ok
+returns-in-Ok c =
     let d = c.args.reading.now.log in
-    races-listed c.args.names.now c.args.most d.head.settings.harts (run_all (joined d c.args.reading.now.image)) c.in-Ok.text c.in-Ok.ensures
+    record {
+      gives = λ names. races-listed names c.args.most d.head.settings.harts (run_all (joined d c.args.reading.now.image)) c.in-Ok.text c.in-Ok.ensures;
+      own = λ before now. tt;
+      kind = tt;
+    }
 
-pub returns-in-Err-Joint-clause-gives : goal.returns-in-Err-Joint-clause-gives
-returns-in-Err-Joint-clause-gives c =
+pub returns-in-Err-Joint : goal.returns-in-Err-Joint
+returns-in-Err-Joint c =
     let d = c.args.reading.now.log in
-    races-halted c.args.names.now c.args.most d.head.settings.harts (run_all (joined d c.args.reading.now.image)) c.in-Err-Joint.error (rw c.in-Err-Joint.field-0-is at c.in-Err-Joint.ensures)
+    record {
+      gives = λ names. races-halted names c.args.most d.head.settings.harts (run_all (joined d c.args.reading.now.image)) c.in-Err-Joint.error (rw c.in-Err-Joint.field-0-is at c.in-Err-Joint.ensures);
+      own = λ before now. tt;
+      kind = tt;
+    }
 
-pub returns-in-Err-TooMany-clause-gives : goal.returns-in-Err-TooMany-clause-gives
-returns-in-Err-TooMany-clause-gives c =
+pub returns-in-Err-TooMany : goal.returns-in-Err-TooMany
+returns-in-Err-TooMany c =
     let d = c.args.reading.now.log in
-    inr (races-refused c.args.names.now c.args.most d.head.settings.harts c.in-Err-TooMany.max (run_all (joined d c.args.reading.now.image)) (rw c.in-Err-TooMany.field-0-is at c.in-Err-TooMany.ensures))
+    record {
+      gives = λ names. inr (races-refused names c.args.most d.head.settings.harts c.in-Err-TooMany.max (run_all (joined d c.args.reading.now.image)) (rw c.in-Err-TooMany.field-0-is at c.in-Err-TooMany.ensures));
+      own = λ before now. tt;
+      kind = tt;
+    }
+
+pub returns-in-Err-OutOfMemory : goal.returns-in-Err-OutOfMemory
+returns-in-Err-OutOfMemory c = record { gives = λ names. inl refl; own = λ before now. tt; kind = tt }

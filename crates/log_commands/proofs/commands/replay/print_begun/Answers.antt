@@ -1,31 +1,42 @@
 use Rattle.std.proofs.Common.{arith}
+use Rattle.log_commands.specs.Effects.{Prints, PrintsTo, printing_on}
 use Rattle.log_commands.specs.Outside.{told_of_reading}
-use Rattle.log_commands.proofs.Acts.{sends-done, prints-so}
+use Rattle.log_commands.proofs.Acts.{sends-done, prints-so, closed-done}
+use Rattle.log_commands.proofs.Answering.{passed-on}
 use Rattle.log_commands.proofs.Causes.{sends-told, sends-replay}
 use Rattle.log_commands.proofs.Prints.{appends-nothing}
 use Rattle.log_commands.proofs.Tells.{untouched}
 use Rattle.log_commands.proofs.Shows.{interval-done, interval-differs, interval-stopped}
 use Rattle.log_commands.proofs.commands.replay.print_begun.Goals as goal
 
-pub returns-in-Ok-Done : goal.returns-in-Ok-Done
-returns-in-Ok-Done g c =
-    λ files counts. prints-so c.args.names.now (told_of_reading c.args.names.now c.args.reading.now) 0 _
-    (interval-done c.args.names.now c.args.reading.now c.args.replayer.now c.args.mark.now c.in-Ok-Done.field-0 _
-    c.requires c.in-Ok-Done.ensures.sent.0 c.in-Ok-Done.ensures.sent.1 c.in-Ok-Done.field-0-is (appends-nothing (g.X.Sink.written c.args.err.now)) (untouched files))
-    (record { out = c.send_interval.ensures.later; err = omega arith }) (sends-done _ _)
+pub returns-in-Done : goal.returns-in-Done
+returns-in-Done g c = λ names files had status err end closed.
+    let old = g.O.SinkExt.stream c.args.out.now in
+    let new = g.O.SinkExt.stream c.send_interval.new.out in
+    closed-done (λ n e. Prints names (told_of_reading names c.args.reading.now) n (printing_on files had old new err e)) status err end closed
+    (prints-so names (told_of_reading names c.args.reading.now) 0 (printing_on files had old new err err)
+    (interval-done names c.args.reading.now c.args.replayer.now c.args.mark.now c.in_ok-end.end (printing_on files had old new err err)
+    c.requires c.in_ok-end.ensures.sent.0 c.in_ok-end.ensures.sent.1 c.in-Done.is (appends-nothing err.text) (untouched files))
+    (record { out = c.send_interval.ensures.later; err = omega arith }) (sends-done old.faults new.faults))
 
-pub returns-in-Ok-Stopped : goal.returns-in-Ok-Stopped
-returns-in-Ok-Stopped g c =
-    λ files counts. prints-so c.args.names.now (told_of_reading c.args.names.now c.args.reading.now) c.refuse.result _
-    (interval-differs c.args.names.now c.args.reading.now c.args.replayer.now c.args.mark.now c.in-Ok-Stopped.field-0 c.in-Ok-Stopped.error c.refuse.result _
-    c.requires c.in-Ok-Stopped.ensures.sent.0 c.in-Ok-Stopped.ensures.sent.1 c.in-Ok-Stopped.field-0-is (untouched files) c.refuse.ensures.told)
-    (record { out = c.send_interval.ensures.later; err = c.refuse.ensures.later })
-    (sends-replay c.args.names.now c.in-Ok-Stopped.error c.refuse.result _ _ _ _ _ _ c.refuse.ensures.told)
+pub returns-in-Stopped : goal.returns-in-Stopped
+returns-in-Stopped g c = λ names files had status err end closed.
+    let old = g.O.SinkExt.stream c.args.out.now in
+    let new = g.O.SinkExt.stream c.send_interval.new.out in
+    prints-so names (told_of_reading names c.args.reading.now) status (printing_on files had old new err end)
+    (interval-differs names c.args.reading.now c.args.replayer.now c.args.mark.now c.in_ok-end.end c.in-Stopped.error status (printing_on files had old new err end)
+    c.requires c.in_ok-end.ensures.sent.0 c.in_ok-end.ensures.sent.1 c.in-Stopped.is (untouched files) closed.0)
+    (record { out = c.send_interval.ensures.later; err = closed.1 })
+    (sends-replay names c.in-Stopped.error status err.text end.text err.faults end.faults old.faults new.faults closed.0)
 
-pub returns-in-Err : goal.returns-in-Err
-returns-in-Err g c =
-    λ files counts. prints-so c.args.names.now (told_of_reading c.args.names.now c.args.reading.now) c.refuse-in-Err.result _
-    (interval-stopped c.args.names.now c.args.reading.now c.args.replayer.now c.args.mark.now c.in-Err.refusal c.refuse-in-Err.result _
-    c.requires c.in-Err.ensures.sent (untouched files) c.refuse-in-Err.ensures.told)
-    (record { out = c.send_interval.ensures.later; err = c.refuse-in-Err.ensures.later })
-    (sends-told c.args.names.now c.in-Err.refusal c.refuse-in-Err.result _ _ _ _ _ _ c.in-Err.ensures.sent.1 c.refuse-in-Err.ensures.told)
+pub returns-in_err-end : goal.returns-in_err-end
+returns-in_err-end g c =
+    let old = g.O.SinkExt.stream c.args.out.now in
+    let new = g.O.SinkExt.stream c.send_interval.new.out in
+    passed-on (PrintsTo (λ names. told_of_reading names c.args.reading.now) old new) _ c.from_residual.result c.from_residual.ensures.1
+    (λ names files had status err end closed.
+    prints-so names (told_of_reading names c.args.reading.now) status (printing_on files had old new err end)
+    (interval-stopped names c.args.reading.now c.args.replayer.now c.args.mark.now _ status (printing_on files had old new err end)
+    c.requires c.in_err-end.ensures.sent (untouched files) closed.0)
+    (record { out = c.send_interval.ensures.later; err = closed.1 })
+    (sends-told names _ status err.text end.text err.faults end.faults old.faults new.faults c.in_err-end.ensures.sent.1 closed.0))

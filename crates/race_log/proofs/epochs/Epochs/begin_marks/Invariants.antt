@@ -1,5 +1,5 @@
-use Rattle.std.proofs.Common.{◌≡◌, ◌<◌, ℕ, length, IsTrue, slice_get}
-use Rattle.race_log.specs.Slots.{is_marked}
+use Rattle.std.proofs.Common.{◌≡◌, ◌<◌, ◌≤◌, ◌+◌, ℕ, length, IsTrue, slice_get}
+use Rattle.race_log.specs.Slots.{is_marked, marks_in}
 use Rattle.race_log.specs.Words.{epoch_counts, epoch_of}
 use Rattle.race_log.proofs.epochs.Epochs.begin_marks.Given as goal
 
@@ -9,6 +9,7 @@ invariant-loop-hart l = record {
   present : l.self.present ≡ l.fn.self.present;
   next : l.self.next ≡ l.fn.self.next;
   size : length l.self.table.items ≡ length l.fn.self.table.items;
+  few : marks_in l.self.table.items ≤ l.hart + 1;
   first : IsTrue (is_marked (slice_get l.self.table.items 0));
   marked : (g : ℕ) → g < l.hart → IsTrue (is_marked (slice_get l.self.table.items (epoch_of l.self g)));
 }

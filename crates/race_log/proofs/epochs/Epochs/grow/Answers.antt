@@ -1,5 +1,6 @@
 use Rattle.std.proofs.Common.{arith, slice_index, vec_len}
 use Rattle.race_log.proofs.EpochLemmas.{settled_full, push_counts, push_between}
+use Rattle.race_log.proofs.BoundLemmas.{push_grows}
 use Rattle.race_log.proofs.epochs.Epochs.grow.Goals as goal
 
 pub invariant_of-self : goal.invariant_of-self
@@ -26,3 +27,9 @@ returns-clause-counts c = λ i h. push_counts _ c.args.self.now.table.items c.pu
 
 pub returns-clause-settled : goal.returns-clause-settled
 returns-clause-settled c = λ i settled. settled_full c.args.self.now.table.items c.push.new.self.items c.args.self.now.next i c.requires settled
+
+pub returns-in_err-push-clause-grows : goal.returns-in_err-push-clause-grows
+returns-in_err-push-clause-grows c = push_grows _ c.args.self.now.table.items c.push.new.self.items _ c.push.ensures.items
+
+pub returns-clause-grows : goal.returns-clause-grows
+returns-clause-grows c = push_grows _ c.args.self.now.table.items c.push.new.self.items _ c.push.ensures.items

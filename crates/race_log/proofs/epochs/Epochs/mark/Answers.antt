@@ -2,6 +2,7 @@ use Rattle.std.proofs.Common.{◌<◌, refl, arith, true, length, slice_set, sli
 use Rattle.std.proofs.lemmas.List.{length-set}
 use Rattle.race_log.specs.declared.epochs.Epoch.{Epoch}
 use Rattle.race_log.proofs.EpochLemmas.{settled_full, mark_counts, mark_here, mark_stays}
+use Rattle.race_log.proofs.BoundLemmas.{marks_set}
 use Rattle.race_log.proofs.epochs.Epochs.mark.Goals as goal
 
 pub invariant_of-self : goal.invariant_of-self
@@ -39,3 +40,8 @@ pub returns-then-epoch-len-clause-marked : goal.returns-then-epoch-len-clause-ma
 returns-then-epoch-len-clause-marked c = λ low.
     let s : Epoch = record { times = c.index_mut.result.now.times; used = true } in
     mark_here c.args.self.now.table.items c.args.epoch s low refl
+
+pub returns-then-epoch-len-clause-few : goal.returns-then-epoch-len-clause-few
+returns-then-epoch-len-clause-few c =
+    let s : Epoch = record { times = c.index_mut.result.now.times; used = true } in
+    marks_set c.args.self.now.table.items c.args.epoch s

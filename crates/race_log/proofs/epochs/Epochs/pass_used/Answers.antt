@@ -1,5 +1,5 @@
-use Rattle.std.proofs.Common.{◌<◌, ◌∙◌, arith, sym, ap, length, slice_get}
-use Rattle.std.proofs.lemmas.Bool.{false≢true}
+use Rattle.std.proofs.Common.{◌<◌, ◌≡◌, ◌∙◌, true, arith, sym, ap, inl, inr, length, slice_get}
+use Rattle.std.proofs.lemmas.Bool.{false≢true, cases_lt}
 use Rattle.race_log.specs.Slots.{is_marked}
 use Rattle.race_log.proofs.EpochLemmas.{marked_at, settled_on, can_begin, is_free}
 use Rattle.race_log.proofs.epochs.Epochs.pass_used.Goals as goal
@@ -20,6 +20,13 @@ loop-place-preserved c =
           let at = ap (λ v. is_marked (slice_get v.items c.loop-place.place)) c.loop-place.invariant.table in
           let on = ap (λ n. is_marked (slice_get c.args.self.now.table.items n)) (sym c.loop-place.invariant.place ∙ same) in
           absurd (false≢true (sym (sym used ∙ (at ∙ (on ∙ free))) ∙ c.if-not-index.false));
+      passed = λ i low high. elim (cases_lt i s.next) [
+        | inl below ↦ c.loop-place.invariant.passed i low below
+        | inr above ↦
+            let here : is_marked (slice_get s.table.items c.loop-place.place) ≡ true = used ∙ c.if-not-index.false in
+            let at = ap (λ v. is_marked (slice_get v.items c.loop-place.place)) c.loop-place.invariant.table in
+            ap (λ k. is_marked (slice_get c.args.self.now.table.items k)) (omega (arith, above, high, c.loop-place.invariant.place)) ∙ (sym at ∙ here)
+      ];
     }
 
 pub returns-then-not-index-clause-room : goal.returns-then-not-index-clause-room

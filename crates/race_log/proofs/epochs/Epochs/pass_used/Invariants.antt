@@ -1,5 +1,5 @@
-use Rattle.std.proofs.Common.{◌≡◌, ℕ, IsTrue}
-use Rattle.race_log.specs.Slots.{is_settled}
+use Rattle.std.proofs.Common.{◌≡◌, ◌≤◌, ◌<◌, ℕ, IsTrue, slice_get}
+use Rattle.race_log.specs.Slots.{is_settled, is_marked}
 use Rattle.race_log.specs.Words.{has_epoch}
 use Rattle.race_log.proofs.epochs.Epochs.pass_used.Given as goal
 
@@ -10,4 +10,5 @@ invariant-loop-place l = record {
   present : l.self.present ≡ l.initial.self.present;
   settled : (i : ℕ) → IsTrue (is_settled l.initial.self.table.items l.initial.self.next i) → IsTrue (is_settled l.self.table.items l.self.next i);
   ready : IsTrue (has_epoch l.initial.self) → l.self.next ≡ l.initial.self.next;
+  passed : (i : ℕ) → l.initial.self.next ≤ i → i < l.self.next → IsTrue (is_marked (slice_get l.initial.self.table.items i));
 }

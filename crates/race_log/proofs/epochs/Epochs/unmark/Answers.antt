@@ -1,7 +1,8 @@
-use Rattle.std.proofs.Common.{◌≡◌, ◌<◌, ◌∙◌, arith, false, length, slice_set, slice_index}
+use Rattle.std.proofs.Common.{◌≡◌, ◌<◌, ◌∙◌, arith, refl, false, length, slice_set, slice_index}
 use Rattle.std.proofs.lemmas.List.{length-set}
 use Rattle.race_log.specs.declared.epochs.Epoch.{Epoch}
 use Rattle.race_log.proofs.EpochLemmas.{settled_full, mark_counts}
+use Rattle.race_log.proofs.BoundLemmas.{unmarked, no_marks}
 use Rattle.race_log.proofs.epochs.Epochs.unmark.Goals as goal
 
 pub invariant_of-self : goal.invariant_of-self
@@ -27,5 +28,11 @@ loop-place-preserved c =
       counts = λ i h. mark_counts old.table.items c.loop-place.place c.index_mut.result.now false low c.index_mut.ensures.value i h ∙ c.loop-place.invariant.counts i h;
       present = c.loop-place.invariant.present;
       next = c.loop-place.invariant.next;
+      none = λ i most. unmarked old.table.items c.loop-place.place i s most low refl (c.loop-place.invariant.none i);
       size = length-set old.table.items c.loop-place.place s ∙ c.loop-place.invariant.size;
     }
+
+pub returns-clause-none : goal.returns-clause-none
+returns-clause-none c =
+    let now = c.loop-place.self in
+    no_marks now.table.items (λ i low. c.loop-place.invariant.none i (omega (arith, low, c.loop-place-test.false, c.loop-place.auto.place-end, c.loop-place.invariant.size, now.table.ok, c.args.self.now.table.ok)))

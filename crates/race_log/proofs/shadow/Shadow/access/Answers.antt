@@ -53,4 +53,5 @@ returns-clause-next c =
       counts = λ h. counts_taken c.args.self.now c.take_in.new.self c.args.hart c.args.ic c.args.turn c.args.first c.args.count c.args.mode t h;
       reserved = t.reserved;
       unswept = t.unswept;
+      size = t.size;
     }

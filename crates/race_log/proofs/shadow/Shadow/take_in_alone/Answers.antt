@@ -6,6 +6,7 @@ use Rattle.race_log.specs.Search.{gathered, sources, counts_after}
 use Rattle.race_log.specs.Represents.{times_of, kept_of}
 use Rattle.race_log.specs.Words.{present_counts, counts_at}
 use Rattle.race_log.proofs.AccessLemmas.{read_times, set_apart}
+use Rattle.race_log.proofs.SizeLemmas.{same_size}
 use Rattle.race_log.proofs.Steps.{counts_here, counts_there}
 use Rattle.race_log.proofs.shadow.Shadow.take_in_alone.Goals as goal
 
@@ -38,6 +39,7 @@ returns c = λ first n mode.
       turns = refl;
       reserved = refl;
       unswept = c.saturating_add-self.ensures;
+      size = same_size old.words;
     }
 
 pub invariant_of-self : goal.invariant_of-self

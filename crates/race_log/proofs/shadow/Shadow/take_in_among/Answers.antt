@@ -6,6 +6,7 @@ use Rattle.race_log.specs.Search.{gathered, sources}
 use Rattle.race_log.specs.Slots.{slots_of}
 use Rattle.race_log.specs.Words.{kept_in, kept_now, present_counts, KeepsAccess, counts_at}
 use Rattle.race_log.proofs.AccessLemmas.{read_times, set_times, times_kept, set_apart, not_less}
+use Rattle.race_log.proofs.SizeLemmas.{more_size}
 use Rattle.race_log.proofs.Steps.{counts_here, counts_there}
 use Rattle.race_log.proofs.shadow.Shadow.take_in_among.Goals as goal
 
@@ -42,6 +43,7 @@ returns c =
       turns = refl;
       reserved = refl;
       unswept = c.saturating_add-self.ensures;
+      size = more_size old.words c.go_on.new.self c.keep.new.self c.go_on.ensures.size c.keep.ensures.size;
     }
 
 pub invariant_of-self : goal.invariant_of-self

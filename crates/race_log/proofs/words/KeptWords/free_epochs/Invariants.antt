@@ -1,7 +1,8 @@
-use Rattle.std.proofs.Common.{◌≡◌, ◌<◌, ℕ, length, IsTrue, Some, slice_get}
+use Rattle.std.proofs.Common.{◌≡◌, ◌<◌, ◌≤◌, ◌+◌, ℕ, length, IsTrue, Some, slice_get}
 use Rattle.race_log.specs.declared.slot.Slot.{Slot}
-use Rattle.race_log.specs.Slots.{is_marked, slots_of}
-use Rattle.race_log.specs.Words.{epoch_counts, epoch_of}
+use Rattle.race_log.specs.Slots.{is_marked, marks_in, slots_of}
+use Rattle.race_log.specs.Words.{epoch_counts, epoch_of, size_of}
+use Rattle.race_log.specs.Sweep.{sum_below}
 use Rattle.race_log.proofs.words.KeptWords.free_epochs.Given as goal
 
 abbrev pub invariant-loop-number : goal.invariant-loop-number
@@ -12,6 +13,7 @@ invariant-loop-number l = record {
   present : l.self.epochs.present ≡ l.fn.self.epochs.present;
   next : l.self.epochs.next ≡ l.fn.self.epochs.next;
   size : length l.self.epochs.table.items ≡ length l.fn.self.epochs.table.items;
+  few : marks_in l.self.epochs.table.items ≤ 17 + sum_below (size_of l.fn.self) l.number;
   first : IsTrue (is_marked (slice_get l.self.epochs.table.items 0));
   own : (hart : ℕ) → IsTrue (is_marked (slice_get l.self.epochs.table.items (epoch_of l.self.epochs hart)));
   marked : (n at : ℕ) (s : Slot) → n < l.number → slice_get (slots_of (slice_get l.fn.self.pages.items n)) at ≡ Some s

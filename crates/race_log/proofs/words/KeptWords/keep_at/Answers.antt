@@ -1,9 +1,11 @@
-use Rattle.std.proofs.Common.{◌≡◌, ◌∙◌, ◌+◌, ◌*◌, ◌/◌, ◌%◌, ◌==◌, arith, sym, ap, subst, slice_get, slice_set, length, inl, inr}
+use Rattle.std.proofs.Common.{◌≡◌, ◌∙◌, refl, ◌+◌, ◌*◌, ◌/◌, ◌%◌, ◌==◌, arith, sym, ap, subst, slice_get, slice_set, length, inl, inr}
 use Rattle.std.proofs.lemmas.Bool.{cases_eq}
+use Rattle.std.proofs.lemmas.List.{length-set}
 use Rattle.race_log.specs.Kept.{Replaces}
 use Rattle.race_log.specs.Slots.{word_in, slots_of, IsSettledPage}
 use Rattle.race_log.specs.Words.{place_of, epoch_counts, kept_of_slot}
 use Rattle.race_log.proofs.PageLemmas.{places_apart}
+use Rattle.race_log.proofs.SizeLemmas.{sizes_set, slots_same}
 use Rattle.race_log.proofs.PagesLemmas.{page_at, page_here, page_there, full_set, settled_page_set, other_word, room_is, some_page, at_aligned}
 use Rattle.race_log.proofs.words.KeptWords.keep_at.Goals as goal
 
@@ -23,6 +25,8 @@ invariant_of-self c =
     let low = some_page old.pages.items (c.args.word / 256) old.harts size in
     let was = page_at old.pages.items (c.args.word / 256) c.index_mut.result.now low c.index_mut.ensures.value in
     let v = c.keep_in.new.page in
+    let count = length-set old.pages.items (c.args.word / 256) v in
+    let slots = slots_same old.pages.items (slice_set old.pages.items (c.args.word / 256) v) count (sizes_set old.pages.items (c.args.word / 256) v low (c.keep_in.ensures.len ∙ sym (ap length was))) in
     record {
       few = old.few;
       few_pages = old.few_pages;
@@ -30,6 +34,8 @@ invariant_of-self c =
       settled = settled_page_set old.epochs.table.items old.epochs.next old.pages.items (c.args.word / 256) v low
           (c.keep_in.ensures.settled old.epochs.table.items old.epochs.next old.epochs.first c.requires.settled
           (subst (IsSettledPage old.epochs.table.items old.epochs.next) was (old.settled (c.args.word / 256)))) old.settled;
+      few_epochs = omega (arith, count, slots, old.few_epochs);
+      low_limit = omega (arith, count, slots, old.low_limit);
     }
 
 pub returns-clause-kept : goal.returns-clause-kept
@@ -83,3 +89,16 @@ returns-clause-room c = λ w.
           ∙ (ap length now ∙ (c.keep_in.ensures.len ∙ (sym (ap length was) ∙ sym (ap (λ n. length (slots_of (slice_get old.pages.items n))) e))))
       | inr far ↦ ap length (page_there old.pages.items (c.args.word / 256) (w / 256) v far)
     ])
+
+pub returns-clause-size : goal.returns-clause-size
+returns-clause-size c =
+    let old = c.args.self.now in
+    let size = room_is (slots_of (slice_get old.pages.items (c.args.word / 256))) old.harts c.requires.room in
+    let low = some_page old.pages.items (c.args.word / 256) old.harts size in
+    let was = page_at old.pages.items (c.args.word / 256) c.index_mut.result.now low c.index_mut.ensures.value in
+    let v = c.keep_in.new.page in
+    record {
+      pages = length-set old.pages.items (c.args.word / 256) v;
+      slots = sizes_set old.pages.items (c.args.word / 256) v low (c.keep_in.ensures.len ∙ sym (ap length was));
+      epochs = refl;
+    }

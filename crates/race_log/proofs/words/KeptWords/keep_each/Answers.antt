@@ -2,6 +2,7 @@ use Rattle.std.proofs.Common.{◌≡◌, ◌+◌, ◌*◌, ◌∙◌, arith, sub
 use Rattle.race_log.specs.Words.{kept_in, kept_of_slot, KeepsAccess}
 use Rattle.race_log.specs.Kept.{Replaces}
 use Rattle.race_log.proofs.WordLemmas.{keeps_more}
+use Rattle.race_log.proofs.SizeLemmas.{more_size}
 use Rattle.race_log.proofs.words.KeptWords.keep_each.Goals as goal
 
 pub loop-i-preserved : goal.loop-i-preserved
@@ -16,6 +17,7 @@ loop-i-preserved c =
           c.loop-i.invariant.kept
           (subst (λ s. Replaces (kept_of_slot s c.args.mode c.args.slot.now) (kept_in mid word) (kept_in c.keep_at.new.self word)) c.loop-i.invariant.epochs c.keep_at.ensures.kept)
           c.keep_at.ensures.others;
+      size = more_size old mid c.keep_at.new.self c.loop-i.invariant.size c.keep_at.ensures.size;
       room = λ w. c.keep_at.ensures.room w ∙ c.loop-i.invariant.room w;
     }
 

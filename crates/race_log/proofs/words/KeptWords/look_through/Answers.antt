@@ -1,4 +1,6 @@
-use Rattle.std.proofs.Common.{rules}
+use Rattle.std.proofs.Common.{rules, arith}
+use Rattle.race_log.proofs.SizeLemmas.{not_all_used}
+use Rattle.race_log.proofs.words.KeptWords.look_through.Goals.{else-is_full-via-then-is_full+else-len-self, else-is_full-via-else-is_full}
 use Rattle.race_log.proofs.words.KeptWords.look_through.Goals as goal
 
 pub invariant_of-self : goal.invariant_of-self
@@ -19,8 +21,8 @@ returns-then-len-self-clause-present c = search rules
 pub returns-then-len-self-clause-room : goal.returns-then-len-self-clause-room
 returns-then-len-self-clause-room c = search rules
 
-pub returns-then-len-self-clause-start : goal.returns-then-len-self-clause-start
-returns-then-len-self-clause-start c = search rules
+pub returns-then-len-self-clause-growth : goal.returns-then-len-self-clause-growth
+returns-then-len-self-clause-growth c = search rules
 
 pub returns-else-is_full-clause-harts : goal.returns-else-is_full-clause-harts
 returns-else-is_full-clause-harts c = search rules
@@ -37,5 +39,8 @@ returns-else-is_full-clause-present c = search rules
 pub returns-else-is_full-clause-room : goal.returns-else-is_full-clause-room
 returns-else-is_full-clause-room c = search rules
 
-pub returns-else-is_full-clause-start : goal.returns-else-is_full-clause-start
-returns-else-is_full-clause-start c = search rules
+pub returns-else-is_full-clause-growth : goal.returns-else-is_full-clause-growth
+returns-else-is_full-clause-growth c = λ all. elim c.else-is_full.branch [
+  | else-is_full-via-then-is_full+else-len-self w ↦ omega (arith, w.if-len-self.false, w.len.ensures, c.is_full.new.self.table.ok)
+  | else-is_full-via-else-is_full w ↦ absurd (not_all_used c.is_full.new.self (c.is_full.ensures.left w.if-is_full.false) all)
+]

@@ -1,7 +1,9 @@
-use Rattle.std.proofs.Common.{◌≡◌, ◌∙◌, ◌<◌, ◌+◌, ◌*◌, ◌/◌, ◌%◌, ◌==◌, cond, [], arith, sym, ap, subst, slice_get, slice_set, length, IsTrue, inl, inr}
+use Rattle.std.proofs.Common.{◌≡◌, ◌∙◌, ◌<◌, ◌≤◌, ◌+◌, ◌*◌, ◌/◌, ◌%◌, ◌==◌, cond, [], arith, sym, ap, subst, slice_get, slice_set, length, IsTrue, inl, inr}
 use Rattle.std.proofs.lemmas.Bool.{cases_eq, cases_lt}
 use Rattle.race_log.specs.Slots.{word_in, slots_of, is_settled, IsSettledPage}
 use Rattle.race_log.specs.Words.{place_of, epoch_counts}
+use Rattle.std.proofs.lemmas.List.{length-set}
+use Rattle.race_log.proofs.SizeLemmas.{slots_more}
 use Rattle.race_log.proofs.PagesLemmas.{page_at, page_here, page_there, full_set, settled_page_set, remade, room_is, is_room}
 use Rattle.race_log.proofs.words.KeptWords.make_page.Goals as goal
 
@@ -12,6 +14,18 @@ invariant_of-self c =
     let was = page_at pages c.args.number c.index_mut.result.now low c.index_mut.ensures.value in
     let p = c.index_mut.result.now in
     let v = c.make_slots.new.page in
+    let size = length-set pages c.args.number v in
+    let here : length p.items ≤ length v.items = elim (cases_lt 0 (length p.items)) [
+      | inl some ↦ (let same = ap length (c.make_slots.ensures.stays (omega (arith, some, p.ok))) in omega (arith, same))
+      | inr none ↦ omega (arith, none)
+    ] in
+    let slots = slots_more pages (slice_set pages c.args.number v) (omega (arith, size)) (λ page. elim (cases_eq page c.args.number) [
+      | inl e ↦
+          let old = ap (λ n. length (slots_of (slice_get pages n))) e ∙ ap length was in
+          let new = ap (λ n. length (slots_of (slice_get (slice_set pages c.args.number v) n))) e ∙ ap length (page_here pages c.args.number v low) in
+          omega (arith, old, new, here)
+      | inr far ↦ (let same = ap length (page_there pages c.args.number page v far) in omega (arith, same))
+    ]) in
     record {
       few = c.args.self.now.few;
       few_pages = c.args.self.now.few_pages;
@@ -30,6 +44,8 @@ invariant_of-self c =
             | inr none ↦ λ at s e.
                 subst (λ i. IsTrue (is_settled c.args.self.now.epochs.table.items c.args.self.now.epochs.next i)) (sym (c.make_slots.ensures.none (omega (arith, none, p.ok)) at s e).1) c.args.self.now.epochs.first
           ]) c.args.self.now.settled;
+      few_epochs = omega (arith, size, slots, c.args.self.now.few_epochs);
+      low_limit = omega (arith, size, slots, c.args.self.now.low_limit);
     }
 
 pub returns-clause-same : goal.returns-clause-same
@@ -79,3 +95,6 @@ returns-clause-ready c = λ all.
     let size = room_is (slots_of (slice_get pages (256 * c.args.number / 256))) c.args.self.now.harts (all (256 * c.args.number) is) in
     let here = sym (ap length was) ∙ (sym (ap (λ n. length (slots_of (slice_get pages n))) is) ∙ size) in
     c.make_slots.ensures.ready (omega (arith, here, p.ok))
+
+pub returns-clause-others : goal.returns-clause-others
+returns-clause-others c = λ page far. ap length (page_there c.args.self.now.pages.items c.args.number page c.make_slots.new.page far)

@@ -1,8 +1,9 @@
-use Rattle.std.proofs.Common.{◌∙◌, ◌+◌, ◌-◌, ◌*◌, ◌/◌, ◌%◌, ◌==◌, cond, [], arith, ap, length, inl, inr}
+use Rattle.std.proofs.Common.{◌≢◌, ◌⊎◌, ◌<◌, ◌≤◌, ℕ, ◌∙◌, ◌+◌, ◌-◌, ◌*◌, ◌/◌, ◌%◌, ◌==◌, cond, [], arith, ap, length, inl, inr}
 use Rattle.std.proofs.lemmas.Bool.{false≢true, cases_eq}
 use Rattle.race_log.specs.Slots.{word_in}
 use Rattle.race_log.specs.Words.{epoch_counts, page_of, place_of}
 use Rattle.race_log.proofs.PagesLemmas.{room_at, room_is, some_page}
+use Rattle.race_log.proofs.SizeLemmas.{makes_none}
 use Rattle.race_log.proofs.words.KeptWords.make_pages.Goals as goal
 
 pub returns-in_err-reach-clause-ready : goal.returns-in_err-reach-clause-ready
@@ -27,6 +28,8 @@ loop-number-init c =
       stays = λ w room.
           ap (λ page. length page == 64 * (new.harts + 1)) (c.reach.ensures.same (w / 256))
           ∙ (ap (λ harts. length (page_of old w) == 64 * (harts + 1)) c.reach.ensures.harts ∙ room);
+      pages = c.reach.ensures.most;
+      others = λ page out. ap length (c.reach.ensures.same page);
       count = c.in_ok-reach.ensures.count;
       made = λ w low high. absurd (omega (arith, low, high));
     }
@@ -45,13 +48,26 @@ loop-number-preserved c =
       epochs = e.epochs ∙ before.epochs;
       same = λ w. e.same w ∙ before.same w;
       stays = λ w room. e.stays w (before.stays w room);
+      pages = omega (arith, e.count, before.pages, c.make_page.new.self.pages.ok, c.loop-number.self.pages.ok);
+      others = λ page out. e.others page (apart page out) ∙ before.others page (wider page out);
       count = omega (arith, e.count, before.count);
       made = λ w low high. elim (cases_eq (w / 256) c.loop-number.number) [
         | inl is ↦ c.in_ok-make_page.ensures.room w is
         | inr apart ↦ e.stays w (before.made w low (omega (arith, high, apart)))
       ];
     }
+  where
+    apart : (page : ℕ) → (page < c.args.first / 256) ⊎ (c.loop-number.number + 1 ≤ page) → page ≢ c.loop-number.number
+    apart page (inl low) e = omega (arith, e, low)
+    apart page (inr high) e = omega (arith, e, high)
+
+    wider : (page : ℕ) → (page < c.args.first / 256) ⊎ (c.loop-number.number + 1 ≤ page) → (page < c.args.first / 256) ⊎ (c.loop-number.number ≤ page)
+    wider page (inl low) = inl low
+    wider page (inr high) = inr (omega (arith, high))
 
 pub returns-clause-room : goal.returns-clause-room
 returns-clause-room c = λ i low.
     c.loop-number.invariant.made (c.args.first + 4 * i) (omega arith) (omega (arith, low, c.loop-number-test.false, c.loop-number.auto.number-end))
+
+pub returns-then-count-eq0-clause-pages : goal.returns-then-count-eq0-clause-pages
+returns-then-count-eq0-clause-pages c = makes_none c.args.first c.args.count c.args.self.now

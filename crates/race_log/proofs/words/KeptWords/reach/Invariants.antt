@@ -1,4 +1,4 @@
-use Rattle.std.proofs.Common.{◌≡◌, ℕ, slice_get, vec_len}
+use Rattle.std.proofs.Common.{◌≡◌, ◌≤◌, ℕ, max, length, slice_get, vec_len}
 use Rattle.race_log.specs.Slots.{slots_of}
 use Rattle.race_log.proofs.words.KeptWords.reach.Given as goal
 
@@ -7,5 +7,6 @@ invariant-loop l = record {
   harts : l.self.harts ≡ l.initial.self.harts;
   epochs : l.self.epochs ≡ l.initial.self.epochs;
   same : (n : ℕ) → slots_of (slice_get l.self.pages.items n) ≡ slots_of (slice_get l.initial.self.pages.items n);
+  most : length l.self.pages.items ≤ max (length l.initial.self.pages.items) l.count;
   count : vec_len l.self.pages ≡ l.counter;
 }

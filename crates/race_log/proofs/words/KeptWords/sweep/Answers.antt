@@ -4,6 +4,7 @@ use Rattle.race_log.specs.Sweep.{uncovered}
 use Rattle.race_log.specs.Words.{kept_in, epoch_counts}
 use Rattle.race_log.proofs.PagesLemmas.{past_word}
 use Rattle.race_log.proofs.SweepLemmas.{page_step}
+use Rattle.race_log.proofs.SizeLemmas.{more_size}
 use Rattle.race_log.proofs.words.KeptWords.sweep.Goals as goal
 
 pub loop-number-preserved : goal.loop-number-preserved
@@ -27,6 +28,7 @@ loop-number-preserved c =
       gone = page_step (λ n. length (kept_in old (4 * n))) (λ n. length (kept_in mid (4 * n))) (λ n. length (kept_in new (4 * n))) k c.loop-number.gone c.sweep_page-gone.result
           i.gone e.gone (λ n low. ap length (e.others (4 * n) (λ same. omega (arith, same, low))))
           (λ n low. ap length (i.left (4 * (64 * k + n)) (omega (arith, low))));
+      size = more_size old mid new i.size e.size;
       room = λ w. e.room w ∙ i.room w;
     }
 

@@ -1,5 +1,5 @@
 use Rattle.std.proofs.Common.{◌≡◌, ◌<◌, ◌≤◌, ◌+◌, ◌*◌, ◌/◌, ℕ, length}
-use Rattle.race_log.specs.Words.{kept_in, has_room}
+use Rattle.race_log.specs.Words.{kept_in, has_room, IsAsLarge}
 use Rattle.race_log.specs.Sweep.{uncovered, held_below}
 use Rattle.race_log.proofs.words.KeptWords.sweep.Given as goal
 
@@ -12,5 +12,6 @@ invariant-loop-number l = record {
   done : (w : ℕ) → w / 256 < l.number → kept_in l.self w ≡ uncovered l.known (kept_in l.fn.self w);
   left : (w : ℕ) → l.number ≤ w / 256 → kept_in l.self w ≡ kept_in l.fn.self w;
   gone : l.gone + held_below (kept_in l.self) (64 * l.number) ≡ held_below (kept_in l.fn.self) (64 * l.number);
+  size : IsAsLarge l.fn.self l.self;
   room : (w : ℕ) → has_room l.self w ≡ has_room l.fn.self w;
 }

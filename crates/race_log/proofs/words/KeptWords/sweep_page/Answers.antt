@@ -1,10 +1,12 @@
-use Rattle.std.proofs.Common.{◌≡◌, ◌∙◌, ◌+◌, ◌*◌, ◌/◌, ◌%◌, ◌==◌, ◌<◌, ℕ, cond, [], List, arith, sym, ap, subst, slice_get, slice_set, length, inl, inr}
+use Rattle.std.proofs.Common.{◌≡◌, ◌∙◌, refl, ◌+◌, ◌*◌, ◌/◌, ◌%◌, ◌==◌, ◌<◌, ℕ, cond, [], List, arith, sym, ap, subst, slice_get, slice_set, length, inl, inr}
 use Rattle.std.proofs.lemmas.Bool.{cases_eq}
+use Rattle.std.proofs.lemmas.List.{length-set}
 use Rattle.race_log.specs.declared.slot.Slot.{Slot}
 use Rattle.race_log.specs.Slots.{word_in, slots_of, IsSettledPage}
 use Rattle.race_log.specs.Sweep.{uncovered}
 use Rattle.race_log.specs.Words.{epoch_counts, place_of}
 use Rattle.race_log.proofs.PagesLemmas.{page_at, page_here, page_there, page_sum, full_set, settled_page_set}
+use Rattle.race_log.proofs.SizeLemmas.{sizes_set, slots_same}
 use Rattle.race_log.proofs.SweepLemmas.{uncovered_where}
 use Rattle.race_log.proofs.words.KeptWords.sweep_page.Goals as goal
 
@@ -16,6 +18,8 @@ invariant_of-self c =
     let was = page_at old.pages.items c.args.number c.index_mut.result.now low c.index_mut.ensures.value in
     let v = c.give_up_page.new.page in
     let len = c.give_up_page.ensures.len in
+    let count = length-set old.pages.items c.args.number v in
+    let slots = slots_same old.pages.items (slice_set old.pages.items c.args.number v) count (sizes_set old.pages.items c.args.number v low (c.give_up_page.ensures.len ∙ sym (ap length was))) in
     record {
       few = old.few;
       few_pages = old.few_pages;
@@ -23,6 +27,8 @@ invariant_of-self c =
           (λ more. len ∙ subst (λ (xs : List Slot). 0 < length xs → length xs ≡ 64 * (old.harts + 1)) was (old.full c.args.number) (omega (arith, more, len))) old.full;
       settled = settled_page_set table old.epochs.next old.pages.items c.args.number v low
           (c.give_up_page.ensures.settled table old.epochs.next old.epochs.first old.epochs.first (subst (IsSettledPage table old.epochs.next) was (old.settled c.args.number))) old.settled;
+      few_epochs = omega (arith, count, slots, old.few_epochs);
+      low_limit = omega (arith, count, slots, old.low_limit);
     }
 
 pub returns-clause-kept : goal.returns-clause-kept
@@ -69,3 +75,15 @@ returns-clause-room c = λ w.
           ∙ (ap length now ∙ (c.give_up_page.ensures.len ∙ (sym (ap length was) ∙ sym (ap (λ n. length (slots_of (slice_get old.pages.items n))) e))))
       | inr far ↦ ap length (page_there old.pages.items c.args.number (w / 256) v far)
     ])
+
+pub returns-clause-size : goal.returns-clause-size
+returns-clause-size c =
+    let old = c.args.self.now in
+    let low : c.args.number < length old.pages.items = omega (arith, c.requires, old.pages.ok) in
+    let was = page_at old.pages.items c.args.number c.index_mut.result.now low c.index_mut.ensures.value in
+    let v = c.give_up_page.new.page in
+    record {
+      pages = length-set old.pages.items c.args.number v;
+      slots = sizes_set old.pages.items c.args.number v low (c.give_up_page.ensures.len ∙ sym (ap length was));
+      epochs = refl;
+    }

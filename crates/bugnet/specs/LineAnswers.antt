@@ -1,0 +1,26 @@
+-- What a line is answered by the files that are loaded for it.
+use Rattle.std.specs.Prelude.{◌≡◌, Some, Result, IfOk}
+use Rattle.bn_outside.specs.Counts.{NoneFell}
+use Rattle.command_words.specs.Words.{Line}
+use Rattle.bugnet.specs.Answers.{refusal_in, IsAnswer}
+use Rattle.bugnet.specs.Asks.{FitsLine}
+use Rattle.bugnet.specs.Laws.{IsReadOnly}
+use Rattle.bugnet.specs.LineCalls.{line_roles, needed_roles, AnswersDemo}
+use Rattle.log_commands.specs.FileCalls.{Note, CallsBy}
+use Rattle.log_commands.specs.Inputs.{Stored}
+use Rattle.log_commands.specs.Names.{FileNames}
+use Rattle.log_commands.specs.Outside.{WithFiles, GivesBy, CauseBy, IsPrinted}
+use Rattle.log_commands.specs.declared.answer.Answer.{Answer}
+use Rattle.log_commands.specs.declared.refusal.Refusal.{Refusal}
+
+-- a store was read only, and this is what the line has to answer, or why it was stopped
+pub record AnswersLine (line : Line) (names : FileNames) (note : Note) (old new : Stored) (result : Result Answer Refusal) : Type 0 where
+  pub told : WithFiles old.files (λ files. GivesBy names (IsAnswer (Some line)) files result)
+  pub same : new.files ≡ old.files
+  pub asks : new.saves ≡ old.saves
+  pub later : NoneFell old.counts new.counts
+  pub cause : CauseBy (refusal_in line) old.counts new.counts result
+  pub calls : CallsBy (refusal_in line) names (line_roles line) (needed_roles line) note old.noted new.noted result
+  pub prints : IsReadOnly (Some line) → IfOk result IsPrinted
+  pub records : IfOk result (FitsLine line)
+  pub demo : AnswersDemo line names result

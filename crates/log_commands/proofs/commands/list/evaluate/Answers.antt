@@ -1,0 +1,18 @@
+use Rattle.std.proofs.Common.{refl}
+use Rattle.std.specs.Prelude.{Ok}
+use Rattle.log_commands.specs.Answering.{Answers}
+use Rattle.log_commands.specs.Commands.{IsByLog, list_of}
+use Rattle.log_commands.specs.SaveCounts.{IsMade}
+use Rattle.log_commands.specs.declared.answer.Answer.TheVariants.{Listed}
+use Rattle.log_commands.proofs.Answering.{passed-on, unread, read}
+use Rattle.log_commands.proofs.commands.list.evaluate.Goals as goal
+
+pub returns-in_err-log : goal.returns-in_err-log
+returns-in_err-log c =
+    passed-on (Answers IsMade (λ names. IsByLog names c.args.log.now list_of)) _ c.from_residual.result c.from_residual.ensures.1
+    (unread IsMade c.args.log.now (λ names. list_of) _ c.in_err-log.ensures.says c.in_err-log.ensures.own)
+
+pub returns : goal.returns
+returns c =
+    read IsMade c.args.log.now c.in_ok-log.log (λ names. list_of) (Ok (Listed c.in_ok-log.log)) c.in_ok-log.ensures.says
+    (record { gives = λ names. refl; own = λ before now. tt; kind = tt })

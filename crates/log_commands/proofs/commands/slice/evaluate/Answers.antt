@@ -1,0 +1,16 @@
+use Rattle.log_commands.specs.SaveCounts.{IsMade}
+use Rattle.log_commands.specs.SliceAnswers.{slice_with}
+use Rattle.log_commands.specs.Answering.{Answers}
+use Rattle.log_commands.specs.Commands.{IsByLog}
+use Rattle.log_commands.specs.Pairs.{pair_of}
+use Rattle.log_commands.proofs.Answering.{passed-on, unpaired-so, paired-so}
+use Rattle.log_commands.proofs.commands.slice.evaluate.Goals as goal
+
+pub returns-in_err-pair : goal.returns-in_err-pair
+returns-in_err-pair c =
+    passed-on (Answers IsMade (λ names. IsByLog names c.args.log.now (pair_of (slice_with names c.args.hart c.args.interval c.args.ic) names c.args.elf.now))) _ c.from_residual.result c.from_residual.ensures.1
+    (unpaired-so IsMade c.args.log.now c.args.elf.now (λ names. slice_with names c.args.hart c.args.interval c.args.ic) _ c.in_err-pair.ensures.is c.in_err-pair.ensures.own)
+
+pub returns : goal.returns
+returns c =
+    paired-so IsMade c.args.log.now c.args.elf.now c.in_ok-pair.pair (λ names. slice_with names c.args.hart c.args.interval c.args.ic) c.slice_of.result c.in_ok-pair.ensures.is c.slice_of.ensures

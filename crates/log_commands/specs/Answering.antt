@@ -1,0 +1,44 @@
+-- What a command makes of the bytes that were loaded, before anything is printed or saved.
+use Rattle.std.specs.Prelude.{◌≡◌, ℕ, List, [], Vec, Result, Ok, Err, IfOk, IfErr}
+use Rattle.std.specs.declared.alloc.Global.{Global}
+use Rattle.bn_outside.specs.Counts.{NoneFell}
+use Rattle.log_commands.specs.FileCalls.{Note, Loads, store_call, LoadsTo, IsOfLoad}
+use Rattle.log_commands.specs.Inputs.{Bytes, Stored, limit_of, IsLoaded, OnlyLoads}
+use Rattle.log_commands.specs.Names.{FileNames, name_of}
+use Rattle.log_commands.specs.Told.{Told, refused}
+use Rattle.log_commands.specs.Outside.{Gives, IsOwn, WithFiles, FetchTells, ResultCause}
+use Rattle.log_commands.specs.declared.answer.Answer.{Answer}
+use Rattle.log_commands.specs.declared.inputs.Inputs.{Inputs}
+use Rattle.log_commands.specs.declared.names.Role.{Role}
+use Rattle.log_commands.specs.declared.refusal.Refusal.{Refusal}
+
+-- whatever the files are named, it is what the command has to answer, or memory ran out; no refusal is by a store, of words, of a
+-- write or of the commands of a session; and what is answered is of this kind
+pub record Answers (Kind : Answer → Type 0) (Is : FileNames → Told → Type 0) (result : Result Answer Refusal) : Type 0 where
+  pub gives : (names : FileNames) → Gives names (Is names) result
+  pub own : IsOwn result
+  pub kind : IfOk result Kind
+
+-- what is loaded decides: a refusal is told, or what the bytes come to
+abbrev pub ByLoads : (Bytes → Told → Type 0) → FileNames → Result Bytes Refusal → Told → Type 0
+ByLoads Is names (Err refusal) what = what ≡ refused names refusal
+ByLoads Is names (Ok bytes) what = Is bytes what
+
+-- ---- the store
+
+-- the file in a role was loaded, or why not; nothing was saved, and no count fell
+pub record Fetches (names : FileNames) (r : Role) (note : Note) (old new : Stored) (result : Result (Vec ℕ Global) Refusal) : Type 0 where
+  pub told : WithFiles old.files (λ files. FetchTells r (limit_of r) (files (name_of names r)) result)
+  pub same : new.files ≡ old.files
+  pub asks : new.saves ≡ old.saves
+  pub later : NoneFell old.counts new.counts
+  pub cause : ResultCause old.counts new.counts result
+  pub called : new.noted ≡ note old.noted (store_call names (Loads r))
+  pub stops : IfErr result (IsOfLoad r)
+
+-- the files in these roles were loaded, in this order, up to the first that was refused, and nothing else was done
+pub record LoadsAll (names : FileNames) (roles : List Role) (note : Note) (old new : Stored) (result : Result Inputs Refusal) : Type 0 where
+  pub loads : WithFiles old.files (λ files. IsLoaded names roles files result)
+  pub only : OnlyLoads old new result
+  pub calls : LoadsTo names roles note old.noted new.noted result
+  pub none : roles ≡ [] → IfErr result (λ refusal. ⊥)

@@ -1,0 +1,75 @@
+//! The store and the outputs as the commands use them. What a store or an output tells is one value each, and
+//! every `Store` and `Sink` has these methods.
+
+use crate::inputs::{fetch, limit_of};
+use crate::names::{Names, Role};
+use crate::new_log::save_new;
+use crate::refusal::Refusal;
+use crate::send::{refuse, send_bytes};
+use bn_outside::{Sink, Store};
+use std::alloc::Global;
+
+/// A store, by the roles of its files.
+pub trait StoreExt {
+    ghost use Rattle.std.specs.Prelude.{ℕ};
+    ghost use Rattle.bn_outside.specs.StoreCalls.{StoreCall};
+    ghost use Rattle.log_commands.specs.Answering.{Fetches};
+    ghost use Rattle.log_commands.specs.Inputs.{Stored};
+    ghost use Rattle.log_commands.specs.KeptNew.{SavesNew};
+
+    /// What the store tells.
+    ghost stored: { Self → Stored };
+
+    /// How it notes a call.
+    ghost note: { ℕ → StoreCall → ℕ };
+
+    /// The bytes of the file in a role.
+    fn fetch(&mut self, alloc: Global, names: &Names, role: Role) -> Result<Vec<u8>, Refusal>
+        ensures { Fetches names.now role note (stored self.old) (stored self.new) result };
+
+    /// Saves the file of a log that was made of another.
+    fn save_new(&mut self, names: &Names, file: &[u8]) -> Result<(), Refusal>
+        ensures { SavesNew names.now file.now note (stored self.old) (stored self.new) result };
+}
+
+impl<S: Store> StoreExt for S {
+    ghost stored = { λ s. record { files = S.files s; saves = S.saves s; counts = S.counts s; noted = S.noted s } };
+
+    ghost note = { S.note };
+
+    fn fetch(&mut self, alloc: Global, names: &Names, role: Role) -> Result<Vec<u8>, Refusal> {
+        fetch(alloc, names, self, role, limit_of(role))
+    }
+
+    fn save_new(&mut self, names: &Names, file: &[u8]) -> Result<(), Refusal> {
+        save_new(self, names, file)
+    }
+}
+
+/// An output.
+pub trait SinkExt {
+    ghost use Rattle.log_commands.specs.Outside.{Stream, Sends, Always, Refuses};
+
+    /// What it was given, where it tells that, and how often a write failed.
+    ghost stream: { Self → Stream };
+
+    /// Sends bytes.
+    fn send_bytes(&mut self, bytes: &[u8]) -> Result<(), Refusal>
+        ensures { Sends bytes.now Always (stream self.old) (stream self.new) result };
+
+    /// Tells a refusal, and answers its status; 9 where its line finds no memory.
+    fn refuse(&mut self, alloc: Global, names: &Names, refusal: &Refusal) -> u8
+        ensures { Refuses names.now refusal.now result (stream self.old) (stream self.new) };
+}
+
+impl<K: Sink> SinkExt for K {
+    ghost stream = { λ k. record { text = K.written k; faults = K.faults k } };
+
+    fn send_bytes(&mut self, bytes: &[u8]) -> Result<(), Refusal> {
+        send_bytes(self, bytes)
+    }
+
+    fn refuse(&mut self, alloc: Global, names: &Names, refusal: &Refusal) -> u8 {
+        refuse(alloc, names, refusal, self)
+    }
+}
