@@ -20,7 +20,13 @@ runs() { # STATUS WORD..
 
 has() { grep -qF -- "$2" "$work/$1" || fails "no '$2' in $1"; }                # FILE TEXT
 equals() { cmp -s -- "$1" "$2" || fails "$1 and $2 differ: $(diff "$1" "$2" | head -n 5)"; } # FILE FILE
-skips() { echo "tests/${0##*/}: not tried: $1"; }                              # TEXT
+skips() { echo "skipped: $1"; }                                                # TEXT
+
+# Ends a script that can try nothing here.
+end_skipped() { # TEXT
+    skips "$1"
+    exit 77
+}
 
 # Ends the script.
 end() {

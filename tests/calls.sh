@@ -13,6 +13,7 @@ joint) cat && exit 12 ;;
 esac
 echo "began $$" >>"$RT_CALLS"
 [ -z "${SLEEPS-}" ] || exec sleep "$SLEEPS"
+[ -z "${UNTIL-}" ] || until [ -e "$UNTIL" ]; do sleep 0.05; done
 [ -z "${KILLED-}" ] || kill -s "$KILLED" $$
 [ -z "${WAITS-}" ] || sleep "$WAITS"
 [ "$1" != record ] || printf "${INTERVALS-}" >"$3"
@@ -66,16 +67,20 @@ has err "^zelkuma: note: LOG doesn't hold any interval; recorded with --format 2
 STATUS=11 runs 11 "$zelkuma" record ELF /dev/null BOOK
 hasnt err zelkuma
 
-# Runs a call in the background, sends it a signal once the program has begun, and says whether the program is gone.
+# Runs a call in the background, sends it a signal once the program has begun, and says so if the program stays.
 signals() { # SIGNAL WORD..
     # (a call in the background would not hear INT, but for -m)
-    bash -c "set -m; \"\${@:2}\" & $began; kill -s \$1 \$!; wait \$!; status=\$?; sleep 0.2
-        grep -q '^State:.[^Z]' /proc/\$(sed -n 's/^began //p' \"\$RT_CALLS\")/status && echo alive
+    bash -c "set -m; \"\${@:2}\" & $began; kill -s \$1 \$!; wait \$!; status=\$?
+        for try in {1..400}; do
+            grep -q '^State:.[^Z]' /proc/\$(sed -n 's/^began //p' \"\$RT_CALLS\")/status || exit \$status
+            sleep 0.05
+        done
+        echo alive
         exit \$status" bash "$@"
 }
 
 what="signals"
-export SLEEPS=20
+export SLEEPS=100
 for signal in HUP INT QUIT TERM USR1 ALRM; do
     runs $((128 + $(kill -l "$signal"))) signals "$signal" "$zelkuma" list2 LOG
     hasnt out alive
@@ -109,21 +114,25 @@ answer='<record><ELF><LOG><BOOK>\\r'$'\n''a line of err\\r'$'\n''status 0'
 answer_of_replay='a line of err\\r'$'\n''status 0'
 line='\\r\\e\[Kzelkuma: [0-9]+ s, [0-9]+ MB of memory; Ctrl-C stops it'
 clear='\\r\\e\[K'
+# (a run that has to be shown lasts until it is, and one that isn't to be shown lasts longer than it takes to show one)
 export WAITS=3.5
 : >"$calls"
-at_terminal long "$zelkuma" record ELF LOG BOOK &
-at_terminal stopped --stop-at " s, " env SLEEPS=20 WAITS= "$zelkuma" record ELF LOG BOOK &
+at_terminal long --touch-at " s, " seen_long env UNTIL=seen_long WAITS= "$zelkuma" record ELF LOG BOOK &
+at_terminal stopped --stop-at " s, " env SLEEPS=100 WAITS= "$zelkuma" record ELF LOG BOOK &
 at_terminal no_terminal bash -c '"$0" record ELF LOG BOOK 2>/dev/null' "$zelkuma" &
 at_terminal err_in_file bash -c '"$0" record ELF LOG BOOK 2>err_in_file' "$zelkuma" &
 at_terminal dumb env TERM=dumb "$zelkuma" record ELF LOG BOOK &
 at_terminal behind bash -c 'set -m; "$0" record ELF LOG BOOK & wait $!' "$zelkuma" &
-at_terminal file bash -c '"$0" replay LOG ELF 0 0 >rows' "$zelkuma" &
+at_terminal file --touch-at " s, " seen_file env UNTIL=seen_file WAITS= bash -c '"$0" replay LOG ELF 0 0 >rows' "$zelkuma" &
 at_terminal pipe bash -c 'set -o pipefail; "$0" replay LOG ELF 0 0 | cat' "$zelkuma" &
 wait
+SECONDS=0
 WAITS='' at_terminal short "$zelkuma" record ELF LOG BOOK
+late=
+[ "$SECONDS" -lt 2 ] || late="(($line, and nothing is saved\\\\r)+$clear)?" # on a machine with other work
 
 what="a terminal"
-shows short "$answer"
+shows short "$late$answer"
 shows long "($line, and nothing is saved\\\\r)+$clear$answer"
 shows stopped "($line, and nothing is saved\\\\r)+\\^C$clear"$'\n''?status 130'
 shows no_terminal '<record><ELF><LOG><BOOK>\\r'$'\n''status 0'

@@ -1,9 +1,11 @@
 #!/usr/bin/env bash
 # Tries the companions: tests/companions.sh [PROGRAM [CASE..]]. Without PROGRAM it is the one that the companions find
 # by themselves. A case is a file of tests/companions; without one all are run, as many side by side as there are
-# processors. Each says what it skips, and why. The last line is 'N passed, N failed'.
+# processors. Each says what it skips, and why. The last line is 'N passed, N failed, N skipped'.
 set -u
+. "$(dirname "$0")/fresh_start.sh"
 top=$(cd "$(dirname "$0")/.." && pwd)
+type -P python3 >/dev/null || { echo "skipped: python3 isn't here" && exit 77; }
 program=${1:-$(cd "$top/companion" && python3 -B -c 'import program; print(program.path())' 2>/dev/null)}
 [ -x "$program" ] || { echo "companions: there is no program ${program:-in this repository}" >&2; exit 1; }
 ZELKUMA_PROGRAM=$(readlink -f "$program")
@@ -11,14 +13,14 @@ export ZELKUMA_PROGRAM
 [ $# -gt 0 ] && shift
 work=$(mktemp -d)
 trap 'rm -rf "$work"' EXIT
-passed=0 failed=0
+passed=0 failed=0 skipped=0
 
-# Runs a case; what it says and its status are kept.
+# Runs a case; what it says and its status are kept. (A job in the background begins with signals ignored.)
 runs() { # CASE
     local name run=(bash)
     name=$(basename "$1")
     [ "${name##*.}" != py ] || run=(python3)
-    "${run[@]}" "$1" >"$work/$name.said" 2>&1
+    bash "$top/tests/fresh_start.sh" "${run[@]}" "$1" >"$work/$name.said" 2>&1
     echo $? >"$work/$name.status"
 }
 
@@ -29,11 +31,12 @@ counts() { # CASE
     status=$(<"$work/$name.status")
     echo "== $name"
     cat "$work/$name.said"
-    if [[ $(tail -n 1 "$work/$name.said") =~ ^([0-9]+)\ passed,\ ([0-9]+)\ failed$ ]]; then
+    skipped=$((skipped + $(grep -c '^skipped' "$work/$name.said")))
+    if [[ $(tail -n 1 "$work/$name.said") =~ ^([0-9]+)\ passed,\ ([0-9]+)\ failed(, [0-9]+ skipped)?$ ]]; then
         passed=$((passed + BASH_REMATCH[1]))
         failed=$((failed + BASH_REMATCH[2] + (status != 0 && BASH_REMATCH[2] == 0)))
     elif [ "$status" -eq 0 ]; then
-        passed=$((passed + 1))
+        [[ $(tail -n 1 "$work/$name.said") == skipped* ]] || passed=$((passed + 1))
     else
         failed=$((failed + 1))
     fi
@@ -54,5 +57,5 @@ wait
 for case in "${cases[@]}"; do
     counts "$case"
 done
-echo "$passed passed, $failed failed"
+echo "$passed passed, $failed failed, $skipped skipped"
 [ "$failed" -eq 0 ] && [ "$passed" -gt 0 ]

@@ -19,6 +19,8 @@ import subprocess
 import sys
 import tempfile
 
+import fresh_start
+
 TOP = os.path.dirname(os.path.dirname(os.path.realpath(__file__)))
 END = "\x01"
 
@@ -38,7 +40,7 @@ def is_run(before, name):
     before = before.rstrip()
     needs = re.search(r"<!-- needs (\S+) -->$", before)
     if needs and not shutil.which(needs[1]) and not os.path.exists(needs[1]):
-        print(f"{name}: skipped, since there is no {needs[1]}: line {before.count(chr(10)) + 2}")
+        print(f"skipped: the example at line {before.count(chr(10)) + 2} of {name}: there is no {needs[1]}")
         return False
     return not before.endswith("<!-- not run -->")
 
@@ -80,7 +82,7 @@ def printed_by(commands, program, room):
     shutil.copy(f"{TOP}/LICENSE", f"{room}/top")
     script = "".join(f"{it.replace('/tmp/', f'{room}/tmp/')}__status=$?; echo '{END}'; (exit $__status)\n" for it in commands)
     how = {"cwd": f"{room}/top", "stdin": subprocess.DEVNULL, "stdout": subprocess.PIPE, "stderr": subprocess.STDOUT}
-    ran = subprocess.run(["bash", "-c", script], **how, timeout=900)
+    ran = subprocess.run(["bash", "-c", script], **how, timeout=7200)
     said = ran.stdout.decode(errors="replace").replace(f"{room}/tmp/", "/tmp/")
     return said.split(f"{END}\n")[:-1]
 

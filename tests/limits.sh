@@ -3,6 +3,7 @@
 # system sets to a process's files, and saves over files that were loaded: tests/limits.sh PROGRAM. The long files take
 # no room on the disk. BOOK takes a gigabyte of memory for two seconds.
 set -u
+. "$(dirname "$0")/fresh_start.sh"
 top=$(cd "$(dirname "$0")/.." && pwd)
 program=$(readlink -f "$1")
 work=$(mktemp -d)

@@ -1,7 +1,12 @@
 #!/usr/bin/env bash
 # Runs all scripts of the gate on a program, side by side: tests/quick.sh [PROGRAM], the shipped one unless another is
-# named. It takes a minute or two, and needs no toolchain. The last line is 'N passed, N failed'.
+# named. It needs no toolchain, and takes one to two minutes on four processors.
+#
+# Each script runs to its end. All that a failed one said is shown, and of the others what they skipped, and why. The last
+# line is 'N passed, N failed, N skipped', of scripts: one is skipped if it can try nothing on this machine (status 77).
+# However it is started, it passes: tests/fresh_start.sh.
 set -u
+. "$(dirname "$0")/fresh_start.sh"
 top=$(cd "$(dirname "$0")/.." && pwd)
 program=${1-"$top/release/zelkuma-x86_64-linux"}
 work=$(mktemp -d)
@@ -12,28 +17,37 @@ scripts=()
 tries() { # SCRIPT WORD..
     local kept=$work/${#scripts[@]}
     scripts+=("$1")
+    if [[ $1 == *.py ]] && ! type -P python3 >/dev/null; then
+        echo "skipped: python3 isn't here" >"$kept.said"
+        echo "status 77, 0 s" >"$kept.status"
+        return
+    fi
     {
         "$@" >"$kept.said" 2>&1
         echo "status $?, $SECONDS s" >"$kept.status"
     } &
 }
 
-# Says how each has ended, and all that one said that failed.
+# Says how each has ended, with what is to be known of it.
 tell() {
-    local place status failed=0
+    local place status passed=0 failed=0 skipped=0
     for place in "${!scripts[@]}"; do
         status=$(<"$work/$place.status")
-        if [[ $status == "status 0,"* ]]; then
-            echo "passed: ${scripts[place]},${status#*,}"
-        else
+        case $status in
+        "status 0,"*) echo "passed: ${scripts[place]},${status#*,}" && passed=$((passed + 1)) ;;
+        "status 77,"*) echo "skipped: ${scripts[place]}" && skipped=$((skipped + 1)) ;;
+        *)
             cat "$work/$place.said"
             echo "failed: ${scripts[place]}, $status"
             failed=$((failed + 1))
-        fi
+            continue
+            ;;
+        esac
+        sed -n 's/^skipped/    &/p' "$work/$place.said"
     done
     echo "not shown: the proofs, the mutants that have to be refused, the tests and cases in Rattle ('rt ci')," \
         "and that the shipped program is what these sources give ('tests/release.sh', after a build)"
-    echo "$((${#scripts[@]} - failed)) passed, $failed failed"
+    echo "$passed passed, $failed failed, $skipped skipped"
     [ "$failed" -eq 0 ]
 }
 
@@ -41,6 +55,7 @@ tell() {
 [ -x "$program" ] || { echo "tests/quick.sh: there is no program $program" >&2 && exit 1; }
 program=$(readlink -f "$program")
 cd "$top" || exit 1
+tries tests/started.sh
 tries tests/zelkuma.sh
 tries tests/shipped.sh
 tries tests/calls.sh

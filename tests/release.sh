@@ -1,7 +1,8 @@
 #!/usr/bin/env bash
 # Compares the shipped program with the one that was just built from these sources: tests/release.sh
-# It fails if they differ. A program that another kit made is not compared, since kits may compile otherwise.
+# It fails if they differ, but for a kit that release/STAMP doesn't name: that may compile otherwise, and it is told.
 set -u
+. "$(dirname "$0")/fresh_start.sh"
 top=$(cd "$(dirname "$0")/.." && pwd)
 
 name=tests/release.sh cpu=
@@ -13,10 +14,10 @@ renew="tools/release.sh renews release/"
 reason=
 is_shipped "$(sources)" || stop 1 "$reason; $renew"
 kit=$(kit) || stop 1 "there is no command rt here"
-if [ "$kit" != "$(stamped "$shipped_stamp" kit)" ]; then
-    echo "not compared: the shipped program was made by $(stamped "$shipped_stamp" kit), and $kit is here"
-elif [ "$(sha256sum <"$built")" = "$(sha256sum <"$shipped")" ]; then
-    echo "the shipped program is the one that was built, byte for byte"
+if cmp -s "$built" "$shipped"; then
+    echo "the shipped program is the one that $kit has built, byte for byte"
+elif is_named "$kit"; then
+    stop 1 "the shipped program is not the one that $kit has built; $renew"
 else
-    stop 1 "the shipped program is not the one that was built; $renew"
+    echo "note: $kit has built another program than the shipped one, and release/STAMP doesn't name this kit"
 fi

@@ -41,9 +41,10 @@ runs 2 "$tree/tools/release.sh" a
 runs 0 "$tree/tools/release.sh"
 cmp -s "$shipped" "$built" || fails "it isn't the program that was built"
 [ -x "$shipped" ] || fails "it can't be executed"
-grep -qx "kit rattle-kit-13f logic 0" "$stamp" || fails "the stamp has no kit"
+[ "$(grep ^kit "$stamp")" = "kit rattle-kit-13f logic 0
+kit rattle-kit-13b" ] || fails "the stamp names other kits"
 runs 0 "$tree/tests/release.sh"
-has out "is the one that was built, byte for byte"
+has out "the shipped program is the one that rattle-kit-13f logic 0 has built, byte for byte"
 
 what="a clone, on a machine with the tools that each has"
 rm -r "$tree/crates/bugnet_main/out"
@@ -188,16 +189,30 @@ runs 0 "$tree/tests/release.sh"
 runs 5 "$zelkuma" list LOG
 builds_nothing
 
-what="another program by the same kit"
-echo "# another" >>"$built"
-runs 1 "$tree/tests/release.sh"
-has err "the shipped program is not the one that was built; tools/release.sh renews release/"
+# The gate's comparison, by a kit.
+compares_by() { # STATUS KIT
+    echo "$2" >"$work/kit/named"
+    runs "$1" "$tree/tests/release.sh"
+}
 
-what="another kit"
-echo "rattle-kit-99 logic 0" >"$work/kit/named"
-runs 0 "$tree/tests/release.sh"
-has out "not compared: the shipped program was made by rattle-kit-13f logic 0, and rattle-kit-99 logic 0 is here"
+what="the same program by another kit"
+for kit in "rattle-kit-13b logic 7" "rattle-kit-99 logic 0"; do
+    compares_by 0 "$kit"
+    has out "the shipped program is the one that $kit has built, byte for byte"
+done
+
+what="another program"
+echo "# another" >>"$built"
+for kit in "rattle-kit-13f logic 0" "rattle-kit-13b logic 7"; do
+    compares_by 1 "$kit"
+    has err "the shipped program is not the one that $kit has built; tools/release.sh renews release/"
+done
+for kit in "rattle-kit-99 logic 0" "rattle-kit-13f logic 1" "rattle-kit-13"; do
+    compares_by 0 "$kit"
+    has out "note: $kit has built another program than the shipped one, and release/STAMP doesn't name this kit"
+done
 path=$without runs 1 "$tree/tests/release.sh"
+echo "rattle-kit-13f logic 0" >"$work/kit/named"
 
 what="a program that is older than a source"
 touch -d '1 hour ago' "$built"

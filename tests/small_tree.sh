@@ -1,8 +1,7 @@
 # A small tree with the script zelkuma, and a toolchain that only seems to prove and build, for the tests of the script.
 # Read by these; each sets `what` to what it tries next.
 set -u
-# A shell that begins with a signal ignored, as under nohup, never meets it: the calls that are stopped here have to.
-[ -n "${MEETS_SIGNALS:-}" ] || MEETS_SIGNALS=1 exec env --default-signal=HUP,INT,TERM "$0" "$@"
+. "$(dirname "$0")/fresh_start.sh"
 top=$(cd "$(dirname "$0")/.." && pwd)
 work=$(mktemp -d)
 trap 'rm -rf "$work"' EXIT
@@ -13,7 +12,7 @@ export RT_CALLS=$calls TMPDIR=$work/temporary
 
 # What the script may need of the system, and nothing else: so no other rt is found.
 mkdir -p "$work/system" "$work/kit/bin" "$TMPDIR" "$tree"
-for name in awk bash basename cat chmod cp cut dirname env find flock grep install ln mkdir nproc od readlink rm \
+for name in awk bash basename cat chmod cmp cp cut dirname env find flock grep install ln mkdir nproc od readlink rm \
     sed setsid sh sha256sum sleep sort stat tail touch tr wc xargs; do
     ln -s "$(type -P "$name")" "$work/system/$name"
 done
@@ -52,6 +51,7 @@ for it in "${libraries[@]}"; do
     [[ $it != *=*/a\ tree/* || $(cat "${it#*=}/format") == "$(text "../${it%%=*}")" ]] || { echo "error: ${it%%=*} isn't built" && exit 1; }
 done
 sleep "${RT_SLEEP:-0}"
+while [ -e "${RT_HOLD:-/nowhere}" ]; do sleep 0.05; done
 echo "fn $crate::quiet: proved"
 text | grep -q wrong && echo "fn $crate::loud: not proved" && exit 1
 if [ "$crate" = bugnet_main ]; then
@@ -80,7 +80,7 @@ touch "$work/kit/c/"lib{os,libc}_c.a "$work/kit/rattle/logic/antt-project.json"
 
 mkdir "$tree/tests"
 cp -r "$top/zelkuma" "$top/tools" "$top/man" "$top/completion" "$tree"
-cp "$top/tests/release.sh" "$tree/tests"
+cp "$top"/tests/{release,fresh_start}.sh "$tree/tests"
 cat >"$tree/crates.txt" <<'END'
 # a comment
 low: clap

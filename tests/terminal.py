@@ -1,24 +1,25 @@
 #!/usr/bin/env python3
 """Runs words at a terminal of their own, and prints what it shows, with escapes as \\e and returns as \\r.
 
-tests/terminal.py [--stop-at TEXT] WORD..
+tests/terminal.py [--stop-at TEXT | --touch-at TEXT FILE] WORD..
 
-When the terminal shows TEXT, Ctrl-C is typed. The status is that of the words, 128 and the signal if one killed them.
+When the terminal shows TEXT, Ctrl-C is typed, or FILE is made. The status is that of the words, 128 and the signal if one killed them.
 """
 import os
 import pty
-import signal
 import sys
+
+import fresh_start
 
 
 def main(words):
-    stop_at = None
+    awaited, file = None, None
     if words[:1] == ["--stop-at"]:
-        stop_at, words = words[1].encode(), words[2:]
+        awaited, words = words[1].encode(), words[2:]
+    elif words[:1] == ["--touch-at"]:
+        awaited, file, words = words[1].encode(), words[2], words[3:]
     process, terminal = pty.fork()
     if process == 0:
-        # a program begins with signals ignored if its caller does
-        signal.signal(signal.SIGINT, signal.SIG_DFL)
         os.environ["TERM"] = "xterm"
         os.execvp(words[0], words)
     shown = b""
@@ -30,9 +31,12 @@ def main(words):
         if not got:
             break
         shown += got
-        if stop_at is not None and stop_at in shown:
-            os.write(terminal, b"\x03")
-            stop_at = None
+        if awaited is not None and awaited in shown:
+            if file is None:
+                os.write(terminal, b"\x03")
+            else:
+                open(file, "w").close()
+            awaited = None
     status = os.waitpid(process, 0)[1]
     print(shown.decode(errors="replace").replace("\x1b", "\\e").replace("\r", "\\r"), end="")
     return 128 + os.WTERMSIG(status) if os.WIFSIGNALED(status) else os.WEXITSTATUS(status)

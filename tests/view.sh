@@ -4,6 +4,7 @@
 # tests/view.sh [PROGRAM [PICTURE]]: PROGRAM is that of ZELKUMA_PROGRAM, else the one that was built here.
 # Without Chromium, or without the compiler that gives the example its names, nothing is made.
 set -eu
+. "$(dirname "$0")/fresh_start.sh"
 top=$(cd "$(dirname "$0")/.." && pwd)
 export ZELKUMA_PROGRAM=${1:-${ZELKUMA_PROGRAM:-$top/crates/bugnet_main/out/bugnet_main}}
 picture=${2:-$top/docs/view.png}

@@ -181,25 +181,27 @@ hasnt calls "for x86-64-v3"
 hasnt err x86-64-v3
 ! grep -q "for x86-64-v3" "$tree/crates/bugnet_main/out/bugnet_main" || fails "another call runs it"
 
-# (no fixed times here, since the machine may be busy: what is waited for is that the toolchain begins)
+# (no fixed times here, since the machine may be busy: what is waited for is that the toolchain begins, and it lasts until
+# it is told to end)
 begins='until grep -q ^proves "$RT_CALLS"; do sleep 0.05; done'
+export RT_HOLD=$work/hold
 
 what="two calls at once"
 echo "changed again" >"$source"
 : >"$calls"
-export RT_SLEEP=0.5
+: >"$RT_HOLD"
 PATH=$path "$zelkuma" list one >"$work/one" 2>"$work/one_err" &
-one=$!
 eval "$begins"
-PATH=$path "$zelkuma" list two >"$work/out" 2>"$work/err"
-wait "$one"
+PATH=$path "$zelkuma" list two >"$work/out" 2>"$work/err" &
+until grep -q "waiting for another call" "$work/err"; do sleep 0.05; done
+rm "$RT_HOLD"
+wait
 answers list two
-has err "waiting for another call"
 [ "$(cat "$work/one")" = "words: list one" ] || fails "the first has no answer"
 [ "$(grep -c "^proves mid" "$calls")" -eq 1 ] || fails "both built"
 
 what="a call that is stopped"
-export RT_SLEEP=3
+: >"$RT_HOLD"
 for signal in TERM HUP INT; do
     echo "changed by $signal" >"$source"
     # (a call in the background would not hear INT, but for -m)
@@ -210,9 +212,8 @@ for signal in TERM HUP INT; do
         ! grep -q '^State:.[^Z]' "/proc/$process/status" 2>/dev/null || fails "the toolchain went on"
     done
 done
-export RT_SLEEP=0.2
 runs 137 bash -c "\"\$0\" list LOG & $begins; kill -s KILL \$!; wait \$!" "$zelkuma"
-unset RT_SLEEP
+rm "$RT_HOLD"
 runs 5 "$zelkuma" list LOG
 builds
 answers list LOG

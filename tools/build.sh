@@ -4,9 +4,6 @@
 # It calls the compiler itself, and not `rt lib`, since that locks the folders of the crates below: in one tree two of its
 # calls would wait for each other. It also has each library keep its statements alone, which those above it read faster.
 
-# the kits by which it was proved and built
-kits='rattle-kit-13f rattle-kit-13b'
-
 # How many crates to prove side by side: one a processor. A proof takes up to some 3 GB.
 lanes() {
     {

@@ -7,6 +7,17 @@ stamp=$folder/out/zelkuma.stamp
 shipped=$top/release/zelkuma-x86_64-linux
 shipped_stamp=$top/release/STAMP
 
+# the kits by which it was proved and built
+kits='rattle-kit-13f rattle-kit-13b'
+
+# The known kits but one.
+other_kits() { # KIT
+    local it
+    for it in $kits; do
+        [ "$it" = "${1%% *}" ] || echo "$it"
+    done
+}
+
 # The crates that the program is made from, lowest first: NAME: LIBRARY.. : WORDS, of crates.txt.
 crates() {
     awk -F: '
@@ -43,8 +54,10 @@ kit() {
 
 # What a program was made from, as a stamp says it. Times would not do: a file that was written again may have the
 # same contents, and one of another branch may be old.
-made() { # SOURCES KIT PROGRAM
-    printf 'sources %s\nkit %s\nprogram %s\n' "$1" "$2" "$(sha256sum <"$3" | cut -d ' ' -f 1)"
+made() { # SOURCES KIT PROGRAM [KIT..]
+    printf 'sources %s\n' "$1"
+    printf 'kit %s\n' "$2" "${@:4}"
+    printf 'program %s\n' "$(sha256sum <"$3" | cut -d ' ' -f 1)"
 }
 
 # What a stamp says behind a word.
@@ -63,13 +76,22 @@ is_fresh() { # SOURCES
     [ "$(made "$1" "$kit" "$built")" = "$(<"$stamp")" ]
 }
 
+# Whether a kit is one that the stamp of release/ names: those have to build the shipped program, byte for byte.
+is_named() { # KIT
+    local named
+    while read -r named; do
+        [[ "$1 " != "$named "* ]] || return 0
+    done < <(stamped "$shipped_stamp" kit)
+    return 1
+}
+
 # Whether the shipped program is that of these sources. If it isn't, `reason` says why.
 is_shipped() { # SOURCES
     if [ ! -f "$shipped" ] || [ ! -f "$shipped_stamp" ]; then
         reason="there is no shipped program in release/"
     elif [ "$(stamped "$shipped_stamp" sources)" != "$1" ]; then
         reason="the sources have changed since release/ was made"
-    elif [ "$(made "$1" "$(stamped "$shipped_stamp" kit)" "$shipped")" != "$(<"$shipped_stamp")" ]; then
+    elif [ "$(stamped "$shipped_stamp" program)" != "$(sha256sum <"$shipped" | cut -d ' ' -f 1)" ]; then
         reason="release/${shipped##*/} isn't the file that its stamp says"
     else
         [ -x "$shipped" ] || stop 1 "release/${shipped##*/} can't be executed here: look at its mode, and how the disk is mounted"
