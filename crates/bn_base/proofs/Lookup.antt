@@ -1,10 +1,10 @@
 -- Where an address is, among parts that stand apart.
-use Rattle.std.proofs.Common.{arith, ◌≡◌, ◌≤◌, ◌<◌, ◌+◌, ◌-◌, ◌*◌, ◌/◌, ◌%◌, ℕ, zero, suc, Bool, true, false, List, [], ◌∷◌, length, slice_index_or, refl, sym, ap, subst, inl, inr, ◌∙◌, ◌⊎◌, leb, leb-true, leb-false}
+use Rattle.std.proofs.Common.{arith, ◌≡◌, ◌≤◌, ◌<◌, ◌+◌, ◌-◌, ◌*◌, ◌/◌, ◌%◌, ℕ, zero, suc, Bool, true, false, List, [], ◌∷◌, length, slice_index_or, refl, sym, ap, subst, inl, inr, ◌∙◌, ◌⊎◌, max, leb, leb-true, leb-false}
 use Rattle.std.specs.List.Sorted.{IsNonDecreasingBy, IsPartitionPoint}
 use Rattle.std.proofs.lemmas.Bool.{cases_lt}
 use Rattle.std.proofs.Math.Nat.{eq-or-lt_of_le}
-use Rattle.std.specs.Prelude.{Some, None}
-use Rattle.bn_base.specs.Programs.{Part, AreApart, end_of, is_in, part_or, part_at, highest_end}
+use Rattle.std.specs.Prelude.{◌&&◌, Some, None}
+use Rattle.bn_base.specs.Programs.{Part, Program, AreApart, end_of, is_in, part_or, part_at, highest_end, is_writable, read_only_end, may_load, may_store}
 
 pub out_low : (p : Part) (a : ℕ) → a < p.first → is_in p a ≡ false
 out_low p a h = grind arith
@@ -131,3 +131,22 @@ pub at_any : (ps : List Part) (k a : ℕ) (b : Bool) (p d : Part) → p ≡ slic
 at_any [] k a b p d e below h = grind arith
 at_any (q ∷ ps) zero a b p d e below h = subst (λ (x : Part). is_in x a ≡ b) e h
 at_any (q ∷ ps) (suc k) a b p d e below h = at_any ps k a b p d e (omega (arith, below)) h
+
+-- no read-only part has an address past the end of the last one
+writable_here : (p : Part) (ps : List Part) (a : ℕ) (here w : Bool) → is_in p a ≡ here → p.writable ≡ w → read_only_end (p ∷ ps) ≤ a
+    → (read_only_end ps ≤ a → is_writable (part_at ps a) ≡ true) → is_writable (part_at (p ∷ ps) a) ≡ true
+writable_here p ps a true true here w from later = ap is_writable (part_at-in p ps a here) ∙ w
+writable_here p ps a true false here w from later = grind arith
+writable_here p ps a false true here w from later = ap is_writable (part_at-out p ps a here) ∙ later (rw w at from)
+writable_here p ps a false false here w from later = ap is_writable (part_at-out p ps a here) ∙ later (let f : max (end_of p) (read_only_end ps) ≤ a = rw w at from in omega (arith, f))
+
+pub writable_past : (ps : List Part) (a : ℕ) → read_only_end ps ≤ a → is_writable (part_at ps a) ≡ true
+writable_past [] a from = refl
+writable_past (p ∷ ps) a from = writable_here p ps a (is_in p a) p.writable refl refl from (writable_past ps a)
+
+-- so a mapped address past it may be stored to
+pub stored_past : (i : Program) (a : ℕ) → may_load i a ≡ true → read_only_end i.parts ≤ a → may_store i a ≡ true
+stored_past i a mapped past = ap (λ (b : Bool). b && is_writable (part_at i.parts a)) mapped ∙ writable_past i.parts a past
+
+pub is_leb : (m n : ℕ) → m ≤ n → leb m n ≡ true
+is_leb m n h = grind arith

@@ -92,6 +92,11 @@ abbrev pub highest_end : List Part → ℕ
 highest_end [] = 0
 highest_end (p ∷ ps) = max (end_of p) (highest_end ps)
 
+-- the end of the last read-only part, 0 if there is none
+abbrev pub read_only_end : List Part → ℕ
+read_only_end [] = 0
+read_only_end (p ∷ ps) = elim p.writable [ true ↦ read_only_end ps | false ↦ max (end_of p) (read_only_end ps) ]
+
 -- the heap begins at the first page after the highest part
 abbrev pub heap_start : Program → ℕ
 heap_start i = (highest_end i.parts + 4095) / 4096 * 4096

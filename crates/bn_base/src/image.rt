@@ -5,7 +5,7 @@ ghost use Rattle.std.specs.Cmp.{and_per, on_per};
 ghost use Rattle.std.specs.Cmp.Lexicographic.{lists_per};
 ghost use Rattle.std.specs.Cmp.Rules.{comparing};
 ghost use Rattle.std.proofs.Common.{rules};
-ghost use Rattle.bn_base.specs.Programs.{Program, AreApart, is_in, is_writable, part_at, highest_end, code_at, first_at, may_load, may_store, heap_start, heap_limit};
+ghost use Rattle.bn_base.specs.Programs.{Program, AreApart, is_in, is_writable, part_at, highest_end, read_only_end, code_at, first_at, may_load, may_store, heap_start, heap_limit};
 ghost use Rattle.bn_base.specs.Compared.{same_part, same_program};
 
 use crate::Addr;
@@ -23,16 +23,33 @@ pub struct Image {
     entry: Addr,
     memory: u32,
     harts: u8,
+    // Most stores go past the last read-only segment: one comparison spares them the look-up.
+    writable_from: u64,
 }
 
 impl Model for Image {
-    ghost use Rattle.bn_base.specs.Programs.{Program, IsProgram};
+    ghost use Rattle.std.specs.Prelude.{◌≡◌};
+    ghost use Rattle.bn_base.specs.Programs.{Program, IsProgram, read_only_end};
 
     ghost Value = { Program };
 
     ghost view = { λ i. record { parts = i.segments.items; entry = i.entry; memory = i.memory; harts = i.harts } };
 
-    ghost invariant = { λ i. IsProgram (record { parts = i.segments.items; entry = i.entry; memory = i.memory; harts = i.harts }) };
+    ghost invariant = { λ i. IsProgram (record { parts = i.segments.items; entry = i.entry; memory = i.memory; harts = i.harts })
+        × (i.writable_from ≡ read_only_end i.segments.items) };
+}
+
+// The end of the last read-only segment, 0 if there is none.
+fn read_only_end(segments: &[Segment]) -> u64
+    ensures { result ≡ read_only_end segments.now }
+{
+    let mut end = 0;
+    for segment in segments {
+        if !segment.is_writable() {
+            end = end.max(segment.end());
+        }
+    }
+    end
 }
 
 impl PartialEq for Image {
@@ -64,7 +81,9 @@ impl Image {
         ensures { result ≡ record { parts = segments.items; entry = entry; memory = settings.now.memory; harts = settings.now.harts } }
     {
         let memory = settings.memory();
+        let writable_from = read_only_end(segments.as_slice());
         Image {
+            writable_from,
             segments,
             entry,
             memory,
@@ -134,12 +153,14 @@ impl Image {
     }
 
     /// Whether an address is mapped and not read-only.
+    #[inline(always)]
     pub fn may_store(&self, addr: Addr) -> bool
         ensures { result ≡ may_store self.now addr }
     {
-        self.may_load(addr) && self.is_writable(addr)
+        self.may_load(addr) && (self.writable_from <= addr as u64 || self.is_writable(addr))
     }
 
+    #[inline(never)]
     fn is_writable(&self, addr: Addr) -> bool
         ensures { result ≡ is_writable (part_at self.now.parts addr) }
     {
@@ -217,6 +238,7 @@ impl Image {
             entry: self.entry,
             memory: self.memory,
             harts: self.harts,
+            writable_from: self.writable_from,
         })
     }
 }

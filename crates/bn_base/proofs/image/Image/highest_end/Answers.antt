@@ -13,7 +13,7 @@ last_end high n ps qs p h same is last =
     (e, omega (arith, e, top.2))
 
 pub returns-in-Some-clause-value : goal.returns-in-Some-clause-value
-returns-in-Some-clause-value c = rw (← c.self.view_is) ((last_end c.self.inside.memory _ c.self.inside.segments.items _ c.in-Some.segment.now c.self.invariant.apart c.deref.ensures.value c.end.ensures.value c.in-Some.ensures.item.3).0)
+returns-in-Some-clause-value c = rw (← c.self.view_is) ((last_end c.self.inside.memory _ c.self.inside.segments.items _ c.in-Some.segment.now c.self.invariant.0.apart c.deref.ensures.value c.end.ensures.value c.in-Some.ensures.item.3).0)
 
 pub returns-in-Some-clause-bound : goal.returns-in-Some-clause-bound
-returns-in-Some-clause-bound c = rw (← c.self.view_is) ((last_end c.self.inside.memory _ c.self.inside.segments.items _ c.in-Some.segment.now c.self.invariant.apart c.deref.ensures.value c.end.ensures.value c.in-Some.ensures.item.3).1)
+returns-in-Some-clause-bound c = rw (← c.self.view_is) ((last_end c.self.inside.memory _ c.self.inside.segments.items _ c.in-Some.segment.now c.self.invariant.0.apart c.deref.ensures.value c.end.ensures.value c.in-Some.ensures.item.3).1)
