@@ -1,5 +1,7 @@
 -- Counts of failed calls: they never fall, and a refusal comes only in a call in which its count rose.
 use Rattle.std.specs.Prelude.{◌≡◌, ℕ, zero, suc, ◌+◌, ◌-◌, ◌^◌, ◌<◌, ◌≤◌, ◌⊎◌, min, Result, Ok, Err, ⊤}
+use Rattle.bn_outside.specs.declared.loops.ReadError.{ReadError}
+use Rattle.bn_outside.specs.declared.loops.ReadError.TheVariants as read
 use Rattle.bn_outside.specs.declared.store.LoadError.{LoadError}
 use Rattle.bn_outside.specs.declared.store.LoadError.TheVariants as load
 use Rattle.bn_outside.specs.declared.store.SaveError.{SaveError}
@@ -21,6 +23,18 @@ counted_by (suc n) count = counted (counted_by n count)
 -- a count rose in a call: it is greater after it, or stands at its last value
 abbrev pub Rose : ℕ → ℕ → Type 0
 Rose before after = (before < after) ⊎ (after ≡ last_count)
+
+-- a call that went well leaves the count of faults as it was, and one that failed adds one
+abbrev pub CountsFault : {T E : Type 0} → ℕ → ℕ → Result T E → Type 0
+CountsFault before after (Ok value) = after ≡ before
+CountsFault before after (Err error) = after ≡ counted before
+
+-- a read to the end counts one fault if it failed, and else none
+abbrev pub ReadCounts : {T : Type 0} → ℕ → ℕ → Result T ReadError → Type 0
+ReadCounts before after (Err read.Failed) = after ≡ counted before
+ReadCounts before after (Err read.TooLong) = after ≡ before
+ReadCounts before after (Err read.OutOfMemory) = after ≡ before
+ReadCounts before after (Ok value) = after ≡ before
 
 -- how often a store had no such name, had more bytes than the limit, and failed
 pub record Counts : Type 0 where

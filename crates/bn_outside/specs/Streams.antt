@@ -1,5 +1,5 @@
 -- What a source has left and what a sink was given, if they tell it.
-use Rattle.std.specs.Prelude.{◌≡◌, ◌↔◌, ℕ, ◌<◌, List, [], Option, Some, None, length, take, ⊤}
+use Rattle.std.specs.Prelude.{◌≡◌, ◌↔◌, ℕ, ◌<◌, ◌≤◌, List, [], Option, Some, None, length, take, ⊤}
 use Rattle.std.specs.Io.KnownBytes.{Appends, Consumes}
 
 -- a read that found these bytes left, into a buffer with room, answered 0 exactly if there were none
@@ -12,9 +12,9 @@ abbrev pub ConsumesAll : Option (List ℕ) → Option (List ℕ) → List ℕ �
 ConsumesAll None new bytes = ⊤
 ConsumesAll (Some left) new bytes = (bytes ≡ left) × (new ≡ Some [])
 
--- some bytes at the front of what was left are gone
-abbrev pub ConsumesPart : Option (List ℕ) → Option (List ℕ) → Type 0
-ConsumesPart old new = (bytes : List ℕ) × Consumes old new bytes
+-- at most so many bytes at the front of what was left are gone
+abbrev pub ConsumesWithin : ℕ → Option (List ℕ) → Option (List ℕ) → Type 0
+ConsumesWithin most old new = (bytes : List ℕ) × (length bytes ≤ most) × Consumes old new bytes
 
 -- some prefix of a text was added, perhaps all of it
 abbrev pub AppendsPart : Option (List ℕ) → Option (List ℕ) → List ℕ → Type 0

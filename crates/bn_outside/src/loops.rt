@@ -1,8 +1,8 @@
 //! The loops over a sink and a source. Each turn takes at least one byte.
 ghost use Rattle.std.specs.Prelude.{◌≡◌, ◌≢◌, ◌≤◌, ◌<◌, ◌+◌, ◌++◌, ℕ, List, IfOk, IfSome, OnOk, OnErr, Err, vec_len, length};
 ghost use Rattle.std.specs.Io.KnownBytes.{Appends};
-ghost use Rattle.bn_outside.specs.Counts.{Rose};
-ghost use Rattle.bn_outside.specs.Streams.{AppendsPart, AppendsShort, ConsumesAll, ConsumesPart};
+ghost use Rattle.bn_outside.specs.Counts.{CountsFault, ReadCounts, Rose};
+ghost use Rattle.bn_outside.specs.Streams.{AppendsPart, AppendsShort, ConsumesAll, ConsumesWithin};
 ghost use Rattle.bn_outside.specs.declared.loops.ReadError.TheVariants as read_error;
 
 use crate::{Failed, Sink, Source};
@@ -44,13 +44,14 @@ const PIECE: usize = 65_536;
 
 /// Writes all of a text.
 ///
-/// It fails only where a write did, and then the sink was given a front of the text and not all
-/// of it.
+/// It fails where a write did, which isn't made again. Then the sink was given a front of the text
+/// and not all of it.
 pub fn send_all<K: Sink>(sink: &mut K, text: &[u8]) -> Result<(), Failed>
     ensures ok { OnOk result (Appends (K.written sink.old) (K.written sink.new) text.now) }
     ensures part { AppendsPart (K.written sink.old) (K.written sink.new) text.now }
     ensures short { OnErr result (AppendsShort (K.written sink.old) (K.written sink.new) text.now) }
     ensures later { K.faults sink.old ≤ K.faults sink.new }
+    ensures once { CountsFault (K.faults sink.old) (K.faults sink.new) result }
     ensures cause { OnErr result (Rose (K.faults sink.old) (K.faults sink.new)) }
 {
     let mut sent = 0;
@@ -100,9 +101,9 @@ fn gather_within(
 /// So many bytes are expected: room for them, or for `limit` where that is less, is made once, when
 /// the first bytes have come. It grows where more come.
 ///
-/// It stops once more than `limit` bytes have come. `Failed` comes only where a read failed, and
-/// memory is wanting only where some bytes were left and some may come. After a refusal some of the
-/// bytes that were left are gone.
+/// It stops once more than `limit` bytes have come, so at most 65,536 bytes past the limit are
+/// gone, whatever the answer. `Failed` comes where a read failed, which isn't made again, and memory
+/// is wanting only where some bytes were left and some may come.
 pub fn read_to_end<I: Source>(
     alloc: Global,
     source: &mut I,
@@ -114,8 +115,9 @@ pub fn read_to_end<I: Source>(
         ConsumesAll (I.left source.old) (I.left source.new) bytes.items) }
     ensures long { result ≡ Err ReadError.TooLong →
         IfSome (I.left source.old) (λ left. limit < length left) }
-    ensures part { ConsumesPart (I.left source.old) (I.left source.new) }
+    ensures part { ConsumesWithin (limit + 65536) (I.left source.old) (I.left source.new) }
     ensures later { I.faults source.old ≤ I.faults source.new }
+    ensures once { ReadCounts (I.faults source.old) (I.faults source.new) result }
     ensures cause { result ≡ Err ReadError.Failed →
         Rose (I.faults source.old) (I.faults source.new) }
     ensures wanting { result ≡ Err ReadError.OutOfMemory →

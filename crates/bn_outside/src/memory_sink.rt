@@ -1,6 +1,6 @@
 // A sink in memory.
 ghost use Rattle.std.specs.Prelude.{◌≡◌, ◌≤◌, ◌<◌, ◌++◌, ◌⊎◌, take, min, Some, IfOk, IsErr, OnErr, length};
-ghost use Rattle.bn_outside.specs.Counts.{Rose, counted};
+ghost use Rattle.bn_outside.specs.Counts.{CountsFault, Rose, counted};
 ghost use Rattle.bn_outside.specs.Calls.{NextFails, after_call};
 ghost use Rattle.bn_outside.specs.InMemory.{empty_sink};
 
@@ -75,6 +75,7 @@ impl Sink for MemorySink {
         ensures taken { IfOk result (λ n. self.new.written ≡ self.old.written ++ take n piece.now) }
         ensures kept { OnErr result (self.new.written ≡ self.old.written) }
         ensures later { self.old.faults ≤ self.new.faults }
+        ensures once { CountsFault self.old.faults self.new.faults result }
         ensures cause { OnErr result (Rose self.old.faults self.new.faults) }
 
         // A listed call fails, and one that does not fail takes all that it may.

@@ -1,6 +1,6 @@
 // A source in memory.
 ghost use Rattle.std.specs.Prelude.{◌≡◌, ◌≤◌, ◌<◌, ◌↔◌, ◌++◌, take, drop, min, Some, IfOk, IsErr, OnErr, length};
-ghost use Rattle.bn_outside.specs.Counts.{Rose, counted};
+ghost use Rattle.bn_outside.specs.Counts.{CountsFault, Rose, counted};
 ghost use Rattle.bn_outside.specs.Calls.{NextFails, after_call};
 ghost use Rattle.bn_outside.specs.InMemory.{source_over};
 ghost use Rattle.bn_outside.specs.Streams.{EndsExactly};
@@ -96,6 +96,7 @@ impl Source for MemorySource {
         ensures kept { OnErr result (self.new.left ≡ self.old.left) }
         ensures later { self.old.faults ≤ self.new.faults }
         ensures counted { self.new.calls.made ≡ counted self.old.calls.made }
+        ensures once { CountsFault self.old.faults self.new.faults result }
         ensures cause { OnErr result (Rose self.old.faults self.new.faults) }
 
         // Exactly the listed calls fail, and the others give all that they may.

@@ -1,7 +1,7 @@
 // A sink of bytes.
 ghost use Rattle.std.specs.Prelude.{◌≤◌, ◌<◌, ℕ, List, Option, IfOk, OnErr, length, take};
 ghost use Rattle.std.specs.Io.KnownBytes.{Appends, Keeps};
-ghost use Rattle.bn_outside.specs.Counts.{Rose};
+ghost use Rattle.bn_outside.specs.Counts.{CountsFault, Rose};
 
 use crate::Failed;
 
@@ -16,12 +16,13 @@ pub trait Sink {
     /// Takes bytes from the front of `piece` and answers how many, at most the piece's length and
     /// at least one where it has any.
     ///
-    /// A failed write takes nothing and comes only in a call that counted it.
+    /// A failed write takes nothing. Each call counts one fault if it fails, and none else.
     fn write(&mut self, piece: &[u8]) -> Result<usize, Failed>
         ensures bound { IfOk result (λ n. n ≤ length piece.now) }
         ensures some { IfOk result (λ n. 0 < length piece.now → 0 < n) }
         ensures taken { IfOk result (λ n. Appends (written self.old) (written self.new) (take n piece.now)) }
         ensures kept { OnErr result (Keeps (written self.old) (written self.new)) }
         ensures later { faults self.old ≤ faults self.new }
+        ensures once { CountsFault (faults self.old) (faults self.new) result }
         ensures cause { OnErr result (Rose (faults self.old) (faults self.new)) };
 }

@@ -1,7 +1,7 @@
 // A source of bytes.
 ghost use Rattle.std.specs.Prelude.{◌≡◌, ◌≤◌, ℕ, List, Option, IfOk, OnErr, length, take};
 ghost use Rattle.std.specs.Io.KnownBytes.{Consumes, Keeps};
-ghost use Rattle.bn_outside.specs.Counts.{Rose, counted};
+ghost use Rattle.bn_outside.specs.Counts.{CountsFault, Rose, counted};
 ghost use Rattle.bn_outside.specs.Streams.{EndsExactly};
 
 use crate::Failed;
@@ -20,8 +20,8 @@ pub trait Source {
     /// Moves the first bytes that are left to the front of `buffer` and answers how many, at most
     /// the buffer's length. For a buffer with room, 0 says that no byte is left.
     ///
-    /// A failed read moves nothing and comes only in a call that counted it. Nothing is said of
-    /// the rest of the buffer, nor of the whole buffer after a failure.
+    /// A failed read moves nothing. Each call counts one fault if it fails, and none else. Nothing is
+    /// said of the rest of the buffer, nor of the whole buffer after a failure.
     fn read(&mut self, buffer: &mut [u8]) -> Result<usize, Failed>
         ensures bound { IfOk result (λ n. n ≤ length buffer.new) }
         ensures moved { IfOk result (λ n. Consumes (left self.old) (left self.new) (take n buffer.new)) }
@@ -29,5 +29,6 @@ pub trait Source {
         ensures kept { OnErr result (Keeps (left self.old) (left self.new)) }
         ensures later { faults self.old ≤ faults self.new }
         ensures counted { reads self.new ≡ counted (reads self.old) }
+        ensures once { CountsFault (faults self.old) (faults self.new) result }
         ensures cause { OnErr result (Rose (faults self.old) (faults self.new)) };
 }

@@ -7,7 +7,7 @@ invariant-pieces g l = record {
   within : vec_len l.bytes ≤ l.limit;
   room : length l.piece ≡ 65536;
   gone : Consumes (g.I.Source.left l.fn.source) (g.I.Source.left l.source) l.bytes.items;
-  later : g.I.Source.faults l.fn.source ≤ g.I.Source.faults l.source;
+  same : g.I.Source.faults l.source ≡ g.I.Source.faults l.fn.source;
 }
 
 abbrev pub decreases-pieces : goal.decreases-pieces
