@@ -3,6 +3,7 @@
 #![tactic(auto)]
 
 pub mod effect;
+mod examples;
 pub mod kernel;
 mod laws;
 mod ranges;
@@ -14,6 +15,10 @@ ghost use Rattle.system_calls.specs.Calls.{error_answer, read_plan, write_plan, 
 
 use bn_base::{Addr, Image};
 pub use effect::Plan;
+pub use examples::{
+    a_bad_address_is_refused, a_break_outside_of_the_heap_is_not_set, a_call_is_short,
+    a_full_stream_is_refused, an_unknown_call_is_refused, another_file_is_refused,
+};
 pub use kernel::Kernel;
 pub use laws::exits_alone_end;
 use ranges::{all_mapped, all_writable};
