@@ -36,11 +36,11 @@ use Rattle.run_model.specs.Turn.{Run, turn, ask_at, is_orderly, is_guarded, guar
 use Rattle.run_laws.proofs.Bytes.{total_more, total_append, header_size_is, load_size_is, edge_size_is, end_size_is}
 use Rattle.run_laws.specs.Ends.{last_end}
 use Rattle.run_laws.specs.Laws.{ArePointsOf, EdgesAreFew}
-use Rattle.run_laws.specs.Retained.{IsGuarding, HasHeader, HasEnded, HeadersAreKept, FaultsAreKept}
+use Rattle.run_laws.specs.Retained.{IsGuarding, HasHeader, HasEnded, GuardCountsFromHeaders, HeadersAreKept, FaultsAreKept}
 use Rattle.run_laws.proofs.Converse.{run_append}
 use Rattle.run_laws.proofs.LastEnds.{last_of_both, own_end, stops_own}
-use Rattle.run_laws.proofs.Standing.{StandsIn, over_back, Held, turn_records, own_stands, guard_stands, answered_at, turn_is, asked_size, state_size, start_held, list_held}
-use Rattle.run_laws.proofs.Turns.{Laws, IsRanged, IsAsking, asking, ordered, both, below_of, legal_first, eqb_same, guarded_at, asked_at, state_of, next_at}
+use Rattle.run_laws.proofs.Standing.{StandsIn, NoneBefore, none_in_point, none_in_load, none_in_conditional, over_back, Held, turn_records, own_stands, guard_stands, answered_at, turn_is, asked_size, state_size, start_held, list_held}
+use Rattle.run_laws.proofs.Turns.{Laws, IsRanged, ranged, IsAsking, asking, ordered, both, below_of, legal_first, eqb_same, guarded_at, asked_at, state_of, next_at}
 
 -- ---- bytes
 
@@ -98,6 +98,18 @@ header_bytes k n begun pc x back e = omega (arith, total_more (Header k n begun 
     others : (x : List ℕ) → length x ≡ 32 → length (drop 1 x) ≡ 31
     others [] e = cc
     others (y ∷ ys) e = omega (arith, e)
+
+-- the guard counts all from the hart's Header on
+pub guard_counts : Laws → GuardCountsFromHeaders
+guard_counts laws c i input b k setting legal within =
+    let range : IsRanged c = ranged c setting in
+    let st = (list_held laws c i (start c i input) b range (start_held c i input range) legal).stands k within in
+    let t : Hart = (run_of c i input b).harts k in
+    record {
+      header = record { front = st.front; back = st.back; pc = st.pc; x = st.x; parts = st.parts };
+      latest = st.latest;
+      bytes = omega (arith, st.since, header_bytes k t.number t.begun st.pc st.x st.back st.size);
+    }
 
 -- ---- what is kept
 
@@ -201,13 +213,13 @@ cut_or (Faulted f v) = inr refl
 -- ---- a turn
 
 -- the Header behind a turn, by what comes after it
-pub own_kept : (next : TurnEnd) (stream es ls cs : List Record) (bytes k n skipped size : ℕ) (s : HartState) (t : Hart) (harts : ℕ → Hart) → length s.x ≡ 32 → StandsIn stream bytes k t → 146 ≤ size
+pub own_kept : (next : TurnEnd) (stream es ls cs : List Record) (bytes k n skipped size : ℕ) (s : HartState) (t : Hart) (harts : ℕ → Hart) → length s.x ≡ 32 → StandsIn stream bytes k t → NoneBefore k es ls cs → 146 ≤ size
     → (Begins next ≡ false → 146 + (bytes - t.headed) + (total es + total ls + total cs + 15 + 15 * n) ≤ size)
     → let rs = turn_records next es ls cs k t.number n s harts in let u = hart_after next s skipped (bytes + total rs) t in HasHeader k u.number u.begun (kept size (stream ++ rs))
-own_kept next stream es ls cs bytes k n skipped size s t harts registers st some room =
+own_kept next stream es ls cs bytes k n skipped size s t harts registers st none some room =
     let rs : List Record = turn_records next es ls cs k t.number n s harts in
     let u : Hart = hart_after next s skipped (bytes + total rs) t in
-    let new : StandsIn (stream ++ rs) (bytes + total rs) k u = own_stands next stream es ls cs bytes k n skipped s t harts registers st in
+    let new : StandsIn (stream ++ rs) (bytes + total rs) k u = own_stands next stream es ls cs bytes k n skipped s t harts registers st none in
     header_kept (stream ++ rs) (bytes + total rs) k size u new (by next room new)
   where
     by : (next : TurnEnd) → (Begins next ≡ false → 146 + (bytes - t.headed) + (total es + total ls + total cs + 15 + 15 * n) ≤ size)
@@ -257,6 +269,11 @@ record IsTurn (c : RawSettings) (i : Program) (run : Run) (k : ℕ) : Type 0 whe
 asked_stands : (c : RawSettings) (i : Program) (run : Run) (k : ℕ) → Held c run → k < c.harts → StandsIn (asked_at c i run k).stream (asked_at c i run k).bytes k ((asked_at c i run k).harts k)
 asked_stands c i run k h low = guard_stands (guarded_at c i run k) run k k (ask_at c i (run.harts k)).state (asked_size c i run k h) (h.stands k low)
 
+-- no Header stands before the End of the turn
+none_before : (c : RawSettings) (i : Program) (run : Run) (k : ℕ) → let r = asked_at c i run k in let ask = ask_at c i (run.harts k) in let call = call_of i run.machine ask.want in let reply = (answer c call run.machine k ask).reply in
+    NoneBefore k (edge_records (point_of k ask.state.ic run.turns (span_of call ask.want reply)) run.points) (load_record (warmth c (loading ask.want) (r.events k)) k (r.harts k).skipped (word_before run.machine.memory (loading ask.want))) (sc_record reply k)
+none_before c i run k = record { edges = none_in_point k _ run.points; loads = none_in_load k _ k _ _; conditionals = none_in_conditional k _ k }
+
 -- the hart after the turn
 own_is : (c : RawSettings) (i : Program) (run : Run) (k : ℕ) → let r = asked_at c i run k in let a = answered_at c i run k in
     a.harts k ≡ hart_after (next_at c i run k) (state_of c i run k) (skipped_after (warmth c (loading (ask_at c i (run.harts k)).want) (r.events k)) (r.harts k).skipped) a.bytes (r.harts k)
@@ -279,7 +296,7 @@ answer_kept laws c i run k guarding h low how =
     let cs = sc_record answered.reply k in
     subst (λ (u : Hart). HasHeader k u.number u.begun (kept c.log_size (answered_at c i run k).stream)) (sym (own_is c i run k))
     (own_kept (next_at c i run k) r.stream es ls cs r.bytes k c.harts (skipped_after load (r.harts k).skipped) c.log_size (state_of c i run k) (r.harts k) r.harts (state_size c i run k h)
-    (asked_stands c i run k h low) (omega (arith, guarding.log_size_low)) (by how))
+    (asked_stands c i run k h low) (none_before c i run k) (omega (arith, guarding.log_size_low)) (by how))
   where
     by : (is_cut (ask_at c i (run.harts k)).want ≡ false) ⊎ (Begins (next_at c i run k) ≡ true) → Begins (next_at c i run k) ≡ false
         → let r = asked_at c i run k in let ask = ask_at c i (run.harts k) in let call = call_of i run.machine ask.want in let reply = (answer c call run.machine k ask).reply in
@@ -351,19 +368,19 @@ ends_behind : (k : ℕ) (m : EndMark) (xs ys : List Record) → last_end k ys �
 ends_behind k m xs ys e = last_of_both k xs ys ∙ ap (λ (z : Option EndMark). option_or z (last_end k xs)) e
 
 -- behind the Header stands the End with which the hart's turn ended the run
-ended_by : (reason value : ℕ) (stream es ls cs : List Record) (bytes k n skipped size : ℕ) (s : HartState) (t : Hart) (harts : ℕ → Hart) → length s.x ≡ 32 → StandsIn stream bytes k t → 146 ≤ size
+ended_by : (reason value : ℕ) (stream es ls cs : List Record) (bytes k n skipped size : ℕ) (s : HartState) (t : Hart) (harts : ℕ → Hart) → length s.x ≡ 32 → StandsIn stream bytes k t → NoneBefore k es ls cs → 146 ≤ size
     → 146 + (bytes - t.headed) + (total es + total ls + total cs + 15 + 15 * n) ≤ size
     → let rs = turn_records (RunOver reason value) es ls cs k t.number n s harts in let u = hart_after (RunOver reason value) s skipped (bytes + total rs) t in
     HasEnded k u.number u.begun (mark s.ic reason value) (kept size (stream ++ rs))
 unfolding own_kept header_kept
-ended_by reason value stream es ls cs bytes k n skipped size s t harts registers st some room =
+ended_by reason value stream es ls cs bytes k n skipped size s t harts registers st none some room =
     let m : EndMark = mark s.ic reason value in
     let stops : List Record = stopped_records k 0 n harts in
     let own : last_end k (End k m ∷ stops) ≡ Some m =
     ap (λ (z : Option EndMark). option_or z (last_end k (End k m ∷ []))) (stops_own k k 0 n harts (eqb_same k)) ∙ own_end k k m (eqb_same k) in
     record {
-      header = own_kept (RunOver reason value) stream es ls cs bytes k n skipped size s t harts registers st some (λ e. room);
-      end = ap (last_end k) (over_back reason value stream es ls cs bytes k n skipped s t harts registers st)
+      header = own_kept (RunOver reason value) stream es ls cs bytes k n skipped size s t harts registers st none some (λ e. room);
+      end = ap (last_end k) (over_back reason value stream es ls cs bytes k n skipped s t harts registers st none)
           ∙ ends_behind k m st.back _ (ends_behind k m es _ (ends_behind k m ls _ (ends_behind k m cs (End k m ∷ stops) own)));
     }
 
@@ -387,7 +404,7 @@ answer_ended laws c i run k kind value guarding h low fault =
     (subst
     (λ (x : TurnEnd). let rs = turn_records x es ls cs k t.number c.harts s r.harts in let u = hart_after x s (skipped_after load t.skipped) (r.bytes + total rs) t in
     HasEnded k u.number u.begun (mark u.state.ic reason value) (kept c.log_size (r.stream ++ rs))) (sym next)
-    (ended_by reason value r.stream es ls cs r.bytes k c.harts (skipped_after load t.skipped) c.log_size s t r.harts (state_size c i run k h) (asked_stands c i run k h low) (omega (arith, guarding.log_size_low))
+    (ended_by reason value r.stream es ls cs r.bytes k c.harts (skipped_after load t.skipped) c.log_size s t r.harts (state_size c i run k h) (asked_stands c i run k h low) (none_before c i run k) (omega (arith, guarding.log_size_low))
     (turn_room laws c i run k guarding h uncut)))
 
 pub faults_kept : RetainLaws → FaultsAreKept

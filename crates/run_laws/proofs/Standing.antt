@@ -1,6 +1,7 @@
 -- Each hart's present Header stands among the records, and a run counts the bytes behind it.
 use Rattle.std.proofs.Common.{◌≡◌, ℕ, zero, suc, ◌+◌, ◌*◌, ◌<◌, ◌≤◌, Bool, true, false, Option, Some, None, List, [], ◌∷◌, ◌++◌, length, refl, sym, ◌∙◌, ap, subst, arith, append_assoc, inl, inr}
-use Rattle.std.specs.Prelude.{slice_get, nat_lt}
+use Rattle.std.specs.Prelude.{◌≢◌, ◌==◌, not, ◌&&◌, slice_get, nat_lt}
+use Rattle.std.specs.List.{AllByRecursion}
 use Rattle.std.proofs.lemmas.Bool.Decides.{eqb_tells}
 use Rattle.bn_base.specs.Programs.{Program}
 use Rattle.bn_base.specs.declared.settings.RawSettings.{RawSettings}
@@ -10,6 +11,11 @@ use Rattle.rv_meaning.specs.declared.asks.Ask.{Ask}
 use Rattle.system_calls.specs.declared.effect.Plan.{Plan}
 use Rattle.race_log.specs.Points.{Point}
 use Rattle.race_log.specs.Kept.{after}
+use Rattle.race_log.specs.Tests.{sources_into}
+use Rattle.first_load_bits.specs.declared.warm.Warm.{Warm}
+use Rattle.first_load_bits.specs.declared.warm.Warm.TheVariants as answers
+use Rattle.rv_meaning.specs.declared.asks.Reply.{Reply}
+use Rattle.rv_meaning.specs.declared.asks.Reply.TheVariants as replies
 use Rattle.log_record.specs.declared.record.Record.{Record}
 use Rattle.log_record.specs.declared.record.Record.TheVariants.{Header, End}
 use Rattle.log_record.specs.Spelling.{total}
@@ -19,17 +25,76 @@ use Rattle.run_model.specs.declared.turn_end.TurnEnd.TheVariants.{GoesOn, NewInt
 use Rattle.run_model.specs.declared.span.Span.{Span}
 use Rattle.run_model.specs.Counts.{IsRested, anew}
 use Rattle.run_model.specs.Machine.{Answered, answer, call_of}
-use Rattle.run_model.specs.Turn.{Run, Served, serve, turn, ask_at, is_orderly, after_ask, budget, by_guard, guarded_run, guard_records, header, mark, hart_after, other_after, next_records, run_over_records, span_of, point_of, points_after, loading, warmth, skipped_after, edge_records, load_record, sc_record, word_before, header_size}
+use Rattle.run_model.specs.Turn.{Run, Served, serve, turn, ask_at, is_orderly, after_ask, budget, by_guard, guarded_run, guard_records, header, mark, hart_after, other_after, next_records, stopped_records, run_over_records, span_of, point_of, points_after, loading, warmth, skipped_after, edges_from, edge_records, load_record, sc_record, word_before, header_size}
 use Rattle.run_model.specs.Runs.{start, start_state, first_headers, run_from, legal_from}
 use Rattle.run_laws.proofs.Bytes.{total_append, headers_have}
 use Rattle.run_laws.specs.Laws.{ArePointsOf}
+use Rattle.run_laws.specs.Retained.{is_header_of}
 use Rattle.run_laws.proofs.Registers.{asking_registers, absorbed_registers}
 use Rattle.run_laws.proofs.Turns.{Laws, IsRanged, ordered, both, below_of, legal_first, served, moved, stayed, turn_left, fit_start, eqb_same, guarded_at, asked_at, state_of, next_at}
 
+-- ---- records without a Header of hart h
+
+abbrev pub NoHeader : ℕ → List Record → Type 0
+NoHeader h rs = AllByRecursion (λ (r : Record). is_header_of h r ≡ false) rs
+
+none_in_both : (h : ℕ) (xs ys : List Record) → NoHeader h xs → NoHeader h ys → NoHeader h (xs ++ ys)
+none_in_both h [] ys a b = b
+none_in_both h (x ∷ xs) ys a b = (a.0, none_in_both h xs ys a.1 b)
+
+none_in_edges : (h k ic : ℕ) (ss : List (ℕ × ℕ)) → NoHeader h (edges_from k ic ss)
+none_in_edges h k ic [] = tt
+none_in_edges h k ic (s ∷ ss) = (refl, none_in_edges h k ic ss)
+
+pub none_in_point : (h : ℕ) (point : Option Point) (points : List Point) → NoHeader h (edge_records point points)
+none_in_point h None points = tt
+none_in_point h (Some p) points = none_in_edges h p.hart p.count (sources_into (after points p) (length points))
+
+pub none_in_load : (h : ℕ) (load : Option Warm) (k skipped word : ℕ) → NoHeader h (load_record load k skipped word)
+none_in_load h (Some answers.Cold) k skipped word = (refl, tt)
+none_in_load h (Some answers.Warm) k skipped word = tt
+none_in_load h None k skipped word = tt
+
+pub none_in_conditional : (h : ℕ) (reply : Reply) (k : ℕ) → NoHeader h (sc_record reply k)
+none_in_conditional h replies.ScOk k = (refl, tt)
+none_in_conditional h replies.ScFailed k = (refl, tt)
+none_in_conditional h reply k = tt
+
+none_by : (b : Bool) (h : ℕ) (j ic : ℕ) (rs : List Record) → NoHeader h rs → NoHeader h (elim b as (λ x. List Record) [ true ↦ End j (mark ic 5 0) ∷ rs | false ↦ rs ])
+none_by true h j ic rs none = (refl, none)
+none_by false h j ic rs none = none
+
+none_in_stops : (h k j n : ℕ) (harts : ℕ → Hart) → NoHeader h (stopped_records k j n harts)
+none_in_stops h k j zero harts = tt
+none_in_stops h k j (suc n) harts = none_by (not (j == k) && (harts j).live) h j (harts j).state.ic (stopped_records k (j + 1) n harts) (none_in_stops h k (j + 1) n harts)
+
+none_in_over : (h : ℕ) (next : TurnEnd) (k n : ℕ) (harts : ℕ → Hart) → NoHeader h (run_over_records next k n harts)
+none_in_over h GoesOn k n harts = tt
+none_in_over h (NewInterval r v) k n harts = tt
+none_in_over h (HartOver r v) k n harts = tt
+none_in_over h (RunOver r v) k n harts = none_in_stops h k 0 n harts
+
+-- another hart's next Header is none of h
+none_in_next : (h : ℕ) (next : TurnEnd) (k number : ℕ) (s : HartState) → (h == k) ≡ false → NoHeader h (next_records next k number s)
+none_in_next h GoesOn k number s apart = tt
+none_in_next h (NewInterval r v) k number s apart = (refl, (apart, tt))
+none_in_next h (HartOver r v) k number s apart = (refl, tt)
+none_in_next h (RunOver r v) k number s apart = (refl, tt)
+
+-- the Edges, the first load and the store-conditional of a turn have none
+pub record NoneBefore (h : ℕ) (es ls cs : List Record) : Type 0 where
+  pub edges : NoHeader h es
+  pub loads : NoHeader h ls
+  pub conditionals : NoHeader h cs
+
+none_in_turn : (h : ℕ) (es ls cs ns os : List Record) → NoneBefore h es ls cs → NoHeader h ns → NoHeader h os → NoHeader h (es ++ (ls ++ (cs ++ (ns ++ os))))
+none_in_turn h es ls cs ns os before next over =
+    none_in_both h es _ before.edges (none_in_both h ls _ before.loads (none_in_both h cs _ before.conditionals (none_in_both h ns os next over)))
+
 -- ---- one hart's Header
 
--- the Header of hart k's present interval, t being the hart, is in the stream, and the stream's bytes are those up to it and those
--- behind it
+-- the Header of hart k's present interval, t being the hart, is in the stream, no later one of the hart is, and the stream's bytes
+-- are those up to it and those behind it
 pub record StandsIn (stream : List Record) (bytes k : ℕ) (t : Hart) : Type 0 where
   pub front : List Record
   pub back : List Record
@@ -37,6 +102,7 @@ pub record StandsIn (stream : List Record) (bytes k : ℕ) (t : Hart) : Type 0 w
   pub x : List ℕ
   pub parts : stream ≡ front ++ Header k t.number t.begun pc x ∷ back
   pub size : length x ≡ 32
+  pub latest : NoHeader k back
   pub since : bytes ≡ t.headed + total back
 
 -- a hart whose interval is the same
@@ -45,8 +111,8 @@ record IsSame (t u : Hart) : Type 0 where
   begun : u.begun ≡ t.begun
   headed : u.headed ≡ t.headed
 
-grown : (stream rs : List Record) (bytes k : ℕ) (t u : Hart) → StandsIn stream bytes k t → IsSame t u → StandsIn (stream ++ rs) (bytes + total rs) k u
-grown stream rs bytes k t u s e = record {
+grown : (stream rs : List Record) (bytes k : ℕ) (t u : Hart) → StandsIn stream bytes k t → IsSame t u → NoHeader k rs → StandsIn (stream ++ rs) (bytes + total rs) k u
+grown stream rs bytes k t u s e none = record {
   front = s.front;
   back = s.back ++ rs;
   pc = s.pc;
@@ -56,6 +122,7 @@ grown stream rs bytes k t u s e = record {
       ∙ (ap (λ (n : ℕ). s.front ++ Header k n t.begun s.pc s.x ∷ (s.back ++ rs)) (sym e.number)
       ∙ ap (λ (n : ℕ). s.front ++ Header k u.number n s.pc s.x ∷ (s.back ++ rs)) (sym e.begun)));
   size = s.size;
+  latest = none_in_both k s.back rs s.latest none;
   since = omega (arith, s.since, total_append s.back rs, e.headed);
 }
 
@@ -68,6 +135,7 @@ newest front bytes k number s t e f g size = record {
   x = s.x;
   parts = ap (λ (n : ℕ). front ++ Header k n s.ic s.pc s.x ∷ []) (sym e) ∙ ap (λ (n : ℕ). front ++ Header k t.number n s.pc s.x ∷ []) (sym f);
   size = size;
+  latest = tt;
   since = omega (arith, g);
 }
 
@@ -79,12 +147,15 @@ abbrev pub turn_records : TurnEnd → (es ls cs : List Record) → (k number n :
 turn_records next es ls cs k number n s harts = es ++ (ls ++ (cs ++ (next_records next k number s ++ run_over_records next k n harts)))
 
 -- the Header of the hart whose turn it was
-pub own_stands : (next : TurnEnd) (stream es ls cs : List Record) (bytes k n skipped : ℕ) (s : HartState) (t : Hart) (harts : ℕ → Hart) → length s.x ≡ 32 → StandsIn stream bytes k t
+pub own_stands : (next : TurnEnd) (stream es ls cs : List Record) (bytes k n skipped : ℕ) (s : HartState) (t : Hart) (harts : ℕ → Hart) → length s.x ≡ 32 → StandsIn stream bytes k t → NoneBefore k es ls cs
     → let rs = turn_records next es ls cs k t.number n s harts in StandsIn (stream ++ rs) (bytes + total rs) k (hart_after next s skipped (bytes + total rs) t)
-own_stands GoesOn stream es ls cs bytes k n skipped s t harts size st = grown stream _ bytes k t _ st (record { number = refl; begun = refl; headed = refl })
-own_stands (HartOver r v) stream es ls cs bytes k n skipped s t harts size st = grown stream _ bytes k t _ st (record { number = refl; begun = refl; headed = refl })
-own_stands (RunOver r v) stream es ls cs bytes k n skipped s t harts size st = grown stream _ bytes k t _ st (record { number = refl; begun = refl; headed = refl })
-own_stands (NewInterval r v) stream es ls cs bytes k n skipped s t harts size st =
+own_stands GoesOn stream es ls cs bytes k n skipped s t harts size st none =
+    grown stream _ bytes k t _ st (record { number = refl; begun = refl; headed = refl }) (none_in_turn k es ls cs (next_records GoesOn k t.number s) (run_over_records GoesOn k n harts) none tt (none_in_over k GoesOn k n harts))
+own_stands (HartOver r v) stream es ls cs bytes k n skipped s t harts size st none =
+    grown stream _ bytes k t _ st (record { number = refl; begun = refl; headed = refl }) (none_in_turn k es ls cs (next_records (HartOver r v) k t.number s) (run_over_records (HartOver r v) k n harts) none (refl, tt) (none_in_over k (HartOver r v) k n harts))
+own_stands (RunOver r v) stream es ls cs bytes k n skipped s t harts size st none =
+    grown stream _ bytes k t _ st (record { number = refl; begun = refl; headed = refl }) (none_in_turn k es ls cs (next_records (RunOver r v) k t.number s) (run_over_records (RunOver r v) k n harts) none (refl, tt) (none_in_over k (RunOver r v) k n harts))
+own_stands (NewInterval r v) stream es ls cs bytes k n skipped s t harts size st none =
     let rs : List Record = turn_records (NewInterval r v) es ls cs k t.number n s harts in
     let last : Record = header k (t.number + 1) s in
     let ending : List Record = End k (mark s.ic r v) ∷ [] in
@@ -94,10 +165,10 @@ own_stands (NewInterval r v) stream es ls cs bytes k n skipped s t harts size st
     subst (λ (y : List Record). StandsIn y (bytes + total rs) k u) (sym whole) (newest pre (bytes + total rs) k (t.number + 1) s u refl refl refl size)
 
 -- behind it, where the run is over, are the turn's records too
-pub over_back : (r v : ℕ) (stream es ls cs : List Record) (bytes k n skipped : ℕ) (s : HartState) (t : Hart) (harts : ℕ → Hart) (size : length s.x ≡ 32) (st : StandsIn stream bytes k t)
-    → (own_stands (RunOver r v) stream es ls cs bytes k n skipped s t harts size st).back ≡ st.back ++ turn_records (RunOver r v) es ls cs k t.number n s harts
+pub over_back : (r v : ℕ) (stream es ls cs : List Record) (bytes k n skipped : ℕ) (s : HartState) (t : Hart) (harts : ℕ → Hart) (size : length s.x ≡ 32) (st : StandsIn stream bytes k t) (none : NoneBefore k es ls cs)
+    → (own_stands (RunOver r v) stream es ls cs bytes k n skipped s t harts size st none).back ≡ st.back ++ turn_records (RunOver r v) es ls cs k t.number n s harts
 unfolding own_stands grown
-over_back r v stream es ls cs bytes k n skipped s t harts size st = refl
+over_back r v stream es ls cs bytes k n skipped s t harts size st none = refl
 
 stopped_same : (b : Bool) (t : Hart) → IsSame t (elim b as (λ x. Hart) [ true ↦ record t { live = false; mark = Some (mark t.state.ic 5 0) } | false ↦ t ])
 stopped_same true t = record { number = refl; begun = refl; headed = refl }
@@ -121,10 +192,11 @@ guard_stands true run k j s size st = elim (eqb_tells j k) [
   | inl p ↦ subst (λ (x : ℕ). StandsIn (run.stream ++ guard_records run k s) (run.bytes + total (guard_records run k s)) x ((guarded_run true run k s).harts x)) (sym p.1)
       (subst (λ (x : Hart). StandsIn (run.stream ++ guard_records run k s) (run.bytes + total (guard_records run k s)) k x)
       (sym (ap (λ (b : Bool). elim b as (λ x. Hart) [ true ↦ anew s (run.bytes + total (guard_records run k s)) (run.harts k) | false ↦ run.harts k ]) (eqb_same k)))
-      (own_stands by_guard run.stream [] [] [] run.bytes k 0 0 s (run.harts k) run.harts size (subst (λ (x : ℕ). StandsIn run.stream run.bytes x (run.harts x)) p.1 st)))
+      (own_stands by_guard run.stream [] [] [] run.bytes k 0 0 s (run.harts k) run.harts size (subst (λ (x : ℕ). StandsIn run.stream run.bytes x (run.harts x)) p.1 st) (record { edges = tt; loads = tt; conditionals = tt })))
   | inr p ↦ subst (λ (x : Hart). StandsIn (run.stream ++ guard_records run k s) (run.bytes + total (guard_records run k s)) j x)
       (sym (ap (λ (b : Bool). elim b as (λ x. Hart) [ true ↦ anew s (run.bytes + total (guard_records run k s)) (run.harts k) | false ↦ run.harts j ]) p.0))
-      (grown run.stream (guard_records run k s) run.bytes j (run.harts j) (run.harts j) st (record { number = refl; begun = refl; headed = refl }))
+      (grown run.stream (guard_records run k s) run.bytes j (run.harts j) (run.harts j) st (record { number = refl; begun = refl; headed = refl })
+      (none_in_next j by_guard k (run.harts k).number s p.0))
 ]
 
 -- the answer
@@ -137,12 +209,14 @@ ask_stands c run k j ask call answered span next s size st =
     let ls : List Record = load_record load k (run.harts k).skipped (word_before run.machine.memory (loading ask.want)) in
     let cs : List Record = sc_record answered.reply k in
     let own : Hart = hart_after next s (skipped_after load (run.harts k).skipped) new.bytes (run.harts k) in
+    let none : (h : ℕ) → NoneBefore h es ls cs = λ h. record { edges = none_in_point h _ run.points; loads = none_in_load h load k _ _; conditionals = none_in_conditional h answered.reply k } in
     elim (eqb_tells j k) [
       | inl p ↦ subst (λ (x : ℕ). StandsIn new.stream new.bytes x (new.harts x)) (sym p.1)
           (subst (λ (x : Hart). StandsIn new.stream new.bytes k x) (sym (ap (λ (b : Bool). elim b as (λ x. Hart) [ true ↦ own | false ↦ other_after next (run.harts k) ]) (eqb_same k)))
-          (own_stands next run.stream es ls cs run.bytes k c.harts (skipped_after load (run.harts k).skipped) s (run.harts k) run.harts size (subst (λ (x : ℕ). StandsIn run.stream run.bytes x (run.harts x)) p.1 st)))
+          (own_stands next run.stream es ls cs run.bytes k c.harts (skipped_after load (run.harts k).skipped) s (run.harts k) run.harts size (subst (λ (x : ℕ). StandsIn run.stream run.bytes x (run.harts x)) p.1 st) (none k)))
       | inr p ↦ subst (λ (x : Hart). StandsIn new.stream new.bytes j x) (sym (ap (λ (b : Bool). elim b as (λ x. Hart) [ true ↦ own | false ↦ other_after next (run.harts j) ]) p.0))
-          (grown run.stream _ run.bytes j (run.harts j) (other_after next (run.harts j)) st (other_same next (run.harts j)))
+          (grown run.stream _ run.bytes j (run.harts j) (other_after next (run.harts j)) st (other_same next (run.harts j))
+          (none_in_turn j es ls cs _ _ (none j) (none_in_next j next k (run.harts k).number s p.0) (none_in_over j next k c.harts run.harts)))
     ]
 
 -- ---- what holds of the runs of legal lists
@@ -220,7 +294,15 @@ record Parted (c : RawSettings) (i : Program) (k n j : ℕ) : Type 0 where
   front : List Record
   back : List Record
   parts : first_headers c i k n ≡ front ++ header j 0 (start_state c i j) ∷ back
+  latest : NoHeader j back
   bytes : header_size * (j + 1) + total back ≡ header_size * (k + n)
+
+none_in_headers : (c : RawSettings) (i : Program) (h k n : ℕ) → h < k → NoHeader h (first_headers c i k n)
+none_in_headers c i h k zero low = tt
+none_in_headers c i h k (suc n) low = (apart_of h k (λ e. omega (arith, low, e)), none_in_headers c i h (k + 1) n (omega (arith, low)))
+  where
+    apart_of : (i j : ℕ) → i ≢ j → (i == j) ≡ false
+    apart_of i j p = grind arith
 
 parted : (c : RawSettings) (i : Program) (k n j : ℕ) → k ≤ j → j < k + n → Parted c i k n j
 parted c i k zero j low high = absurd (omega (arith, low, high))
@@ -229,12 +311,14 @@ parted c i k (suc n) j low high = elim (eqb_tells k j) [
     front = [];
     back = first_headers c i (k + 1) n;
     parts = ap (λ (x : ℕ). header x 0 (start_state c i x) ∷ first_headers c i (k + 1) n) p.1;
+    latest = none_in_headers c i j (k + 1) n (omega (arith, p.1));
     bytes = (let z = headers_have c i (k + 1) n in omega (arith, z, p.1));
   }
   | inr p ↦ (let r = parted c i (k + 1) n j (omega (arith, low, p.1)) (omega (arith, high)) in record {
     front = header k 0 (start_state c i k) ∷ r.front;
     back = r.back;
     parts = ap (λ (rs : List Record). header k 0 (start_state c i k) ∷ rs) r.parts;
+    latest = r.latest;
     bytes = omega (arith, r.bytes);
   })
 ]
@@ -244,7 +328,7 @@ start_held c i input setting = record {
   rested = λ j. fit_start c j (start_state c i j) refl setting.interval_low;
   registers = λ j. refl;
   points = λ m q e. absurd (none m q e);
-  stands = λ j within. (let p = parted c i 0 c.harts j (omega arith) (omega (arith, within)) in record { front = p.front; back = p.back; pc = (start_state c i j).pc; x = (start_state c i j).x; parts = p.parts; size = refl; since = omega (arith, p.bytes) });
+  stands = λ j within. (let p = parted c i 0 c.harts j (omega arith) (omega (arith, within)) in record { front = p.front; back = p.back; pc = (start_state c i j).pc; x = (start_state c i j).x; parts = p.parts; size = refl; latest = p.latest; since = omega (arith, p.bytes) });
 }
   where
     none : (m : ℕ) (q : Point) → slice_get [] m ≡ Some q → ⊥

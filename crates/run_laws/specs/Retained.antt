@@ -1,5 +1,8 @@
--- What a log retains by the guard: each hart's present Header at the hart's own turns, and the interval of a fault.
-use Rattle.std.specs.Prelude.{◌≡◌, ◌≤◌, ◌+◌, ◌^◌, ℕ, true, List, [], ◌∷◌, ◌++◌, Some}
+-- What the guard counts, and what a log retains by it: each hart's present Header at the hart's own turns, and the interval of
+-- a fault.
+use Rattle.std.specs.Prelude.{◌≡◌, ◌≤◌, ◌<◌, ◌+◌, ◌^◌, ◌==◌, ℕ, Bool, true, false, List, [], ◌∷◌, ◌++◌, Some}
+use Rattle.std.specs.List.{AllByRecursion}
+use Rattle.bn_base.specs.Ranges.{IsSetting}
 use Rattle.bn_base.specs.Faults.{fault_number}
 use Rattle.bn_base.specs.Programs.{Program}
 use Rattle.bn_base.specs.declared.end_mark.EndMark.{EndMark}
@@ -7,10 +10,11 @@ use Rattle.bn_base.specs.declared.fault.Fault.{Fault}
 use Rattle.bn_base.specs.declared.settings.RawSettings.{RawSettings}
 use Rattle.rv_meaning.specs.declared.asks.Want.TheVariants.{Faulted}
 use Rattle.log_record.specs.declared.record.Record.{Record}
-use Rattle.log_record.specs.declared.record.Record.TheVariants.{Header}
+use Rattle.log_record.specs.declared.record.Record.TheVariants.{Header, FirstLoad, ScOk, ScFailed, Edge, End}
+use Rattle.log_record.specs.Spelling.{total}
 use Rattle.run_model.specs.KeptRecords.{kept_of}
 use Rattle.run_model.specs.Runs.{start, run_of, legal_from}
-use Rattle.run_model.specs.Turn.{ask_at, mark}
+use Rattle.run_model.specs.Turn.{Run, ask_at, bytes_since, mark}
 use Rattle.run_laws.specs.Ends.{last_end}
 
 -- format 2, and those of its ranges that say something here: at most 16 harts, an interval of 1 at least, a limit of 2^40 at
@@ -34,6 +38,26 @@ pub record HasHeader (k number begun : ℕ) (rs : List Record) : Type 0 where
 pub record HasEnded (k number begun : ℕ) (m : EndMark) (rs : List Record) : Type 0 where
   pub header : HasHeader k number begun rs
   pub end : last_end k header.back ≡ Some m
+
+-- whether a record is a Header of hart k
+abbrev pub is_header_of : ℕ → Record → Bool
+is_header_of k (Header j n ic pc x) = k == j
+is_header_of k (FirstLoad j skip value) = false
+is_header_of k (ScOk j) = false
+is_header_of k (ScFailed j) = false
+is_header_of k (Edge j ic s from) = false
+is_header_of k (End j mark) = false
+
+-- The Header of hart k's present interval is in the stream, and is the hart's last one. The bytes that the guard counts are those
+-- of the records from it on, itself included, to the stream's end
+pub record CountsFromHeader (run : Run) (k : ℕ) : Type 0 where
+  pub header : HasHeader k (run.harts k).number (run.harts k).begun run.stream
+  pub latest : AllByRecursion (λ (r : Record). is_header_of k r ≡ false) header.back
+  pub bytes : bytes_since run k ≡ total (Header k (run.harts k).number (run.harts k).begun header.pc header.x ∷ header.back)
+
+-- So the guard counts for each hart, after the turns of any legal list
+abbrev pub GuardCountsFromHeaders : Type 0
+GuardCountsFromHeaders = (c : RawSettings) (i : Program) (input b : List ℕ) (k : ℕ) → IsSetting c → legal_from c i (start c i input) b ≡ true → k < c.harts → CountsFromHeader (run_of c i input b) k
 
 -- With format 2 a hart's present Header is kept right after each of its turns that leaves it live
 abbrev pub HeadersAreKept : Type 0

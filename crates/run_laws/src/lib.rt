@@ -3,7 +3,7 @@
 #![tactic(auto)]
 
 ghost use Rattle.run_laws.specs.Laws.{TurnsAreLawful, TurnsAreOwn, RunsEnd, OwnAsksAreOrderly, TurnsMoveTheirHart, KeptIsAnEnd, OwnRowsGoOn, OwnRowsAreTurns, OwnRowsGrow, ListsGoOn, OwnRowsAreJoined, RepliesFit, LastEndsAreMarks, KeptEndsAreMarks, EdgesAreFew};
-ghost use Rattle.run_laws.specs.Retained.{HeadersAreKept, FaultsAreKept};
+ghost use Rattle.run_laws.specs.Retained.{GuardCountsFromHeaders, HeadersAreKept, FaultsAreKept};
 
 mod examples;
 
@@ -135,6 +135,18 @@ pub fn edges_are_few()
     ensures { EdgesAreFew }
 {
     listed_edges_are_all();
+}
+
+/// The bytes that the guard compares with half of the log are those of the records from the hart's present Header on, the
+/// Header included, to the end of the stream.
+pub fn guard_counts_from_headers()
+    ensures { GuardCountsFromHeaders }
+{
+    each_ask_is_orderly();
+    each_turn_moves_on();
+    guarded_asks_fit();
+    each_turn_fits();
+    others_stay_fit();
 }
 
 /// With format 2 a hart's present Header is kept right after each of its turns that leaves it live: where
