@@ -134,7 +134,7 @@ MUTANTS = [
     ("Each list waits without end, which only a recording may.", edit("bugnet", "each_list_waits_without_end")),
     # What is asked of the outside.
     ("A failed load is made again.", edit("log_commands", "a_failed_load_is_made_again")),
-    ("A log is loaded once more than the command needs.", edit("log_commands", "a_log_is_loaded_twice")),
+    ("A log is loaded once more than the command needs.", edit("bugnet", "a_log_is_loaded_twice")),
     (
         "A failed save is made again, and the other file's name is told.",
         edit("bugnet", "a_failed_save_is_made_again"),
@@ -170,7 +170,7 @@ MUTANTS = [
         "A missing file is told as a failure of the store, and a failure as a missing file (3, 4).",
         edit("log_commands", "a_missing_file_and_a_failed_load_are_exchanged"),
     ),
-    ("A command loads another name than its line gives (4).", edit("log_commands", "a_replay_loads_the_log_as_its_program")),
+    ("A command loads another name than its line gives (4).", edit("bugnet", "a_replay_loads_the_log_as_its_program")),
     ("An audit names a missing program before a missing log (4).", edit("log_commands", "an_audit_loads_its_program_first")),
     ("Each file is loaded with a limit of 0 bytes (5).", edit("log_commands", "loads_with_limit_0")),
     ("Each program file is refused (6).", edit("elf_loader", "the_entry_of_each_program_is_outside")),
@@ -193,7 +193,7 @@ MUTANTS = [
         edit("step_debugger", "each_answer_is_told_as_unwritten"),
     ),
     ("No interval is found in a log (14).", edit("hart_replay", "no_interval_is_found")),
-    ("A replay that stops after its rows ends with 14.", edit("bugnet", "a_stopped_replay_answers_14")),
+    ("A replay that stops after its rows ends with 14.", edit("log_commands", "a_stopped_replay_answers_14")),
     ("Each replay ends with records left (15).", edit("hart_replay", "records_are_left_of_each_interval")),
     ("Each log is taken for another than the list's (16).", edit("run_files", "each_log_differs")),
     (

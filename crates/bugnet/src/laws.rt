@@ -1,4 +1,4 @@
-// What holds of answers.
+//! What holds of all answers: laws, each a function with an empty body.
 ghost use Rattle.bugnet.specs.DebugSessions.{ConvertedHaveTheirLimit, SessionsShowTheRun, RecordingsCanBeDebugged, PrefixesCanBeDebugged};
 ghost use Rattle.bugnet.specs.Laws.{OneAnswer, OneSession, SeedsAreWhole, FilesKeepToTheirSize};
 ghost use Rattle.bugnet.specs.Agreements.{AuditsAgree};

@@ -228,8 +228,8 @@ fn answer_to<S: StoreExt>(
     }
 }
 
-/// Does what an answer says, and gives the status that the process ends with.
-pub fn act<S: Store, O: Sink, X: Sink>(
+// Does what an answer says, and gives the status that the process ends with.
+fn act<S: Store, O: Sink, X: Sink>(
     alloc: Global,
     names: &Names,
     answer: &Answer,

@@ -1,4 +1,4 @@
-// The line of a refusal on err.
+//! The line of a refusal on err.
 ghost use Rattle.std.specs.Prelude.{◌≡◌, ◌++◌, OnOk, codes, decimal};
 ghost use Rattle.rv_text.specs.Instructions.{hex8};
 ghost use Rattle.bn_base.specs.Ranges.{setting_name};

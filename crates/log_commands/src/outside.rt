@@ -1,5 +1,5 @@
-//! The store and the outputs as the commands use them. What a store or an output tells is one value each, and
-//! every `Store` and `Sink` has these methods.
+//! The store and the outputs as the commands use them: every `Store` and `Sink` has these methods. Contracts see
+//! what a store or an output tells as one value each.
 
 use crate::inputs::{fetch, limit_of};
 use crate::names::{Names, Role};
@@ -9,7 +9,7 @@ use crate::send::{refuse, send_bytes};
 use bn_outside::{Sink, Store};
 use std::alloc::Global;
 
-/// A store, by the roles of its files.
+/// A store whose files are named by their roles.
 pub trait StoreExt {
     ghost use Rattle.std.specs.Prelude.{ℕ};
     ghost use Rattle.bn_outside.specs.StoreCalls.{StoreCall};
@@ -50,7 +50,7 @@ impl<S: Store> StoreExt for S {
 pub trait SinkExt {
     ghost use Rattle.log_commands.specs.Outside.{Stream, Sends, Always, Refuses};
 
-    /// What it was given, where it tells that, and how often a write failed.
+    /// What it was given, if it tells that, and how often a write failed.
     ghost stream: { Self → Stream };
 
     /// Sends bytes.

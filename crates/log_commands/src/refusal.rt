@@ -1,4 +1,4 @@
-// Why a command is refused.
+//! Why a command is refused, and the status of each refusal. Its line is in `lines.rt`.
 ghost use Rattle.std.specs.Prelude.{◌≡◌};
 ghost use Rattle.log_commands.specs.Refusals.{status_of, replay_status, log_refusal};
 ghost use Rattle.log_commands.specs.declared.refusal.Refusal.TheVariants.{OutOfMemory};

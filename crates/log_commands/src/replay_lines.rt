@@ -5,10 +5,10 @@ ghost use Rattle.log_commands.specs.Texts.{rows_text, begin_text};
 ghost use Rattle.log_commands.specs.Printed.{EndsAs, outcome_of, ending_of, end_of_interval, rest_text, text_from};
 ghost use Rattle.log_commands.specs.Outside.{Sends, Gathers, Always};
 
+use crate::outside::SinkExt;
 use crate::refusal::Refusal;
 use crate::send::{send, send_block, send_short};
 use crate::texts::push_begin;
-use crate::outside::SinkExt;
 use bn_base::{EndMark, Row};
 use hart_replay::{ReplayError, Replayer};
 use rv_text::{RowLines, Text, write_end};

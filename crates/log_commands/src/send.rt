@@ -86,7 +86,7 @@ pub fn send_block<O: SinkExt>(text: &mut Text, out: &mut O) -> Result<(), Refusa
     }
 }
 
-/// Sends what waits, since memory is wanting for more of it.
+/// Sends what waits, where memory ran out for more of it.
 pub fn send_short<O: SinkExt>(text: &Text, out: &mut O) -> Result<(), Refusal>
     ensures { Sends text.now (λ _. ⊥) (O.stream out.old) (O.stream out.new) result }
 {

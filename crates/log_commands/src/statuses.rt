@@ -9,22 +9,22 @@ pub const WORDS_REFUSED: u8 = 2;
 /// The store failed at a name.
 pub const STORE_FAILED: u8 = 3;
 
-/// The store has nothing under a name.
+/// The store has no file of a name.
 pub const MISSING: u8 = 4;
 
-/// A file has more bytes than such a file may have.
+/// A file has more bytes than its role allows.
 pub const TOO_LONG: u8 = 5;
 
 /// The loader refuses the program.
 pub const ELF_REFUSED: u8 = 6;
 
-/// The log is no log file.
+/// LOG is no log file.
 pub const LOG_REFUSED: u8 = 7;
 
-/// The program is not the one that the log was recorded of.
+/// The log was recorded of another program.
 pub const PROGRAM_DIFFERS: u8 = 8;
 
-/// Memory was wanting.
+/// Out of memory.
 pub const OUT_OF_MEMORY: u8 = 9;
 
 /// A recording is done, and its run ended in a fault.
@@ -42,13 +42,13 @@ pub const WRITE_FAILED: u8 = 13;
 /// The log keeps no such interval.
 pub const NO_INTERVAL: u8 = 14;
 
-/// The program does not do what the log says.
+/// A replay does not do what the log says.
 pub const REPLAY_STOPPED: u8 = 15;
 
 /// The audited log is not the file of the run.
 pub const FILE_DIFFERS: u8 = 16;
 
-/// The list of turns is no whole run.
+/// The list of turns is not a whole run.
 pub const BOOK_REFUSED: u8 = 17;
 
 /// A line of commands, or all of them, have too many bytes.

@@ -6,10 +6,10 @@ ghost use Rattle.log_commands.specs.Answering.{Answers};
 ghost use Rattle.log_commands.specs.Outside.{Sends, Always};
 
 use crate::answer::Answer;
+use crate::outside::SinkExt;
 use crate::refusal::Refusal;
 use crate::send::send;
 use crate::texts::push_check;
-use crate::outside::SinkExt;
 use log_blocks::count_file;
 use log_file::LogCounts;
 use rv_text::Text;

@@ -7,10 +7,10 @@ ghost use Rattle.log_commands.specs.Answering.{Answers};
 ghost use Rattle.log_commands.specs.Outside.{Sends, Gathers, Always};
 
 use crate::answer::{Answer, read_log};
+use crate::outside::SinkExt;
 use crate::refusal::Refusal;
 use crate::send::{send, send_block};
 use crate::texts::push_interval;
-use crate::outside::SinkExt;
 use bn_base::EndMark;
 use hart_replay::scan::next_mark;
 use log_order::KeptLog;

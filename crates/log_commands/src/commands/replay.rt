@@ -1,19 +1,18 @@
 //! The command `replay`: what the recorded run did in one interval.
 ghost use Rattle.std.specs.Prelude.{◌≡◌, IfOk, ◌⊎◌, IfErr};
-ghost use Rattle.log_commands.specs.Commands.{IsByLog};
+ghost use Rattle.log_commands.specs.Commands.{IsByLog, replay_with};
 ghost use Rattle.log_commands.specs.Outside.{IsPrinted, told_of_reading};
 ghost use Rattle.log_commands.specs.Logs.{IsBegun, IsAbsent};
 ghost use Rattle.log_commands.specs.declared.refusal.Refusal.TheVariants.{OutOfMemory};
 ghost use Rattle.log_commands.specs.Answering.{Answers};
-ghost use Rattle.log_commands.specs.Commands.{replay_with};
 ghost use Rattle.log_commands.specs.Pairs.{pair_of};
 ghost use Rattle.log_commands.specs.Effects.{PrintsTo};
 
 use crate::answer::{Answer, IntervalToReplay};
-use crate::refusal::Refusal;
-use crate::replay_lines::{ReplayEnd, send_interval};
 use crate::outside::SinkExt;
 use crate::pairs::read_pair;
+use crate::refusal::Refusal;
+use crate::replay_lines::{ReplayEnd, send_interval};
 use bn_base::EndMark;
 use hart_replay::{ReplayError, Replayer};
 use std::alloc::Global;

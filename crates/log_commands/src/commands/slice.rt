@@ -7,9 +7,8 @@ ghost use Rattle.log_commands.specs.Commands.{IsByLog};
 ghost use Rattle.log_commands.specs.Pairs.{pair_of};
 
 use crate::answer::Answer;
-use crate::pairs::JointReading;
+use crate::pairs::{JointReading, read_pair};
 use crate::refusal::Refusal;
-use crate::pairs::read_pair;
 use bn_base::Ic;
 use slice_back::{SliceError, slice_text};
 use std::alloc::Global;
