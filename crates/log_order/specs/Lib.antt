@@ -5,3 +5,4 @@ pub mod Weak
 pub mod Suffix
 pub mod Content
 pub mod Laws
+pub mod Examples
