@@ -39,6 +39,10 @@ relay =
     ∷ point 2 4 3 (reads 131076 ∷ []) ∷ point 2 5 4 (reads 131072 ∷ [])
     ∷ point 0 7 5 [] ∷ point 1 7 6 [] ∷ point 2 7 7 [] ∷ []
 
+-- harts 0 and 1 load a word
+unfoldable pub two_loads : List Point
+two_loads = point 0 0 0 (reads 131072 ∷ []) ∷ point 1 0 1 (reads 131072 ∷ []) ∷ []
+
 -- harts 0 and 1 load a word, then hart 2 stores it
 unfoldable pub two_readers : List Point
 two_readers = point 0 0 0 (reads 131072 ∷ []) ∷ point 1 0 1 (reads 131072 ∷ []) ∷ point 2 0 2 (writes 131072 ∷ []) ∷ []

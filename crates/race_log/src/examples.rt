@@ -1,10 +1,15 @@
 ghost use Rattle.std.specs.Prelude.{◌≡◌, ◌∷◌, []};
 ghost use Rattle.race_log.specs.Tests.{all_edges};
-ghost use Rattle.race_log.specs.Examples.{neighbours, failed_conditional, filled_word, relay, two_readers, two_words};
+ghost use Rattle.race_log.specs.Examples.{neighbours, failed_conditional, filled_word, relay, two_loads, two_readers, two_words};
 
 /// Accesses of two words have no edge, though the words be neighbours.
 pub fn neighbours_do_not_conflict()
     ensures { all_edges neighbours ≡ [] }
+{}
+
+/// Two loads of a word have no edge.
+pub fn loads_do_not_conflict()
+    ensures { all_edges two_loads ≡ [] }
 {}
 
 /// A store has an edge from another hart's reservation of its word, and a conditional store that fails has none.

@@ -28,7 +28,8 @@ mod words;
 pub use edges::Edges;
 pub use examples::{
     failed_conditional_has_no_edge, filled_word_is_written, later_store_has_its_edge,
-    neighbours_do_not_conflict, relay_implies_a_conflict, store_follows_two_readers,
+    loads_do_not_conflict, neighbours_do_not_conflict, relay_implies_a_conflict,
+    store_follows_two_readers,
 };
 pub use laws::{
     edges_are_needed, edges_order_conflicts, known_accesses_may_go, late_edges_suffice,
