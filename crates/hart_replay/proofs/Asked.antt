@@ -85,25 +85,25 @@ asks_ready i h s t m k here e uncut is lt law =
     let a = asks_of i s t k e uncut in
     (is ∙ sym (ap (fetched h i) a.1), law i s k a.0, subst (λ (u : HartState). u.ic < m.ic) (sym a.1) lt)
 
-pub does_asked : (i : Program) (h : ℕ) (m : EndMark) (s t : HartState) (called : Bool) (a : Side) (k : Want) (r : Result Row ReplayError) (t2 : HartState) (c2 : Bool) (b : Side)
+pub does_asked : (i : Program) (h : ℕ) (m : EndMark) (s t : HartState) (called : Bool) (a : Side) (k : Want) (r : Result (Unit {0}) ReplayError) (row : Row) (t2 : HartState) (c2 : Bool) (b : Side)
     → ◌≡◌ {A = Ask} (record { state = t; want = k }) (ask_of i 1 s) → (k ≡ Cut → ⊥)
-    → Does a (ask_step i h (interval_at t m a) (position_at t called a) k) t r t2 c2 b → Does a (one_step i h (interval_at s m a) (position_at s called a)) s r t2 c2 b
-does_asked i h m s t called a k r t2 c2 b e uncut does =
+    → Does a (ask_step i h (interval_at t m a) (position_at t called a) k) t r row t2 c2 b → Does a (one_step i h (interval_at s m a) (position_at s called a)) s r row t2 c2 b
+does_asked i h m s t called a k r row t2 c2 b e uncut does =
     let asked = asks_of i s t k e uncut in
-    subst (λ (x : Step). Does a (elim x as (λ y. Next) [ Quiet u ↦ On (record { state = u; loads = a.met; conditionals = a.tried; rows = row_of h i s u None None ∷ a.rows; called = false }) | Asks j ↦ ask_step i h (interval_at s m a) (position_at s called a) j ]) s r t2 c2 b) (sym asked.0)
-    (subst (λ (u : HartState). Does a (ask_step i h (interval_at u m a) (position_at u called a) k) u r t2 c2 b) asked.1 does)
+    subst (λ (x : Step). Does a (elim x as (λ y. Next) [ Quiet u ↦ On (record { state = u; loads = a.met; conditionals = a.tried; rows = row_of h i s u None None ∷ a.rows; called = false }) | Asks j ↦ ask_step i h (interval_at s m a) (position_at s called a) j ]) s r row t2 c2 b) (sym asked.0)
+    (subst (λ (u : HartState). Does a (ask_step i h (interval_at u m a) (position_at u called a) k) u r row t2 c2 b) asked.1 does)
 
 pub does_quiet : (i : Program) (h : ℕ) (m : EndMark) (s t : HartState) (called : Bool) (a : Side) (k : Want) (row : Row)
     → ◌≡◌ {A = Ask} (record { state = t; want = k }) (ask_of i 1 s) → k ≡ Cut → AsksWell → CountsUp → row ≡ row_of h i s t None None
-    → Does a (one_step i h (interval_at s m a) (position_at s called a)) s (Ok row) t false a
+    → Does a (one_step i h (interval_at s m a) (position_at s called a)) s (Ok tt) row t false a
 does_quiet i h m s t called a k row e cut law counts is = by_ask (one_ask i s t k e)
   where
     alike : Alike (later a (record { state = t; loads = a.met; conditionals = a.tried; rows = row_of h i s t None None ∷ a.rows; called = false })) a
     alike = record { loads = λ n. refl; loads_left = λ n. refl; conditionals = λ n. refl; conditionals_left = λ n. refl; words = λ w. refl }
 
-    by_ask : ((step i s ≡ Quiet t) × (k ≡ Cut)) ⊎ ((step i s ≡ Asks k) × (t ≡ s)) → Does a (one_step i h (interval_at s m a) (position_at s called a)) s (Ok row) t false a
+    by_ask : ((step i s ≡ Quiet t) × (k ≡ Cut)) ⊎ ((step i s ≡ Asks k) × (t ≡ s)) → Does a (one_step i h (interval_at s m a) (position_at s called a)) s (Ok tt) row t false a
     by_ask (inl q) =
-        subst (λ (x : Step). Does a (elim x as (λ y. Next) [ Quiet u ↦ On (record { state = u; loads = a.met; conditionals = a.tried; rows = row_of h i s u None None ∷ a.rows; called = false }) | Asks j ↦ ask_step i h (interval_at s m a) (position_at s called a) j ]) s (Ok row) t false a) (sym q.0)
+        subst (λ (x : Step). Does a (elim x as (λ y. Next) [ Quiet u ↦ On (record { state = u; loads = a.met; conditionals = a.tried; rows = row_of h i s u None None ∷ a.rows; called = false }) | Asks j ↦ ask_step i h (interval_at s m a) (position_at s called a) j ]) s (Ok tt) row t false a) (sym q.0)
         ((refl, refl, ap (λ (r : Row). r ∷ []) (sym is), alike), counts i s t q.0)
     by_ask (inr q) = absurd (false≢true (sym (law i s k q.0).0 ∙ ap is_cut cut))
 

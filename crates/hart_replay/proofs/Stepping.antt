@@ -282,7 +282,7 @@ same_to_come o n same =
 
 -- a row was given
 pub stepped_on : (o n : IntervalCursor) (ended : Option (Result (Unit {0}) ReplayError)) (now : Replaying) (row : Row) → seen_as o ended ≡ now → ended ≡ None → o.state.ic < o.mark.ic → o.mark.ic < 2 ^ 64
-    → Does (side_of o) (one_step o.image.now o.hart (interval_at o.state o.mark (side_of o)) (position_at o.state o.called (side_of o))) o.state (Ok row) n.state n.called (side_of n) → SamePlan o n
+    → Does (side_of o) (one_step o.image.now o.hart (interval_at o.state o.mark (side_of o)) (position_at o.state o.called (side_of o))) o.state (Ok tt) row n.state n.called (side_of n) → SamePlan o n
     → (now.left ≡ with_rows (row ∷ []) (left_by ended (cursor_to_come n))) × (n.state ≡ after_row now.program now.state row) × (n.image.now ≡ now.program) × (n.mark ≡ now.mark)
 stepped_on o n ended now row view none lt fits does same =
     let gone : cursor_to_come o ≡ with_rows (row ∷ []) (cursor_to_come n) = gone_on o.image.now o.hart o.mark o.state o.called (side_of o) row n.state n.called (side_of n) lt fits does.0 does.1 ∙ ap (with_rows (row ∷ [])) (same_to_come o n same) in
@@ -294,11 +294,11 @@ stepped_on o n ended now row view none lt fits does same =
     )
 
 -- it was refused
-pub stepped_out : (o n : IntervalCursor) (ended : Option (Result (Unit {0}) ReplayError)) (now : Replaying) (e : ReplayError) → seen_as o ended ≡ now → ended ≡ None → o.state.ic < o.mark.ic
-    → Does (side_of o) (one_step o.image.now o.hart (interval_at o.state o.mark (side_of o)) (position_at o.state o.called (side_of o))) o.state (Err e) n.state n.called (side_of n) → SamePlan o n
+pub stepped_out : (o n : IntervalCursor) (ended : Option (Result (Unit {0}) ReplayError)) (now : Replaying) (e : ReplayError) (row : Row) → seen_as o ended ≡ now → ended ≡ None → o.state.ic < o.mark.ic
+    → Does (side_of o) (one_step o.image.now o.hart (interval_at o.state o.mark (side_of o)) (position_at o.state o.called (side_of o))) o.state (Err e) row n.state n.called (side_of n) → SamePlan o n
     → ((now.left ≡ over (Refused e)) ⊎ (e ≡ OutOfMemory)) × (◌≡◌ {A = Replaying} (record { program = n.image.now; mark = n.mark; state = n.state; left = over (Refused e) }) (record { program = now.program; mark = now.mark; state = now.state; left = over (Refused e) }))
     × ((now.left ≡ over (Refused e)) ⊎ (a_word_comes now.left.rows ≡ true))
-stepped_out o n ended now e view none lt does same =
+stepped_out o n ended now e row view none lt does same =
     subst (λ (r : Replaying). ((r.left ≡ over (Refused e)) ⊎ (e ≡ OutOfMemory)) × (◌≡◌ {A = Replaying} (record { program = n.image.now; mark = n.mark; state = n.state; left = over (Refused e) }) (record { program = r.program; mark = r.mark; state = r.state; left = over (Refused e) })) × ((r.left ≡ over (Refused e)) ⊎ (a_word_comes r.left.rows ≡ true))) view (
       by_answer does.0,
       ap (λ (b : CodeOf). record { program = b.now; mark = n.mark; state = n.state; left = over (Refused e) }) same.0 ∙ ap (λ (m : EndMark). record { program = o.image.now; mark = m; state = n.state; left = over (Refused e) }) same.2

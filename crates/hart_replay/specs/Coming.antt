@@ -74,6 +74,12 @@ pub record Replaying : Type 0 where
 abbrev pub over : Outcome → Replayed
 over o = record { rows = []; outcome = o }
 
+-- what a step gives where it writes its row, or whatever it tells, to a place of the caller
+abbrev pub given : {A : Type 0} → Result Bool ReplayError → A → Result (Option A) ReplayError
+given (Ok true) x = Ok (Some x)
+given (Ok false) x = Ok None
+given (Err e) x = Err e
+
 -- a replayer at the start of interval c of hart h
 pub record Begins (i : Program) (h c : ℕ) (records : List Record) (r : Replaying) : Type 0 where
   pub program : r.program ≡ i

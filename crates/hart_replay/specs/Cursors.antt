@@ -29,9 +29,9 @@ next_asked c k = ask_step c.image.now c.hart (interval_of_cursor c) (position_of
 abbrev pub next_of : IntervalCursor → Next
 next_of c = one_step c.image.now c.hart (interval_of_cursor c) (position_of c)
 
--- the instruction is done as the definition says, from one cursor to another
-abbrev pub CursorDoes : IntervalCursor → Next → Result Row ReplayError → IntervalCursor → Type 0
-CursorDoes old n result new = Does (side_of old) n old.state result new.state new.called (side_of new)
+-- the instruction is done as the definition says, with its row, from one cursor to another
+abbrev pub CursorDoes : IntervalCursor → Next → Result (Unit {0}) ReplayError → Row → IntervalCursor → Type 0
+CursorDoes old n result row new = Does (side_of old) n old.state result row new.state new.called (side_of new)
 
 -- the row of an asking instruction that got this reply
 abbrev pub replied_row : IntervalCursor → Want → Reply → Option (ℕ × ℕ) → Option (ℕ × ℕ) → Row

@@ -84,20 +84,21 @@ abbrev pub left_by : Option (Result (Unit {0}) ReplayError) → Replayed → Rep
 left_by None x = x
 left_by (Some r) x = over (outcome_of r)
 
-abbrev pub rows_of : Option Row → List Row
-rows_of None = []
-rows_of (Some row) = row ∷ []
+-- the row that was written, if one was
+abbrev pub rows_if : Bool → Row → List Row
+rows_if true row = row ∷ []
+rows_if false row = []
 
 -- the next instruction is done, and its row tells a word
 abbrev pub KeepsWord : Next → Type 0
 KeepsWord (On q) = a_word_comes q.rows ≡ true
 KeepsWord (Stop o) = ⊥
 
--- an instruction at state s did what the definition says: it continued with a row, or stopped; it may run out of memory
--- instead of a row that tells a word, and of nothing else
-abbrev pub Does : Side → Next → HartState → Result Row ReplayError → HartState → Bool → Side → Type 0
-Does a n s (Ok row) t called b = Goes a n row t called b × (t.ic ≡ count_up s.ic)
-Does a n s (Err e) t called b = ((n ≡ Stop (Refused e)) ⊎ ((e ≡ OutOfMemory) × KeepsWord n)) × (t ≡ s)
+-- an instruction at state s did what the definition says: it continued, and this row was written, or it stopped; it may run
+-- out of memory instead of a row that tells a word, and of nothing else
+abbrev pub Does : Side → Next → HartState → Result (Unit {0}) ReplayError → Row → HartState → Bool → Side → Type 0
+Does a n s (Ok u) row t called b = Goes a n row t called b × (t.ic ≡ count_up s.ic)
+Does a n s (Err e) row t called b = ((n ≡ Stop (Refused e)) ⊎ ((e ≡ OutOfMemory) × KeepsWord n)) × (t ≡ s)
 
 abbrev pub IsSystem : Want → Type 0
 IsSystem (Load a w s rd) = ⊥

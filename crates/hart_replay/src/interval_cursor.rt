@@ -8,13 +8,14 @@ ghost use Rattle.rv_meaning.specs.Lookups.{fetched};
 ghost use Rattle.hart_replay.specs.declared.error.ReplayError.TheVariants.{LoadMissing, EndDiffers, OutOfMemory};
 ghost use Rattle.hart_replay.specs.Replay.{call_reason, found};
 ghost use Rattle.hart_replay.specs.Pages.{word_at};
-ghost use Rattle.hart_replay.specs.Sides.{IsSystem, call_reg, call_answer, fault_in, word_due, outcome_of, rows_of};
+ghost use Rattle.hart_replay.specs.Sides.{IsSystem, call_reg, call_answer, fault_in, word_due, outcome_of, rows_if};
 ghost use Rattle.hart_replay.specs.Cursors.{CursorDoes, DoneAndKept, next_asked, next_of, replied_row, replied, left_of, end_of};
 ghost use Rattle.hart_replay.specs.Scans.{met, IsWaiting};
 
 use crate::code::Code;
 use crate::error::ReplayError;
 use crate::pending::{Conditionals, Loads};
+use crate::rows::write_row;
 use crate::words::Words;
 use bn_base::end_mark::{CALL, EXIT, FAULT, GROUP, LENGTH};
 use bn_base::{Addr, EndMark, Fault, HartId, HartState, Register, Row};
@@ -100,7 +101,7 @@ impl<'a> IntervalCursor<'a> {
         }
     }
 
-    // Does an asking instruction, which got this reply, and gives its row.
+    // Does an asking instruction, which got this reply, and writes its row.
     #[inline(always)]
     fn done(
         &mut self,
@@ -109,15 +110,16 @@ impl<'a> IntervalCursor<'a> {
         reply: Reply,
         load: Option<(Addr, u32)>,
         store: Option<(Addr, u32)>,
-    ) -> Row
+        row: &mut Row,
+    )
         requires reply { IsTrue (is_reply_to want.now reply) }
         requires here { here.now ≡ fetched self.old.hart self.old.image.now self.old.state }
-        ensures row { result ≡ replied_row self.old want.now reply load store }
+        ensures row { row.new ≡ replied_row self.old want.now reply load store }
         ensures rest { self.new ≡ replied self.old want.now reply }
     {
         absorb_in_place(&mut self.state, want, reply);
         self.called = false;
-        here.row(&self.state.x, load, store)
+        write_row(here, &self.state.x, load, store, row);
     }
 
     // Does an asking instruction whose row tells a word, as `done`, and keeps the word.
@@ -130,32 +132,36 @@ impl<'a> IntervalCursor<'a> {
         load: Option<(Addr, u32)>,
         store: Option<(Addr, u32)>,
         told: (Addr, u32),
-    ) -> Result<Row, ReplayError>
+        row: &mut Row,
+    ) -> Result<(), ReplayError>
         requires reply { IsTrue (is_reply_to want.now reply) }
         requires here { here.now ≡ fetched self.old.hart self.old.image.now self.old.state }
-        ensures ok { IfOk result (λ row. DoneAndKept self.old want.now reply load store told row self.new) }
+        ensures ok { OnOk result (DoneAndKept self.old want.now reply load store told row.new self.new) }
         ensures err { IfErr result (λ e. (e ≡ OutOfMemory) × (self.new ≡ record self.old { words = self.new.words })) }
     {
         match self.put(told.0, told.1) {
-            Ok(()) => Ok(self.done(here, want, reply, load, store)),
+            Ok(()) => {
+                self.done(here, want, reply, load, store, row);
+                Ok(())
+            }
             Err(error) => Err(error),
         }
     }
 
     // Does the system call that ends the interval.
-    fn call_done(&mut self, here: &Fetched, want: &Want, reason: u8) -> Row
+    fn call_done(&mut self, here: &Fetched, want: &Want, reason: u8, row: &mut Row)
         requires here { here.now ≡ fetched self.old.hart self.old.image.now self.old.state }
         requires system { IsSystem want.now }
-        ensures row { result ≡ call_row self.old.hart self.old.image.now self.old.state (call_reg reason self.old.mark.value) }
+        ensures row { row.new ≡ call_row self.old.hart self.old.image.now self.old.state (call_reg reason self.old.mark.value) }
         ensures rest { self.new ≡ record self.old { state = after want.now (call_answer reason self.old.mark.value) self.old.state; called = true } }
     {
         self.called = true;
         if reason == CALL {
             absorb_in_place(&mut self.state, want, Reply::Answer(self.mark.value));
-            here.call_row(Some((Register::new(10), self.mark.value)))
+            *row = here.call_row(Some((Register::new(10), self.mark.value)));
         } else {
             absorb_in_place(&mut self.state, want, Reply::Over);
-            here.call_row(None)
+            *row = here.call_row(None);
         }
     }
 
@@ -187,10 +193,16 @@ impl<'a> IntervalCursor<'a> {
 
     // A system call ends its interval, or it isn't the one that the log has.
     #[tactic(auto, using(crate::proofs::Exits::call_counts))]
-    fn call(&mut self, here: &Fetched, number: u32, args: [u32; 3]) -> Result<Row, ReplayError>
+    fn call(
+        &mut self,
+        here: &Fetched,
+        number: u32,
+        args: [u32; 3],
+        row: &mut Row,
+    ) -> Result<(), ReplayError>
         requires here { here.now ≡ fetched self.old.hart self.old.image.now self.old.state }
         requires count { self.old.state.ic < self.old.mark.ic }
-        ensures answer { CursorDoes self.old (next_asked self.old (System number args)) result self.new }
+        ensures answer { CursorDoes self.old (next_asked self.old (System number args)) result row.new self.new }
         ensures same { (self.new.image ≡ self.old.image) × (self.new.hart ≡ self.old.hart) × (self.new.mark ≡ self.old.mark) }
     {
         let _last = self.mark.ic;
@@ -203,7 +215,8 @@ impl<'a> IntervalCursor<'a> {
         };
         if self.is_end(end) {
             let want = Want::System { number, args };
-            Ok(self.call_done(here, &want, reason))
+            self.call_done(here, &want, reason, row);
+            Ok(())
         } else {
             Err(self.differs(end))
         }
@@ -211,11 +224,11 @@ impl<'a> IntervalCursor<'a> {
 
     // Does the instruction at the pc, which asks this.
     #[inline(always)]
-    fn ask(&mut self, here: &Fetched, want: &Want) -> Result<Row, ReplayError>
+    fn ask(&mut self, here: &Fetched, want: &Want, row: &mut Row) -> Result<(), ReplayError>
         requires here { here.now ≡ fetched self.old.hart self.old.image.now self.old.state }
         requires asks { (is_cut want.now ≡ false) × IsTrue (passes self.old.image.now want.now) }
         requires count { self.old.state.ic < self.old.mark.ic }
-        ensures answer { CursorDoes self.old (next_asked self.old want.now) result self.new }
+        ensures answer { CursorDoes self.old (next_asked self.old want.now) result row.new self.new }
         ensures same { (self.new.image ≡ self.old.image) × (self.new.hart ≡ self.old.hart) × (self.new.mark ≡ self.old.mark) }
     {
         match *want {
@@ -224,19 +237,19 @@ impl<'a> IntervalCursor<'a> {
                 width,
                 signed,
                 rd,
-            } => self.load(here, addr, width, signed, rd),
-            Want::LoadReserved { addr, rd } => self.load_reserved(here, addr, rd),
+            } => self.load(here, addr, width, signed, rd, row),
+            Want::LoadReserved { addr, rd } => self.load_reserved(here, addr, rd, row),
             Want::Amo {
                 addr,
                 op,
                 rd,
                 value,
-            } => self.amo(here, addr, op, rd, value),
-            Want::Store { addr, width, value } => self.store(here, addr, width, value),
+            } => self.amo(here, addr, op, rd, value, row),
+            Want::Store { addr, width, value } => self.store(here, addr, width, value, row),
             Want::StoreConditional { addr, rd, value } => {
-                self.store_conditional(here, addr, rd, value)
+                self.store_conditional(here, addr, rd, value, row)
             }
-            Want::System { number, args } => self.call(here, number, args),
+            Want::System { number, args } => self.call(here, number, args, row),
             Want::Faulted { kind, value } => {
                 Err(self.differs(EndMark::of_fault(self.state.ic, kind, value)))
             }
@@ -252,9 +265,10 @@ impl<'a> IntervalCursor<'a> {
         width: u8,
         signed: bool,
         rd: Register,
-    ) -> Result<Row, ReplayError>
+        row: &mut Row,
+    ) -> Result<(), ReplayError>
         requires here { here.now ≡ fetched self.old.hart self.old.image.now self.old.state }
-        ensures answer { CursorDoes self.old (next_asked self.old (Load addr width signed rd)) result self.new }
+        ensures answer { CursorDoes self.old (next_asked self.old (Load addr width signed rd)) result row.new self.new }
         ensures same { (self.new.image ≡ self.old.image) × (self.new.hart ≡ self.old.hart) × (self.new.mark ≡ self.old.mark) }
     {
         match self.load_word(addr) {
@@ -266,7 +280,7 @@ impl<'a> IntervalCursor<'a> {
                     rd,
                 };
                 let told = (addr, word);
-                self.keep(here, &want, Reply::Word(word), Some(told), None, told)
+                self.keep(here, &want, Reply::Word(word), Some(told), None, told, row)
             }
             Err(error) => Err(error),
         }
@@ -277,16 +291,17 @@ impl<'a> IntervalCursor<'a> {
         here: &Fetched,
         addr: Addr,
         rd: Register,
-    ) -> Result<Row, ReplayError>
+        row: &mut Row,
+    ) -> Result<(), ReplayError>
         requires here { here.now ≡ fetched self.old.hart self.old.image.now self.old.state }
-        ensures answer { CursorDoes self.old (next_asked self.old (LoadReserved addr rd)) result self.new }
+        ensures answer { CursorDoes self.old (next_asked self.old (LoadReserved addr rd)) result row.new self.new }
         ensures same { (self.new.image ≡ self.old.image) × (self.new.hart ≡ self.old.hart) × (self.new.mark ≡ self.old.mark) }
     {
         match self.load_word(addr) {
             Ok(word) => {
                 let want = Want::LoadReserved { addr, rd };
                 let told = (addr, word);
-                self.keep(here, &want, Reply::Word(word), Some(told), None, told)
+                self.keep(here, &want, Reply::Word(word), Some(told), None, told, row)
             }
             Err(error) => Err(error),
         }
@@ -299,9 +314,10 @@ impl<'a> IntervalCursor<'a> {
         op: AmoOp,
         rd: Register,
         value: u32,
-    ) -> Result<Row, ReplayError>
+        row: &mut Row,
+    ) -> Result<(), ReplayError>
         requires here { here.now ≡ fetched self.old.hart self.old.image.now self.old.state }
-        ensures answer { CursorDoes self.old (next_asked self.old (Amo addr op rd value)) result self.new }
+        ensures answer { CursorDoes self.old (next_asked self.old (Amo addr op rd value)) result row.new self.new }
         ensures same { (self.new.image ≡ self.old.image) × (self.new.hart ≡ self.old.hart) × (self.new.mark ≡ self.old.mark) }
     {
         match self.load_word(addr) {
@@ -315,7 +331,7 @@ impl<'a> IntervalCursor<'a> {
                 let load = Some((addr, word));
                 let stored = op.result(word, value);
                 let told = (addr, stored);
-                self.keep(here, &want, Reply::Word(word), load, Some(told), told)
+                self.keep(here, &want, Reply::Word(word), load, Some(told), told, row)
             }
             Err(error) => Err(error),
         }
@@ -328,18 +344,19 @@ impl<'a> IntervalCursor<'a> {
         addr: Addr,
         width: u8,
         value: u32,
-    ) -> Result<Row, ReplayError>
+        row: &mut Row,
+    ) -> Result<(), ReplayError>
         requires here { here.now ≡ fetched self.old.hart self.old.image.now self.old.state }
         requires part { (width == 4) ≡ false }
         requires aligned { IsTrue (is_aligned addr width) }
-        ensures answer { CursorDoes self.old (next_asked self.old (Store addr width value)) result self.new }
+        ensures answer { CursorDoes self.old (next_asked self.old (Store addr width value)) result row.new self.new }
         ensures same { (self.new.image ≡ self.old.image) × (self.new.hart ≡ self.old.hart) × (self.new.mark ≡ self.old.mark) }
     {
         match self.load_word(addr) {
             Ok(word) => {
                 let want = Want::Store { addr, width, value };
                 let told = (addr, stored_word(addr, width, value, word));
-                self.keep(here, &want, Reply::Stored, None, Some(told), told)
+                self.keep(here, &want, Reply::Stored, None, Some(told), told, row)
             }
             Err(error) => Err(error),
         }
@@ -353,18 +370,19 @@ impl<'a> IntervalCursor<'a> {
         addr: Addr,
         width: u8,
         value: u32,
-    ) -> Result<Row, ReplayError>
+        row: &mut Row,
+    ) -> Result<(), ReplayError>
         requires here { here.now ≡ fetched self.old.hart self.old.image.now self.old.state }
         requires aligned { IsTrue (is_aligned addr width) }
-        ensures answer { CursorDoes self.old (next_asked self.old (Store addr width value)) result self.new }
+        ensures answer { CursorDoes self.old (next_asked self.old (Store addr width value)) result row.new self.new }
         ensures same { (self.new.image ≡ self.old.image) × (self.new.hart ≡ self.old.hart) × (self.new.mark ≡ self.old.mark) }
     {
         if width == 4 {
             let want = Want::Store { addr, width, value };
             let told = (addr, value);
-            self.keep(here, &want, Reply::Stored, None, Some(told), told)
+            self.keep(here, &want, Reply::Stored, None, Some(told), told, row)
         } else {
-            self.store_part(here, addr, width, value)
+            self.store_part(here, addr, width, value, row)
         }
     }
 
@@ -375,9 +393,10 @@ impl<'a> IntervalCursor<'a> {
         addr: Addr,
         rd: Register,
         value: u32,
-    ) -> Result<Row, ReplayError>
+        row: &mut Row,
+    ) -> Result<(), ReplayError>
         requires here { here.now ≡ fetched self.old.hart self.old.image.now self.old.state }
-        ensures answer { CursorDoes self.old (next_asked self.old (StoreConditional addr rd value)) result self.new }
+        ensures answer { CursorDoes self.old (next_asked self.old (StoreConditional addr rd value)) result row.new self.new }
         ensures same { (self.new.image ≡ self.old.image) × (self.new.hart ≡ self.old.hart) × (self.new.mark ≡ self.old.mark) }
     {
         let want = Want::StoreConditional { addr, rd, value };
@@ -389,41 +408,43 @@ impl<'a> IntervalCursor<'a> {
             Some(good) => {
                 if good {
                     let told = (addr, value);
-                    self.keep(here, &want, Reply::ScOk, None, Some(told), told)
+                    self.keep(here, &want, Reply::ScOk, None, Some(told), told, row)
                 } else {
-                    Ok(self.done(here, &want, Reply::ScFailed, None, None))
+                    self.done(here, &want, Reply::ScFailed, None, None, row);
+                    Ok(())
                 }
             }
         }
     }
 
-    /// Does the next instruction before the mark's count, and gives its row. On an error the state
+    /// Does the next instruction before the mark's count, and writes its row. On an error the state
     /// is as before.
     #[inline(always)]
-    pub(crate) fn go_on(&mut self) -> Result<Row, ReplayError>
+    pub(crate) fn go_on(&mut self, row: &mut Row) -> Result<(), ReplayError>
         requires { self.old.state.ic < self.old.mark.ic }
-        ensures answer { CursorDoes self.old (next_of self.old) result self.new }
+        ensures answer { CursorDoes self.old (next_of self.old) result row.new self.new }
         ensures same { (self.new.image ≡ self.old.image) × (self.new.hart ≡ self.old.hart) × (self.new.mark ≡ self.old.mark) }
     {
         let here = self.image.fetch(self.hart, &self.state);
-        self.go_on_at(&here)
+        self.go_on_at(&here, row)
     }
 
     // The same, where the instruction is looked up.
     #[inline(always)]
-    fn go_on_at(&mut self, here: &Fetched) -> Result<Row, ReplayError>
+    fn go_on_at(&mut self, here: &Fetched, row: &mut Row) -> Result<(), ReplayError>
         requires here { here.now ≡ fetched self.old.hart self.old.image.now self.old.state }
         requires count { self.old.state.ic < self.old.mark.ic }
-        ensures answer { CursorDoes self.old (next_of self.old) result self.new }
+        ensures answer { CursorDoes self.old (next_of self.old) result row.new self.new }
         ensures same { (self.new.image ≡ self.old.image) × (self.new.hart ≡ self.old.hart) × (self.new.mark ≡ self.old.mark) }
     {
         each_instruction_is_counted_or_asks();
         match self.image.step(&mut self.state) {
             Want::Cut => {
                 self.called = false;
-                Ok(here.row(&self.state.x, None, None))
+                write_row(here, &self.state.x, None, None, row);
+                Ok(())
             }
-            want => self.ask(here, &want),
+            want => self.ask(here, &want, row),
         }
     }
 
@@ -443,9 +464,9 @@ impl<'a> IntervalCursor<'a> {
     }
 
     // The end of an interval whose mark is a fault: the next instruction has to be that fault.
-    fn fault_end(&self) -> (Option<Row>, Result<(), ReplayError>)
+    fn fault_end(&self, row: &mut Row) -> (bool, Result<(), ReplayError>)
         requires { 16 < self.now.mark.reason }
-        ensures { record { rows = rows_of result.0; outcome = outcome_of result.1 } ≡ end_of self.now }
+        ensures { record { rows = rows_if result.0 row.new; outcome = outcome_of result.1 } ≡ end_of self.now }
     {
         let image = self.image.image();
         let here = Fetched::at(self.hart, image, &self.state);
@@ -456,12 +477,13 @@ impl<'a> IntervalCursor<'a> {
                 let end = EndMark::of_fault(self.state.ic, kind, value);
                 if self.is_fault(end) {
                     // The row comes before records that are left are reported.
-                    (Some(here.fault_row(kind, value)), self.left_over())
+                    *row = here.fault_row(kind, value);
+                    (true, self.left_over())
                 } else {
-                    (None, Err(self.differs(end)))
+                    (false, Err(self.differs(end)))
                 }
             }
-            None => (None, Err(self.differs(self.end_here()))),
+            None => (false, Err(self.differs(self.end_here()))),
         }
     }
 
@@ -476,19 +498,21 @@ impl<'a> IntervalCursor<'a> {
         }
     }
 
-    /// The end of the interval, at the mark's count: the row of its fault, if it ends so, and the
-    /// outcome.
-    pub(crate) fn end(&self) -> (Option<Row>, Result<(), ReplayError>)
-        ensures { record { rows = rows_of result.0; outcome = outcome_of result.1 } ≡ end_of self.now }
+    /// The end of the interval, at the mark's count: whether the row of its fault is written, if it ends
+    /// so, and the outcome.
+    #[cold]
+    #[inline(never)]
+    pub(crate) fn end(&self, row: &mut Row) -> (bool, Result<(), ReplayError>)
+        ensures { record { rows = rows_if result.0 row.new; outcome = outcome_of result.1 } ≡ end_of self.now }
     {
         let reason = self.mark.reason;
         if reason > FAULT {
-            return self.fault_end();
+            return self.fault_end(row);
         }
         if (reason == CALL || reason == EXIT || reason == GROUP) && !self.called {
-            (None, Err(self.differs(self.end_here())))
+            (false, Err(self.differs(self.end_here())))
         } else {
-            (None, self.left_over())
+            (false, self.left_over())
         }
     }
 

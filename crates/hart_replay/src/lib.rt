@@ -11,9 +11,11 @@ mod level;
 mod page;
 mod pending;
 pub mod replayer;
+mod rows;
 pub mod scan;
 pub mod words;
 
 pub use error::ReplayError;
 pub use replayer::Replayer;
+pub use rows::blank_row;
 pub use words::Words;

@@ -2,13 +2,14 @@
 ghost use Rattle.std.specs.Prelude.{◌≡◌, None, take, IfOk, IfErr};
 ghost use Rattle.hart_replay.specs.declared.error.ReplayError.TheVariants.{NoInterval};
 ghost use Rattle.hart_replay.specs.Replay.{interval_of};
-ghost use Rattle.hart_replay.specs.Coming.{Begins, Stepped};
+ghost use Rattle.hart_replay.specs.Coming.{Begins, Stepped, given};
 
 use crate::code::Code;
 use crate::error::ReplayError;
 use crate::header::find;
 use crate::interval_cursor::IntervalCursor;
 use crate::pending::{Conditionals, Loads};
+use crate::rows::blank_row;
 use crate::scan::next_mark;
 use crate::words::Words;
 use bn_base::{EndMark, HartState, Image, Row};
@@ -98,27 +99,36 @@ impl<'a> Replayer<'a> {
     pub fn step(&mut self) -> Result<Option<Row>, ReplayError>
         ensures { Stepped self.old result self.new }
     {
+        let mut row = blank_row();
+        match self.advance(&mut row) {
+            Ok(true) => Ok(Some(row)),
+            Ok(false) => Ok(None),
+            Err(error) => Err(error),
+        }
+    }
+
+    /// As `step`, with the row written to `row`; `false` where `step` gives none.
+    pub fn advance(&mut self, row: &mut Row) -> Result<bool, ReplayError>
+        ensures { Stepped self.old (given result row.new) self.new }
+    {
         match self.over {
-            Some(Ok(())) => Ok(None),
+            Some(Ok(())) => Ok(false),
             Some(Err(error)) => Err(error),
             None => {
                 if self.cursor.state.ic < self.cursor.mark.ic {
-                    match self.cursor.go_on() {
-                        Ok(row) => Ok(Some(row)),
+                    match self.cursor.go_on(row) {
+                        Ok(()) => Ok(true),
                         Err(error) => {
                             self.over = Some(Err(error));
                             Err(error)
                         }
                     }
                 } else {
-                    let (row, outcome) = self.cursor.end();
+                    let (faults, outcome) = self.cursor.end(row);
                     self.over = Some(outcome);
-                    match row {
-                        Some(row) => Ok(Some(row)),
-                        None => match outcome {
-                            Ok(()) => Ok(None),
-                            Err(error) => Err(error),
-                        },
+                    match outcome {
+                        Ok(()) => Ok(faults),
+                        Err(error) => if faults { Ok(true) } else { Err(error) },
                     }
                 }
             }

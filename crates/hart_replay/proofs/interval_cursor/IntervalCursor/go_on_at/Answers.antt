@@ -10,12 +10,12 @@ ask-requires c =
 
 pub returns-in-Cut-clause-answer : goal.returns-in-Cut-clause-answer
 returns-in-Cut-clause-answer c =
-    does_quiet c.args.self.now.image.now c.args.self.now.hart c.args.self.now.mark c.args.self.now.state c.step.new.state c.args.self.now.called (side_of c.args.self.now) c.step.result c.row.result c.step.ensures c.in-Cut.is
-    c.each_instruction_is_counted_or_asks.ensures.asks c.each_instruction_is_counted_or_asks.ensures.counted (c.row.ensures.looked_up c.args.self.now.hart c.args.self.now.image.now c.args.self.now.state c.step.new.state c.requires.here refl)
+    does_quiet c.args.self.now.image.now c.args.self.now.hart c.args.self.now.mark c.args.self.now.state c.step.new.state c.args.self.now.called (side_of c.args.self.now) c.step.result c.write_row.new.row c.step.ensures c.in-Cut.is
+    c.each_instruction_is_counted_or_asks.ensures.asks c.each_instruction_is_counted_or_asks.ensures.counted (c.write_row.ensures c.args.self.now.hart c.args.self.now.image.now c.args.self.now.state c.step.new.state c.requires.here refl)
 
 pub returns-in_default : goal.returns-in_default
 returns-in_default c =
     record {
-      answer = does_asked c.args.self.now.image.now c.args.self.now.hart c.args.self.now.mark c.args.self.now.state c.step.new.state c.args.self.now.called (side_of c.args.self.now) c.step.result c.ask.result c.ask.new.self.state c.ask.new.self.called (side_of c.ask.new.self) c.step.ensures c.in_default.not-Cut c.ask.ensures.answer;
+      answer = does_asked c.args.self.now.image.now c.args.self.now.hart c.args.self.now.mark c.args.self.now.state c.step.new.state c.args.self.now.called (side_of c.args.self.now) c.step.result c.ask.result c.ask.new.row c.ask.new.self.state c.ask.new.self.called (side_of c.ask.new.self) c.step.ensures c.in_default.not-Cut c.ask.ensures.answer;
       same = c.ask.ensures.same;
     }
