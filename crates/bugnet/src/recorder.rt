@@ -21,7 +21,9 @@ use rv_text::Text;
 use std::alloc::{AllocError, Global};
 use std::sync::Wait;
 use std::thread::Threads;
-use whole_runs::{Listed, run_listed, run_seeded, run_threads_lean, run_threads_listed};
+use whole_runs::{
+    Listed, run_listed, run_scheduled, run_seeded, run_threads_lean, run_threads_listed,
+};
 
 // The count of a mark.
 fn count_of(mark: &Option<EndMark>) -> u64
@@ -130,8 +132,8 @@ fn recording_of<B: Book>(
     })
 }
 
-// A run whose harts are in threads of their own, with the list of its turns. The turns of one hart have one
-// order alone, so it needs no thread and no lock.
+// A run by the gate's schedule, or else of harts in threads of their own, with the list of its turns. The turns of one
+// hart have one order alone, so it needs neither.
 fn run_unseeded<G: Gate, R: Threads + Wait + Sync>(
     rt: &R,
     alloc: Global,
@@ -143,10 +145,13 @@ fn run_unseeded<G: Gate, R: Threads + Wait + Sync>(
     if start.settings.harts() == 1 {
         return run_listed(alloc, start, LeanBook, 0);
     }
-    run_threads_listed(rt, alloc, start, LeanBook, gate)
+    match gate.schedule() {
+        Some(schedule) => run_scheduled(alloc, start, LeanBook, schedule),
+        None => run_threads_listed(rt, alloc, start, LeanBook, gate),
+    }
 }
 
-// Such a run of which nothing is kept of a turn.
+// Such a run, of which no list is given. In threads nothing is kept of a turn.
 fn run_unseeded_lean<G: Gate, R: Threads + Wait + Sync>(
     rt: &R,
     alloc: Global,
@@ -158,7 +163,10 @@ fn run_unseeded_lean<G: Gate, R: Threads + Wait + Sync>(
     if start.settings.harts() == 1 {
         return run_seeded(alloc, start, LeanBook, 0);
     }
-    run_threads_lean(rt, alloc, start, LeanBook, gate)
+    match gate.schedule() {
+        Some(schedule) => Ok(run_scheduled(alloc, start, LeanBook, schedule)?.closed),
+        None => run_threads_lean(rt, alloc, start, LeanBook, gate),
+    }
 }
 
 /// The recording of the run by the turns that a number chooses, or, where there is none, of a run whose

@@ -1,16 +1,33 @@
 //! Records runs and replays their logs, over the files of the system and the standard streams.
 //!
-//! All that the program does is `bugnet::run`. Here it gets its words, the real store, source and
-//! sinks, and a gate that never holds a hart. No text waits in a buffer: a write that fails does so in the command that made it, the
-//! two outputs keep their order, and what a command prints is seen before the next one is read.
+//! All that the program does is `bugnet::run`. Here it gets its words, the real store, source and sinks, and the turns that
+//! the environment names for a recording without a seed. No text waits in a buffer: a write that fails does so in the
+//! command that made it, the two outputs keep their order, and what a command prints is seen before the next one is read.
 #![tactic(auto)]
 
-use bn_outside::{OpenGate, send_all};
+mod schedule;
+
+use crate::schedule::turns_of;
+use bn_outside::{LoadError, send_all};
 use host_outside::{FileStore, ReaderSource, Writing, words_of};
 use std::process::ExitCode;
 
-// The status for want of memory.
+// The statuses with which the program ends before it begins: a file that can't be loaded, isn't there or is too long, and
+// out of memory.
+const FAILED: u8 = 3;
+const MISSING: u8 = 4;
+const TOO_LONG: u8 = 5;
 const OUT_OF_MEMORY: u8 = 9;
+
+// The status and the line of a list of turns that isn't loaded.
+fn refusal_of(error: LoadError) -> (u8, &'static [u8]) {
+    match error {
+        LoadError::Missing => (MISSING, b"bugnet: missing list of turns\n"),
+        LoadError::TooLong => (TOO_LONG, b"bugnet: too long list of turns\n"),
+        LoadError::Failed => (FAILED, b"bugnet: store failed list of turns\n"),
+        LoadError::OutOfMemory => (OUT_OF_MEMORY, b"bugnet: out of memory\n"),
+    }
+}
 
 fn main(rt: HostRuntime) -> ExitCode {
     let mut err = Writing::new(rt.stderr());
@@ -19,6 +36,14 @@ fn main(rt: HostRuntime) -> ExitCode {
         return ExitCode::from(OUT_OF_MEMORY);
     };
     let mut store = FileStore::new(&rt);
+    let turns = match turns_of(&rt, rt.alloc(), &words, &mut store) {
+        Ok(turns) => turns,
+        Err(error) => {
+            let (status, line) = refusal_of(error);
+            let _ = send_all(&mut err, line);
+            return ExitCode::from(status);
+        }
+    };
     let mut input = ReaderSource::new(rt.stdin());
     let mut out = Writing::new(rt.stdout());
     let status = bugnet::run(
@@ -29,7 +54,7 @@ fn main(rt: HostRuntime) -> ExitCode {
         &mut input,
         &mut out,
         &mut err,
-        &OpenGate,
+        &turns,
     );
     ExitCode::from(status)
 }

@@ -3,7 +3,9 @@ pub mod Live
 pub mod Counted
 pub mod Seeds
 pub mod Taken
+pub mod Draws
 pub mod Errors
+pub mod Follows
 pub mod Whole
 pub mod Own
 pub mod OwnTurns

@@ -41,7 +41,7 @@ take_more xs at h =
     let next : at + 1 ≡ suc at = omega arith in
     ap (λ (n : ℕ). take n xs) next ∙ take-suc xs at 0 h
 
-split_at : (xs : List ℕ) (at : ℕ) → at < length xs → xs ≡ take at xs ++ get_or xs at 0 ∷ drop (suc at) xs
+pub split_at : (xs : List ℕ) (at : ℕ) → at < length xs → xs ≡ take at xs ++ get_or xs at 0 ∷ drop (suc at) xs
 split_at xs at h = sym (take-append-drop at xs) ∙ ap (λ (ys : List ℕ). take at xs ++ ys) (drop-cons xs at 0 h)
 
 pub illegal_is : (tells : Bool) (b : Began) (s : Seen) (list : List ℕ) (at : ℕ) → s.began ≡ b → HasTaken tells s (take at list) → at < length list → is_live s.began.settings (list_run s.began (take at list)) (get_or list at 0) ≡ false → error_of b list ≡ Some (IllegalTurn at (get_or list at 0))

@@ -4,7 +4,7 @@ ghost use Rattle.run_model.specs.Turn.{Run};
 ghost use Rattle.run_model.specs.Runs.{draw, chosen, any_live, most_turns};
 ghost use Rattle.run_model.specs.Runs as runs;
 ghost use Rattle.bus_core.specs.Bus.{is_live, IsState};
-ghost use Rattle.whole_runs.specs.Lists.{live_harts_of, IsChosen, IsLiveCount};
+ghost use Rattle.whole_runs.specs.Lists.{without, live_without, live_harts_of, IsChosen, IsLiveCount};
 
 use bn_base::HartId;
 use bn_outside::Book;
@@ -19,17 +19,59 @@ pub fn draw(state: u64) -> u64
         .wrapping_add(1442695040888963407)
 }
 
-/// How many harts are live.
-pub fn count_live<B: Book>(bus: &Bus<B>) -> u8
-    ensures { (run : Run) → IsState bus.now run → result ≡ length (live_harts_of bus.now.began run) }
+// Whether a hart is live, and isn't the one that is left out.
+fn is_live_without<B: Book>(bus: &Bus<B>, left_out: Option<HartId>, hart: HartId) -> bool
+    ensures run { (run : Run) → IsState bus.now run → hart < bus.now.began.settings.harts → result ≡ (without left_out run.harts hart).live }
+    ensures live { result ≡ true → is_live bus.now hart ≡ true }
+    ensures left { result ≡ true → bus.now.turns < most_turns bus.now.began.settings }
+{
+    match left_out {
+        None => bus.live(hart),
+        Some(other) => hart != other && bus.live(hart),
+    }
+}
+
+/// How many harts are live, without the one that is left out.
+pub fn count_without<B: Book>(bus: &Bus<B>, left_out: Option<HartId>) -> u8
+    ensures { (run : Run) → IsState bus.now run → result ≡ length (live_without bus.now.began run left_out) }
 {
     let mut count = 0;
     for hart in 0..bus.start().settings.harts() {
-        if bus.live(hart) {
+        if is_live_without(bus, left_out, hart) {
             count += 1;
         }
     }
     count
+}
+
+/// The live hart of this number, without the one that is left out, counted in ascending order from 0.
+pub fn live_at_without<B: Book>(
+    bus: &Bus<B>,
+    left_out: Option<HartId>,
+    number: u8,
+) -> Option<HartId>
+    ensures value { (run : Run) → IsState bus.now run → result ≡ slice_get (live_without bus.now.began run left_out) number }
+    ensures live { IfSome result (λ hart. is_live bus.now hart ≡ true) }
+    ensures within { IfSome result (λ hart. hart < bus.now.began.settings.harts) }
+    ensures left { OnSome result (bus.now.turns < most_turns bus.now.began.settings) }
+{
+    let mut left = number;
+    for hart in 0..bus.start().settings.harts() {
+        if is_live_without(bus, left_out, hart) {
+            if left == 0 {
+                return Some(hart);
+            }
+            left -= 1;
+        }
+    }
+    None
+}
+
+/// How many harts are live.
+pub fn count_live<B: Book>(bus: &Bus<B>) -> u8
+    ensures { (run : Run) → IsState bus.now run → result ≡ length (live_harts_of bus.now.began run) }
+{
+    count_without(bus, None)
 }
 
 /// The live hart of this number, counted in ascending order from 0.
@@ -39,16 +81,7 @@ pub fn live_at<B: Book>(bus: &Bus<B>, number: u8) -> Option<HartId>
     ensures within { IfSome result (λ hart. hart < bus.now.began.settings.harts) }
     ensures left { OnSome result (bus.now.turns < most_turns bus.now.began.settings) }
 {
-    let mut left = number;
-    for hart in 0..bus.start().settings.harts() {
-        if bus.live(hart) {
-            if left == 0 {
-                return Some(hart);
-            }
-            left -= 1;
-        }
-    }
-    None
+    live_at_without(bus, None, number)
 }
 
 // The hart that is chosen where there is one alone, whatever is drawn: it, if it is live.

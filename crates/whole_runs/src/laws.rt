@@ -1,5 +1,6 @@
 //! Laws of lists of turns. These functions do nothing: their contracts are theorems.
 ghost use Rattle.whole_runs.specs.Laws.{SeededListsEnd, RowsNameTheirHarts, WholeRunsHaveNoError};
+ghost use Rattle.whole_runs.specs.Followed.{WholeListsAreFollowed};
 
 use run_laws::runs_end;
 
@@ -22,4 +23,10 @@ pub fn rows_name_their_harts()
 #[tactic(auto, using(crate::proofs::Errors::no_error))]
 pub fn whole_runs_have_no_error()
     ensures { WholeRunsHaveNoError }
+{}
+
+/// A run that follows a legal and finished list has that list.
+#[tactic(auto, using(crate::proofs::Follows::whole_followed))]
+pub fn whole_lists_are_followed()
+    ensures { WholeListsAreFollowed }
 {}

@@ -3,6 +3,9 @@
 #![tactic(auto)]
 
 mod choosing;
+mod drawing;
+mod drawn_turns;
+mod followed_turns;
 mod hart_place;
 mod laws;
 mod listed;
@@ -11,15 +14,17 @@ mod listed_end;
 mod listed_threads;
 mod listed_worker;
 mod runs;
+mod scheduled;
 mod turn_port;
 mod turns;
 
 pub use hart_place::HartPlace;
-pub use laws::{rows_name_their_harts, seeded_lists_end, whole_runs_have_no_error};
+pub use laws::{rows_name_their_harts, seeded_lists_end, whole_lists_are_followed, whole_runs_have_no_error};
 pub use listed::Listed;
 pub use listed_bus::{Beginning, ListedBus};
 pub use listed_threads::{run_threads_lean, run_threads_listed};
 pub use listed_worker::{ListedPort, work_listed};
 pub use runs::{run_listed, run_seeded, run_turns};
+pub use scheduled::run_scheduled;
 pub use turn_port::{MemoryPort, TurnPort, drive};
 pub use turns::{close, finish_unlisted};

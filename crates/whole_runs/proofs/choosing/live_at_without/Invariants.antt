@@ -3,10 +3,10 @@ use Rattle.std.specs.Prelude.{slice_get}
 use Rattle.run_model.specs.Turn.{Run}
 use Rattle.run_model.specs.Runs.{live_harts}
 use Rattle.bus_core.specs.Bus.{IsState}
-use Rattle.whole_runs.specs.Lists.{live_harts_of}
-use Rattle.whole_runs.proofs.choosing.live_at.Given as goal
+use Rattle.whole_runs.specs.Lists.{without, live_without}
+use Rattle.whole_runs.proofs.choosing.live_at_without.Given as goal
 
 abbrev pub invariant-loop-hart : goal.invariant-loop-hart
 invariant-loop-hart g l = record {
-  value : (run : Run) → IsState l.bus run → slice_get (live_harts_of l.bus.began run) l.fn.number ≡ slice_get (live_harts l.hart (l.bus.began.settings.harts - l.hart) run.harts) l.left;
+  value : (run : Run) → IsState l.bus run → slice_get (live_without l.bus.began run l.left_out) l.fn.number ≡ slice_get (live_harts l.hart (l.bus.began.settings.harts - l.hart) (without l.left_out run.harts)) l.left;
 }
