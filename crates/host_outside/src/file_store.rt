@@ -1,26 +1,31 @@
 //! The files of the system as a store.
-ghost use Rattle.std.specs.Prelude.{◌≡◌, ◌≤◌, None, IfOk, IsFalse, vec_len};
+ghost use Rattle.std.specs.Prelude.{◌≡◌, ◌≤◌, ◌↔◌, None, IfOk, IsFalse, vec_len};
 ghost use Rattle.std.specs.List.{Contains};
-ghost use Rattle.host_outside.specs.declared.loaded_files.FileId.{FileId as AnyFile};
+ghost use Rattle.host_outside.specs.Answers.{FileTells};
+ghost use Rattle.host_outside.specs.declared.spared_files.FileId.{FileId as AnyFile};
 
 use crate::limits::most_bytes;
-use crate::loaded_files::{FileId, LoadedFiles, id_of};
+use crate::opened::{Opened, open_to_read, open_to_write, save_options};
+use crate::replacing::{
+    end_of_links, is_free, make_beside, make_like, overwrite, put, put_over, save_error,
+};
+use crate::spared_files::SparedFiles;
 use crate::streams::ReaderSource;
 use bn_outside::{LoadError, ReadError, SaveError, Store, read_to_end};
 use std::alloc::Global;
-use std::fs::{Files, OpenFile, OpenOptions};
-use std::io::{ErrorKind, Read, Write};
-use std::os::unix::fs::FileTypeExt;
-use std::{fs, io};
+use std::fs;
+use std::fs::Files;
+use std::io::{ErrorKind, Read};
 
 /// The files of the system. A name is a path.
 ///
 /// What the files hold is told by no clause, since others may change them at any moment. A save never replaces what
-/// was loaded through the same store, by whatever name: such a save fails, and the file stays as it is.
+/// was loaded or saved through the same store, by whatever name: such a save fails, and the file stays as it is.
 #[derive(Drop)]
 pub struct FileStore<'a, R: Files> {
     rt: &'a R,
-    loaded: LoadedFiles,
+    alloc: Global,
+    spared: SparedFiles,
     misses: u64,
     longs: u64,
     faults: u64,
@@ -28,7 +33,7 @@ pub struct FileStore<'a, R: Files> {
 }
 
 impl<'a, R: Files + AllocGlobal> FileStore<'a, R> {
-    /// The files of a host, with nothing loaded and nothing counted yet.
+    /// The files of a host, with nothing loaded, saved or counted yet.
     pub fn new(rt: &'a R) -> Self
         ensures misses { result.misses ≡ 0 }
         ensures longs { result.longs ≡ 0 }
@@ -37,7 +42,8 @@ impl<'a, R: Files + AllocGlobal> FileStore<'a, R> {
     {
         FileStore {
             rt,
-            loaded: LoadedFiles::new(rt.alloc()),
+            alloc: rt.alloc(),
+            spared: SparedFiles::new(rt.alloc()),
             misses: 0,
             longs: 0,
             faults: 0,
@@ -46,44 +52,11 @@ impl<'a, R: Files + AllocGlobal> FileStore<'a, R> {
     }
 }
 
-// A file that is open, which one it is, and what its metadata says of it.
-#[derive(Drop)]
-struct Opened<F> {
-    file: F,
-    id: FileId,
-    size: usize,
-    is_regular: bool,
-    is_stream: bool,
-}
-
-// The open file itself is asked which one it is: by now its name can lead to another.
-fn identified<F: OpenFile + Drop>(file: F) -> io::Result<Opened<F>> {
-    let metadata = file.metadata()?;
-    let kind = metadata.file_type();
-    Ok(Opened {
-        file,
-        id: id_of(&metadata),
-        size: usize::try_from(metadata.len()).unwrap_or(0),
-        is_regular: kind.is_file(),
-        is_stream: kind.is_char_device() || kind.is_fifo(),
-    })
-}
-
-// Opens a file that is there.
-fn open_to_read<R: Files>(rt: &R, name: &str) -> io::Result<Opened<R::File>> {
-    identified(fs::open(rt, name)?)
-}
-
-// Opens a file, and makes it if it isn't there. It isn't emptied.
-fn open_to_write<R: Files>(rt: &R, name: &str) -> io::Result<Opened<R::File>> {
-    let mut options = OpenOptions::new();
-    options.write(true).create(true);
-    identified(options.open(rt, name)?)
-}
-
 // Why a file that can't be opened isn't loaded.
 // Only a name that isn't there is missing: a file without permission is a failure, and so is a folder once it is read.
-fn load_error(kind: ErrorKind) -> LoadError {
+fn load_error(kind: ErrorKind) -> LoadError
+    ensures { (result ≡ LoadError.Missing) ↔ (kind ≡ ErrorKind.NotFound) }
+{
     match kind {
         ErrorKind::NotFound => LoadError::Missing,
         ErrorKind::OutOfMemory => LoadError::OutOfMemory,
@@ -91,18 +64,17 @@ fn load_error(kind: ErrorKind) -> LoadError {
     }
 }
 
-// Opens a file to be loaded, and remembers it. A terminal or a pipe keeps nothing that a save could destroy.
+// Opens a file to be loaded, and remembers it.
 fn open_to_load<R: Files>(
     rt: &R,
     name: &str,
-    loaded: &mut LoadedFiles,
+    spared: &mut SparedFiles,
 ) -> Result<Opened<R::File>, LoadError>
-    ensures remembered { IfOk result (λ file. IsFalse file.is_stream → Contains loaded.new file.id) }
-    ensures kept { (id : AnyFile) → Contains loaded.old id → Contains loaded.new id }
+    ensures remembered { IfOk result (λ opened. IsFalse opened.is_stream → Contains spared.new opened.id) }
+    ensures kept { (id : AnyFile) → Contains spared.old id → Contains spared.new id }
 {
     match open_to_read(rt, name) {
-        Ok(open) if open.is_stream => Ok(open),
-        Ok(open) => match loaded.add(open.id) {
+        Ok(open) => match open.remember(spared) {
             Ok(()) => Ok(open),
             Err(_) => Err(LoadError::OutOfMemory),
         },
@@ -114,11 +86,15 @@ fn open_to_load<R: Files>(
 fn read_file<F: Read + Drop>(
     alloc: Global,
     open: Opened<F>,
+    spared: &SparedFiles,
     limit: usize,
 ) -> Result<Vec<u8>, LoadError>
-    ensures { IfOk result (λ bytes. vec_len bytes ≤ limit) }
+    requires { IsFalse open.is_stream → Contains spared.now open.id }
+    ensures bound { IfOk result (λ bytes. vec_len bytes ≤ limit) }
+    ensures told { FileTells (F.remaining open.file) limit result }
 {
-    let Opened { file, size, .. } = open;
+    let Opened { file, metadata, .. } = open;
+    let size = usize::try_from(metadata.len()).unwrap_or(0);
     match read_to_end(alloc, &mut ReaderSource::new(file), size, limit) {
         Ok(bytes) => Ok(bytes),
         Err(ReadError::TooLong) => Err(LoadError::TooLong),
@@ -133,13 +109,13 @@ fn load_file<R: Files>(
     alloc: Global,
     name: &str,
     limit: usize,
-    loaded: &mut LoadedFiles,
+    spared: &mut SparedFiles,
 ) -> Result<Vec<u8>, LoadError>
     ensures bound { IfOk result (λ bytes. vec_len bytes ≤ limit) }
-    ensures kept { (id : AnyFile) → Contains loaded.old id → Contains loaded.new id }
+    ensures kept { (id : AnyFile) → Contains spared.old id → Contains spared.new id }
 {
-    let open = open_to_load(rt, name, loaded)?;
-    read_file(alloc, open, limit)
+    let open = open_to_load(rt, name, spared)?;
+    read_file(alloc, open, spared, limit)
 }
 
 // Whether the system lets this process make a file so long. A write past its limit would end the process by a
@@ -155,53 +131,79 @@ fn has_room<R: Files>(rt: &R, name: &str, length: usize) -> bool {
     }
 }
 
-// Opens a file to be saved, unless it is one that was loaded. It isn't emptied.
+// Opens a file to be saved, unless it is one that was loaded or saved. It isn't emptied.
 fn open_to_save<R: Files>(
     rt: &R,
     name: &str,
-    loaded: &LoadedFiles,
+    spared: &SparedFiles,
 ) -> Result<Opened<R::File>, SaveError>
-    ensures spared { IfOk result (λ file. Contains loaded.now file.id → ⊥) }
+    ensures spared { IfOk result (λ opened. Contains spared.now opened.id → ⊥) }
 {
-    match open_to_write(rt, name) {
+    match open_to_write(rt, name, &save_options()) {
         Ok(open) => {
-            if loaded.has(open.id) {
+            if spared.has(open.id) {
                 return Err(SaveError::Failed);
             }
             Ok(open)
         }
-        Err(_) => Err(SaveError::Failed),
+        Err(error) => Err(save_error(error.kind())),
     }
 }
 
-// Gives an open file these bytes, in place of what it has.
-fn replace<F: OpenFile + Write + Drop>(open: Opened<F>, bytes: &[u8]) -> io::Result<()> {
-    let Opened {
-        mut file,
-        is_regular,
-        ..
-    } = open;
-    if is_regular {
-        file.set_len(0)?;
-    }
-    file.write_all(bytes)
-}
-
-// Saves a file; the error says no more than that it isn't saved whole.
-fn save_file<R: Files>(
+// Saves a file under a name that none has.
+fn save_new<R: Files>(
     rt: &R,
+    alloc: Global,
     name: &str,
     bytes: &[u8],
-    loaded: &LoadedFiles,
-) -> Result<(), SaveError> {
+    spared: &mut SparedFiles,
+) -> Result<(), SaveError>
+    ensures { (id : AnyFile) → Contains spared.old id → Contains spared.new id }
+{
+    match make_beside(rt, alloc, name) {
+        Ok(fresh) => put(rt, fresh, name, bytes, spared),
+        Err(error) => Err(save_error(error.kind())),
+    }
+}
+
+// Saves a file that is there, and open. The name is its own, and no link.
+fn save_over<R: Files>(
+    rt: &R,
+    alloc: Global,
+    open: Opened<R::File>,
+    name: &str,
+    bytes: &[u8],
+    spared: &mut SparedFiles,
+) -> Result<(), SaveError>
+    requires { Contains spared.old open.id → ⊥ }
+    ensures { (id : AnyFile) → Contains spared.old id → Contains spared.new id }
+{
+    match make_like(rt, alloc, &open, name) {
+        Ok(Some(fresh)) => put_over(rt, fresh, name, open.id, bytes, spared),
+        Ok(None) => overwrite(open, bytes, spared),
+        Err(error) => Err(save_error(error.kind())),
+    }
+}
+
+// Saves a file.
+fn save_file<R: Files>(
+    rt: &R,
+    alloc: Global,
+    name: &str,
+    bytes: &[u8],
+    spared: &mut SparedFiles,
+) -> Result<(), SaveError>
+    ensures { (id : AnyFile) → Contains spared.old id → Contains spared.new id }
+{
     if !has_room(rt, name, bytes.len()) {
         return Err(SaveError::Failed);
     }
-    let open = open_to_save(rt, name, loaded)?;
-    match replace(open, bytes) {
-        Ok(()) => Ok(()),
-        Err(_) => Err(SaveError::Failed),
+    let end = end_of_links(rt, alloc, name)?;
+    if is_free(rt, end.as_str()) {
+        return save_new(rt, alloc, end.as_str(), bytes, spared);
     }
+    let open = open_to_save(rt, name, spared)?;
+    save_over(rt, alloc, open, end.as_str(), bytes, spared)
 }
 
 impl<'a, R: Files> Store for FileStore<'a, R> {
@@ -217,7 +219,7 @@ impl<'a, R: Files> Store for FileStore<'a, R> {
     ghost note = { λ _ _. 0 };
 
     fn load(&mut self, alloc: Global, name: &str, limit: usize) -> Result<Vec<u8>, LoadError> {
-        let result = load_file(self.rt, alloc, name, limit, &mut self.loaded);
+        let result = load_file(self.rt, alloc, name, limit, &mut self.spared);
         match &result {
             Err(LoadError::Missing) => self.misses = self.misses.saturating_add(1),
             Err(LoadError::TooLong) => self.longs = self.longs.saturating_add(1),
@@ -229,12 +231,12 @@ impl<'a, R: Files> Store for FileStore<'a, R> {
 
     fn save(&mut self, name: &str, bytes: &[u8]) -> Result<(), SaveError> {
         self.saves = self.saves.saturating_add(1);
-        match save_file(self.rt, name, bytes, &self.loaded) {
-            Ok(()) => Ok(()),
-            Err(_) => {
+        match save_file(self.rt, self.alloc, name, bytes, &mut self.spared) {
+            Err(SaveError::Failed) => {
                 self.faults = self.faults.saturating_add(1);
                 Err(SaveError::Failed)
             }
+            other => other,
         }
     }
 }

@@ -7,10 +7,13 @@
 
 mod file_store;
 mod limits;
-mod loaded_files;
+mod opened;
+mod replacing;
+mod spared_files;
 mod streams;
 #[cfg(test)]
 mod tests;
+mod until_end;
 mod words;
 
 pub use file_store::FileStore;

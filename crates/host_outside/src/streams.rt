@@ -1,13 +1,14 @@
 // A source over a reader, and a sink over a writer.
-ghost use Rattle.std.specs.Prelude.{◌≡◌};
+ghost use Rattle.std.specs.Prelude.{◌≡◌, [], Some, cond, false};
 
+use crate::until_end::UntilEnd;
 use bn_outside::{Failed, Sink, Source};
 use std::io::{Read, Write};
 
-/// A source of what a reader gives. Each read is one read of it.
+/// A source of what a reader gives. Each read is one read of it, until it has said that it ended.
 #[derive(Drop)]
 pub struct ReaderSource<R> {
-    inner: R,
+    inner: UntilEnd<R>,
     faults: u64,
     reads: u64,
 }
@@ -15,12 +16,12 @@ pub struct ReaderSource<R> {
 impl<R: Read> ReaderSource<R> {
     /// A source of this reader, with nothing counted yet.
     pub fn new(inner: R) -> Self
-        ensures inner { result.inner ≡ inner }
+        ensures inner { result.inner ≡ record { inner = inner; has_ended = false } }
         ensures faults { result.faults ≡ 0 }
         ensures reads { result.reads ≡ 0 }
     {
         ReaderSource {
-            inner,
+            inner: UntilEnd::new(inner),
             faults: 0,
             reads: 0,
         }
@@ -28,7 +29,7 @@ impl<R: Read> ReaderSource<R> {
 }
 
 impl<R: Read> Source for ReaderSource<R> {
-    ghost left = { λ s. R.remaining s.inner };
+    ghost left = { λ s. cond s.inner.has_ended (Some []) (R.remaining s.inner.inner) };
 
     ghost faults = { λ s. s.faults };
 

@@ -8,8 +8,9 @@ use crate::words::words_of;
 use bn_outside::{Failed, LoadError, SaveError, Source, Store, read_to_end, send_all};
 use std::alloc::{AllocError, Global};
 use std::env::{Env, FillError};
-use std::fs::Files;
-use std::os::unix::fs::symlink;
+use std::fs::{Files, Permissions};
+use std::io::Read;
+use std::os::unix::fs::{MetadataExt, PermissionsExt, symlink};
 use std::test::Fail;
 use std::{env, fs, io, process};
 
@@ -49,8 +50,8 @@ fn name_in(alloc: Global, folder: &str, word: &str, process: u32) -> Result<Stri
 // Whether a longer file is saved, and a shorter one in its place that is kept; whether it is missing once it was
 // removed; and whether a folder is refused.
 fn replaced<R: Files + AllocGlobal>(rt: &R, alloc: Global, name: &str, folder: &str) -> [bool; 5] {
+    let longer = FileStore::new(rt).save(name, b"a longer text") == Ok(());
     let mut store = FileStore::new(rt);
-    let longer = store.save(name, b"a longer text") == Ok(());
     let kept = is_kept(alloc, &mut store, name, b"text");
     let removed = fs::remove_file(rt, name).is_ok();
     let missing = refusal(alloc, &mut store, name, 4) == Some(LoadError::Missing);
@@ -168,10 +169,119 @@ fn a_save_never_destroys_what_was_loaded(rt: HostRuntime) -> Result<(), Fail> {
     Ok(())
 }
 
+// Whether a store that saved a file refuses to save it by another spelling of its name, and the file stays.
+fn is_saved_once<R: Files + AllocGlobal>(
+    rt: &R,
+    folder: &str,
+    spelling: &str,
+) -> Result<bool, AllocError> {
+    let alloc = rt.alloc();
+    let name = format!(in alloc; "{folder}/FILE")?;
+    let spelled = format!(in alloc; "{folder}/{spelling}")?;
+    let mut store = FileStore::new(rt);
+    Ok(
+        store.save(name.as_str(), b"first") == Ok(())
+            && store.save(spelled.as_str(), b"second") == Err(SaveError::Failed)
+            && loads(alloc, &mut store, name.as_str(), 5, b"first"),
+    )
+}
+
+// The spellings of a file in a folder with links, saved where it is there and where it isn't.
+fn each_is_saved_once<R: Files + AllocGlobal>(
+    rt: &R,
+    folder: &str,
+) -> Result<[bool; 5], AllocError> {
+    let alloc = rt.alloc();
+    let name = format!(in alloc; "{folder}/FILE")?;
+    let there = is_saved_once(rt, folder, "FILE")?;
+    let hard = is_saved_once(rt, folder, "hard")?;
+    let removed = fs::remove_file(rt, name.as_str()).is_ok();
+    let soft = is_saved_once(rt, folder, "inner/soft")?;
+    let dotted = removed && fs::remove_file(rt, name.as_str()).is_ok();
+    Ok([
+        there,
+        hard,
+        soft,
+        dotted && is_saved_once(rt, folder, "./FILE")?,
+        is_saved_once(rt, folder, "inner/../FILE")?,
+    ])
+}
+
+#[test]
+fn a_save_never_destroys_what_was_saved(rt: HostRuntime) -> Result<(), Fail> {
+    let temporary = env::temp_dir(&rt)?;
+    let folder = name_in(
+        rt.alloc(),
+        temporary.as_str(),
+        "saved_once",
+        process::id(rt.process()),
+    )?;
+    make_links(&rt, folder.as_str())?;
+    let once = each_is_saved_once(&rt, folder.as_str())?;
+    fs::remove_dir_all(&rt, folder.as_str())?;
+    assert_eq!(rt; once, [true; 5]);
+    Ok(())
+}
+
+// Makes a file that others may not read, a link to it, and a link that has the name of a new file.
+fn make_hostile<R: Files + AllocGlobal>(rt: &R, folder: &str) -> io::Result<()> {
+    let alloc = rt.alloc();
+    let file = format!(in alloc; "{folder}/FILE")?;
+    let soft = format!(in alloc; "{folder}/soft")?;
+    let fresh = format!(in alloc; "{folder}/.zelkuma-save-0")?;
+    fs::create_dir(rt, folder)?;
+    fs::write(rt, file.as_str(), b"old")?;
+    fs::set_permissions(rt, file.as_str(), Permissions::from_mode(0o640))?;
+    symlink(rt, "FILE", soft.as_str())?;
+    symlink(rt, "VICTIM", fresh.as_str())
+}
+
+// Whether a name is a link.
+fn is_link<R: Files>(rt: &R, name: &str) -> bool {
+    fs::symlink_metadata(rt, name).is_ok_and(|there| there.is_symlink())
+}
+
+// Whether a save through a link keeps the link, gives its file the bytes, keeps what others may do with it, and touches
+// no other file.
+fn replaced_alone<R: Files + AllocGlobal>(rt: &R, folder: &str) -> Result<[bool; 5], AllocError> {
+    let alloc = rt.alloc();
+    let file = format!(in alloc; "{folder}/FILE")?;
+    let soft = format!(in alloc; "{folder}/soft")?;
+    let victim = format!(in alloc; "{folder}/VICTIM")?;
+    let left = format!(in alloc; "{folder}/.zelkuma-save-1")?;
+    let saved = FileStore::new(rt).save(soft.as_str(), b"new") == Ok(());
+    let mut store = FileStore::new(rt);
+    Ok([
+        saved && is_link(rt, soft.as_str()),
+        loads(alloc, &mut store, file.as_str(), 3, b"new"),
+        fs::metadata(rt, file.as_str()).is_ok_and(|there| there.mode() & 0o7777 == 0o640),
+        refusal(alloc, &mut store, victim.as_str(), 3) == Some(LoadError::Missing),
+        refusal(alloc, &mut store, left.as_str(), 3) == Some(LoadError::Missing),
+    ])
+}
+
+#[test]
+fn a_save_replaces_the_bytes_alone(rt: HostRuntime) -> Result<(), Fail> {
+    let temporary = env::temp_dir(&rt)?;
+    let folder = name_in(
+        rt.alloc(),
+        temporary.as_str(),
+        "hostile",
+        process::id(rt.process()),
+    )?;
+    make_hostile(&rt, folder.as_str())?;
+    let told = replaced_alone(&rt, folder.as_str())?;
+    fs::remove_dir_all(&rt, folder.as_str())?;
+    assert_eq!(rt; told, [true; 5]);
+    Ok(())
+}
+
 // Whether what keeps no bytes is loaded and then saved.
 fn stream_is_saved<R: Files + AllocGlobal>(rt: &R, alloc: Global, name: &str) -> bool {
     let mut store = FileStore::new(rt);
-    loads(alloc, &mut store, name, 0, b"") && store.save(name, b"text") == Ok(())
+    loads(alloc, &mut store, name, 0, b"")
+        && store.save(name, b"text") == Ok(())
+        && store.save(name, b"more") == Ok(())
 }
 
 #[test]
@@ -188,6 +298,33 @@ fn text_is_read(alloc: Global) -> bool {
         Ok(rest) => first && rest.as_slice() == b"ext".as_slice(),
         Err(_) => false,
     }
+}
+
+// A reader that says at each other read that it ended, as a terminal can.
+#[derive(Drop)]
+struct Terminal {
+    reads: u64,
+}
+
+impl Read for Terminal {
+    fn read(&mut self, buffer: &mut [u8]) -> io::Result<usize> {
+        self.reads = self.reads.saturating_add(1);
+        Ok(if self.reads % 2 == 1 { 0 } else { buffer.len() })
+    }
+}
+
+// What two reads give of a reader that has ended and could go on.
+fn read_twice() -> [bool; 2] {
+    let mut source = ReaderSource::new(Terminal { reads: 0 });
+    [
+        source.read(&mut [0]) == Ok(0),
+        source.read(&mut [0]) == Ok(0),
+    ]
+}
+
+#[test]
+fn a_reader_that_has_ended_is_not_read_again(rt: HostRuntime) {
+    assert_eq!(rt; read_twice(), [true; 2]);
 }
 
 // Whether a folder can be opened, and not read.

@@ -1,7 +1,7 @@
-// Which files a process has loaded.
+// Which files no save may replace.
 ghost use Rattle.std.specs.Prelude.{◌≡◌, ◌↔◌, ◌++◌, ◌∷◌, [], IsTrue, List, OnErr, OnOk};
 ghost use Rattle.std.specs.List.{Contains};
-ghost use Rattle.host_outside.specs.declared.loaded_files.FileId.{FileId};
+ghost use Rattle.host_outside.specs.declared.spared_files.FileId.{FileId};
 
 use std::alloc::{AllocError, Global};
 use std::fs::Metadata;
@@ -23,24 +23,24 @@ pub fn id_of(metadata: &Metadata) -> FileId {
     }
 }
 
-/// The files that a process has loaded, in the order of the loads.
+/// The files that a process has loaded or saved, in the order of these calls.
 #[derive(Drop)]
-pub struct LoadedFiles {
+pub struct SparedFiles {
     ids: Vec<FileId>,
 }
 
-impl Model for LoadedFiles {
+impl Model for SparedFiles {
     ghost Value = { List FileId };
 
     ghost view = { λ f. f.ids.items };
 }
 
-impl LoadedFiles {
+impl SparedFiles {
     /// No file.
     pub fn new(alloc: Global) -> Self
         ensures { result ≡ [] }
     {
-        LoadedFiles {
+        SparedFiles {
             ids: Vec::new(alloc),
         }
     }
@@ -54,7 +54,7 @@ impl LoadedFiles {
         Ok(())
     }
 
-    /// Whether the file was loaded.
+    /// Whether the file was added.
     pub fn has(&self, id: FileId) -> bool
         ensures { IsTrue result ↔ Contains self.now id }
     {
