@@ -1,7 +1,7 @@
 -- Small logs, written by hand, and their races.
 use Rattle.std.specs.Prelude.{ℕ, ◌-◌, ◌*◌, List, [], ◌∷◌, map}
 use Rattle.log_record.specs.declared.record.Record.{Record}
-use Rattle.log_record.specs.declared.record.Record.TheVariants.{Header, FirstLoad, Edge}
+use Rattle.log_record.specs.declared.record.Record.TheVariants.{Header, FirstLoad, ScFailed, Edge}
 use Rattle.joint_replay.specs.Joining.{Joining, fresh, run_all}
 use Rattle.joint_replay.specs.Examples.{code, end, relay_words}
 use Rattle.race_report.specs.declared.race.Race.{Race}
@@ -36,6 +36,20 @@ passed_message = message (FirstLoad 0 0 0 ∷ Edge 1 2 0 3 ∷ FirstLoad 1 0 2 �
 -- or before it
 abbrev pub early_message : Joining
 early_message = message (FirstLoad 1 0 0 ∷ Edge 1 3 0 2 ∷ FirstLoad 1 0 2 ∷ Edge 0 3 1 2 ∷ FirstLoad 0 0 2 ∷ end 0 6 3 0 ∷ end 1 6 3 1 ∷ [])
+
+-- hart 1 does this in the place of its AMO
+abbrev pub received_by : ℕ → List Record → Joining
+received_by word records =
+    fresh (code 2 (0x00020437 ∷ 0x00051a63 ∷ 0x00b42223 ∷ 0x00b4232f ∷ 0x05d00893 ∷ 0x00000073 ∷ word ∷ 0x00442283 ∷ 0x05d00893 ∷ 0x00000073 ∷ [])) 2
+    (first_header 2 0 ∷ first_header 2 1 ∷ records)
+
+-- lr.w t1,(s0), after hart 0's AMO
+abbrev pub reserved_message : Joining
+reserved_message = received_by 0x1004232f (FirstLoad 0 0 0 ∷ Edge 1 2 0 3 ∷ FirstLoad 1 0 2 ∷ FirstLoad 1 0 2 ∷ end 0 6 3 0 ∷ end 1 6 3 1 ∷ [])
+
+-- sc.w t1,a1,(s0), which fails
+abbrev pub missed_message : Joining
+missed_message = received_by 0x18b4232f (FirstLoad 0 0 0 ∷ ScFailed 1 ∷ Edge 1 3 0 2 ∷ FirstLoad 1 0 2 ∷ end 0 6 3 0 ∷ end 1 6 3 1 ∷ [])
 
 -- ---- what is shown of them
 

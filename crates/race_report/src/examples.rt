@@ -1,7 +1,7 @@
 // Small logs and their races.
 ghost use Rattle.std.specs.Prelude.{◌≡◌, ◌∷◌, []};
 ghost use Rattle.joint_replay.specs.Examples.{filled_word};
-ghost use Rattle.race_report.specs.Examples.{relay, passed_message, early_message, races_in, count_in};
+ghost use Rattle.race_report.specs.Examples.{relay, passed_message, early_message, reserved_message, missed_message, races_in, count_in};
 
 /// A relay by plain loads and stores: no chain orders any of its conflicts, though each hart saw what the
 /// one before it had stored.
@@ -17,6 +17,13 @@ pub fn a_relay_has_three_races()
 pub fn an_atomic_passes_a_message()
     ensures passed { races_in 2 passed_message ≡ [] }
     ensures early { races_in 2 early_message ≡ (0, 2, 1, 3, 0x20004) ∷ [] }
+{}
+
+/// A message is passed to an LR too, and not to a store-conditional that fails: that accesses nothing.
+#[tactic(auto, using(crate::proofs::Worked::reserved_races, crate::proofs::Worked::missed_races))]
+pub fn a_failed_conditional_passes_no_message()
+    ensures reserved { races_in 2 reserved_message ≡ [] }
+    ensures missed { races_in 2 missed_message ≡ (0, 2, 1, 3, 0x20004) ∷ [] }
 {}
 
 /// A read call writes the words of its bytes.

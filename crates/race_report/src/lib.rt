@@ -26,7 +26,10 @@ mod touch;
 mod track;
 
 pub use error::RaceError;
-pub use examples::{a_filled_word_races, a_relay_has_three_races, an_atomic_passes_a_message};
+pub use examples::{
+    a_failed_conditional_passes_no_message, a_filled_word_races, a_relay_has_three_races,
+    an_atomic_passes_a_message,
+};
 pub use race::Race;
 pub use reporting::report;
 pub use telling::races_text;
