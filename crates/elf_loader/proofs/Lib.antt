@@ -7,3 +7,4 @@ pub mod Order
 pub mod Refused
 pub mod Typed
 pub mod Words
+pub mod Worked

@@ -3,3 +3,4 @@ pub mod Segments
 pub mod Loaded
 pub mod Held
 pub mod Laws
+pub mod Examples

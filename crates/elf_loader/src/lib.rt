@@ -4,6 +4,7 @@
 
 mod checks;
 mod error;
+mod examples;
 mod file_header;
 mod flags;
 pub mod laws;
@@ -11,4 +12,8 @@ mod loading;
 mod program_header;
 
 pub use error::ElfError;
+pub use examples::{
+    a_bad_table_is_refused, bad_segments_are_refused, other_files_are_refused,
+    other_programs_are_refused,
+};
 pub use loading::load;
