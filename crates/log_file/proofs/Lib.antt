@@ -6,3 +6,4 @@ pub mod Counts
 pub mod Decided
 pub mod Walks
 pub mod Counted
+pub mod Worked

@@ -5,3 +5,4 @@ pub mod File
 pub mod Counts
 pub mod Laws
 pub mod Readings
+pub mod Examples

@@ -3,6 +3,7 @@
 
 pub mod counting;
 pub mod error;
+mod examples;
 pub mod head;
 pub mod laws;
 pub mod reading;
@@ -12,5 +13,9 @@ pub mod writing;
 
 pub use counting::{LogCounts, Tally, count_file, tally_of};
 pub use error::FileError;
+pub use examples::{
+    a_head_is_refused, no_record_begins_there, other_bytes_are_no_file,
+    other_bytes_than_those_signed_are_refused,
+};
 pub use reading::read_file;
 pub use writing::write_file;
