@@ -22,3 +22,4 @@ pub mod Tallied
 pub mod Counted
 pub mod Says
 pub mod Few
+pub mod Worked

@@ -7,3 +7,4 @@ pub mod File
 pub mod Laws
 pub mod Readings
 pub mod Counts
+pub mod Examples
