@@ -8,8 +8,9 @@ ghost use Rattle.run_laws.specs.Retained.{GuardCountsFromHeaders, HeadersAreKept
 mod examples;
 
 pub use examples::{
-    a_relay_goes_on_over_intervals, a_seeded_list_ends, seed_0_begins_with_hart_1,
-    the_latest_end_is_the_last,
+    a_conditional_needs_a_reservation, a_relay_goes_on_over_intervals, a_seeded_list_ends,
+    asks_keep_to_the_budget, rows_of_no_machine_are_not_lawful, rows_of_other_asks_are_not_own,
+    seed_0_begins_with_hart_1, the_guard_begins_past_half, the_latest_end_is_the_last,
 };
 use log_ring::keeping::a_suffix_is_kept;
 use race_log::listed_edges_are_all;
