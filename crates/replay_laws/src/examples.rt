@@ -1,9 +1,11 @@
 // Small recordings, replayed.
 ghost use Rattle.std.specs.Prelude.{◌≡◌, ◌∷◌, [], map, Some, None};
-ghost use Rattle.hart_replay.specs.Replay.{Done, Refused};
-ghost use Rattle.hart_replay.specs.declared.error.ReplayError.TheVariants.{NoInterval};
-ghost use Rattle.run_model.specs.Examples.{a_fault, a_filled_word, a_guarded_load, a_late_fault, a_late_fault_unguarded, row_of_a_fault};
-ghost use Rattle.replay_laws.specs.Examples.{replay_of, a_short_log};
+ghost use Rattle.hart_replay.specs.Replay.{Done, Refused, replayed};
+ghost use Rattle.hart_replay.specs.declared.error.ReplayError.TheVariants.{NoInterval, LoadMissing, ScMissing, RecordsLeft, EndDiffers};
+ghost use Rattle.log_record.specs.declared.record.Record.TheVariants.{FirstLoad};
+ghost use Rattle.run_model.specs.Turn.{mark};
+ghost use Rattle.run_model.specs.Examples.{recorded, program_of, first_header, end, an_exit, two_loads_of_a_word, a_conditional_store, a_fault, a_filled_word, a_guarded_load, a_late_fault, a_late_fault_unguarded, row_of_a_fault};
+ghost use Rattle.replay_laws.specs.Examples.{replay_of, a_short_log, without, another_exit};
 
 /// A load that faults: its row, at the End's count.
 pub fn a_fault_is_replayed()
@@ -35,4 +37,23 @@ pub fn a_late_fault_is_replayed()
     ensures rows { map (λ r. r.ic) (replay_of a_late_fault 1 1).rows ≡ 2 ∷ [] }
     ensures done { (replay_of a_late_fault 1 1).outcome ≡ Done }
     ensures lost { replay_of a_late_fault_unguarded 1 0 ≡ record { rows = []; outcome = Refused (NoInterval 1 0) } }
+{}
+
+/// A load whose word no record gives, and a store-conditional without its record.
+#[tactic(auto, using(crate::proofs::Worked::a_load_is_missing, crate::proofs::Worked::a_conditional_is_missing))]
+pub fn a_lost_record_is_missed()
+    ensures load { (replayed (program_of two_loads_of_a_word) (without 2 two_loads_of_a_word) 0 0).outcome ≡ Refused (LoadMissing 0 1 0x20000) }
+    ensures conditional { (replayed (program_of a_conditional_store) (without 3 a_conditional_store) 0 0).outcome ≡ Refused (ScMissing 0 2) }
+{}
+
+/// A first load that no load reaches is left.
+#[tactic(auto, using(crate::proofs::Worked::a_record_is_left))]
+pub fn a_record_too_many_is_left()
+    ensures { (replayed (program_of an_exit) (first_header an_exit 0 ∷ FirstLoad 0 0 7 ∷ end 0 3 3 5 ∷ []) 0 0).outcome ≡ Refused (RecordsLeft 0 1) }
+{}
+
+/// Another program ends otherwise than the log says.
+#[tactic(auto, using(crate::proofs::Worked::an_end_differs))]
+pub fn another_program_ends_otherwise()
+    ensures { (replayed (program_of another_exit) (recorded an_exit).stream 0 0).outcome ≡ Refused (EndDiffers 0 (mark 3 3 5) (mark 3 3 6)) }
 {}

@@ -11,7 +11,8 @@ mod examples;
 
 pub use examples::{
     a_fault_is_replayed, a_filled_word_is_loaded_again, a_guarded_load_is_replayed,
-    a_late_fault_is_replayed, the_last_interval_is_replayed,
+    a_late_fault_is_replayed, a_lost_record_is_missed, a_record_too_many_is_left,
+    another_program_ends_otherwise, the_last_interval_is_replayed,
 };
 use log_ring::keeping::a_suffix_is_kept;
 use rv_meaning::{each_ask_is_orderly, each_instruction_is_counted_or_asks};
