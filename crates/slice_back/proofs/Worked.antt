@@ -1,5 +1,5 @@
 -- Slices of small logs.
-use Rattle.std.proofs.Common.{◌≡◌, [], ◌∷◌, Some, refl}
+use Rattle.std.proofs.Common.{◌≡◌, ℕ, [], ◌∷◌, Option, Some, None, refl, ap}
 use Rattle.std.specs.Prelude.{Err}
 use Rattle.std.specs.Fmt.{digits}
 use Rattle.hex.specs.Hex.{encode_with}
@@ -10,7 +10,8 @@ use Rattle.rv_text.specs.Rows.{point_text, word_text, register_text, access_text
 use Rattle.slice_back.specs.declared.error.SliceError.TheVariants.{NoRow}
 use Rattle.slice_back.specs.Slices.{registers_from}
 use Rattle.slice_back.specs.Texts.{head_text, register_line, word_line, branch_line}
-use Rattle.slice_back.specs.Examples.{shown, text_of, byte_store, byte_store_text, fault, word_store, byte_over_word, load_after_store, loaded_twice, branch_before, call}
+use Rattle.slice_back.specs.Agreeing.{AllAlike, WordsAgree}
+use Rattle.slice_back.specs.Examples.{shown, text_of, byte_store, byte_store_text, fault, word_store, byte_over_word, load_after_store, loaded_twice, branch_before, call, apart_rows, apart_slice, apart_loads}
 use Rattle.slice_back.specs.Examples as examples
 
 pub byte_store_is : text_of 0 2 byte_store ≡ byte_store_text
@@ -47,3 +48,25 @@ branch_before_is = refl
 pub call_is : shown call ≡ Some (0 ∷ 1 ∷ 2 ∷ [], (11, 1) ∷ (12, 0) ∷ [], [], [])
 unfolding registers_from
 call_is = refl
+
+pub apart_alike : AllAlike (apart_rows 5) (apart_rows 6)
+apart_alike =
+    (record { pc = refl; word = refl; store = refl; took = refl }, (record { pc = refl; word = refl; store = refl; took = refl }, (record { pc = refl; word = refl; store = refl; took = refl }, tt)))
+
+abbrev value_of : Option (ℕ × ℕ) → Option ℕ
+value_of None = None
+value_of (Some x) = Some x.1
+
+pub apart_agree : WordsAgree (apart_rows 5) (apart_rows 6)
+unfolding registers_from
+apart_agree = (λ a v e. cc, (λ a v e. cc, (λ a v e. ap value_of e, tt)))
+
+pub apart_same : apart_slice 5 ≡ apart_slice 6
+unfolding registers_from
+apart_same = refl
+
+pub apart_one : apart_loads 5 ≡ None ∷ Some 5 ∷ Some 7 ∷ []
+apart_one = refl
+
+pub apart_other : apart_loads 6 ≡ None ∷ Some 6 ∷ Some 7 ∷ []
+apart_other = refl

@@ -1,11 +1,15 @@
 -- Slices of small logs, written by hand.
-use Rattle.std.specs.Prelude.{ℕ, ◌+◌, true, false, List, [], ◌∷◌, ◌++◌, length, map, codes, Option, Some, None, Result, Ok, Err}
+use Rattle.std.specs.Prelude.{ℕ, ◌+◌, true, false, List, [], ◌∷◌, ◌++◌, length, map, take, codes, Option, Some, None, Result, Ok, Err}
 use Rattle.bn_base.specs.Programs.{Program}
+use Rattle.bn_base.specs.declared.row.Row.{Row}
+use Rattle.hart_replay.specs.Replay.{replayed}
 use Rattle.log_record.specs.declared.record.Record.{Record}
 use Rattle.log_record.specs.declared.record.Record.TheVariants.{Header, FirstLoad, End}
 use Rattle.slice_back.specs.declared.lists.Slice.{Slice}
 use Rattle.slice_back.specs.declared.error.SliceError.{SliceError}
-use Rattle.slice_back.specs.Slices.{sliced}
+use Rattle.slice_back.specs.declared.noted.Noted.{Noted}
+use Rattle.slice_back.specs.Slices.{noted, sliced, slice_rows}
+use Rattle.slice_back.specs.Agreeing.{bare}
 use Rattle.slice_back.specs.Texts.{slice_text}
 
 -- one read-only segment of code at 0x10054, run by one hart
@@ -91,3 +95,20 @@ branch_before = of_exit (0x00020437 ∷ 0x05d00893 ∷ 0x00051a63 ∷ 0x00b42023
 
 abbrev pub call : Result Slice SliceError
 call = of_exit (0x00000513 ∷ []) [] 2
+
+-- ---- lui s0,0x20; lw t0,0(s0); lw t1,4(s0): the first load has this value, and the second 7
+
+abbrev pub apart_words : List ℕ
+apart_words = 0x00020437 ∷ 0x00042283 ∷ 0x00442303 ∷ 0x05d00893 ∷ 0x00000073 ∷ []
+
+-- its rows up to the second load
+abbrev pub apart_rows : ℕ → List Noted
+apart_rows value = take 3 (noted ((0, value) ∷ (0, 7) ∷ []) (replayed (code apart_words) (kept ((0, value) ∷ (0, 7) ∷ []) 5 3 0) 0 0).rows)
+
+-- those that are in the slice of the last, hart and counts aside
+abbrev pub apart_slice : ℕ → List Row
+apart_slice value = map bare (slice_rows (apart_rows value))
+
+-- the value that each row took from the log
+abbrev pub apart_loads : ℕ → List (Option ℕ)
+apart_loads value = map (λ (e : Noted). e.first_load) (apart_rows value)

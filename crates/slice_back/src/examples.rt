@@ -1,7 +1,8 @@
 // Slices of small logs.
-ghost use Rattle.std.specs.Prelude.{◌≡◌, ◌∷◌, [], Some, Err};
+ghost use Rattle.std.specs.Prelude.{◌≡◌, ◌∷◌, [], Some, None, Err};
+ghost use Rattle.slice_back.specs.Agreeing.{AllAlike, WordsAgree};
 ghost use Rattle.slice_back.specs.declared.error.SliceError.TheVariants.{NoRow};
-ghost use Rattle.slice_back.specs.Examples.{shown, text_of, byte_store, byte_store_text, fault, fault_text, word_store, byte_over_word, load_after_store, loaded_twice, branch_before, call};
+ghost use Rattle.slice_back.specs.Examples.{shown, text_of, byte_store, byte_store_text, fault, fault_text, word_store, byte_over_word, load_after_store, loaded_twice, branch_before, call, apart_rows, apart_slice, apart_loads};
 
 /// A byte is stored over a word that the log tells, and the word loaded.
 #[tactic(auto, using(crate::proofs::Worked::byte_store_is))]
@@ -50,4 +51,14 @@ pub fn what_is_not_needed_is_left_out()
 #[tactic(auto, using(crate::proofs::Worked::call_is))]
 pub fn a_call_uses_its_arguments()
     ensures { shown call ≡ Some (0 ∷ 1 ∷ 2 ∷ [], (11, 1) ∷ (12, 0) ∷ [], [], []) }
+{}
+
+/// Two intervals that agree on the words of a slice and differ in another: their slices are the same, and not their rows.
+#[tactic(auto, using(crate::proofs::Worked::apart_alike, crate::proofs::Worked::apart_agree, crate::proofs::Worked::apart_same, crate::proofs::Worked::apart_one, crate::proofs::Worked::apart_other))]
+pub fn a_slice_does_not_hear_of_another_word()
+    ensures alike { AllAlike (apart_rows 5) (apart_rows 6) }
+    ensures agree { WordsAgree (apart_rows 5) (apart_rows 6) }
+    ensures same { apart_slice 5 ≡ apart_slice 6 }
+    ensures one { apart_loads 5 ≡ None ∷ Some 5 ∷ Some 7 ∷ [] }
+    ensures other { apart_loads 6 ≡ None ∷ Some 6 ∷ Some 7 ∷ [] }
 {}
