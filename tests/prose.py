@@ -24,7 +24,7 @@ LONGEST_CELL = 60
 PAGES = {
     "README.md": 900,
     "docs/COMMANDS.md": 4000,
-    "docs/DECISIONS.md": 2500,
+    "docs/DECISIONS.md": 3000,
     "docs/DEFINITIONS.md": None,
     "docs/FORMAT.md": 3700,
     "docs/GDB.md": 1300,
