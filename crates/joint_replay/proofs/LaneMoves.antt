@@ -14,13 +14,13 @@ use Rattle.joint_replay.specs.declared.lane.Moved.TheVariants as to
 use Rattle.joint_replay.specs.Lanes.{Cursor, Lane, Item, Passing, Doing, Ending, cursor_step, lane_step}
 use Rattle.joint_replay.specs.Harts.{Running, hart_lane, hart_cursors, later_cursors}
 use Rattle.joint_replay.specs.Calls.{bare_cursor, bare}
-use Rattle.joint_replay.specs.Moves.{CursorUnrefused, LaneUnrefused, CursorSteps, LaneSteps}
+use Rattle.joint_replay.specs.Moves.{CursorUnrefused, LaneUnrefused, CursorSteps, LaneRefuses, LaneSteps}
 
 module _ (i : Program) (records : List Record) (h : ℕ) (later : List Retained) where
   -- an ordering point is passed
-  pub passes : (old new : List ℕ) (cursor : Option Running) (ic : ℕ) → old ≡ ic ∷ new
-      → LaneSteps (hart_lane i records h old cursor later) (Ok (to.Passed ic)) (hart_lane i records h new cursor later)
-  passes old new cursor ic e = (Passing ic, ap (λ (ps : List ℕ). lane_step i (record { points = ps; cursors = hart_cursors i records h cursor later })) e, refl, refl)
+  pub passes : (old new : List ℕ) (cursor : Option Running) (ic : ℕ) (x : Did) → old ≡ ic ∷ new
+      → LaneSteps (hart_lane i records h old cursor later) (Ok (to.Passed ic)) x (hart_lane i records h new cursor later)
+  passes old new cursor ic x e = (Passing ic, ap (λ (ps : List ℕ). lane_step i (record { points = ps; cursors = hart_cursors i records h cursor later })) e, refl, refl)
 
   row_is : (c n : Cursor) (cs : List Cursor) (x : Did) → c.left ≡ with_rows (x.row ∷ []) n.left
       → n ≡ record { number = c.number; mark = c.mark; state = after_row i c.state x.row; left = n.left; faulted = is_some x.row.fault }
@@ -34,7 +34,7 @@ module _ (i : Program) (records : List Record) (h : ℕ) (later : List Retained)
 
   -- a row is given
   pub gives : (old new : List ℕ) (cursor after : Running) (x : Did) → old ≡ [] → new ≡ [] → cursor.program ≡ i → CursorSteps cursor (Ok (Some x)) after
-      → LaneSteps (hart_lane i records h old (Some cursor) later) (Ok (to.Row x)) (hart_lane i records h new (Some after) later)
+      → LaneSteps (hart_lane i records h old (Some cursor) later) (Ok to.Row) x (hart_lane i records h new (Some after) later)
   gives old new cursor after x none still same s =
       let cs : List Cursor = later_cursors i records h later in
       let here : cursor_step i cursor.cursor cs ≡ Ok (Doing cursor.cursor.state x.row, record { points = []; cursors = after.cursor ∷ cs }) =
@@ -42,7 +42,7 @@ module _ (i : Program) (records : List Record) (h : ℕ) (later : List Retained)
         Doing cursor.cursor.state x.row,
         ap (λ (ps : List ℕ). lane_step i (record { points = ps; cursors = cursor.cursor ∷ cs })) none
             ∙ ap (λ (r : Result (Item × Lane) ReplayError). Some r) (here ∙ ap (λ (ps : List ℕ). at ps) (sym still)),
-        ap (λ (y : Did). to.Row y) s.1,
+        (refl, s.1),
         refl,
       )
     where
@@ -50,10 +50,10 @@ module _ (i : Program) (records : List Record) (h : ℕ) (later : List Retained)
       at ps = Ok (Doing cursor.cursor.state x.row, record { points = ps; cursors = after.cursor ∷ later_cursors i records h later })
 
   -- an interval ends
-  pub ends : (old new : List ℕ) (cursor after : Running) (next : Option Running) (rest : List Retained) (n : ℕ) (m : EndMark) → old ≡ [] → new ≡ [] → CursorSteps cursor (Ok None) after
+  pub ends : (old new : List ℕ) (cursor after : Running) (next : Option Running) (rest : List Retained) (n : ℕ) (m : EndMark) (x : Did) → old ≡ [] → new ≡ [] → CursorSteps cursor (Ok None) after
       → n ≡ after.cursor.number → m ≡ after.cursor.mark → hart_cursors i records h next rest ≡ later_cursors i records h later
-      → LaneSteps (hart_lane i records h old (Some cursor) later) (Ok (to.Ended n m)) (hart_lane i records h new next rest)
-  ends old new cursor after next rest n m none still s number mark begun =
+      → LaneSteps (hart_lane i records h old (Some cursor) later) (Ok (to.Ended n m)) x (hart_lane i records h new next rest)
+  ends old new cursor after next rest n m x none still s number mark begun =
       let cs : List Cursor = later_cursors i records h later in
       let c : Cursor = cursor.cursor in
       let here : cursor_step i c cs ≡ Ok (Ending c.number c.mark, record { points = []; cursors = cs }) =
@@ -75,18 +75,18 @@ module _ (i : Program) (records : List Record) (h : ℕ) (later : List Retained)
   own_program None cursor e p = cc
   own_program (Some r) cursor e p = sym (ap (λ (x : Running). x.program) (same_cursor r cursor e)) ∙ p
 
-  pub gives_in : (old new : List ℕ) (o : Option Running) (cursor after : Running) (next : Option Did) (x : Did) → o ≡ Some cursor → next ≡ Some x → IfSome o (λ (r : Running). r.program ≡ i)
-      → old ≡ [] → new ≡ [] → CursorSteps cursor (Ok next) after → LaneSteps (hart_lane i records h old o later) (Ok (to.Row x)) (hart_lane i records h new (Some after) later)
-  gives_in old new o cursor after next x e f p none still s =
-      subst (λ (y : Option Running). LaneSteps (hart_lane i records h old y later) (Ok (to.Row x)) (hart_lane i records h new (Some after) later)) (sym e)
-      (gives old new cursor after x none still (own_program o cursor e p) (subst (λ (y : Option Did). CursorSteps cursor (Ok y) after) f s))
+  pub gives_in : (old new : List ℕ) (o : Option Running) (cursor after : Running) (x : Did) → o ≡ Some cursor → IfSome o (λ (r : Running). r.program ≡ i)
+      → old ≡ [] → new ≡ [] → CursorSteps cursor (Ok (Some x)) after → LaneSteps (hart_lane i records h old o later) (Ok to.Row) x (hart_lane i records h new (Some after) later)
+  gives_in old new o cursor after x e p none still s =
+      subst (λ (y : Option Running). LaneSteps (hart_lane i records h old y later) (Ok to.Row) x (hart_lane i records h new (Some after) later)) (sym e)
+      (gives old new cursor after x none still (own_program o cursor e p) s)
 
-  pub ends_in : (old new : List ℕ) (o : Option Running) (cursor after : Running) (found : Option Did) (next : Option Running) (rest : List Retained) (n : ℕ) (m : EndMark) → o ≡ Some cursor → found ≡ None
-      → old ≡ [] → new ≡ [] → CursorSteps cursor (Ok found) after → n ≡ after.cursor.number → m ≡ after.cursor.mark → hart_cursors i records h next rest ≡ later_cursors i records h later
-      → LaneSteps (hart_lane i records h old o later) (Ok (to.Ended n m)) (hart_lane i records h new next rest)
-  ends_in old new o cursor after found next rest n m e f none still s number mark begun =
-      subst (λ (y : Option Running). LaneSteps (hart_lane i records h old y later) (Ok (to.Ended n m)) (hart_lane i records h new next rest)) (sym e)
-      (ends old new cursor after next rest n m none still (subst (λ (y : Option Did). CursorSteps cursor (Ok y) after) f s) number mark begun)
+  pub ends_in : (old new : List ℕ) (o : Option Running) (cursor after : Running) (next : Option Running) (rest : List Retained) (n : ℕ) (m : EndMark) (x : Did) → o ≡ Some cursor
+      → old ≡ [] → new ≡ [] → CursorSteps cursor (Ok None) after → n ≡ after.cursor.number → m ≡ after.cursor.mark → hart_cursors i records h next rest ≡ later_cursors i records h later
+      → LaneSteps (hart_lane i records h old o later) (Ok (to.Ended n m)) x (hart_lane i records h new next rest)
+  ends_in old new o cursor after next rest n m x e none still s number mark begun =
+      subst (λ (y : Option Running). LaneSteps (hart_lane i records h old y later) (Ok (to.Ended n m)) x (hart_lane i records h new next rest)) (sym e)
+      (ends old new cursor after next rest n m x none still s number mark begun)
 
   -- ---- a refusal
 
@@ -107,7 +107,7 @@ module _ (i : Program) (records : List Record) (h : ℕ) (later : List Retained)
 
   -- a hart is refused a step as its interval is
   pub refuses : (old new : List ℕ) (cursor after : Running) (e : ReplayError) → old ≡ [] → new ≡ [] → CursorSteps cursor (Err e) after
-      → LaneSteps (hart_lane i records h old (Some cursor) later) (Err e) (hart_lane i records h new (Some after) later)
+      → LaneRefuses (hart_lane i records h old (Some cursor) later) e (hart_lane i records h new (Some after) later)
   refuses old new cursor after e none still s = (refl, by s.1)
     where
       cs : List Cursor
@@ -142,9 +142,9 @@ module _ (i : Program) (records : List Record) (h : ℕ) (later : List Retained)
               bare_with c = record { points = old; cursors = c ∷ map bare_cursor cs }
 
   pub refuses_in : (old new : List ℕ) (o : Option Running) (cursor after : Running) (e : ReplayError) → o ≡ Some cursor → old ≡ [] → new ≡ [] → CursorSteps cursor (Err e) after
-      → LaneSteps (hart_lane i records h old o later) (Err e) (hart_lane i records h new (Some after) later)
+      → LaneRefuses (hart_lane i records h old o later) e (hart_lane i records h new (Some after) later)
   refuses_in old new o cursor after e f none still s =
-      subst (λ (y : Option Running). LaneSteps (hart_lane i records h old y later) (Err e) (hart_lane i records h new (Some after) later)) (sym f) (refuses old new cursor after e none still s)
+      subst (λ (y : Option Running). LaneRefuses (hart_lane i records h old y later) e (hart_lane i records h new (Some after) later)) (sym f) (refuses old new cursor after e none still s)
 
 pub no_keys : (ks : List ℕ) → (0 < length ks → false ≡ true) → ks ≡ []
 no_keys [] none = refl

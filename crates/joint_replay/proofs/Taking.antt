@@ -1,25 +1,20 @@
 -- A step of a joint replay, as its code takes it.
 use Rattle.std.proofs.Common.{◌≡◌, ℕ, ◌<◌, ◌⊎◌, inl, inr, true, is_some, refl, sym, ap, ◌∙◌, subst, arith, List, length, slice_get, slice_set, slice_index_or, Option, Some, None, Ok, Err}
-use Rattle.std.specs.Option.{option_map}
 use Rattle.bn_base.specs.Programs.{Program}
-use Rattle.bn_base.specs.declared.end_mark.EndMark.{EndMark}
 use Rattle.log_order.specs.Content.{Content}
 use Rattle.hart_replay.specs.declared.error.ReplayError.{ReplayError}
 use Rattle.hart_replay.specs.declared.error.ReplayError.TheVariants as replay
 use Rattle.joint_replay.specs.declared.error.JointError.{JointError}
-use Rattle.joint_replay.specs.declared.kinds.Stepped.{Stepped}
-use Rattle.joint_replay.specs.declared.kinds.Stepped.TheVariants as has
 use Rattle.joint_replay.specs.declared.kinds.Readiness.TheVariants as is
 use Rattle.joint_replay.specs.declared.lane.Did.{Did}
 use Rattle.joint_replay.specs.declared.lane.Moved.{Moved}
 use Rattle.joint_replay.specs.declared.lane.Moved.TheVariants as to
 use Rattle.joint_replay.specs.Lanes.{Lane, Item, Passing, Doing, Ending, coming_of, lane_step}
 use Rattle.joint_replay.specs.Memory.{Bytes, filled, forget, put_access, memory_after}
-use Rattle.joint_replay.specs.Words.{bytes_at}
 use Rattle.joint_replay.specs.Joining.{Joining, readiness, error_of}
 use Rattle.joint_replay.specs.Harts.{HartLane}
 use Rattle.joint_replay.specs.Calls.{stepped_of, bare, Steps}
-use Rattle.joint_replay.specs.Moves.{LaneUnrefused, LaneSteps, did, moved}
+use Rattle.joint_replay.specs.Moves.{LaneUnrefused, LaneRefuses, LaneSteps, IsMoved, noted, stepped_by, told}
 use Rattle.joint_replay.specs.Sound.{IsSound}
 use Rattle.joint_replay.specs.Together.{lanes_of, joining, AreMet, IsTogether}
 use Rattle.joint_replay.proofs.Choosing.{lanes_length}
@@ -29,42 +24,17 @@ use Rattle.joint_replay.proofs.Soundness.{got_at}
 
 -- ---- what each kind of step tells, and makes of memory
 
-pub passed_words : (ic : ℕ) (words memory : List (ℕ × ℕ)) → words ≡ memory → (item : Item) → ◌≡◌ {A = Moved} (to.Passed ic) (moved item) → words ≡ memory_after item memory
-passed_words ic words memory same (Passing k) e = same
-passed_words ic words memory same (Doing before row) e = absurd cc
-passed_words ic words memory same (Ending n m) e = absurd cc
-
-pub passed_told : (h ic : ℕ) (item : Item) → ◌≡◌ {A = Moved} (to.Passed ic) (moved item) → has.Passed h ic ≡ stepped_of h item
-passed_told h ic (Passing k) e = let same : ic ≡ k = cc in ap (has.Passed h) same
-passed_told h ic (Doing before row) e = absurd cc
-passed_told h ic (Ending n m) e = absurd cc
-
-pub ended_words : (n : ℕ) (m : EndMark) (words memory : List (ℕ × ℕ)) → words ≡ memory → (item : Item) → ◌≡◌ {A = Moved} (to.Ended n m) (moved item) → words ≡ memory_after item memory
-ended_words n m words memory same (Passing k) e = absurd cc
-ended_words n m words memory same (Doing before row) e = absurd cc
-ended_words n m words memory same (Ending k mark) e = same
-
-pub ended_told : (h n : ℕ) (m : EndMark) (item : Item) → ◌≡◌ {A = Moved} (to.Ended n m) (moved item) → has.Ended h n m ≡ stepped_of h item
-ended_told h n m (Passing k) e = absurd cc
-ended_told h n m (Doing before row) e = absurd cc
-ended_told h n m (Ending k mark) e = let same : n ≡ k = cc in let mark_same : m ≡ mark = cc in ap (λ x. has.Ended h x m) same ∙ ap (has.Ended h k) mark_same
-
-same_did : (x y : Did) → ◌≡◌ {A = Moved} (to.Row x) (to.Row y) → x ≡ y
-same_did x y e = cc
-
-pub row_words : (x : Did) (words now memory : List (ℕ × ℕ)) → words ≡ put_access x.row.store (put_access x.row.load (forget (option_map bytes_at x.filled) now)) → now ≡ memory
-    → (item : Item) → ◌≡◌ {A = Moved} (to.Row x) (moved item) → words ≡ memory_after item memory
-row_words x words now memory e same (Passing k) f = absurd cc
-row_words x words now memory e same (Doing before row) f =
-    e ∙ ap (λ (ms : List (ℕ × ℕ)). put_access x.row.store (put_access x.row.load (forget (option_map bytes_at x.filled) ms))) same
-    ∙ ap (λ (y : Did). put_access y.row.store (put_access y.row.load (forget (option_map bytes_at y.filled) memory))) (same_did x (did before row) f)
+pub moved_words : (m : Moved) (x : Did) (memory : List (ℕ × ℕ)) (item : Item) → IsMoved item m x → noted m x memory ≡ memory_after item memory
+moved_words m x memory (Passing ic) e = ap (λ (y : Moved). noted y x memory) e
+moved_words m x memory (Doing before row) e =
+    ap (λ (y : Moved). noted y x memory) e.0 ∙ ap (λ (y : Did). noted to.Row y memory) e.1
     ∙ ap (λ (o : Option Bytes). put_access row.store (put_access row.load (forget o memory))) (same_range (filled before row))
-row_words x words now memory e same (Ending n m) f = absurd cc
+moved_words m x memory (Ending n mark) e = ap (λ (y : Moved). noted y x memory) e
 
-pub row_told : (h : ℕ) (x : Did) (item : Item) → ◌≡◌ {A = Moved} (to.Row x) (moved item) → has.Did x.row ≡ stepped_of h item
-row_told h x (Passing k) f = absurd cc
-row_told h x (Doing before row) f = ap (λ (y : Did). has.Did y.row) (same_did x (did before row) f)
-row_told h x (Ending n m) f = absurd cc
+pub moved_told : (h : ℕ) (m : Moved) (x : Did) (item : Item) → IsMoved item m x → stepped_by h m x ≡ stepped_of h item
+moved_told h m x (Passing ic) e = ap (λ (y : Moved). stepped_by h y x) e
+moved_told h m x (Doing before row) e = ap (λ (y : Moved). stepped_by h y x) e.0 ∙ ap (λ (y : Did). stepped_by h to.Row y) e.1
+moved_told h m x (Ending n mark) e = ap (λ (y : Moved). stepped_by h y x) e
 
 -- ---- a step
 
@@ -89,18 +59,21 @@ module _ (i : Program) (log : Content) (count : ℕ) (hs : List HartLane) (memor
   pub has_step_then : is_some (coming_of l.lane) ≡ true
   has_step_then = has_step i log count hs memory h l at together ready_then
 
-  pub moves_on : (new : HartLane) (m : Moved) (words : List (ℕ × ℕ)) → LaneSteps l (Ok m) new → ((item : Item) → m ≡ moved item → words ≡ memory_after item memory)
+  words_after : (new : HartLane) (m : Moved) (x : Did) (words had : List (ℕ × ℕ)) → (s : LaneSteps l (Ok m) x new) → words ≡ noted m x had → had ≡ memory → words ≡ memory_after s.0 memory
+  words_after new m x words had s is same = is ∙ ap (noted m x) same ∙ moved_words m x memory s.0 s.2
+
+  pub moves_on : (new : HartLane) (m : Moved) (x : Did) (words had : List (ℕ × ℕ)) → LaneSteps l (Ok m) x new → words ≡ noted m x had → had ≡ memory
       → IsTogether i log count (slice_set hs h new) words refused
-  moves_on new m words s w = subst (IsTogether i log count (slice_set hs h new) words) (sym none_yet) (together_after i log count hs memory h l at together ready_then new s.0 words s.1 (w s.0 s.2) s.3)
+  moves_on new m x words had s is same = subst (IsTogether i log count (slice_set hs h new) words) (sym none_yet) (together_after i log count hs memory h l at together ready_then new s.0 words s.1 (words_after new m x words had s is same) s.3)
 
-  pub steps_on : (new : HartLane) (m : Moved) (words : List (ℕ × ℕ)) (stepped : Stepped) → LaneSteps l (Ok m) new → ((item : Item) → m ≡ moved item → words ≡ memory_after item memory)
-      → ((item : Item) → m ≡ moved item → stepped ≡ stepped_of h item) → Steps now h (Ok stepped) (joining i log.records (slice_set hs h new) words refused)
-  steps_on new m words stepped s w told_is =
-      subst (λ (o : Option ReplayError). Steps now h (Ok stepped) (joining i log.records (slice_set hs h new) words o)) (sym none_yet)
-      (subst (λ (j : Joining). Steps j h (Ok stepped) (joining i log.records (slice_set hs h new) words None)) old_is
-      (s.0, after_step i log count hs memory h l at together ready_then new s.0 words s.1 (w s.0 s.2), told_is s.0 s.2))
+  pub steps_on : (new : HartLane) (m : Moved) (x : Did) (words had : List (ℕ × ℕ)) → LaneSteps l (Ok m) x new → words ≡ noted m x had → had ≡ memory
+      → Steps now h (told h (Ok m) x) (joining i log.records (slice_set hs h new) words refused)
+  steps_on new m x words had s is same =
+      subst (λ (o : Option ReplayError). Steps now h (told h (Ok m) x) (joining i log.records (slice_set hs h new) words o)) (sym none_yet)
+      (subst (λ (j : Joining). Steps j h (told h (Ok m) x) (joining i log.records (slice_set hs h new) words None)) old_is
+      (s.0, after_step i log count hs memory h l at together ready_then new s.0 words s.1 (words_after new m x words had s is same), moved_told h m x s.0 s.2))
 
-  bare_same : (new : HartLane) (e : ReplayError) → LaneSteps l (Err e) new → bare new.lane ≡ bare l.lane
+  bare_same : (new : HartLane) (e : ReplayError) → LaneRefuses l e new → bare new.lane ≡ bare l.lane
   bare_same new e s = by s.1
     where
       by : ((lane_step l.program l.lane ≡ Some (Err e)) × (new.lane ≡ l.lane)) ⊎ ((e ≡ replay.OutOfMemory) × (bare new.lane ≡ bare l.lane) × LaneUnrefused l) → bare new.lane ≡ bare l.lane
@@ -108,18 +81,18 @@ module _ (i : Program) (log : Content) (count : ℕ) (hs : List HartLane) (memor
       by (inr a) = a.1
 
   -- the Edges that were met are still
-  pub keeps_met : IsSound now → (met : List ℕ) → AreMet log.records hs met → (new : HartLane) (m : Moved) → LaneSteps l (Ok m) new → AreMet log.records (slice_set hs h new) met
-  keeps_met sound met a new m s =
+  pub keeps_met : IsSound now → (met : List ℕ) → AreMet log.records hs met → (new : HartLane) (m : Moved) (x : Did) → LaneSteps l (Ok m) x new → AreMet log.records (slice_set hs h new) met
+  keeps_met sound met a new m x s =
       still_met log.records hs (slice_set hs h new) met (length_set hs h new) (passed_after i log count hs memory h l at together ready_then (subst IsSound (sym old_is) sound) new s.0 s.1) a
 
-  pub stays_met : (met : List ℕ) → AreMet log.records hs met → (new : HartLane) (e : ReplayError) → LaneSteps l (Err e) new → AreMet log.records (slice_set hs h new) met
+  pub stays_met : (met : List ℕ) → AreMet log.records hs met → (new : HartLane) (e : ReplayError) → LaneRefuses l e new → AreMet log.records (slice_set hs h new) met
   stays_met met a new e s =
       still_met log.records hs (slice_set hs h new) met (length_set hs h new) (bare_stays (lanes_of hs) (lanes_of (slice_set hs h new)) (bare_set hs h l new at (bare_same new e s))) a
 
-  pub stays : (new : HartLane) (e : ReplayError) (words : List (ℕ × ℕ)) → LaneSteps l (Err e) new → words ≡ memory → IsTogether i log count (slice_set hs h new) words (Some e)
+  pub stays : (new : HartLane) (e : ReplayError) (words : List (ℕ × ℕ)) → LaneRefuses l e new → words ≡ memory → IsTogether i log count (slice_set hs h new) words (Some e)
   stays new e words s same = subst (λ (ms : List (ℕ × ℕ)). IsTogether i log count (slice_set hs h new) ms (Some e)) (sym same) (together_refused i log count hs memory h l new e at together s.0 (bare_same new e s))
 
-  pub refuses : (new : HartLane) (e : ReplayError) (words : List (ℕ × ℕ)) (error : JointError) → LaneSteps l (Err e) new → words ≡ memory → error ≡ error_of e
+  pub refuses : (new : HartLane) (e : ReplayError) (words : List (ℕ × ℕ)) (error : JointError) → LaneRefuses l e new → words ≡ memory → error ≡ error_of e
       → Steps now h (Err error) (joining i log.records (slice_set hs h new) words (Some e))
   refuses new e words error s same is =
       subst (λ (ms : List (ℕ × ℕ)). Steps now h (Err error) (joining i log.records (slice_set hs h new) ms (Some e))) (sym same)

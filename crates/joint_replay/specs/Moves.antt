@@ -1,5 +1,5 @@
 -- What a step of a hart does.
-use Rattle.std.specs.Prelude.{◌≡◌, ◌⊎◌, ℕ, [], ◌∷◌, slice_index, is_some, Option, Some, None, Result, Ok, Err}
+use Rattle.std.specs.Prelude.{◌≡◌, ◌⊎◌, ℕ, List, [], ◌∷◌, slice_index, is_some, Option, Some, None, Result, Ok, Err}
 use Rattle.std.specs.Option.{option_map}
 use Rattle.bn_base.specs.declared.row.Row.{Row}
 use Rattle.bn_base.specs.declared.state.HartState.{HartState}
@@ -7,12 +7,16 @@ use Rattle.hart_replay.specs.declared.error.ReplayError.{ReplayError}
 use Rattle.hart_replay.specs.declared.error.ReplayError.TheVariants.{OutOfMemory}
 use Rattle.hart_replay.specs.Replay.{Done, Refused}
 use Rattle.hart_replay.specs.Coming.{after_row, with_rows, over}
+use Rattle.joint_replay.specs.declared.error.JointError.{JointError}
+use Rattle.joint_replay.specs.declared.kinds.Stepped.{Stepped}
+use Rattle.joint_replay.specs.declared.kinds.Stepped.TheVariants as has
 use Rattle.joint_replay.specs.declared.calls.Asked.{Asked}
 use Rattle.joint_replay.specs.declared.lane.Did.{Did}
 use Rattle.joint_replay.specs.declared.lane.Moved.{Moved}
 use Rattle.joint_replay.specs.declared.lane.Moved.TheVariants as to
 use Rattle.joint_replay.specs.Lanes.{Cursor, Item, Passing, Doing, Ending, lane_step}
-use Rattle.joint_replay.specs.Memory.{Bytes, filled}
+use Rattle.joint_replay.specs.Memory.{Bytes, filled, forget, put_access}
+use Rattle.joint_replay.specs.Words.{bytes_at}
 use Rattle.joint_replay.specs.Harts.{Running, HartLane}
 use Rattle.joint_replay.specs.Calls.{bare_cursor, bare}
 
@@ -45,15 +49,37 @@ CursorSteps old (Err e) new = (new.program ≡ old.program)
     × (((old.cursor.left ≡ over (Refused e)) × (new.cursor ≡ old.cursor))
     ⊎ ((e ≡ OutOfMemory) × (bare_cursor new.cursor ≡ bare_cursor old.cursor) × CursorUnrefused old.cursor))
 
--- a step of a hart, as it is told
-abbrev pub moved : Item → Moved
-moved (Passing ic) = to.Passed ic
-moved (Doing before row) = to.Row (did before row)
-moved (Ending n mark) = to.Ended n mark
+-- a step of a hart is told so, and what it wrote is its row
+abbrev pub IsMoved : Item → Moved → Did → Type 0
+IsMoved (Passing ic) m x = m ≡ to.Passed ic
+IsMoved (Doing before row) m x = (m ≡ to.Row) × (x ≡ did before row)
+IsMoved (Ending n mark) m x = m ≡ to.Ended n mark
 
--- a hart's next step is done, or refused. If memory runs out, it wasn't to be refused, and only what is left of a replay changes
-abbrev pub LaneSteps : HartLane → Result Moved ReplayError → HartLane → Type 0
-LaneSteps old (Ok m) new = (item : Item) × (lane_step old.program old.lane ≡ Some (Ok (item, new.lane))) × (m ≡ moved item) × (new ≡ record old { lane = new.lane })
-LaneSteps old (Err e) new = (new ≡ record old { lane = new.lane })
+-- a hart's next step is refused. If memory runs out, it wasn't to be refused, and only what is left of a replay changes
+abbrev pub LaneRefuses : HartLane → ReplayError → HartLane → Type 0
+LaneRefuses old e new = (new ≡ record old { lane = new.lane })
     × (((lane_step old.program old.lane ≡ Some (Err e)) × (new.lane ≡ old.lane))
     ⊎ ((e ≡ OutOfMemory) × (bare new.lane ≡ bare old.lane) × LaneUnrefused old))
+
+-- it is done, or refused
+abbrev pub LaneSteps : HartLane → Result Moved ReplayError → Did → HartLane → Type 0
+LaneSteps old (Ok m) x new = (item : Item) × (lane_step old.program old.lane ≡ Some (Ok (item, new.lane))) × IsMoved item m x × (new ≡ record old { lane = new.lane })
+LaneSteps old (Err e) x new = LaneRefuses old e new
+
+-- ---- what a step of hart h wrote
+
+-- how a caller is told of it
+abbrev pub stepped_by : ℕ → Moved → Did → Stepped
+stepped_by h (to.Passed ic) x = has.Passed h ic
+stepped_by h to.Row x = has.Did x.row
+stepped_by h (to.Ended n m) x = has.Ended h n m
+
+abbrev pub told : ℕ → Result Moved JointError → Did → Result Stepped JointError
+told h (Ok m) x = Ok (stepped_by h m x)
+told h (Err e) x = Err e
+
+-- the known words after it
+abbrev pub noted : Moved → Did → List (ℕ × ℕ) → List (ℕ × ℕ)
+noted (to.Passed ic) x ms = ms
+noted to.Row x ms = put_access x.row.store (put_access x.row.load (forget (option_map bytes_at x.filled) ms))
+noted (to.Ended n m) x ms = ms

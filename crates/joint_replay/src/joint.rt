@@ -11,11 +11,12 @@ ghost use Rattle.joint_replay.specs.Sources.{edges_into};
 ghost use Rattle.joint_replay.specs.Merges.{IsAtMerge};
 ghost use Rattle.joint_replay.specs.Sound.{IsSound};
 ghost use Rattle.joint_replay.specs.Lanes.{lane_of};
+ghost use Rattle.joint_replay.specs.Moves.{told};
 
 use crate::error::JointError;
 use crate::incoming_edges::IncomingEdge;
 use crate::kinds::{Coming, Next, Readiness, Stepped};
-use crate::lane::{Lane, Moved};
+use crate::lane::{Did, Lane, Moved};
 use crate::laws::{ready_harts_are_admitted, starts_are_sound, walks_are_merges};
 use crate::replay_memory::ReplayMemory;
 use bn_base::{Addr, HartId, HartState, Ic, Image, List};
@@ -84,12 +85,26 @@ impl<'a> Joint<'a> {
         requires ready { readiness self.old hart ≡ Ready }
         ensures { Steps self.old hart result self.new }
     {
+        let mut did = Did::blank();
+        match self.step_into(hart, &mut did) {
+            Ok(moved) => Ok(did.stepped(hart, moved)),
+            Err(error) => Err(error),
+        }
+    }
+
+    /// As `step`; its row, if it has one, is written to `did`.
+    #[inline(always)]
+    pub(crate) fn step_into(&mut self, hart: HartId, did: &mut Did) -> Result<Moved, JointError>
+        requires there { hart < length self.old.lanes }
+        requires ready { readiness self.old hart ≡ Ready }
+        ensures { Steps self.old hart (told hart result did.new) self.new }
+    {
         match self.refused {
             Some(refusal) => Err(error_of(refusal)),
-            None => match self.take(hart) {
-                Ok(stepped) => {
+            None => match self.take(hart, did) {
+                Ok(moved) => {
                     self.pass_sources(hart);
-                    Ok(stepped)
+                    Ok(moved)
                 }
                 Err(error) => Err(error),
             },
@@ -98,11 +113,11 @@ impl<'a> Joint<'a> {
 
     // The step, where none was refused yet.
     #[inline(always)]
-    fn take(&mut self, hart: HartId) -> Result<Stepped, JointError>
+    fn take(&mut self, hart: HartId, did: &mut Did) -> Result<Moved, JointError>
         requires there { hart < length self.old.lanes }
         requires ready { readiness self.old hart ≡ Ready }
         requires none { self.old.refused ≡ None }
-        ensures { Steps self.old hart result self.new }
+        ensures { Steps self.old hart (told hart result did.new) self.new }
     {
         self.keeps_passed();
         // Room for the row's words is made before the hart steps: out of memory here leaves the hart where it was, and a
@@ -112,23 +127,15 @@ impl<'a> Joint<'a> {
             self.refused = Some(refusal);
             return Err(error_of(refusal));
         }
-        match self.lanes[hart as usize].step() {
+        match self.lanes[hart as usize].step(did) {
             Err(refusal) => {
                 self.refused = Some(refusal);
                 Err(error_of(refusal))
             }
-            Ok(moved) => match moved {
-                Moved::Passed(ic) => Ok(Stepped::Passed { hart, ic }),
-                Moved::Row(did) => {
-                    self.memory.note(&did.row, did.filled);
-                    Ok(Stepped::Did(did.row))
-                }
-                Moved::Ended(interval, mark) => Ok(Stepped::Ended {
-                    hart,
-                    interval,
-                    mark,
-                }),
-            },
+            Ok(moved) => {
+                self.memory.note(moved, did);
+                Ok(moved)
+            }
         }
     }
 
@@ -310,6 +317,7 @@ impl<'a> Joint<'a> {
 
     /// Whether a hart can take its next step: where that is at a point, the sources of all kept Edges
     /// into it have to be passed; `Waits` names the first in log order that isn't.
+    #[inline(always)]
     pub fn ready(&self, hart: HartId) -> Readiness
         requires { hart < length self.now.lanes }
         ensures { result ≡ readiness self.now hart }
@@ -325,6 +333,7 @@ impl<'a> Joint<'a> {
     }
 
     /// The lowest hart that is ready.
+    #[inline(always)]
     pub fn next(&self) -> Next
         ensures { result ≡ choice self.now }
     {

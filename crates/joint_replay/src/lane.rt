@@ -1,19 +1,20 @@
 //! What a hart has to do in a joint replay.
 ghost use Rattle.std.specs.Prelude.{◌≡◌, ◌<◌, true, is_some, Some, None, Err, IfOk, MatchOption};
+ghost use Rattle.hart_replay.specs.Coming.{given};
 ghost use Rattle.joint_replay.specs.Lanes.{has_row, lane_of, coming_of, point_of, state_of};
 ghost use Rattle.joint_replay.specs.Intervals.{AreThere};
-ghost use Rattle.joint_replay.specs.Moves.{CursorSteps, LaneSteps};
+ghost use Rattle.joint_replay.specs.Moves.{CursorSteps, LaneRefuses, LaneSteps, stepped_by};
 ghost use Rattle.joint_replay.specs.Sources.{edges_into, AscendFrom};
 ghost use Rattle.joint_replay.specs.Harts.{cursor_coming, cursor_point, later_cursors, hart_cursors, IsHartLane};
 
 use crate::calls::{Asked, filled};
 use crate::incoming_edges::{IncomingEdge, IncomingEdges};
 use crate::intervals::{Retained, retained_intervals};
-use crate::kinds::Coming;
+use crate::kinds::{Coming, Stepped};
 use crate::points::ordering_points;
 use bn_base::end_mark::FAULT;
 use bn_base::{Addr, EndMark, HartId, HartState, Ic, Image, Row};
-use hart_replay::{ReplayError, Replayer};
+use hart_replay::{ReplayError, Replayer, blank_row};
 use log_order::KeptLog;
 use std::alloc::{AllocError, Global};
 use std::collections::BTreeSet;
@@ -29,7 +30,8 @@ pub(crate) struct HartCursor<'a> {
     halted_at: Option<HartState>,
 }
 
-/// A row, and the bytes that its call filled: the address of the first, and how many they are.
+/// A row, and the bytes that its call filled: the address of the first, and how many they are. It is the
+/// caller's, and a step writes it there: the row is too large to be passed up through each level.
 #[derive(Clone, Copy, Drop)]
 pub(crate) struct Did {
     pub(crate) row: Row,
@@ -40,8 +42,33 @@ pub(crate) struct Did {
 #[derive(Clone, Copy, Drop)]
 pub(crate) enum Moved {
     Passed(Ic),
-    Row(Did),
+    Row,
     Ended(u64, EndMark),
+}
+
+impl Did {
+    /// Nothing is written yet.
+    pub(crate) fn blank() -> Did {
+        Did {
+            row: blank_row(),
+            filled: None,
+        }
+    }
+
+    /// How a step is told that wrote this.
+    pub(crate) fn stepped(&self, hart: HartId, moved: Moved) -> Stepped
+        ensures { result ≡ stepped_by hart moved self.now }
+    {
+        match moved {
+            Moved::Passed(ic) => Stepped::Passed { hart, ic },
+            Moved::Row => Stepped::Did(self.row),
+            Moved::Ended(interval, mark) => Stepped::Ended {
+                hart,
+                interval,
+                mark,
+            },
+        }
+    }
 }
 
 impl<'a> Model for HartCursor<'a> {
@@ -101,26 +128,22 @@ impl<'a> HartCursor<'a> {
 }
 
 impl<'a> HartCursor<'a> {
-    /// The next row; `None` where the interval ended as its log says.
+    /// Writes the next row; `false` where the interval ended as its log says.
     #[inline(always)]
-    fn step(&mut self) -> Result<Option<Did>, ReplayError>
-        ensures { CursorSteps self.old result self.new }
+    fn step(&mut self, did: &mut Did) -> Result<bool, ReplayError>
+        ensures { CursorSteps self.old (given result did.new) self.new }
     {
         if self.halted_at.is_some() {
             return Err(ReplayError::OutOfMemory);
         }
         let asked = Asked::by(self.replayer.state());
-        match self.replayer.step() {
-            Ok(next) => match next {
-                Some(row) => {
-                    self.faulted = row.fault.is_some();
-                    Ok(Some(Did {
-                        row,
-                        filled: filled(asked, &row),
-                    }))
-                }
-                None => Ok(None),
-            },
+        match self.replayer.advance(&mut did.row) {
+            Ok(true) => {
+                self.faulted = did.row.fault.is_some();
+                did.filled = filled(asked, &did.row);
+                Ok(true)
+            }
+            Ok(false) => Ok(false),
             Err(error) => Err(error),
         }
     }
@@ -263,33 +286,31 @@ impl<'a> Lane<'a> {
 }
 
 impl<'a> Lane<'a> {
-    /// Takes the hart's next step, of which there has to be one.
+    /// Takes the hart's next step, of which there has to be one, and writes its row if it has one.
     #[inline(always)]
-    pub(crate) fn step(&mut self) -> Result<Moved, ReplayError>
+    pub(crate) fn step(&mut self, did: &mut Did) -> Result<Moved, ReplayError>
         requires { is_some (coming_of self.old.lane) ≡ true }
-        ensures { LaneSteps self.old result self.new }
+        ensures { LaneSteps self.old result did.new self.new }
     {
         match self.points.pop_first() {
             Some(ic) => Ok(Moved::Passed(ic)),
             None => match &mut self.cursor {
                 None => unreachable!(),
-                Some(cursor) => match cursor.step() {
+                Some(cursor) => match cursor.step(did) {
                     Err(error) => Err(error),
-                    Ok(next) => match next {
-                        Some(did) => Ok(Moved::Row(did)),
-                        None => {
-                            let ended = Moved::Ended(cursor.number, cursor.replayer.mark());
-                            begin_next(
-                                &mut self.cursor,
-                                self.alloc,
-                                self.image,
-                                self.log,
-                                self.hart,
-                                &mut self.later,
-                            );
-                            Ok(ended)
-                        }
-                    },
+                    Ok(true) => Ok(Moved::Row),
+                    Ok(false) => {
+                        let ended = Moved::Ended(cursor.number, cursor.replayer.mark());
+                        begin_next(
+                            &mut self.cursor,
+                            self.alloc,
+                            self.image,
+                            self.log,
+                            self.hart,
+                            &mut self.later,
+                        );
+                        Ok(ended)
+                    }
                 },
             },
         }
@@ -299,7 +320,7 @@ impl<'a> Lane<'a> {
     #[cold]
     #[inline(never)]
     pub(crate) fn starve(&mut self) -> ReplayError
-        ensures { LaneSteps self.old (Err result) self.new }
+        ensures { LaneRefuses self.old result self.new }
     {
         match self.points.first() {
             Some(_) => return ReplayError::OutOfMemory,

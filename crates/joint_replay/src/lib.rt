@@ -18,4 +18,4 @@ mod texts;
 pub use error::JointError;
 pub use joint::Joint;
 pub use kinds::{Coming, Next, Readiness, Stepped};
-pub use texts::{write_known, write_step, write_step_by};
+pub use texts::{write_known, write_step};

@@ -4,7 +4,9 @@ ghost use Rattle.std.specs.Option.{option_map};
 ghost use Rattle.rv_meaning.specs.Words.{aligned};
 ghost use Rattle.joint_replay.specs.Memory.{forget, put_word, word_in, known_from, put_access};
 ghost use Rattle.joint_replay.specs.Words.{bytes_at};
+ghost use Rattle.joint_replay.specs.Moves.{noted};
 
+use crate::lane::{Did, Moved};
 use bn_base::{Addr, Row};
 use hart_replay::Words;
 use std::alloc::{AllocError, Global};
@@ -107,9 +109,9 @@ impl ReplayMemory {
         }
     }
 
-    /// Notes what a row tells: the word that it stored, else the one that it loaded, and nothing
-    /// more of the words of which a call filled bytes.
-    pub(crate) fn note(&mut self, row: &Row, filled: Option<(Addr, u32)>)
+    // Notes what a row tells: the word that it stored, else the one that it loaded, and nothing
+    // more of the words of which a call filled bytes.
+    fn note_row(&mut self, row: &Row, filled: Option<(Addr, u32)>)
         requires { 2 ≤ self.old.room }
         ensures { self.new.words ≡ put_access row.now.store (put_access row.now.load (forget (option_map bytes_at filled) self.old.words)) }
     {
@@ -118,6 +120,19 @@ impl ReplayMemory {
         }
         self.keep(row.load);
         self.keep(row.store);
+    }
+
+    /// Notes what a step tells.
+    #[inline(always)]
+    pub(crate) fn note(&mut self, moved: Moved, did: &Did)
+        requires { 2 ≤ self.old.room }
+        ensures { self.new.words ≡ noted moved did.now self.old.words }
+    {
+        match moved {
+            Moved::Row => self.note_row(&did.row, did.filled),
+            Moved::Passed(_) => (),
+            Moved::Ended(..) => (),
+        }
     }
 
     /// The same known words.

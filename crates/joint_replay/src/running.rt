@@ -7,8 +7,9 @@ ghost use Rattle.joint_replay.specs.Runs.{Advances, IsStuck, Runs};
 use crate::error::JointError;
 use crate::joint::{Joint, error_of};
 use crate::kinds::Next;
+use crate::lane::Did;
 use crate::laws::{runs_end, runs_go_on};
-use crate::texts::write_step_by;
+use crate::texts::write_moved;
 use bn_base::HartId;
 use rv_text::{RowLines, Text};
 
@@ -27,6 +28,7 @@ impl<'a> Joint<'a> {
     }
 
     // Takes the next step of the lowest ready hart, and appends its line.
+    #[inline(always)]
     fn tell(
         &mut self,
         hart: HartId,
@@ -37,9 +39,10 @@ impl<'a> Joint<'a> {
         requires lowest { choice self.old ≡ Hart hart }
         ensures { Advances self.old result self.new out.old out.new }
     {
-        match self.step(hart) {
+        let mut did = Did::blank();
+        match self.step_into(hart, &mut did) {
             Err(error) => Err(error),
-            Ok(stepped) => match write_step_by(lines, &stepped, out) {
+            Ok(moved) => match write_moved(lines, hart, moved, &did, out) {
                 Ok(()) => Ok(true),
                 Err(_) => {
                     self.halt();
@@ -50,6 +53,7 @@ impl<'a> Joint<'a> {
     }
 
     // Goes on by one step, where none was refused yet.
+    #[inline(always)]
     fn go_on(&mut self, lines: &mut RowLines, out: &mut Text) -> Result<bool, JointError>
         requires none { self.old.refused ≡ None }
         ensures { Advances self.old result self.new out.old out.new }

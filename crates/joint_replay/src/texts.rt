@@ -2,8 +2,10 @@
 ghost use Rattle.std.specs.Prelude.{◌≡◌, ◌++◌, OnOk, OnErr};
 ghost use Rattle.rv_text.specs.Texts.{BeginsWith};
 ghost use Rattle.joint_replay.specs.Texts.{pass_text, known_text, stepped_text};
+ghost use Rattle.joint_replay.specs.Moves.{stepped_by};
 
 use crate::kinds::Stepped;
+use crate::lane::{Did, Moved};
 use bn_base::{Addr, HartId, Ic};
 use rv_text::{RowLines, Text, end_with_decimal, end_with_hex8, write_end, write_row};
 use std::alloc::AllocError;
@@ -74,18 +76,21 @@ pub fn write_step(stepped: &Stepped, text: &mut Text) -> Result<(), AllocError>
     }
 }
 
-/// As [`write_step`]; the line of a row is one of `lines`, which keeps the texts of code that is done
-/// again.
-pub fn write_step_by(
+/// Appends the line of a hart's step, as [`write_step`]; that of a row is one of `lines`, which keeps the
+/// texts of code that is done again.
+pub(crate) fn write_moved(
     lines: &mut RowLines,
-    stepped: &Stepped,
+    hart: HartId,
+    moved: Moved,
+    did: &Did,
     text: &mut Text,
 ) -> Result<(), AllocError>
-    ensures ok { OnOk result (text.new ≡ text.old ++ stepped_text stepped.now) }
+    ensures ok { OnOk result (text.new ≡ text.old ++ stepped_text (stepped_by hart moved did.now)) }
     ensures err { OnErr result (text.new ≡ text.old) }
 {
-    match stepped {
-        Stepped::Did(row) => lines.write_row(row, text),
-        _ => write_step(stepped, text),
+    match moved {
+        Moved::Passed(ic) => write_pass(hart, ic, text),
+        Moved::Row => lines.write_row(&did.row, text),
+        Moved::Ended(interval, mark) => write_end(u64::from(hart), interval, &mark, text),
     }
 }
