@@ -16,8 +16,10 @@ convert LOG NEW
 salvage LOG NEW
 demo SEED
 build
-install PATH
+install PREFIX
+uninstall PREFIX
 help
+--version
 names ELF
 why LOG ELF
 race LOG ELF

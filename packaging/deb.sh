@@ -1,18 +1,16 @@
 #!/usr/bin/env bash
 # Makes a package for Debian, and for systems made of it, of what `zelkuma install` lays. It needs dpkg-deb, and no network.
 #
-# packaging/deb.sh OUT.deb [PROGRAM]: PROGRAM is packed or, if none is named, the one that ./zelkuma runs
+# packaging/deb.sh OUT.deb [PROGRAM]: PROGRAM is packed or, if none is named, the shipped one
 #
 # The same commit gives the same package, byte for byte: version and times are those of the commit, or of
 # SOURCE_DATE_EPOCH if it is set. DEBFULLNAME and DEBEMAIL name who maintains the package.
 set -euo pipefail
 top=$(dirname "$(dirname "$(readlink -f "${BASH_SOURCE[0]}")")")
+name=packaging/deb.sh
+. "$top/tools/say.sh"
 . "$top/tools/install.sh"
-
-stop() { # STATUS TEXT
-    echo "packaging/deb.sh: $2" >&2
-    exit "$1"
-}
+maintainer="${DEBFULLNAME:-Zelkuma} <${DEBEMAIL:-zelkuma@example.org}>"
 
 # The seconds by which the package is dated.
 date_of_sources() {
@@ -26,7 +24,7 @@ describe() { # VERSION KILOBYTES
 Package: zelkuma
 Version: $1
 Architecture: amd64
-Maintainer: ${DEBFULLNAME:-Zelkuma} <${DEBEMAIL:-zelkuma@localhost}>
+Maintainer: $maintainer
 Installed-Size: $2
 Depends: libc6 (>= 2.34)
 Recommends: python3 (>= 3.8), gdb-multiarch, binutils-riscv64-unknown-elf
@@ -43,14 +41,26 @@ Description: proved record/replay debugger for RISC-V programs
 DESCRIPTION
 }
 
+# What the package was made from, as Debian's changelogs say it.
+tell_change() { # VERSION
+    local commit
+    [ -e "$top/.git" ] && commit=$(git -C "$top" rev-parse HEAD) || commit=unknown
+    printf 'zelkuma (%s) unstable; urgency=medium\n\n  * Made from commit %s.\n\n -- %s  %s\n' \
+        "$1" "$commit" "$maintainer" "$(LC_ALL=C date -u -R -d "@$SOURCE_DATE_EPOCH")"
+}
+
 # Lays the package's files under a folder, with what dpkg wants to know of them.
 fill() { # FOLDER PROGRAM
+    local version doc=$1/usr/share/doc/zelkuma
+    version=0.$(date -u -d "@$SOURCE_DATE_EPOCH" +%Y%m%d.%H%M)
     lay "$1/usr" "$2" || stop 1 "not all could be laid for the package"
-    gzip -9n "$1/usr/share/man/man1/zelkuma.1"
-    install -D -m 644 "$top/LICENSE" "$1/usr/share/doc/zelkuma/copyright"
+    install -D -m 644 "$top/packaging/copyright" "$doc/copyright"
+    install -D -m 644 "$top/packaging/lintian-overrides" "$1/usr/share/lintian/overrides/zelkuma"
+    tell_change "$version" >"$doc/changelog"
+    gzip -9n "$1/usr/share/man/man1/zelkuma.1" "$doc/changelog"
     mkdir "$1/DEBIAN"
     (cd "$1" && find usr -type f -print0 | LC_ALL=C sort -z | xargs -0 md5sum >DEBIAN/md5sums)
-    describe "0.$(date -u -d "@$SOURCE_DATE_EPOCH" +%Y%m%d.%H%M)" \
+    describe "$version" \
         "$(find "$1/usr" -printf '%y %s\n' | awk '{ n += $1 == "f" ? int(($2 + 1023) / 1024) : 1 } END { print n }')" \
         >"$1/DEBIAN/control"
     find "$1" -exec touch -h -d "@$SOURCE_DATE_EPOCH" {} +
@@ -63,8 +73,6 @@ export SOURCE_DATE_EPOCH
 umask 022
 work=$(mktemp -d)
 trap 'rm -rf "$work"' EXIT
-program=${2-}
-[ -n "$program" ] || program=$("$top/zelkuma" install "$work/program")
-fill "$work/root" "$program"
+fill "$work/root" "${2:-$top/release/zelkuma-x86_64-linux}"
 dpkg-deb --build --root-owner-group -Zxz "$work/root" "$1" >/dev/null
 echo "$1"

@@ -1,13 +1,14 @@
 #!/usr/bin/env bash
 # Tries that the script zelkuma hands on the words, files, signals and status of a call as they are, and what it shows at
-# a terminal: tests/calls.sh. It takes some ten seconds, and needs no toolchain. The program here is a script.
+# a terminal: tests/calls.sh. It takes some ten seconds, and needs no toolchain. The program here is a script. Of the system
+# the script zelkuma has bash, stat and readlink alone.
 . "$(dirname "$0")/small_tree.sh"
+only bash stat readlink
 
-mkdir -p "$tree/crates/bugnet_main/out" "$tree/crates/bugnet_main/data"
-cat >"$tree/crates/bugnet_main/out/bugnet_main" <<'END'
+cat >"$shipped" <<'END'
 #!/usr/bin/env bash
+PATH=$SYSTEM
 case $1 in
-check) exit 0 ;;
 list) cat "$2" && exit ;;
 joint) cat && exit 12 ;;
 esac
@@ -22,11 +23,9 @@ echo
 echo "a line of err" >&2
 exit "${STATUS:-0}"
 END
-chmod +x "$tree/crates/bugnet_main/out/bugnet_main"
-runs 0 "$tree/tools/release.sh"
-rm -r "$tree/crates/bugnet_main/out"
+chmod +x "$shipped"
+export SYSTEM=$without
 began='until grep -q ^began "$RT_CALLS"; do sleep 0.05; done'
-path=$without
 
 what="words and statuses"
 export STATUS
@@ -45,7 +44,7 @@ STATUS=20 runs 20 bash -c '"$0" races LOG ELF 9 2>&-' "$zelkuma"
 STATUS=
 
 what="the input"
-printf 'a\0b' | PATH=$path "$zelkuma" joint LOG ELF >"$work/out" 2>"$work/err"
+printf 'a\0b' | "$zelkuma" joint LOG ELF >"$work/out" 2>"$work/err"
 [ "${PIPESTATUS[1]}" -eq 12 ] || fails "status ${PIPESTATUS[1]}"
 cmp -s "$work/out" <(printf 'a\0b') || fails "the program had another input"
 
@@ -86,9 +85,10 @@ for signal in HUP INT QUIT TERM USR1 ALRM; do
     hasnt out alive
     hasnt err zelkuma
 done
-cp "$(type -P setpriv)" "$work/kit/bin"
-path=$work/kit/bin:$without runs 137 signals KILL "$zelkuma" list2 LOG
+cp "$(type -P setpriv)" "$work/few" # (a link isn't taken: it may be a busybox)
+runs 137 signals KILL "$zelkuma" list2 LOG
 hasnt out alive
+rm "$work/few/setpriv"
 SLEEPS=
 for signal in SEGV ABRT KILL; do
     KILLED=$signal runs $((128 + $(kill -l "$signal"))) bash -c '"$0" list2 LOG; exit $?' "$zelkuma"
@@ -101,7 +101,7 @@ runs 0 bash -c '"$0" list2 LOG 2>/dev/null & wait $!; grep -qx "began $!" "$RT_C
 
 # Runs words at a terminal, in the background; what it showed is in the file NAME.
 at_terminal() { # NAME WORD..
-    PATH=$path "$python" "$top/tests/terminal.py" "${@:2}" >"$work/$1" 2>&1 </dev/null
+    "$top/tests/terminal.py" "${@:2}" >"$work/$1" 2>&1 </dev/null
     echo "status $?" >>"$work/$1"
 }
 shows() { # NAME PATTERN
@@ -109,7 +109,7 @@ shows() { # NAME PATTERN
     : >"$work/err"
     [[ $(<"$work/$1") =~ ^$2$ ]] || fails "the terminal shows something else: $1"
 }
-python=$(type -P python3)
+only bash stat readlink cat
 answer='<record><ELF><LOG><BOOK>\\r'$'\n''a line of err\\r'$'\n''status 0'
 answer_of_replay='a line of err\\r'$'\n''status 0'
 line='\\r\\e\[Kzelkuma: [0-9]+ s, [0-9]+ MB of memory; Ctrl-C stops it'

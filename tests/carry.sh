@@ -1,6 +1,6 @@
 #!/usr/bin/env bash
-# Tries what `zelkuma install` lays under a folder, and the package of it: from anywhere, moved, linked to and
-# installed by dpkg. The companions here only seem to be some. It takes some seconds.
+# Tries what `zelkuma install` lays under a folder and `zelkuma uninstall` takes away, and the package of it: from anywhere,
+# moved, linked to and installed by dpkg. The companions here only seem to be some. It takes some seconds.
 #
 # tests/carry.sh PROGRAM
 set -u
@@ -14,10 +14,12 @@ elf=$top/examples/wild_store.elf
 
 # Sources of which to lay: with a companion that tells how it was called, and with what isn't to be laid.
 sources=$work/sources
-mkdir -p "$sources/companion/bridge" "$sources/companion/__pycache__" "$sources/tools/launcher"
-cp -r "$top/zelkuma" "$top/LICENSE" "$top/tools" "$top/man" "$top/completion" "$top/packaging" "$sources"
-echo 'import os, sys; print(os.environ["ZELKUMA_PROGRAM"], *sys.argv[1:]); import bridge.gate; sys.exit(5)' >"$sources/companion/__main__.py"
-touch "$sources/companion/bridge/gate.py" "$sources/companion/__pycache__/stale.pyc" "$sources/tools/launcher/part.sh"
+mkdir -p "$sources/release" "$sources/companion/__pycache__"
+cp -r "$top/"{zelkuma,crates.txt,tools,man,completion,packaging,companion} "$sources"
+cp "$top/release/STAMP" "$sources/release"
+cp "$program" "$sources/release/zelkuma-x86_64-linux"
+echo 'import os, sys; print(os.environ["ZELKUMA_PROGRAM"], *sys.argv[1:]); sys.exit(5)' >"$sources/companion/__main__.py"
+touch "$sources/companion/__pycache__/stale.pyc" "$sources/companion/stray.py" "$sources/tools/launcher/"{stray.sh,.run.sh.swp}
 
 # A toolchain that must never be called.
 mkdir "$work/bin"
@@ -49,12 +51,11 @@ works() { # SCRIPT PROGRAM
 # What stands under a folder, with modes and times.
 everything() { find "$1" -printf '%p %m %s %t\n' | LC_ALL=C sort; }
 
-# Lays all, as the script does.
-lays() ( # SOURCES FOLDER
-    top=$1
-    . "$top/tools/install.sh"
-    lay "$2" "$program"
-)
+# The files under a folder.
+files_in() { (cd "$1" && find . ! -type d -printf '%P\n' | LC_ALL=C sort); }
+
+# What install lays under a folder, a line each.
+laid_under() { printf '%s\n' "$1"/{bin/zelkuma,lib/zelkuma,share/man/man1/zelkuma.1,share/bash-completion/completions/zelkuma}; }
 
 # The companions that are told.
 companions() {
@@ -64,15 +65,77 @@ companions() {
 
 what="a folder"
 prefix="$work/a prefix"
-runs 0 lays "$sources" "$prefix"
+runs 0 "$sources/zelkuma" install "$prefix"
+laid_under "$prefix" >"$work/wanted"
+equals "$work/wanted" "$work/out"
 works "$prefix/bin/zelkuma" "$prefix/lib/zelkuma/zelkuma"
 equals "$top/man/zelkuma.1" "$prefix/share/man/man1/zelkuma.1"
 equals "$top/completion/zelkuma.bash" "$prefix/share/bash-completion/completions/zelkuma"
-[ -e "$prefix/lib/zelkuma/tools/launcher/part.sh" ] || fails "a part of the script isn't there"
-[ -z "$(find "$prefix" -name '*.pyc')" ] || fails "compiled files were laid, or left"
+{ cat "$top/tools/files.txt" && echo zelkuma; } | LC_ALL=C sort >"$work/wanted"
+files_in "$prefix/lib/zelkuma" >"$work/files"
+equals "$work/wanted" "$work/files"
 [ "$(find "$prefix" -type f -perm 755 -printf '%P\n' | sort | xargs)" = "bin/zelkuma lib/zelkuma/zelkuma" ] ||
     fails "other files than these two can be run"
 [ -z "$(find "$prefix" -type f ! -perm 755 ! -perm 644)" ] || fails "a file has another mode"
+runs 0 "$prefix/bin/zelkuma" --version
+has out "program $(sha256sum <"$program" | cut -d ' ' -f 1) $prefix/lib/zelkuma/zelkuma"
+
+what="folders that install makes, and those that it doesn't"
+runs 3 "$sources/zelkuma" install "$work/no/where"
+has err "zelkuma: install: there is no folder $work/no, and a PREFIX that ends in / would make it"
+[ ! -e "$work/no" ] || fails "a folder was made"
+runs 0 "$sources/zelkuma" install "$work/no/where/"
+files_in "$prefix" >"$work/whole"
+files_in "$work/no/where" >"$work/files"
+equals "$work/whole" "$work/files"
+cd "$work" || exit 1
+runs 0 "$sources/zelkuma" install -p
+works ./-p/bin/zelkuma "$work/-p/lib/zelkuma/zelkuma"
+runs 3 "$sources/zelkuma" install "$work/list"
+has err "is no folder"
+for words in "" "a b"; do
+    # shellcheck disable=SC2086
+    runs 2 "$sources/zelkuma" install $words
+    has err "install takes one word, the folder PREFIX"
+done
+runs 2 "$sources/zelkuma" install ""
+mkdir -p "$work/checkout/lib"
+cp -r "$sources" "$work/checkout/lib/zelkuma"
+everything "$work/checkout" >"$work/before"
+for word in install uninstall; do
+    runs 2 "$sources/zelkuma" $word "$work/checkout"
+    has err "has the sources of zelkuma, and no installation"
+done
+everything "$work/checkout" >"$work/after"
+equals "$work/before" "$work/after"
+
+what="what an earlier version laid"
+# (the first had no list; the other's list also names what isn't its own)
+for list in "" "tools/files.txt" ; do
+    older=$work/older${list:+2}
+    runs 0 "$sources/zelkuma" install "$older"
+    touch "$older/bin/other"
+    (cd "$older/lib/zelkuma" && touch companion/gone.py tools/launcher/gone.sh mine)
+    if [ -z "$list" ]; then
+        rm "$older/lib/zelkuma/tools/files.txt"
+    else
+        printf '%s\n' companion/gone.py tools/launcher/gone.sh ../../bin/other "$older/bin/other" >>"$older/lib/zelkuma/tools/files.txt"
+    fi
+    runs 0 "$sources/zelkuma" install "$older"
+    { cat "$work/whole" && echo bin/other && echo lib/zelkuma/mine; } | LC_ALL=C sort >"$work/more"
+    files_in "$older" >"$work/files"
+    equals "$work/more" "$work/files"
+done
+
+what="taking it away"
+runs 0 "$older/bin/zelkuma" uninstall "$older"
+[ "$(files_in "$older" | xargs)" = "bin/other lib/zelkuma/mine" ] || fails "it left $(files_in "$older" | xargs)"
+runs 3 "$sources/zelkuma" uninstall "$older"
+has err "there is no zelkuma under"
+runs 0 "$sources/zelkuma" uninstall "$work/no/where/"
+[ -z "$(files_in "$work/no")" ] && [ ! -e "$work/no/where/lib/zelkuma" ] || fails "it left $(files_in "$work/no")"
+runs 3 "$sources/zelkuma" uninstall "$work/nothing"
+runs 2 "$sources/zelkuma" uninstall
 
 what="every companion that is told"
 for word in $(companions); do
@@ -82,17 +145,17 @@ done
 
 what="the companions of the sources"
 if [ -d "$top/companion" ] && type -P python3 >/dev/null; then
-    runs 0 lays "$top" "$work/whole"
-    everything "$work/whole" >"$work/before"
+    runs 0 env ZELKUMA_PROGRAM="$program" "$top/zelkuma" install "$work/all"
+    everything "$work/all" >"$work/before"
     for word in $(companions); do
-        runs 0 "$work/whole/bin/zelkuma" "$word" --help
+        runs 0 "$work/all/bin/zelkuma" "$word" --help
         has out "zelkuma $word "
     done
-    runs 0 "$work/whole/bin/zelkuma" why "$work/LOG" "$elf"
+    runs 0 "$work/all/bin/zelkuma" why "$work/LOG" "$elf"
     has out "LoadOutside 6e657472"
-    runs 0 "$work/whole/bin/zelkuma" view "$work/LOG" "$elf"
+    runs 0 "$work/all/bin/zelkuma" view "$work/LOG" "$elf"
     has out "</html>"
-    everything "$work/whole" >"$work/after"
+    everything "$work/all" >"$work/after"
     equals "$work/before" "$work/after"
 else
     skips "the companions themselves, or Python, which aren't here"
@@ -117,30 +180,23 @@ equals "$work/before" "$work/after"
 chmod -R u+w "$work/moved"
 
 what="installing from what is installed"
-mkdir "$work/other"
 runs 2 "$work/moved/bin/zelkuma" install "$work/other"
 has err "install: this zelkuma is installed"
-runs 0 "$work/moved/bin/zelkuma" install "$work/copy"
-equals "$program" "$work/copy"
-runs 0 "$work/copy" list "$work/LOG"
-runs 3 "$work/moved/bin/zelkuma" install "$work/none/copy"
-has err "install: there is no folder $work/none"
-runs 3 "$work/moved/bin/zelkuma" install "$work/none/"
-has err "install: there is no folder $work/none"
-runs 2 "$work/moved/bin/zelkuma" install "$work/moved/bin/zelkuma"
-has err "is this script"
+[ ! -e "$work/other" ] || fails "a folder was made"
 
 what="the script alone, and a companion without Python"
 cp "$sources/zelkuma" "$work/alone"
 runs 1 "$work/alone" list "$work/LOG"
-has err "beside this script are neither the sources"
+has err "beside it are neither the sources"
 mkdir "$work/few"
-for name in awk basename bash cat dirname env find grep head install kill mkdir readlink rm sed sleep sort tail tr; do
+for name in bash readlink stat; do
     ln -s "$(type -P "$name")" "$work/few/$name"
 done
 PATH=$work/few runs 1 "$work/moved/bin/zelkuma" why LOG ELF
 has err "why is a companion, and needs python3"
 PATH=$work/few runs 0 "$work/moved/bin/zelkuma" list "$work/LOG"
+PATH=$work/few runs 0 "$work/moved/bin/zelkuma" list --help
+has out "zelkuma list LOG"
 
 [ ! -e "$work/called" ] || fails "the toolchain was called"
 
@@ -174,11 +230,19 @@ if type -P man >/dev/null; then
     has out "record [OPTION..] ELF LOG BOOK"
 fi
 
-what="a package of the program that the script runs"
-printf '#!/bin/sh\n[ "$1" = install ] && cp "%s" "$2" && echo "$2"\n' "$program" >"$work/elsewhere/zelkuma"
+what="a package of the shipped program"
 runs 0 "$work/elsewhere/packaging/deb.sh" "$work/three.deb"
 runs 0 dpkg-deb -x "$work/three.deb" "$work/third"
 equals "$program" "$work/third/usr/lib/zelkuma/zelkuma"
+
+what="a package as Debian has them"
+if type -P lintian >/dev/null; then
+    runs 0 lintian --allow-root --fail-on error,warning "$work/one.deb"
+    gzip -dc "$root/usr/share/doc/zelkuma/changelog.gz" >"$work/page"
+    grep -qx "zelkuma (0.20231114.2213) unstable; urgency=medium" "$work/page" || fails "the changelog has another version"
+else
+    skips "the package by lintian, which isn't here"
+fi
 
 what="a package that dpkg installs, and takes away"
 if [ "$(id -u)" -eq 0 ]; then

@@ -10,12 +10,12 @@ program=$(readlink -f -- "${1:?the words are PROGRAM}")
 work=$(mktemp -d)
 trap 'rm -rf "$work"' EXIT
 . "$top/tests/asserts.sh"
-made=(tools/help/page.txt man/zelkuma.1 completion/zelkuma.bash docs/COMMANDS.md)
+made=(tools/help/{page.txt,each.txt,words.sh} tools/files.txt man/zelkuma.1 completion/zelkuma.bash docs/COMMANDS.md)
 
-# A tree with the help's source and the document whose tables are made.
+# A tree with the help's source, the document whose tables are made, and the files that are listed.
 tree=$work/tree
-mkdir -p "$tree/tools" "$tree/docs"
-cp -r "$top/tools/help" "$tree/tools"
+mkdir -p "$tree/docs"
+cp -r "$top/tools" "$top/companion" "$tree"
 cp "$top/docs/COMMANDS.md" "$tree/docs"
 
 # Prints a table as the makers read it: entry, key and text, with tabs between.
@@ -28,13 +28,17 @@ for name in "${made[@]}"; do
 done
 
 what="a change of the tables"
-printf 'frob LOG [--twice N]\n  does frobs a log\n' >>"$tree/tools/help/commands.txt"
+printf 'frob LOG TIMES [--twice N] [--gently]\n  does frobs a log\n  range TIMES 2 to 5\n' >>"$tree/tools/help/commands.txt"
+printf 'nudge LOG\n  does nudges a log\n' >>"$tree/tools/help/companions.txt"
+touch "$tree/companion/nudge.py"
 sed -i 's/^  default 100000$/  default 100001/' "$tree/tools/help/options.txt"
-sed -i 's/^21 .*/21 no frob/; s/no row IC/no frob IC/' "$tree/tools/help/statuses.txt"
+sed -i 's/^21 .*/21 no frob/; s/no row IC/no frob IC/; s/give a greater MAX,/give "$(more)",/' "$tree/tools/help/statuses.txt"
 runs 0 "$tree/tools/help/make.sh"
 for place in page.txt:"frobs a log" page.txt:100001 page.txt:"no frob" zelkuma.1:"Frobs a log." zelkuma.1:100001 \
-    zelkuma.1:"no frob IC" zelkuma.bash:"frob LOG" zelkuma.bash:"frob --twice N" \
-    "COMMANDS.md:| \`frob LOG [--twice N]\` | frobs a log |" "COMMANDS.md:| 100001 |" "COMMANDS.md:| 21 | \`no frob IC\` |"; do
+    zelkuma.1:"no frob IC" zelkuma.bash:"frob LOG TIMES" zelkuma.bash:"frob --twice N" \
+    words.sh:'[frob.]="LOG TIMES"' words.sh:'[frob.twice]="N"' words.sh:'[frob.gently]="flag"' words.sh:'[TIMES]="2 to 5"' \
+    words.sh:'[20]="give \"\$(more)\", up to 1000000"' words.sh:"seeds nudge " each.txt:"  frobs a log" files.txt:companion/nudge.py \
+    "COMMANDS.md:| \`frob LOG TIMES [--twice N] [--gently]\` | frobs a log |" "COMMANDS.md:| 100001 |" "COMMANDS.md:| 21 | \`no frob IC\` |"; do
     grep -rqF -- "${place#*:}" "$tree"/*/"${place%%:*}" "$tree"/*/*/"${place%%:*}" 2>/dev/null || fails "it isn't in $place"
 done
 
@@ -49,6 +53,21 @@ what="the page of help"
 runs 0 "$top/zelkuma" help
 equals "$work/out" "$top/tools/help/page.txt"
 [ -z "$(awk 'length > 110' "$top/tools/help/page.txt")" ] || fails "a line has more than 110 characters"
+
+what="what is told of one command"
+while read -r command names; do
+    for help in --help -h; do
+        runs 0 "$top/zelkuma" "$command" $help
+        has out "zelkuma $command"
+        [ "$(grep -c '^zelkuma' "$work/out")" -eq 1 ] || [ "$command" = record ] || fails "other commands are told"
+        [ ! -s "$work/err" ] || fails "err isn't empty"
+    done
+done < <(read_table commands | awk -F '\t' '$2 == "entry" { print $3 }' && printf '%s\n' build install uninstall)
+runs 0 "$top/zelkuma" record --help LOG
+has out "  --seed N "
+runs 2 "$top/zelkuma" recor --help
+has err "there is no command 'recor'"
+[ -z "$(awk 'length > 100' "$top/tools/help/each.txt")" ] || fails "a line has more than 100 characters"
 
 what="the program's commands"
 cd "$work" || exit 1

@@ -1,16 +1,10 @@
 #!/usr/bin/env bash
 # Tries what the script zelkuma does with the words of a call before the program runs, and its advice after it:
-# tests/launcher.sh PROGRAM. It takes some seconds.
+# tests/launcher.sh PROGRAM. It takes some seconds. Of the system the script has bash, stat and readlink alone.
 program=$(readlink -f "$1")
 . "$(dirname "$0")/small_tree.sh"
-
-# The program is shipped with the small tree.
-mkdir -p "$tree/crates/bugnet_main/out" "$tree/crates/bugnet_main/data"
-cp "$top/crates/bugnet_main/data/example.log" "$tree/crates/bugnet_main/data"
-cp "$program" "$tree/crates/bugnet_main/out/bugnet_main"
-runs 0 "$tree/tools/release.sh"
-rm -r "$tree/crates/bugnet_main/out"
-path=$without
+only bash stat readlink
+cp "$program" "$shipped"
 mkdir "$work/here" "$work/here/folder"
 chmod -R a+rX "$work"
 cd "$work/here" || exit 1
@@ -38,6 +32,15 @@ records() { # WORD..
     hasnt err zelkuma
 }
 
+what="the script as a text"
+lines=$(cat "$top/zelkuma" "$top"/tools/launcher/* | wc -l)
+[ "$lines" -le 420 ] || fails "it has $lines lines, and may have 420"
+if type -P shellcheck >/dev/null; then
+    (cd "$top" && shellcheck -x zelkuma tools/launcher/*.sh) >"$work/out" 2>"$work/err" || fails "shellcheck has something to say"
+else
+    skips "shellcheck isn't here"
+fi
+
 what="numbers of options"
 runs 11 "$zelkuma" record --seed 0x10 --limit 2K --log-size=0x10000 --memory 1M ELF LOG BOOK
 has err "instructions 2048 "
@@ -47,7 +50,9 @@ runs 11 "$program" record --seed 18446744073709551615 --limit 2000 ELF LOG3 BOOK
 cmp -s LOG2 LOG3 || fails "another seed"
 runs 2 "$zelkuma" record --limit 1G --memory 1G ELF LOG BOOK
 has err "bugnet: setting memory 1073741824"
-for word in 2k 0x 0x10000000000000000 9999999999G 1T K 0x1K 1.5K ''; do
+runs 2 "$zelkuma" record --memory 1024M --limit 1073741824K ELF LOG BOOK
+has err "bugnet: setting memory 1073741824"
+for word in 2k 0x 0x10000000000000000 9999999999G 17179869184G 36028797018963968K 1T K 0x1K 1.5K ''; do
     runs 2 "$zelkuma" record --limit "$word" ELF LOG BOOK
     says "bugnet: words refused" "zelkuma: --limit takes a number from 0 to 18446744073709551615, and not '$word'; 'zelkuma help' lists commands and options"
 done
@@ -55,7 +60,7 @@ printf read >2K
 runs 11 "$zelkuma" record --seed 1 --limit 2000 --input 2K -- ELF 0x1 1M
 [ -s 0x1 ] && [ -s 1M ] || fails "other files were saved"
 runs 2 "$zelkuma" replay LOG ELF 0x0 0
-has err "HART is a number, and not '0x0'"
+has err "HART is a number from 0 to 18446744073709551615, and not '0x0'"
 
 what="files that can't be saved"
 refuses 3 "LOG can't be saved as 'no/LOG': there is no folder 'no'" record ELF no/LOG BOOK
@@ -63,6 +68,12 @@ refuses 3 "BOOK can't be saved as '/no/where/BOOK': there is no folder '/no/wher
 refuses 3 "LOG can't be saved as 'ELF/LOG': there is no folder 'ELF'" record ELF ELF/LOG BOOK
 refuses 3 "LOG can't be saved: 'folder' is a folder" record ELF folder BOOK --harts 2
 refuses 3 "BOOK can't be saved: './' is a folder" record --input 2K ELF LOG ./
+long=$(printf 'x%.0s' {1..255})
+refuses 3 "LOG can't be saved: its name is empty" record ELF '' BOOK
+refuses 3 "BOOK can't be saved: its name is empty" record ELF LOG ''
+refuses 3 "LOG can't be saved: its name has more than 255 bytes" record ELF "x$long" BOOK
+refuses 3 "BOOK can't be saved: its name has more than 255 bytes" record ELF LOG "folder/x$long"
+refuses 3 "LOG can't be saved: its name has more than 255 bytes" record ELF "${long:0:200}äöüäöüäöüäöüäöüäöüäöüäöüäöüäöü" BOOK
 chmod a-w folder
 touch folder/old kept && chmod a-w folder/old kept
 if [ ! -w folder ]; then
@@ -90,6 +101,13 @@ refuses 2 "LOG would destroy 'ELF', which is an ELF file; the order is ELF LOG B
 
 refuses 2 "BOOK would destroy LOG: './new' and 'new' are one file" record ELF new ./new
 refuses 2 "BOOK would destroy LOG: 'LOG' and 'folder/../LOG' are one file" record ELF folder/../LOG LOG
+ln -s new to-new && ln -s to-new to-to-new && ln -s "$PWD/LOG" to-LOG && ln -s no/where to-nowhere && ln -s loop loop
+refuses 2 "BOOK would destroy LOG: 'to-new' and 'new' are one file" record ELF new to-new
+refuses 2 "BOOK would destroy LOG: './new' and 'to-to-new' are one file" record ELF to-to-new ./new
+refuses 2 "BOOK would destroy LOG: 'to-to-new' and 'to-new' are one file" record ELF to-new to-to-new
+refuses 2 "BOOK would destroy LOG: 'to-LOG' and 'LOG' are one file" record ELF LOG to-LOG
+refuses 3 "LOG can't be saved: the link 'to-nowhere' leads nowhere" record ELF to-nowhere BOOK
+refuses 3 "BOOK can't be saved: the link 'loop' leads nowhere" record ELF LOG loop
 
 what="what is not refused"
 records ELF LOG BOOK
@@ -98,6 +116,7 @@ records --lean ELF LOG no/BOOK
 records --lean ELF LOG ELF
 records ELF /dev/null ./BOOK
 records --input /dev/null ELF /dev/null BOOK
+records ELF "$long" BOOK
 ln -s LOG4 dangling
 records ELF dangling BOOK
 [ -s LOG4 ] || fails "the link wasn't followed"
@@ -140,8 +159,6 @@ record --limit 9 --limit 9 ELF LOG BOOK
 record --lim 9 ELF LOG BOOK
 record --seed 1 --limit 9 --lean --lean ELF LOG BOOK
 record --lean=1 ELF LOG BOOK
-record -h
-record --help
 record
 record --
 record --=1 ELF LOG BOOK
@@ -186,7 +203,27 @@ demo 7
 demo x
 demo
 Record ELF LOG BOOK
+@@ LOG
+* LOG
+] LOG
+a]b LOG
+$(touch pwned) LOG
+list. LOG
+record --a]b=1 ELF LOG BOOK
+record --* ELF LOG BOOK
+record --$(touch pwned)=1 ELF LOG BOOK
 END
+[ ! -e pwned ] || fails "a word was run"
+
+what="variables of the caller"
+odd=(env)
+for word in takes ranges remedies companions wanted names values complaint head child program shipped installed kind place top; do
+    odd+=("$word=1")
+done
+runs 2 "${odd[@]}" "$zelkuma" list
+says "bugnet: words refused" "zelkuma: LOG is missing: list takes LOG; 'zelkuma help' lists commands and options"
+runs 11 "${odd[@]}" "$zelkuma" record --seed=1K --limit 2000 ELF LOG BOOK
+hasnt err zelkuma
 
 what="advice on words"
 runs 2 "$zelkuma" '$(touch pwned)'
@@ -201,15 +238,15 @@ has err "LOG is missing: list takes LOG"
 runs 2 "$zelkuma" joint LOG ELF 0
 has err "the word '0' is too many: joint takes LOG ELF"
 runs 2 "$zelkuma" record --harts 99 ELF LOG BOOK
-says "bugnet: setting harts 99" "zelkuma: an option is out of its range, which 'zelkuma help' tells"
+says "bugnet: setting harts 99" "zelkuma: an option is out of its range, which 'zelkuma help' tells, or a word isn't UTF-8"
 runs 2 "$zelkuma" convert LOG LOG
 says "bugnet: same name LOG" "zelkuma: LOG and NEW have one name"
 runs 2 "$zelkuma" record --seed 1 ELF LOG LOG
 says "bugnet: same name LOG" "zelkuma: LOG and BOOK have one name"
 runs 2 "$zelkuma" list $'\xff'
-says "bugnet: words refused" "zelkuma: a word isn't UTF-8, or an option is out of its range, which 'zelkuma help' tells"
+says "bugnet: words refused" "zelkuma: an option is out of its range, which 'zelkuma help' tells, or a word isn't UTF-8"
 runs 2 "$zelkuma" races LOG ELF 0
-says "bugnet: words refused" "zelkuma: MAX is from 1 to 1000000, and not '0'; 'zelkuma help' lists commands and options"
+says "bugnet: words refused" "zelkuma: MAX is a number from 1 to 1000000, and not '0'; 'zelkuma help' lists commands and options"
 
 what="advice on ELF"
 runs 6 "$zelkuma" record 2K LOG BOOK
@@ -240,9 +277,7 @@ has err "'zelkuma salvage LOG NEW' may save its end"
 
 what="advice on memory, intervals and races"
 runs 9 bash -c 'ulimit -v 100000; exec "$0" "$@"' "$zelkuma" record --seed 1 --log-size 256M ELF LOG BOOK
-has err "^zelkuma: give a smaller --limit or --log-size.*turn$"
-runs 9 bash -c 'ulimit -v 100000; exec "$0" "$@"' "$zelkuma" record --log-size 256M ELF LOG BOOK
-has err "^zelkuma: .*--limit.*--seed N"
+has err "^zelkuma: of a recording give '--lean', a smaller '--limit' or '--log-size', or '--seed N', which starts no threads; 'ulimit -v' shows a limit$"
 records ELF LOG BOOK
 runs 14 "$zelkuma" replay LOG ELF 0 99
 says "bugnet: no interval 0 99" "zelkuma: 'zelkuma list LOG' tells the intervals that LOG holds"
@@ -255,11 +290,11 @@ runs 0 "$zelkuma" demo 7
 what="a reader who ends early"
 records ELF LOG BOOK
 runs 13 bash -c '"$0" replay LOG ELF 0 0 | read -r; exit "${PIPESTATUS[0]}"' "$zelkuma"
-says "bugnet: write failed" "zelkuma: the reader of the pipe ended early, as head does; a file, tail or awk takes all of it"
+says "bugnet: write failed" "zelkuma: write to a file, or to a reader that takes all, as 'tail' does and 'head' doesn't; is the disk full?"
 runs 13 bash -c '"$0" replay LOG ELF 0 0 2>&1 | read -r; exit "${PIPESTATUS[0]}"' "$zelkuma"
 runs 14 bash -c '"$0" replay LOG ELF 0 99 2> >(exit)' "$zelkuma"
 runs 13 bash -c '"$0" list LOG >/dev/full' "$zelkuma"
-says "bugnet: write failed" "zelkuma: out or err takes no more: is the disk full?"
+has err "is the disk full"
 runs 12 bash -c '"$0" debug LOG ELF <&-' "$zelkuma"
 says "bugnet: read failed"
 

@@ -6,8 +6,8 @@ set -u
 top=$(cd "$(dirname "$0")/.." && pwd)
 
 name=tests/release.sh cpu=
-. "$top/tools/launcher/say.sh"
-. "$top/tools/launcher/program.sh"
+. "$top/tools/say.sh"
+. "$top/tools/sources.sh"
 renew="tools/release.sh renews release/"
 
 [ -x "$built" ] || stop 1 "there is no program ${built#"$top/"} to compare with"

@@ -1,39 +1,22 @@
 #!/usr/bin/env bash
-# Tries when the script zelkuma runs the shipped program, and how that is made and compared: tests/shipped.sh
-# It takes half a minute, and needs no toolchain.
+# Tries which program a call runs, and how the shipped one is made and compared: tests/shipped.sh
+# It takes some ten seconds, and needs no toolchain.
 . "$(dirname "$0")/small_tree.sh"
 
-shipped=$tree/release/zelkuma-x86_64-linux
 stamp=$tree/release/STAMP
 built=$tree/crates/bugnet_main/out/bugnet_main
 mkdir -p "$tree/crates/bugnet_main/data"
-
-
-# A choice is kept once no file has changed for two seconds.
-settle() {
-    runs 5 "$zelkuma" list LOG
-    sleep 3
-    runs 5 "$zelkuma" list LOG
-    [ -e "$tree/crates/bugnet_main/out/seen.any" ] || fails "no choice is kept"
-}
-
-# Whether a call compares contents.
-compares() {
-    : >"$TRACE"
-    runs 5 env BASH_ENV="$work/traced" "$zelkuma" list LOG
-    grep -q choose_program "$TRACE" || fails "there is no trace of the call"
-    grep -q compare_contents "$TRACE"
-}
-export TRACE=$work/trace
-echo 'exec 7>>"$TRACE"; BASH_XTRACEFD=7; set -x' >"$work/traced"
+# All that is in the tree, with times and contents.
+everything() { (cd "$tree" && find . -printf '%p %m %T@ %C@\n' && find . -type f -exec sha256sum {} +) | LC_ALL=C sort; }
 
 what="nothing is shipped"
-runs 5 "$zelkuma" list LOG
-has err "there is no shipped program in release/"
-builds
+runs 1 "$zelkuma" list LOG
+[ "$(cat "$work/err")" = "zelkuma: there is no program '$shipped' that can be run; 'zelkuma build' makes one from the sources" ] ||
+    fails "err isn't one clear line"
+runs 0 "$zelkuma" build
 runs 1 "$tree/tests/release.sh"
 has err "there is no shipped program in release/; tools/release.sh renews release/"
-runs 5 "$zelkuma" list LOG
+runs 1 "$zelkuma" list LOG
 builds_nothing
 
 what="the program is shipped"
@@ -45,149 +28,135 @@ cmp -s "$shipped" "$built" || fails "it isn't the program that was built"
 kit rattle-kit-13b" ] || fails "the stamp names other kits"
 runs 0 "$tree/tests/release.sh"
 has out "the shipped program is the one that rattle-kit-13f logic 0 has built, byte for byte"
+runs 0 "$zelkuma" build
+has err "what was built is the shipped program, byte for byte"
 
-what="a clone, on a machine with the tools that each has"
+# Whether a call runs the shipped program, says nothing of its own, and leaves the tree as it was.
+is_run() { # WORD.. that call the script
+    everything >"$work/before"
+    runs 5 "$@" list LOG
+    answers list LOG
+    [ ! -s "$work/err" ] || fails "err isn't empty"
+    builds_nothing
+    everything >"$work/after"
+    equals "$work/before" "$work/after"
+}
+
+what="a clone, with bash, stat and readlink"
 rm -r "$tree/crates/bugnet_main/out"
-mkdir "$work/few"
-for name in awk bash cat cut dirname env find mkdir od readlink sha256sum sort stat tr xargs; do
-    ln -s "$(type -P "$name")" "$work/few/$name"
+only bash stat readlink
+is_run "$zelkuma"
+
+what="sources that have changed, or are gone"
+cp -rp "$tree/crates" "$work/kept"
+echo changed >"$source"
+is_run "$zelkuma"
+rm -r "$tree/crates/"*
+is_run "$zelkuma"
+rm -r "$tree/crates"
+mv "$work/kept" "$tree/crates"
+
+what="odd times"
+find "$tree" -exec touch -h -d 2099-01-01 {} +
+is_run "$zelkuma"
+find "$tree" -exec touch -h -d 1970-01-02 {} +
+is_run "$zelkuma"
+
+what="a checkout that can't be written to, and one of another user"
+chmod -R a-w,a+rX "$tree" "$work/few" "$work/call"
+chmod a+rx "$work" "$work/kit/"
+: >"$calls" && chmod a+w "$calls"
+is_run "$zelkuma"
+if [ "$(id -u)" -eq 0 ] && type -P setpriv >/dev/null; then
+    is_run "$(type -P setpriv)" --reuid 65534 --regid 65534 --clear-groups env -u TMPDIR "$zelkuma"
+    chown -R 65534 "$tree"
+    is_run "$zelkuma"
+    chown -R 0 "$tree"
+else
+    skips "another user's checkout: only root can make it, with setpriv"
+fi
+chmod -R u+w "$tree"
+
+what="links to the script"
+mkdir "$work/bin"
+ln -s "$tree/zelkuma" "$work/bin/zelkuma"
+ln -s ../bin/zelkuma "$work/bin/short"
+cd / || exit 1
+is_run "$work/bin/short"
+cd "$tree" || exit 1
+is_run ./zelkuma
+is_run bash zelkuma
+cd "$work" || exit 1
+
+what="another program"
+printf '#!/bin/sh\necho "another: $*"\nexit 6\n' >other
+chmod +x other
+for name in other ./other "$work/other"; do
+    ZELKUMA_PROGRAM=$name runs 6 "$zelkuma" slice a "b c"
+    [ "$(cat "$work/out")" = "another: slice a b c" ] || fails "$name isn't run"
 done
-path=$work/few runs 5 "$zelkuma" list LOG
-answers list LOG
-builds_nothing
-[ ! -s "$work/err" ] || fails "err isn't empty"
-path=$without runs 0 "$zelkuma" install "$work/copy"
-cmp -s "$work/copy" "$shipped" || fails "it installs another program"
-
-what="a choice that is kept"
-settle
-! compares || fails "contents are compared"
-answers list LOG
-
-what="a file that was written again, with its time"
-cp -p "$source" "$work/kept"
-echo "mid as it wos" >"$source"
-touch -r "$work/kept" "$source"
-compares || fails "contents aren't compared"
-has err "the sources have changed since release/ was made"
-cp -p "$work/kept" "$source"
-path=$without runs 5 "$zelkuma" list LOG
-[ ! -s "$work/err" ] || fails "err isn't empty"
-
-what="a file more, and one in another's place"
-settle
-echo more >"$tree/crates/low/src/more.rt"
-compares || fails "contents aren't compared"
-rm "$tree/crates/low/src/more.rt"
-settle
-cp -p "$source" "$source.new"
-mv "$source.new" "$source"
-compares || fails "contents aren't compared"
-answers list LOG
-
-what="a crate that the program isn't made from"
-settle
-echo changed >>"$tree/crates/bench/src/lib.rt"
-! compares || fails "contents are compared"
-
-what="a folder more, and a file less"
-mkdir "$tree/crates/low/specs"
-compares || fails "contents aren't compared"
-rmdir "$tree/crates/low/specs"
-settle
-mv "$tree/crates/side/src/lib.rt" "$work/kept"
-compares || fails "contents aren't compared"
-has err "the sources have changed since release/ was made"
-mv "$work/kept" "$tree/crates/side/src/lib.rt"
-
-what="a file and a folder behind links"
-mkdir "$work/elsewhere"
-mv "$tree/crates/low/src" "$work/elsewhere/folder"
-ln -s "$work/elsewhere/folder" "$tree/crates/low/src"
-mv "$source" "$work/elsewhere/file"
-ln -s "$work/elsewhere/file" "$source"
-settle
-[ ! -s "$work/err" ] || fails "err isn't empty"
-! compares || fails "contents are compared"
-for name in folder/lib.rt file; do
-    cp -p "$work/elsewhere/$name" "$work/kept"
-    echo changed >"$work/elsewhere/$name"
-    touch -r "$work/kept" "$work/elsewhere/$name"
-    compares || fails "contents aren't compared"
-    has err "the sources have changed since release/ was made"
-    cp -p "$work/kept" "$work/elsewhere/$name"
-    settle
+ZELKUMA_PROGRAM='' runs 5 "$zelkuma" list LOG
+for name in nowhere "$work" "$top/LICENSE"; do
+    ZELKUMA_PROGRAM=$name runs 1 "$zelkuma" list LOG
+    has err "^zelkuma: there is no program .* that can be run; 'zelkuma build' makes one from the sources$"
 done
-cp -rp "$work/elsewhere/folder" "$work/elsewhere/other"
-ln -sfn "$work/elsewhere/other" "$tree/crates/low/src"
-compares || fails "contents aren't compared"
-rm "$tree/crates/low/src" "$source"
-mv "$work/elsewhere/folder" "$tree/crates/low/src"
-mv "$work/elsewhere/file" "$source"
 
-what="half of a choice"
-settle
-kept=$tree/crates/bugnet_main/out/seen.any
-head -c 100 "$kept" >"$work/kept" && cat "$work/kept" >"$kept"
-compares || fails "contents aren't compared"
-answers list LOG
-
-what="a choice that was just made"
-rm "$tree/crates/bugnet_main/out/"seen.*
-touch "$source"
-runs 5 "$zelkuma" list LOG
-[ ! -e "$tree/crates/bugnet_main/out/seen.any" ] || fails "it is kept, though a file has just changed"
-
-what="a tree that can't be written to"
-rm -r "$tree/crates/bugnet_main/out"
-touch "$tree/crates/bugnet_main/out" # (so that there can be no folder, also for root)
-path=$without runs 5 "$zelkuma" list LOG
-answers list LOG
-[ ! -s "$work/err" ] || fails "err isn't empty"
-rm "$tree/crates/bugnet_main/out"
-
-what="a shipped program that was changed"
-settle
-cp -p "$shipped" "$work/kept"
-echo "# changed" >>"$shipped"
-runs 5 "$zelkuma" list LOG
-has err "release/zelkuma-x86_64-linux isn't the file that its stamp says"
-builds
-runs 1 "$tree/tests/release.sh"
-has err "isn't the file that its stamp says; tools/release.sh renews release/"
-cp -p "$work/kept" "$shipped"
+what="a shipped program that can't run here"
+runs 1 env HOSTTYPE=aarch64 "$zelkuma" list LOG
+[ "$(cat "$work/err")" = "zelkuma: the program is for Linux on x86-64, as 'zelkuma build' is, and this is $OSTYPE on aarch64" ] ||
+    fails "err isn't one clear line"
+ZELKUMA_PROGRAM=other HOSTTYPE=aarch64 runs 6 "$zelkuma" list LOG
 chmod -x "$shipped"
 runs 1 "$zelkuma" list LOG
-has err "can't be executed"
+has err "that can be run; 'zelkuma build'"
 chmod +x "$shipped"
+printf '\x7fELF\x02\x01\x01%057d' 0 >foreign
+chmod +x foreign
+ZELKUMA_PROGRAM=foreign runs 126 "$zelkuma" list LOG
+has err "^zelkuma: './foreign' can't run here: it is for Linux on x86-64-v2 with glibc 2.34 or later; see 'zelkuma build --help'$"
 
-what="another machine"
-runs 1 env HOSTTYPE=aarch64 "$zelkuma" list LOG
-has err "the program runs on Linux on x86-64"
+what="what it says of itself"
+path=$PATH
+runs 0 "$tree/zelkuma" --version
+printf '%s\n' "program $(sha256sum <"$shipped" | cut -d ' ' -f 1) $shipped" "kit rattle-kit-13f logic 0" "kit rattle-kit-13b" >"$work/wanted"
+equals "$work/wanted" "$work/out"
+ZELKUMA_PROGRAM=other runs 0 "$tree/zelkuma" --version
+has out "^kit unknown"
+runs 0 "$zelkuma" --version
+has out "^program unknown"
+if type -P git >/dev/null; then
+    (cd "$tree" && git init -q . && git add -A && git -c user.name=a -c user.email=a@b.c commit -qm a) >/dev/null 2>&1
+    runs 0 "$tree/zelkuma" --version
+    has out "^commit [0-9a-f]*$"
+    echo "$(<"$source") changed" >"$source"
+    runs 0 "$tree/zelkuma" --version
+    has out "^commit [0-9a-f]*, changed since$"
+    (cd "$tree" && git checkout -q .)
+    rm -r "$tree/.git"
+else
+    skips "the commit: git isn't here"
+fi
+path=$work/kit/bin:$without
+zelkuma=$tree/zelkuma
 
-what="the sources are to be proved"
-rm -r "$tree/crates/bugnet_main/out"
-ZELKUMA_PROVE=1 runs 5 "$zelkuma" list LOG
-builds
-has err "what was built is the shipped program, byte for byte"
-ZELKUMA_PROVE=1 runs 5 "$zelkuma" list LOG
-builds_nothing
+what="a shipped program that was changed"
 runs 0 "$zelkuma" build
-[ "$(cat "$work/out")" = "$built" ] || fails "it says another place"
-has err "what was built is the shipped program, byte for byte"
-echo "changed" >"$source"
-runs 0 "$zelkuma" build
-builds
-has err "what was built is not the shipped program"
+cp -p "$shipped" "$work/kept"
+echo "# changed" >>"$shipped"
+runs 1 "$tree/tests/release.sh"
+has err "release/zelkuma-x86_64-linux isn't the file that its stamp says; tools/release.sh renews release/"
+cp -p "$work/kept" "$shipped"
+runs 0 "$tree/tests/release.sh"
 
 what="the gate, after a change"
+echo changed >"$source"
+runs 0 "$zelkuma" build
+has err "what was built is not the shipped program"
 runs 1 "$tree/tests/release.sh"
 has err "the sources have changed since release/ was made; tools/release.sh renews release/"
 rm "$tree/crates/bugnet_main/out/zelkuma.stamp" # as the gate leaves it
 runs 0 "$tree/tools/release.sh"
 runs 0 "$tree/tests/release.sh"
-runs 5 "$zelkuma" list LOG
-builds_nothing
 
 # The gate's comparison, by a kit.
 compares_by() { # STATUS KIT
@@ -221,6 +190,5 @@ has err "the sources have changed since the program was built"
 rm "$built"
 runs 1 "$tree/tools/release.sh"
 has err "there is no program"
-path=$without runs 5 "$zelkuma" list LOG
 
 ends

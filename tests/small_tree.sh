@@ -70,6 +70,7 @@ END
 cat >"$work/kit/program" <<'END'
 #!/usr/bin/env bash
 [ "$1" = check ] && exit 0
+echo "ran $*" >>"$RT_CALLS"
 echo "words: $*"
 exit 5
 END
@@ -78,7 +79,7 @@ echo "rattle-kit-13f logic 0" >"$work/kit/named"
 mkdir -p "$work/kit/"{rlibs,logic_built,toolchain,c,rattle/logic}
 touch "$work/kit/c/"lib{os,libc}_c.a "$work/kit/rattle/logic/antt-project.json"
 
-mkdir "$tree/tests"
+mkdir "$tree/tests" "$tree/release"
 cp -r "$top/zelkuma" "$top/tools" "$top/man" "$top/completion" "$tree"
 cp "$top"/tests/{release,fresh_start}.sh "$tree/tests"
 cat >"$tree/crates.txt" <<'END'
@@ -98,10 +99,23 @@ cd "$work" || exit 1
 
 has() { grep -q -- "$2" "$work/$1" || fails "no '$2' in $1"; }
 hasnt() { ! grep -q -- "$2" "$work/$1" || fails "'$2' in $1"; }
+# Calls the script with these commands of the system alone; sets `zelkuma`.
+only() { # NAME..
+    local name
+    rm -rf "$work/few"
+    mkdir "$work/few"
+    for name; do
+        ln -s "$(type -P "$name")" "$work/few/$name"
+    done
+    printf '#!%s\nPATH=%q exec %q "$@"\n' "$(type -P bash)" "$work/few" "$tree/zelkuma" >"$work/call"
+    chmod +x "$work/call"
+    zelkuma=$work/call
+}
 builds() { grep -q "^proves bugnet_main" "$calls" || fails "nothing was built"; }
-builds_nothing() { ! grep -qv ^version "$calls" || fails "it called the toolchain: $(cat "$calls")"; }
+builds_nothing() { ! grep -qvE '^(version|ran .*)$' "$calls" || fails "it called the toolchain: $(cat "$calls")"; }
 answers() { [ "$(cat "$work/out")" = "words: $*" ] || fails "out isn't that of the program"; }
 zelkuma=$tree/zelkuma
+shipped=$tree/release/zelkuma-x86_64-linux
 source=$tree/crates/mid/src/lib.rt
 
 # Ends a test.

@@ -1,8 +1,9 @@
-# Proves and builds the program. The script zelkuma reads this file where that is needed, and has
-# the names that are used here and not told.
+# Proves and builds the program: the word build of the script zelkuma, which has set `top`.
 #
 # It calls the compiler itself, and not `rt lib`, since that locks the folders of the crates below: in one tree two of its
 # calls would wait for each other. It also has each library keep its statements alone, which those above it read faster.
+
+. "$top/tools/sources.sh"
 
 # How many crates to prove side by side: one a processor. A proof takes up to some 3 GB.
 lanes() {
@@ -72,7 +73,7 @@ digest_of() { # CRATE
             cat "$(library "$it")/$it.rlib/format"
         done
         cd "$top/crates/$1" && find src specs proofs -type f -print0 2>/dev/null | LC_ALL=C sort -z | xargs -0 sha256sum
-    } | sha256sum | cut -d ' ' -f 1
+    } | sha256
 }
 
 # Starts the compiler, or what else makes something of a crate, in the crate's folder. A signal to its group ends it, and
@@ -194,7 +195,7 @@ is_known() {
 build() {
     local kit kit_top sources name on order=() proving=() failed=()
     local -A below ended chain digest
-    kit=$(kit) || stop 1 "there is no command rt of a Rattle kit here, which proves and builds the program: put the folder bin of ${kits/ / or } on PATH, or bring the program from where it is built ('zelkuma install')"
+    kit=$(kit) || stop 1 "there is no command rt of a Rattle kit here, which proves and builds the program: put the folder bin of ${kits/ / or } on PATH, or bring the program from where it is built"
     # another kit is reported and tried, not refused
     [[ " $kits " == *" ${kit%% *} "* ]] ||
         say "note: rt is of ${kit%% *}; if a proof fails, put the folder bin of ${kits/ / or } first on PATH"
@@ -208,7 +209,7 @@ build() {
     rm -f "$stamp"
     sources=$(sources)
     trap 'for name in "${!proving[@]}"; do kill -- "-$name" "$name"; done 2>/dev/null; wait; name=; stop 130 "stopped; the crates that are done stay proved"' INT TERM HUP
-    say "proving and building the program, ${#below[@]} crates, up to ${ZELKUMA_LANES:=$(lanes)} at a time; README says how long that takes from nothing"
+    say "proving and building the program, ${#below[@]} crates, up to ${ZELKUMA_LANES:=$(lanes)} at a time; release/README.md says how long that takes from nothing"
     if is_known; then
         prove
         [ ${#failed[@]} -gt 0 ] || build_program
@@ -220,4 +221,32 @@ build() {
     [ "$(sources)" = "$sources" ] || stop 1 "the sources changed while they were proved: call it again"
     trap - INT TERM HUP
     made "$sources" "$kit" "$built" >"$stamp"
+}
+
+# Says whether the program that was built is the shipped one.
+compare_with_shipped() {
+    if [ -n "$cpu" ]; then
+        say "it was built for $cpu, and isn't the shipped program"
+    elif [ ! -f "$shipped" ]; then
+        say "there is no shipped program in release/ to compare with"
+    elif cmp -s "$built" "$shipped"; then
+        say "what was built is the shipped program, byte for byte"
+    else
+        say "what was built is not the shipped program; release/STAMP says what that was made from"
+    fi
+}
+
+# Proves and builds unless what is there is of these sources, and says where the program is.
+build_here() { # [--cpu NAME]
+    local cpu=${2-} cpus="x86-64 x86-64-v2 x86-64-v3"
+    # (the toolchain has these names, and would say so only once all is proved)
+    [[ $# -eq 0 || ($# -eq 2 && $1 == --cpu && $2 != *" "* && " $cpus " == *" $2 "*) ]] ||
+        stop 2 "build takes no word, or --cpu NAME, where NAME is one of: $cpus"
+    # one builds at a time; the lock ends with the call, and with the toolchain that it started
+    exec 9<"$top/crates"
+    flock -n 9 || { say "waiting for another call to build the program" && flock 9; }
+    is_fresh "$(sources)" || build
+    exec 9<&-
+    compare_with_shipped
+    echo "$built"
 }

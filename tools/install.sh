@@ -1,42 +1,65 @@
-# Lays zelkuma where it is to be used. The script zelkuma reads this file for its word install, and
-# packaging/deb.sh for a package. Both have set top, the folder of the sources.
+# Lays zelkuma where it is to be used, and takes it away again: the words install and uninstall of the script zelkuma, which
+# has set `top`, `program`, `installed` and `stop`. packaging/deb.sh lays what a package has.
+#
+# In lib/zelkuma lie the program and the files of tools/files.txt, a fixed list, which is one of them. So an earlier
+# version's list says what is to go.
 
-# The files, from top on, that the installed script needs.
-needed_files() {
-    local folder
-    cd "$top" && echo tools/help/page.txt && echo tools/install.sh || return
-    for folder in tools/launcher companion; do
-        [ ! -d "$folder" ] || find "$folder" -name __pycache__ -prune -o -type f -print
-    done
-}
+beside=(bin/zelkuma share/man/man1/zelkuma.1 share/bash-completion/completions/zelkuma)
 
-# Lays the program and what belongs to it under a folder. The script comes last: it is never there without
-# its program.
-lay() ( # FOLDER PROGRAM
+# Lays the program and what belongs to it under a folder. The script comes last: it is never there without its program.
+lay() ( # PREFIX PROGRAM
     umask 022
-    needed_files | while IFS= read -r name; do
+    while IFS= read -r name; do
         install -D -m 644 -- "$top/$name" "$1/lib/zelkuma/$name" || exit
-    done &&
-        install -D -m 644 -- "$top/man/zelkuma.1" "$1/share/man/man1/zelkuma.1" &&
-        install -D -m 644 -- "$top/completion/zelkuma.bash" "$1/share/bash-completion/completions/zelkuma" &&
+    done <"$top/tools/files.txt" &&
+        install -D -m 644 -- "$top/man/zelkuma.1" "$1/${beside[1]}" &&
+        install -D -m 644 -- "$top/completion/zelkuma.bash" "$1/${beside[2]}" &&
         install -D -m 755 -- "$2" "$1/lib/zelkuma/zelkuma" &&
-        install -D -m 755 -- "$top/zelkuma" "$1/bin/zelkuma"
+        install -D -m 755 -- "$top/zelkuma" "$1/${beside[0]}"
 )
 
-# The word install: a folder gets all, a file the program alone.
-install_at() { # PATH
-    local folder
-    if [ -d "$1" ]; then
-        [ -z "$installed" ] || stop 2 "install: this zelkuma is installed; copy its bin/zelkuma, lib/zelkuma and share, or name a file for the program alone"
-        [ -w "$1" ] || stop 3 "install: the folder $1 can't be written to"
-        lay "$1" "$program" || stop 3 "install: not all could be laid under $1"
-        echo "${1%/}/bin/zelkuma"
-        return
+# Prints the files that lie in lib/zelkuma, but for the program. Versions without a list had two folders there.
+laid() { # PREFIX
+    cd -- "$1/lib/zelkuma" 2>/dev/null && [ -f zelkuma ] || return
+    if [ -f tools/files.txt ]; then
+        grep -vE '^/|(^|/)\.\.(/|$)' tools/files.txt
+    else
+        find companion tools -type f
     fi
-    folder=$(dirname -- "$1")
-    [[ -d $folder && $1 != */ ]] || stop 3 "install: there is no folder ${1%/}"
-    [ -w "$folder" ] || stop 3 "install: the folder $folder can't be written to"
-    [ ! "$1" -ef "${installed:-$top/zelkuma}" ] || stop 2 "install: $1 is this script, and would be overwritten"
-    install -m 755 -- "$program" "$1" || stop 3 "install: the program could not be copied to $1"
-    echo "$1"
+}
+
+# Removes files of lib/zelkuma, and the folders in it that are empty then.
+remove() ( # PREFIX FILE..
+    cd -- "$1/lib/zelkuma" && rm -f -- "${@:2}" && cd .. && find zelkuma -depth -type d -empty -delete
+)
+
+# The folder of an installation; sets `prefix`.
+check_prefix() { # WORD PREFIX
+    [[ $# -eq 2 && -n $2 ]] || stop 2 "$1 takes one word, the folder PREFIX"
+    prefix=$2
+    [[ $prefix == /* ]] || prefix=./$prefix
+    [[ ! -e $prefix || -d $prefix ]] || stop 3 "$1: ${2@Q} is no folder"
+    [ ! -e "$prefix/lib/zelkuma/crates.txt" ] || stop 2 "$1: ${2@Q}/lib/zelkuma has the sources of zelkuma, and no installation"
+}
+
+install_under() { # PREFIX
+    local prefix old name
+    check_prefix install "$@"
+    [ -z "$installed" ] || stop 2 "install: this zelkuma is installed; copy its bin/zelkuma, lib/zelkuma and share"
+    [[ -d $prefix || $prefix == */ || -d $(dirname -- "$prefix") ]] ||
+        stop 3 "install: there is no folder $(dirname -- "$1"), and a PREFIX that ends in / would make it"
+    mapfile -t old < <(laid "$prefix")
+    lay "$prefix" "$program" || stop 3 "install: not all could be laid under ${1@Q}"
+    for name in "${old[@]}"; do
+        grep -qxF -- "$name" "$top/tools/files.txt" || remove "$prefix" "$name"
+    done
+    printf '%s\n' "${prefix%/}"/{"${beside[0]}",lib/zelkuma,"${beside[1]}","${beside[2]}"}
+}
+
+uninstall_from() { # PREFIX
+    local prefix old
+    check_prefix uninstall "$@"
+    mapfile -t old < <(laid "$prefix")
+    [ ${#old[@]} -gt 0 ] || stop 3 "uninstall: there is no zelkuma under ${1@Q}"
+    rm -f -- "${beside[@]/#/$prefix/}" && remove "$prefix" zelkuma "${old[@]}" || stop 3 "uninstall: not all could be removed from ${1@Q}"
 }

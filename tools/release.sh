@@ -8,14 +8,14 @@ set -u
 top=$(cd "$(dirname "$0")/.." && pwd)
 
 name=tools/release.sh cpu=
-. "$top/tools/launcher/say.sh"
-. "$top/tools/launcher/program.sh"
+. "$top/tools/say.sh"
+. "$top/tools/sources.sh"
 
 # The gate leaves no stamp, so after it the times tell whether a file has changed since.
 is_of_these_sources() { # SOURCES
     is_fresh "$1" && return
     # (one that was built for other processors isn't shipped)
-    [[ ! -f $stamp || $(stamped "$stamp" program) != "$(sha256sum <"$built" | cut -d ' ' -f 1)" || $(stamped "$stamp" kit) != *" for "* ]] || return
+    [[ ! -f $stamp || $(stamped "$stamp" program) != "$(sha256 <"$built")" || $(stamped "$stamp" kit) != *" for "* ]] || return
     shopt -s nullglob
     [ -z "$(find "$top/crates.txt" "$top"/crates/*/{src,specs,proofs} -type f -newer "$built" -print -quit)" ]
 }

@@ -1,7 +1,8 @@
 #!/usr/bin/env bash
 # Makes all that tells the words of zelkuma from the tables beside this file, so that no two of them differ:
-# the page that `zelkuma help` prints, the manual page, the completion of words in bash, and the tables of
-# docs/COMMANDS.md, which stand there between two comments. tests/help.sh tries that it was called.
+# the pages that `zelkuma help` and `zelkuma COMMAND --help` print, what the script knows of words, the manual page, the
+# completion of words in bash, and the tables of docs/COMMANDS.md, which stand there between two comments. It also lists
+# the files that `zelkuma install` lays. tests/help.sh tries that it was called.
 #
 # tools/help/make.sh [TOP]: TOP is the folder of the sources that these are written to, at first its own
 set -euo pipefail
@@ -41,6 +42,14 @@ renewed() { # DOCUMENT
     [[ -n $keeps ]] || { echo "$1: a table has no end" >&2 && return 1; }
 }
 
+# Prints the names of the files that an installed script has in lib/zelkuma, beside the program.
+listed() (
+    cd "$top"
+    shopt -s nullglob
+    printf '%s\n' release/STAMP tools/{files.txt,install.sh,say.sh,version.sh} tools/help/{page,each}.txt tools/help/words.sh \
+        tools/launcher/*.sh companion/{,*/}*.{py,html,js,css} | sort
+)
+
 # Writes what a function prints under a name, once it is whole.
 write() { # FILE FUNCTION WORD..
     mkdir -p "$(dirname "$1")"
@@ -49,6 +58,9 @@ write() { # FILE FUNCTION WORD..
 }
 
 write "$top/tools/help/page.txt" filled page
+write "$top/tools/help/each.txt" filled each
+write "$top/tools/help/words.sh" filled words
+write "$top/tools/files.txt" listed
 write "$top/man/zelkuma.1" filled man
 write "$top/completion/zelkuma.bash" filled completion
 write "$top/docs/COMMANDS.md" renewed "$top/docs/COMMANDS.md"

@@ -3,11 +3,11 @@
 
 # Whether this process may write to the terminal now: it may have been put into the background.
 is_in_front() {
-    local line fields
+    local line group front
     read -r line <"/proc/$BASHPID/stat" || return
     # after the name: state, parent, group, session, terminal, the group in front
-    read -r -a fields <<<"${line##*) }"
-    [ "${fields[2]}" = "${fields[5]}" ]
+    read -r _ _ group _ _ front _ <<<"${line##*) }"
+    [ "$group" = "$front" ]
 }
 
 # The memory that a process takes; sets `memory`, in MB.
@@ -22,15 +22,12 @@ measure_memory() { # PROCESS
 # Reads first the program's process, by a line; hands on what comes behind it, and until then shows a line each second,
 # from the third on. A NUL that comes first isn't handed on, which no terminal shows.
 show_progress() { # WHAT
-    local process memory byte= wait=2 began=$SECONDS shown=
+    local process memory byte='' wait=2 began=$SECONDS shown=
     trap '' INT
     LC_ALL=C
     IFS= read -r process
     # (the byte may come in the moment in which the time is over)
-    while
-        IFS= read -r -d '' -t "$wait" -N 1 byte
-        [[ $? -gt 128 && -z $byte ]]
-    do
+    while IFS= read -r -d '' -t "$wait" -N 1 byte; [[ $? -gt 128 && -z $byte ]]; do
         wait=1
         is_in_front || continue
         measure_memory "$process"

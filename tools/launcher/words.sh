@@ -1,125 +1,84 @@
-# Reads the words of a call as the program does, so far as the launcher has to know them. read_words sets
+# Reads `words`, the words of a call, as the program does, so far as the script has to know them. read_words sets
+#   wanted     the names that the command takes
 #   names      the words that are no options, in their order
 #   values     the value of each option that is given
 #   complaint  why the program refuses the words, if that can be seen here
-
-number_options=" seed format harts interval limit log-size memory sets ways line sets2 ways2 "
-
-# The names that a command takes; sets `wanted`. It fails if there is no such command.
-names_of() { # COMMAND
-    case $1 in
-    record) wanted=(ELF LOG BOOK) ;;
-    list | check) wanted=(LOG) ;;
-    replay) wanted=(LOG ELF HART INTERVAL) ;;
-    joint | debug) wanted=(LOG ELF) ;;
-    audit) wanted=(LOG ELF BOOK) ;;
-    races) wanted=(LOG ELF MAX) ;;
-    slice) wanted=(LOG ELF HART INTERVAL IC) ;;
-    convert | salvage) wanted=(LOG NEW) ;;
-    demo) wanted=(SEED) ;;
-    *) return 1 ;;
-    esac
-}
-
-# The kind of an option of a command: number, text or flag.
-kind_of() { # COMMAND OPTION; sets `kind`
-    kind=
-    case $1.$2 in
-    record.lean) kind=flag ;;
-    record.input | audit.input) kind=text ;;
-    record.*) [[ -z $2 || $number_options != *" $2 "* ]] || kind=number ;;
-    esac
-}
+# What a command takes is told by tools/help/words.sh.
 
 complain() { complaint=${complaint:-$1}; }
 
-# Whether a word is a number from 0 to 2^64 - 1 as the program takes it.
-is_number() { # WORD
-    [[ $1 =~ ^\+?0*([0-9]+)$ ]] || return
-    local digits=${BASH_REMATCH[1]}
-    [[ ${#digits} -lt 20 || ( ${#digits} -eq 20 && ! $digits > 18446744073709551615 ) ]]
+# Whether a number isn't greater than another; neither has a zero before it.
+is_most() { [[ ${#1} -lt ${#2} || (${#1} -eq ${#2} && ! $1 > $2) ]]; } # NUMBER NUMBER
+
+# Whether a word is a number in a range as the program takes it.
+is_number() { # WORD LOW HIGH
+    [[ $1 =~ ^\+?0*([0-9]+)$ ]] && is_most "$2" "${BASH_REMATCH[1]}" && is_most "${BASH_REMATCH[1]}" "$3"
 }
 
-# A number with K, M or G behind it (1024 times, each), or 0x before it, in decimal; sets `decimal`. One that is too
-# large stays as it is.
+# A number with K, M or G behind it (1024 times, each), or 0x before it, in decimal; sets `decimal`. A word that is none,
+# and one that is too large, stay as they are.
 to_decimal() { # WORD
-    local digits
+    local digits K=10 M=20 G=30
     decimal=$1
-    if [[ $1 =~ ^0x0*([0-9a-fA-F]+)$ && ${#BASH_REMATCH[1]} -le 16 ]]; then
+    if [[ $1 =~ ^0x0*([0-9a-fA-F]{1,16})$ ]]; then
         printf -v decimal %u "0x${BASH_REMATCH[1]}"
-    elif [[ $1 =~ ^0*([0-9]+)([KMG])$ ]]; then
+    elif [[ $1 =~ ^0*([0-9]{1,18})([KMG])$ ]]; then
         digits=${BASH_REMATCH[1]}
-        case ${BASH_REMATCH[2]} in
-        K) [ ${#digits} -gt 15 ] || decimal=$((digits << 10)) ;;
-        M) [ ${#digits} -gt 12 ] || decimal=$((digits << 20)) ;;
-        G) [ ${#digits} -gt 9 ] || decimal=$((digits << 30)) ;;
-        esac
+        ((digits << BASH_REMATCH[2] >> BASH_REMATCH[2] != digits)) || decimal=$((digits << BASH_REMATCH[2]))
     fi
 }
 
 # Reads an option, whose word is words[at]; sets `at` to its last word. A number is written out in `words`.
 read_option() { # COMMAND
-    local option=${words[at]#--} given kind head=
-    given=${option%%=*}
-    kind_of "$1" "$given"
-    if [[ -z $kind || ${words[at]} != --* ]]; then
+    local option=${words[at]#--} name kind head='' decimal
+    name=${option%%=*}
+    kind=${takes[$1.$name]-}
+    if [[ ${words[at]} != --* || -z $name || -z $kind ]]; then
         complain "$1 has no option ${words[at]@Q}"
         return
     fi
-    [ -z "${values[$given]+given}" ] || complain "--$given is given twice"
-    values[$given]=
+    [ -z "${values[$name]+given}" ] || complain "--$name is given twice"
+    values[$name]=
     if [ "$kind" = flag ]; then
-        [[ $option != *=* ]] || complain "--$given takes no value"
+        [[ $option != *=* ]] || complain "--$name takes no value"
         return
-    fi
-    if [[ $option == *=* ]]; then
-        head=--$given=
+    elif [[ $option == *=* ]]; then
+        head=--$name=
     elif ((at + 1 < ${#words[@]})) && [[ ${words[at + 1]} != -?* ]]; then
         at=$((at + 1))
     else
-        complain "--$given has no value"
+        complain "--$name has no value"
         return
     fi
-    values[$given]=${words[at]#"$head"}
-    [ "$kind" = text ] || read_number "$given" "$head"
-}
-
-# Writes out the number of an option, whose word is words[at] with HEAD before it.
-read_number() { # OPTION HEAD
-    local decimal
-    to_decimal "${values[$1]}"
-    words[at]=$2$decimal
-    is_number "$decimal" || complain "--$1 takes a number from 0 to 18446744073709551615, and not ${values[$1]@Q}"
-    values[$1]=$decimal
+    values[$name]=${words[at]#"$head"}
+    [ "$kind" = N ] || return 0
+    to_decimal "${values[$name]}"
+    is_number "$decimal" 0 18446744073709551615 ||
+        complain "--$name takes a number from 0 to 18446744073709551615, and not ${values[$name]@Q}"
+    words[at]=$head$decimal values[$name]=$decimal
 }
 
 # Compares the names that are given with those that the command takes.
 read_names() { # COMMAND
-    local place
+    local place low high
     if ((${#names[@]} > ${#wanted[@]})); then
         complain "the word ${names[${#wanted[@]}]@Q} is too many: $1 takes ${wanted[*]}"
     elif ((${#names[@]} < ${#wanted[@]})); then
         complain "${wanted[${#names[@]}]} is missing: $1 takes ${wanted[*]}"
     fi
     for place in "${!names[@]}"; do
-        case ${wanted[place]-} in
-        HART | INTERVAL | IC | SEED)
-            is_number "${names[place]}" || complain "${wanted[place]} is a number, and not ${names[place]@Q}"
-            ;;
-        MAX)
-            [[ ${names[place]} =~ ^\+?0*([1-9][0-9]{0,5}|1000000)$ ]] ||
-                complain "MAX is from 1 to 1000000, and not ${names[place]@Q}"
-            ;;
-        esac
+        read -r low _ high <<<"${ranges[${wanted[place]-none}]-}"
+        [ -z "$low" ] || is_number "${names[place]}" "$low" "$high" ||
+            complain "${wanted[place]} is a number from $low to $high, and not ${names[place]@Q}"
     done
 }
 
-# Reads `words`, the words of a call, and writes out their numbers.
 read_words() {
-    local at only_names= wanted
-    names=() complaint=
+    local at only_names=
+    # shellcheck disable=SC2206 # it is parted at its spaces
+    names=() wanted=(${takes[${words[0]}.]-}) complaint=
     declare -gA values=()
-    if ! names_of "${words[0]}"; then
+    if [ ${#wanted[@]} -eq 0 ]; then
         [[ ${words[0]} != -* ]] || complain "the command comes first, and its options behind it"
         complain "there is no command ${words[0]@Q}"
         return

@@ -1,0 +1,60 @@
+# What the script zelkuma knows of commands, options and statuses. Made by tools/help/make.sh of its tables.
+
+# What a command takes: its names, and of each option the value.
+declare -A takes=(
+[record.]="ELF LOG BOOK"
+[list.]="LOG"
+[check.]="LOG"
+[replay.]="LOG ELF HART INTERVAL"
+[joint.]="LOG ELF"
+[debug.]="LOG ELF"
+[audit.]="LOG ELF BOOK"
+[races.]="LOG ELF MAX"
+[slice.]="LOG ELF HART INTERVAL IC"
+[convert.]="LOG NEW"
+[salvage.]="LOG NEW"
+[demo.]="SEED"
+[record.seed]="N"
+[record.lean]="flag"
+[record.input]="FILE"
+[record.format]="N"
+[record.harts]="N"
+[record.interval]="N"
+[record.limit]="N"
+[record.log-size]="N"
+[record.memory]="N"
+[record.sets]="N"
+[record.ways]="N"
+[record.line]="N"
+[record.sets2]="N"
+[record.ways2]="N"
+[audit.input]="FILE"
+)
+companions=" names why race view gdb bucket seeds "
+# The ranges of names that are numbers.
+declare -A ranges=(
+[HART]="0 to 18446744073709551615"
+[INTERVAL]="0 to 18446744073709551615"
+[MAX]="1 to 1000000"
+[IC]="0 to 18446744073709551615"
+[SEED]="0 to 18446744073709551615"
+)
+# What to do after a status.
+declare -A remedies=(
+[2]="see './zelkuma help'"
+[3]="'check' tells whether LOG was saved whole"
+[5]="of an input, give the part that is needed"
+[6]="build or link it again"
+[7]="copy it again; of version 2 'salvage' may save the end"
+[8]="find that file ('sha256sum'); a rebuilt one is another"
+[9]="of a recording give '--lean', a smaller '--limit' or '--log-size', or '--seed N', which starts no threads; 'ulimit -v' shows a limit"
+[10]="see 'list' and 'replay'"
+[11]="give a greater '--limit'; or the program hangs"
+[12]="the answers before it stand"
+[13]="write to a file, or to a reader that takes all, as 'tail' does and 'head' doesn't; is the disk full?"
+[14]="'zelkuma list LOG' tells the intervals that LOG holds"
+[15]="ask for LOG as it was saved"
+[18]="the answers before it stand"
+[20]="give a greater MAX, up to 1000000"
+[21]="'list' tells its counts"
+)

@@ -1,0 +1,52 @@
+# Looks before a recording whether its files can be saved, and whether they would take the place of one that is needed:
+# it saves only when the run is over. Read by run.sh, once words.sh has read the words.
+
+# Sets `place`, where a file of this name would be, also behind a link that leads to no file, and `folder`, its folder.
+find_place() { # NAME FILE
+    place=$2
+    [[ -e $2 || ! -L $2 ]] || place=$(readlink -f -- "$2") || stop 3 "$1 can't be saved: the link ${2@Q} leads nowhere"
+    case $place in
+    /*) folder=${place%/*}/ ;;
+    */*) folder=${place%/*} ;;
+    *) folder=. ;;
+    esac
+}
+
+# Stops if a file that is there can't be written, or is one of those that would be missed.
+check_old_target() { # NAME FILE
+    [ ! -d "$2" ] || stop 3 "$1 can't be saved: ${2@Q} is a folder"
+    [ -w "$2" ] || stop 3 "$1 can't be saved: ${2@Q} may not be written"
+    [ -f "$2" ] || return 0
+    [ ! "$2" -ef "${names[0]}" ] || stop 2 "$1 would destroy ELF: ${2@Q} and ${names[0]@Q} are one file"
+    [[ -z ${values[input]-} || ! $2 -ef ${values[input]} ]] ||
+        stop 2 "$1 would destroy the input: ${2@Q} and ${values[input]@Q} are one file"
+    read_head "$2"
+    [[ $head != $'\x7fELF'* ]] || stop 2 "$1 would destroy ${2@Q}, which is an ELF file; the order is ELF LOG BOOK"
+}
+
+# Whether the last part of a name has more bytes than a file's name can have.
+is_long() { local LC_ALL=C name=${1##*/} && [ ${#name} -gt 255 ]; } # FILE
+
+check_target() { # NAME FILE
+    [ -n "$2" ] || stop 3 "$1 can't be saved: its name is empty"
+    find_place "$1" "$2"
+    [ ! -e "$place" ] || { check_old_target "$1" "$2" && return; }
+    [ -d "$folder" ] || stop 3 "$1 can't be saved as ${2@Q}: there is no folder ${folder@Q}"
+    [[ -w $folder && -x $folder ]] || stop 3 "$1 can't be saved as ${2@Q}: the folder ${folder@Q} can't be written to"
+    ! is_long "$place" || stop 3 "$1 can't be saved: its name has more than 255 bytes"
+}
+
+# LOG and BOOK, but for a lean recording, which saves no BOOK. Of equal names the program says it.
+check_targets() {
+    local place folder log log_folder
+    check_target LOG "${names[1]}"
+    [[ -z ${values[lean]+given} && ${names[1]} != "${names[2]}" ]] || return 0
+    log=$place log_folder=$folder
+    check_target BOOK "${names[2]}"
+    if [ -e "$log" ]; then
+        [[ -f $log && $log -ef $place ]] || return 0
+    else
+        [[ ${log##*/} == "${place##*/}" && $log_folder -ef $folder ]] || return 0
+    fi
+    stop 2 "BOOK would destroy LOG: ${names[2]@Q} and ${names[1]@Q} are one file"
+}
