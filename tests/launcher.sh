@@ -217,7 +217,7 @@ END
 
 what="variables of the caller"
 odd=(env)
-for word in takes ranges remedies companions wanted names values complaint head child program shipped installed kind place top; do
+for word in takes ranges advice companions wanted names values complaint head child program shipped installed kind place top; do
     odd+=("$word=1")
 done
 runs 2 "${odd[@]}" "$zelkuma" list
@@ -277,7 +277,7 @@ has err "'zelkuma salvage LOG NEW' may save its end"
 
 what="advice on memory, intervals and races"
 runs 9 bash -c 'ulimit -v 100000; exec "$0" "$@"' "$zelkuma" record --seed 1 --log-size 256M ELF LOG BOOK
-has err "^zelkuma: of a recording give '--lean', a smaller '--limit' or '--log-size', or '--seed N', which starts no threads; 'ulimit -v' shows a limit$"
+has err "^zelkuma: free some; a recording needs less with '--lean', '--seed N', or a smaller '--limit' or '--log-size'$"
 records ELF LOG BOOK
 runs 14 "$zelkuma" replay LOG ELF 0 99
 says "bugnet: no interval 0 99" "zelkuma: 'zelkuma list LOG' tells the intervals that LOG holds"
@@ -290,11 +290,11 @@ runs 0 "$zelkuma" demo 7
 what="a reader who ends early"
 records ELF LOG BOOK
 runs 13 bash -c '"$0" replay LOG ELF 0 0 | read -r; exit "${PIPESTATUS[0]}"' "$zelkuma"
-says "bugnet: write failed" "zelkuma: write to a file, or to a reader that takes all, as 'tail' does and 'head' doesn't; is the disk full?"
+says "bugnet: write failed" "zelkuma: the disk is full, or the pipe's reader ended early, as 'head' does"
 runs 13 bash -c '"$0" replay LOG ELF 0 0 2>&1 | read -r; exit "${PIPESTATUS[0]}"' "$zelkuma"
 runs 14 bash -c '"$0" replay LOG ELF 0 99 2> >(exit)' "$zelkuma"
 runs 13 bash -c '"$0" list LOG >/dev/full' "$zelkuma"
-has err "is the disk full"
+has err "^zelkuma: the disk is full, or"
 runs 12 bash -c '"$0" debug LOG ELF <&-' "$zelkuma"
 says "bugnet: read failed"
 

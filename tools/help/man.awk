@@ -62,4 +62,4 @@ $2 == "entry" {
 }
 $2 == "line" && $3 != "" { print ".br\n" prose($3) }
 $2 == "cause" && status > 0 { print "\\(em " prose($3) "." }
-$2 == "remedy" { print "To do: " prose($3) "." }
+$2 == "remedy" || $2 == "advice" { print "To do: " prose($3) "." }

@@ -51,5 +51,5 @@ $2 == "line" {
     line = $3
 }
 $2 == "cause" { cause = $3 }
-$2 == "remedy" { remedy = $3 }
+$2 == "remedy" || $2 == "advice" { remedy = $3 }
 END { give_status() }

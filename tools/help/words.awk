@@ -1,7 +1,7 @@
 # Makes of a table (as read.awk gives it) what the script has to know of it, as elements of an array in bash. form says
 # which: names (that a command takes), options (of the commands, from the same lines), record (the options that record
-# has), ranges (of names that are numbers) or remedies (the first of each status); or as one text: companions. The value of
-# an option is N (a number), FILE, or for one without a value `flag`.
+# has), ranges (of names that are numbers), or advice (after a status); or as one text: companions. The value of an option
+# is N (a number), FILE, or for one without a value `flag`.
 
 BEGIN { FS = "\t" }
 
@@ -26,10 +26,7 @@ function option(command, text,    words) {
 form == "names" && $2 == "entry" { element(command ".", names) }
 form == "companions" && $2 == "entry" { companions = companions command " " }
 form == "record" && $2 == "entry" { option("record", $1) }
-form == "remedies" && $2 == "remedy" && !(command in told) {
-    told[command]
-    element(command, $3)
-}
+form == "advice" && $2 == "advice" { element(command, $3) }
 
 form == "ranges" && $2 == "range" {
     range = name = $3

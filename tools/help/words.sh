@@ -40,21 +40,9 @@ declare -A ranges=(
 [SEED]="0 to 18446744073709551615"
 )
 # What to do after a status.
-declare -A remedies=(
-[2]="see './zelkuma help'"
-[3]="'check' tells whether LOG was saved whole"
-[5]="of an input, give the part that is needed"
-[6]="build or link it again"
-[7]="copy it again; of version 2 'salvage' may save the end"
-[8]="find that file ('sha256sum'); a rebuilt one is another"
-[9]="of a recording give '--lean', a smaller '--limit' or '--log-size', or '--seed N', which starts no threads; 'ulimit -v' shows a limit"
-[10]="see 'list' and 'replay'"
-[11]="give a greater '--limit'; or the program hangs"
-[12]="the answers before it stand"
-[13]="write to a file, or to a reader that takes all, as 'tail' does and 'head' doesn't; is the disk full?"
+declare -A advice=(
+[9]="free some; a recording needs less with '--lean', '--seed N', or a smaller '--limit' or '--log-size'"
+[13]="the disk is full, or the pipe's reader ended early, as 'head' does"
 [14]="'zelkuma list LOG' tells the intervals that LOG holds"
-[15]="ask for LOG as it was saved"
-[18]="the answers before it stand"
 [20]="give a greater MAX, up to 1000000"
-[21]="'list' tells its counts"
 )

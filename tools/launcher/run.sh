@@ -4,12 +4,11 @@
 . "$top/tools/launcher/words.sh"
 
 # Sets `head` to the first bytes of a file; each NUL stands there as the end of a line.
-read_head() { # FILE
+read_head() { # FILE [COUNT]
     local LC_ALL=C byte
     head=
     [ -f "$1" ] || return 0
-    for _ in {1..20}; do
-        IFS= read -r -d '' -n 1 byte || break
+    while [ ${#head} -lt "${2:-20}" ] && IFS= read -r -d '' -n 1 byte; do
         head+=${byte:-$'\n'}
     done <"$1"
 } 2>/dev/null

@@ -20,7 +20,7 @@ check_old_target() { # NAME FILE
     [ ! "$2" -ef "${names[0]}" ] || stop 2 "$1 would destroy ELF: ${2@Q} and ${names[0]@Q} are one file"
     [[ -z ${values[input]-} || ! $2 -ef ${values[input]} ]] ||
         stop 2 "$1 would destroy the input: ${2@Q} and ${values[input]@Q} are one file"
-    read_head "$2"
+    read_head "$2" 4
     [[ $head != $'\x7fELF'* ]] || stop 2 "$1 would destroy ${2@Q}, which is an ELF file; the order is ELF LOG BOOK"
 }
 

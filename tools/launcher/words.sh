@@ -20,6 +20,7 @@ is_number() { # WORD LOW HIGH
 to_decimal() { # WORD
     local digits K=10 M=20 G=30
     decimal=$1
+    [[ $1 == *[!0-9]* ]] || return 0
     if [[ $1 =~ ^0x0*([0-9a-fA-F]{1,16})$ ]]; then
         printf -v decimal %u "0x${BASH_REMATCH[1]}"
     elif [[ $1 =~ ^0*([0-9]{1,18})([KMG])$ ]]; then
@@ -60,16 +61,16 @@ read_option() { # COMMAND
 
 # Compares the names that are given with those that the command takes.
 read_names() { # COMMAND
-    local place low high
+    local place range
     if ((${#names[@]} > ${#wanted[@]})); then
         complain "the word ${names[${#wanted[@]}]@Q} is too many: $1 takes ${wanted[*]}"
     elif ((${#names[@]} < ${#wanted[@]})); then
         complain "${wanted[${#names[@]}]} is missing: $1 takes ${wanted[*]}"
     fi
     for place in "${!names[@]}"; do
-        read -r low _ high <<<"${ranges[${wanted[place]-none}]-}"
-        [ -z "$low" ] || is_number "${names[place]}" "$low" "$high" ||
-            complain "${wanted[place]} is a number from $low to $high, and not ${names[place]@Q}"
+        range=${ranges[${wanted[place]-none}]-}
+        [ -z "$range" ] || is_number "${names[place]}" "${range% to *}" "${range#* to }" ||
+            complain "${wanted[place]} is a number from $range, and not ${names[place]@Q}"
     done
 }
 
