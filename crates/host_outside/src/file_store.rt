@@ -199,7 +199,7 @@ fn save_file<R: Files>(
         return Err(SaveError::Failed);
     }
     let end = end_of_links(rt, alloc, name)?;
-    if is_free(rt, end.as_str()) {
+    if is_free(rt, name, end.as_str()) {
         return save_new(rt, alloc, end.as_str(), bytes, spared);
     }
     let open = open_to_save(rt, name, spared)?;

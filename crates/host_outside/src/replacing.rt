@@ -2,8 +2,8 @@
 //
 // They are written to a new file in the same folder, which then takes the name in one step. So a save that fails, and
 // one whose process or machine ends, leaves the old file whole. Where that would change more than the bytes, the file is
-// written in place: it is no regular file, has further hard links, belongs to another user or group, or the folder takes
-// no new file.
+// written in place: it is no regular file, has further hard links, belongs to another user or group, is mounted from
+// elsewhere, or the folder takes no new file.
 ghost use Rattle.std.specs.Prelude.{OnOk, IsFalse};
 ghost use Rattle.std.specs.List.{Contains};
 ghost use Rattle.host_outside.specs.declared.spared_files.FileId.{FileId as AnyFile};
@@ -74,12 +74,18 @@ pub fn end_of_links<R: Files>(rt: &R, alloc: Global, name: &str) -> Result<Strin
     Ok(end)
 }
 
-/// Whether nothing has the name, not even a link.
-pub fn is_free<R: Files>(rt: &R, name: &str) -> bool {
-    match fs::symlink_metadata(rt, name) {
+// Whether a look for a file finds none.
+fn is_missing(found: &io::Result<Metadata>) -> bool {
+    match found {
         Ok(_) => false,
         Err(error) => error.kind() == ErrorKind::NotFound,
     }
+}
+
+/// Whether a name leads to nothing, and at the end of its links there isn't even a link.
+// Both are asked: the links of /proc lead to files, as to a pipe, by words that are no names.
+pub fn is_free<R: Files>(rt: &R, name: &str, end: &str) -> bool {
+    is_missing(&fs::metadata(rt, name)) && is_missing(&fs::symlink_metadata(rt, end))
 }
 
 // Gives up a new file.
@@ -112,12 +118,17 @@ pub fn make_beside<R: Files>(rt: &R, alloc: Global, name: &str) -> io::Result<Fr
     Err(io::Error::from(ErrorKind::AlreadyExists))
 }
 
-// Gives a new file the permissions of the one that it is to replace.
-fn has_its_mode<F: OpenFile>(file: &F, fresh: &Metadata, old: &Metadata) -> io::Result<()> {
-    if fresh.mode() == old.mode() {
+// Whether a new file is on the device of an old one, and belongs to the same user and group.
+fn is_alike(new: &Metadata, old: &Metadata) -> bool {
+    new.dev() == old.dev() && new.uid() == old.uid() && new.gid() == old.gid()
+}
+
+// Gives a new file the permissions of an old one.
+fn take_mode<F: OpenFile>(new: &Opened<F>, old: &Metadata) -> io::Result<()> {
+    if new.metadata.mode() == old.mode() {
         return Ok(());
     }
-    file.set_permissions(old.permissions())
+    new.file.set_permissions(old.permissions())
 }
 
 // Whether a file can be replaced by a new one: it is a regular one, with this name alone.
@@ -144,12 +155,11 @@ pub fn make_like<R: Files>(
         Err(error) if error.kind() == ErrorKind::PermissionDenied => return Ok(None),
         Err(error) => return Err(error),
     };
-    let (new, old) = (&fresh.open.metadata, &open.metadata);
-    if (new.uid(), new.gid()) != (old.uid(), old.gid()) {
+    if !is_alike(&fresh.open.metadata, &open.metadata) {
         remove(rt, fresh);
         return Ok(None);
     }
-    match has_its_mode(&fresh.open.file, new, old) {
+    match take_mode(&fresh.open, &open.metadata) {
         Ok(()) => Ok(Some(fresh)),
         Err(error) => {
             remove(rt, fresh);
