@@ -1,15 +1,19 @@
 /* Refuses one call that a program makes of the C library: for LD_PRELOAD (bench/refused.py).
  *
- * REFUSE=KIND:N refuses the Nth call of a kind: `alloc` (room for bytes), `open`, `read` or `write`; with the kind
- * `short` the Nth read or write of several bytes moves one. REFUSE_TOLD=FILE gets the number of calls of the kind.
+ * REFUSE=KIND:N refuses the Nth call of a kind: `alloc` (room for bytes), `open`, `read`, `write`, `sync`, `rename`;
+ * with the kind `short` the Nth read or write of several bytes moves one. With the kind `ended` the process is killed
+ * at the Nth call that could change a file or a folder. REFUSE_TOLD=FILE gets the number of calls of the kind.
  */
 #define _GNU_SOURCE
 #include <errno.h>
 #include <fcntl.h>
+#include <signal.h>
 #include <stdarg.h>
 #include <stdatomic.h>
+#include <stdio.h>
 #include <stdlib.h>
 #include <string.h>
+#include <sys/stat.h>
 #include <sys/syscall.h>
 #include <sys/uio.h>
 #include <unistd.h>
@@ -49,6 +53,10 @@ static int is_refused(const char *called) {
     return kind[0] == called[0] && !strcmp(kind, called) && ++count == wanted;
 }
 
+/* Ends the process at a call that could change something, if it is the one. */
+static void may_end(void) {
+    if (is_refused("ended")) syscall(SYS_kill, getpid(), SIGKILL);
+}
 
 extern void *__libc_malloc(size_t), *__libc_calloc(size_t, size_t), *__libc_realloc(void *, size_t), *__libc_memalign(size_t, size_t);
 
@@ -72,6 +80,7 @@ ssize_t read(int file, void *room, size_t size) {
 }
 
 ssize_t write(int file, const void *bytes, size_t size) {
+    may_end();
     if (is_refused("write")) return errno = EIO, -1;
     return syscall(SYS_write, file, bytes, size > 1 && is_refused("short") ? 1 : size);
 }
@@ -79,6 +88,7 @@ ssize_t write(int file, const void *bytes, size_t size) {
 ssize_t __write(int file, const void *bytes, size_t size) { return write(file, bytes, size); }
 
 ssize_t writev(int file, const struct iovec *parts, int number) {
+    may_end();
     if (is_refused("write")) return errno = EIO, -1;
     if (number > 0 && parts[0].iov_len > 1 && is_refused("short")) return syscall(SYS_write, file, parts[0].iov_base, 1);
     return syscall(SYS_writev, file, parts, number);
@@ -89,6 +99,7 @@ int openat(int folder, const char *name, int flags, ...) {
     va_start(rest, flags);
     int mode = va_arg(rest, int);
     va_end(rest);
+    may_end();
     if (is_refused("open")) return errno = EIO, -1;
     return syscall(SYS_openat, folder, name, flags, mode);
 }
@@ -98,6 +109,34 @@ int open(const char *name, int flags, ...) {
     va_start(rest, flags);
     int mode = va_arg(rest, int);
     va_end(rest);
+    may_end();
     if (is_refused("open")) return errno = EIO, -1;
     return syscall(SYS_openat, AT_FDCWD, name, flags, mode);
+}
+
+int fsync(int file) {
+    may_end();
+    if (is_refused("sync")) return errno = EIO, -1;
+    return syscall(SYS_fsync, file);
+}
+
+int rename(const char *from, const char *to) {
+    may_end();
+    if (is_refused("rename")) return errno = EIO, -1;
+    return syscall(SYS_renameat2, AT_FDCWD, from, AT_FDCWD, to, 0);
+}
+
+int unlink(const char *name) {
+    may_end();
+    return syscall(SYS_unlinkat, AT_FDCWD, name, 0);
+}
+
+int fchmod(int file, mode_t mode) {
+    may_end();
+    return syscall(SYS_fchmod, file, mode);
+}
+
+int ftruncate(int file, off_t size) {
+    may_end();
+    return syscall(SYS_ftruncate, file, size);
 }

@@ -2,8 +2,9 @@
 """Runs the built program with one call of the system or of the C library refused, for each such call in turn.
 
 bench/refused.py [MOST [COMMAND..]]: for each command, or for those named, at most so many calls of a kind (400, and
-of `demo` 600) are refused, evenly chosen where there are more. The kinds: `alloc`, room for bytes isn't given; `open`, `read`, `write` fail; `short`, a read or a
-write of several bytes moves one. bench/refuse.c does it, in front of the C library.
+of `demo` 600) are refused, evenly chosen where there are more. The kinds: `alloc`, room for bytes isn't given; `open`,
+`read`, `write`, `sync`, `rename` fail; `short`, a read or a write of several bytes moves one; `ended`, the process is
+killed at a call that could change a file or a folder. bench/refuse.c does it, in front of the C library.
 
 Each run has to end with the status of a run that nothing was refused, and then with its texts and files, or else:
 
@@ -11,14 +12,19 @@ Each run has to end with the status of a run that nothing was refused, and then 
 |---|---|---|---|---|
 | `alloc` | 9 | `out of memory` | a front of the text | none but LOG, or LOG and BOOK, saved by `record`; NEW or not by `convert` and `salvage` |
 | `open`, `read` | 3; 12 where a session's commands are read | `store failed: NAME`; `read failed` | nothing; the answers before | as before |
-| `write` | 13; 3 where a file is saved | `write failed`; `store failed: NAME` | a front of the text | all saved; LOG or NEW at most |
+| `write` | 13; 3 where a file is saved | `write failed`; `store failed: NAME` | a front of the text | all saved; those saved before |
+| `sync`, `rename` | 3 | `store failed: NAME` | nothing | those saved before |
 | `short` | | | | |
+| `ended` | | a front | a front | each as before, or saved |
+
+A file that isn't saved is as before, and unless the process is killed no further file is left.
 
 It prints how many runs of each command ended with which status, and ends with 1 where one ended otherwise.
 """
 
 import collections
 import os
+import signal
 import struct
 import subprocess
 import sys
@@ -28,7 +34,8 @@ import forge
 
 TOP = os.path.dirname(os.path.dirname(os.path.realpath(__file__)))
 PROGRAM = os.environ.get("ZELKUMA_PROGRAM", f"{TOP}/crates/bugnet_main/out/bugnet_main")
-KINDS = ("alloc", "open", "read", "write", "short")
+KINDS = ("alloc", "open", "read", "write", "short", "sync", "rename")
+SAVING = ("record", "convert", "salvage")
 # Two harts: hart 0 loads a word twice, hart 1 has four bytes read into it.
 CODE = (0x00020437, 0x00051A63, 0x00042283, 0x00042303, 0x05D00893, 0x00000073, 0x00000513, 0x00040593, 0x00400613,
         0x03F00893, 0x00000073, 0x05D00893, 0x00000073)
@@ -63,6 +70,8 @@ SAID = {
     "open": {3: "bugnet: store failed: "},
     "read": {3: "bugnet: store failed: ", 12: "bugnet: read failed\n"},
     "write": {3: "bugnet: store failed: ", 13: "bugnet: write failed\n"},
+    "sync": {3: "bugnet: store failed: "},
+    "rename": {3: "bugnet: store failed: "},
     "short": {},
 }
 
@@ -79,9 +88,15 @@ class Ran:
         saved = ("NEW", "BOOK") if words[0] in ("convert", "salvage") else ("LOG", "BOOK")
         self.files = tuple(read(f"{folder}/{name}") for name in saved)
         self.calls = int.from_bytes(read(f"{folder}/told"), "little")
+        self.left = [name for name in os.listdir(folder) if name.startswith(".zelkuma-save-")]
+        for name in self.left:
+            os.remove(f"{folder}/{name}")
 
     def is_like(self, plain):
-        return (self.status, self.out, self.err, self.files) == (plain.status, plain.out, plain.err, plain.files)
+        return self.ending() == plain.ending()
+
+    def ending(self):
+        return self.status, self.out, self.err, self.files, self.left
 
 
 def read(name):
@@ -103,7 +118,7 @@ def saved_before(ran, plain):
     """Which of LOG and BOOK have to be saved by then; none where any of the two may be, the first before the second."""
     if ran.status == 13:
         return saved_by(plain)
-    if ran.status == 9 or "failed: LOG" in ran.err or "failed: NEW" in ran.err:
+    if ran.status == 9:
         return None
     return "failed: BOOK" in ran.err, False
 
@@ -118,19 +133,32 @@ def fault_of(ran, plain, kind):
     if not plain.out.startswith(ran.out) or (ran.out and ran.status == 3):
         return "out"
     saved, wanted = saved_by(ran), saved_before(ran, plain)
-    # A file whose own save failed may have any bytes.
-    if "failed: BOOK" in ran.err:
-        saved = saved[0], False
     good = saved in ((False, False), (True, False), saved_by(plain)) if wanted is None else saved == wanted
-    return "" if good else "the files"
+    if not good:
+        return "the files"
+    return "a file that is left" if ran.left else ""
 
 
 def is_agreed(folder, ran):
     """Whether what a recording in threads saved is the run of its own turns."""
-    if ran.status != 0:
-        return False
+    return ran.status == 0 and not ran.left and (ran.files[1] == b"old" or is_audited(folder))
+
+
+def is_audited(folder):
     words = [PROGRAM, "audit", "LOG", "ELF", "BOOK", "--input", "IN"]
-    return ran.files[1] == b"old" or subprocess.run(words, cwd=folder, capture_output=True).returncode == 0
+    return subprocess.run(words, cwd=folder, capture_output=True).returncode == 0
+
+
+def is_whole(folder, ran, plain, in_threads):
+    """Whether each file that a killed run leaves is the old one or the whole new one, the second not before the first."""
+    if saved_by(ran) not in ((False, False), (True, False), saved_by(plain)):
+        return False
+    if not in_threads:
+        return all(one in (b"old", whole) for one, whole in zip(ran.files, plain.files))
+    if ran.files[1] != b"old":
+        return is_audited(folder)
+    words = [PROGRAM, "check", "LOG"]
+    return ran.files[0] == b"old" or subprocess.run(words, cwd=folder, capture_output=True).returncode == 0
 
 
 def cut_front(data):
@@ -152,7 +180,7 @@ def damaged(data):
 def try_command(folder, name, words, most):
     """Runs a command with each call of each kind refused; returns how many runs ended otherwise."""
     wrong = 0
-    for kind in KINDS:
+    for kind in (*KINDS, "ended") if words[0] in SAVING else KINDS:
         plain = Ran(folder, words, kind)
         numbers = range(1, plain.calls + 1)
         if plain.calls > most:
@@ -162,6 +190,11 @@ def try_command(folder, name, words, most):
             ran = Ran(folder, words, kind, number)
             ended[ran.status] += 1
             in_threads = "--seed" not in words and words[0] == "record"
+            if kind == "ended":
+                if ran.status != -signal.SIGKILL or not is_whole(folder, ran, plain, in_threads):
+                    wrong += 1
+                    print(f"{name}, {kind} {number}: status {ran.status}, or a file is neither the old nor the new one")
+                continue
             if ran.is_like(plain) or (in_threads and is_agreed(folder, ran)):
                 continue
             fault = fault_of(ran, plain, kind)

@@ -1,7 +1,8 @@
 #!/usr/bin/env bash
 # Gives the program files of just their greatest length and of a byte more, saves a file past the limit that the
-# system sets to a process's files, and saves over files that were loaded: tests/limits.sh PROGRAM. The long files take
-# no room on the disk. BOOK takes a gigabyte of memory for two seconds.
+# system sets to a process's files, and saves over files that were loaded or saved, through links, onto a full disk and
+# into a closed folder: tests/limits.sh PROGRAM. The long files take no room on the disk. BOOK takes a gigabyte of
+# memory for two seconds.
 set -u
 . "$(dirname "$0")/fresh_start.sh"
 top=$(cd "$(dirname "$0")/.." && pwd)
@@ -61,5 +62,75 @@ done
 answers 3 "bugnet: store failed: IN/SOFT" record --seed 1 --harts 2 --limit 2000 ELF LOG3 IN/SOFT
 answers 3 "bugnet: store failed: ./LOG" convert LOG ./LOG
 sha256sum --quiet -c before || failures=$((failures + 1))
+
+# is_so TEXT WORD..: the words have to hold.
+is_so() {
+    local text=$1
+    shift
+    if "$@"; then
+        echo "as it has to be: $text"
+    else
+        echo "not so: $text" && failures=$((failures + 1))
+    fi
+}
+few=(record --seed 1 --harts 2 --limit 2000)
+
+# LOG and BOOK are never one file, whatever names lead to it: LOG stands.
+"$program" "${few[@]}" ELF plain BOOK >/dev/null 2>&1
+ln -s fresh SOFTER && echo old >linked && ln linked HARDER
+for names in "LOG5 ./LOG5" "fresh SOFTER" "linked HARDER"; do
+    answers 3 "bugnet: store failed: ${names#* }" "${few[@]}" ELF ${names% *} "${names#* }"
+    is_so "${names% *} is the log" cmp -s plain "${names% *}"
+done
+
+# A save changes the bytes alone: a link stays, and so does what others may do with the file.
+echo old >kept && chmod 640 kept && ln -s kept link
+answers 11 "" "${few[@]}" ELF link BOOK
+is_so "a link stays" test -L link
+is_so "its file is the log, with its mode" test "$(stat -c %a kept)" = 640 -a "$(sha256sum <kept)" = "$(sha256sum <plain)"
+is_so "the other name of a file leads to the same one" test "$(stat -c %i linked)" = "$(stat -c %i HARDER)"
+
+# A link that has the name of the file beside isn't followed, and nothing is left there.
+echo victim >victim && ln -s victim .zelkuma-save-0
+answers 11 "" "${few[@]}" ELF kept BOOK
+is_so "no other file is written to" test "$(cat victim)" = victim
+is_so "no file is left beside" test "$(find . -name '.zelkuma-save-*' | wc -l)" = 1
+rm .zelkuma-save-0
+
+# A pipe that a link of /proc leads to isn't replaced.
+piped=$("$program" "${few[@]}" ELF /dev/fd/3 BOOK 3>&1 >/dev/null 2>&1 | sha256sum)
+is_so "a pipe is written to" test "$piped" = "$(sha256sum <plain)"
+
+# A save that finds no room leaves what was there, on a file system of 64 KiB. A file that is mounted alone can't be
+# replaced, and is written in place.
+mkdir full other && touch mounted
+in_full='mount -t tmpfs -o size=64k full full && cp plain full/LOG && head -c 40000 /dev/zero >full/rest &&
+    { "$0" record --seed 1 --harts 2 --limit 20000 ELF full/LOG BOOK 2>err || true; } &&
+    cmp plain full/LOG && [ "$(ls -A full | wc -l)" = 2 ] && [ "$(cat err)" = "bugnet: store failed: full/LOG" ]'
+in_place='mount -t tmpfs other other && echo old >other/file && mount --bind other/file mounted &&
+    { "$0" record --seed 1 --harts 2 --limit 2000 ELF mounted BOOK 2>err || true; } && cmp plain other/file'
+if unshare -rm true 2>/dev/null; then
+    is_so "a full disk leaves the old log" unshare -rm bash -c "$in_full" "$program"
+    is_so "a mounted file is written in place" unshare -rm bash -c "$in_place" "$program"
+else
+    echo "not tried: a full disk, a mounted file (unshare)"
+fi
+
+# A folder that takes no new file: the file is written in place. The superuser has no such folder.
+mkdir closed && echo old >closed/LOG && chmod 666 closed/LOG && chmod 555 closed
+nobody=()
+[ "$(id -u)" != 0 ] || nobody=(setpriv --reuid 65534 --regid 65534 --clear-groups)
+chmod 755 . && cp "$program" ./program
+if "${nobody[@]}" ./program list plain >/dev/null 2>&1; then
+    "${nobody[@]}" ./program "${few[@]}" ELF closed/LOG /dev/null >/dev/null 2>&1
+    is_so "a file in a closed folder is written in place" cmp -s plain closed/LOG
+    echo old >owned && chmod 666 owned && chmod 777 .
+    inode=$(stat -c %i owned)
+    "${nobody[@]}" ./program "${few[@]}" ELF owned /dev/null >/dev/null 2>&1
+    is_so "a file of another user is written in place" test "$(stat -c %i owned)" = "$inode" -a "$(sha256sum <owned)" = "$(sha256sum <plain)"
+else
+    echo "not tried: a closed folder (setpriv)"
+fi
+chmod 755 closed
 echo "$failures ended otherwise"
 [ $failures = 0 ]

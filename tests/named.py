@@ -140,6 +140,27 @@ MUTANTS = [
         edit("bugnet", "a_failed_save_is_made_again"),
     ),
     ("The list of turns is saved under the log's name.", edit("bugnet", "the_list_is_saved_under_the_logs_name")),
+    ("A failed write is made again.", edit("bn_outside", "a_failed_write_is_made_again")),
+    ("A failed read within a load is made again.", edit("bn_outside", "a_failed_read_is_made_again")),
+    ("A load reads on past its limit.", edit("bn_outside", "bytes_past_the_limit_are_read_on")),
+    (
+        "A file is emptied before it is known which one it is.",
+        edit("host_outside", "a_file_is_emptied_as_it_is_opened"),
+    ),
+    (
+        "A file that was loaded is overwritten after its refusal.",
+        edit("host_outside", "a_loaded_file_is_overwritten_after_its_refusal"),
+    ),
+    ("A load remembers no file.", edit("host_outside", "a_load_remembers_nothing")),
+    ("A file that is too long is told as missing.", edit("host_outside", "a_long_file_is_told_as_missing")),
+    (
+        "A reader is read again after it said that it ended.",
+        function("host_outside/src/tests.rt", "a_reader_that_has_ended_is_not_read_again"),
+    ),
+    (
+        "LOG is overwritten by BOOK under another name.",
+        function("host_outside/src/tests.rt", "a_save_never_destroys_what_was_saved"),
+    ),
     (
         "A session reads before its files are loaded.",
         edit("bugnet", "a_byte_is_read_before_the_files_are_loaded"),
