@@ -1,5 +1,6 @@
 //! The end of a run whose harts ran in threads on a listed bus, once all threads have ended.
-ghost use Rattle.std.specs.Prelude.{◌≡◌, ◌++◌, ◌⊎◌, true, false, List, IfOk};
+ghost use Rattle.std.specs.Prelude.{◌≡◌, ◌++◌, ◌⊎◌, true, false, List, length, is_err, IfOk, OnOk};
+ghost use Rattle.std.specs.List.{list_any};
 ghost use Rattle.bn_outside.specs.declared.turn_row.TurnRow.{TurnRow};
 ghost use Rattle.run_model.specs.Runs.{seeded};
 ghost use Rattle.bus_core.specs.Bus.{began_of};
@@ -45,24 +46,37 @@ fn finish_kept<B: Book>(
     joined(list, keeps, &more)
 }
 
+// Whether some hart found no memory.
+fn any_failed(worked: &[Result<(), AllocError>]) -> bool
+    ensures { result ≡ list_any is_err worked.now }
+{
+    worked.iter().any(|one| one.is_err())
+}
+
 /// Finishes the run of a bus by the turns of seed 0, where harts are still live; where it was halted, the
 /// run is made again by the turns of seed 0. Nothing is compared: the type of the bus says that a list led
 /// to it.
 ///
-/// The only error is want of memory.
+/// The only error is want of memory, also that of a hart: no run is made again in its place.
 pub fn finish_listed<J: Beginning, B: Book>(
     alloc: Global,
     code: &DecodedImage,
     from: &Start,
     own: ListedBus<J, B>,
+    worked: &[Result<(), AllocError>],
 ) -> Result<Listed<B>, AllocError>
     requires began { began_of from.now ≡ J.began }
     requires code { code.now ≡ from.now.image }
+    requires all { length worked.now ≡ from.now.settings.harts }
+    ensures found { OnOk result (list_any is_err worked.now ≡ false) }
     ensures run { IfOk result (λ run. IsClosedBy B.tells (began_of from.now) J.keeps run.closed run.list.items (B.told run.closed.book)) }
     ensures of_rows { IfOk result (λ run. (rows : List TurnRow) × IsOfRows (began_of from.now) run.closed rows) }
     ensures by_seed { J.keeps ≡ true → IfOk result (λ run. (run.list.items ≡ seeded from.now.settings from.now.image from.now.input.items 0) ⊎ (run.list.items ≡ own.list ++ seeded_after (began_of from.now) own.list 0)) }
     ensures keeps { own.bus.halted ≡ false → J.keeps ≡ true → IfOk result (λ run. run.list.items ≡ own.list ++ seeded_after (began_of from.now) own.list 0) }
 {
+    if any_failed(worked) {
+        return Err(AllocError);
+    }
     let ListedBus {
         bus,
         list,

@@ -1,5 +1,5 @@
 //! Runs whose harts are in threads of their own, on a bus that knows its list of turns.
-ghost use Rattle.std.specs.Prelude.{◌≡◌, ◌<◌, ℕ, List, IfOk};
+ghost use Rattle.std.specs.Prelude.{◌≡◌, ◌<◌, ℕ, List, vec_len, IfOk};
 ghost use Rattle.bn_outside.specs.declared.turn_row.TurnRow.{TurnRow};
 ghost use Rattle.bus_core.specs.Bus.{began_of};
 ghost use Rattle.whole_runs.specs.Closed.{IsClosed, IsOfRows};
@@ -48,6 +48,7 @@ fn run_workers<J: Beginning + Send, B: Book + Send, G: Gate, R: Threads + Wait +
 ) -> Result<Vec<Result<(), AllocError>>, AllocError>
     requires began { began_of from.now ≡ J.began }
     requires code { code.now ≡ from.now.image }
+    ensures { IfOk result (λ worked. vec_len worked ≡ from.now.settings.harts) }
 {
     let one = |hart: usize| -> Result<(), AllocError>
         requires number { hart < 256 }
@@ -55,25 +56,6 @@ fn run_workers<J: Beginning + Send, B: Book + Send, G: Gate, R: Threads + Wait +
         requires code { code.now ≡ from.now.image }
     { run_one(rt, bus, hart as HartId, code, from, gate) };
     thread::map_indices(rt, alloc, usize::from(from.settings.harts()), &one)
-}
-
-// The turns of all harts; an error where one found no memory.
-fn run_all<J: Beginning + Send, B: Book + Send, G: Gate, R: Threads + Wait + Sync>(
-    rt: &R,
-    alloc: Global,
-    bus: &Mutex<ListedBus<J, B>>,
-    code: &DecodedImage,
-    from: &Start,
-    gate: &G,
-) -> Result<(), AllocError>
-    requires began { began_of from.now ≡ J.began }
-    requires code { code.now ≡ from.now.image }
-{
-    let worked = run_workers(rt, alloc, bus, code, from, gate)?;
-    if worked.iter().any(|one| one.is_err()) {
-        return Err(AllocError);
-    }
-    Ok(())
 }
 
 // The run, each hart in a thread of its own.
@@ -93,8 +75,8 @@ fn run_named<J: Beginning + Send, B: Book + Send, G: Gate, R: Threads + Wait + S
     let code = DecodedImage::new(alloc, &from.image)?;
     let bus = Bus::new(alloc, from, book)?;
     let own = Mutex::new(ListedBus::<J, B>::new(alloc, bus, keeps));
-    run_all(rt, alloc, &own, &code, from, gate)?;
-    finish_listed(alloc, &code, from, own.into_inner())
+    let worked = run_workers(rt, alloc, &own, &code, from, gate)?;
+    finish_listed(alloc, &code, from, own.into_inner(), &worked)
 }
 
 /// Runs each hart in a thread of its own, on one bus under its lock, and gives the list of the turns. What is
