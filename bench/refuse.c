@@ -2,7 +2,8 @@
  *
  * REFUSE=KIND:N refuses the Nth call of a kind: `alloc` (room for bytes), `open`, `read`, `write`, `sync`, `rename`;
  * with the kind `short` the Nth read or write of several bytes moves one. With the kind `ended` the process is killed
- * at the Nth call that could change a file or a folder. REFUSE_TOLD=FILE gets the number of calls of the kind.
+ * at the Nth call that could change a file or a folder. REFUSE_TOLD=FILE gets the number of calls of the kind, and
+ * whether the refused one was made by another thread than the first: 8 bytes each.
  */
 #define _GNU_SOURCE
 #include <errno.h>
@@ -21,6 +22,7 @@
 static char kind[16];
 static unsigned long wanted;
 static _Atomic unsigned long count;
+static _Atomic unsigned long apart;
 
 __attribute__((constructor)) static void begin(void) {
     const char *said = getenv("REFUSE");
@@ -34,9 +36,9 @@ __attribute__((constructor)) static void begin(void) {
 static void tell(void) {
     const char *name = getenv("REFUSE_TOLD");
     if (name) {
-        unsigned long number = count;
+        unsigned long said[] = {count, apart};
         int file = syscall(SYS_openat, AT_FDCWD, name, O_WRONLY | O_CREAT | O_TRUNC, 0600);
-        syscall(SYS_write, file, &number, sizeof number);
+        syscall(SYS_write, file, said, sizeof said);
     }
 }
 
@@ -50,7 +52,9 @@ __attribute__((destructor)) static void end(void) { tell(); }
 
 /* Whether this call of a kind is the one to be refused. */
 static int is_refused(const char *called) {
-    return kind[0] == called[0] && !strcmp(kind, called) && ++count == wanted;
+    if (kind[0] != called[0] || strcmp(kind, called) || ++count != wanted) return 0;
+    apart = syscall(SYS_gettid) != getpid();
+    return 1;
 }
 
 /* Ends the process at a call that could change something, if it is the one. */

@@ -19,6 +19,8 @@ Each run has to end with the status of a run that nothing was refused, and then 
 
 A file that isn't saved is as before, and unless the process is killed no further file is left.
 
+A request for room that the thread of a hart makes ends with 9 always: its run isn't made again.
+
 It prints how many runs of each command ended with which status, and ends with 1 where one ended otherwise.
 """
 
@@ -77,7 +79,8 @@ SAID = {
 
 
 class Ran:
-    """What a run left: its status, out, err and the files that it may save; and how many calls of the kind it made."""
+    """What a run left: its status, out, err and the files that it may save; how many calls of the kind it made, and
+    whether a thread of a hart made the refused one."""
 
     def __init__(self, folder, words, kind="alloc", number=0):
         for name in ("LOG", "BOOK", "NEW"):
@@ -87,7 +90,9 @@ class Ran:
         self.status, self.out, self.err = ran.returncode, ran.stdout, ran.stderr.decode()
         saved = ("NEW", "BOOK") if words[0] in ("convert", "salvage") else ("LOG", "BOOK")
         self.files = tuple(read(f"{folder}/{name}") for name in saved)
-        self.calls = int.from_bytes(read(f"{folder}/told"), "little")
+        told = read(f"{folder}/told") or bytes(16)   # a killed process tells nothing
+        self.calls, apart = struct.unpack("<QQ", told)
+        self.is_a_harts = bool(apart)
         self.left = [name for name in os.listdir(folder) if name.startswith(".zelkuma-save-")]
         for name in self.left:
             os.remove(f"{folder}/{name}")
@@ -179,9 +184,9 @@ def damaged(data):
 
 def try_command(folder, name, words, most):
     """Runs a command with each call of each kind refused; returns how many runs ended otherwise."""
-    wrong = 0
+    wrong, in_threads = 0, "--seed" not in words and words[0] == "record"
     for kind in (*KINDS, "ended") if words[0] in SAVING else KINDS:
-        plain = Ran(folder, words, kind)
+        plain, of_harts = Ran(folder, words, kind), 0
         numbers = range(1, plain.calls + 1)
         if plain.calls > most:
             numbers = sorted({1 + place * (plain.calls - 1) // (most - 1) for place in range(most)})
@@ -189,18 +194,21 @@ def try_command(folder, name, words, most):
         for number in numbers:
             ran = Ran(folder, words, kind, number)
             ended[ran.status] += 1
-            in_threads = "--seed" not in words and words[0] == "record"
+            of_harts += ran.is_a_harts
             if kind == "ended":
                 if ran.status != -signal.SIGKILL or not is_whole(folder, ran, plain, in_threads):
                     wrong += 1
                     print(f"{name}, {kind} {number}: status {ran.status}, or a file is neither the old nor the new one")
                 continue
-            if ran.is_like(plain) or (in_threads and is_agreed(folder, ran)):
+            if not (kind == "alloc" and ran.is_a_harts) and (ran.is_like(plain) or (in_threads and is_agreed(folder, ran))):
                 continue
             fault = fault_of(ran, plain, kind)
             if fault:
                 wrong += 1
                 print(f"{name}, {kind} {number}: {fault}: status {ran.status}, out {len(ran.out)}, err {ran.err!r}")
+        if kind == "alloc" and in_threads and not of_harts:
+            wrong += 1
+            print(f"{name}: no thread of a hart asked for room")
         each = ", ".join(f"{status}: {count}" for status, count in sorted(ended.items()))
         print(f"| `{name}` | `{kind}` | {plain.calls:,} | {len(list(numbers)):,} | {each} |", flush=True)
     return wrong
