@@ -29,7 +29,7 @@ began='until grep -q ^began "$RT_CALLS"; do sleep 0.05; done'
 
 what="words and statuses"
 export STATUS
-for STATUS in 0 1 3 4 5 8 12 15 16 17 18 19 21; do
+for STATUS in 0 3 4 5 8 12 15 16 17 18 19 21; do
     runs "$STATUS" "$zelkuma" slice "a LOG" '' '*' '$x' --=
     [ "$(cat "$work/out")" = '<slice><a LOG><><*><$x><--=>' ] || fails "the words aren't those of the call"
     [ "$(cat "$work/err")" = "a line of err" ] || fails "there is more on err"
@@ -98,6 +98,11 @@ done
 
 what="nobody who reads advice"
 runs 0 bash -c '"$0" list2 LOG 2>/dev/null & wait $!; grep -qx "began $!" "$RT_CALLS"' "$zelkuma"
+
+if ! type -P python3 >/dev/null; then
+    skips "what a terminal shows: python3 isn't here"
+    ends
+fi
 
 # Runs words at a terminal, in the background; what it showed is in the file NAME.
 at_terminal() { # NAME WORD..

@@ -11,6 +11,8 @@ work=$(mktemp -d)
 trap 'rm -rf "$work"' EXIT
 . "$top/tests/asserts.sh"
 
+type -P python3 >/dev/null || end_skipped "python3 isn't here"
+
 # A tree with all that the page is made of: crates.txt, and of each crate its specs and the head of its source.
 tree=$work/tree
 page=$tree/docs/DEFINITIONS.md

@@ -110,10 +110,17 @@ chmod -x "$shipped"
 runs 1 "$zelkuma" list LOG
 has err "that can be run; 'zelkuma build'"
 chmod +x "$shipped"
-printf '\x7fELF\x02\x01\x01%057d' 0 >foreign
-chmod +x foreign
-ZELKUMA_PROGRAM=foreign runs 126 "$zelkuma" list LOG
-has err "^zelkuma: './foreign' can't run here: it is for Linux on x86-64-v2 with glibc 2.34 or later; see 'zelkuma build --help'$"
+# (a file for another machine, one whose interpreter isn't there, a loader that refuses, and a processor that does)
+printf '\x7fELF\x02\x01\x01%057d' 0 >foreign-126
+printf '#!/nowhere/sh\n' >foreign-127
+printf '#!/bin/sh\nexit 1\n' >foreign-1
+printf '#!/bin/sh\nkill -s ILL $$\n' >foreign-132
+for name in foreign-*; do
+    chmod +x "$name"
+    ZELKUMA_PROGRAM=$name runs "${name#foreign-}" bash -c '"$0" list LOG; exit $?' "$zelkuma"
+    has err "^zelkuma: './$name' can't run here: it is for Linux on x86-64-v2 with glibc 2.34 or later; see 'zelkuma build --help'$"
+    [ "$(grep -c ^zelkuma: "$work/err")" -eq 1 ] || fails "it says more"
+done
 
 what="what it says of itself"
 path=$PATH
