@@ -33,7 +33,7 @@ build lock "$here/lock.S"
 
 cd "$here/.."
 . examples/lib/with_names.sh
-for name in heap filters table; do
+for name in heap filters table buffers prices; do
     build_with_names "$names/$name.elf" "examples/$name.c"
     cp "$names/$name.elf" "$to/$name.elf"
 done
