@@ -5,8 +5,8 @@
 #include "machine.h"
 
 #define BUFFERS 12
-#define ROUNDS 12
-#define WORDS 20
+#define ROUNDS 24
+#define WORDS 8
 
 struct buffer {
     struct buffer *below;
@@ -15,8 +15,8 @@ struct buffer {
 };
 
 static const unsigned sources[2][WORDS] = {
-    {3, 1, 4, 1, 5, 9, 2, 6, 5, 3, 5, 8, 9, 7, 9, 3, 2, 3, 8, 4},
-    {2, 7, 1, 8, 2, 8, 1, 8, 2, 8, 4, 5, 9, 0, 4, 5, 2, 3, 5, 3},
+    {3, 1, 4, 1, 5, 9, 2, 6},
+    {2, 7, 1, 8, 2, 8, 1, 8},
 };
 static struct buffer pool[BUFFERS];
 static struct buffer *top;
