@@ -15,4 +15,4 @@ pub use head::Head;
 pub use list::RecordList;
 pub use reading::{read, read_as, size};
 pub use record::Record;
-pub use writing::write;
+pub use writing::{write, write_first_load};

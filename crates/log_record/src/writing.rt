@@ -2,12 +2,14 @@
 ghost use Rattle.std.specs.Prelude.{◌≡◌, ◌++◌, ◌∷◌, [], ◌≤◌, ◌<◌, ◌^◌, ◌+◌, drop, length, IsTrue};
 ghost use Rattle.std.specs.List.{flat_map, AllByRecursion};
 ghost use Rattle.le_numbers.specs.Numbers.{number_bytes};
-ghost use Rattle.log_record.specs.declared.record.Record.TheVariants.{Header, Edge};
+ghost use Rattle.log_record.specs.declared.record.Record.TheVariants.{Header, FirstLoad, Edge};
 ghost use Rattle.log_record.specs.Spelling.{bytes_of, is_marked, AreRegisters, Fits};
 
 use crate::bytes::Bytes;
 use crate::record::Record;
 use bn_base::{HartId, Ic, Registers};
+use le_numbers::laws::numbers_have_their_width;
+use le_numbers::write_u32;
 
 fn begin(tag: u8, hart: HartId) -> Bytes
     ensures { result ≡ tag ∷ hart ∷ [] }
@@ -58,6 +60,20 @@ fn edge(hart: HartId, ic: Ic, from: HartId, from_ic: Ic) -> Bytes
     bytes.put_u64(ic);
     bytes.put(from);
     bytes.put_u64(from_ic);
+    bytes
+}
+
+/// The bytes of a FirstLoad, as [`write`] gives them.
+// Most records of a log are FirstLoads, and `write` makes room for the longest record.
+#[inline(always)]
+pub fn write_first_load(hart: HartId, skip: u32, value: u32) -> [u8; 10]
+    ensures bytes { result ≡ bytes_of (FirstLoad hart skip value) }
+    ensures fits { Fits 2 (FirstLoad hart skip value) }
+{
+    numbers_have_their_width();
+    let mut bytes = [2, hart, 0, 0, 0, 0, 0, 0, 0, 0];
+    write_u32(&mut bytes, 2, skip);
+    write_u32(&mut bytes, 6, value);
     bytes
 }
 

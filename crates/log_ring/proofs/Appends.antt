@@ -3,7 +3,9 @@ use Rattle.std.proofs.Common.{◌≡◌, ◌∙◌, ◌+◌, ◌-◌, ◌≤◌,
 use Rattle.std.specs.List.{flat_map, AllByRecursion}
 use Rattle.std.proofs.lemmas.List.{append-nil}
 use Rattle.circular_buffer.specs.Buffer.{Buffer, buffer, keep_last}
+use Rattle.std.specs.Prelude.{Some}
 use Rattle.log_record.specs.declared.record.Record.{Record}
+use Rattle.log_record.specs.declared.record.Record.TheVariants.{Header, FirstLoad, ScOk, ScFailed, Edge, End}
 use Rattle.log_record.specs.Spelling.{bytes_of, Fits}
 use Rattle.log_record.specs.Laws.{TellTheirSize, AreRead}
 use Rattle.log_ring.specs.Whole.{records_in, IsWhole}
@@ -72,3 +74,15 @@ pushed tell read old xs dropped capacity size room m mid b text r view fits text
       latest = latest ∙ ap₂ (λ (n : ℕ) (rs : List Record). kept n (rs ++ r ∷ [])) capacity_is records;
       count = omega (arith, ap length both.1, length-append (records_in mid.items) (r ∷ []), ap length records);
     }
+
+-- a record has at most 146 bytes
+same_some : (m n : ℕ) → m ≤ 146 → Some m ≡ Some n → n ≤ 146
+same_some m n few e = let same : m ≡ n = cc in omega (arith, same, few)
+
+pub longest : TellTheirSize → (r : Record) → Fits 2 r → length (bytes_of r) ≤ 146
+longest tell (Header h n ic pc x) fits = same_some 146 _ (omega arith) (tell (Header h n ic pc x) [] fits.fields)
+longest tell (FirstLoad h skip value) fits = same_some 10 _ (omega arith) (tell (FirstLoad h skip value) [] fits.fields)
+longest tell (ScOk h) fits = omega arith
+longest tell (ScFailed h) fits = omega arith
+longest tell (Edge h ic s j) fits = same_some 19 _ (omega arith) (tell (Edge h ic s j) [] fits.fields)
+longest tell (End h mark) fits = same_some 15 _ (omega arith) (tell (End h mark) [] fits.fields)

@@ -31,3 +31,10 @@ pub record GivesUp (old : Held) (r : Record) (new : Held) : Type 0 where
   pub parts : old.records ++ r ∷ [] ≡ front ++ new.records
   pub dropped : new.dropped ≡ old.dropped + length front
   pub few : length front ≤ 73
+
+-- what one append of a record does to a ring
+pub record Appends (old : Held) (r : Record) (new : Held) : Type 0 where
+  pub latest : new.records ≡ kept old.size (old.records ++ r ∷ [])
+  pub given_up : GivesUp old r new
+  pub size : new.size ≡ old.size
+  pub holds : (appended : List Record) → HoldsLog old appended → HoldsLog new (appended ++ r ∷ [])

@@ -4,11 +4,13 @@ ghost use Rattle.std.specs.List.{flat_map, AllByRecursion};
 ghost use Rattle.log_record.specs.declared.record.Record.{Record};
 ghost use Rattle.log_record.specs.Spelling.{bytes_of, total, is_marked, Fits};
 ghost use Rattle.log_ring.specs.Whole.{records_in, IsWhole, Oldest};
-ghost use Rattle.log_ring.specs.Kept.{kept, held, HoldsLog, GivesUp};
+ghost use Rattle.log_record.specs.declared.record.Record.TheVariants.{FirstLoad};
+ghost use Rattle.log_ring.specs.Kept.{kept, held, HoldsLog, GivesUp, Appends};
 
+use bn_base::HartId;
 use circular_buffer::HeapCircularBuffer;
 use log_record::laws::{tags_tell_sizes, written_records_are_read};
-use log_record::{Record, size, write};
+use log_record::{Record, size, write, write_first_load};
 use std::alloc::{AllocError, Global};
 use std::marker::Model;
 
@@ -153,11 +155,31 @@ impl Ring {
         ensures size { self.new.size ≡ self.old.size }
         ensures holds { (appended : List Record) → HoldsLog self.old appended → HoldsLog self.new (appended ++ entry.now ∷ []) }
     {
+        self.append_bytes(write(entry).as_slice());
+    }
+
+    /// Appends a FirstLoad, as [`append`](Ring::append) does.
+    pub fn append_first_load(&mut self, hart: HartId, skip: u32, value: u32)
+        requires { self.old.dropped + length self.old.records < 2 ^ 60 }
+        ensures latest { self.new.records ≡ kept self.old.size (self.old.records ++ FirstLoad hart skip value ∷ []) }
+        ensures given_up { GivesUp self.old (FirstLoad hart skip value) self.new }
+        ensures size { self.new.size ≡ self.old.size }
+        ensures holds { (appended : List Record) → HoldsLog self.old appended → HoldsLog self.new (appended ++ FirstLoad hart skip value ∷ []) }
+    {
+        self.append_bytes(&write_first_load(hart, skip, value));
+    }
+
+    // Appends the bytes of a record.
+    #[inline(always)]
+    fn append_bytes(&mut self, newest: &[u8])
+        requires record { (r : Record) × Fits 2 r × (newest.now ≡ bytes_of r) }
+        requires count { self.old.dropped + length self.old.records < 2 ^ 60 }
+        ensures { (r : Record) → Fits 2 r → newest.now ≡ bytes_of r → Appends self.old r self.new }
+    {
         tags_tell_sizes();
         written_records_are_read();
-        let newest = write(entry);
         let room = self.bytes.capacity() - newest.len();
         self.dropped += make_room(&mut self.bytes, room);
-        self.bytes.extend_from_slice(newest.as_slice());
+        self.bytes.extend_from_slice(newest);
     }
 }
