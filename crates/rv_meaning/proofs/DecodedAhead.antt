@@ -1,34 +1,44 @@
--- Lists of what code words decode to.
-use Rattle.std.proofs.Common.{◌≡◌, ℕ, zero, suc, ◌+◌, ◌-◌, ◌*◌, ◌/◌, ◌%◌, ◌<◌, ◌^◌, refl, mod-lt, true, is_some, List, [], ◌∷◌, ◌++◌, length, length-append, sym, ◌∙◌, ap, subst, arith}
-use Rattle.std.specs.Borrow.{Bor}
-use Rattle.std.specs.Prelude.{Option, Some, None, option_map, option_copied, slice_index_or, IfSome, Result, Ok, Err, OnErr}
+-- Lists of what code words decode to, and the quiet instructions that are done by them.
+use Rattle.std.proofs.Common.{◌≡◌, ◌≤◌, ℕ, zero, suc, ◌+◌, ◌-◌, ◌*◌, ◌/◌, ◌%◌, ◌<◌, ◌^◌, ◌==◌, min, refl, mod-lt, Bool, true, false, is_some, List, [], ◌∷◌, ◌++◌, length, length-append, sym, ◌∙◌, ap, subst, arith}
+use Rattle.std.specs.Prelude.{Option, Some, None, slice_index_or, Result, Ok, Err, OnErr}
 use Rattle.std.specs.Int.{w32, rotate_right}
 use Rattle.std.specs.Int.Bits.{bit_or}
 use Rattle.std.proofs.lemmas.Nat.{or_comm, or_shifted}
-use Rattle.bn_base.specs.Programs.{Program, code_at}
+use Rattle.bn_base.specs.Programs.{Program, code_at, code_in, part_at}
 use Rattle.bn_base.specs.declared.state.HartState.{HartState}
-use Rattle.rv_decode.specs.Seen.{seen}
 use Rattle.rv_decode.specs.Table.{Instruction, decoded}
-use Rattle.rv_decode.specs.declared.instr.Instr.{Instr}
-use Rattle.rv_meaning.specs.Ahead.{IsAhead, IsBelowEnd}
-use Rattle.rv_meaning.specs.Rows.{instruction_in}
-use Rattle.rv_meaning.specs.Execute.{fetched, executed, step, meaning}
+use Rattle.rv_meaning.specs.Ahead.{LeadsTo}
+use Rattle.rv_meaning.specs.Ops.{Says, IsAhead, IsBelowEnd, Quietly, Asking, pc_of}
+use Rattle.rv_meaning.specs.Rows.{instruction_in, instruction_at}
+use Rattle.rv_meaning.specs.Execute.{Quiet, ask_of, count_up, fetched, executed, step, meaning}
+use Rattle.rv_meaning.specs.declared.asks.Want.{Want}
+use Rattle.rv_meaning.specs.declared.ops.Op.{Op}
+use Rattle.rv_meaning.proofs.OneStep.{quiet_more, ask_at}
 
 -- the same list of the same program
-pub ahead_in : (i j : Program) (a : ℕ) (os xs : List (Option Instr)) → i ≡ j → xs ≡ os → IsAhead i a os → IsAhead j a xs
-ahead_in i j a os xs p e h = subst (λ (n : Program). IsAhead n a xs) p (subst (λ (ys : List (Option Instr)). IsAhead i a ys) (sym e) h)
+pub ahead_in : (i j : Program) (a : ℕ) (ops more : List Op) → i ≡ j → more ≡ ops → IsAhead i a ops → IsAhead j a more
+ahead_in i j a ops more p e h = subst (λ (n : Program). IsAhead n a more) p (subst (λ (xs : List Op). IsAhead i a xs) (sym e) h)
 
--- the entry of a place
-pub ahead_at : (i : Program) (a k : ℕ) (os : List (Option Instr)) (o : Option Instr) → IsAhead i a os → k < length os → o ≡ slice_index_or os k o
-    → option_map seen o ≡ instruction_in (code_at i (a + 4 * k))
-ahead_at i a k [] o h below e = grind arith
-ahead_at i a zero (x ∷ os) o h below e =
+-- what is said of the word at an address, at a place of the list
+pub says_at : (i : Program) (a k : ℕ) (ops : List Op) (op : Op) → IsAhead i a ops → k < length ops → op ≡ slice_index_or ops k op
+    → Says op (instruction_in (code_at i (a + 4 * k)))
+says_at i a k [] op h below e = grind arith
+says_at i a zero (x ∷ ops) op h below e =
     let place : a ≡ a + 4 * 0 = omega arith in
-    subst (λ (n : ℕ). option_map seen o ≡ instruction_in (code_at i n)) place
-    (subst (λ (y : Option Instr). option_map seen y ≡ instruction_in (code_at i a)) (sym e) h.0)
-ahead_at i a (suc k) (x ∷ os) o h below e =
+    subst (λ (n : ℕ). Says op (instruction_in (code_at i n))) place
+    (subst (λ (y : Op). Says y (instruction_in (code_at i a))) (sym e) h.0)
+says_at i a (suc k) (x ∷ ops) op h below e =
     let place : a + 4 + 4 * k ≡ a + 4 * suc k = omega arith in
-    subst (λ (n : ℕ). option_map seen o ≡ instruction_in (code_at i n)) place (ahead_at i (a + 4) k os o h.1 (omega (arith, below)) e)
+    subst (λ (n : ℕ). Says op (instruction_in (code_at i n))) place (says_at i (a + 4) k ops op h.1 (omega (arith, below)) e)
+
+-- no place of a list that ends below 2 ^ 32 is wrapped
+plain_pc : (a k n : ℕ) → k < n → a + 4 * n < 2 ^ 32 + 4 → a + 4 * k ≡ pc_of a k
+plain_pc a k n below end = omega (arith, below, end)
+
+pub says_here : (i : Program) (a k : ℕ) (ops : List Op) (op : Op) → IsAhead i a ops → IsBelowEnd a ops → k < length ops → op ≡ slice_index_or ops k op
+    → Says op (instruction_in (code_at i (pc_of a k)))
+says_here i a k ops op h end below e =
+    subst (λ (n : ℕ). Says op (instruction_in (code_at i n))) (plain_pc a k (length ops) below end) (says_at i a k ops op h below e)
 
 -- the rotation of 32 bits to the right by 2
 rotated : (x : ℕ) → x < 2 ^ 32 → bit_or (x / 2 ^ 2) (x * 2 ^ 30 % 2 ^ 32) ≡ x % 4 * 2 ^ 30 + x / 4
@@ -40,34 +50,34 @@ rotated x below =
 place_of : (a pc x k n : ℕ) → a < 2 ^ 32 → pc < 2 ^ 32 → x ≡ (pc + (2 ^ 32 - a)) % 2 ^ 32 → k ≡ x % 4 * 2 ^ 30 + x / 4 → k < n → a + 4 * n < 2 ^ 32 + 4 → a + 4 * k ≡ pc
 place_of a pc x k n p q e f below end = omega (arith, p, q, e, f, below, end)
 
--- the entry of an address
-pub ahead_of : (i : Program) (a pc k : ℕ) (os : List (Option Instr)) (o : Option Instr) → IsAhead i a os → IsBelowEnd a os → a < 2 ^ 32 → pc < 2 ^ 32
-    → k ≡ rotate_right w32 ((pc + (2 ^ 32 - a)) % 2 ^ 32) 2 → k < length os → o ≡ slice_index_or os k o → option_map seen o ≡ instruction_in (code_at i pc)
-ahead_of i a pc k os o h end p q f below e =
+pub entered : (a pc k : ℕ) (ops : List Op) → IsBelowEnd a ops → a < 2 ^ 32 → pc < 2 ^ 32 → k ≡ rotate_right w32 ((pc + (2 ^ 32 - a)) % 2 ^ 32) 2 → k < length ops → pc_of a k ≡ pc
+entered a pc k ops end p q f below =
     let x : ℕ = (pc + (2 ^ 32 - a)) % 2 ^ 32 in
-    let place = place_of a pc x k (length os) p q refl (f ∙ rotated x (mod-lt (pc + (2 ^ 32 - a)) (omega arith))) below end in
-    subst (λ (n : ℕ). option_map seen o ≡ instruction_in (code_at i n)) place (ahead_at i a k os o h below e)
+    sym (plain_pc a k (length ops) below end) ∙ place_of a pc x k (length ops) p q refl (f ∙ rotated x (mod-lt (pc + (2 ^ 32 - a)) (omega arith))) below end
 
 -- one entry more
-pub ahead_more : (i : Program) (a addr : ℕ) (os : List (Option Instr)) (o : Option Instr) → IsAhead i a os → addr ≡ a + 4 * length os
-    → option_map seen o ≡ instruction_in (code_at i addr) → IsAhead i a (os ++ o ∷ [])
-ahead_more i a addr [] o h place e =
+pub ahead_more : (i : Program) (a addr : ℕ) (ops : List Op) (op : Op) → IsAhead i a ops → addr ≡ a + 4 * length ops
+    → Says op (instruction_in (code_at i addr)) → IsAhead i a (ops ++ op ∷ [])
+ahead_more i a addr [] op h place e =
     let here : addr ≡ a = omega (arith, place) in
-    (subst (λ (n : ℕ). option_map seen o ≡ instruction_in (code_at i n)) here e, tt)
-ahead_more i a addr (x ∷ os) o h place e = (h.0, ahead_more i (a + 4) addr os o h.1 (omega (arith, place)) e)
+    (subst (λ (n : ℕ). Says op (instruction_in (code_at i n))) here e, tt)
+ahead_more i a addr (x ∷ ops) op h place e = (h.0, ahead_more i (a + 4) addr ops op h.1 (omega (arith, place)) e)
 
 -- and one address more
-pub place_more : (a addr next : ℕ) (os more : List (Option Instr)) (o : Option Instr) → more ≡ os ++ o ∷ [] → addr ≡ a + 4 * length os → next ≡ addr + 4 → next ≡ a + 4 * length more
-place_more a addr next os more o e place up =
-    let one : length more ≡ length os + 1 = ap length e ∙ length-append os (o ∷ []) in
+pub place_more : (a addr next : ℕ) (ops more : List Op) (op : Op) → more ≡ ops ++ op ∷ [] → addr ≡ a + 4 * length ops → next ≡ addr + 4 → next ≡ a + 4 * length more
+place_more a addr next ops more op e place up =
+    let one : length more ≡ length ops + 1 = ap length e ∙ length-append ops (op ∷ []) in
     omega (arith, one, place, up)
 
--- entries up to an address below 2 ^ 32, and one more
-pub below_end : (a addr : ℕ) (os : List (Option Instr)) → addr ≡ a + 4 * length os → addr < 2 ^ 32 → IsBelowEnd a os
-below_end a addr os place below = omega (arith, place, below)
+pub one_longer : (ops more : List Op) (op : Op) → more ≡ ops ++ op ∷ [] → length more ≡ length ops + 1
+one_longer ops more op e = ap length e ∙ length-append ops (op ∷ [])
 
-pub below_end_more : (a addr : ℕ) (os more : List (Option Instr)) (o : Option Instr) → more ≡ os ++ o ∷ [] → addr ≡ a + 4 * length os → addr < 2 ^ 32 → IsBelowEnd a more
-below_end_more a addr os more o e place below = let one = place_more a addr (addr + 4) os more o e place refl in omega (arith, one, below)
+-- entries up to an address below 2 ^ 32, and one more
+pub below_end : (a addr : ℕ) (ops : List Op) → addr ≡ a + 4 * length ops → addr < 2 ^ 32 → IsBelowEnd a ops
+below_end a addr ops place below = omega (arith, place, below)
+
+pub below_end_more : (a addr : ℕ) (ops more : List Op) (op : Op) → more ≡ ops ++ op ∷ [] → addr ≡ a + 4 * length ops → addr < 2 ^ 32 → IsBelowEnd a more
+below_end_more a addr ops more op e place below = let one = place_more a addr (addr + 4) ops more op e place refl in omega (arith, one, below)
 
 -- the step, by what the word at the pc decodes to
 pub ahead_step : (i : Program) (s : HartState) (d : Instruction) → instruction_in (code_at i s.pc) ≡ Some d → meaning d.name i d s ≡ step i s
@@ -80,10 +90,34 @@ ahead_step i s d e = by_word (code_at i s.pc) e
     by_word None e = cc
     by_word (Some w) e = by_instruction (decoded w) w e
 
--- an entry that is there is what the word decodes to
-pub some_seen : (o : Option Instr) (r : Option (Bor Instr)) (x : Option Instruction) → option_map seen o ≡ x → option_copied r ≡ o → IfSome r (λ d. x ≡ Some (seen d.now))
-some_seen o None x e same = tt
-some_seen o (Some d) x e same = sym e ∙ ap (option_map seen) (sym same)
+-- no instruction leads nowhere
+pub leads_nowhere : (i : Program) (b pc : ℕ) (x : List ℕ) → LeadsTo i b pc x b pc x
+leads_nowhere i b pc x ic fits =
+    let same : min (ic + (b - b)) (2 ^ 64 - 1) ≡ ic = omega (arith, fits) in
+    ap (λ (n : ℕ). ask_of i b (record { pc = pc; x = x; ic = n })) same
+
+quiet_next : (i : Program) (b : ℕ) (s t : HartState) → 0 < b → Quiet t ≡ step i s → ask_of i (b - 1) t ≡ ask_of i b s
+quiet_next i b s t some e = let all : b - 0 ≡ b = omega arith in quiet_more i b 0 s t some e ∙ ap (λ (n : ℕ). ask_of i n s) all
+
+-- one quiet instruction more
+pub leads_on : (i : Program) (b pc c p q : ℕ) (x y z : List ℕ) → LeadsTo i b pc x c p y → c ≤ b → 0 < c
+    → Quietly true i (instruction_in (code_at i p)) p y q z → LeadsTo i b pc x (c - 1) q z
+leads_on i b pc c p q x y z leads within some quiet ic fits =
+    let n : ℕ = min (ic + (b - c)) (2 ^ 64 - 1) in
+    let s : HartState = record { pc = p; x = y; ic = n } in
+    let t : HartState = record { pc = q; x = z; ic = count_up n } in
+    let d : Instruction = quiet.0 in
+    let counted : min (ic + (b - (c - 1))) (2 ^ 64 - 1) ≡ count_up n = omega (arith, within, some) in
+    ap (λ (m : ℕ). ask_of i (c - 1) (record { pc = q; x = z; ic = m })) counted ∙ quiet_next i c s t some (quiet.2 n ∙ ahead_step i s d quiet.1) ∙ leads ic fits
+
+-- where nothing was done, all is as before
+pub leads_still : (i : Program) (b pc c p q : ℕ) (x y z : List ℕ) → LeadsTo i b pc x c p y → (q ≡ p) × (z ≡ y) → LeadsTo i b pc x c q z
+leads_still i b pc c p q x y z leads same =
+    subst (λ (a : ℕ). LeadsTo i b pc x c a z) (sym same.0) (subst (λ (w : List ℕ). LeadsTo i b pc x c p w) (sym same.1) leads)
+
+-- an instruction that asks is the end
+pub asks_here : (i : Program) (left : ℕ) (s : HartState) (w : Want) → 0 < left → Asking true i (instruction_at i s) s.x w → record { state = s; want = w } ≡ ask_of i left s
+asks_here i left s w some asking = let all : left - 0 ≡ left = omega arith in ask_at i left 0 s w some (asking.2 s.pc s.ic ∙ ahead_step i s asking.0 asking.1) ∙ ap (λ (n : ℕ). ask_of i n s) all
 
 -- where words from an address on are decoded, and one more is code, the first is
 pub first_code : (i : Program) (a addr w n : ℕ) → addr ≡ a + 4 * n → Some w ≡ code_at i addr → (0 < n → is_some (code_at i a) ≡ true) → is_some (code_at i a) ≡ true
@@ -95,3 +129,11 @@ first_code i a addr w (suc n) place e more = more (omega arith)
 pub on_err : {T E P : Type 0} (r : Result T E) → P → OnErr r P
 on_err (Ok x) p = tt
 on_err (Err e) p = p
+
+-- code words are aligned
+pub code_aligned : (i : Program) (a : ℕ) → is_some (code_at i a) ≡ true → a % 4 ≡ 0
+code_aligned i a some = by_test (a % 4 == 0) refl some
+  where
+    by_test : (b : Bool) → a % 4 == 0 ≡ b → is_some (elim b [ true ↦ code_in (part_at i.parts a) a | false ↦ None ]) ≡ true → a % 4 ≡ 0
+    by_test true e some = grind arith
+    by_test false e some = absurd cc

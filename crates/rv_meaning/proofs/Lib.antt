@@ -2,5 +2,6 @@ pub mod OneStep
 pub mod Orderly
 pub mod WordsKept
 pub mod Held
+pub mod QuietOps
 pub mod DecodedAhead
 pub mod MaskedStore

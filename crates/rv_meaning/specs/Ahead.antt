@@ -1,18 +1,11 @@
--- Code that is decoded ahead.
-use Rattle.std.specs.Prelude.{◌≡◌, ◌<◌, ℕ, ◌+◌, ◌*◌, ◌^◌, Bool, List, [], ◌∷◌, length, Option, Some, None, is_some, option_map, ⊤}
+-- A hart's quiet instructions, and the segment that is decoded ahead.
+use Rattle.std.specs.Prelude.{◌≡◌, ◌<◌, ℕ, ◌+◌, ◌-◌, ◌^◌, min, Bool, List, Option, Some, None, is_some}
 use Rattle.bn_base.specs.Programs.{Part, Program, code_at, part_at}
-use Rattle.rv_decode.specs.Seen.{seen}
-use Rattle.rv_decode.specs.declared.instr.Instr.{Instr}
-use Rattle.rv_meaning.specs.Rows.{instruction_in}
+use Rattle.rv_meaning.specs.Execute.{ask_of}
 
--- a list of what the code words from an address on decode to
-abbrev pub IsAhead : Program → ℕ → List (Option Instr) → Type 0
-IsAhead i a [] = ⊤
-IsAhead i a (o ∷ os) = (option_map seen o ≡ instruction_in (code_at i a)) × IsAhead i (a + 4) os
-
--- the last word of such a list stands below 2 ^ 32
-abbrev pub IsBelowEnd : ℕ → List (Option Instr) → Type 0
-IsBelowEnd a os = a + 4 * length os < 2 ^ 32 + 4
+-- quiet instructions of a program lead from a pc and registers to others, and leave c of a budget of b: the hart asks the same from there
+abbrev pub LeadsTo : Program → (b pc : ℕ) → (x : List ℕ) → (c p : ℕ) → (y : List ℕ) → Type 0
+LeadsTo i b pc x c p y = (ic : ℕ) → ic < 2 ^ 64 → ask_of i c (record { pc = p; x = y; ic = min (ic + (b - c)) (2 ^ 64 - 1) }) ≡ ask_of i b (record { pc = pc; x = x; ic = ic })
 
 -- the place where the segment that a program starts in begins; 0 if it starts in none
 abbrev pub start_of : Option Part → ℕ

@@ -5,6 +5,7 @@ pub mod Orderly
 pub mod Told
 pub mod WordStates
 pub mod Held
+pub mod Ops
 pub mod Ahead
 pub mod Rows
 pub mod Lookups

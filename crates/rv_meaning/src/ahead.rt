@@ -3,48 +3,49 @@
 //! Decoding a word takes longer than doing its instruction. What runs a program for long makes a
 //! [`DecodedImage`] of it once; what does single instructions or short stretches calls
 //! [`quiet_run_in_place`], which needs no memory.
-ghost use Rattle.std.specs.Prelude.{◌≡◌, true, Some, is_some, IfOk, IfSome, OnErr};
+ghost use Rattle.std.specs.Prelude.{◌≡◌, ◌≤◌, ◌<◌, ◌%◌, ◌^◌, true, false, is_some, length, IfOk, IfSome, OnErr, ℕ, List};
 ghost use Rattle.bn_base.specs.Programs.{Program, code_at, part_at};
-ghost use Rattle.rv_decode.specs.Seen.{seen};
-ghost use Rattle.rv_meaning.specs.Ahead.{IsAhead, IsBelowEnd, start_of, starts_in_code};
+ghost use Rattle.rv_meaning.specs.Ahead.{start_of, starts_in_code, LeadsTo};
 ghost use Rattle.rv_meaning.specs.Execute.{ask_of};
-ghost use Rattle.rv_meaning.specs.Rows.{instruction_in};
+ghost use Rattle.rv_meaning.specs.Ops.{IsAhead, IsBelowEnd, Says, pc_of};
+ghost use Rattle.rv_meaning.specs.Rows.{instruction_in, instruction_at};
 
 use crate::asks::Want;
 use crate::interpreter::quiet_run_in_place;
-use crate::steps::step;
-use bn_base::{Addr, HartState, Ic, Image};
-use rv_decode::{Instr, decode};
+use crate::ops::{Op, ask_memory, do_quiet, pc_of};
+use bn_base::{Addr, HartState, Image, Registers};
+use rv_decode::decode;
 use std::alloc::{AllocError, Global};
 use std::marker::Model;
 
 /// How many words are decoded ahead, at most.
-// At 16 bytes a word the list stays within 16 MiB, whatever sizes a file's header claims.
+// At 8 bytes a word the list stays within 8 MiB, whatever sizes a file's header claims.
 const LIMIT: u32 = 1 << 20;
 
 /// A program with the segment that it starts in decoded ahead, up to its first 2^20 words.
 /// Contracts see the program.
 ///
-/// It takes 16 bytes a word, and never changes: a `&DecodedImage` may be shared among the threads
+/// It takes 8 bytes a word, and never changes: a `&DecodedImage` may be shared among the threads
 /// that run the program's harts. Code in other segments, and words beyond the first 2^20, run too,
 /// as slowly as without it.
 #[derive(Drop)]
 pub struct DecodedImage<'a> {
     image: &'a Image,
     first: Addr,
-    instrs: Vec<Option<Instr>>,
+    ops: Vec<Op>,
 }
 
 impl<'a> Model for DecodedImage<'a> {
+    ghost use Rattle.std.specs.Prelude.{◌≡◌, ◌≤◌, ◌<◌, ◌%◌, ◌^◌, length};
     ghost use Rattle.bn_base.specs.Programs.{Program};
-    ghost use Rattle.rv_meaning.specs.Ahead.{IsAhead, IsBelowEnd};
+    ghost use Rattle.rv_meaning.specs.Ops.{IsAhead, IsBelowEnd};
 
     ghost Value = { Program };
 
     ghost view = { λ d. d.image.now };
 
-    ghost invariant = { λ d. IsAhead d.image.now d.first d.instrs.items
-        × IsBelowEnd d.first d.instrs.items };
+    ghost invariant = { λ d. IsAhead d.image.now d.first d.ops.items × IsBelowEnd d.first d.ops.items
+        × (0 < length d.ops.items → d.first % 4 ≡ 0) × (length d.ops.items ≤ 2 ^ 20) };
 }
 
 // What the code words from `first` on decode to, at most `count` of them.
@@ -53,24 +54,26 @@ fn decoded_from(
     image: &Image,
     first: Addr,
     count: u32,
-) -> Result<Vec<Option<Instr>>, AllocError>
+) -> Result<Vec<Op>, AllocError>
     ensures ahead { IfOk result (λ v. IsAhead image.now first v.items) }
     ensures below { IfOk result (λ v. IsBelowEnd first v.items) }
+    ensures aligned { IfOk result (λ v. 0 < length v.items → first % 4 ≡ 0) }
+    ensures few { IfOk result (λ v. length v.items ≤ count) }
     ensures wanting { OnErr result (is_some (code_at image.now first) ≡ true) }
 {
-    let mut instrs = Vec::new(alloc);
+    let mut ops = Vec::new(alloc);
     let mut addr = first;
     for _ in 0..count {
         match image.code(addr) {
-            None => return Ok(instrs),
-            Some(word) => instrs.push(decode(word))?,
+            None => return Ok(ops),
+            Some(word) => ops.push(Op::of(decode(word)))?,
         }
         match addr.checked_add(4) {
-            None => return Ok(instrs),
+            None => return Ok(ops),
             Some(next) => addr = next,
         }
     }
-    Ok(instrs)
+    Ok(ops)
 }
 
 // Where the segment that a program starts in begins.
@@ -83,26 +86,57 @@ fn start_of(image: &Image) -> Addr
     }
 }
 
-// Puts pc and count into a state.
-fn put_back(state: &mut HartState, pc: Addr, ic: Ic)
-    ensures { state.new ≡ record state.old { pc = pc; ic = ic } }
-{
-    state.pc = pc;
-    state.ic = ic;
-}
-
-// The instruction at a pc, if it is among those decoded from `first` on.
-fn instr_at(instrs: &[Option<Instr>], first: Addr, pc: Addr) -> Option<&Instr>
-    requires { IsBelowEnd first instrs.now }
-    ensures { (i : Program) → IsAhead i first instrs.now
-        → IfSome result (λ d. instruction_in (code_at i pc) ≡ Some (seen d.now)) }
+// The place of a pc among the ops, if it has one.
+#[inline(always)]
+fn place_in(ops: &[Op], first: Addr, pc: Addr) -> Option<u32>
+    requires { IsBelowEnd first ops.now }
+    ensures { IfSome result (λ place. pc_of first place ≡ pc) }
 {
     // One test is enough: the rotation moves the lowest two bits of the distance to the top, so a pc
     // below `first` or between two words gets a place past the end.
-    match instrs.get(pc.wrapping_sub(first).rotate_right(2) as usize) {
-        None => None,
-        Some(instr) => instr.as_ref(),
+    let place = pc.wrapping_sub(first).rotate_right(2);
+    if place as usize >= ops.len() {
+        return None;
     }
+    Some(place)
+}
+
+// Does quiet instructions from a place on, while there are ops and some of the budget is left. It gives the op that
+// isn't quiet, if it stops at one.
+#[inline(always)]
+fn run_quiet<'a>(
+    ops: &'a [Op],
+    first: Addr,
+    x: &mut Registers,
+    place: &mut u32,
+    left: &mut u64,
+) -> Option<&'a Op>
+    requires below { IsBelowEnd first ops.now }
+    requires aligned { 0 < length ops.now → first % 4 ≡ 0 }
+    ensures left { left.new ≤ left.old }
+    ensures runs { (i : Program) → IsAhead i first ops.now →
+        LeadsTo i left.old (pc_of first place.old) x.old left.new (pc_of first place.new) x.new }
+    ensures some { is_some result ≡ true → 0 < left.new }
+    ensures found { (i : Program) → IsAhead i first ops.now →
+        IfSome result (λ op. Says op.now (instruction_in (code_at i (pc_of first place.new)))) }
+{
+    // In variables, which the compiler keeps in registers: `place` and `left` would be written each time.
+    let mut here = *place;
+    let mut rest = *left;
+    let mut found = None;
+    'quiet: while rest > 0 {
+        let Some(op) = ops.get(here as usize) else {
+            break 'quiet;
+        };
+        if !do_quiet(op, first, &mut here, x) {
+            found = Some(op);
+            break 'quiet;
+        }
+        rest -= 1;
+    }
+    *place = here;
+    *left = rest;
+    found
 }
 
 impl<'a> DecodedImage<'a> {
@@ -126,12 +160,44 @@ impl<'a> DecodedImage<'a> {
         ensures wanting { OnErr result (starts_in_code image.now ≡ true) }
     {
         let first = start_of(image);
-        let instrs = decoded_from(alloc, image, first, limit)?;
-        Ok(DecodedImage {
-            image,
-            first,
-            instrs,
-        })
+        let ops = decoded_from(alloc, image, first, limit.min(LIMIT))?;
+        Ok(DecodedImage { image, first, ops })
+    }
+
+    /// Does a hart's quiet instructions in place, as far as its code is decoded and the budget lasts. It gives what is
+    /// left of the budget, and the op that it stopped at, if there is one: [`DecodedImage::ask`] goes on from there.
+    #[inline(always)]
+    pub fn quiet_ops(&self, state: &mut HartState, budget: u64) -> (Option<&Op>, u64)
+        ensures left { result.1 ≤ budget }
+        ensures asks { ask_of self.now result.1 state.new ≡ ask_of self.now budget state.old }
+        ensures some { is_some result.0 ≡ true → 0 < result.1 }
+        ensures found { IfSome result.0 (λ op. Says op.now (instruction_at self.now state.new)) }
+    {
+        let ops = self.ops.as_slice();
+        let Some(mut place) = place_in(ops, self.first, state.pc) else {
+            return (None, budget);
+        };
+        let mut left = budget;
+        let found = run_quiet(ops, self.first, &mut state.x, &mut place, &mut left);
+        state.pc = pc_of(self.first, place);
+        state.ic = state.ic.saturating_add(budget - left);
+        (found, left)
+    }
+
+    /// What a hart asks that stopped at this op, with so much of its budget left. A load or a store is asked by its op;
+    /// else words are decoded as they come, up to the ask or the budget's end.
+    pub fn ask(&self, found: Option<&Op>, state: &mut HartState, left: u64) -> Want
+        requires some { is_some found ≡ true → 0 < left }
+        requires found { IfSome found (λ op. Says op.now (instruction_at self.now state.old)) }
+        ensures { record { state = state.new; want = result } ≡ ask_of self.now left state.old }
+    {
+        let mut want = Want::Cut;
+        if let Some(op) = found {
+            if ask_memory(op, self.image, &state.x, &mut want) {
+                return want;
+            }
+        }
+        quiet_run_in_place(self.image, state, left)
     }
 
     /// As [`quiet_run_in_place`] of its program, and faster where the code is decoded. The state is
@@ -140,31 +206,7 @@ impl<'a> DecodedImage<'a> {
     pub fn quiet_run_in_place(&self, state: &mut HartState, budget: u64) -> Want
         ensures { record { state = state.new; want = result } ≡ ask_of self.now budget state.old }
     {
-        // What stays the same is kept in variables: else each write to the state makes the compiler
-        // read it again. The count is added once, when the run ends.
-        let image = self.image;
-        let first = self.first;
-        let instrs = self.instrs.as_slice();
-        let ic = state.ic;
-        let mut want = Want::Cut;
-        let mut pc = state.pc;
-        for done in 0..budget {
-            match instr_at(instrs, first, pc) {
-                // Code outside the list is decoded word by word up to the next ask or the budget's end; the next
-                // run begins in the list again.
-                None => {
-                    put_back(state, pc, ic.saturating_add(done));
-                    return quiet_run_in_place(image, state, budget - done);
-                }
-                Some(instr) => {
-                    if !step(instr, image, &mut pc, &mut state.x, &mut want) {
-                        put_back(state, pc, ic.saturating_add(done));
-                        return want;
-                    }
-                }
-            }
-        }
-        put_back(state, pc, ic.saturating_add(budget));
-        Want::Cut
+        let (found, left) = self.quiet_ops(state, budget);
+        self.ask(found, state, left)
     }
 }

@@ -1,0 +1,14 @@
+use Rattle.std.proofs.Common.{◌∙◌, ℕ, arith, ap}
+use Rattle.rv_meaning.specs.Execute.{ask_of}
+use Rattle.rv_meaning.specs.Ops.{pc_of}
+use Rattle.rv_meaning.proofs.DecodedAhead.{ahead_in}
+use Rattle.rv_meaning.proofs.ahead.DecodedImage.quiet_ops.Goals as goal
+
+pub returns-clause-asks : goal.returns-clause-asks
+returns-clause-asks c =
+    let i = c.args.self.now in let r = c.run_quiet-found in let s = c.args.state.now in
+    let ahead = ahead_in c.self.inside.image.now i c.self.inside.first c.self.inside.ops.items c.as_slice-ops.result.now c.self.view_is c.as_slice-ops.ensures.value c.self.invariant.0 in
+    let runs = r.ensures.runs i ahead s.ic (omega arith) in
+    let pc = ap (λ (a : ℕ). ask_of i r.new.left (record { pc = a; x = r.new.x; ic = c.saturating_add-state.result })) c.pc_of-state.ensures in
+    let ic = ap (λ (n : ℕ). ask_of i r.new.left (record { pc = pc_of c.self.inside.first r.new.place; x = r.new.x; ic = n })) c.saturating_add-state.ensures in
+    pc ∙ ic ∙ runs ∙ ap (λ (a : ℕ). ask_of i c.args.budget (record { pc = a; x = s.x; ic = s.ic })) c.in-Some.ensures

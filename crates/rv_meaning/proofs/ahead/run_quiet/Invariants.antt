@@ -1,0 +1,17 @@
+use Rattle.std.proofs.Common.{◌≡◌, ◌≤◌}
+use Rattle.std.specs.Prelude.{None}
+use Rattle.bn_base.specs.Programs.{Program}
+use Rattle.rv_meaning.specs.Ahead.{LeadsTo}
+use Rattle.rv_meaning.specs.Ops.{IsAhead, pc_of}
+use Rattle.rv_meaning.proofs.ahead.run_quiet.Given as goal
+
+-- what was done was quiet, and no op stopped it
+abbrev pub invariant-quiet : goal.invariant-quiet
+invariant-quiet l = record {
+  none : l.found ≡ None;
+  rest : l.rest ≤ l.fn.left;
+  runs : (i : Program) → IsAhead i l.first l.ops → LeadsTo i l.fn.left (pc_of l.first l.fn.place) l.fn.x l.rest (pc_of l.first l.here) l.x;
+}
+
+abbrev pub decreases-quiet : goal.decreases-quiet
+decreases-quiet l = l.rest
