@@ -1,4 +1,4 @@
-use Rattle.std.proofs.Common.{arith, ◌≡◌, ◌≤◌, ◌∙◌, sym, ap}
+use Rattle.std.proofs.Common.{arith, ◌≤◌, ◌∙◌, sym, ap}
 use Rattle.bn_base.specs.Programs.{Program, read_only_end}
 use Rattle.bn_base.proofs.Lookup.{is_leb, stored_past}
 use Rattle.bn_base.proofs.image.Image.may_store.Goals as goal
