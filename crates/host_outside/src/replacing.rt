@@ -214,7 +214,7 @@ pub fn put<R: Files>(
     result
 }
 
-/// The same, where another file has the name, which is then gone.
+/// The same, where another file has the name, which is then gone: so it must be none that is spared.
 pub fn put_over<R: Files>(
     rt: &R,
     fresh: Fresh<R::File>,
